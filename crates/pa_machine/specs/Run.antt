@@ -1,9 +1,13 @@
 -- The run of a slot, and its place.
-use Rattle.std.specs.Prelude.{◌≡◌, ℕ, ◌<◌, ◌≤◌, List, [], ◌∷◌, Option, Some, None, IsSome, Contains}
+use Rattle.std.specs.Prelude.{◌≡◌, ℕ, ◌<◌, ◌≤◌, ◌==◌, ◌&&◌, Bool, List, [], ◌∷◌, Option, Some, None, IsSome, Contains}
 use Rattle.pa_machine.specs.declared.word.SlotName.{SlotName}
 use Rattle.pa_machine.specs.declared.word.Step.{Step}
 use Rattle.pa_machine.specs.declared.word.Step.TheVariants.{Issue, Copy, Reset, Free, Write}
 use Rattle.pa_machine.specs.Count.{CanStep, stepped, refs_of, held_of}
+
+-- the test whether two names are one
+abbrev pub same_slot : SlotName → SlotName → Bool
+same_slot s t = (s.start == t.start) && (s.born == t.born)
 
 -- What a line tells of a slot: the word that it found there, and the step that it made. A look makes none.
 pub record Mark : Type 0 where

@@ -1,0 +1,6 @@
+//! The plain player: it plays a trace line by line over slots of 16 bytes, and prints what came out.
+#![tactic(auto)]
+
+mod plain_run;
+
+pub use plain_run::PlainRun;

@@ -1,0 +1,6 @@
+//! What a run tells: a record for each op line of the trace, with the answer that its thread got.
+#![tactic(auto)]
+
+mod entry;
+
+pub use entry::{Answer, Entry, Seen};

@@ -1,0 +1,78 @@
+-- Plain slots, played in the order of the lines: every slot has 16 bytes, and slot i starts at 16 i.
+use Rattle.std.specs.Prelude.{◌≡◌, ℕ, ◌+◌, ◌*◌, ◌<◌, ◌≤◌, ◌==◌, ◌&&◌, Bool, nat_lt, ◌⊎◌, ◌↔◌, List, [], ◌∷◌, map, count_by, Option, Some, None, IsSome, is_some, Contains}
+use Rattle.std.specs.List.Sorted.{IsStrictlyIncreasing}
+use Rattle.pa_machine.specs.declared.word.SlotName.{SlotName}
+use Rattle.pa_machine.specs.declared.word.Step.{Step}
+use Rattle.pa_machine.specs.declared.word.Step.TheVariants.{Issue}
+use Rattle.pa_machine.specs.Count.{number_of}
+use Rattle.pa_machine.specs.Run.{Mark, Slots, IsRunFrom, IsReturning, same_slot}
+use Rattle.pa_trace.specs.declared.script.Line.{Line}
+use Rattle.pa_record.specs.declared.entry.Entry.{Entry}
+use Rattle.pa_record.specs.declared.entry.Answer.TheVariants.{Full}
+use Rattle.pa_rules.specs.declared.slot_word.SlotWord.{SlotWord}
+use Rattle.pa_rules.specs.Played.{Played, AreLines, entry_of, marks_of}
+use Rattle.pa_rules.specs.Registers.{AreRegisters}
+
+-- the i-th plain slot
+abbrev pub plain_name : ℕ → SlotName
+plain_name i = record { start = 16 * i; born = 0 }
+
+-- m is a step of slot s on a line before this one; a look is none
+abbrev pub is_step_before : SlotName → ℕ → Mark → Bool
+is_step_before s line m = same_slot m.slot s && (nat_lt m.line line && is_some m.step)
+
+-- how many steps of slot s stand on the lines before this one
+abbrev pub steps_before : SlotName → ℕ → List Mark → ℕ
+steps_before s line ms = count_by (is_step_before s line) ms
+
+-- Slot s is free at this line: its last step before it, on line `since`, is a returning one.
+pub record IsFreeSince (ms : List Mark) (s : SlotName) (since line : ℕ) : Type 0 where
+  pub mark : Mark
+  pub step : Step
+  pub among : Contains ms mark
+  pub slot : mark.slot ≡ s
+  pub at : mark.line ≡ since
+  pub made : mark.step ≡ Some step
+  pub returning : IsReturning step mark.found
+  pub before : since < line
+  pub last : (n : Mark) → Contains ms n → n.slot ≡ s → IsSome n.step → n.line < line → n.line ≤ since
+
+-- slot s was allocated on a line before this one
+abbrev pub IsMadeBefore : List Mark → SlotName → ℕ → Type 0
+IsMadeBefore ms s line = (m : Mark) × Contains ms m × (m.slot ≡ s) × (m.step ≡ Some Issue) × (m.line < line)
+
+-- An allocation on this line takes slot s: of the free slots the one that was returned last, and where no slot is
+-- free the first one that was never allocated.
+abbrev pub IsNext : List Mark → ℕ → SlotName → Type 0
+IsNext ms line s =
+    ((since : ℕ) × IsFreeSince ms s since line × ((t : SlotName) (k : ℕ) → IsFreeSince ms t k line → k ≤ since))
+    ⊎ (((t : SlotName) (k : ℕ) → IsFreeSince ms t k line → ⊥)
+    × (i : ℕ) × (s ≡ plain_name i) × (IsMadeBefore ms s line → ⊥) × ((j : ℕ) → j < i → IsMadeBefore ms (plain_name j) line))
+
+-- each number found is how many steps of the slot stand on the lines before, and each allocation takes the next slot
+pub record IsInFileOrder (ms : List Mark) : Type 0 where
+  pub numbers : (m : Mark) → Contains ms m → number_of m.found ≡ steps_before m.slot m.line ms
+  pub next : (m : Mark) → Contains ms m → m.step ≡ Some Issue → IsNext ms m.line m.slot
+
+-- the last word of a run that begins at u
+abbrev pub last_word : ℕ → List ℕ → ℕ
+last_word u [] = u
+last_word u (v ∷ vs) = last_word v vs
+
+-- these are the slots that were allocated, by where they start, each with the last word of its run
+pub record AreLastWords (ms : List Mark) (ws : List SlotWord) : Type 0 where
+  pub made : (s : SlotName) → Contains (map (λ w. w.slot) ws) s ↔ ((m : Mark) × Contains ms m × (m.slot ≡ s) × (m.step ≡ Some Issue))
+  pub ordered : IsStrictlyIncreasing (map (λ w. w.slot.start) ws)
+  pub last : (w : SlotWord) → Contains ws w → (vs : List ℕ) × IsRunFrom ms w.slot 0 vs × (w.word.0 ≡ last_word 0 vs)
+
+-- The records are those of the trace's lines over plain slots: each line's op in order, answers by the registers, the
+-- steps of each slot one run, in file order, and never full; and these are the slots with their words at the end.
+pub record IsPlainRun (ls : List Line) (entries : List Entry) (ws : List SlotWord) : Type 0 where
+  pub played : List Played
+  pub told : map entry_of played ≡ entries
+  pub lines : AreLines ls played
+  pub registers : AreRegisters (λ size. 8) played
+  pub slots : Slots (marks_of played)
+  pub order : IsInFileOrder (marks_of played)
+  pub never_full : (p : Played) (entry : ℕ) → Contains played p → p.answer ≡ Full entry → ⊥
+  pub words : AreLastWords (marks_of played) ws

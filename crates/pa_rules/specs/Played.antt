@@ -1,0 +1,85 @@
+-- The records of a run beside the lines of its trace, and what they tell of the slots.
+use Rattle.std.specs.Prelude.{◌≡◌, ℕ, ◌+◌, List, [], ◌∷◌, map, Option, Some, None}
+use Rattle.std.specs.List.{filter_map}
+use Rattle.pa_machine.specs.declared.word.Step.{Step}
+use Rattle.pa_machine.specs.declared.word.Step.TheVariants as steps
+use Rattle.pa_machine.specs.Run.{Mark}
+use Rattle.pa_trace.specs.declared.script.Line.{Line}
+use Rattle.pa_trace.specs.declared.script.Line.TheVariants.{Do}
+use Rattle.pa_trace.specs.declared.script.Op.{Op}
+use Rattle.pa_trace.specs.declared.script.Op.TheVariants as ops
+use Rattle.pa_record.specs.declared.entry.Entry.{Entry}
+use Rattle.pa_record.specs.declared.entry.Seen.{Seen}
+use Rattle.pa_record.specs.declared.entry.Answer.{Answer}
+use Rattle.pa_record.specs.declared.entry.Answer.TheVariants.{Made, Done, Value, Dangling, SecondFree, NotOwner, StaleReset, StaleUse, Nothing, Filled, NotRef, Shared, OutOfRange, TooLarge, Full, Swapped, Purged}
+
+-- an op line: its number in the trace, its thread and its op
+pub record OpLine : Type 0 where
+  pub line : ℕ
+  pub thread : ℕ
+  pub op : Op
+
+-- the op lines of a trace whose next line has this number; the head is line 1, so a trace begins at 2
+abbrev pub op_lines : ℕ → List Line → List OpLine
+op_lines n [] = []
+op_lines n (Do thread op ∷ ls) = record { line = n; thread = thread; op = op } ∷ op_lines (n + 1) ls
+
+-- a record beside the op of its line
+pub record Played : Type 0 where
+  pub line : ℕ
+  pub thread : ℕ
+  pub op : Op
+  pub answer : Answer
+
+-- its op line, and its record
+abbrev pub op_line_of : Played → OpLine
+op_line_of p = record { line = p.line; thread = p.thread; op = p.op }
+
+abbrev pub entry_of : Played → Entry
+entry_of p = record { line = p.line; thread = p.thread; answer = p.answer }
+
+-- the records are the trace's op lines, in order, each once, with its thread
+abbrev pub AreLines : List Line → List Played → Type 0
+AreLines ls ps = map op_line_of ps ≡ op_lines 2 ls
+
+-- the step that an op makes where its answer is `done`; an allocation has an answer of its own
+abbrev pub step_of : Op → Option Step
+step_of (ops.Alloc reg partition size) = None
+step_of (ops.Copy from to) = Some steps.Copy
+step_of (ops.Reset reg) = Some steps.Reset
+step_of (ops.Free reg) = Some steps.Free
+
+abbrev pub mark_at : ℕ → Seen → Option Step → Mark
+mark_at line seen step = record { line = line; slot = seen.slot; found = seen.found.0; step = step }
+
+-- a look, where the answer has one
+abbrev pub look_at : ℕ → Option Seen → Option Mark
+look_at line None = None
+look_at line (Some seen) = Some (mark_at line seen None)
+
+-- what an answer tells of a slot: `made` is an issue, `done` is its op's step, every other found word is a look
+abbrev pub mark_of_answer : ℕ → Op → Answer → Option Mark
+mark_of_answer line op (Made seen usable) = Some (mark_at line seen (Some steps.Issue))
+mark_of_answer line op (Done seen) = Some (mark_at line seen (step_of op))
+mark_of_answer line op (Value seen value) = look_at line (Some seen)
+mark_of_answer line op (Dangling seen value) = look_at line (Some seen)
+mark_of_answer line op (SecondFree seen) = look_at line seen
+mark_of_answer line op (NotOwner seen) = look_at line (Some seen)
+mark_of_answer line op StaleReset = None
+mark_of_answer line op (StaleUse seen) = look_at line seen
+mark_of_answer line op Nothing = None
+mark_of_answer line op Filled = None
+mark_of_answer line op NotRef = None
+mark_of_answer line op (Shared seen) = look_at line (Some seen)
+mark_of_answer line op OutOfRange = None
+mark_of_answer line op TooLarge = None
+mark_of_answer line op (Full entry) = None
+mark_of_answer line op (Swapped entry) = None
+mark_of_answer line op (Purged slots) = None
+
+abbrev pub mark_of : Played → Option Mark
+mark_of p = mark_of_answer p.line p.op p.answer
+
+-- what the records tell of the slots, in their order
+abbrev pub marks_of : List Played → List Mark
+marks_of ps = filter_map mark_of ps

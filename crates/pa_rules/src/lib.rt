@@ -1,0 +1,9 @@
+//! What a legal run is: the definitions that need the ops of a trace and the answers of a run at once. The players,
+//! the checker and the top call cite them; nothing here runs.
+#![tactic(auto)]
+
+mod register;
+mod slot_word;
+
+pub use register::Reg;
+pub use slot_word::SlotWord;

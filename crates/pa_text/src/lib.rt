@@ -1,0 +1,6 @@
+//! The spellings that all texts share: numbers, words and slot names, as they are written and as they are read.
+#![tactic(auto)]
+
+mod writing;
+
+pub use writing::push_bytes;

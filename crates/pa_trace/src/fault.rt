@@ -1,0 +1,21 @@
+use pa_machine::OutOfMemory;
+use std::error::Error;
+use std::fmt;
+
+/// Why a text is no trace. Lines count from 1; line 0 stands for the whole text.
+#[derive(Clone, Copy, Debug, PartialEq, Eq)]
+pub enum TraceFault {
+    BadLine(u32),
+    OutOfMemory,
+}
+
+impl fmt::Display for TraceFault {
+    fn fmt<W: fmt::Write>(&self, f: &mut fmt::Formatter<W>) -> fmt::Result {
+        match self {
+            TraceFault::BadLine(line) => write!(f, "bad line {line}"),
+            TraceFault::OutOfMemory => write!(f, "{OutOfMemory}"),
+        }
+    }
+}
+
+impl Error for TraceFault {}

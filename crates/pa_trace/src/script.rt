@@ -1,0 +1,70 @@
+ghost use Rattle.std.specs.Prelude.{◌≡◌};
+
+use std::marker::Model;
+
+/// A trace: the region in super pages, the number of partitions, the number of threads, and the lines after the head.
+/// `lines[i]` is line `i + 2` of the text; the head is line 1.
+#[derive(Debug, Drop)]
+pub struct Trace {
+    pub region: u32,
+    pub partitions: u32,
+    pub threads: u32,
+    pub lines: Lines,
+}
+
+/// One line after the head: what one thread does.
+#[derive(Clone, Copy, Debug, PartialEq, Eq)]
+pub enum Line {
+    Do { thread: u32, op: Op },
+}
+
+/// One op. A register is named by its number, 0 to 63; sizes are in bytes.
+#[derive(Clone, Copy, Debug, PartialEq, Eq)]
+pub enum Op {
+    /// Allocates an object into a register, which then owns it.
+    Alloc { reg: u32, partition: u32, size: u32 },
+    /// Copies a register's handle: the second register becomes a `raw_ptr` to the object.
+    Copy { from: u32, to: u32 },
+    /// Resets a `raw_ptr`, which gives back its count.
+    Reset { reg: u32 },
+    /// Frees the object that the register owns.
+    Free { reg: u32 },
+}
+
+/// The lines of a trace after its head, in order.
+#[derive(Debug, Drop)]
+pub struct Lines {
+    items: Vec<Line>,
+}
+
+impl Model for Lines {
+    ghost use Rattle.std.specs.Prelude.{List};
+    ghost use Rattle.pa_trace.specs.declared.script.Line.{Line};
+
+    ghost Value = { List Line };
+
+    ghost view = { λ lines. lines.items.items };
+}
+
+impl Lines {
+    /// The lines of a vector, whose memory it keeps.
+    pub fn of(items: Vec<Line>) -> Lines
+        ensures { result ≡ items.items }
+    {
+        Lines { items }
+    }
+
+    /// The lines as a slice.
+    pub fn as_slice(&self) -> &[Line]
+        ensures { result.now ≡ self.now }
+    {
+        self.items.as_slice()
+    }
+
+    /// The vector of the lines, with its memory.
+    pub fn into_vec(self) -> Vec<Line>
+        ensures { result.items ≡ self }
+    {
+        self.items
+    }
+}
