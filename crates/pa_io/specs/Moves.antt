@@ -37,6 +37,10 @@ pub record HasWritten (before after : Option (List ℕ)) (all rest : List ℕ) :
   pub split : all ≡ front ++ rest
   pub grown : Appends before after front
 
+-- what was written, where it is told, grew by a first part of all
+abbrev pub HasWrittenPart : Option (List ℕ) → Option (List ℕ) → List ℕ → Type 0
+HasWrittenPart before after all = (rest : List ℕ) × HasWritten before after all rest
+
 -- a count after one more: a u64 that stands still at its greatest value
 abbrev pub one_more : ℕ → ℕ
 one_more n = min (n + 1) (2 ^ 64 - 1)

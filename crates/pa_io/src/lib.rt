@@ -8,6 +8,9 @@ mod memory;
 mod standard;
 mod traits;
 
+#[cfg(test)]
+mod tests;
+
 pub use memory::{MemSink, MemSource};
 pub use standard::{StdSink, StdSource};
 pub use traits::{Failed, Sink, Source};

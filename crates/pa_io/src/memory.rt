@@ -153,7 +153,8 @@ impl Model for MemSink {
         faults = s.calls.faults;
     } };
 
-    ghost invariant = { λ s. (vec_len s.bytes ≤ s.room) × (s.room ≤ vec_capacity s.bytes) × (1 ≤ s.piece) };
+    ghost invariant = { λ s.
+        (vec_len s.bytes ≤ s.room) × (s.room ≤ vec_capacity s.bytes) × (1 ≤ s.piece) };
 }
 
 impl MemSink {

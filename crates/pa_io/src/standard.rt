@@ -1,6 +1,6 @@
-ghost use Rattle.std.specs.Prelude.{◌≡◌, ℕ, ◌<◌, ◌≤◌, None, length, take, IfOk, OnOk, OnErr};
+ghost use Rattle.std.specs.Prelude.{◌≡◌, ℕ, ◌<◌, ◌≤◌, None, length, take, IfSome, IfNone, IfOk, OnOk, OnErr};
 ghost use Rattle.std.specs.Io.KnownBytes.{Keeps, Appends};
-ghost use Rattle.pa_io.specs.Moves.{Moves, Takes, HasRisen, one_more};
+ghost use Rattle.pa_io.specs.Moves.{Moves, Takes, HasRisen, HasWrittenPart, one_more};
 
 use crate::traits::{Failed, Sink, Source};
 use std::io::{Read, Write};
@@ -35,7 +35,8 @@ impl<I: Read> Source for StdSource<I> {
         // What every source promises.
         ensures moves { IfOk result (λ n.
             Moves (I.remaining self.old.reader) (I.remaining self.new.reader) n into.new) }
-        ensures same { OnErr result (Keeps (I.remaining self.old.reader) (I.remaining self.new.reader)) }
+        ensures same { OnErr result
+            (Keeps (I.remaining self.old.reader) (I.remaining self.new.reader)) }
         ensures cause { OnErr result (HasRisen self.old.faults self.new.faults) }
         ensures later { self.old.faults ≤ self.new.faults }
 
@@ -69,15 +70,6 @@ impl<O: Write> StdSink<O> {
     {
         StdSink { writer, faults: 0 }
     }
-
-    // Counts one more fault.
-    fn fault(&mut self) -> Failed
-        ensures counted { self.new ≡ record self.old { faults = one_more self.old.faults } }
-        ensures later { self.old.faults ≤ self.new.faults }
-    {
-        self.faults = self.faults.saturating_add(1);
-        Failed
-    }
 }
 
 impl<O: Write> Sink for StdSink<O> {
@@ -100,17 +92,37 @@ impl<O: Write> Sink for StdSink<O> {
         ensures ok { OnOk result (self.new.faults ≡ self.old.faults) }
         ensures err { OnErr result (self.new.faults ≡ one_more self.old.faults) }
 
-        // What the writer holds, where it is known, grew by the bytes that were taken.
+        // What the writer holds, where it is known, grew by the bytes that were taken, or at a fault by a first part.
         ensures passed { IfOk result (λ n.
             Appends (O.contents self.old.writer) (O.contents self.new.writer) (take n from.now)) }
+        ensures part { OnErr result (HasWrittenPart
+            (O.contents self.old.writer) (O.contents self.new.writer) from.now) }
     {
-        match self.writer.write(from) {
-            Ok(0) => Err(self.fault()),
-            Ok(n) => match self.writer.flush() {
-                Ok(()) => Ok(n),
-                Err(_) => Err(self.fault()),
-            },
-            Err(_) => Err(self.fault()),
+        match pass_on(&mut self.writer, from) {
+            Some(n) => Ok(n),
+            None => {
+                self.faults = self.faults.saturating_add(1);
+                Err(Failed)
+            }
         }
+    }
+}
+
+// Hands the bytes to the writer once, and flushes what it took. None where either fails, and where it took nothing.
+fn pass_on<O: Write>(writer: &mut O, from: &[u8]) -> Option<usize>
+    ensures some_taken { IfSome result (λ n. 1 ≤ n) }
+    ensures within { IfSome result (λ n. n ≤ length from.now) }
+    ensures passed { IfSome result (λ n.
+        Appends (O.contents writer.old) (O.contents writer.new) (take n from.now)) }
+    ensures part { IfNone result
+        (HasWrittenPart (O.contents writer.old) (O.contents writer.new) from.now) }
+{
+    match writer.write(from) {
+        Ok(0) => None,
+        Ok(n) => match writer.flush() {
+            Ok(()) => Some(n),
+            Err(_) => None,
+        },
+        Err(_) => None,
     }
 }
