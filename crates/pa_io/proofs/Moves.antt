@@ -1,15 +1,15 @@
 -- What loops over reads and writes need to know, one call at a time.
-use Rattle.std.proofs.Common.{rules, arith, ◌≡◌, ℕ, ◌+◌, ◌-◌, ◌^◌, ◌<◌, ◌≤◌, ◌⊎◌, ◌∙◌, sym, ap, refl, inl, inr, List, [], ◌∷◌, ◌++◌, length, take, drop, Option, Some, None, append_assoc, length-append}
-use Rattle.std.proofs.lemmas.List.{take_at, take-append-drop, append-nil, nil_from_length}
+use Rattle.std.proofs.Common.{rules, arith, ◌≡◌, ℕ, ◌≤◌, ◌∙◌, sym, ap, refl, inl, inr, List, [], ◌++◌, length, take, drop, Option, Some, None, append_assoc, length-append}
+use Rattle.std.proofs.lemmas.List.{take_at, take-append-drop, append-nil}
 use Rattle.std.specs.Io.KnownBytes.{Consumes, Appends, Keeps}
-use Rattle.pa_io.specs.Moves.{Moves, Takes, EndsAt, IsAllOf, IsReadOut, HasWritten, HasWrittenPart, HasRisen}
+use Rattle.pa_io.specs.Moves.{Moves, Takes, IsAllOf, IsReadOut, HasWritten, HasWrittenPart, HasRisen}
 
 -- a copy of the next bytes to the front of a buffer moves them
 pub moves_front : (left rest buffer front behind : List ℕ) (n : ℕ) → length front ≡ n → left ≡ front ++ rest → buffer ≡ front ++ behind → (n ≡ 0 → left ≡ []) → Moves (Some left) (Some rest) n buffer
 moves_front left rest buffer front behind n len before after empty = record {
-    within = omega (arith, simp length-append at (ap length after));
-    moved = rw (after, take_at front behind n len) before;
-    end = (empty, λ e. omega (arith, simp length-append at (ap length (sym before ∙ e))));
+  within = omega (arith, simp length-append at (ap length after));
+  moved = rw (after, take_at front behind n len) before;
+  end = (empty, λ e. omega (arith, simp length-append at (ap length (sym before ∙ e))));
 }
 
 -- nothing was given yet
@@ -74,15 +74,17 @@ HasWritten_refl told all = record { front = []; split = refl; grown = Appends_re
 -- one more write: what it left of the rest is the new rest
 pub Takes_more : (start before after : Option (List ℕ)) (all rest left : List ℕ) (n : ℕ) → HasWritten start before all rest → Takes before after n rest → left ≡ drop n rest → HasWritten start after all left
 Takes_more start before after all rest left n w t e = record {
-    front = w.front ++ take n rest;
-    split = rw (e, append_assoc, take-append-drop) w.split;
-    grown = Appends_append start before after w.front (take n rest) w.grown t.taken;
+  front = w.front ++ take n rest;
+  split = rw (e, append_assoc, take-append-drop) w.split;
+  grown = Appends_append start before after w.front (take n rest) w.grown t.taken;
 }
 
 -- a write that fails leaves what was written and the rest
 pub HasWritten_keeps : (start before after : Option (List ℕ)) (all rest : List ℕ) → HasWritten start before all rest → Keeps before after → HasWritten start after all rest
 HasWritten_keeps start before after all rest w k = record {
-    front = w.front; split = w.split; grown = Appends_keeps start before after w.front w.grown k;
+  front = w.front;
+  split = w.split;
+  grown = Appends_keeps start before after w.front w.grown k;
 }
 
 -- with no rest all of it was written
@@ -91,11 +93,14 @@ HasWritten_all start after all w = rw (w.split, append-nil w.front) w.grown
 
 -- bytes that were appended and then kept
 pub Appends_part : (before between after : Option (List ℕ)) (all : List ℕ) (n : ℕ) → Appends before between (take n all) → Keeps between after → HasWrittenPart before after all
-Appends_part before between after all n h k = (drop n all, record {
+Appends_part before between after all n h k = (
+  drop n all,
+  record {
     front = take n all;
     split = sym (take-append-drop n all);
     grown = Appends_keeps before between after (take n all) h k;
-})
+  },
+)
 
 -- no byte was appended
 pub Keeps_part : (before after : Option (List ℕ)) (all : List ℕ) → Keeps before after → HasWrittenPart before after all

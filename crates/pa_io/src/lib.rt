@@ -6,10 +6,9 @@
 
 mod memory;
 mod standard;
-mod traits;
-
 #[cfg(test)]
 mod tests;
+mod traits;
 
 pub use memory::{MemSink, MemSource};
 pub use standard::{StdSink, StdSource};

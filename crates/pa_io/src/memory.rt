@@ -63,11 +63,11 @@ impl Model for MemSource {
     ghost Value = { SourceState };
 
     ghost view = { λ s. record {
-        left = drop s.at s.bytes.items;
-        piece = s.piece;
-        fails = s.calls.fails.items;
-        calls = s.calls.made;
-        faults = s.calls.faults;
+      left = drop s.at s.bytes.items;
+      piece = s.piece;
+      fails = s.calls.fails.items;
+      calls = s.calls.made;
+      faults = s.calls.faults;
     } };
 
     ghost invariant = { λ s. (s.at ≤ vec_len s.bytes) × (1 ≤ s.piece) };
@@ -84,7 +84,12 @@ impl MemSource {
     ) -> Result<MemSource, OutOfMemory>
         requires { 1 ≤ piece }
         ensures { IfOk result (λ s. s ≡ record {
-            left = bytes.now; piece = piece; fails = fails.now; calls = 0; faults = 0 }) }
+          left = bytes.now;
+          piece = piece;
+          fails = fails.now;
+          calls = 0;
+          faults = 0;
+        }) }
     {
         Ok(MemSource {
             bytes: Vec::from_slice(alloc, bytes)?,
@@ -116,10 +121,14 @@ impl Source for MemSource {
             n ≡ min self.old.piece (min (length into.old) (length self.old.left))) }
         ensures front { IfOk result (λ n. into.new ≡ take n self.old.left ++ drop n into.old) }
         ensures ok { IfOk result (λ n. self.new ≡ record self.old {
-            left = drop n self.old.left; calls = one_more self.old.calls }) }
+          left = drop n self.old.left;
+          calls = one_more self.old.calls;
+        }) }
         ensures untouched { OnErr result (into.new ≡ into.old) }
         ensures err { OnErr result (self.new ≡ record self.old {
-            calls = one_more self.old.calls; faults = one_more self.old.faults }) }
+          calls = one_more self.old.calls;
+          faults = one_more self.old.faults;
+        }) }
     {
         if self.calls.next_fails() {
             return Err(self.calls.fault());
@@ -145,12 +154,12 @@ impl Model for MemSink {
     ghost Value = { SinkState };
 
     ghost view = { λ s. record {
-        written = s.bytes.items;
-        room = s.room;
-        piece = s.piece;
-        fails = s.calls.fails.items;
-        calls = s.calls.made;
-        faults = s.calls.faults;
+      written = s.bytes.items;
+      room = s.room;
+      piece = s.piece;
+      fails = s.calls.fails.items;
+      calls = s.calls.made;
+      faults = s.calls.faults;
     } };
 
     ghost invariant = { λ s.
@@ -169,7 +178,13 @@ impl MemSink {
     ) -> Result<MemSink, OutOfMemory>
         requires { 1 ≤ piece }
         ensures { IfOk result (λ s. s ≡ record {
-            written = []; room = room; piece = piece; fails = fails.now; calls = 0; faults = 0 }) }
+          written = [];
+          room = room;
+          piece = piece;
+          fails = fails.now;
+          calls = 0;
+          faults = 0;
+        }) }
     {
         Ok(MemSink {
             bytes: Vec::with_capacity(alloc, room)?,
@@ -208,9 +223,13 @@ impl Sink for MemSink {
         ensures count { IfOk result (λ n. n ≡ min self.old.piece
             (min (length from.now) (self.old.room - length self.old.written))) }
         ensures ok { IfOk result (λ n. self.new ≡ record self.old {
-            written = self.old.written ++ take n from.now; calls = one_more self.old.calls }) }
+          written = self.old.written ++ take n from.now;
+          calls = one_more self.old.calls;
+        }) }
         ensures err { OnErr result (self.new ≡ record self.old {
-            calls = one_more self.old.calls; faults = one_more self.old.faults }) }
+          calls = one_more self.old.calls;
+          faults = one_more self.old.faults;
+        }) }
     {
         let room = self.room - self.bytes.len();
         if self.calls.next_fails() {

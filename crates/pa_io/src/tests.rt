@@ -165,8 +165,12 @@ fn whole_texts_go_through(rt: HostRuntime) -> Result<(), Fail> {
 #[test]
 fn reader_fails_in_mid_stream(rt: HostRuntime) {
     let mut source = StdSource::new(Stumbling { reads: 0 });
-    let steps: [(Result<usize, Failed>, u64); 4] =
-        [(Ok(3), 0), (Err(Failed), 1), (Ok(2), 1), (Ok(0), 1)];
+    let steps: [(Result<usize, Failed>, u64); 4] = [
+        (Ok(3), 0),
+        (Err(Failed), 1),
+        (Ok(2), 1),
+        (Ok(0), 1),
+    ];
     for (answer, faults) in steps {
         let mut into = [0; 8];
         assert_eq!(rt; source.read(&mut into), answer);

@@ -1,4 +1,4 @@
-use Rattle.std.proofs.Common.{rules, arith, ◌≡◌, ◌∙◌, ℕ, ◌+◌, ◌-◌, List, ◌++◌, ap, sym, take, drop}
+use Rattle.std.proofs.Common.{rules, arith, ◌≡◌, ℕ, ◌+◌, ◌-◌, List, ◌++◌, sym, take, drop}
 use Rattle.std.proofs.lemmas.Grind.{common_steps}
 use Rattle.std.proofs.lemmas.List.{take-append-drop, drop-drop, nil_from_length}
 use Rattle.pa_io.proofs.Moves.{moves_front}
@@ -15,4 +15,4 @@ pub returns-clause-moves : goal.returns-clause-moves
 returns-clause-moves c =
     let p = copied-append-drop c.self.inside.bytes.items c.deref.result.now c.copy_from_slice.new.self c.self.inside.at c.min-n.result c.deref.ensures.value c.copy_from_slice.ensures.after in
     moves_front c.args.self.now.left (drop (c.self.inside.at + c.min-n.result) c.self.inside.bytes.items) _ c.copy_from_slice.new.self (drop c.min-n.result c.args.into.now) c.min-n.result
-      (grind (arith, common_steps)) (cc) (search rules) (grind (arith, common_steps, nil_from_length))
+    (grind (arith, common_steps)) (cc) (search rules) (grind (arith, common_steps, nil_from_length))
