@@ -200,3 +200,10 @@ fn writer_faults_are_counted(rt: HostRuntime) {
         assert_eq!(rt; sink.writer.flushes, flushes);
     }
 }
+
+#[test]
+fn failure_has_a_text(rt: HostRuntime) -> Result<(), Fail> {
+    let text = format!(in rt.alloc(); "{}", Failed)?;
+    assert_eq!(rt; text.as_str(), "a read or a write failed");
+    Ok(())
+}
