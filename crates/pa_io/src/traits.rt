@@ -1,0 +1,53 @@
+ghost use Rattle.std.specs.Prelude.{◌≡◌, ℕ, ◌<◌, ◌≤◌, List, Option, length, IfOk, OnErr};
+ghost use Rattle.std.specs.Io.KnownBytes.{Keeps};
+ghost use Rattle.pa_io.specs.Moves.{Moves, Takes, HasRisen};
+
+use std::error::Error;
+use std::fmt;
+
+/// A read or a write failed, and its source or sink counted a fault.
+#[derive(Clone, Copy, Debug, PartialEq, Eq)]
+pub struct Failed;
+
+impl fmt::Display for Failed {
+    fn fmt<W: fmt::Write>(&self, f: &mut fmt::Formatter<W>) -> fmt::Result {
+        write!(f, "a read or a write failed")
+    }
+}
+
+impl Error for Failed {}
+
+/// What bytes are read from.
+pub trait Source {
+    // How many faults there were so far. It never falls.
+    ghost faults: { Self → ℕ };
+
+    // The bytes not yet read, where that is told.
+    ghost left: { Self → Option (List ℕ) };
+
+    /// Moves the next bytes into the front of `into`, at most its length, and answers how many: 0 at the end of the
+    /// input alone. What stands behind them in `into` is left open, as is all of it after a failure.
+    fn read(&mut self, into: &mut [u8]) -> Result<usize, Failed>
+        requires { 0 < length into.old }
+        ensures moves { IfOk result (λ n. Moves (left self.old) (left self.new) n into.new) }
+        ensures same { OnErr result (Keeps (left self.old) (left self.new)) }
+        ensures cause { OnErr result (HasRisen (faults self.old) (faults self.new)) }
+        ensures later { faults self.old ≤ faults self.new };
+}
+
+/// What bytes are written to.
+pub trait Sink {
+    // How many faults there were so far. It never falls.
+    ghost faults: { Self → ℕ };
+
+    // The bytes taken so far, where that is told.
+    ghost written: { Self → Option (List ℕ) };
+
+    /// Takes the first bytes of `from`, one at least, and answers how many.
+    fn write(&mut self, from: &[u8]) -> Result<usize, Failed>
+        requires { 0 < length from.now }
+        ensures takes { IfOk result (λ n. Takes (written self.old) (written self.new) n from.now) }
+        ensures same { OnErr result (Keeps (written self.old) (written self.new)) }
+        ensures cause { OnErr result (HasRisen (faults self.old) (faults self.new)) }
+        ensures later { faults self.old ≤ faults self.new };
+}
