@@ -1,5 +1,5 @@
 -- What holds of each class, by going through the table once.
-use Rattle.std.proofs.Common.{◌≡◌, ℕ, zero, suc, ◌+◌, ◌*◌, ◌%◌, ◌<◌, ◌≤◌, inl, inr, refl, arith}
+use Rattle.std.proofs.Common.{◌≡◌, ℕ, zero, suc, ◌+◌, ◌*◌, ◌/◌, ◌%◌, ◌<◌, ◌≤◌, max, inl, inr, refl, arith}
 use Rattle.std.proofs.lemmas.Bool.{cases_eq}
 use Rattle.pa_buckets.specs.Table.{rows, row_of, slot_of, pages_of, system_of, slots_of, waste_of}
 use Rattle.pa_buckets.specs.Bands.{limit_of, fill_of}
@@ -81,18 +81,6 @@ pub limit_of-last : (c : ℕ) → 39 < c → c < 59 → limit_of c ≡ 0
 unfolding limit_of
 limit_of-last c low high = equal_from limit_of (λ _. 0) 40 19 refl c (omega arith) (omega arith)
 
-pub fill_of-first : (c : ℕ) → c ≤ 7 → fill_of c ≡ 8
-unfolding fill_of
-fill_of-first c high = equal_below fill_of (λ _. 8) 8 refl c (omega arith)
-
-pub fill_of-second : (c : ℕ) → 7 < c → c ≤ 19 → fill_of c ≡ 4
-unfolding fill_of
-fill_of-second c low high = equal_from fill_of (λ _. 4) 8 12 refl c (omega arith) (omega arith)
-
-pub fill_of-third : (c : ℕ) → 19 < c → c ≤ 39 → fill_of c ≡ 2
-unfolding fill_of
-fill_of-third c low high = equal_from fill_of (λ _. 2) 20 20 refl c (omega arith) (omega arith)
-
-pub fill_of-last : (c : ℕ) → 39 < c → c < 59 → fill_of c ≡ 1
-unfolding fill_of
-fill_of-last c low high = equal_from fill_of (λ _. 1) 40 19 refl c (omega arith) (omega arith)
+pub fill_of-limit : (c : ℕ) → c < 59 → fill_of c ≡ max (limit_of c / 8) 1
+unfolding limit_of fill_of
+fill_of-limit c real = equal_below fill_of (λ k. max (limit_of k / 8) 1) 59 refl c real

@@ -7,6 +7,9 @@ use crate::spans::SpanShape;
 use crate::table::{CLASSES, ROWS};
 use std::marker::Model;
 
+// The cache limit's share in which slots are asked for.
+const BATCH_RATIO: u32 = 8;
+
 /// A size class, 0 to 58: a bucket of PartitionAlloc.md. It is seen as its number.
 #[derive(Clone, Copy, Debug, PartialEq, Eq)]
 pub struct Class(u8);
@@ -89,20 +92,13 @@ pub fn cache_limit(class: Class) -> u32
     }
 }
 
-/// How many slots of the class a thread whose cache is empty asks of the root at once.
+/// How many slots of the class a thread whose cache is empty asks of the root at once: an eighth of the limit, and
+/// at least one.
 pub fn fill_count(class: Class) -> u32
     ensures count { result ≡ fill_of class }
     ensures bound { class < 59 }
 {
-    if class.0 <= 7 {
-        8
-    } else if class.0 <= 19 {
-        4
-    } else if class.0 <= 39 {
-        2
-    } else {
-        1
-    }
+    (cache_limit(class) / BATCH_RATIO).max(1)
 }
 
 /// The raw size of a request in bytes: with 8 more for the count word. A request of 0 bytes is one of 1 byte.

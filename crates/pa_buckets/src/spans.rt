@@ -12,13 +12,17 @@ pub struct SpanShape {
     pub waste: u32,
 }
 
-/// The state of a slot span, as in PartitionAlloc.md: a span that isn't full and has allocated slots is active, one
-/// that has none is empty, and a decommitted one has no memory. `None` is a span that is not in use yet.
+/// The state of a slot span, as PartitionAlloc.md has them, with one more for a span that isn't in use yet.
 #[derive(Clone, Copy, Debug, PartialEq, Eq)]
 pub enum State {
+    /// The span isn't in use yet.
     None,
+    /// Some of its slots are allocated, and not all.
     Active,
+    /// No slot is allocated.
     Empty,
+    /// No slot is allocated, and its pages aren't committed.
     Decommitted,
+    /// All slots are allocated.
     Full,
 }

@@ -3,12 +3,14 @@ ghost use Rattle.pa_layout.specs.SuperPage.{IsOfKind};
 
 use crate::pages::{LAST_PAGE, PARTITION_PAGE, SUPER_PAGE, SYSTEM_PAGE};
 
-/// What a byte of a bucket's super page is for (PartitionAlloc.md, "Layout in memory"): a guard, which nothing
-/// reads or writes, a record of a slot span, or the slots themselves.
+/// What a byte of a bucket's super page is for (PartitionAlloc.md, "Layout in Memory").
 #[derive(Clone, Copy, Debug, PartialEq, Eq)]
 pub enum Kind {
+    /// A guard: nothing reads or writes it.
     Guard,
+    /// A part of the partition pages' records.
     Metadata,
+    /// A part of the slot spans.
     Payload,
 }
 
