@@ -1,0 +1,4 @@
+pub mod Tests
+pub mod Facts
+pub mod SpanRule
+pub mod Points

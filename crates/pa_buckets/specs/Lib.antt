@@ -1,0 +1,5 @@
+pub mod Table
+pub mod Bands
+pub mod Classes
+pub mod Rule
+pub mod Laws

@@ -1,0 +1,62 @@
+ghost use Rattle.std.specs.Prelude.{◌≡◌, ◌↔◌, ◌<◌, IsNone, IfSome};
+ghost use Rattle.pa_direct.specs.Shapes.{shape_of};
+
+use crate::maps::Shape;
+use pa_layout::{PARTITION_PAGE, SUPER_PAGE, SYSTEM_PAGE};
+
+// The greatest request that is served, in bytes: with it the slot and its guards fill 16 super pages.
+const GREATEST: u32 = 33521656;
+
+// Bytes of a count word.
+const COUNT_WORD: u32 = 8;
+
+/// The shape of the direct map for a request of that many bytes: the raw size rounded up to system pages, and the
+/// super pages that hold it with a partition page before it and another after it. `None` exactly where the request
+/// is above 33,521,656 bytes.
+pub fn shape(size: u32) -> Option<Shape>
+    requires no_class { 917496 < size }
+    ensures refused { IsNone result ↔ (33521656 < size) }
+    ensures shape { IfSome result (λ s. s ≡ shape_of size) }
+{
+    if size > GREATEST {
+        return None;
+    }
+    let slot = (size + COUNT_WORD).div_ceil(SYSTEM_PAGE) * SYSTEM_PAGE;
+    let supers = (slot + 2 * PARTITION_PAGE).div_ceil(SUPER_PAGE);
+    Some(Shape { slot, supers })
+}
+
+#[cfg(test)]
+mod tests {
+    use super::*;
+
+    #[test]
+    fn shapes_on_both_sides_of_an_edge(rt: HostRuntime) {
+        let least = Shape {
+            slot: 921600,
+            supers: 1,
+        };
+        let middle = Shape {
+            slot: 2002944,
+            supers: 1,
+        };
+        let last_in_one = Shape {
+            slot: 2064384,
+            supers: 1,
+        };
+        let first_in_two = Shape {
+            slot: 2068480,
+            supers: 2,
+        };
+        let greatest = Shape {
+            slot: 33521664,
+            supers: 16,
+        };
+        assert!(rt; shape(917497) == Some(least));
+        assert!(rt; shape(2000000) == Some(middle));
+        assert!(rt; shape(2064376) == Some(last_in_one));
+        assert!(rt; shape(2064377) == Some(first_in_two));
+        assert!(rt; shape(33521656) == Some(greatest));
+        assert!(rt; shape(33521657) == None);
+    }
+}

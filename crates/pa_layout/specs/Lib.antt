@@ -1,0 +1,3 @@
+pub mod SuperPage
+pub mod Pages
+pub mod Laws
