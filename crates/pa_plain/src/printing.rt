@@ -69,3 +69,90 @@ fn place(word: Word) -> &'static [u8]
         b" quarantined "
     }
 }
+
+#[cfg(test)]
+mod tests {
+    use super::*;
+    use pa_machine::SlotName;
+    use pa_record::{Answer, Seen};
+    use std::test::Fail;
+
+    // A slot of the plain player, with this word.
+    fn slot_word(start: u32, word: u64) -> SlotWord {
+        SlotWord {
+            slot: SlotName { start, born: 0 },
+            word: Word(word),
+        }
+    }
+
+    // The record of a line of thread 0 that found this word at the first slot.
+    fn done(line: u32, found: u64) -> Entry {
+        let seen = Seen {
+            slot: SlotName { start: 0, born: 0 },
+            found: Word(found),
+        };
+        Entry {
+            line,
+            thread: 0,
+            answer: Answer::Done { seen },
+        }
+    }
+
+    #[test]
+    fn a_freed_slot_is_printed(rt: HostRuntime) -> Result<(), Fail> {
+        let seen = Seen {
+            slot: SlotName { start: 0, born: 0 },
+            found: Word(0),
+        };
+        let made = Entry {
+            line: 2,
+            thread: 0,
+            answer: Answer::Made { seen, usable: 8 },
+        };
+        let entries = Vec::from_array(rt.alloc(), [made, done(3, 0x01000001)])?;
+        let slots = Vec::from_array(rt.alloc(), [slot_word(0, 0x02000000)])?;
+        let text = write_plain(rt.alloc(), &PlainRun { entries, slots })?;
+        let due = b"plain 1
+e 2 0 made 00000000.0 8 0000000000000000
+e 3 0 done 00000000.0 0000000001000001
+q 00000000.0 free 0000000002000000
+end
+";
+        assert_eq!(rt; text.as_slice(), due.as_slice());
+        Ok(())
+    }
+
+    #[test]
+    fn each_place_is_printed(rt: HostRuntime) -> Result<(), Fail> {
+        let entries = Vec::new(rt.alloc());
+        let slots = [
+            slot_word(0, 0x05000001),
+            slot_word(16, 0x03000002),
+            slot_word(32, 0x04000000),
+        ];
+        let run = PlainRun {
+            entries,
+            slots: Vec::from_array(rt.alloc(), slots)?,
+        };
+        let text = write_plain(rt.alloc(), &run)?;
+        let due = b"plain 1
+q 00000000.0 live 0000000005000001
+q 00000010.0 quarantined 0000000003000002
+q 00000020.0 free 0000000004000000
+end
+";
+        assert_eq!(rt; text.as_slice(), due.as_slice());
+        Ok(())
+    }
+
+    #[test]
+    fn a_run_of_no_lines_is_printed(rt: HostRuntime) -> Result<(), Fail> {
+        let run = PlainRun {
+            entries: Vec::new(rt.alloc()),
+            slots: Vec::new(rt.alloc()),
+        };
+        let text = write_plain(rt.alloc(), &run)?;
+        assert_eq!(rt; text.as_slice(), b"plain 1\nend\n".as_slice());
+        Ok(())
+    }
+}

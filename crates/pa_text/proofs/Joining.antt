@@ -22,5 +22,5 @@ pub starts_before : (xs before more : List ℕ) → StartsWith xs (before ++ mor
 starts_before xs before more h =
     let n = length (before ++ more) in
     let e : xs ≡ before ++ (more ++ drop n xs) =
-        sym (take-append-drop n xs) ∙ ap (λ ys. ys ++ drop n xs) h ∙ append_assoc before more (drop n xs) in
+    sym (take-append-drop n xs) ∙ ap (λ ys. ys ++ drop n xs) h ∙ append_assoc before more (drop n xs) in
     subst (λ ys. StartsWith ys before) (sym e) (starts_more before (more ++ drop n xs))

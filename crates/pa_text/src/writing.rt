@@ -46,3 +46,40 @@ pub fn push_slot(out: &mut Vec<u8>, s: SlotName) -> Result<(), OutOfMemory>
     push_bytes(out, b".")?;
     push_number(out, u64::from(s.born))
 }
+
+#[cfg(test)]
+mod tests {
+    use super::*;
+    use std::test::Fail;
+
+    #[test]
+    fn numbers_words_and_names_are_spelled(rt: HostRuntime) -> Result<(), Fail> {
+        let mut out = Vec::new(rt.alloc());
+        push_number(&mut out, 0)?;
+        push_bytes(&mut out, b" ")?;
+        push_number(&mut out, 4294967295)?;
+        push_bytes(&mut out, b" ")?;
+        push_number(&mut out, u64::MAX)?;
+        push_bytes(&mut out, b" ")?;
+        push_word(&mut out, 0x0123_4567_89ab_cdef)?;
+        push_bytes(&mut out, b" ")?;
+        push_slot(
+            &mut out,
+            SlotName {
+                start: 0x4000,
+                born: 0,
+            },
+        )?;
+        push_bytes(&mut out, b" ")?;
+        push_slot(
+            &mut out,
+            SlotName {
+                start: 0xfedc_ba98,
+                born: 17,
+            },
+        )?;
+        let text = b"0 4294967295 18446744073709551615 0123456789abcdef 00004000.0 fedcba98.17";
+        assert_eq!(rt; out.as_slice(), text.as_slice());
+        Ok(())
+    }
+}

@@ -17,6 +17,6 @@ starts_first xs before a b c d e x1 x2 x3 x4 x5 e1 e2 e3 e4 e5 h =
 pub returns-in_err-push_answer-clause-kept : goal.returns-in_err-push_answer-clause-kept
 returns-in_err-push_answer-clause-kept c =
     let h : StartsWith c.push_answer.new.out.items c.args.out.now.items = starts_first _ _ _ _ _ _ _ _ _ _ _ _ c.in_ok-push_bytes.ensures.pushed c.in_ok-push_number.ensures.pushed
-        c.in_ok-push_bytes-2.ensures.pushed c.in_ok-push_number-2.ensures.pushed c.in_ok-push_bytes-3.ensures.pushed
-        c.in_err-push_answer.ensures.kept in
+    c.in_ok-push_bytes-2.ensures.pushed c.in_ok-push_number-2.ensures.pushed c.in_ok-push_bytes-3.ensures.pushed
+    c.in_err-push_answer.ensures.kept in
     search (rules, h)
