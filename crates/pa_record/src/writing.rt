@@ -13,13 +13,21 @@ pub fn push_entry(out: &mut Vec<u8>, entry: &Entry) -> Result<(), OutOfMemory>
     ensures pushed { OnOk result (out.new.items ≡ out.old.items ++ entry_text entry.now) }
     ensures kept { OnErr result (StartsWith out.new.items out.old.items) }
 {
-    push_bytes(out, b"e ")?;
-    push_number(out, u64::from(entry.line))?;
-    push_bytes(out, b" ")?;
-    push_number(out, u64::from(entry.thread))?;
-    push_bytes(out, b" ")?;
+    push_place(out, entry.line, entry.thread)?;
     push_answer(out, entry.answer)?;
     push_bytes(out, b"\n")
+}
+
+// Appends `e LINE THREAD` and a space.
+fn push_place(out: &mut Vec<u8>, line: u32, thread: u32) -> Result<(), OutOfMemory>
+    ensures pushed { OnOk result (out.new.items ≡ out.old.items ++ (codes "e " ++ decimal line ++ codes " " ++ decimal thread ++ codes " ")) }
+    ensures kept { OnErr result (StartsWith out.new.items out.old.items) }
+{
+    push_bytes(out, b"e ")?;
+    push_number(out, u64::from(line))?;
+    push_bytes(out, b" ")?;
+    push_number(out, u64::from(thread))?;
+    push_bytes(out, b" ")
 }
 
 // Appends the answer's words.
