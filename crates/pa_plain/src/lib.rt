@@ -2,5 +2,7 @@
 #![tactic(auto)]
 
 mod plain_run;
+mod printing;
 
 pub use plain_run::PlainRun;
+pub use printing::write_plain;

@@ -2,5 +2,7 @@
 #![tactic(auto)]
 
 mod entry;
+mod writing;
 
 pub use entry::{Answer, Entry, Seen};
+pub use writing::push_entry;

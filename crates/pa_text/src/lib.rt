@@ -3,4 +3,4 @@
 
 mod writing;
 
-pub use writing::push_bytes;
+pub use writing::{push_bytes, push_number, push_slot, push_word};

@@ -1,11 +1,85 @@
-ghost use Rattle.std.specs.Prelude.{◌≡◌, ◌++◌, OnOk};
+ghost use Rattle.std.specs.Prelude.{◌≡◌, ◌++◌, OnOk, OnErr};
+ghost use Rattle.std.specs.Fmt.{decimal};
+ghost use Rattle.std.specs.Io.{StartsWith};
+ghost use Rattle.pa_text.specs.Hex.{hex, slot_text};
 
-use pa_machine::OutOfMemory;
+use pa_machine::{OutOfMemory, SlotName};
 
-/// Appends the bytes. After want of memory a part of them may stand there.
+/// Appends the bytes. After want of memory none of them stands there.
 pub fn push_bytes(out: &mut Vec<u8>, bytes: &[u8]) -> Result<(), OutOfMemory>
-    ensures { OnOk result (out.new.items ≡ out.old.items ++ bytes.now) }
+    ensures pushed { OnOk result (out.new.items ≡ out.old.items ++ bytes.now) }
+    ensures same { OnErr result (out.new.items ≡ out.old.items) }
 {
     out.extend_from_slice(bytes)?;
     Ok(())
+}
+
+/// Appends the number in decimal. After want of memory none of its digits stands there.
+pub fn push_number(out: &mut Vec<u8>, n: u64) -> Result<(), OutOfMemory>
+    ensures pushed { OnOk result (out.new.items ≡ out.old.items ++ decimal n) }
+    ensures same { OnErr result (out.new.items ≡ out.old.items) }
+{
+    let mut digits = itoa::Buffer::new();
+    push_bytes(out, digits.format(n).as_bytes())
+}
+
+/// Appends the word as sixteen lower-case hexadecimal digits. After want of memory none of them stands there.
+#[tactic(auto, using(crate::proofs::Hex::word_digits))]
+pub fn push_word(out: &mut Vec<u8>, w: u64) -> Result<(), OutOfMemory>
+    ensures pushed { OnOk result (out.new.items ≡ out.old.items ++ hex 16 w) }
+    ensures same { OnErr result (out.new.items ≡ out.old.items) }
+{
+    let mut digits = [0; 16];
+    hex::encode_to_slice(w.to_be_bytes(), &mut digits).unwrap();
+    push_bytes(out, &digits)
+}
+
+/// Appends the slot's name, as `00004000.0`. After want of memory a first part of it may stand there.
+#[tactic(auto, using(crate::proofs::Hex::start_digits, crate::proofs::Joining::slot_joined, crate::proofs::Joining::starts_more))]
+pub fn push_slot(out: &mut Vec<u8>, s: SlotName) -> Result<(), OutOfMemory>
+    ensures pushed { OnOk result (out.new.items ≡ out.old.items ++ slot_text s) }
+    ensures kept { OnErr result (StartsWith out.new.items out.old.items) }
+{
+    let mut digits = [0; 8];
+    hex::encode_to_slice(s.start.to_be_bytes(), &mut digits).unwrap();
+    push_bytes(out, &digits)?;
+    push_bytes(out, b".")?;
+    push_number(out, u64::from(s.born))
+}
+
+#[cfg(test)]
+mod tests {
+    use super::*;
+    use std::test::Fail;
+
+    #[test]
+    fn numbers_words_and_names_are_spelled(rt: HostRuntime) -> Result<(), Fail> {
+        let mut out = Vec::new(rt.alloc());
+        push_number(&mut out, 0)?;
+        push_bytes(&mut out, b" ")?;
+        push_number(&mut out, 4294967295)?;
+        push_bytes(&mut out, b" ")?;
+        push_number(&mut out, u64::MAX)?;
+        push_bytes(&mut out, b" ")?;
+        push_word(&mut out, 0x0123_4567_89ab_cdef)?;
+        push_bytes(&mut out, b" ")?;
+        push_slot(
+            &mut out,
+            SlotName {
+                start: 0x4000,
+                born: 0,
+            },
+        )?;
+        push_bytes(&mut out, b" ")?;
+        push_slot(
+            &mut out,
+            SlotName {
+                start: 0xfedc_ba98,
+                born: 17,
+            },
+        )?;
+        let text = b"0 4294967295 18446744073709551615 0123456789abcdef 00004000.0 fedcba98.17";
+        assert_eq!(rt; out.as_slice(), text.as_slice());
+        Ok(())
+    }
 }
