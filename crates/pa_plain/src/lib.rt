@@ -2,5 +2,6 @@
 #![tactic(auto)]
 
 mod plain_run;
+mod player_ops;
 
 pub use plain_run::PlainRun;
