@@ -74,17 +74,17 @@ points i Freed = 0
 points i Cleared = 0
 
 -- The registers name slots that were made, and each slot's word counts them: its bit the owners, its count the
--- raw_ptrs. No word has seen more steps than there were lines, and no more slots were made.
-pub record AreCounted (rs : List Reg) (ws : List Word) (line : ℕ) : Type 0 where
+-- raw_ptrs.
+pub record AreCounted (rs : List Reg) (ws : List Word) : Type 0 where
+  pub registers : length rs ≡ 64
   pub named : All (NamesAmong (length ws)) rs
   pub owners : (i : ℕ) → i < length ws → held_of (word_at ws i) ≡ sum_by (owns i) rs
   pub pointers : (i : ℕ) → i < length ws → refs_of (word_at ws i) ≡ sum_by (points i) rs
+
+-- no word has seen more steps than lines were played before this one, and no more slots were made
+pub record AreBounded (ws : List Word) (line : ℕ) : Type 0 where
   pub numbers : (i : ℕ) → i < length ws → number_of (word_at ws i) + 2 ≤ line
   pub few : length ws + 2 ≤ line
-
--- the player's registers and words agree
-abbrev pub IsSound : Player → Type 0
-IsSound p = AreCounted p.registers p.words.items p.line
 
 -- each slot of the stack was made, and is free by its word
 abbrev pub AreFree : List Word → List ℕ → Type 0
@@ -126,11 +126,13 @@ pub record IsTurn (op : Op) (answer : Answer) (before after : Player) : Type 0 w
   pub row : Row (λ size. 8) op (regs_of before.registers) answer (regs_of after.registers)
   pub turns : Turns (mark_of_answer before.line op answer) before after
   pub never_full : (entry : ℕ) → answer ≡ Full entry → ⊥
-  pub sound : AreCounted after.registers after.words.items (before.line + 1)
+  pub counted : AreCounted after.registers after.words.items
+  pub bounded : AreBounded after.words.items (before.line + 1)
   pub line : after.line ≡ before.line
 
 -- a line can be played: the registers agree with the words, the free slots are free, and it has a number
 pub record IsReady (p : Player) : Type 0 where
-  pub sound : IsSound p
+  pub counted : AreCounted p.registers p.words.items
+  pub bounded : AreBounded p.words.items p.line
   pub free : AreFree p.words.items p.free_slots.items
   pub line : p.line ≤ 65536

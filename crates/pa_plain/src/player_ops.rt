@@ -81,7 +81,7 @@ impl Player {
             return Ok(Answer::TooLarge);
         }
         let index = self.next_slot()?;
-        let slot = SlotName { start: index * SLOT_SIZE, born: 0 };
+        let slot = SlotName { start: SLOT_SIZE * index, born: 0 };
         let seen = self.step(slot, Step::Issue);
         self.registers[reg as usize] = Reg::Own(slot);
         Ok(Answer::Made { seen, usable: USABLE })
