@@ -11,18 +11,11 @@ use Rattle.pa_machine.specs.declared.word.Word.{Word}
 use Rattle.pa_machine.specs.declared.word.Step.{Step}
 use Rattle.pa_machine.specs.declared.word.Step.TheVariants.{Issue, Copy, Reset, Free, Write}
 use Rattle.pa_machine.specs.Count.{number_of, held_of, refs_of, CanStep, stepped}
+use Rattle.pa_machine.proofs.Runs.{number_stepped}
 use Rattle.pa_rules.specs.declared.register.Reg.{Reg}
 use Rattle.pa_rules.specs.declared.register.Reg.TheVariants.{Empty, Own, Ref, Freed, Cleared}
 use Rattle.pa_rules.specs.Plain.{plain_name}
 use Rattle.pa_plain.specs.Player.{regs_of, word_at, index_of, IsAmong, NamesAmong, Names, HoldsNone, owns, points, AreCounted, AreBounded, Steps}
-
--- a step adds one to the number
-pub number_stepped : (p : Step) (w : ℕ) → CanStep p w → number_of (stepped p w) ≡ number_of w + 1
-number_stepped Issue w h = omega (arith, h)
-number_stepped Copy w h = omega (arith, h)
-number_stepped Reset w h = omega (arith, h)
-number_stepped Free w h = omega (arith, h)
-number_stepped Write w h = omega (arith, h)
 
 -- the word at an index after a write there, and at another index
 pub word_at_same : (ws : List Word) (i w : ℕ) → i < length ws → word_at (set ws i (record { 0 = w })) i ≡ w

@@ -1,2 +1,4 @@
 pub mod Counted
 pub mod Turning
+pub mod Since
+pub mod Following
