@@ -269,7 +269,7 @@ stack_apart ms n line bound xs rising ne h =
       (λ i k c g. since_kept ms n (plain_name i) k line rising (λ e some. name_apart n i (ne i c) e) g) h
 
 -- a step that isn't an allocation and returns no slot
-follows_stay : (ms : List Mark) (n : Mark) (p : Step) (line : ℕ) (ws ws' : List Word) (free : List ℕ) → Follows ms line ws free
+pub follows_stay : (ms : List Mark) (n : Mark) (p : Step) (line : ℕ) (ws ws' : List Word) (free : List ℕ) → Follows ms line ws free
   → n.line ≡ line → n.step ≡ Some p → n.slot ≡ plain_name (index_of n.slot) → Steps (index_of n.slot) p n.found ws ws'
   → (p ≡ Issue → ⊥) → (IsReturning p n.found → ⊥) → Follows (ms ++ n ∷ []) (line + 1) ws' free
 follows_stay ms n p line ws ws' free f at step plain st no_issue stays =
@@ -287,7 +287,7 @@ follows_stay ms n p line ws ws' free f at step plain st no_issue stays =
         ])
 
 -- a step that returns its slot
-follows_return : (ms : List Mark) (n : Mark) (p : Step) (line : ℕ) (ws ws' : List Word) (free : List ℕ) → Follows ms line ws free
+pub follows_return : (ms : List Mark) (n : Mark) (p : Step) (line : ℕ) (ws ws' : List Word) (free : List ℕ) → Follows ms line ws free
   → n.line ≡ line → n.step ≡ Some p → n.slot ≡ plain_name (index_of n.slot) → Steps (index_of n.slot) p n.found ws ws'
   → (p ≡ Issue → ⊥) → IsReturning p n.found → Follows (ms ++ n ∷ []) (line + 1) ws' (free ++ index_of n.slot ∷ [])
 follows_return ms n p line ws ws' free f at step plain st no_issue returns =
@@ -312,7 +312,7 @@ follows_return ms n p line ws ws' free f at step plain st no_issue returns =
         ])
 
 -- an allocation of the free slot that was returned last
-follows_pop : (ms : List Mark) (n : Mark) (line : ℕ) (ws ws' : List Word) (free free' : List ℕ) → Follows ms line ws free
+pub follows_pop : (ms : List Mark) (n : Mark) (line : ℕ) (ws ws' : List Word) (free free' : List ℕ) → Follows ms line ws free
   → n.line ≡ line → n.step ≡ Some Issue → n.slot ≡ plain_name (index_of n.slot) → Steps (index_of n.slot) Issue n.found ws ws'
   → free ≡ free' ++ index_of n.slot ∷ [] → Follows (ms ++ n ∷ []) (line + 1) ws' free'
 follows_pop ms n line ws ws' free free' f at step plain st e =
@@ -353,7 +353,7 @@ follows_pop ms n line ws ws' free free' f at step plain st e =
         ])
 
 -- an allocation of a new slot, where none is free
-follows_new : (ms : List Mark) (n : Mark) (line : ℕ) (ws ws' : List Word) → Follows ms line ws []
+pub follows_new : (ms : List Mark) (n : Mark) (line : ℕ) (ws ws' : List Word) → Follows ms line ws []
   → n.line ≡ line → n.step ≡ Some Issue → n.slot ≡ plain_name (index_of n.slot) → index_of n.slot ≡ length ws
   → Steps (index_of n.slot) Issue n.found (ws ++ record { 0 = 0 } ∷ []) ws' → Follows (ms ++ n ∷ []) (line + 1) ws' []
 follows_new ms n line ws ws' f at step plain new st =

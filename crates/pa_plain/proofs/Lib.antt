@@ -2,3 +2,4 @@ pub mod Counted
 pub mod Turning
 pub mod Since
 pub mod Following
+pub mod Playing

@@ -12,7 +12,11 @@ use Rattle.pa_rules.specs.declared.register.Reg.TheVariants.{Empty, Own, Ref, Fr
 use Rattle.pa_rules.specs.Registers.{Regs, Row}
 use Rattle.pa_rules.specs.Played.{mark_of_answer}
 use Rattle.pa_trace.specs.declared.script.Op.{Op}
+use Rattle.pa_trace.specs.declared.script.Line.{Line}
+use Rattle.pa_trace.specs.declared.script.Line.TheVariants.{Do}
+use Rattle.pa_record.specs.declared.entry.Entry.{Entry}
 use Rattle.pa_record.specs.declared.entry.Answer.{Answer}
+use Rattle.pa_rules.specs.declared.slot_word.SlotWord.{SlotWord}
 use Rattle.pa_record.specs.declared.entry.Answer.TheVariants.{Full}
 use Rattle.pa_rules.specs.Plain.{plain_name}
 use Rattle.pa_plain.specs.declared.player_ops.Player.{Player}
@@ -136,3 +140,15 @@ pub record IsReady (p : Player) : Type 0 where
   pub bounded : AreBounded p.words.items p.line
   pub free : AreFree p.words.items p.free_slots.items
   pub line : p.line ≤ 65536
+
+-- a line that was played: its record has the next number, and the number rises
+abbrev pub IsLineTurn : Line → Entry → Player → Player → Type 0
+IsLineTurn (Do thread op) entry before after =
+    (entry.line ≡ before.line) × (entry.thread ≡ thread) × (after.line ≡ before.line + 1)
+    × IsTurn op entry.answer before (record after { line = before.line })
+
+-- the first n slots in order, each with its word
+pub record AreSlots (n : ℕ) (ws : List Word) (slots : List SlotWord) : Type 0 where
+  pub count : length slots ≡ n
+  pub each : (k : ℕ) (d : SlotWord) → k < n
+    → slice_index_or slots k d ≡ record { slot = plain_name k; word = slice_index_or ws k (record { 0 = 0 }) }

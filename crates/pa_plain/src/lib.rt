@@ -2,6 +2,8 @@
 #![tactic(auto)]
 
 mod plain_run;
+mod player;
 mod player_ops;
 
 pub use plain_run::PlainRun;
+pub use player::play;

@@ -1,14 +1,14 @@
 ghost use Rattle.std.specs.Prelude.{◌≡◌, ℕ, ◌<◌, ◌≤◌, ◌↔◌, [], IfOk, IsTrue, length};
 ghost use Rattle.pa_machine.specs.Count.{CanStep};
 ghost use Rattle.pa_machine.specs.Run.{IsReturning};
-ghost use Rattle.pa_trace.specs.Form.{IsPlainOp};
+ghost use Rattle.pa_trace.specs.Form.{IsPlainLine, IsPlainOp};
 ghost use Rattle.pa_trace.specs.declared.script.Op.TheVariants as ops;
-ghost use Rattle.pa_plain.specs.Player.{regs_of, word_at, index_of, HoldsNone, Names, IsReady, IsTurn, Takes, Steps, Returns};
+ghost use Rattle.pa_plain.specs.Player.{regs_of, word_at, index_of, HoldsNone, Names, IsReady, IsTurn, IsLineTurn, AreSlots, Takes, Steps, Returns};
 
 use pa_machine::{OutOfMemory, SlotName, Step, Word, apply, held, refs};
-use pa_record::{Answer, Seen};
-use pa_rules::Reg;
-use pa_trace::Op;
+use pa_record::{Answer, Entry, Seen};
+use pa_rules::{Reg, SlotWord};
+use pa_trace::{Line, Op};
 use std::alloc::Global;
 
 // Every slot has 16 bytes, of which the object may use 8: the last 8 are the count word.
@@ -40,8 +40,34 @@ impl Player {
         Player { registers: [Reg::Empty; 64], words: Vec::new(alloc), free_slots: Vec::new(alloc), line: 2 }
     }
 
+    // Plays a line, and records it.
+    pub(crate) fn play_line(&mut self, line: &Line) -> Result<Entry, OutOfMemory>
+        requires form { IsPlainLine line.now }
+        requires ready { IsReady self.old }
+        ensures { IfOk result (λ e. IsLineTurn line.now e self.old self.new) }
+    {
+        let Line::Do { thread, op } = *line;
+        let answer = self.answer(op)?;
+        let entry = Entry { line: self.line, thread, answer };
+        self.line += 1;
+        Ok(entry)
+    }
+
+    // Each slot that was made with its word, in their order.
+    pub(crate) fn slots(&self, alloc: Global) -> Result<Vec<SlotWord>, OutOfMemory>
+        requires few { length self.now.words.items ≤ 65536 }
+        ensures { IfOk result (λ slots. AreSlots (length self.now.words.items) self.now.words.items slots.items) }
+    {
+        let mut slots = Vec::with_capacity(alloc, self.words.len())?;
+        for (i, word) in self.words.iter().enumerate() {
+            let slot = SlotName { start: SLOT_SIZE * i as u32, born: 0 };
+            slots.push(SlotWord { slot, word: *word })?;
+        }
+        Ok(slots)
+    }
+
     // Plays one op, and answers it.
-    pub(crate) fn answer(&mut self, op: Op) -> Result<Answer, OutOfMemory>
+    fn answer(&mut self, op: Op) -> Result<Answer, OutOfMemory>
         requires form { IsPlainOp op }
         requires ready { IsReady self.old }
         ensures { IfOk result (λ a. IsTurn op a self.old self.new) }
