@@ -1,1 +1,2 @@
 pub mod PlainText
+pub mod Player

@@ -2,7 +2,10 @@
 #![tactic(auto)]
 
 mod plain_run;
+mod player;
+mod player_ops;
 mod printing;
 
 pub use plain_run::PlainRun;
+pub use player::play;
 pub use printing::write_plain;
