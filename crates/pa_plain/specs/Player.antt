@@ -1,12 +1,12 @@
 -- The plain player from inside: what its state tells, and what an op does to it.
-use Rattle.std.specs.Prelude.{◌≡◌, ℕ, ◌+◌, ◌/◌, ◌<◌, ◌≤◌, ◌==◌, if◌then◌else◌, ◌⊎◌, List, [], ◌∷◌, ◌++◌, length, slice_index_or, slice_set, Option, Some, None, Contains}
+use Rattle.std.specs.Prelude.{◌≡◌, ℕ, ◌+◌, ◌/◌, ◌<◌, ◌≤◌, ◌==◌, if◌then◌else◌, ◌⊎◌, List, [], ◌∷◌, ◌++◌, length, slice_index_or, slice_set, Option, Some, None}
 use Rattle.std.specs.List.{All, sum_by}
 use Rattle.pa_machine.specs.declared.word.SlotName.{SlotName}
 use Rattle.pa_machine.specs.declared.word.Word.{Word}
 use Rattle.pa_machine.specs.declared.word.Step.{Step}
 use Rattle.pa_machine.specs.declared.word.Step.TheVariants.{Issue, Copy, Reset, Free, Write}
 use Rattle.pa_machine.specs.Count.{number_of, held_of, refs_of, CanStep, stepped}
-use Rattle.pa_machine.specs.Run.{Mark, IsFree, IsReturning, same_slot}
+use Rattle.pa_machine.specs.Run.{Mark, IsFree, IsReturning}
 use Rattle.pa_rules.specs.declared.register.Reg.{Reg}
 use Rattle.pa_rules.specs.declared.register.Reg.TheVariants.{Empty, Own, Ref, Freed, Cleared}
 use Rattle.pa_rules.specs.Registers.{Regs, Row}
@@ -151,4 +151,4 @@ IsLineTurn (Do thread op) entry before after =
 pub record AreSlots (n : ℕ) (ws : List Word) (slots : List SlotWord) : Type 0 where
   pub count : length slots ≡ n
   pub each : (k : ℕ) (d : SlotWord) → k < n
-    → slice_index_or slots k d ≡ record { slot = plain_name k; word = slice_index_or ws k (record { 0 = 0 }) }
+      → slice_index_or slots k d ≡ record { slot = plain_name k; word = slice_index_or ws k (record { 0 = 0 }) }

@@ -13,6 +13,7 @@ use std::alloc::Global;
 
 // Every slot has 16 bytes, of which the object may use 8: the last 8 are the count word.
 const SLOT_SIZE: u32 = 16;
+
 const USABLE: u32 = 8;
 
 // A request above this many bytes is too large.
@@ -22,10 +23,10 @@ const LARGEST: u32 = 33_521_656;
 // they were returned, and the number of the line that is played next.
 #[derive(Drop)]
 pub(crate) struct Player {
-    pub(crate) registers: [Reg; 64],
-    pub(crate) words: Vec<Word>,
-    pub(crate) free_slots: Vec<u32>,
-    pub(crate) line: u32,
+    registers: [Reg; 64],
+    words: Vec<Word>,
+    free_slots: Vec<u32>,
+    line: u32,
 }
 
 impl Player {
@@ -37,7 +38,12 @@ impl Player {
         ensures line { result.line ≡ 2 }
         ensures registers { (k : ℕ) → regs_of result.registers k ≡ Reg.Empty }
     {
-        Player { registers: [Reg::Empty; 64], words: Vec::new(alloc), free_slots: Vec::new(alloc), line: 2 }
+        Player {
+            registers: [Reg::Empty; 64],
+            words: Vec::new(alloc),
+            free_slots: Vec::new(alloc),
+            line: 2,
+        }
     }
 
     // Plays a line, and records it.
@@ -48,7 +54,11 @@ impl Player {
     {
         let Line::Do { thread, op } = *line;
         let answer = self.answer(op)?;
-        let entry = Entry { line: self.line, thread, answer };
+        let entry = Entry {
+            line: self.line,
+            thread,
+            answer,
+        };
         self.line += 1;
         Ok(entry)
     }
@@ -60,7 +70,10 @@ impl Player {
     {
         let mut slots = Vec::with_capacity(alloc, self.words.len())?;
         for (i, word) in self.words.iter().enumerate() {
-            let slot = SlotName { start: SLOT_SIZE * i as u32, born: 0 };
+            let slot = SlotName {
+                start: SLOT_SIZE * i as u32,
+                born: 0,
+            };
             slots.push(SlotWord { slot, word: *word })?;
         }
         Ok(slots)
@@ -73,7 +86,11 @@ impl Player {
         ensures { IfOk result (λ a. IsTurn op a self.old self.new) }
     {
         match op {
-            Op::Alloc { reg, partition, size } => self.allocate(reg, partition, size),
+            Op::Alloc {
+                reg,
+                partition,
+                size,
+            } => self.allocate(reg, partition, size),
             Op::Copy { from, to } => Ok(self.copy(from, to)),
             Op::Reset { reg } => self.reset(reg),
             Op::Free { reg } => self.free(reg),
@@ -107,10 +124,16 @@ impl Player {
             return Ok(Answer::TooLarge);
         }
         let index = self.next_slot()?;
-        let slot = SlotName { start: SLOT_SIZE * index, born: 0 };
+        let slot = SlotName {
+            start: SLOT_SIZE * index,
+            born: 0,
+        };
         let seen = self.step(slot, Step::Issue);
         self.registers[reg as usize] = Reg::Own(slot);
-        Ok(Answer::Made { seen, usable: USABLE })
+        Ok(Answer::Made {
+            seen,
+            usable: USABLE,
+        })
     }
 
     // The slot of an allocation: the free one that was returned last, else a new one.

@@ -1,4 +1,4 @@
-use Rattle.std.proofs.Common.{rules, arith, ◌≡◌, ℕ, ◌+◌, ◌<◌, ◌≤◌, length, get_or, refl}
+use Rattle.std.proofs.Common.{arith, ◌<◌, length, get_or, refl}
 use Rattle.pa_trace.specs.declared.script.Line.{Line}
 use Rattle.pa_trace.specs.declared.script.Line.TheVariants.{Do}
 use Rattle.pa_trace.specs.declared.script.Op.TheVariants.{Alloc}
@@ -18,7 +18,7 @@ loop-line-preserved c =
     let d : Line = Do 0 (Alloc 0 0 0) in
     let form : IsPlainLine (get_or ls i d) = plain_line ls c.args.trace.now.lines i d c.as_slice-lines.ensures c.requires.lines lt in
     rw c.in_ok-push.ensures.items
-      (played_more ls i d (get_or ls i d) c.loop-line.entries.items c.in_ok-entry.entry c.loop-line.player c.play_line.new.self lt refl c.loop-line.invariant form c.in_ok-entry.ensures)
+    (played_more ls i d (get_or ls i d) c.loop-line.entries.items c.in_ok-entry.entry c.loop-line.player c.play_line.new.self lt refl c.loop-line.invariant form c.in_ok-entry.ensures)
 
 pub returns : goal.returns
 returns c =

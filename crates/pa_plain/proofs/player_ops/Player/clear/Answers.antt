@@ -1,4 +1,3 @@
-use Rattle.std.proofs.Common.{rules, arith, ◌≡◌, ◌≢◌, ℕ, ◌<◌, ◌≤◌, ◌+◌, refl, sym, ap, inl, inr, length}
 use Rattle.pa_plain.proofs.Turning.{turn_clear}
 use Rattle.pa_plain.proofs.player_ops.Player.clear.Goals as goal
 

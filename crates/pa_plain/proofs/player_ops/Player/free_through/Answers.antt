@@ -1,4 +1,3 @@
-use Rattle.std.proofs.Common.{rules, arith, ◌≡◌, ◌≢◌, ℕ, ◌<◌, ◌≤◌, ◌+◌, refl, sym, ap, inl, inr, length}
 use Rattle.std.proofs.lemmas.Bool.{iff_false}
 use Rattle.pa_plain.proofs.Turning.{turn_not_owner, turn_second}
 use Rattle.pa_plain.proofs.player_ops.Player.free_through.Goals as goal

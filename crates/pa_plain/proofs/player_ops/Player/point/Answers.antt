@@ -1,5 +1,3 @@
-use Rattle.std.proofs.Common.{rules, arith, ◌≡◌, ◌≢◌, ℕ, ◌<◌, ◌≤◌, ◌+◌, refl, sym, ap, inl, inr, length}
-use Rattle.pa_plain.specs.Player.{regs_of}
 use Rattle.pa_plain.proofs.Turning.{can_copy, turn_point}
 use Rattle.pa_plain.proofs.player_ops.Player.point.Goals as goal
 

@@ -1,4 +1,4 @@
-use Rattle.std.proofs.Common.{rules, arith, ◌≡◌, ◌≢◌, ℕ, ◌<◌, ◌≤◌, ◌+◌, refl, sym, ap, inl, inr, length}
+use Rattle.std.proofs.Common.{arith}
 use Rattle.pa_plain.proofs.Turning.{turn_request}
 use Rattle.pa_plain.proofs.player_ops.Player.request.Goals as goal
 
