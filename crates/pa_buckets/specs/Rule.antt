@@ -2,8 +2,8 @@
 use Rattle.std.specs.Prelude.{◌≡◌, ℕ, ◌+◌, ◌-◌, ◌*◌, ◌/◌, ◌%◌, ◌<◌, ◌≤◌, ◌⊎◌}
 use Rattle.pa_buckets.specs.declared.spans.SpanShape.{SpanShape}
 
--- The pairs that the rule tries: n partition pages, 1 to 4, of which slots use the first c system pages. Those are at
--- most the half of n, rounded down, fewer than all.
+-- The pairs that the rule tries: n partition pages, 1 to 4, of which slots use the first c system pages. They leave
+-- unused at most as many system pages as the half of n, rounded down.
 pub record IsTried (n c : ℕ) : Type 0 where
   pub from_one : 1 ≤ n
   pub to_four : n ≤ 4
