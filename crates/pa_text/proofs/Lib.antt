@@ -1,2 +1,4 @@
 pub mod Hex
 pub mod Joining
+pub mod Numbers
+pub mod Numerals

@@ -1,2 +1,3 @@
 pub mod Numeral
+pub mod Reading
 pub mod Hex

@@ -1,6 +1,8 @@
 //! The spellings that all texts share: numbers, words and slot names, as they are written and as they are read.
 #![tactic(auto)]
 
+mod reading;
 mod writing;
 
+pub use reading::{number_at, one_spelling};
 pub use writing::{push_bytes, push_number, push_slot, push_word};

@@ -1,0 +1,5 @@
+pub mod Fields
+pub mod Spelled
+pub mod Limits
+pub mod Cuts
+pub mod Whole

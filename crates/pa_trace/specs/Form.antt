@@ -6,6 +6,8 @@ use Rattle.pa_trace.specs.declared.script.Line.{Line}
 use Rattle.pa_trace.specs.declared.script.Line.TheVariants.{Do}
 use Rattle.pa_trace.specs.declared.script.Op.{Op}
 use Rattle.pa_trace.specs.declared.script.Op.TheVariants.{Alloc, Copy, Reset, Free}
+use Rattle.pa_trace.specs.declared.fault.TraceFault.{TraceFault}
+use Rattle.pa_trace.specs.declared.fault.TraceFault.TheVariants.{BadLine, OutOfMemory}
 use Rattle.pa_trace.specs.Grammar.{IsTraceText}
 
 -- registers are 0 to 63, the partition is 0, and a size has 32 bits
@@ -36,3 +38,8 @@ pub record IsInput (t : Trace) (bytes : List ℕ) : Type 0 where
 -- the bytes are the text of no trace of the form
 abbrev pub IsNoInput : List ℕ → Type 0
 IsNoInput bytes = (t : Trace) → IsInput t bytes → ⊥
+
+-- why the bytes were not read: no line is named
+abbrev pub IsFault : TraceFault → List ℕ → Type 0
+IsFault (BadLine n) bytes = (n ≡ 0) × IsNoInput bytes
+IsFault OutOfMemory bytes = Unit {0}

@@ -35,3 +35,10 @@ IsHeadText region partitions threads text =
 abbrev pub IsTraceText : Trace → List ℕ → Type 0
 IsTraceText t text =
     (head rest : List ℕ) × IsHeadText t.region t.partitions t.threads head × AreLinesText t.lines rest × (text ≡ head ++ 10 ∷ rest)
+
+-- two traces are the same by what their texts tell
+pub record IsSameTrace (s t : Trace) : Type 0 where
+  pub region : s.region ≡ t.region
+  pub partitions : s.partitions ≡ t.partitions
+  pub threads : s.threads ≡ t.threads
+  pub lines : s.lines ≡ t.lines

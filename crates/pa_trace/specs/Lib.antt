@@ -1,2 +1,4 @@
 pub mod Grammar
 pub mod Form
+pub mod Reading
+pub mod Cut

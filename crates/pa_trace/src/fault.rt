@@ -1,4 +1,8 @@
+ghost use Rattle.std.specs.Prelude.{◌≡◌};
+ghost use Rattle.pa_trace.specs.declared.fault.TraceFault.TheVariants as faults;
+
 use pa_machine::OutOfMemory;
+use std::alloc::{AllocError, AllocFailed};
 use std::error::Error;
 use std::fmt;
 
@@ -19,3 +23,19 @@ impl fmt::Display for TraceFault {
 }
 
 impl Error for TraceFault {}
+
+impl From<AllocError> for TraceFault {
+    ghost from_gives = { λ _ e. e ≡ faults.OutOfMemory };
+
+    fn from(_error: AllocError) -> TraceFault {
+        TraceFault::OutOfMemory
+    }
+}
+
+impl<T: Drop> From<AllocFailed<T>> for TraceFault {
+    ghost from_gives = { λ _ e. e ≡ faults.OutOfMemory };
+
+    fn from(_failed: AllocFailed<T>) -> TraceFault {
+        TraceFault::OutOfMemory
+    }
+}

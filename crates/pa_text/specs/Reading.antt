@@ -1,0 +1,49 @@
+-- Numbers in front of bytes, and how they are read.
+use Rattle.std.specs.Prelude.{◌≡◌, ℕ, ◌+◌, ◌-◌, ◌*◌, ◌==◌, ◌&&◌, nat_le, nat_lt, if◌then◌else◌, Bool, false, List, [], ◌∷◌, ◌++◌, Option, Some, None, is_some}
+use Rattle.pa_text.specs.Numeral.{IsNumeral}
+
+-- the byte is one of `0` to `9`
+abbrev pub is_digit : ℕ → Bool
+is_digit d = nat_le 48 d && nat_le d 57
+
+-- no digit stands in front
+abbrev pub IsStop : List ℕ → Type 0
+IsStop [] = Unit {0}
+IsStop (c ∷ cs) = is_digit c ≡ false
+
+-- one step that may fail, and then the next
+infixl 10 ◌>>=◌
+abbrev pub ◌>>=◌ : {A B : Type 0} → Option A → (A → Option B) → Option B
+None >>= f = None
+(Some x) >>= f = f x
+
+-- the digits in front of the bytes, all of them, spell the number n, and the rest stands behind them
+pub record BeginsWith (bytes : List ℕ) (n : ℕ) (rest : List ℕ) : Type 0 where
+  pub digits : List ℕ
+  pub numeral : IsNumeral n digits
+  pub parts : bytes ≡ digits ++ rest
+  pub stop : IsStop rest
+
+-- the number where it has 32 bits
+abbrev pub fit : ℕ → Option ℕ
+fit n = if nat_lt n 4294967296 then Some n else None
+
+-- a number that was read, with its value only where it has 32 bits
+abbrev pub fitted : ℕ × List ℕ → Option ℕ × List ℕ
+fitted x = (fit x.0, x.1)
+
+-- the digit in front, and the bytes behind it
+abbrev pub digit_at : List ℕ → Option (ℕ × List ℕ)
+digit_at [] = None
+digit_at (c ∷ cs) = if is_digit c then Some (c - 48, cs) else None
+
+-- the number that the digits in front write after those that wrote n, and the bytes behind them
+unfoldable pub digits_from : ℕ → List ℕ → ℕ × List ℕ
+digits_from n [] = (n, [])
+digits_from n (c ∷ cs) = if is_digit c then digits_from (10 * n + (c - 48)) cs else (n, c ∷ cs)
+
+-- the number in front, and the bytes behind it; a `0` in front of a digit is no number
+unfoldable pub number_at : List ℕ → Option (ℕ × List ℕ)
+number_at bytes = do
+  first ← digit_at bytes
+  if first.0 == 0 && is_some (digit_at first.1) then None else Some (digits_from first.0 first.1)

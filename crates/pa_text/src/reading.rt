@@ -1,0 +1,62 @@
+ghost use Rattle.std.specs.Prelude.{◌≡◌, ℕ, ◌<◌, List, Option, IfSome, IfNone};
+ghost use Rattle.std.specs.Option.{option_map};
+ghost use Rattle.pa_text.specs.Numeral.{IsNumeral};
+ghost use Rattle.pa_text.specs.Reading.{BeginsWith, fit, fitted, digit_at, digits_from, number_at};
+
+// A number from here on has no 32 bits.
+const TOO_LARGE: u64 = 1 << 32;
+
+/// The number in front of the bytes and the bytes behind its last digit. A number of any length is read; `None` stands
+/// for its value where it has more than 32 bits. Nothing is read where no digit stands in front, or a `0` before a digit.
+pub fn number_at(bytes: &[u8]) -> Option<(Option<u32>, &[u8])>
+    ensures found { IfSome result (λ x. (n : ℕ) × BeginsWith bytes.now n x.1.now × (x.0 ≡ fit n)) }
+    ensures none { IfNone result ((n : ℕ) (rest : List ℕ) → BeginsWith bytes.now n rest → ⊥) }
+{
+    number_of(bytes)
+}
+
+/// A number has one spelling, and a spelling belongs to one number, however long it is.
+pub fn one_spelling()
+    ensures spelling { (n : ℕ) (a b : List ℕ) → IsNumeral n a → IsNumeral n b → a ≡ b }
+    ensures number { (m n : ℕ) (text : List ℕ) → IsNumeral m text → IsNumeral n text → m ≡ n }
+{}
+
+// The same, byte by byte.
+#[tactic(auto, unfolding(crate::specs::Reading::number_at))]
+fn number_of(bytes: &[u8]) -> Option<(Option<u32>, &[u8])>
+    ensures { option_map {U = Option ℕ × List ℕ} (λ x. (x.0, x.1.now)) result ≡ option_map fitted (number_at bytes.now) }
+{
+    let (first, rest) = digit_at(bytes)?;
+    if first == 0 && digit_at(rest).is_some() {
+        return None;
+    }
+    Some(digits_from(first, rest))
+}
+
+// The digit in front, and the bytes behind it.
+fn digit_at(bytes: &[u8]) -> Option<(u64, &[u8])>
+    ensures digit { option_map {U = ℕ × List ℕ} (λ x. (x.0, x.1.now)) result ≡ digit_at bytes.now }
+    ensures small { IfSome result (λ x. x.0 < 10) }
+{
+    match bytes {
+        [digit @ b'0'..=b'9', rest @ ..] => Some((u64::from(*digit - b'0'), rest)),
+        _ => None,
+    }
+}
+
+// The number that the digits in front write after a first one, and the bytes behind them.
+fn digits_from(first: u64, bytes: &[u8]) -> (Option<u32>, &[u8])
+    requires { first < 10 }
+    ensures value { result.0 ≡ fit (digits_from first bytes.now).0 }
+    ensures rest { result.1.now ≡ (digits_from first bytes.now).1 }
+{
+    let mut value = first;
+    let mut rest = bytes;
+    while let Some((digit, after)) = digit_at(rest) {
+        if value < TOO_LARGE {
+            value = 10 * value + digit;
+        }
+        rest = after;
+    }
+    (u32::try_from(value).ok(), rest)
+}

@@ -1,0 +1,95 @@
+-- Lines in a text: where a line ends, and that a text is cut in one way.
+use Rattle.std.proofs.Common.{◌≡◌, ℕ, ◌+◌, ◌<◌, ◌≤◌, List, [], ◌∷◌, ◌++◌, length, get_or, take, drop, Bool, true, not, ◌&&◌, eqb, codes, refl, sym, ap, subst, ◌∙◌, arith}
+use Rattle.std.specs.List.{AllByRecursion}
+use Rattle.std.proofs.lemmas.List.{take_more, take_all, drop_more, take-append-drop}
+use Rattle.std.proofs.lemmas.Bool.{and_parts, eqb-false, not-true}
+use Rattle.pa_text.specs.Numeral.{IsDigit, IsNumeral}
+use Rattle.pa_trace.specs.declared.script.Line.{Line}
+use Rattle.pa_trace.specs.declared.script.Line.TheVariants.{Do}
+use Rattle.pa_trace.specs.declared.script.Op.{Op}
+use Rattle.pa_trace.specs.declared.script.Op.TheVariants.{Alloc, Copy, Reset, Free}
+use Rattle.pa_trace.specs.Grammar.{IsOpText, IsLineText, IsHeadText}
+use Rattle.pa_trace.specs.Cut.{IsOneLine}
+
+-- ---- bytes without an LF
+
+pub one_line_append : (a b : List ℕ) → IsOneLine a → IsOneLine b → IsOneLine (a ++ b)
+one_line_append [] b ha hb = hb
+one_line_append (x ∷ a) b ha hb = (ha.0, one_line_append a b ha.1 hb)
+
+pub one_line_more : (bytes : List ℕ) (i : ℕ) → i < length bytes → (get_or bytes i 0 ≡ 10 → ⊥) → IsOneLine (take i bytes) → IsOneLine (take (i + 1) bytes)
+one_line_more bytes i lt other h = rw (take_more bytes i 0 lt) (one_line_append (take i bytes) (get_or bytes i 0 ∷ []) h (other, tt))
+
+pub one_line_all : (bytes : List ℕ) (n : ℕ) → length bytes ≤ n → IsOneLine (take n bytes) → IsOneLine bytes
+one_line_all bytes n le h = subst (λ (x : List ℕ). IsOneLine x) (take_all n bytes le) h
+
+-- the first LF cuts the bytes
+pub cut_here : (bytes : List ℕ) (i : ℕ) → i < length bytes → get_or bytes i 0 ≡ 10 → bytes ≡ take i bytes ++ 10 ∷ drop 1 (drop i bytes)
+cut_here bytes i lt e =
+    let back : drop i bytes ≡ 10 ∷ drop (i + 1) bytes = drop_more bytes i 0 lt ∙ ap (λ (x : ℕ). x ∷ drop (i + 1) bytes) e in
+    sym (take-append-drop i bytes) ∙ ap (λ (x : List ℕ). take i bytes ++ x) (back ∙ ap (λ (x : List ℕ). 10 ∷ drop 1 x) (sym back))
+
+-- a text has one first line
+pub one_cut : (a b r s : List ℕ) → IsOneLine a → IsOneLine b → a ++ 10 ∷ r ≡ b ++ 10 ∷ s → (a ≡ b) × (r ≡ s)
+one_cut [] [] r s ha hb e = (refl, cc)
+one_cut [] (y ∷ b) r s ha hb e = absurd (hb.0 (cc))
+one_cut (x ∷ a) [] r s ha hb e = absurd (ha.0 (cc))
+one_cut (x ∷ a) (y ∷ b) r s ha hb e =
+    let tail : a ++ 10 ∷ r ≡ b ++ 10 ∷ s = cc in
+    let head : x ≡ y = cc in
+    let t = one_cut a b r s ha.1 hb.1 tail in
+    (ap (λ (z : ℕ). z ∷ a) head ∙ ap (λ (z : List ℕ). y ∷ z) t.0, t.1)
+
+pub no_cut : (bytes a r : List ℕ) → IsOneLine bytes → bytes ≡ a ++ 10 ∷ r → ⊥
+no_cut [] [] r h e = cc
+no_cut [] (x ∷ a) r h e = cc
+no_cut (y ∷ bytes) [] r h e = h.0 (cc)
+no_cut (y ∷ bytes) (x ∷ a) r h e = no_cut bytes a r h.1 (cc)
+
+-- ---- what is spelled in a line has no LF
+
+numeral_line : (ds : List ℕ) → AllByRecursion IsDigit ds → IsOneLine ds
+numeral_line [] h = tt
+numeral_line (d ∷ ds) h = ((λ e. omega (arith, h.0.0)), numeral_line ds h.1)
+
+numeral_one : (n : ℕ) (ds : List ℕ) → IsNumeral n ds → IsOneLine ds
+numeral_one n ds h = numeral_line ds h.digits
+
+field_line : (v i : List ℕ) (n : ℕ) → IsOneLine v → IsNumeral n i → IsOneLine (v ++ i)
+field_line v i n hv hi = one_line_append v i hv (numeral_one n i hi)
+
+two_line : (v i w j : List ℕ) (m n : ℕ) → IsOneLine v → IsOneLine w → IsNumeral m i → IsNumeral n j → IsOneLine (v ++ i ++ w ++ j)
+two_line v i w j m n hv hw hi hj = field_line (v ++ i ++ w) j n (one_line_append (v ++ i) w (field_line v i m hv hi) hw) hj
+
+three_line : (v i w j y k : List ℕ) (m n p : ℕ) → IsOneLine v → IsOneLine w → IsOneLine y → IsNumeral m i → IsNumeral n j → IsNumeral p k → IsOneLine (v ++ i ++ w ++ j ++ y ++ k)
+three_line v i w j y k m n p hv hw hy hi hj hk = field_line (v ++ i ++ w ++ j ++ y) k p (one_line_append (v ++ i ++ w ++ j) y (two_line v i w j m n hv hw hi hj) hy) hk
+
+-- the test of a word that is written out
+abbrev has_no_lf : List ℕ → Bool
+has_no_lf [] = true
+has_no_lf (b ∷ bs) = not (eqb b 10) && has_no_lf bs
+
+word_line : (w : List ℕ) → has_no_lf w ≡ true → IsOneLine w
+word_line [] e = tt
+word_line (b ∷ bs) e =
+    let p = and_parts (not (eqb b 10)) (has_no_lf bs) e in
+    (eqb-false b 10 (not-true (eqb b 10) p.0), word_line bs p.1)
+
+along : (a b : List ℕ) → a ≡ b → IsOneLine b → IsOneLine a
+along a b e h = subst (λ (x : List ℕ). IsOneLine x) (sym e) h
+
+op_line : (op : Op) (text : List ℕ) → IsOpText op text → IsOneLine text
+op_line (Alloc reg partition size) text h =
+    along text _ h.6 (three_line (codes "A r") h.0 (codes " p") h.1 (codes " ") h.2 reg partition size (word_line (codes "A r") refl) (word_line (codes " p") refl) (word_line (codes " ") refl) h.3 h.4 h.5)
+op_line (Copy from to) text h = along text _ h.4 (two_line (codes "C r") h.0 (codes " r") h.1 from to (word_line (codes "C r") refl) (word_line (codes " r") refl) h.2 h.3)
+op_line (Reset reg) text h = along text _ h.2 (field_line (codes "R r") h.0 reg (word_line (codes "R r") refl) h.1)
+op_line (Free reg) text h = along text _ h.2 (field_line (codes "F r") h.0 reg (word_line (codes "F r") refl) h.1)
+
+pub line_line : (line : Line) (text : List ℕ) → IsLineText line text → IsOneLine text
+line_line (Do thread op) text h =
+    along text _ h.4 (one_line_append (h.0 ++ codes " ") h.1 (one_line_append h.0 (codes " ") (numeral_one thread h.0 h.2) (word_line (codes " ") refl)) (op_line op h.1 h.3))
+
+pub head_line : (region partitions threads : ℕ) (text : List ℕ) → IsHeadText region partitions threads text → IsOneLine text
+head_line region partitions threads text h =
+    along text _ h.6 (three_line (codes "trace 1 region ") h.0 (codes " partitions ") h.1 (codes " threads ") h.2 region partitions threads
+    (word_line (codes "trace 1 region ") refl) (word_line (codes " partitions ") refl) (word_line (codes " threads ") refl) h.3 h.4 h.5)

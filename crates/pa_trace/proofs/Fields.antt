@@ -1,0 +1,274 @@
+-- Words with numbers: what is read is spelled so, what is spelled so is read, and numbers are handed on as they fit.
+use Rattle.std.proofs.Common.{◌≡◌, ℕ, Bool, true, false, cond, eqb, List, [], ◌++◌, length, take, drop, Option, Some, None, Result, Ok, Err, refl, sym, ap, subst, ◌∙◌}
+use Rattle.std.specs.Prelude.{nat_eq}
+use Rattle.std.specs.Cmp.Lexicographic.{pointwise}
+use Rattle.std.proofs.lemmas.Bool.{eqb-true}
+use Rattle.std.proofs.lemmas.Bool.Decides.{Decides-eqb}
+use Rattle.std.proofs.lemmas.Slice.Eq.{slice_eq-Decides}
+use Rattle.std.proofs.lemmas.List.{append-nil, append_assoc, take-append-drop, take_at, drop_at, nil_from_length}
+use Rattle.pa_text.specs.Numeral.{IsNumeral}
+use Rattle.pa_text.specs.Reading.{IsStop, BeginsWith, fit, number_at}
+use Rattle.pa_text.proofs.Numerals.{number_takes, number_again, begins_read}
+use Rattle.pa_trace.specs.declared.field.LineFault.{LineFault}
+use Rattle.pa_trace.specs.declared.field.LineFault.TheVariants.{Outside}
+use Rattle.pa_trace.specs.Reading.{◌>>=◌, behind, hand_on, number_in, field_in, ended, one_in, two_in, three_in}
+
+-- the value of a step that did not fail
+pub bind_ok : {A B : Type 0} (r : Result A LineFault) (f : A → Result B LineFault) (y : B) → (r >>= f) ≡ Ok y → (x : A) × (r ≡ Ok x) × (f x ≡ Ok y)
+bind_ok (Ok x) f y e = (x, refl, e)
+bind_ok (Err d) f y e = absurd cc
+
+if_ok : {A : Type 0} (b : Bool) (d : LineFault) (x y : A) → cond b (Ok x) (Err d) ≡ Ok y → (b ≡ true) × (x ≡ y)
+if_ok true d x y e = (refl, cc)
+if_ok false d x y e = absurd cc
+
+-- ---- a word in front
+
+pub behind_takes : (word bytes rest : List ℕ) → behind word bytes ≡ Ok rest → bytes ≡ word ++ rest
+unfolding behind
+behind_takes word bytes rest e =
+    let t = if_ok (pointwise nat_eq (take (length word) bytes) word) Outside (drop (length word) bytes) rest e in
+    let front : take (length word) bytes ≡ word = (slice_eq-Decides Decides-eqb (take (length word) bytes) word _ refl).0 t.0 in
+    sym (take-append-drop (length word) bytes) ∙ ap (λ (x : List ℕ). x ++ drop (length word) bytes) front ∙ ap (λ (x : List ℕ). word ++ x) t.1
+
+pub behind_again : (word rest : List ℕ) → behind word (word ++ rest) ≡ Ok rest
+unfolding behind
+behind_again word rest =
+    let same : pointwise nat_eq word word ≡ true = (slice_eq-Decides Decides-eqb word word _ refl).1 refl in
+    rw (take_at word rest (length word) refl, drop_at word rest (length word) refl, same) refl
+
+-- ---- the number in front, with its value whatever its length
+
+-- nothing there is a line outside the grammar
+abbrev pub or_outside : {A : Type 0} → Option A → Result A LineFault
+or_outside None = Err Outside
+or_outside (Some x) = Ok x
+
+unfoldable pub field_at : List ℕ → List ℕ → Result (ℕ × List ℕ) LineFault
+field_at word bytes = do
+  rest ← behind word bytes
+  or_outside (number_at rest)
+
+or_outside_ok : {A : Type 0} (o : Option A) (x : A) → or_outside o ≡ Ok x → o ≡ Some x
+or_outside_ok None x e = absurd cc
+or_outside_ok (Some y) x e = cc
+
+-- a word, a numeral and what stands behind it
+pub record TakesField (word bytes : List ℕ) (n : ℕ) (rest : List ℕ) : Type 0 where
+  pub numeral : List ℕ
+  pub spelled : IsNumeral n numeral
+  pub parts : bytes ≡ word ++ numeral ++ rest
+  pub stop : IsStop rest
+
+pub field_takes : (word bytes : List ℕ) (x : ℕ × List ℕ) → field_at word bytes ≡ Ok x → TakesField word bytes x.0 x.1
+unfolding field_at
+field_takes word bytes x e =
+    let b = bind_ok (behind word bytes) (λ rest. or_outside (number_at rest)) x e in
+    let t = number_takes b.0 x.0 x.1 (or_outside_ok (number_at b.0) x b.2) in
+    record {
+      numeral = t.digits;
+      spelled = t.numeral;
+      parts = behind_takes word bytes b.0 b.1 ∙ ap (λ (y : List ℕ). word ++ y) t.parts ∙ sym (append_assoc word t.digits x.1);
+      stop = t.stop;
+    }
+
+pub field_again : (word : List ℕ) (n : ℕ) (i rest : List ℕ) → IsNumeral n i → IsStop rest → field_at word (word ++ (i ++ rest)) ≡ Ok (n, rest)
+unfolding field_at
+field_again word n i rest h stop = rw (behind_again word (i ++ rest), number_again n i rest h stop) refl
+
+-- ---- one, two or three words with numbers
+
+ended_ok : (bytes : List ℕ) (u : Unit {0}) → ended bytes ≡ Ok u → bytes ≡ []
+ended_ok bytes u e = nil_from_length bytes (eqb-true _ _ (if_ok (eqb (length bytes) 0) Outside tt u e).0)
+
+unfoldable pub one_at : List ℕ → List ℕ → Result ℕ LineFault
+one_at bytes first = do
+  a ← field_at first bytes
+  end ← ended a.1
+  Ok a.0
+
+unfoldable pub two_at : List ℕ → List ℕ → List ℕ → Result (ℕ × ℕ) LineFault
+two_at bytes first second = do
+  a ← field_at first bytes
+  b ← field_at second a.1
+  end ← ended b.1
+  Ok (a.0, b.0)
+
+unfoldable pub three_at : List ℕ → List ℕ → List ℕ → List ℕ → Result (ℕ × ℕ × ℕ) LineFault
+three_at bytes first second third = do
+  a ← field_at first bytes
+  b ← field_at second a.1
+  c ← field_at third b.1
+  end ← ended c.1
+  Ok (a.0, b.0, c.0)
+
+ok_is : {A : Type 0} (x y : A) → ◌≡◌ {A = Result A LineFault} (Ok x) (Ok y) → x ≡ y
+ok_is x y e = cc
+
+join_one : (bytes w i r : List ℕ) → bytes ≡ w ++ i ++ r → r ≡ [] → bytes ≡ w ++ i
+join_one bytes w i r e none = e ∙ ap (λ (x : List ℕ). w ++ i ++ x) none ∙ append-nil (w ++ i)
+
+pub one_takes : (bytes w : List ℕ) (n : ℕ) → one_at bytes w ≡ Ok n → (i : List ℕ) × IsNumeral n i × (bytes ≡ w ++ i)
+unfolding one_at
+one_takes bytes w n e =
+    let a = bind_ok (field_at w bytes) (λ a. ended a.1 >>= λ end. Ok a.0) n e in
+    let z = bind_ok (ended a.0.1) (λ end. Ok a.0.0) n a.2 in
+    let t = field_takes w bytes a.0 a.1 in
+    (t.numeral, subst (λ (k : ℕ). IsNumeral k t.numeral) (ok_is a.0.0 n z.2) t.spelled, join_one bytes w t.numeral a.0.1 t.parts (ended_ok a.0.1 z.0 z.1))
+
+pub one_again : (w : List ℕ) (n : ℕ) (i : List ℕ) → IsNumeral n i → one_at (w ++ i) w ≡ Ok n
+unfolding one_at
+one_again w n i h =
+    let at_end : field_at w (w ++ i) ≡ Ok (n, []) = ap (λ (x : List ℕ). field_at w (w ++ x)) (sym (append-nil i)) ∙ field_again w n i [] h tt in
+    rw at_end refl
+
+join_two : (bytes v i r w j s : List ℕ) → bytes ≡ v ++ i ++ r → r ≡ w ++ j ++ s → s ≡ [] → bytes ≡ v ++ i ++ w ++ j
+join_two bytes v i r w j s e f none = e ∙ ap (λ (x : List ℕ). v ++ i ++ x) (join_one r w j s f none) ∙ simp append_assoc
+
+pub two_takes : (bytes v w : List ℕ) (x : ℕ × ℕ) → two_at bytes v w ≡ Ok x → (i j : List ℕ) × IsNumeral x.0 i × IsNumeral x.1 j × (bytes ≡ v ++ i ++ w ++ j)
+unfolding two_at
+two_takes bytes v w x e =
+    let a = bind_ok (field_at v bytes) (λ a. field_at w a.1 >>= λ b. ended b.1 >>= λ end. Ok (a.0, b.0)) x e in
+    let b = bind_ok (field_at w a.0.1) (λ b. ended b.1 >>= λ end. Ok (a.0.0, b.0)) x a.2 in
+    let z = bind_ok (ended b.0.1) (λ end. Ok (a.0.0, b.0.0)) x b.2 in
+    let t = field_takes v bytes a.0 a.1 in
+    let u = field_takes w a.0.1 b.0 b.1 in
+    let same = ok_is (a.0.0, b.0.0) x z.2 in (
+      t.numeral,
+      u.numeral,
+      subst (λ (k : ℕ × ℕ). IsNumeral k.0 t.numeral) same t.spelled,
+      subst (λ (k : ℕ × ℕ). IsNumeral k.1 u.numeral) same u.spelled,
+      join_two bytes v t.numeral a.0.1 w u.numeral b.0.1 t.parts u.parts (ended_ok b.0.1 z.0 z.1),
+    )
+
+pub two_again : (v w : List ℕ) (m n : ℕ) (i j : List ℕ) → ((x : List ℕ) → IsStop (w ++ x)) → IsNumeral m i → IsNumeral n j → two_at (v ++ i ++ w ++ j) v w ≡ Ok (m, n)
+unfolding two_at
+two_again v w m n i j stop hi hj =
+    let first : field_at v (v ++ i ++ w ++ j) ≡ Ok (m, w ++ j) = ap (field_at v) (simp append_assoc) ∙ field_again v m i (w ++ j) hi (stop j) in
+    let second : field_at w (w ++ j) ≡ Ok (n, []) = ap (λ (x : List ℕ). field_at w (w ++ x)) (sym (append-nil j)) ∙ field_again w n j [] hj tt in
+    rw (first, second) refl
+
+join_three : (bytes v i r w j s y k z : List ℕ) → bytes ≡ v ++ i ++ r → r ≡ w ++ j ++ s → s ≡ y ++ k ++ z → z ≡ [] → bytes ≡ v ++ i ++ w ++ j ++ y ++ k
+join_three bytes v i r w j s y k z e f g none = e ∙ ap (λ (x : List ℕ). v ++ i ++ x) (f ∙ ap (λ (x : List ℕ). w ++ j ++ x) (join_one s y k z g none)) ∙ simp append_assoc
+
+pub three_takes : (bytes v w y : List ℕ) (x : ℕ × ℕ × ℕ) → three_at bytes v w y ≡ Ok x
+    → (i j k : List ℕ) × IsNumeral x.0 i × IsNumeral x.1 j × IsNumeral x.2 k × (bytes ≡ v ++ i ++ w ++ j ++ y ++ k)
+unfolding three_at
+three_takes bytes v w y x e =
+    let a = bind_ok (field_at v bytes) (λ a. field_at w a.1 >>= λ b. field_at y b.1 >>= λ c. ended c.1 >>= λ end. Ok (a.0, b.0, c.0)) x e in
+    let b = bind_ok (field_at w a.0.1) (λ b. field_at y b.1 >>= λ c. ended c.1 >>= λ end. Ok (a.0.0, b.0, c.0)) x a.2 in
+    let c = bind_ok (field_at y b.0.1) (λ c. ended c.1 >>= λ end. Ok (a.0.0, b.0.0, c.0)) x b.2 in
+    let z = bind_ok (ended c.0.1) (λ end. Ok (a.0.0, b.0.0, c.0.0)) x c.2 in
+    let t = field_takes v bytes a.0 a.1 in
+    let u = field_takes w a.0.1 b.0 b.1 in
+    let s = field_takes y b.0.1 c.0 c.1 in
+    let same = ok_is (a.0.0, b.0.0, c.0.0) x z.2 in (
+      t.numeral,
+      u.numeral,
+      s.numeral,
+      subst (λ (k : ℕ × ℕ × ℕ). IsNumeral k.0 t.numeral) same t.spelled,
+      subst (λ (k : ℕ × ℕ × ℕ). IsNumeral k.1 u.numeral) same u.spelled,
+      subst (λ (k : ℕ × ℕ × ℕ). IsNumeral k.2 s.numeral) same s.spelled,
+      join_three bytes v t.numeral a.0.1 w u.numeral b.0.1 y s.numeral c.0.1 t.parts u.parts s.parts (ended_ok c.0.1 z.0 z.1),
+    )
+
+pub three_again : (v w y : List ℕ) (m n p : ℕ) (i j k : List ℕ) → ((x : List ℕ) → IsStop (w ++ x)) → ((x : List ℕ) → IsStop (y ++ x)) → IsNumeral m i → IsNumeral n j → IsNumeral p k
+    → three_at (v ++ i ++ w ++ j ++ y ++ k) v w y ≡ Ok (m, n, p)
+unfolding three_at
+three_again v w y m n p i j k stop_w stop_y hi hj hk =
+    let first : field_at v (v ++ i ++ w ++ j ++ y ++ k) ≡ Ok (m, w ++ (j ++ (y ++ k))) = ap (field_at v) (simp append_assoc) ∙ field_again v m i (w ++ (j ++ (y ++ k))) hi (stop_w (j ++ (y ++ k))) in
+    let second : field_at w (w ++ (j ++ (y ++ k))) ≡ Ok (n, y ++ k) = field_again w n j (y ++ k) hj (stop_y k) in
+    let third : field_at y (y ++ k) ≡ Ok (p, []) = ap (λ (x : List ℕ). field_at y (y ++ x)) (sym (append-nil k)) ∙ field_again y p k [] hk tt in
+    rw (first, second, third) refl
+
+-- ---- what is handed on of the numbers
+
+pub number_some : (bytes : List ℕ) (value : Option ℕ) (rest : List ℕ) → ((n : ℕ) × BeginsWith bytes n rest × (value ≡ fit n)) → number_in bytes ≡ Ok (value, rest)
+unfolding number_in
+number_some bytes value rest h = ap hand_on (begins_read bytes h.0 rest h.1) ∙ ap (λ (v : Option ℕ). Ok (v, rest)) (sym h.2)
+
+none_in : (bytes : List ℕ) (o : Option (ℕ × List ℕ)) → number_at bytes ≡ o → ((n : ℕ) (rest : List ℕ) → BeginsWith bytes n rest → ⊥) → hand_on o ≡ Err Outside
+none_in bytes None same none = refl
+none_in bytes (Some x) same none = absurd (none x.0 x.1 (number_takes bytes x.0 x.1 same))
+
+pub number_none : (bytes : List ℕ) → ((n : ℕ) (rest : List ℕ) → BeginsWith bytes n rest → ⊥) → number_in bytes ≡ Err Outside
+unfolding number_in
+number_none bytes none = none_in bytes (number_at bytes) refl none
+
+-- a number and the bytes behind it
+abbrev pub handed : ℕ × List ℕ → Result (Option ℕ × List ℕ) LineFault
+handed x = Ok (fit x.0, x.1)
+
+hand_on_is : (o : Option (ℕ × List ℕ)) → hand_on o ≡ (or_outside o >>= handed)
+hand_on_is None = refl
+hand_on_is (Some x) = refl
+
+pub number_handed : (bytes : List ℕ) → number_in bytes ≡ (or_outside (number_at bytes) >>= handed)
+unfolding number_in
+number_handed bytes = hand_on_is (number_at bytes)
+
+field_cases : (r : Result (List ℕ) LineFault) → (r >>= λ rest. number_in rest) ≡ ((r >>= λ rest. or_outside (number_at rest)) >>= handed)
+field_cases (Ok rest) = number_handed rest
+field_cases (Err e) = refl
+
+field_handed : (word bytes : List ℕ) → field_in word bytes ≡ (field_at word bytes >>= handed)
+unfolding field_in field_at
+field_handed word bytes = field_cases (behind word bytes)
+
+-- the numbers of a line, each as it fits
+abbrev pub one_handed : ℕ → Result (Option ℕ) LineFault
+one_handed n = Ok (fit n)
+
+abbrev pub two_handed : ℕ × ℕ → Result (Option ℕ × Option ℕ) LineFault
+two_handed x = Ok (fit x.0, fit x.1)
+
+abbrev pub three_handed : ℕ × ℕ × ℕ → Result (Option ℕ × Option ℕ × Option ℕ) LineFault
+three_handed x = Ok (fit x.0, fit x.1, fit x.2)
+
+end_one : (n : ℕ) (r : Result (Unit {0}) LineFault) → (r >>= λ end. Ok (fit n)) ≡ ((r >>= λ end. Ok n) >>= one_handed)
+end_one n (Ok u) = refl
+end_one n (Err e) = refl
+
+go_one : (r : Result (ℕ × List ℕ) LineFault) → ((r >>= handed) >>= λ a. ended a.1 >>= λ end. Ok a.0) ≡ ((r >>= λ a. ended a.1 >>= λ end. Ok a.0) >>= one_handed)
+go_one (Ok a) = end_one a.0 (ended a.1)
+go_one (Err e) = refl
+
+pub one_is : (bytes v : List ℕ) → one_in bytes v ≡ (one_at bytes v >>= one_handed)
+unfolding one_in one_at
+one_is bytes v = rw field_handed (go_one (field_at v bytes))
+
+end_two : (m n : ℕ) (r : Result (Unit {0}) LineFault) → (r >>= λ end. Ok (fit m, fit n)) ≡ ((r >>= λ end. Ok (m, n)) >>= two_handed)
+end_two m n (Ok u) = refl
+end_two m n (Err e) = refl
+
+go_two : (m : ℕ) (r : Result (ℕ × List ℕ) LineFault) → ((r >>= handed) >>= λ b. ended b.1 >>= λ end. Ok (fit m, b.0)) ≡ ((r >>= λ b. ended b.1 >>= λ end. Ok (m, b.0)) >>= two_handed)
+go_two m (Ok b) = end_two m b.0 (ended b.1)
+go_two m (Err e) = refl
+
+two_cases : (w : List ℕ) (r : Result (ℕ × List ℕ) LineFault) → ((r >>= handed) >>= λ a. field_in w a.1 >>= λ b. ended b.1 >>= λ end. Ok (a.0, b.0)) ≡ ((r >>= λ a. field_at w a.1 >>= λ b. ended b.1 >>= λ end. Ok (a.0, b.0)) >>= two_handed)
+two_cases w (Ok a) = rw field_handed (go_two a.0 (field_at w a.1))
+two_cases w (Err e) = refl
+
+pub two_is : (bytes v w : List ℕ) → two_in bytes v w ≡ (two_at bytes v w >>= two_handed)
+unfolding two_in two_at
+two_is bytes v w = ap (λ (r : Result (Option ℕ × List ℕ) LineFault). r >>= λ a. field_in w a.1 >>= λ b. ended b.1 >>= λ end. Ok (a.0, b.0)) (field_handed v bytes) ∙ two_cases w (field_at v bytes)
+
+end_three : (m n k : ℕ) (r : Result (Unit {0}) LineFault) → (r >>= λ end. Ok (fit m, fit n, fit k)) ≡ ((r >>= λ end. Ok (m, n, k)) >>= three_handed)
+end_three m n k (Ok u) = refl
+end_three m n k (Err e) = refl
+
+go_three : (m n : ℕ) (r : Result (ℕ × List ℕ) LineFault) → ((r >>= handed) >>= λ c. ended c.1 >>= λ end. Ok (fit m, fit n, c.0)) ≡ ((r >>= λ c. ended c.1 >>= λ end. Ok (m, n, c.0)) >>= three_handed)
+go_three m n (Ok c) = end_three m n c.0 (ended c.1)
+go_three m n (Err e) = refl
+
+three_last : (m : ℕ) (y : List ℕ) (r : Result (ℕ × List ℕ) LineFault) → ((r >>= handed) >>= λ b. field_in y b.1 >>= λ c. ended c.1 >>= λ end. Ok (fit m, b.0, c.0)) ≡ ((r >>= λ b. field_at y b.1 >>= λ c. ended c.1 >>= λ end. Ok (m, b.0, c.0)) >>= three_handed)
+three_last m y (Ok b) = rw field_handed (go_three m b.0 (field_at y b.1))
+three_last m y (Err e) = refl
+
+three_cases : (w y : List ℕ) (r : Result (ℕ × List ℕ) LineFault) → ((r >>= handed) >>= λ a. field_in w a.1 >>= λ b. field_in y b.1 >>= λ c. ended c.1 >>= λ end. Ok (a.0, b.0, c.0)) ≡ ((r >>= λ a. field_at w a.1 >>= λ b. field_at y b.1 >>= λ c. ended c.1 >>= λ end. Ok (a.0, b.0, c.0)) >>= three_handed)
+three_cases w y (Ok a) = ap (λ (r : Result (Option ℕ × List ℕ) LineFault). r >>= λ b. field_in y b.1 >>= λ c. ended c.1 >>= λ end. Ok (fit a.0, b.0, c.0)) (field_handed w a.1) ∙ three_last a.0 y (field_at w a.1)
+three_cases w y (Err e) = refl
+
+pub three_is : (bytes v w y : List ℕ) → three_in bytes v w y ≡ (three_at bytes v w y >>= three_handed)
+unfolding three_in three_at
+three_is bytes v w y = ap (λ (r : Result (Option ℕ × List ℕ) LineFault). r >>= λ a. field_in w a.1 >>= λ b. field_in y b.1 >>= λ c. ended c.1 >>= λ end. Ok (a.0, b.0, c.0)) (field_handed v bytes) ∙ three_cases w y (field_at v bytes)

@@ -1,0 +1,165 @@
+-- Ops, lines and heads with numbers of any length: what is read is spelled so, and what is spelled so is read.
+use Rattle.std.proofs.Common.{◌≡◌, ℕ, Bool, true, false, cond, eqb, List, [], ◌∷◌, ◌++◌, Option, Some, None, Result, Ok, Err, codes, refl, sym, ap, subst, ◌∙◌, append_assoc, ◌⊎◌, inl, inr}
+use Rattle.std.proofs.lemmas.Bool.{eqb-true}
+use Rattle.pa_text.specs.Reading.{number_at}
+use Rattle.pa_text.proofs.Numerals.{number_takes, number_again}
+use Rattle.pa_trace.specs.declared.field.LineFault.{LineFault}
+use Rattle.pa_trace.specs.declared.field.LineFault.TheVariants.{Outside}
+use Rattle.pa_trace.specs.declared.script.Line.{Line}
+use Rattle.pa_trace.specs.declared.script.Line.TheVariants.{Do}
+use Rattle.pa_trace.specs.declared.script.Op.{Op}
+use Rattle.pa_trace.specs.declared.script.Op.TheVariants.{Alloc, Copy, Reset, Free}
+use Rattle.pa_trace.specs.Grammar.{IsOpText, IsLineText, IsHeadText}
+use Rattle.pa_trace.specs.Reading.{◌>>=◌, behind}
+use Rattle.pa_trace.proofs.Fields.{bind_ok, or_outside, behind_takes, behind_again, one_at, one_takes, one_again, two_at, two_takes, two_again, three_at, three_takes, three_again}
+
+-- ---- ops
+
+-- the op whose letter was read
+unfoldable pub alloc_at : List ℕ → Result Op LineFault
+alloc_at bytes = do
+  x ← three_at bytes (codes " r") (codes " p") (codes " ")
+  Ok (Alloc x.0 x.1 x.2)
+
+unfoldable pub copy_at : List ℕ → Result Op LineFault
+copy_at bytes = do
+  x ← two_at bytes (codes " r") (codes " r")
+  Ok (Copy x.0 x.1)
+
+unfoldable pub reset_at : List ℕ → Result Op LineFault
+reset_at bytes = do
+  n ← one_at bytes (codes " r")
+  Ok (Reset n)
+
+unfoldable pub free_at : List ℕ → Result Op LineFault
+free_at bytes = do
+  n ← one_at bytes (codes " r")
+  Ok (Free n)
+
+unfoldable pub op_at : List ℕ → Result Op LineFault
+op_at [] = Err Outside
+op_at (c ∷ rest) = cond (eqb c 65) (alloc_at rest) (cond (eqb c 67) (copy_at rest) (cond (eqb c 82) (reset_at rest) (cond (eqb c 70) (free_at rest) (Err Outside))))
+
+-- a letter and what stands behind it spell the op
+abbrev SpellsOp : ℕ → List ℕ → Op → Type 0
+SpellsOp c rest op = IsOpText op (c ∷ rest)
+
+ok_op : (x y : Op) → ◌≡◌ {A = Result Op LineFault} (Ok x) (Ok y) → x ≡ y
+ok_op x y e = cc
+
+lead : (c : ℕ) (rest text : List ℕ) → rest ≡ text → c ∷ rest ≡ c ∷ text
+lead c rest text e = ap (λ (x : List ℕ). c ∷ x) e
+
+alloc_takes : (rest : List ℕ) (op : Op) → alloc_at rest ≡ Ok op → IsOpText op (65 ∷ rest)
+unfolding alloc_at
+alloc_takes rest op e =
+    let b = bind_ok (three_at rest (codes " r") (codes " p") (codes " ")) (λ x. Ok (Alloc x.0 x.1 x.2)) op e in
+    let t = three_takes rest (codes " r") (codes " p") (codes " ") b.0 b.1 in
+    subst (λ (o : Op). IsOpText o (65 ∷ rest)) (ok_op (Alloc b.0.0 b.0.1 b.0.2) op b.2) (t.0, t.1, t.2, t.3, t.4, t.5, lead 65 _ _ t.6)
+
+copy_takes : (rest : List ℕ) (op : Op) → copy_at rest ≡ Ok op → IsOpText op (67 ∷ rest)
+unfolding copy_at
+copy_takes rest op e =
+    let b = bind_ok (two_at rest (codes " r") (codes " r")) (λ x. Ok (Copy x.0 x.1)) op e in
+    let t = two_takes rest (codes " r") (codes " r") b.0 b.1 in
+    subst (λ (o : Op). IsOpText o (67 ∷ rest)) (ok_op (Copy b.0.0 b.0.1) op b.2) (t.0, t.1, t.2, t.3, lead 67 _ _ t.4)
+
+reset_takes : (rest : List ℕ) (op : Op) → reset_at rest ≡ Ok op → IsOpText op (82 ∷ rest)
+unfolding reset_at
+reset_takes rest op e =
+    let b = bind_ok (one_at rest (codes " r")) (λ n. Ok (Reset n)) op e in
+    let t = one_takes rest (codes " r") b.0 b.1 in
+    subst (λ (o : Op). IsOpText o (82 ∷ rest)) (ok_op (Reset b.0) op b.2) (t.0, t.1, lead 82 _ _ t.2)
+
+free_takes : (rest : List ℕ) (op : Op) → free_at rest ≡ Ok op → IsOpText op (70 ∷ rest)
+unfolding free_at
+free_takes rest op e =
+    let b = bind_ok (one_at rest (codes " r")) (λ n. Ok (Free n)) op e in
+    let t = one_takes rest (codes " r") b.0 b.1 in
+    subst (λ (o : Op). IsOpText o (70 ∷ rest)) (ok_op (Free b.0) op b.2) (t.0, t.1, lead 70 _ _ t.2)
+
+-- which way a test went
+chosen : {A : Type 0} (b : Bool) (x y z : A) → cond b x y ≡ z → ((b ≡ true) × (x ≡ z)) ⊎ ((b ≡ false) × (y ≡ z))
+chosen true x y z e = inl (refl, e)
+chosen false x y z e = inr (refl, e)
+
+-- the letter that was tested
+lettered : (c k : ℕ) (rest : List ℕ) (op : Op) → eqb c k ≡ true → IsOpText op (k ∷ rest) → IsOpText op (c ∷ rest)
+lettered c k rest op e h = subst (λ (x : ℕ). IsOpText op (x ∷ rest)) (sym (eqb-true c k e)) h
+
+-- a test of the letter
+by_letter : (c k : ℕ) (rest : List ℕ) (op : Op) (x y : Result Op LineFault) → (x ≡ Ok op → IsOpText op (k ∷ rest)) → (y ≡ Ok op → IsOpText op (c ∷ rest)) → cond (eqb c k) x y ≡ Ok op → IsOpText op (c ∷ rest)
+by_letter c k rest op x y hit miss e =
+    elim (chosen (eqb c k) x y (Ok op) e) [ inl a ↦ lettered c k rest op a.0 (hit a.1) | inr a ↦ miss a.1 ]
+
+no_letter : (rest : List ℕ) (op : Op) → ◌≡◌ {A = Result Op LineFault} (Err Outside) (Ok op) → IsOpText op rest
+no_letter rest op e = absurd cc
+
+pub op_takes : (bytes : List ℕ) (op : Op) → op_at bytes ≡ Ok op → IsOpText op bytes
+unfolding op_at
+op_takes [] op e = absurd cc
+op_takes (c ∷ rest) op e =
+    by_letter c 65 rest op (alloc_at rest) _ (alloc_takes rest op)
+    (by_letter c 67 rest op (copy_at rest) _ (copy_takes rest op)
+    (by_letter c 82 rest op (reset_at rest) _ (reset_takes rest op)
+    (by_letter c 70 rest op (free_at rest) (Err Outside) (free_takes rest op) (no_letter (c ∷ rest) op)))) e
+
+pub op_again : (op : Op) (text : List ℕ) → IsOpText op text → op_at text ≡ Ok op
+unfolding op_at alloc_at copy_at reset_at free_at
+op_again (Alloc reg partition size) text h =
+    ap op_at h.6 ∙ rw (three_again (codes " r") (codes " p") (codes " ") reg partition size h.0 h.1 h.2 (λ x. refl) (λ x. refl) h.3 h.4 h.5) refl
+op_again (Copy from to) text h =
+    ap op_at h.4 ∙ rw (two_again (codes " r") (codes " r") from to h.0 h.1 (λ x. refl) h.2 h.3) refl
+op_again (Reset reg) text h =
+    ap op_at h.2 ∙ rw (one_again (codes " r") reg h.0 h.1) refl
+op_again (Free reg) text h =
+    ap op_at h.2 ∙ rw (one_again (codes " r") reg h.0 h.1) refl
+
+-- ---- lines
+
+unfoldable pub line_at : List ℕ → Result Line LineFault
+line_at bytes = do
+  thread ← or_outside (number_at bytes)
+  rest ← behind (codes " ") thread.1
+  op ← op_at rest
+  Ok (Do thread.0 op)
+
+ok_line : (x y : Line) → ◌≡◌ {A = Result Line LineFault} (Ok x) (Ok y) → x ≡ y
+ok_line x y e = cc
+
+or_outside_ok : {A : Type 0} (o : Option A) (x : A) → or_outside o ≡ Ok x → o ≡ Some x
+or_outside_ok None x e = absurd cc
+or_outside_ok (Some y) x e = cc
+
+join_line : (bytes t r o : List ℕ) → bytes ≡ t ++ r → r ≡ codes " " ++ o → bytes ≡ t ++ codes " " ++ o
+join_line bytes t r o e f = e ∙ ap (λ (x : List ℕ). t ++ x) f ∙ sym (append_assoc t (codes " ") o)
+
+pub line_takes : (bytes : List ℕ) (line : Line) → line_at bytes ≡ Ok line → IsLineText line bytes
+unfolding line_at
+line_takes bytes line e =
+    let a = bind_ok (or_outside (number_at bytes)) (λ thread. behind (codes " ") thread.1 >>= λ rest. op_at rest >>= λ op. Ok (Do thread.0 op)) line e in
+    let b = bind_ok (behind (codes " ") a.0.1) (λ rest. op_at rest >>= λ op. Ok (Do a.0.0 op)) line a.2 in
+    let c = bind_ok (op_at b.0) (λ op. Ok (Do a.0.0 op)) line b.2 in
+    let t = number_takes bytes a.0.0 a.0.1 (or_outside_ok (number_at bytes) a.0 a.1) in
+    subst (λ (l : Line). IsLineText l bytes) (ok_line (Do a.0.0 c.0) line c.2)
+    (t.digits, b.0, t.numeral, op_takes b.0 c.0 c.1, join_line bytes t.digits a.0.1 b.0 t.parts (behind_takes (codes " ") a.0.1 b.0 b.1))
+
+pub line_again : (line : Line) (text : List ℕ) → IsLineText line text → line_at text ≡ Ok line
+unfolding line_at
+line_again (Do thread op) text h =
+    let joined : text ≡ h.0 ++ (codes " " ++ h.1) = h.4 ∙ append_assoc h.0 (codes " ") h.1 in
+    ap line_at joined ∙ rw (number_again thread h.0 (codes " " ++ h.1) h.2 refl, behind_again (codes " ") h.1, op_again op h.1 h.3) refl
+
+-- ---- the head
+
+unfoldable pub head_at : List ℕ → Result (ℕ × ℕ × ℕ) LineFault
+head_at bytes = three_at bytes (codes "trace 1 region ") (codes " partitions ") (codes " threads ")
+
+pub head_takes : (bytes : List ℕ) (x : ℕ × ℕ × ℕ) → head_at bytes ≡ Ok x → IsHeadText x.0 x.1 x.2 bytes
+unfolding head_at
+head_takes bytes x e = three_takes bytes (codes "trace 1 region ") (codes " partitions ") (codes " threads ") x e
+
+pub head_again : (region partitions threads : ℕ) (text : List ℕ) → IsHeadText region partitions threads text → head_at text ≡ Ok (region, partitions, threads)
+unfolding head_at
+head_again region partitions threads text h =
+    ap head_at h.6 ∙ three_again (codes "trace 1 region ") (codes " partitions ") (codes " threads ") region partitions threads h.0 h.1 h.2 (λ x. refl) (λ x. refl) h.3 h.4 h.5

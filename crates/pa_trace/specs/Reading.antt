@@ -1,0 +1,133 @@
+-- Reading a line from left to right. A number is handed on with its value where it has 32 bits.
+use Rattle.std.specs.Prelude.{◌≡◌, ℕ, ◌==◌, ◌&&◌, nat_eq, nat_lt, nat_le, if◌then◌else◌, List, [], ◌∷◌, length, take, drop, codes, Option, Some, None, Result, Ok, Err}
+use Rattle.std.specs.Cmp.Lexicographic.{pointwise}
+use Rattle.pa_text.specs.Reading.{fitted, number_at}
+use Rattle.pa_trace.specs.declared.field.LineFault.{LineFault}
+use Rattle.pa_trace.specs.declared.field.LineFault.TheVariants.{Outside, Past}
+use Rattle.pa_trace.specs.declared.line.Head.{Head}
+use Rattle.pa_trace.specs.declared.script.Line.{Line}
+use Rattle.pa_trace.specs.declared.script.Line.TheVariants.{Do}
+use Rattle.pa_trace.specs.declared.script.Op.{Op}
+use Rattle.pa_trace.specs.declared.script.Op.TheVariants.{Alloc, Copy, Reset, Free}
+
+-- one step that may fail, and then the next
+infixl 10 ◌>>=◌
+abbrev pub ◌>>=◌ : {A B : Type 0} → Result A LineFault → (A → Result B LineFault) → Result B LineFault
+(Ok x) >>= f = f x
+(Err e) >>= f = Err e
+
+-- what a function returned, seen by view, is what reading gives
+abbrev pub Gives : {X Y : Type 0} → (X → Y) → Result X LineFault → Result Y LineFault → Type 0
+Gives view (Ok x) read = read ≡ Ok (view x)
+Gives view (Err e) read = read ≡ Err e
+
+-- the bytes behind a word that stands in front
+unfoldable pub behind : List ℕ → List ℕ → Result (List ℕ) LineFault
+behind word bytes = if pointwise nat_eq (take (length word) bytes) word then Ok (drop (length word) bytes) else Err Outside
+
+-- what is handed on of a number that was read
+abbrev pub hand_on : Option (ℕ × List ℕ) → Result (Option ℕ × List ℕ) LineFault
+hand_on None = Err Outside
+hand_on (Some x) = Ok (fitted x)
+
+-- the number in front and the bytes behind it
+unfoldable pub number_in : List ℕ → Result (Option ℕ × List ℕ) LineFault
+number_in bytes = hand_on (number_at bytes)
+
+-- a word and the number behind it
+unfoldable pub field_in : List ℕ → List ℕ → Result (Option ℕ × List ℕ) LineFault
+field_in word bytes = do
+  rest ← behind word bytes
+  number_in rest
+
+-- nothing is left
+abbrev pub ended : List ℕ → Result (Unit {0}) LineFault
+ended bytes = if length bytes == 0 then Ok tt else Err Outside
+
+-- all of the bytes are one, two or three words, each with a number
+unfoldable pub one_in : List ℕ → List ℕ → Result (Option ℕ) LineFault
+one_in bytes first = do
+  a ← field_in first bytes
+  end ← ended a.1
+  Ok a.0
+
+unfoldable pub two_in : List ℕ → List ℕ → List ℕ → Result (Option ℕ × Option ℕ) LineFault
+two_in bytes first second = do
+  a ← field_in first bytes
+  b ← field_in second a.1
+  end ← ended b.1
+  Ok (a.0, b.0)
+
+unfoldable pub three_in : List ℕ → List ℕ → List ℕ → List ℕ → Result (Option ℕ × Option ℕ × Option ℕ) LineFault
+three_in bytes first second third = do
+  a ← field_in first bytes
+  b ← field_in second a.1
+  c ← field_in third b.1
+  end ← ended c.1
+  Ok (a.0, b.0, c.0)
+
+-- the number where it is below the limit, has 32 bits, or is 1 to the most
+abbrev pub below : Option ℕ → ℕ → Result ℕ LineFault
+below None limit = Err Past
+below (Some n) limit = if nat_lt n limit then Ok n else Err Past
+
+abbrev pub within : Option ℕ → Result ℕ LineFault
+within None = Err Past
+within (Some n) = Ok n
+
+abbrev pub count_in : Option ℕ → ℕ → Result ℕ LineFault
+count_in None most = Err Past
+count_in (Some n) most = if nat_le 1 n && nat_le n most then Ok n else Err Past
+
+abbrev pub head_of : Option ℕ → Option ℕ → Option ℕ → Result Head LineFault
+head_of one two three = do
+  region ← count_in one 16
+  partitions ← count_in two 1
+  threads ← count_in three 1
+  Ok (record { region = region; partitions = partitions; threads = threads })
+
+unfoldable pub head_in : List ℕ → Result Head LineFault
+head_in bytes = do
+  numbers ← three_in bytes (codes "trace 1 region ") (codes " partitions ") (codes " threads ")
+  head_of numbers.0 numbers.1 numbers.2
+
+unfoldable pub alloc_in : List ℕ → Result Op LineFault
+alloc_in bytes = do
+  numbers ← three_in bytes (codes " r") (codes " p") (codes " ")
+  reg ← below numbers.0 64
+  partition ← below numbers.1 1
+  size ← within numbers.2
+  Ok (Alloc reg partition size)
+
+unfoldable pub copy_in : List ℕ → Result Op LineFault
+copy_in bytes = do
+  numbers ← two_in bytes (codes " r") (codes " r")
+  from ← below numbers.0 64
+  to ← below numbers.1 64
+  Ok (Copy from to)
+
+unfoldable pub reset_in : List ℕ → Result Op LineFault
+reset_in bytes = do
+  number ← one_in bytes (codes " r")
+  reg ← below number 64
+  Ok (Reset reg)
+
+unfoldable pub free_in : List ℕ → Result Op LineFault
+free_in bytes = do
+  number ← one_in bytes (codes " r")
+  reg ← below number 64
+  Ok (Free reg)
+
+-- the op by its letter
+unfoldable pub op_in : List ℕ → Result Op LineFault
+op_in [] = Err Outside
+op_in (c ∷ rest) = if c == 65 then alloc_in rest else (if c == 67 then copy_in rest else (if c == 82 then reset_in rest else (if c == 70 then free_in rest else Err Outside)))
+
+-- the thread, a space and the op
+unfoldable pub line_in : List ℕ → Result Line LineFault
+line_in bytes = do
+  thread ← number_in bytes
+  rest ← behind (codes " ") thread.1
+  op ← op_in rest
+  number ← below thread.0 1
+  Ok (Do number op)

@@ -1,0 +1,114 @@
+ghost use Rattle.std.specs.Prelude.{◌≡◌, ℕ, List, Option};
+ghost use Rattle.pa_trace.specs.Reading.{Gives, behind, number_in, field_in, ended, one_in, two_in, three_in, below, within};
+
+use pa_text::number_at;
+
+/// Why a line isn't read: it is outside the grammar, or it is in the grammar and a number passes its limit.
+#[derive(Clone, Copy, Debug, PartialEq, Eq)]
+pub enum LineFault {
+    Outside,
+    Past,
+}
+
+// The bytes behind a word that stands in front.
+#[tactic(auto, unfolding(crate::specs::Reading::behind))]
+pub fn behind<'a>(word: &[u8], bytes: &'a [u8]) -> Result<&'a [u8], LineFault>
+    ensures { Gives (λ x. x.now) result (behind word.now bytes.now) }
+{
+    match bytes.strip_prefix(word) {
+        Some(rest) => Ok(rest),
+        None => Err(LineFault::Outside),
+    }
+}
+
+// The number in front and the bytes behind it. `None` stands for a number of more than 32 bits.
+pub fn number_in(bytes: &[u8]) -> Result<(Option<u32>, &[u8]), LineFault>
+    ensures { Gives {Y = Option ℕ × List ℕ} (λ x. (x.0, x.1.now)) result (number_in bytes.now) }
+{
+    match number_at(bytes) {
+        Some(found) => Ok(found),
+        None => Err(LineFault::Outside),
+    }
+}
+
+// A word and the number behind it.
+#[tactic(auto, unfolding(crate::specs::Reading::field_in))]
+fn field_in<'a>(word: &[u8], bytes: &'a [u8]) -> Result<(Option<u32>, &'a [u8]), LineFault>
+    ensures { Gives {Y = Option ℕ × List ℕ} (λ x. (x.0, x.1.now)) result (field_in word.now bytes.now) }
+{
+    let rest = behind(word, bytes)?;
+    number_in(rest)
+}
+
+// Nothing is left of the line.
+fn ended(bytes: &[u8]) -> Result<(), LineFault>
+    ensures { Gives (λ x. x) result (ended bytes.now) }
+{
+    if bytes.is_empty() {
+        Ok(())
+    } else {
+        Err(LineFault::Outside)
+    }
+}
+
+// What is left of the line is a word and a number.
+#[tactic(auto, unfolding(crate::specs::Reading::one_in))]
+pub fn one_number(bytes: &[u8], first: &[u8]) -> Result<Option<u32>, LineFault>
+    ensures { Gives (λ x. x) result (one_in bytes.now first.now) }
+{
+    let (one, rest) = field_in(first, bytes)?;
+    ended(rest)?;
+    Ok(one)
+}
+
+// What is left of the line is two words, each with a number.
+#[tactic(auto, unfolding(crate::specs::Reading::two_in))]
+pub fn two_numbers(
+    bytes: &[u8],
+    first: &[u8],
+    second: &[u8],
+) -> Result<(Option<u32>, Option<u32>), LineFault>
+    ensures { Gives (λ x. x) result (two_in bytes.now first.now second.now) }
+{
+    let (one, rest) = field_in(first, bytes)?;
+    let (two, rest) = field_in(second, rest)?;
+    ended(rest)?;
+    Ok((one, two))
+}
+
+// What is left of the line is three words, each with a number.
+#[tactic(auto, unfolding(crate::specs::Reading::three_in))]
+pub fn three_numbers(
+    bytes: &[u8],
+    first: &[u8],
+    second: &[u8],
+    third: &[u8],
+) -> Result<(Option<u32>, Option<u32>, Option<u32>), LineFault>
+    ensures { Gives (λ x. x) result (three_in bytes.now first.now second.now third.now) }
+{
+    let (one, rest) = field_in(first, bytes)?;
+    let (two, rest) = field_in(second, rest)?;
+    let (three, rest) = field_in(third, rest)?;
+    ended(rest)?;
+    Ok((one, two, three))
+}
+
+// The number where it is below the limit.
+pub fn below(number: Option<u32>, limit: u32) -> Result<u32, LineFault>
+    ensures { result ≡ below number limit }
+{
+    match number {
+        Some(value) if value < limit => Ok(value),
+        _ => Err(LineFault::Past),
+    }
+}
+
+// The number where it has 32 bits.
+pub fn within(number: Option<u32>) -> Result<u32, LineFault>
+    ensures { result ≡ within number }
+{
+    match number {
+        Some(value) => Ok(value),
+        None => Err(LineFault::Past),
+    }
+}
