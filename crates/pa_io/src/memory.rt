@@ -1,4 +1,4 @@
-ghost use Rattle.std.specs.Prelude.{◌≡◌, ◌↔◌, ℕ, ◌-◌, ◌<◌, ◌≤◌, min, List, [], ◌++◌, Some, length, take, drop, Contains, IfOk, IsErr, OnErr, IsTrue, vec_len, vec_capacity, ◌⊎◌};
+ghost use Rattle.std.specs.Prelude.{◌≡◌, ◌↔◌, ℕ, ◌-◌, ◌<◌, ◌≤◌, min, List, [], ◌++◌, Some, length, take, drop, Contains, IfOk, IsErr, OnOk, OnErr, IsTrue, vec_len, vec_capacity, ◌⊎◌};
 ghost use Rattle.std.specs.Io.KnownBytes.{Keeps};
 ghost use Rattle.pa_io.specs.Moves.{Moves, Takes, HasRisen, one_more};
 ghost use Rattle.pa_io.specs.Memory.{SourceState, SinkState};
@@ -113,6 +113,7 @@ impl Source for MemSource {
             Moves (Some self.old.left) (Some self.new.left) n into.new) }
         ensures same { OnErr result (Keeps (Some self.old.left) (Some self.new.left)) }
         ensures cause { OnErr result (HasRisen self.old.faults self.new.faults) }
+        ensures calm { OnOk result (self.new.faults ≡ self.old.faults) }
         ensures later { self.old.faults ≤ self.new.faults }
 
         // When this one fails, how much it gives, and what it is afterwards.
@@ -215,6 +216,7 @@ impl Sink for MemSink {
             Takes (Some self.old.written) (Some self.new.written) n from.now) }
         ensures same { OnErr result (Keeps (Some self.old.written) (Some self.new.written)) }
         ensures cause { OnErr result (HasRisen self.old.faults self.new.faults) }
+        ensures calm { OnOk result (self.new.faults ≡ self.old.faults) }
         ensures later { self.old.faults ≤ self.new.faults }
 
         // When this one fails, how much it takes, and what it is afterwards.

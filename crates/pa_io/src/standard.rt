@@ -38,10 +38,10 @@ impl<I: Read> Source for StdSource<I> {
         ensures same { OnErr result
             (Keeps (I.remaining self.old.reader) (I.remaining self.new.reader)) }
         ensures cause { OnErr result (HasRisen self.old.faults self.new.faults) }
+        ensures calm { OnOk result (self.new.faults ≡ self.old.faults) }
         ensures later { self.old.faults ≤ self.new.faults }
 
-        // A failed read, and no other, is counted.
-        ensures ok { OnOk result (self.new.faults ≡ self.old.faults) }
+        // A failed read is counted.
         ensures err { OnErr result (self.new.faults ≡ one_more self.old.faults) }
     {
         match self.reader.read(into) {
@@ -86,10 +86,10 @@ impl<O: Write> Sink for StdSink<O> {
         ensures takes { IfOk result (λ n. Takes None None n from.now) }
         ensures same { OnErr result (Keeps None None) }
         ensures cause { OnErr result (HasRisen self.old.faults self.new.faults) }
+        ensures calm { OnOk result (self.new.faults ≡ self.old.faults) }
         ensures later { self.old.faults ≤ self.new.faults }
 
-        // A failed write, and no other, is counted.
-        ensures ok { OnOk result (self.new.faults ≡ self.old.faults) }
+        // A failed write is counted.
         ensures err { OnErr result (self.new.faults ≡ one_more self.old.faults) }
 
         // What the writer holds, where it is known, grew by the bytes that were taken, or at a fault by a first part.

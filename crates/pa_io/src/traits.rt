@@ -1,4 +1,4 @@
-ghost use Rattle.std.specs.Prelude.{◌≡◌, ℕ, ◌<◌, ◌≤◌, List, Option, length, IfOk, OnErr};
+ghost use Rattle.std.specs.Prelude.{◌≡◌, ℕ, ◌<◌, ◌≤◌, List, Option, length, IfOk, OnOk, OnErr};
 ghost use Rattle.std.specs.Io.KnownBytes.{Keeps};
 ghost use Rattle.pa_io.specs.Moves.{Moves, Takes, HasRisen};
 
@@ -32,6 +32,7 @@ pub trait Source {
         ensures moves { IfOk result (λ n. Moves (left self.old) (left self.new) n into.new) }
         ensures same { OnErr result (Keeps (left self.old) (left self.new)) }
         ensures cause { OnErr result (HasRisen (faults self.old) (faults self.new)) }
+        ensures calm { OnOk result (faults self.new ≡ faults self.old) }
         ensures later { faults self.old ≤ faults self.new };
 }
 
@@ -49,5 +50,6 @@ pub trait Sink {
         ensures takes { IfOk result (λ n. Takes (written self.old) (written self.new) n from.now) }
         ensures same { OnErr result (Keeps (written self.old) (written self.new)) }
         ensures cause { OnErr result (HasRisen (faults self.old) (faults self.new)) }
+        ensures calm { OnOk result (faults self.new ≡ faults self.old) }
         ensures later { faults self.old ≤ faults self.new };
 }

@@ -1,0 +1,48 @@
+-- A call of the program: its words, and what its source and its sink tell before it and after it.
+use Rattle.std.specs.Prelude.{◌≡◌, ℕ, ◌≤◌, ◌⊎◌, List, Option, length}
+use Rattle.std.specs.Io.KnownBytes.{Consumes}
+use Rattle.pa_io.specs.Moves.{IsAllOf, IsReadOut}
+
+-- What a source or a sink tells at one moment: its bytes where it tells them, which are those left to read or those
+-- written so far, and how many faults it had so far.
+pub record Stream : Type 0 where
+  pub told : Option (List ℕ)
+  pub faults : ℕ
+
+pub record Call : Type 0 where
+  pub words : List (List ℕ)
+  pub source : Stream
+  pub source_after : Stream
+  pub sink : Stream
+  pub sink_after : Stream
+
+-- nothing was read
+abbrev pub KeepsSource : Call → Type 0
+KeepsSource c = c.source_after ≡ c.source
+
+-- nothing was written
+abbrev pub KeepsSink : Call → Type 0
+KeepsSink c = c.sink_after ≡ c.sink
+
+-- the source gave these bytes, and no byte further than one past the 4,194,304 bytes that an input may have
+pub record HasGiven (before after : Stream) (bytes : List ℕ) : Type 0 where
+  pub given : Consumes before.told after.told bytes
+  pub within : length bytes ≤ 4194305
+
+-- the source was read to its end without a fault, and gave at most the 4,194,304 bytes that an input may have: where
+-- it told what was left, that was these bytes, and nothing is left now
+pub record IsReadWhole (before after : Stream) (bytes : List ℕ) : Type 0 where
+  pub all : IsAllOf before.told bytes
+  pub end : IsReadOut before.told after.told
+  pub within : length bytes ≤ 4194304
+  pub calm : after.faults ≡ before.faults
+
+-- the source was read without a fault to one byte past the 4,194,304 bytes that an input may have
+pub record IsReadPast (before after : Stream) (bytes : List ℕ) : Type 0 where
+  pub given : Consumes before.told after.told bytes
+  pub past : length bytes ≡ 4194305
+  pub calm : after.faults ≡ before.faults
+
+-- the input was read: to its end, or to one byte past the most that it may have
+abbrev pub IsRead : Stream → Stream → List ℕ → Type 0
+IsRead before after bytes = IsReadWhole before after bytes ⊎ IsReadPast before after bytes

@@ -1,0 +1,66 @@
+-- The causes of the statuses, and what each leaves behind.
+use Rattle.std.specs.Prelude.{◌≡◌, ℕ, ◌⊎◌, List, Some, IfSome}
+use Rattle.std.specs.Io.KnownBytes.{Appends}
+use Rattle.pa_io.specs.Moves.{HasRisen, HasWrittenPart}
+use Rattle.pa_trace.specs.declared.script.Trace.{Trace}
+use Rattle.pa_trace.specs.Form.{IsInput, IsNoInput}
+use Rattle.pa_cli.specs.declared.status.Status.{Status}
+use Rattle.pa_cli.specs.declared.status.Status.TheVariants.{Done, BadCommand, BadLine, ReadFault, WriteFault, OutOfMemory}
+use Rattle.pa_cli.specs.Call.{Call, KeepsSource, KeepsSink, HasGiven, IsRead}
+use Rattle.pa_cli.specs.Command.{IsModel, IsCommand}
+use Rattle.pa_cli.specs.Output.{IsOutput}
+
+-- The input is faulty: it was read without a fault, and what was read is the text of no trace of the form, nor is all
+-- that the source told.
+pub record IsFaulty (c : Call) : Type 0 where
+  pub bytes : List ℕ
+  pub read : IsRead c.source c.source_after bytes
+  pub no_input : IsNoInput bytes
+  pub told : IfSome c.source.told IsNoInput
+
+-- a fault of the source came in this call
+pub record IsReadFault (c : Call) : Type 0 where
+  pub risen : HasRisen c.source.faults c.source_after.faults
+  pub bytes : List ℕ
+  pub given : HasGiven c.source c.source_after bytes
+
+-- the call stopped without a fault of the source
+pub record IsStopped (c : Call) : Type 0 where
+  pub calm : c.source_after.faults ≡ c.source.faults
+  pub bytes : List ℕ
+  pub given : HasGiven c.source c.source_after bytes
+
+-- each status comes where
+--   Done: the output was written whole
+--   BadCommand: the words are those of no command; nothing was read or written
+--   BadLine: the input is faulty; the one line that is named stands for all of it, and nothing was written
+--   ReadFault: the source had a fault in this call; nothing was written
+--   WriteFault: the sink had a fault in this call; what was written is a first part of the output
+--   OutOfMemory: the words are those of a command, and no fault of the source came first; nothing was written
+abbrev pub Caused : Status → Call → Type 0
+Caused Done c = (text : List ℕ) × IsOutput c text × Appends c.sink.told c.sink_after.told text × (c.sink_after.faults ≡ c.sink.faults)
+Caused BadCommand c = (IsCommand c.words → ⊥) × KeepsSource c × KeepsSink c
+Caused (BadLine n) c = (n ≡ 0) × IsModel c.words × IsFaulty c × KeepsSink c
+Caused ReadFault c = IsModel c.words × IsReadFault c × KeepsSink c
+Caused WriteFault c =
+    (text : List ℕ) × IsOutput c text × HasRisen c.sink.faults c.sink_after.faults × HasWrittenPart c.sink.told c.sink_after.told text
+Caused OutOfMemory c = IsCommand c.words × IsStopped c × KeepsSink c
+
+-- no fault of the source, or of the sink, came in this call
+abbrev pub HasNoReadFault : Call → Type 0
+HasNoReadFault c = HasRisen c.source.faults c.source_after.faults → ⊥
+
+abbrev pub HasNoWriteFault : Call → Type 0
+HasNoWriteFault c = HasRisen c.sink.faults c.sink_after.faults → ⊥
+
+-- the command and an input of the form, without a fault of source or sink, lead to Done, unless memory is wanting
+abbrev pub Completes : Status → Call → Type 0
+Completes status c =
+    (bytes : List ℕ) (trace : Trace) → IsModel c.words → c.source.told ≡ Some bytes → IsInput trace bytes → HasNoReadFault c → HasNoWriteFault c
+    → (status ≡ Done) ⊎ (status ≡ OutOfMemory)
+
+-- the command and bytes that are no input, without a fault of the source, lead to BadLine, unless memory is wanting
+abbrev pub Refuses : Status → Call → Type 0
+Refuses status c =
+    (bytes : List ℕ) → IsModel c.words → c.source.told ≡ Some bytes → IsNoInput bytes → HasNoReadFault c
+    → (status ≡ BadLine 0) ⊎ (status ≡ OutOfMemory)

@@ -1,0 +1,5 @@
+pub mod Call
+pub mod Command
+pub mod Output
+pub mod Cause
+pub mod StatusText

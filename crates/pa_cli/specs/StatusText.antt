@@ -1,0 +1,23 @@
+-- How a status is told: its number, with which the program ends, and its text.
+use Rattle.std.specs.Prelude.{ℕ, List, [], ◌++◌, codes}
+use Rattle.std.specs.Fmt.{decimal}
+use Rattle.pa_cli.specs.declared.status.Status.{Status}
+use Rattle.pa_cli.specs.declared.status.Status.TheVariants.{Done, BadCommand, BadLine, ReadFault, WriteFault, OutOfMemory}
+
+-- the numbers 3 and 7 are kept for statuses to come
+abbrev pub status_number : Status → ℕ
+status_number Done = 0
+status_number BadCommand = 1
+status_number (BadLine n) = 2
+status_number ReadFault = 4
+status_number WriteFault = 5
+status_number OutOfMemory = 6
+
+-- the text on standard error; Done has none
+abbrev pub status_text : Status → List ℕ
+status_text Done = []
+status_text BadCommand = codes "bad command"
+status_text (BadLine n) = codes "bad line " ++ decimal n
+status_text ReadFault = codes "read fault"
+status_text WriteFault = codes "write fault"
+status_text OutOfMemory = codes "out of memory"

@@ -1,0 +1,21 @@
+ghost use Rattle.std.specs.Prelude.{◌≡◌, OnOk, OnErr};
+ghost use Rattle.std.specs.Io.KnownBytes.{Appends};
+ghost use Rattle.pa_io.specs.Moves.{HasWrittenPart, HasRisen};
+
+use pa_io::{Failed, Sink};
+
+// Writes all of these bytes. After a fault a first part of them was written.
+pub fn write_output<K: Sink>(sink: &mut K, text: &[u8]) -> Result<(), Failed>
+    ensures whole { OnOk result (Appends (K.written sink.old) (K.written sink.new) text.now) }
+    ensures calm { OnOk result (K.faults sink.new ≡ K.faults sink.old) }
+    ensures part { OnErr result (HasWrittenPart (K.written sink.old) (K.written sink.new) text.now) }
+    ensures cause { OnErr result (HasRisen (K.faults sink.old) (K.faults sink.new)) }
+{
+    let mut rest = text;
+    while !rest.is_empty() {
+        let n = sink.write(rest)?;
+        let (_, after) = rest.split_at(n);
+        rest = after;
+    }
+    Ok(())
+}

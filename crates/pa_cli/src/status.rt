@@ -1,0 +1,55 @@
+ghost use Rattle.std.specs.Prelude.{◌≡◌};
+ghost use Rattle.pa_cli.specs.StatusText.{status_number};
+
+use std::fmt;
+
+/// How a call of the program ended. Its text is what the program prints on standard error where it isn't done.
+#[derive(Clone, Copy, Debug, PartialEq, Eq)]
+pub enum Status {
+    /// The output was written whole.
+    Done,
+    /// The words are those of no command.
+    BadCommand,
+    /// This line of the input is the first that is outside the grammar. Line 0 stands for the whole input.
+    BadLine(u32),
+    /// The source had a fault.
+    ReadFault,
+    /// The sink had a fault.
+    WriteFault,
+    /// Memory was wanting. Nothing was written.
+    OutOfMemory,
+}
+
+impl Status {
+    /// The number with which the program ends, 0 to 6.
+    pub fn number(&self) -> u8
+        ensures { result ≡ status_number self.now }
+    {
+        match self {
+            Status::Done => 0,
+            Status::BadCommand => 1,
+            Status::BadLine(_) => 2,
+            Status::ReadFault => 4,
+            Status::WriteFault => 5,
+            Status::OutOfMemory => 6,
+        }
+    }
+}
+
+impl fmt::Display for Status {
+    ghost use Rattle.std.specs.Prelude.{Some};
+    ghost use Rattle.pa_cli.specs.StatusText.{status_text};
+
+    ghost output = { λ status. Some (status_text status) };
+
+    fn fmt<W: fmt::Write>(&self, f: &mut fmt::Formatter<W>) -> fmt::Result {
+        match self {
+            Status::Done => Ok(()),
+            Status::BadCommand => write!(f, "bad command"),
+            Status::BadLine(line) => write!(f, "bad line {line}"),
+            Status::ReadFault => write!(f, "read fault"),
+            Status::WriteFault => write!(f, "write fault"),
+            Status::OutOfMemory => write!(f, "out of memory"),
+        }
+    }
+}

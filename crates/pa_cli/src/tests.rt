@@ -1,0 +1,132 @@
+use super::*;
+use pa_io::{MemSink, MemSource, Source};
+use std::alloc::{AllocError, Global};
+use std::test::Fail;
+
+// One object, allocated and freed.
+const TRACE: &[u8] = b"trace 1 region 1 partitions 1 threads 1
+0 A r0 p0 1
+0 F r0
+";
+
+// What `model` writes for it.
+const TEXT: &[u8] = b"plain 1
+e 2 0 made 00000000.0 8 0000000000000000
+e 3 0 done 00000000.0 0000000001000001
+q 00000000.0 free 0000000002000000
+end
+";
+
+// The words of a command line.
+fn words(alloc: Global, list: &[&str]) -> Result<Vec<String>, AllocError> {
+    let mut words = Vec::new(alloc);
+    for word in list {
+        words.push(String::from_str(alloc, word)?)?;
+    }
+    Ok(words)
+}
+
+// So many bytes, all 0.
+fn zeros(alloc: Global, count: usize) -> Result<Vec<u8>, AllocError> {
+    vec![in alloc; 0; count]
+}
+
+#[test]
+fn a_trace_is_played_by_short_reads_and_writes(rt: HostRuntime) -> Result<(), Fail> {
+    let model = words(rt.alloc(), &["model"])?;
+    for piece in [1, 7, 1000] {
+        let mut source = MemSource::new(rt.alloc(), TRACE, piece, &[])?;
+        let mut sink = MemSink::new(rt.alloc(), TEXT.len(), piece, &[])?;
+        assert_eq!(rt;
+            run(rt.alloc(), &model, &mut source, &mut sink),
+            Status::Done
+        );
+        assert_eq!(rt; sink.written(), TEXT);
+    }
+    Ok(())
+}
+
+#[test]
+fn a_second_read_that_fails_leaves_nothing_written(rt: HostRuntime) -> Result<(), Fail> {
+    let model = words(rt.alloc(), &["model"])?;
+    let texts: [&[u8]; 2] = [TRACE, b"neither a trace nor a part of one"];
+    for text in texts {
+        let mut source = MemSource::new(rt.alloc(), text, 20, &[1])?;
+        let mut sink = MemSink::new(rt.alloc(), TEXT.len(), 10, &[])?;
+        assert_eq!(rt;
+            run(rt.alloc(), &model, &mut source, &mut sink),
+            Status::ReadFault
+        );
+        assert!(rt; sink.written().is_empty());
+    }
+    Ok(())
+}
+
+#[test]
+fn a_third_write_that_fails_leaves_the_first_two(rt: HostRuntime) -> Result<(), Fail> {
+    let model = words(rt.alloc(), &["model"])?;
+    let mut source = MemSource::new(rt.alloc(), TRACE, 1000, &[])?;
+    let mut sink = MemSink::new(rt.alloc(), TEXT.len(), 10, &[2])?;
+    assert_eq!(rt;
+        run(rt.alloc(), &model, &mut source, &mut sink),
+        Status::WriteFault
+    );
+    assert_eq!(rt; sink.written(), &TEXT[..20]);
+    Ok(())
+}
+
+#[test]
+fn other_words_leave_the_source_unread(rt: HostRuntime) -> Result<(), Fail> {
+    let lines: [&[&str]; 5] = [
+        &[],
+        &["replay"],
+        &["models"],
+        &["model", "x"],
+        &["", "model"],
+    ];
+    for line in lines {
+        let other = words(rt.alloc(), line)?;
+        let mut source = MemSource::new(rt.alloc(), TRACE, 1000, &[0])?;
+        let mut sink = MemSink::new(rt.alloc(), 10, 10, &[0])?;
+        assert_eq!(rt;
+            run(rt.alloc(), &other, &mut source, &mut sink),
+            Status::BadCommand
+        );
+        let mut into = [0; 100];
+        assert!(rt; source.read(&mut into).is_err());
+        assert_eq!(rt; source.read(&mut into), Ok(TRACE.len()));
+    }
+    Ok(())
+}
+
+#[test]
+fn an_input_is_read_to_one_byte_past_the_limit(rt: HostRuntime) -> Result<(), Fail> {
+    let model = words(rt.alloc(), &["model"])?;
+    let bytes = zeros(rt.alloc(), 4_194_307)?;
+    let mut source = MemSource::new(rt.alloc(), &bytes, 1_000_000, &[])?;
+    let mut sink = MemSink::new(rt.alloc(), 10, 10, &[])?;
+    assert_eq!(rt;
+        run(rt.alloc(), &model, &mut source, &mut sink),
+        Status::BadLine(0)
+    );
+    let mut into = [0; 100];
+    assert_eq!(rt; source.read(&mut into), Ok(2));
+    Ok(())
+}
+
+#[test]
+fn each_status_has_its_number_and_text(rt: HostRuntime) -> Result<(), Fail> {
+    let told = [
+        (Status::Done, 0, ""),
+        (Status::BadCommand, 1, "bad command"),
+        (Status::BadLine(65_537), 2, "bad line 65537"),
+        (Status::ReadFault, 4, "read fault"),
+        (Status::WriteFault, 5, "write fault"),
+        (Status::OutOfMemory, 6, "out of memory"),
+    ];
+    for (status, number, text) in told {
+        assert_eq!(rt; status.number(), number);
+        assert_eq!(rt; format!(in rt.alloc(); "{status}")?.as_str(), text);
+    }
+    Ok(())
+}

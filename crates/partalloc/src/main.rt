@@ -1,0 +1,66 @@
+//! The program: it runs the words of its command line over standard input and standard output, prints the text of a
+//! status that isn't done on standard error, and ends with the status's number.
+#![tactic(auto)]
+
+ghost use Rattle.std.specs.Prelude.{◌≡◌};
+ghost use Rattle.std.specs.Process.{exit_status};
+ghost use Rattle.pa_cli.specs.StatusText.{status_number};
+
+use pa_cli::{Status, run};
+use pa_io::{StdSink, StdSource};
+use std::env::Env;
+use std::fmt::Display;
+use std::io::ErrorKind;
+use std::process::ExitCode;
+use std::{env, io};
+
+// The number with which the program ends where its words can't be had, but for want of memory.
+const NO_WORDS: u8 = 8;
+
+fn main(rt: HostRuntime) -> ExitCode {
+    let words = match words(&rt) {
+        Ok(words) => words,
+        Err(error) => return end_without_words(&rt, error.kind()),
+    };
+    let mut source = StdSource::new(rt.stdin());
+    let mut sink = StdSink::new(rt.stdout());
+    end(
+        &rt,
+        run(rt.alloc(), words.as_slice(), &mut source, &mut sink),
+    )
+}
+
+// The words after the program's name.
+fn words<R: Env + AllocGlobal>(rt: &R) -> io::Result<Vec<String>> {
+    Ok(env::args(rt)?.skip(1).collect(rt.alloc())?)
+}
+
+// Prints the status's text where it isn't done, and ends with its number.
+fn end(rt: &impl Eprint, status: Status) -> ExitCode
+    ensures { exit_status result ≡ status_number status }
+{
+    match status {
+        Status::Done => ExitCode::SUCCESS,
+        _ => refuse(rt, status, status.number()),
+    }
+}
+
+// Ends where the words couldn't be had: memory was wanting, or one of them isn't UTF-8.
+fn end_without_words(rt: &impl Eprint, kind: ErrorKind) -> ExitCode
+    ensures memory { kind ≡ ErrorKind.OutOfMemory → exit_status result ≡ 6 }
+    ensures other { (kind ≡ ErrorKind.OutOfMemory → ⊥) → exit_status result ≡ 8 }
+{
+    if kind == ErrorKind::OutOfMemory {
+        end(rt, Status::OutOfMemory)
+    } else {
+        refuse(rt, "no words", NO_WORDS)
+    }
+}
+
+// Prints the text on standard error, and ends with the number, also where the text can't be printed.
+fn refuse(rt: &impl Eprint, text: impl Display + Drop, number: u8) -> ExitCode
+    ensures { exit_status result ≡ number }
+{
+    let _ = eprintln!(rt; "{text}");
+    ExitCode::from(number)
+}
