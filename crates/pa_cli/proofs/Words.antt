@@ -1,5 +1,5 @@
 -- Lists of words.
-use Rattle.std.proofs.Common.{rules, arith, ◌≡◌, ℕ, ◌+◌, ◌<◌, ◌≤◌, List, [], ◌∷◌, map, length, get_or, sym, ap, refl, ◌∙◌}
+use Rattle.std.proofs.Common.{arith, ◌≡◌, ◌<◌, ◌≤◌, List, [], ◌∷◌, map, length, get_or, refl}
 
 -- a list of one member is that member
 pub one_member : {A B : Type 0} (f : A → B) (xs : List A) (x d : A) (y : B) → 1 ≤ length xs → length xs < 2 → get_or xs 0 d ≡ x → f x ≡ y → map f xs ≡ y ∷ []

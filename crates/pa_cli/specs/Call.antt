@@ -9,6 +9,7 @@ pub record Stream : Type 0 where
   pub told : Option (List ℕ)
   pub faults : ℕ
 
+-- the words, and what source and sink tell before the call and after it
 pub record Call : Type 0 where
   pub words : List (List ℕ)
   pub source : Stream
@@ -16,11 +17,11 @@ pub record Call : Type 0 where
   pub sink : Stream
   pub sink_after : Stream
 
--- nothing was read
+-- nothing was read: the source is as it was
 abbrev pub KeepsSource : Call → Type 0
 KeepsSource c = c.source_after ≡ c.source
 
--- nothing was written
+-- nothing was written: the sink is as it was
 abbrev pub KeepsSink : Call → Type 0
 KeepsSink c = c.sink_after ≡ c.sink
 

@@ -46,10 +46,11 @@ Caused WriteFault c =
     (text : List ℕ) × IsOutput c text × HasRisen c.sink.faults c.sink_after.faults × HasWrittenPart c.sink.told c.sink_after.told text
 Caused OutOfMemory c = IsCommand c.words × IsStopped c × KeepsSink c
 
--- no fault of the source, or of the sink, came in this call
+-- no fault of the source came in this call
 abbrev pub HasNoReadFault : Call → Type 0
 HasNoReadFault c = HasRisen c.source.faults c.source_after.faults → ⊥
 
+-- no fault of the sink came in this call
 abbrev pub HasNoWriteFault : Call → Type 0
 HasNoWriteFault c = HasRisen c.sink.faults c.sink_after.faults → ⊥
 

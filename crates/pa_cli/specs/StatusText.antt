@@ -4,7 +4,7 @@ use Rattle.std.specs.Fmt.{decimal}
 use Rattle.pa_cli.specs.declared.status.Status.{Status}
 use Rattle.pa_cli.specs.declared.status.Status.TheVariants.{Done, BadCommand, BadLine, ReadFault, WriteFault, OutOfMemory}
 
--- the numbers 3 and 7 are kept for statuses to come
+-- the number with which the program ends; 3 and 7 are kept for statuses to come
 abbrev pub status_number : Status → ℕ
 status_number Done = 0
 status_number BadCommand = 1

@@ -2,6 +2,7 @@ use Rattle.std.proofs.Common.{rules, ◌++◌, OnErr, Result, Ok, Err}
 use Rattle.pa_cli.proofs.Given.{given_more}
 use Rattle.pa_cli.proofs.input.read_input.Goals as goal
 
+-- what holds anyway holds at an error
 on_err : {T E : Type 0} (r : Result T E) {P : Type 0} → P → OnErr r P
 on_err (Ok x) p = search rules
 on_err (Err e) p = p
