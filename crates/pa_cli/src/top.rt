@@ -2,8 +2,7 @@ ghost use Rattle.std.specs.Prelude.{◌≡◌, ◌↔◌, map, string_bytes, cod
 ghost use Rattle.pa_cli.specs.Command.{IsCommand};
 ghost use Rattle.pa_cli.specs.Cause.{Caused, Completes, Refuses};
 ghost use Rattle.pa_cli.specs.Output.{IsPlayedText, IsRunText};
-ghost use Rattle.pa_trace.specs.Form.{IsPlainTrace};
-ghost use Rattle.pa_trace.specs.Form.{IsFault};
+ghost use Rattle.pa_trace.specs.Form.{IsFault, IsPlainTrace};
 
 use crate::command::Command;
 use crate::input::{InputFault, read_input};
