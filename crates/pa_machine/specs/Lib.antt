@@ -1,2 +1,7 @@
 pub mod Count
+pub mod Events
+pub mod Good
+pub mod Holdings
 pub mod Run
+pub mod Titles
+pub mod Trail
