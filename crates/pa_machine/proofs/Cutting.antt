@@ -31,7 +31,7 @@ covers_or t b = elim (cases_lt b t.start) [
   | inr above ↦ elim (cases_lt b (t.start + t.len)) [ inl below ↦ inl (above, below) | inr high ↦ inr (inr high) ] ]
 
 -- another title's handles stay where a free title comes or goes against raw bytes
-cut_untouched : (words : List ℕ) (total later : Thing → ℕ) (u : Title) (lost gained : List Piece) → IsNoneOf lost u → IsNoneOf gained u →
+pub cut_untouched : (words : List ℕ) (total later : Thing → ℕ) (u : Title) (lost gained : List Piece) → IsNoneOf lost u → IsNoneOf gained u →
     Changes total lost gained later → IsUntouched words total words later u
 cut_untouched words total later u lost gained l g c = record {
   free = let a = c (FreeTitle u) in let x = l.free in let y = g.free in omega arith;
@@ -60,7 +60,7 @@ pub record IsCutOut (words : List ℕ) (total : Thing → ℕ) (t : Title) : Typ
   pub word : count_word words t ≡ 0
 
 -- before a cut nobody holds the title
-cut_unheld : (words : List ℕ) (total : Thing → ℕ) (t : Title) → IsDivided (length words) total → IsCutOut words total t → IsTitleHeld total t → ⊥
+pub cut_unheld : (words : List ℕ) (total : Thing → ℕ) (t : Title) → IsDivided (length words) total → IsCutOut words total t → IsTitleHeld total t → ⊥
 cut_unheld words total t d k held =
   let long = k.long in
   (raw_alone (length words) total t.start d (k.raw t.start (omega arith) (omega arith))).2 t held (omega arith, omega arith)

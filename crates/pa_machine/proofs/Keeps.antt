@@ -37,6 +37,49 @@ after_step p words t = set words (count_place t) (stepped p (count_word words t)
 pub own_of_state : (total : Thing → ℕ) (t : Title) (a : OwnState) → IsTally total → 0 < total (OwnAs t a) → 0 < total (OwnOf t)
 own_of_state total t a tally has = let p = tally.part t a in omega arith
 
+-- each event of a title changes nothing but this title: a step on its count word, or a write to its content
+pub issue_change : (words : List ℕ) (total later : Thing → ℕ) (t : Title) → Changes total (FreePiece t ∷ []) (OwnPiece t Clean ∷ []) later →
+    IsChangeAt words total later t (FreePiece t ∷ []) (OwnPiece t Clean ∷ []) (count_place t)
+issue_change words total later t c = record {
+  changes = c; lost_here = free_none t; gained_here = λ u ne. own_none t u Clean ne;
+  no_raw_lost = λ b. refl; no_raw_gained = λ b. refl; place = (omega arith, omega arith);
+}
+
+pub copy_change : (words : List ℕ) (total later : Thing → ℕ) (t : Title) → Changes total [] (RefPiece t ∷ []) later →
+    IsChangeAt words total later t [] (RefPiece t ∷ []) (count_place t)
+copy_change words total later t c = record {
+  changes = c; lost_here = λ u ne. nil_none u; gained_here = ref_none t;
+  no_raw_lost = λ b. refl; no_raw_gained = λ b. refl; place = (omega arith, omega arith);
+}
+
+pub reset_change : (words : List ℕ) (total later : Thing → ℕ) (t : Title) (v : ℕ) → Changes total (RefPiece t ∷ []) (returned_at v t) later →
+    IsChangeAt words total later t (RefPiece t ∷ []) (returned_at v t) (count_place t)
+reset_change words total later t v c = record {
+  changes = c; lost_here = ref_none t; gained_here = returned_here v t;
+  no_raw_lost = λ b. refl; no_raw_gained = returned_raw v t; place = (omega arith, omega arith);
+}
+
+pub free_change : (words : List ℕ) (total later : Thing → ℕ) (t : Title) (v : ℕ) → Changes total (OwnPiece t (Poisoned (content_count t)) ∷ []) (returned_at v t) later →
+    IsChangeAt words total later t (OwnPiece t (Poisoned (content_count t)) ∷ []) (returned_at v t) (count_place t)
+free_change words total later t v c = record {
+  changes = c; lost_here = λ u ne. own_none t u (Poisoned (content_count t)) ne; gained_here = returned_here v t;
+  no_raw_lost = λ b. refl; no_raw_gained = returned_raw v t; place = (omega arith, omega arith);
+}
+
+pub restate_change : (words : List ℕ) (total later : Thing → ℕ) (t : Title) (a b : OwnState) (p : ℕ) → Changes total (OwnPiece t a ∷ []) (OwnPiece t b ∷ []) later →
+    IsWordOf t p → IsChangeAt words total later t (OwnPiece t a ∷ []) (OwnPiece t b ∷ []) p
+restate_change words total later t a b p c place = record {
+  changes = c; lost_here = λ u ne. own_none t u a ne; gained_here = λ u ne. own_none t u b ne;
+  no_raw_lost = λ b. refl; no_raw_gained = λ b. refl; place = place;
+}
+
+pub nil_change : (words : List ℕ) (total later : Thing → ℕ) (t : Title) (p : ℕ) → Changes total [] [] later →
+    IsWordOf t p → IsChangeAt words total later t [] [] p
+nil_change words total later t p c place = record {
+  changes = c; lost_here = λ u ne. nil_none u; gained_here = λ u ne. nil_none u;
+  no_raw_lost = λ b. refl; no_raw_gained = λ b. refl; place = place;
+}
+
 -- a title that is good is held
 pub still_held : (after : List ℕ) (later : Thing → ℕ) (t : Title) → IsTitleGood after later t → IsTitleHeld later t
 still_held after later t good = elim (free_or (count_word after t)) [
@@ -52,10 +95,7 @@ issue_keeps words total later t g tally tallied can has zeros c =
   let held : IsTitleHeld total t = omega arith in
   let a = c (OwnOf t) in let o = own_self t Clean in
   change_good words total later t (FreePiece t ∷ []) (OwnPiece t Clean ∷ []) (count_place t) (stepped Issue (count_word words t)) g held (omega arith)
-    (record {
-      changes = c; lost_here = free_none t; gained_here = λ u ne. own_none t u Clean ne;
-      no_raw_lost = λ b. refl; no_raw_gained = λ b. refl; place = (omega arith, omega arith);
-    })
+    (issue_change words total later t c)
     (issue_good words (after_step Issue words t) total later t (stepped Issue (count_word words t)) (title_of_good words total t g held) tally tallied
       (stepped_is Issue (count_word words t) can) (written_word words t (stepped Issue (count_word words t)) (g.divided.well t held)) has zeros c)
 
@@ -68,10 +108,7 @@ copy_keeps words total later t g tally tallied can has c =
     | inr r ↦ omega arith ] in
   let a = c (RefOf t) in let o = ref_self t in
   change_good words total later t [] (RefPiece t ∷ []) (count_place t) (stepped Copy (count_word words t)) g held (omega arith)
-    (record {
-      changes = c; lost_here = λ u ne. nil_none u; gained_here = ref_none t;
-      no_raw_lost = λ b. refl; no_raw_gained = λ b. refl; place = (omega arith, omega arith);
-    })
+    (copy_change words total later t c)
     (copy_good words (after_step Copy words t) total later t (stepped Copy (count_word words t)) (title_of_good words total t g held) tally tallied
       (stepped_is Copy (count_word words t) can) (written_word words t (stepped Copy (count_word words t)) (g.divided.well t held)) has c)
 
@@ -86,10 +123,7 @@ reset_keeps words total later t g tally tallied can has c =
   let word = (written_word words t v (g.divided.well t held)).word in
   change_good words total later t (RefPiece t ∷ []) (returned_at v t) (count_place t) v g held
     (still_held (after_step Reset words t) later t good)
-    (record {
-      changes = c; lost_here = ref_none t; gained_here = returned_here v t;
-      no_raw_lost = λ b. refl; no_raw_gained = returned_raw v t; place = (omega arith, omega arith);
-    })
+    (reset_change words total later t v c)
     good
 
 pub free_keeps : (words : List ℕ) (total later : Thing → ℕ) (t : Title) → IsGood words total → IsTally total → IsTally later →
@@ -103,10 +137,7 @@ free_keeps words total later t g tally tallied can has c =
       (stepped_is Free (count_word words t) can) (written_word words t v (g.divided.well t held)) has c in
   change_good words total later t (OwnPiece t (Poisoned (content_count t)) ∷ []) (returned_at v t) (count_place t) v g held
     (still_held (after_step Free words t) later t good)
-    (record {
-      changes = c; lost_here = λ u ne. own_none t u (Poisoned (content_count t)) ne; gained_here = returned_here v t;
-      no_raw_lost = λ b. refl; no_raw_gained = returned_raw v t; place = (omega arith, omega arith);
-    })
+    (free_change words total later t v c)
     good
 
 pub write_keeps : (words : List ℕ) (total later : Thing → ℕ) (t : Title) (state : OwnState) → IsGood words total → IsTally total → IsTally later →
@@ -120,10 +151,7 @@ write_keeps words total later t state g tally tallied can has same c =
       (stepped_is Write (count_word words t) can) (written_word words t v (g.divided.well t held)) has same c in
   change_good words total later t (OwnPiece t state ∷ []) (OwnPiece t Clean ∷ []) (count_place t) v g held
     (still_held (after_step Write words t) later t good)
-    (record {
-      changes = c; lost_here = λ u ne. own_none t u state ne; gained_here = λ u ne. own_none t u Clean ne;
-      no_raw_lost = λ b. refl; no_raw_gained = λ b. refl; place = (omega arith, omega arith);
-    })
+    (restate_change words total later t state Clean (count_place t) c (omega arith, omega arith))
     good
 
 -- the place of a content word, by the offset of the word in bytes
@@ -135,7 +163,7 @@ content_index n t at_byte well aligned within =
   (at_byte / 8 - t.start / 8, omega arith, omega arith)
 
 -- a write of any value to a content word
-written_content : (words : List ℕ) (t : Title) (p v : ℕ) → IsWellFormed (length words) t → p < content_count t → IsWrittenContent words (set words (content_place t p) v) t p v
+pub written_content : (words : List ℕ) (t : Title) (p v : ℕ) → IsWellFormed (length words) t → p < content_count t → IsWrittenContent words (set words (content_place t p) v) t p v
 written_content words t p v well below = record {
   word = word_unwritten words t v p below;
   here = content_written words t v p well below;
@@ -152,10 +180,7 @@ store_own_keeps words total later t state i v g tally tallied below has none c =
       (word_unwritten words t v i below) has none c in
   change_good words total later t (OwnPiece t state ∷ []) (OwnPiece t Dirty ∷ []) (content_place t i) v g held
     (still_held (set words (content_place t i) v) later t good)
-    (record {
-      changes = c; lost_here = λ u ne. own_none t u state ne; gained_here = λ u ne. own_none t u Dirty ne;
-      no_raw_lost = λ b. refl; no_raw_gained = λ b. refl; place = (omega arith, omega arith);
-    })
+    (restate_change words total later t state Dirty (content_place t i) c (omega arith, omega arith))
     good
 
 pub store_free_keeps : (words : List ℕ) (total later : Thing → ℕ) (t : Title) (i v : ℕ) → IsGood words total → IsTally later →
@@ -166,10 +191,7 @@ store_free_keeps words total later t i v g tallied below has c =
       (word_unwritten words t v i below) has (λ x. let e = c x in omega arith) in
   change_good words total later t [] [] (content_place t i) v g held
     (still_held (set words (content_place t i) v) later t good)
-    (record {
-      changes = c; lost_here = λ u ne. nil_none u; gained_here = λ u ne. nil_none u;
-      no_raw_lost = λ b. refl; no_raw_gained = λ b. refl; place = (omega arith, omega arith);
-    })
+    (nil_change words total later t (content_place t i) c (omega arith, omega arith))
     good
 
 pub poison_keeps : (words : List ℕ) (total later : Thing → ℕ) (t : Title) (state : OwnState) → IsGood words total → IsTally total → IsTally later →
@@ -183,10 +205,7 @@ poison_keeps words total later t state g tally tallied below has c =
       (written_content words t (progress state) poison (g.divided.well t held) below) below has c in
   change_good words total later t (OwnPiece t state ∷ []) (OwnPiece t (Poisoned (progress state + 1)) ∷ []) (content_place t (progress state)) poison g held
     (still_held (set words (content_place t (progress state)) poison) later t good)
-    (record {
-      changes = c; lost_here = λ u ne. own_none t u state ne; gained_here = λ u ne. own_none t u (Poisoned (progress state + 1)) ne;
-      no_raw_lost = λ b. refl; no_raw_gained = λ b. refl; place = (omega arith, omega arith);
-    })
+    (restate_change words total later t state (Poisoned (progress state + 1)) (content_place t (progress state)) c (omega arith, omega arith))
     good
 
 -- a write to a word whose first byte is raw

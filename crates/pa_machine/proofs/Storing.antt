@@ -129,7 +129,7 @@ poisoned_so_far words total t Dirty g has = λ i below. absurd (omega arith)
 poisoned_so_far words total t (Poisoned j) g has = (g.poison_kept.progress j has).1
 
 -- the words beyond the progress are equal while there are Refs
-shared_so_far : (words : List ℕ) (total : Thing → ℕ) (t : Title) (state : OwnState) → IsTitleGood words total t →
+pub shared_so_far : (words : List ℕ) (total : Thing → ℕ) (t : Title) (state : OwnState) → IsTitleGood words total t →
     0 < refs_of (count_word words t) → 0 < total (OwnAs t state) → (value : ℕ) × HasContentFrom words t (progress state) value
 shared_so_far words total t Clean g many has = g.content_kept.clean has
 shared_so_far words total t Dirty g many has = elim (g.content_kept.shared Dirty many has) [

@@ -29,7 +29,8 @@ total_exchanged before after from to lost gained e has_from has_to x =
   let back = spread-one before (λ i. held_in (of_actor to gained i) x) to (held_in gained x) (of_actor_here to gained x) (λ i ne. of_actor_apart to i gained x ne) has_to in
   omega arith
 
-get_or_past : {A : Type 0} (xs : List A) (i : ℕ) (d : A) → length xs ≤ i → get_or xs i d ≡ d
+-- past the end of a list there is the default
+pub get_or_past : {A : Type 0} (xs : List A) (i : ℕ) (d : A) → length xs ≤ i → get_or xs i d ≡ d
 get_or_past [] i d l = refl
 get_or_past (x ∷ xs) zero d l = absurd (omega arith)
 get_or_past (x ∷ xs) (suc i) d l = get_or_past xs i d (omega arith)
