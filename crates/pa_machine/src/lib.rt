@@ -7,6 +7,8 @@
 
 mod event;
 mod fault;
+mod slot;
+mod tables;
 mod title;
 mod word;
 

@@ -1,0 +1,86 @@
+-- What the core's tables say: the state that they stand for, and what is always true of them.
+use Rattle.std.specs.Prelude.{◌≡◌, ℕ, ◌+◌, ◌*◌, ◌/◌, ◌<◌, ◌≤◌, List, [], ◌∷◌, ◌++◌, Bool, true, false, ◌==◌, ◌&&◌, Option, Some, None, length, map, slice_index, if◌then◌else◌}
+use Rattle.std.specs.List.{slice_index_or, range_with_len, flat_map}
+use Rattle.std.specs.Prelude.{Box}
+use Rattle.std.specs.Global.{Global}
+use Rattle.pa_machine.specs.declared.title.Title.{Title}
+use Rattle.pa_machine.specs.declared.slot.Owner.{Owner}
+use Rattle.pa_machine.specs.declared.slot.Slot.{Slot}
+use Rattle.pa_machine.specs.declared.tables.Tables.{Tables}
+use Rattle.pa_machine.specs.Titles.{same_title, count_place}
+use Rattle.pa_machine.specs.Holdings.{Piece, RawPiece, FreePiece, OwnPiece, RefPiece, IsTitleHeld}
+use Rattle.pa_machine.specs.Good.{IsGood}
+use Rattle.pa_machine.specs.Events.{State, total_of}
+
+-- an entry of the table of titles
+abbrev pub Place : Type 0
+Place = Option (Box Slot Global)
+
+-- the bytes that an actor holds as raw, one by one from byte b on
+abbrev pub is_holder : ℕ → Option ℕ → Bool
+is_holder actor None = false
+is_holder actor (Some other) = other == actor
+
+abbrev pub raw_pieces : ℕ → ℕ → List (Option ℕ) → List Piece
+raw_pieces actor b [] = []
+raw_pieces actor b (h ∷ hs) = if is_holder actor h then RawPiece b 1 ∷ raw_pieces actor (b + 1) hs else raw_pieces actor (b + 1) hs
+
+-- what an actor holds of one title
+abbrev pub free_pieces : ℕ → Title → Option ℕ → List Piece
+free_pieces actor t None = []
+free_pieces actor t (Some other) = if other == actor then FreePiece t ∷ [] else []
+
+abbrev pub own_pieces : ℕ → Title → Option Owner → List Piece
+own_pieces actor t None = []
+own_pieces actor t (Some owner) = if owner.actor == actor then OwnPiece t owner.state ∷ [] else []
+
+abbrev pub ref_pieces : ℕ → Title → List ℕ → List Piece
+ref_pieces actor t [] = []
+ref_pieces actor t (r ∷ rs) = if r == actor then RefPiece t ∷ ref_pieces actor t rs else ref_pieces actor t rs
+
+abbrev pub slot_pieces : ℕ → Slot → List Piece
+slot_pieces actor o = free_pieces actor o.title o.free ++ (own_pieces actor o.title o.own ++ ref_pieces actor o.title o.refs.items)
+
+abbrev pub place_pieces : ℕ → Place → List Piece
+place_pieces actor None = []
+place_pieces actor (Some b) = slot_pieces actor b.value
+
+-- what an actor holds
+abbrev pub pieces_of : List (Option ℕ) → List Place → ℕ → List Piece
+pieces_of holders slots actor = raw_pieces actor 0 holders ++ flat_map (place_pieces actor) slots
+
+abbrev pub holdings_of : List (Option ℕ) → List Place → ℕ → List (List Piece)
+holdings_of holders slots actors = map (pieces_of holders slots) (range_with_len 0 actors)
+
+-- the state that the tables stand for
+abbrev pub state_of : Tables → State
+state_of c = record { words = c.words.items; holdings = holdings_of c.holders.items c.slots.items c.actors }
+
+-- the title's entry, if it is there
+abbrev pub kept_as : Title → Place → Option Slot
+kept_as t None = None
+kept_as t (Some b) = if same_title b.value.title t then Some b.value else None
+
+abbrev pub slot_at : List Place → Title → Option Slot
+slot_at slots t = kept_as t (slice_index_or slots (t.start / 8) None)
+
+-- an owner is one of the actors
+abbrev pub IsOwnerWithin : ℕ → Option Owner → Type 0
+IsOwnerWithin actors None = Unit {0}
+IsOwnerWithin actors (Some owner) = owner.actor < actors
+
+-- an entry stands at its title's first word
+abbrev pub IsPlaced : ℕ → ℕ → Place → Type 0
+IsPlaced actors i None = Unit {0}
+IsPlaced actors i (Some b) = (b.value.title.start ≡ 8 * i) × IsOwnerWithin actors b.value.own
+
+-- What is always true of the tables: their lengths, where an entry stands, where the words of a held title point, and
+-- that the state is good.
+pub record IsSound (c : Tables) : Type 0 where
+  pub holders : length c.holders.items ≡ 8 * length c.words.items
+  pub slots : length c.slots.items ≡ length c.words.items
+  pub homes : length c.homes.items ≡ length c.words.items
+  pub placed : (i : ℕ) → IsPlaced c.actors i (slice_index_or c.slots.items i None)
+  pub pointed : (t : Title) (q : ℕ) → IsTitleHeld (total_of (state_of c)) t → t.start / 8 ≤ q → q ≤ count_place t →
+      slice_index c.homes.items q ≡ t.start / 8
+  pub good : IsGood c.words.items (total_of (state_of c))
