@@ -1,5 +1,5 @@
 -- Whether an actor holds a thing, as the tables have it.
-use Rattle.std.proofs.Common.{◌≡◌, ℕ, zero, suc, ◌+◌, ◌-◌, ◌*◌, ◌/◌, ◌%◌, ◌<◌, ◌≤◌, Bool, true, false, cond, eqb, List, [], ◌∷◌, ◌++◌, Option, Some, None, length, map, get_or, set, refl, sym, ◌∙◌, ap, subst, arith, ◌⊎◌, inl, inr, Contains}
+use Rattle.std.proofs.Common.{◌≡◌, ℕ, zero, suc, ◌+◌, ◌-◌, ◌*◌, ◌/◌, ◌%◌, ◌<◌, ◌≤◌, Bool, true, false, cond, eqb, List, [], ◌∷◌, ◌++◌, Option, Some, None, length, map, get_or, set, refl, sym, ◌∙◌, ap, subst, arith, ◌⊎◌, inl, inr, Contains, ◌↔◌}
 use Rattle.std.specs.List.{sum_by, slice_index_or, range_with_len, flat_map}
 use Rattle.std.proofs.lemmas.List.Sums.{sum_by-cons, sum_by-append, get_or-le-sum_by}
 use Rattle.std.proofs.lemmas.Bool.{cases_eq, cases_lt}
@@ -11,7 +11,7 @@ use Rattle.pa_machine.specs.declared.slot.Slot.{Slot}
 use Rattle.pa_machine.specs.declared.tables.Tables.{Tables}
 use Rattle.pa_machine.specs.Titles.{same_title, same_state}
 use Rattle.pa_machine.specs.Holdings.{Piece, RawPiece, FreePiece, OwnPiece, RefPiece, Thing, RawByte, FreeTitle, OwnOf, OwnAs, RefOf, one, amount, held_in}
-use Rattle.pa_machine.specs.Events.{State, of_actor, held_by, HasActor, Holds}
+use Rattle.pa_machine.specs.Events.{State, of_actor, held_by, HasActor, Holds, HoldsRaw}
 use Rattle.pa_machine.specs.Tables.{Place, is_holder, raw_pieces, free_pieces, own_pieces, ref_pieces, slot_pieces, place_pieces, holdings_of, state_of, kept_as, slot_at, IsPlaced, IsSound}
 use Rattle.pa_machine.proofs.Same.{title_tells, title_self, state_tells, state_self}
 use Rattle.pa_machine.proofs.Parts.{IsNoneOf}
@@ -98,7 +98,7 @@ pub reads : (c : Tables) (actor : ℕ) (t : Title) (x : Thing) → IsSound c →
 reads c actor t x sound has about =
   let all = held_tables c.holders.items c.slots.items c.actors actor x has in
   let raw = about (raw_pieces actor 0 c.holders.items) (raw_titles actor 0 c.holders.items t) in
-  let at_one = slots_at actor c.actors c.slots.items t x sound.placed about in
+  let at_one = slots_at actor (length c.words.items) c.actors c.slots.items t x sound.placed about in
   elim (kept_amount actor (get_or c.slots.items (t.start / 8) None) t x about) [
     inl y ↦ let e = y.3 in inl (y.0, y.1, y.2, omega arith)
   | inr n ↦ let e = n.1 in inr (n.0, omega arith) ]
@@ -213,3 +213,40 @@ raw_read c actor b has is =
   let e = raw_is c actor b has in
   let f : one (is_holder actor (get_or c.holders.items b None)) ≡ 1 = rw is (holder_here actor) in
   omega arith
+
+-- the same both ways, for an entry that is there, and for one that isn't
+pub free_same : (c : Tables) (actor : ℕ) (t : Title) (o : Slot) → IsSound c → actor < c.actors → slot_at c.slots.items t ≡ Some o →
+    (o.free ≡ Some actor) ↔ Holds (state_of c) actor (FreeTitle t)
+free_same c actor t o sound has is = (free_read c actor t o sound has is, λ holds.
+  let r = reads_free c actor t sound has holds in
+  let same : r.0 ≡ o = let e = r.1 in cc in
+  ap (λ (q : Slot). q.free) (sym same) ∙ r.3)
+
+pub own_same : (c : Tables) (actor : ℕ) (t : Title) (s : OwnState) (o : Slot) → IsSound c → actor < c.actors → slot_at c.slots.items t ≡ Some o →
+    (o.own ≡ Some (record { actor = actor; state = s })) ↔ Holds (state_of c) actor (OwnAs t s)
+own_same c actor t s o sound has is = (own_read c actor t s o sound has is, λ holds.
+  let r = reads_own c actor t s sound has holds in
+  let same : r.0 ≡ o = let e = r.1 in cc in
+  ap (λ (q : Slot). q.own) (sym same) ∙ r.3)
+
+pub ref_same : (c : Tables) (actor : ℕ) (t : Title) (o : Slot) → IsSound c → actor < c.actors → slot_at c.slots.items t ≡ Some o →
+    Contains o.refs.items actor ↔ Holds (state_of c) actor (RefOf t)
+ref_same c actor t o sound has is = (ref_read c actor t o sound has is, λ holds.
+  let r = reads_ref c actor t sound has holds in
+  let same : r.0 ≡ o = let e = r.1 in cc in
+  subst (λ (q : Slot). Contains q.refs.items actor) same r.3)
+
+pub none_free : (c : Tables) (actor : ℕ) (t : Title) → IsSound c → actor < c.actors → slot_at c.slots.items t ≡ None → Holds (state_of c) actor (FreeTitle t) → ⊥
+none_free c actor t sound has is holds = let r = reads_free c actor t sound has holds in let e = r.1 in cc
+
+pub none_own : (c : Tables) (actor : ℕ) (t : Title) (s : OwnState) → IsSound c → actor < c.actors → slot_at c.slots.items t ≡ None → Holds (state_of c) actor (OwnAs t s) → ⊥
+none_own c actor t s sound has is holds = let r = reads_own c actor t s sound has holds in let e = r.1 in cc
+
+pub none_ref : (c : Tables) (actor : ℕ) (t : Title) → IsSound c → actor < c.actors → slot_at c.slots.items t ≡ None → Holds (state_of c) actor (RefOf t) → ⊥
+none_ref c actor t sound has is holds = let r = reads_ref c actor t sound has holds in let e = r.1 in cc
+
+-- a whole range, byte by byte
+pub raw_same : (c : Tables) (actor start len : ℕ) → actor < c.actors →
+    ((b : ℕ) → start ≤ b → b < start + len → get_or c.holders.items b None ≡ Some actor) ↔ HoldsRaw (state_of c) actor start len
+raw_same c actor start len has =
+  (λ all b low high. raw_read c actor b has (all b low high), λ holds b low high. reads_raw c actor b has (holds b low high))

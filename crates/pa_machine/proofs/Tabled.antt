@@ -207,19 +207,19 @@ sum_at f d (x ∷ xs) (suc k) z h =
   omega arith
 
 -- an entry whose title is another one counts for nothing of this one
-place_none : (actor actors i : ℕ) (p : Place) (t : Title) → IsPlaced actors i p → (i ≡ t.start / 8 → ⊥) → IsNoneOf (place_pieces actor p) t
-place_none actor actors i None t placed ne = nil_none t
-place_none actor actors i (Some b) t placed ne =
+place_none : (actor words actors i : ℕ) (p : Place) (t : Title) → IsPlaced words actors i p → (i ≡ t.start / 8 → ⊥) → IsNoneOf (place_pieces actor p) t
+place_none actor words actors i None t placed ne = nil_none t
+place_none actor words actors i (Some b) t placed ne =
   let e = placed.0 in
   slot_none actor b.value t (λ same. let s = ap (λ (x : Title). x.start) same in ne (omega arith))
 
 -- so what an actor holds of a title is read off one place
-pub slots_at : (actor actors : ℕ) (slots : List Place) (t : Title) (x : Thing) → ((i : ℕ) → IsPlaced actors i (get_or slots i None)) →
+pub slots_at : (actor words actors : ℕ) (slots : List Place) (t : Title) (x : Thing) → ((i : ℕ) → IsPlaced words actors i (get_or slots i None)) →
     ((ps : List Piece) → IsNoneOf ps t → held_in ps x ≡ 0) →
     sum_by (λ p. held_in (place_pieces actor p) x) slots ≡ held_in (place_pieces actor (get_or slots (t.start / 8) None)) x
-slots_at actor actors slots t x placed about =
+slots_at actor words actors slots t x placed about =
   sum_at (λ p. held_in (place_pieces actor p) x) None slots (t.start / 8) refl
-    (λ i ne. about (place_pieces actor (get_or slots i None)) (place_none actor actors i (get_or slots i None) t (placed i) ne))
+    (λ i ne. about (place_pieces actor (get_or slots i None)) (place_none actor words actors i (get_or slots i None) t (placed i) ne))
 
 -- what the entry at a place counts for a title
 pub kept_amount : (actor : ℕ) (p : Place) (t : Title) (x : Thing) → ((ps : List Piece) → IsNoneOf ps t → held_in ps x ≡ 0) →

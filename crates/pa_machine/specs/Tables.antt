@@ -1,5 +1,5 @@
 -- What the core's tables say: the state that they stand for, and what is always true of them.
-use Rattle.std.specs.Prelude.{◌≡◌, ℕ, ◌+◌, ◌*◌, ◌/◌, ◌<◌, ◌≤◌, List, [], ◌∷◌, ◌++◌, Bool, true, false, ◌==◌, ◌&&◌, Option, Some, None, length, map, slice_index, if◌then◌else◌}
+use Rattle.std.specs.Prelude.{◌≡◌, ℕ, ◌+◌, ◌*◌, ◌/◌, ◌<◌, ◌≤◌, List, [], ◌∷◌, ◌++◌, Bool, true, false, ◌==◌, ◌&&◌, nat_le, nat_lt, Option, Some, None, length, map, slice_index, if◌then◌else◌}
 use Rattle.std.specs.List.{slice_index_or, range_with_len, flat_map}
 use Rattle.std.specs.Prelude.{Box}
 use Rattle.std.specs.Global.{Global}
@@ -7,7 +7,7 @@ use Rattle.pa_machine.specs.declared.title.Title.{Title}
 use Rattle.pa_machine.specs.declared.slot.Owner.{Owner}
 use Rattle.pa_machine.specs.declared.slot.Slot.{Slot}
 use Rattle.pa_machine.specs.declared.tables.Tables.{Tables}
-use Rattle.pa_machine.specs.Titles.{same_title, count_place}
+use Rattle.pa_machine.specs.Titles.{same_title, count_place, IsWellFormed}
 use Rattle.pa_machine.specs.Holdings.{Piece, RawPiece, FreePiece, OwnPiece, RefPiece, IsTitleHeld}
 use Rattle.pa_machine.specs.Good.{IsGood}
 use Rattle.pa_machine.specs.Events.{State, total_of}
@@ -69,10 +69,19 @@ abbrev pub IsOwnerWithin : ℕ → Option Owner → Type 0
 IsOwnerWithin actors None = Unit {0}
 IsOwnerWithin actors (Some owner) = owner.actor < actors
 
--- an entry stands at its title's first word
-abbrev pub IsPlaced : ℕ → ℕ → Place → Type 0
-IsPlaced actors i None = Unit {0}
-IsPlaced actors i (Some b) = (b.value.title.start ≡ 8 * i) × IsOwnerWithin actors b.value.own
+-- in a region of so many words, an entry stands at the first word of its title, which is well formed
+abbrev pub IsPlaced : ℕ → ℕ → ℕ → Place → Type 0
+IsPlaced words actors i None = Unit {0}
+IsPlaced words actors i (Some b) =
+    (b.value.title.start ≡ 8 * i) × IsWellFormed words b.value.title × IsOwnerWithin actors b.value.own
+
+-- the entry that the table of homes names for the byte offset `at`, where its title covers the byte
+abbrev pub kept_over : ℕ → Place → Option Slot
+kept_over at None = None
+kept_over at (Some b) = if nat_le b.value.title.start at && nat_lt at (b.value.title.start + b.value.title.len) then Some b.value else None
+
+abbrev pub slot_over : List ℕ → List Place → ℕ → Option Slot
+slot_over homes slots at = kept_over at (slice_index_or slots (slice_index homes (at / 8)) None)
 
 -- What is always true of the tables: their lengths, where an entry stands, where the words of a held title point, and
 -- that the state is good.
@@ -80,7 +89,7 @@ pub record IsSound (c : Tables) : Type 0 where
   pub holders : length c.holders.items ≡ 8 * length c.words.items
   pub slots : length c.slots.items ≡ length c.words.items
   pub homes : length c.homes.items ≡ length c.words.items
-  pub placed : (i : ℕ) → IsPlaced c.actors i (slice_index_or c.slots.items i None)
+  pub placed : (i : ℕ) → IsPlaced (length c.words.items) c.actors i (slice_index_or c.slots.items i None)
   pub pointed : (t : Title) (q : ℕ) → IsTitleHeld (total_of (state_of c)) t → t.start / 8 ≤ q → q ≤ count_place t →
       slice_index c.homes.items q ≡ t.start / 8
   pub good : IsGood c.words.items (total_of (state_of c))

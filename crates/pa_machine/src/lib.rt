@@ -5,6 +5,7 @@
 //! the allocator still holds the slot, how many `raw_ptr`s point to it, and how many steps were made so far.
 #![tactic(auto)]
 
+mod enabled;
 mod event;
 mod fault;
 mod slot;
