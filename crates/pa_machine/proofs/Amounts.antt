@@ -28,23 +28,26 @@ state_here t a = rw (title_self t, state_self a) refl
 
 pub state_apart : (t : Title) (a b : OwnState) → (a ≡ b → ⊥) → held_in (OwnPiece t a ∷ []) (OwnAs t b) ≡ 0
 state_apart t a b ne = elim (state_tells a b) [
-    inl y ↦ absurd (ne y.1)
-  | inr n ↦ rw (title_self t, n.0) refl ]
+  | inl y ↦ absurd (ne y.1)
+  | inr n ↦ rw (title_self t, n.0) refl
+]
 
 -- what a step that leaves the word w gives back: the title where bit and count are 0, else nothing
 pub returned_cases : (w : ℕ) (t : Title) →
     (IsFree w × (returned_at w t ≡ FreePiece t ∷ [])) ⊎ ((IsFree w → ⊥) × (returned_at w t ≡ []))
 returned_cases w t = elim (eqb_tells (held_of w) 0) [
-    inl h ↦ elim (eqb_tells (refs_of w) 0) [
-        inl c ↦ inl ((h.1, c.1), rw (h.0, c.0) refl)
-      | inr n ↦ inr (λ f. n.1 f.1, rw (h.0, n.0) refl) ]
-  | inr n ↦ inr (λ f. n.1 f.0, rw n.0 refl) ]
+  | inl h ↦ elim (eqb_tells (refs_of w) 0) [
+    | inl c ↦ inl ((h.1, c.1), rw (h.0, c.0) refl)
+    | inr n ↦ inr (λ f. n.1 f.1, rw (h.0, n.0) refl)
+  ]
+  | inr n ↦ inr (λ f. n.1 f.0, rw n.0 refl)
+]
 
 -- a count word that was written, and the content words beside it
 pub word_written : (words : List ℕ) (t : Title) (v : ℕ) → IsWellFormed (length words) t → count_word (set words (count_place t) v) t ≡ v
 word_written words t v well =
-  let a = well.len_aligned in let b = well.long in let c = well.inside in let d = well.start_aligned in
-  get_or-set_same words (count_place t) v 0 (omega arith)
+    let a = well.len_aligned in let b = well.long in let c = well.inside in let d = well.start_aligned in
+    get_or-set_same words (count_place t) v 0 (omega arith)
 
 pub content_unwritten : (words : List ℕ) (t : Title) (v i : ℕ) → i < content_count t → content_at (set words (count_place t) v) t i ≡ content_at words t i
 content_unwritten words t v i below = get_or-set_other words (count_place t) (content_place t i) v 0 (λ e. omega arith)
@@ -52,8 +55,8 @@ content_unwritten words t v i below = get_or-set_other words (count_place t) (co
 -- a content word that was written, the other ones, and the count word beside them
 pub content_written : (words : List ℕ) (t : Title) (v i : ℕ) → IsWellFormed (length words) t → i < content_count t → content_at (set words (content_place t i) v) t i ≡ v
 content_written words t v i well below =
-  let a = well.len_aligned in let b = well.long in let c = well.inside in let d = well.start_aligned in
-  get_or-set_same words (content_place t i) v 0 (omega arith)
+    let a = well.len_aligned in let b = well.long in let c = well.inside in let d = well.start_aligned in
+    get_or-set_same words (content_place t i) v 0 (omega arith)
 
 pub content_other : (words : List ℕ) (t : Title) (v i k : ℕ) → (k ≡ i → ⊥) → content_at (set words (content_place t i) v) t k ≡ content_at words t k
 content_other words t v i k ne = get_or-set_other words (content_place t i) (content_place t k) v 0 (λ e. ne (omega arith))

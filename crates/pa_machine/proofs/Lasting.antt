@@ -11,9 +11,12 @@ use Rattle.pa_machine.proofs.Noting.{keeps_content}
 
 pub lasts : (s : State) (es : List Event) (ss : List State) (last : Title → ℕ) → IsGoodState s → KeepsContent s last → Played s es ss → Lasts s es ss last
 lasts s [] [] last g k p = (g, k)
-lasts s (e ∷ es) (after ∷ ss) last g k p =
-  (g, k, only_returns e s after g p.0 p.1,
-    lasts after es ss (noted e after last) (happens_good e s after g p.0 p.1) (keeps_content e s after last g p.0 p.1 k) p.2)
+lasts s (e ∷ es) (after ∷ ss) last g k p = (
+  g,
+  k,
+  only_returns e s after g p.0 p.1,
+  lasts after es ss (noted e after last) (happens_good e s after g p.0 p.1) (keeps_content e s after last g p.0 p.1 k) p.2,
+)
 lasts s [] (after ∷ ss) last g k p = p
 lasts s (e ∷ es) [] last g k p = p
 

@@ -12,7 +12,7 @@ title_with a b c = record { start = a; len = b; born = c }
 
 title_is : (t u : Title) → t.start ≡ u.start → t.len ≡ u.len → t.born ≡ u.born → t ≡ u
 title_is t u e f g =
-  ap (λ a. title_with a t.len t.born) e ∙ (ap (λ b. title_with u.start b t.born) f ∙ ap (λ c. title_with u.start u.len c) g)
+    ap (λ a. title_with a t.len t.born) e ∙ (ap (λ b. title_with u.start b t.born) f ∙ ap (λ c. title_with u.start u.len c) g)
 
 title_tells_by : (t u : Title) (a b c : Bool) → same_title t u ≡ (a && (b && c)) →
     ((a ≡ true) × (t.start ≡ u.start)) ⊎ ((a ≡ false) × (t.start ≡ u.start → ⊥)) →
@@ -27,7 +27,7 @@ title_tells_by t u a b c e (inl y) (inl z) (inl w) = inl (rw (e, y.0, z.0, w.0) 
 -- the test is true exactly where the titles are one
 pub title_tells : (t u : Title) → ((same_title t u ≡ true) × (t ≡ u)) ⊎ ((same_title t u ≡ false) × (t ≡ u → ⊥))
 title_tells t u =
-  title_tells_by t u (eqb t.start u.start) (eqb t.len u.len) (eqb t.born u.born) refl
+    title_tells_by t u (eqb t.start u.start) (eqb t.len u.len) (eqb t.born u.born) refl
     (eqb_tells t.start u.start) (eqb_tells t.len u.len) (eqb_tells t.born u.born)
 
 pub state_tells : (a b : OwnState) → ((same_state a b ≡ true) × (a ≡ b)) ⊎ ((same_state a b ≡ false) × (a ≡ b → ⊥))
@@ -40,12 +40,12 @@ state_tells Dirty (Poisoned k) = inr (refl, λ e. cc)
 state_tells (Poisoned j) Clean = inr (refl, λ e. cc)
 state_tells (Poisoned j) Dirty = inr (refl, λ e. cc)
 state_tells (Poisoned j) (Poisoned k) =
-  elim (eqb_tells j k) [ inl y ↦ inl (y.0, ap Poisoned y.1) | inr n ↦ inr (n.0, λ e. n.1 cc) ]
+    elim (eqb_tells j k) [ inl y ↦ inl (y.0, ap Poisoned y.1) | inr n ↦ inr (n.0, λ e. n.1 cc) ]
 
 -- the tests as numbers
 pub title_one : (t u : Title) → ((one (same_title t u) ≡ 1) × (t ≡ u)) ⊎ ((one (same_title t u) ≡ 0) × (t ≡ u → ⊥))
 title_one t u =
-  elim (title_tells t u) [ inl y ↦ inl (ap one y.0, y.1) | inr n ↦ inr (ap one n.0, n.1) ]
+    elim (title_tells t u) [ inl y ↦ inl (ap one y.0, y.1) | inr n ↦ inr (ap one n.0, n.1) ]
 
 pub title_self : (t : Title) → same_title t t ≡ true
 title_self t = elim (title_tells t t) [ inl y ↦ y.0 | inr n ↦ absurd (n.1 refl) ]

@@ -25,24 +25,26 @@ pub record IsRestated (total later : Thing → ℕ) (t : Title) (from to : OwnSt
 pub restated : (total later : Thing → ℕ) (t : Title) (from to : OwnState) → 0 < total (OwnAs t from) →
     Changes total (OwnPiece t from ∷ []) (OwnPiece t to ∷ []) later → IsRestated total later t from to
 restated total later t from to has c =
-  let free = c (FreeTitle t) in
-  let own = c (OwnOf t) in
-  let ref = c (RefOf t) in
-  let in_state = c (OwnAs t to) in
-  let o1 = own_self t from in
-  let o2 = own_self t to in
-  let m = state_here t to in
-  let lost : held_in (OwnPiece t from ∷ []) (OwnAs t to) ≤ total (OwnAs t to) = elim (state_tells from to) [
-      inl y ↦ rw (y.1, state_here t to) (rw y.1 at has)
-    | inr n ↦ rw (state_apart t from to n.1) (omega arith) ] in
-  record { free = omega arith; own = omega arith; ref = omega arith; now = omega arith }
+    let free = c (FreeTitle t) in
+    let own = c (OwnOf t) in
+    let ref = c (RefOf t) in
+    let in_state = c (OwnAs t to) in
+    let o1 = own_self t from in
+    let o2 = own_self t to in
+    let m = state_here t to in
+    let lost : held_in (OwnPiece t from ∷ []) (OwnAs t to) ≤ total (OwnAs t to) = elim (state_tells from to) [
+      | inl y ↦ rw (y.1, state_here t to) (rw y.1 at has)
+      | inr n ↦ rw (state_apart t from to n.1) (omega arith)
+    ] in
+    record { free = omega arith; own = omega arith; ref = omega arith; now = omega arith }
 
 -- with at most one Own, a state that one has is the state
 pub one_state : (later : Thing → ℕ) (t : Title) (a b : OwnState) → IsTally later → later (OwnOf t) ≤ 1 →
     0 < later (OwnAs t a) → 0 < later (OwnAs t b) → a ≡ b
 one_state later t a b tallied few x y = elim (state_tells a b) [
-    inl e ↦ e.1
-  | inr n ↦ let two = tallied.two t a b n.1 in absurd (omega arith) ]
+  | inl e ↦ e.1
+  | inr n ↦ let two = tallied.two t a b n.1 in absurd (omega arith)
+]
 
 -- the count word and its numbers are as before
 same_counted : (words after : List ℕ) (total later : Thing → ℕ) (t : Title) → IsCounted (count_word words t) total t →
@@ -60,51 +62,52 @@ pub store_own_good : (words after : List ℕ) (total later : Thing → ℕ) (t :
     IsTally total → IsTally later → count_word after t ≡ count_word words t → 0 < total (OwnAs t state) →
     refs_of (count_word words t) ≡ 0 → Changes total (OwnPiece t state ∷ []) (OwnPiece t Dirty ∷ []) later → IsTitleGood after later t
 store_own_good words after total later t state g tally tallied w has none c =
-  let r = restated total later t state Dirty has c in
-  let own = r.own in
-  let owns = g.counted.owns in
-  let small = held_small (count_word words t) in
-  let now = r.now in
-  let part = tally.part t state in
-  let few : later (OwnOf t) ≤ 1 = omega arith in
-  record {
-    counted = same_counted words after total later t g.counted w r.free r.own r.ref;
-    poison_kept = record {
-      progress = λ j h. let e = one_state later t Dirty (Poisoned j) tallied few now h in cc;
-      quarantine = λ q. let z = (rw w at q).0 in absurd (omega arith);
-    };
-    content_kept = record {
-      clean = λ h. let e = one_state later t Dirty Clean tallied few now h in cc;
-      shared = λ other many _. let z = rw w at many in absurd (omega arith);
-    };
-  }
+    let r = restated total later t state Dirty has c in
+    let own = r.own in
+    let owns = g.counted.owns in
+    let small = held_small (count_word words t) in
+    let now = r.now in
+    let part = tally.part t state in
+    let few : later (OwnOf t) ≤ 1 = omega arith in
+    record {
+      counted = same_counted words after total later t g.counted w r.free r.own r.ref;
+      poison_kept = record {
+        progress = λ j h. let e = one_state later t Dirty (Poisoned j) tallied few now h in cc;
+        quarantine = λ q. let z = (rw w at q).0 in absurd (omega arith);
+      };
+      content_kept = record {
+        clean = λ h. let e = one_state later t Dirty Clean tallied few now h in cc;
+        shared = λ other many _. let z = rw w at many in absurd (omega arith);
+      };
+    }
 
 -- a store to a content word of a free title
 pub store_free_good : (words after : List ℕ) (total later : Thing → ℕ) (t : Title) → IsTitleGood words total t →
     IsTally later → count_word after t ≡ count_word words t → 0 < total (FreeTitle t) →
     ((x : Thing) → later x ≡ total x) → IsTitleGood after later t
 store_free_good words after total later t g tallied w has same =
-  let free = same (FreeTitle t) in
-  let own = same (OwnOf t) in
-  let ref = same (RefOf t) in
-  let is_free : IsFree (count_word words t) = elim (free_or (count_word words t)) [
-      inl y ↦ y
-    | inr n ↦ let e = g.counted.taken n in absurd (omega arith) ] in
-  let owns = g.counted.owns in
-  let h = is_free.0 in
-  let k = is_free.1 in
-  let none : later (OwnOf t) ≡ 0 = omega arith in
-  record {
-    counted = same_counted words after total later t g.counted w free own ref;
-    poison_kept = record {
-      progress = λ j m. let p = tallied.part t (Poisoned j) in absurd (omega arith);
-      quarantine = λ q. let z = (rw w at q).1 in absurd (omega arith);
-    };
-    content_kept = record {
-      clean = λ m. let p = tallied.part t Clean in absurd (omega arith);
-      shared = λ other many m. let p = tallied.part t other in absurd (omega arith);
-    };
-  }
+    let free = same (FreeTitle t) in
+    let own = same (OwnOf t) in
+    let ref = same (RefOf t) in
+    let is_free : IsFree (count_word words t) = elim (free_or (count_word words t)) [
+      | inl y ↦ y
+      | inr n ↦ let e = g.counted.taken n in absurd (omega arith)
+    ] in
+    let owns = g.counted.owns in
+    let h = is_free.0 in
+    let k = is_free.1 in
+    let none : later (OwnOf t) ≡ 0 = omega arith in
+    record {
+      counted = same_counted words after total later t g.counted w free own ref;
+      poison_kept = record {
+        progress = λ j m. let p = tallied.part t (Poisoned j) in absurd (omega arith);
+        quarantine = λ q. let z = (rw w at q).1 in absurd (omega arith);
+      };
+      content_kept = record {
+        clean = λ m. let p = tallied.part t Clean in absurd (omega arith);
+        shared = λ other many m. let p = tallied.part t other in absurd (omega arith);
+      };
+    }
 
 -- the words with the title's content word p poisoned
 pub record IsWrittenContent (words after : List ℕ) (t : Title) (p v : ℕ) : Type 0 where
@@ -115,8 +118,9 @@ pub record IsWrittenContent (words after : List ℕ) (t : Title) (p v : ℕ) : T
 -- the words below the new progress are poison
 poisoned_more : (words after : List ℕ) (t : Title) (p : ℕ) → IsWrittenContent words after t p poison → IsPoisonedTo words t p → IsPoisonedTo after t (p + 1)
 poisoned_more words after t p w h i below = elim (cases_eq i p) [
-    inl e ↦ rw e w.here
-  | inr n ↦ w.others i n ∙ h i (omega arith) ]
+  | inl e ↦ rw e w.here
+  | inr n ↦ w.others i n ∙ h i (omega arith)
+]
 
 -- the words from the new progress on are as before
 left_more : (words after : List ℕ) (t : Title) (p j value : ℕ) → IsWrittenContent words after t p poison → j ≤ p + 1 → HasContentFrom words t j value → HasContentFrom after t (p + 1) value
@@ -133,39 +137,41 @@ pub shared_so_far : (words : List ℕ) (total : Thing → ℕ) (t : Title) (stat
     0 < refs_of (count_word words t) → 0 < total (OwnAs t state) → (value : ℕ) × HasContentFrom words t (progress state) value
 shared_so_far words total t Clean g many has = g.content_kept.clean has
 shared_so_far words total t Dirty g many has = elim (g.content_kept.shared Dirty many has) [
-    inl e ↦ cc
-  | inr p ↦ let e = p.1 in cc ]
+  | inl e ↦ cc
+  | inr p ↦ let e = p.1 in cc
+]
 shared_so_far words total t (Poisoned j) g many has = elim (g.content_kept.shared (Poisoned j) many has) [
-    inl e ↦ cc
-  | inr p ↦ let e = p.1 in let f : j ≡ p.0 = cc in (p.2, rw f p.3) ]
+  | inl e ↦ cc
+  | inr p ↦ let e = p.1 in let f : j ≡ p.0 = cc in (p.2, rw f p.3)
+]
 
 pub poison_good : (words after : List ℕ) (total later : Thing → ℕ) (t : Title) (state : OwnState) → IsTitleGood words total t →
     IsTally total → IsTally later → IsWrittenContent words after t (progress state) poison → progress state < content_count t →
     0 < total (OwnAs t state) →
     Changes total (OwnPiece t state ∷ []) (OwnPiece t (Poisoned (progress state + 1)) ∷ []) later → IsTitleGood after later t
 poison_good words after total later t state g tally tallied w room has c =
-  let next = Poisoned (progress state + 1) in
-  let r = restated total later t state next has c in
-  let own = r.own in
-  let owns = g.counted.owns in
-  let small = held_small (count_word words t) in
-  let now = r.now in
-  let part = tally.part t state in
-  let few : later (OwnOf t) ≤ 1 = omega arith in
-  record {
-    counted = same_counted words after total later t g.counted w.word r.free r.own r.ref;
-    poison_kept = record {
-      progress = λ j h.
-        let e = one_state later t next (Poisoned j) tallied few now h in
-        let f : progress state + 1 ≡ j = cc in
-        (omega arith, rw (← f) (poisoned_more words after t (progress state) w (poisoned_so_far words total t state g has)));
-      quarantine = λ q. let z = (rw w.word at q).0 in absurd (omega arith);
-    };
-    content_kept = record {
-      clean = λ h. let e = one_state later t next Clean tallied few now h in cc;
-      shared = λ other many h.
-        let e = one_state later t other next tallied few h now in
-        let value = shared_so_far words total t state g (rw w.word at many) has in
-        inr (progress state + 1, e, value.0, left_more words after t (progress state) (progress state) value.0 w (omega arith) value.1);
-    };
-  }
+    let next = Poisoned (progress state + 1) in
+    let r = restated total later t state next has c in
+    let own = r.own in
+    let owns = g.counted.owns in
+    let small = held_small (count_word words t) in
+    let now = r.now in
+    let part = tally.part t state in
+    let few : later (OwnOf t) ≤ 1 = omega arith in
+    record {
+      counted = same_counted words after total later t g.counted w.word r.free r.own r.ref;
+      poison_kept = record {
+        progress = λ j h.
+            let e = one_state later t next (Poisoned j) tallied few now h in
+            let f : progress state + 1 ≡ j = cc in
+            (omega arith, rw (← f) (poisoned_more words after t (progress state) w (poisoned_so_far words total t state g has)));
+        quarantine = λ q. let z = (rw w.word at q).0 in absurd (omega arith);
+      };
+      content_kept = record {
+        clean = λ h. let e = one_state later t next Clean tallied few now h in cc;
+        shared = λ other many h.
+            let e = one_state later t other next tallied few h now in
+            let value = shared_so_far words total t state g (rw w.word at many) has in
+            inr (progress state + 1, e, value.0, left_more words after t (progress state) (progress state) value.0 w (omega arith) value.1);
+      };
+    }

@@ -101,8 +101,8 @@ abbrev pub Exchanges : List (List Piece) → (ℕ → List Piece) → (ℕ → L
 Exchanges before lost gained after =
     (length after ≡ length before) ×
     ((actor : ℕ) (x : Thing) → actor < length before →
-      held_in (slice_index_or after actor []) x + held_in (lost actor) x
-        ≡ held_in (slice_index_or before actor []) x + held_in (gained actor) x)
+    held_in (slice_index_or after actor []) x + held_in (lost actor) x
+    ≡ held_in (slice_index_or before actor []) x + held_in (gained actor) x)
 
 -- one actor loses and gains these pieces, and the words become these
 pub record IsAfter (s : State) (actor : ℕ) (lost gained : List Piece) (words_after : List ℕ) (after : State) : Type 0 where
@@ -125,7 +125,7 @@ Counts Reset s actor t after =
     IsAfter s actor (RefPiece t ∷ []) (returned_at (stepped Reset (count_word s.words t)) t) (words_stepped Reset s t) after
 Counts Free s actor t after =
     IsAfter s actor (OwnPiece t (Poisoned (content_count t)) ∷ [])
-      (returned_at (stepped Free (count_word s.words t)) t) (words_stepped Free s t) after
+    (returned_at (stepped Free (count_word s.words t)) t) (words_stepped Free s t) after
 Counts Write s actor t after =
     (state : OwnState) × HoldsOpen s actor t state ×
     IsAfter s actor (OwnPiece t state ∷ []) (OwnPiece t Clean ∷ []) (words_stepped Write s t) after
@@ -143,11 +143,11 @@ Happens (Count actor t step) s after = Counts step s actor t after
 Happens (Store actor at value) s after =
     (((IsRawWord s actor at ⊎ IsFreeWord s actor at) × IsAfter s actor [] [] (slice_set s.words (at / 8) value) after))
     ⊎ ((t : Title) × (state : OwnState) × IsOwnWord s actor at t state ×
-      IsAfter s actor (OwnPiece t state ∷ []) (OwnPiece t Dirty ∷ []) (slice_set s.words (at / 8) value) after)
+    IsAfter s actor (OwnPiece t state ∷ []) (OwnPiece t Dirty ∷ []) (slice_set s.words (at / 8) value) after)
 Happens (Poison actor t) s after =
     (state : OwnState) × Holds s actor (OwnAs t state) ×
     IsAfter s actor (OwnPiece t state ∷ []) (OwnPiece t (Poisoned (progress state + 1)) ∷ [])
-      (slice_set s.words (content_place t (progress state)) poison) after
+    (slice_set s.words (content_place t (progress state)) poison) after
 Happens (Load actor at) s after = after ≡ s
 Happens (Hand from to item) s after =
     (after.words ≡ s.words) ×

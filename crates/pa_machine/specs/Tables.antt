@@ -1,16 +1,18 @@
 -- What the core's tables say: the state that they stand for, and what is always true of them.
-use Rattle.std.specs.Prelude.{◌≡◌, ℕ, ◌+◌, ◌*◌, ◌/◌, ◌<◌, ◌≤◌, List, [], ◌∷◌, ◌++◌, Bool, true, false, ◌==◌, ◌&&◌, nat_le, nat_lt, Option, Some, None, length, map, slice_index, if◌then◌else◌}
+use Rattle.std.specs.Prelude.{◌≡◌, ℕ, ◌+◌, ◌*◌, ◌/◌, ◌%◌, ◌<◌, ◌≤◌, List, [], ◌∷◌, ◌++◌, Bool, true, false, ◌==◌, ◌&&◌, ◌⊎◌, Contains, nat_le, nat_lt, Option, Some, None, length, map, slice_index, if◌then◌else◌}
 use Rattle.std.specs.List.{slice_index_or, range_with_len, flat_map}
 use Rattle.std.specs.Prelude.{Box}
 use Rattle.std.specs.Global.{Global}
 use Rattle.pa_machine.specs.declared.title.Title.{Title}
+use Rattle.pa_machine.specs.declared.title.OwnState.{OwnState}
+use Rattle.pa_machine.specs.Count.{refs_of}
 use Rattle.pa_machine.specs.declared.slot.Owner.{Owner}
 use Rattle.pa_machine.specs.declared.slot.Slot.{Slot}
 use Rattle.pa_machine.specs.declared.tables.Tables.{Tables}
-use Rattle.pa_machine.specs.Titles.{same_title, count_place, IsWellFormed}
-use Rattle.pa_machine.specs.Holdings.{Piece, RawPiece, FreePiece, OwnPiece, RefPiece, IsTitleHeld}
+use Rattle.pa_machine.specs.Titles.{same_title, count_place, count_word, content_count, progress, IsWellFormed}
+use Rattle.pa_machine.specs.Holdings.{Piece, RawPiece, FreePiece, OwnPiece, RefPiece, FreeTitle, OwnAs, IsTitleHeld}
 use Rattle.pa_machine.specs.Good.{IsGood}
-use Rattle.pa_machine.specs.Events.{State, total_of}
+use Rattle.pa_machine.specs.Events.{State, total_of, Holds, HoldsRaw, HoldsOpen, IsFreeWord, IsOwnWord}
 
 -- an entry of the table of titles
 abbrev pub Place : Type 0
@@ -68,6 +70,35 @@ slot_at slots t = kept_as t (slice_index_or slots (t.start / 8) None)
 abbrev pub IsOwnerWithin : ℕ → Option Owner → Type 0
 IsOwnerWithin actors None = Unit {0}
 IsOwnerWithin actors (Some owner) = owner.actor < actors
+
+-- the actor holds an entry's title in some way; it owns it, with content words left to poison
+abbrev pub IsHeldBy : Slot → ℕ → Type 0
+IsHeldBy o actor =
+    (o.free ≡ Some actor)
+    ⊎ (((state : OwnState) × (o.own ≡ Some (record { actor = actor; state = state }))) ⊎ Contains o.refs.items actor)
+
+abbrev pub CanPoison : Slot → ℕ → Type 0
+CanPoison o actor =
+    (state : OwnState) × (o.own ≡ Some (record { actor = actor; state = state })) × (progress state < content_count o.title)
+
+-- the actor has an Own of the title with content words left to poison
+abbrev pub MayPoison : State → ℕ → Title → Type 0
+MayPoison s actor t = (state : OwnState) × Holds s actor (OwnAs t state) × (progress state < content_count t)
+
+-- the actor holds a title's bytes as raw, in which it may be cut out
+abbrev pub MayCut : State → ℕ → Title → Type 0
+MayCut s actor t =
+    HoldsRaw s actor t.start t.len ×
+    (t.start % 8 ≡ 0) × (t.len % 8 ≡ 0) × (16 ≤ t.len) × (count_word s.words t ≡ 0)
+
+-- the actor may write the title's content; the word at the byte offset `at` is a content word that it may write
+abbrev pub MayChange : State → ℕ → Title → Type 0
+MayChange s actor t =
+    Holds s actor (FreeTitle t) ⊎ (((state : OwnState) × HoldsOpen s actor t state) × (refs_of (count_word s.words t) ≡ 0))
+
+abbrev pub MayWrite : State → ℕ → ℕ → Type 0
+MayWrite s actor at =
+    IsFreeWord s actor at ⊎ ((t : Title) × (state : OwnState) × IsOwnWord s actor at t state)
 
 -- in a region of so many words, an entry stands at the first word of its title, which is well formed
 abbrev pub IsPlaced : ℕ → ℕ → ℕ → Place → Type 0

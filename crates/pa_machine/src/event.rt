@@ -14,19 +14,43 @@ pub enum Item {
 #[derive(Clone, Copy, Debug, PartialEq, Eq)]
 pub enum Event {
     /// A step on the title's count word.
-    Count { actor: u32, title: Title, step: Step },
+    Count {
+        actor: u32,
+        title: Title,
+        step: Step,
+    },
     /// A write to a raw word or to a content word.
-    Store { actor: u32, at: u32, value: u64 },
+    Store {
+        actor: u32,
+        at: u32,
+        value: u64,
+    },
     /// The next content word of an Own becomes poison.
-    Poison { actor: u32, title: Title },
+    Poison {
+        actor: u32,
+        title: Title,
+    },
     /// A read.
-    Load { actor: u32, at: u32 },
+    Load {
+        actor: u32,
+        at: u32,
+    },
     /// An item moves from one actor to another.
-    Hand { from: u32, to: u32, item: Item },
+    Hand {
+        from: u32,
+        to: u32,
+        item: Item,
+    },
     /// Raw bytes become a free title.
-    Cut { actor: u32, title: Title },
+    Cut {
+        actor: u32,
+        title: Title,
+    },
     /// A free title becomes raw bytes again.
-    Uncut { actor: u32, title: Title },
+    Uncut {
+        actor: u32,
+        title: Title,
+    },
 }
 
 /// Why an event didn't happen: its condition fails, or there was no memory for what it gives.

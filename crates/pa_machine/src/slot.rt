@@ -1,6 +1,5 @@
-ghost use Rattle.std.specs.Prelude.{◌≡◌, ℕ, ◌+◌, ◌-◌, ◌<◌, ◌↔◌, ◌++◌, ◌∷◌, [], IsTrue, Some, None, Contains, OnOk, OnErr};
-
-use std::alloc::AllocError;
+ghost use Rattle.std.specs.Prelude.{◌≡◌, ℕ, ◌+◌, ◌-◌, ◌<◌, ◌↔◌, ◌++◌, ◌∷◌, [], IsTrue, Some, None, Contains, OnOk, OnErr, ◌⊎◌};
+ghost use Rattle.pa_machine.specs.Tables.{IsHeldBy, CanPoison};
 
 use crate::title::{OwnState, Title};
 
@@ -37,5 +36,32 @@ impl Slot {
         ensures { IsTrue result ↔ Contains self.now.refs.items actor }
     {
         self.refs.contains(&actor)
+    }
+
+    // Whether the actor holds the title in any way.
+    pub fn is_held_by(&self, actor: u32) -> bool
+        ensures { IsTrue result ↔ IsHeldBy self.now actor }
+    {
+        self.is_free_of(actor) || self.is_own_of(actor) || self.has_ref_of(actor)
+    }
+
+    fn is_own_of(&self, actor: u32) -> bool
+        ensures { IsTrue result ↔ ((state : OwnState) × (self.now.own ≡ Some (record { actor = actor; state = state }))) }
+    {
+        match self.own {
+            Some(owner) => owner.actor == actor,
+            None => false,
+        }
+    }
+
+    // Whether the actor is the owner and has content words left to poison.
+    pub fn can_poison(&self, actor: u32) -> bool
+        ensures { IsTrue result ↔ CanPoison self.now actor }
+    {
+        match self.own {
+            Some(owner) => owner.actor == actor
+                && owner.state.progress() < self.title.content_words(),
+            None => false,
+        }
     }
 }

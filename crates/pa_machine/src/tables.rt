@@ -2,7 +2,7 @@ ghost use Rattle.std.specs.Prelude.{◌≡◌, ℕ, ◌+◌, ◌-◌, ◌*◌, �
 ghost use Rattle.std.specs.List.{slice_index_or};
 ghost use Rattle.pa_machine.specs.Titles.{IsWellFormed, count_word, HasContentFrom, IsUniform};
 ghost use Rattle.pa_machine.specs.Holdings.{FreeTitle, OwnAs, RefOf};
-ghost use Rattle.pa_machine.specs.Events.{Holds, HoldsRaw};
+ghost use Rattle.pa_machine.specs.Events.{HasActor, Holds, HoldsRaw};
 ghost use Rattle.pa_machine.specs.Tables.{IsSound, state_of, slot_at, slot_over};
 
 use crate::slot::Slot;
@@ -21,6 +21,12 @@ pub struct Tables {
 }
 
 impl Tables {
+    pub fn has_actor(&self, actor: u32) -> bool
+        ensures { IsTrue result ↔ HasActor (state_of self.now) actor }
+    {
+        actor < self.actors
+    }
+
     // The title's entry, if some actor holds the title.
     pub fn slot_of(&self, title: Title) -> Option<&Slot>
         ensures { option_copied result ≡ slot_at self.now.slots.items title }
@@ -40,19 +46,23 @@ impl Tables {
         ensures { option_copied result ≡ slot_over self.now.homes.items self.now.slots.items at }
     {
         let word = at as usize / 8;
-        let home = if word < self.homes.len() { self.homes[word] as usize } else { 0 };
+        let home = if word < self.homes.len() {
+            self.homes[word] as usize
+        } else {
+            0
+        };
         if home >= self.slots.len() {
             return None;
         }
         match &self.slots[home] {
-            Some(slot) if slot.title.start <= at && at - slot.title.start < slot.title.len => Some(slot),
+            Some(slot) if slot.title.covers(at) => Some(slot),
             _ => None,
         }
     }
 
     // Whether the actor holds the range as raw, byte by byte.
     pub fn holds_raw(&self, actor: u32, start: u32, len: u32) -> bool
-        requires { actor < self.now.actors }
+        requires { HasActor (state_of self.now) actor }
         ensures { IsTrue result ↔ HoldsRaw (state_of self.now) actor start len }
     {
         let from = start as usize;
@@ -77,7 +87,7 @@ impl Tables {
 
     pub fn holds_free(&self, actor: u32, title: Title) -> bool
         requires sound { IsSound self.now }
-        requires actor { actor < self.now.actors }
+        requires actor { HasActor (state_of self.now) actor }
         ensures { IsTrue result ↔ Holds (state_of self.now) actor (FreeTitle title) }
     {
         match self.slot_of(title) {
@@ -88,7 +98,7 @@ impl Tables {
 
     pub fn holds_own(&self, actor: u32, title: Title, state: OwnState) -> bool
         requires sound { IsSound self.now }
-        requires actor { actor < self.now.actors }
+        requires actor { HasActor (state_of self.now) actor }
         ensures { IsTrue result ↔ Holds (state_of self.now) actor (OwnAs title state) }
     {
         match self.slot_of(title) {
@@ -99,7 +109,7 @@ impl Tables {
 
     pub fn holds_ref(&self, actor: u32, title: Title) -> bool
         requires sound { IsSound self.now }
-        requires actor { actor < self.now.actors }
+        requires actor { HasActor (state_of self.now) actor }
         ensures { IsTrue result ↔ Holds (state_of self.now) actor (RefOf title) }
     {
         match self.slot_of(title) {

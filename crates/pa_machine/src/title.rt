@@ -1,5 +1,5 @@
-ghost use Rattle.std.specs.Prelude.{◌≡◌, ℕ, ◌+◌, ◌/◌, ◌≤◌};
-ghost use Rattle.pa_machine.specs.Titles.{content_count, count_place, progress};
+ghost use Rattle.std.specs.Prelude.{◌≡◌, ℕ, ◌+◌, ◌/◌, ◌≤◌, ◌<◌, ◌↔◌, IsTrue};
+ghost use Rattle.pa_machine.specs.Titles.{content_count, count_place, progress, Covers, IsContentOf};
 
 /// A title: the bytes `start` to `start + len - 1` as one slot, its last 8 bytes the count word and those before it
 /// the content words. `born` tells apart titles that use the same bytes one after the other.
@@ -19,17 +19,28 @@ impl Title {
     }
 
     pub(crate) fn content_words(self) -> u32
-        requires { 16 ≤ self.len }
         ensures { result ≡ content_count self }
     {
-        self.len / 8 - 1
+        (self.len / 8).saturating_sub(1)
     }
 
     pub(crate) fn count_place(self) -> usize
-        requires { 16 ≤ self.len }
         ensures { result ≡ count_place self }
     {
         self.first_word() + self.content_words() as usize
+    }
+
+    // Whether the byte lies in the title, and whether the word there is one of its content words.
+    pub(crate) fn covers(self, at: u32) -> bool
+        ensures { IsTrue result ↔ Covers self at }
+    {
+        self.start <= at && at - self.start < self.len
+    }
+
+    pub(crate) fn has_content(self, at: u32) -> bool
+        ensures { IsTrue result ↔ IsContentOf self at }
+    {
+        self.start <= at && u64::from(at - self.start) + 8 < u64::from(self.len)
     }
 }
 
