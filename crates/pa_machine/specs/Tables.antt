@@ -1,10 +1,13 @@
 -- What the core's tables say: the state that they stand for, and what is always true of them.
 use Rattle.std.specs.Prelude.{◌≡◌, ℕ, ◌+◌, ◌*◌, ◌/◌, ◌%◌, ◌<◌, ◌≤◌, List, [], ◌∷◌, ◌++◌, Bool, true, false, ◌==◌, ◌&&◌, ◌⊎◌, Contains, nat_le, nat_lt, Option, Some, None, length, map, slice_index, if◌then◌else◌}
-use Rattle.std.specs.List.{slice_index_or, range_with_len, flat_map}
+use Rattle.std.specs.List.{slice_index_or, range_with_len, flat_map, swap_remove}
 use Rattle.std.specs.Prelude.{Box}
 use Rattle.std.specs.Global.{Global}
 use Rattle.pa_machine.specs.declared.title.Title.{Title}
 use Rattle.pa_machine.specs.declared.title.OwnState.{OwnState}
+use Rattle.pa_machine.specs.declared.title.OwnState.TheVariants.{Clean, Dirty, Poisoned}
+use Rattle.pa_machine.specs.declared.word.Step.{Step}
+use Rattle.pa_machine.specs.declared.word.Step.TheVariants.{Issue, Copy, Reset, Free, Write}
 use Rattle.pa_machine.specs.Count.{refs_of}
 use Rattle.pa_machine.specs.declared.slot.Owner.{Owner}
 use Rattle.pa_machine.specs.declared.slot.Slot.{Slot}
@@ -66,7 +69,11 @@ kept_as t (Some b) = if same_title b.value.title t then Some b.value else None
 abbrev pub slot_at : List Place → Title → Option Slot
 slot_at slots t = kept_as t (slice_index_or slots (t.start / 8) None)
 
--- an owner is one of the actors
+-- a free title's holder and an owner are among the actors
+abbrev pub IsHolderWithin : ℕ → Option ℕ → Type 0
+IsHolderWithin actors None = Unit {0}
+IsHolderWithin actors (Some actor) = actor < actors
+
 abbrev pub IsOwnerWithin : ℕ → Option Owner → Type 0
 IsOwnerWithin actors None = Unit {0}
 IsOwnerWithin actors (Some owner) = owner.actor < actors
@@ -104,7 +111,7 @@ MayWrite s actor at =
 abbrev pub IsPlaced : ℕ → ℕ → ℕ → Place → Type 0
 IsPlaced words actors i None = Unit {0}
 IsPlaced words actors i (Some b) =
-    (b.value.title.start ≡ 8 * i) × IsWellFormed words b.value.title × IsOwnerWithin actors b.value.own
+    (b.value.title.start ≡ 8 * i) × IsWellFormed words b.value.title × IsHolderWithin actors b.value.free × IsOwnerWithin actors b.value.own
 
 -- the entry that the table of homes names for the byte offset `at`, where its title covers the byte
 abbrev pub kept_over : ℕ → Place → Option Slot
@@ -124,3 +131,24 @@ pub record IsSound (c : Tables) : Type 0 where
   pub pointed : (t : Title) (q : ℕ) → IsTitleHeld (total_of (state_of c)) t → t.start / 8 ≤ q → q ≤ count_place t →
       slice_index c.homes.items q ≡ t.start / 8
   pub good : IsGood c.words.items (total_of (state_of c))
+
+-- an entry after another, of the same title
+pub record IsNextSlot (old new : Slot) (free : Option ℕ) (own : Option Owner) (refs : List ℕ) : Type 0 where
+  pub title : new.title ≡ old.title
+  pub is_free : new.free ≡ free
+  pub is_own : new.own ≡ own
+  pub is_refs : new.refs.items ≡ refs
+
+-- the entry is as before
+abbrev pub IsSameSlot : Slot → Slot → Type 0
+IsSameSlot old new = IsNextSlot old new old.free old.own old.refs.items
+
+-- how an entry changes by a step of the actor on the count word, which gives the title back or not
+abbrev pub IsSlotStepped : Step → ℕ → Bool → Slot → Slot → Type 0
+IsSlotStepped Issue actor back old new = IsNextSlot old new None (Some (record { actor = actor; state = Clean })) old.refs.items
+IsSlotStepped Copy actor back old new = IsNextSlot old new old.free old.own (old.refs.items ++ actor ∷ [])
+IsSlotStepped Reset actor back old new =
+    (k : ℕ) × (k < length old.refs.items) × (slice_index old.refs.items k ≡ actor) ×
+    IsNextSlot old new (if back then Some actor else old.free) old.own (swap_remove old.refs.items k 0)
+IsSlotStepped Free actor back old new = IsNextSlot old new (if back then Some actor else old.free) None old.refs.items
+IsSlotStepped Write actor back old new = IsNextSlot old new old.free (Some (record { actor = actor; state = Clean })) old.refs.items

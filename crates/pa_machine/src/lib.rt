@@ -8,6 +8,7 @@
 mod enabled;
 mod event;
 mod fault;
+mod rows;
 mod slot;
 mod tables;
 mod title;
