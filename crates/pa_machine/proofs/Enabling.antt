@@ -42,7 +42,8 @@ well_own c actor t s sound h = sound.good.divided.well t (held_own c actor t s h
 pub well_ref : (c : Tables) (actor : ℕ) (t : Title) → IsSound c → Holds (state_of c) actor (RefOf t) → IsWellFormed (length c.words.items) t
 well_ref c actor t sound h = sound.good.divided.well t (held_ref c actor t h)
 
-none_some : (o : Slot) → None ≡ Some o → ⊥
+-- nothing is no entry
+pub none_some : (o : Slot) → None ≡ Some o → ⊥
 none_some o e = cc
 
 -- an actor of the state is one of the tables

@@ -23,7 +23,7 @@ use Rattle.pa_machine.proofs.Cutting.{cut_unheld}
 use Rattle.pa_machine.proofs.Happening.{after_changes, in_total}
 
 -- nobody holds a title free that is held as an Own or a Ref
-not_free : (s : State) (t : Title) → IsGoodState s → 0 < total_of s (OwnOf t) + total_of s (RefOf t) → total_of s (FreeTitle t) ≡ 0
+pub not_free : (s : State) (t : Title) → IsGoodState s → 0 < total_of s (OwnOf t) + total_of s (RefOf t) → total_of s (FreeTitle t) ≡ 0
 not_free s t g held =
     let counted = g.counted t (omega arith) in
     elim (free_or (count_word s.words t)) [

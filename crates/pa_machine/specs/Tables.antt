@@ -1,5 +1,5 @@
 -- What the core's tables say: the state that they stand for, and what is always true of them.
-use Rattle.std.specs.Prelude.{◌≡◌, ℕ, ◌+◌, ◌*◌, ◌/◌, ◌%◌, ◌<◌, ◌≤◌, List, [], ◌∷◌, ◌++◌, Bool, true, false, ◌==◌, ◌&&◌, ◌⊎◌, Contains, nat_le, nat_lt, Option, Some, None, length, map, slice_index, if◌then◌else◌}
+use Rattle.std.specs.Prelude.{◌≡◌, ℕ, ◌+◌, ◌*◌, ◌/◌, ◌%◌, ◌<◌, ◌≤◌, List, [], ◌∷◌, ◌++◌, Bool, true, false, ◌==◌, ◌&&◌, ◌⊎◌, Contains, nat_le, nat_lt, Option, Some, None, length, map, slice_index, slice_set, if◌then◌else◌}
 use Rattle.std.specs.List.{slice_index_or, range_with_len, flat_map, swap_remove}
 use Rattle.std.specs.Prelude.{Box}
 use Rattle.std.specs.Global.{Global}
@@ -152,3 +152,12 @@ IsSlotStepped Reset actor back old new =
     IsNextSlot old new (if back then Some actor else old.free) old.own (swap_remove old.refs.items k 0)
 IsSlotStepped Free actor back old new = IsNextSlot old new (if back then Some actor else old.free) None old.refs.items
 IsSlotStepped Write actor back old new = IsNextSlot old new old.free (Some (record { actor = actor; state = Clean })) old.refs.items
+
+-- in a table of titles, the entry at a place becomes another
+abbrev pub IsChangedAt : (Slot → Slot → Type 0) → List Place → ℕ → List Place → Type 0
+IsChangedAt R before p after =
+    (old : Box Slot Global) × (new : Box Slot Global) × (slice_index_or before p None ≡ Some old) × (after ≡ slice_set before p (Some new)) × R old.value new.value
+
+-- there is an entry at the place, of which this holds
+abbrev pub IsEntryAt : (Slot → Type 0) → List Place → ℕ → Type 0
+IsEntryAt P slots p = (b : Box Slot Global) × (slice_index_or slots p None ≡ Some b) × P b.value

@@ -5,10 +5,10 @@
 //! the allocator still holds the slot, how many `raw_ptr`s point to it, and how many steps were made so far.
 #![tactic(auto)]
 
+mod changes;
 mod enabled;
 mod event;
 mod fault;
-mod rows;
 mod slot;
 mod tables;
 mod title;

@@ -77,7 +77,10 @@ impl Slot {
         match step {
             Step::Issue => {
                 self.free = None;
-                self.own = Some(Owner { actor, state: OwnState::Clean });
+                self.own = Some(Owner {
+                    actor,
+                    state: OwnState::Clean,
+                });
             }
             Step::Copy => self.refs.push(actor)?,
             Step::Reset => {
@@ -88,7 +91,10 @@ impl Slot {
                 self.own = None;
                 self.give_back(actor, back);
             }
-            Step::Write => self.own = Some(Owner { actor, state: OwnState::Clean }),
+            Step::Write => self.own = Some(Owner {
+                actor,
+                state: OwnState::Clean,
+            }),
         }
         Ok(())
     }
