@@ -232,3 +232,12 @@ well_raw c actor t sound raw start len long =
         | inr past ↦ let z = sound.good.divided.outside (t.start + t.len - 1) past in absurd (omega arith)
       ];
     }
+
+-- a range of raw bytes that isn't empty lies in the region
+pub raw_inside : (c : Tables) (actor start len : ℕ) → IsSound c → 0 < len → HoldsRaw (state_of c) actor start len → start + len ≤ 8 * length c.words.items
+raw_inside c actor start len sound some_byte raw =
+    let last = in_total (state_of c) actor (RawByte (start + len - 1)) (raw (start + len - 1) (omega arith) (omega arith)) in
+    elim (cases_lt (start + len - 1) (8 * length c.words.items)) [
+      | inl below ↦ omega arith
+      | inr past ↦ let z = sound.good.divided.outside (start + len - 1) past in absurd (omega arith)
+    ]

@@ -35,7 +35,8 @@ slot_parts actor o x =
     let k = held_join (own_pieces actor o.title o.own) (ref_pieces actor o.title o.refs.items) x in
     omega arith
 
-refs_zero : (actor : ℕ) (t : Title) (rs : List ℕ) (x : Thing) → held_in (RefPiece t ∷ []) x ≡ 0 → held_in (ref_pieces actor t rs) x ≡ 0
+-- Refs count for nothing that a Ref isn't
+pub refs_zero : (actor : ℕ) (t : Title) (rs : List ℕ) (x : Thing) → held_in (RefPiece t ∷ []) x ≡ 0 → held_in (ref_pieces actor t rs) x ≡ 0
 refs_zero actor t [] x h = refl
 refs_zero actor t (r ∷ rs) x h = by_test (eqb r actor) (refs_zero actor t rs x h)
   where

@@ -67,7 +67,7 @@ entry_ref c k t b sound has h was =
     (ap (λ (o : Slot). o.title) e ∙ r.2, subst (λ (o : Slot). Contains o.refs.items k) (sym e) r.3, r.1 ∙ ap Some (sym e))
 
 -- an entry in its place says nothing that the state doesn't
-placed_at : (c : Tables) (t : Title) (b : Box Slot Global) → IsSound c → get_or c.slots.items (t.start / 8) None ≡ Some b → IsPlaced (length c.words.items) c.actors (t.start / 8) (Some b)
+pub placed_at : (c : Tables) (t : Title) (b : Box Slot Global) → IsSound c → get_or c.slots.items (t.start / 8) None ≡ Some b → IsPlaced (length c.words.items) c.actors (t.start / 8) (Some b)
 placed_at c t b sound was = subst (λ (q : Place). IsPlaced (length c.words.items) c.actors (t.start / 8) q) was (sound.placed (t.start / 8))
 
 no_holder : (c : Tables) (t : Title) (b : Box Slot Global) → IsSound c → slot_at c.slots.items t ≡ Some b.value → total_of (state_of c) (FreeTitle t) ≡ 0 →
@@ -78,7 +78,7 @@ no_holder c t b sound is none (Some w) e within =
     let p = in_total (state_of c) w (FreeTitle t) holds in
     absurd (omega arith)
 
-no_owner : (c : Tables) (t : Title) (b : Box Slot Global) → IsSound c → slot_at c.slots.items t ≡ Some b.value → total_of (state_of c) (OwnOf t) ≡ 0 →
+pub no_owner : (c : Tables) (t : Title) (b : Box Slot Global) → IsSound c → slot_at c.slots.items t ≡ Some b.value → total_of (state_of c) (OwnOf t) ≡ 0 →
     (h : Option Owner) → b.value.own ≡ h → IsOwnerWithin c.actors h → b.value.own ≡ None
 no_owner c t b sound is none None e within = e
 no_owner c t b sound is none (Some w) e within =

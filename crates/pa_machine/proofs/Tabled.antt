@@ -211,7 +211,7 @@ sum_at f d (x ∷ xs) (suc k) z h =
     omega arith
 
 -- an entry whose title is another one counts for nothing of this one
-place_none : (actor words actors i : ℕ) (p : Place) (t : Title) → IsPlaced words actors i p → (i ≡ t.start / 8 → ⊥) → IsNoneOf (place_pieces actor p) t
+pub place_none : (actor words actors i : ℕ) (p : Place) (t : Title) → IsPlaced words actors i p → (i ≡ t.start / 8 → ⊥) → IsNoneOf (place_pieces actor p) t
 place_none actor words actors i None t placed ne = nil_none t
 place_none actor words actors i (Some b) t placed ne =
     let e = placed.0 in

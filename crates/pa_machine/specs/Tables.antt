@@ -161,3 +161,9 @@ IsChangedAt R before p after =
 -- there is an entry at the place, of which this holds
 abbrev pub IsEntryAt : (Slot → Type 0) → List Place → ℕ → Type 0
 IsEntryAt P slots p = (b : Box Slot Global) × (slice_index_or slots p None ≡ Some b) × P b.value
+
+-- the places from `start` to before `end` have this value, and the others are as before
+pub record IsFilled {A : Type 0} (d : A) (before : List A) (start end : ℕ) (value : A) (after : List A) : Type 0 where
+  pub len : length after ≡ length before
+  pub within : (i : ℕ) → start ≤ i → i < end → slice_index_or after i d ≡ value
+  pub outside : (i : ℕ) → (i < start) ⊎ (end ≤ i) → slice_index_or after i d ≡ slice_index_or before i d

@@ -9,6 +9,7 @@ mod changes;
 mod enabled;
 mod event;
 mod fault;
+mod machine;
 mod slot;
 mod tables;
 mod title;
@@ -16,5 +17,6 @@ mod word;
 
 pub use event::{Event, Item, StepFault};
 pub use fault::OutOfMemory;
+pub use machine::Core;
 pub use title::{OwnState, Title};
 pub use word::{SlotName, Step, Word, apply, held, number, refs};

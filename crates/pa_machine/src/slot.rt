@@ -1,10 +1,12 @@
-ghost use Rattle.std.specs.Prelude.{◌≡◌, ℕ, ◌<◌, ◌↔◌, ◌⊎◌, ◌++◌, ◌∷◌, [], IsTrue, Some, None, Contains, OnOk, OnErr, length, slice_index, slice_set, if◌then◌else◌};
+ghost use Rattle.std.specs.Prelude.{◌≡◌, ℕ, ◌<◌, ◌/◌, ◌↔◌, ◌⊎◌, ◌++◌, ◌∷◌, [], IsTrue, Some, None, IfSome, IfNone, Contains, OnOk, OnErr, length, slice_index, slice_set, if◌then◌else◌};
 ghost use Rattle.std.specs.List.{swap_remove};
+ghost use Rattle.pa_machine.specs.Titles.{progress};
 ghost use Rattle.pa_machine.specs.Tables.{IsHeldBy, CanPoison, IsSameSlot, IsNextSlot, IsSlotStepped};
 
 use crate::fault::OutOfMemory;
 use crate::title::{OwnState, Title};
 use crate::word::Step;
+use std::alloc::Global;
 
 /// Who has the Own handle of a title, and how it left the content.
 #[derive(Clone, Copy, Debug, PartialEq, Eq)]
@@ -23,6 +25,43 @@ pub struct Slot {
 }
 
 impl Slot {
+    // A title that was just cut out by the actor.
+    pub fn cut_out(alloc: Global, actor: u32, title: Title) -> Slot
+        ensures title { result.title ≡ title }
+        ensures free { result.free ≡ Some actor }
+        ensures own { result.own ≡ None }
+        ensures refs { result.refs.items ≡ [] }
+    {
+        Slot {
+            title,
+            free: Some(actor),
+            own: None,
+            refs: Vec::new(alloc),
+        }
+    }
+
+    // How many content words the owner has poisoned so far.
+    pub fn progress(&self) -> u32
+        ensures { (w : Owner) → self.now.own ≡ Some w → result ≡ progress w.state }
+    {
+        match self.own {
+            Some(owner) => owner.state.progress(),
+            None => 0,
+        }
+    }
+
+    // Where the title starts, if the actor has its Own.
+    pub fn own_place(&self, actor: u32) -> Option<usize>
+        ensures some { IfSome result (λ p. (s : OwnState) × (self.now.own ≡ Some (record { actor = actor; state = s })) × (p ≡ self.now.title.start / 8)) }
+        ensures none { IfNone result ((s : OwnState) → self.now.own ≡ Some (record { actor = actor; state = s }) → ⊥) }
+    {
+        if self.is_own_of(actor) {
+            Some(self.title.first_word())
+        } else {
+            None
+        }
+    }
+
     pub fn is_free_of(&self, actor: u32) -> bool
         ensures { IsTrue result ↔ (self.now.free ≡ Some actor) }
     {

@@ -8,6 +8,7 @@ ghost use Rattle.pa_machine.specs.Tables.{IsSound, state_of, slot_at, slot_over}
 use crate::slot::Slot;
 use crate::title::{OwnState, Title};
 use crate::word::Word;
+use std::alloc::Global;
 
 /// The core as it is kept: the words; of each byte the actor that holds it raw; of each word the title that starts
 /// there; and of each word the first word of the held title that it lies in.
@@ -18,6 +19,7 @@ pub struct Tables {
     pub slots: Vec<Option<Box<Slot>>>,
     pub homes: Vec<u32>,
     pub actors: u32,
+    pub alloc: Global,
 }
 
 impl Tables {
