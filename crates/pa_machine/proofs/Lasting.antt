@@ -1,10 +1,12 @@
 -- The central law: along every run of enabled events the core stays good, each content is the one of its last Issue or
 -- Write, and a title becomes free by a returning step alone.
-use Rattle.std.proofs.Common.{◌≡◌, ℕ, ◌+◌, List, [], ◌∷◌, ◌++◌, refl, sym, ◌∙◌}
+use Rattle.std.proofs.Common.{◌≡◌, ℕ, ◌+◌, Some, List, [], ◌∷◌, ◌++◌, refl, sym, ◌∙◌}
 use Rattle.pa_machine.specs.declared.title.Title.{Title}
+use Rattle.pa_machine.specs.declared.event.StepFault.{StepFault}
+use Rattle.pa_machine.specs.declared.event.StepFault.TheVariants.{NotEnabled, OutOfMemory}
 use Rattle.pa_machine.specs.declared.event.Event.{Event}
 use Rattle.pa_machine.specs.Events.{State, IsEnabled, Happens}
-use Rattle.pa_machine.specs.Trail.{Played, end_of, IsGoodState, KeepsContent, noted, Lasts}
+use Rattle.pa_machine.specs.Trail.{Played, end_of, IsGoodState, KeepsContent, noted, Lasts, IsRunTo, IsRefusedFor}
 use Rattle.pa_machine.proofs.Happening.{happens_good}
 use Rattle.pa_machine.proofs.Returning.{only_returns}
 use Rattle.pa_machine.proofs.Noting.{keeps_content}
@@ -31,3 +33,23 @@ played_more s (d ∷ es) [] e after p can h = absurd p
 pub end_more : (s : State) (ss : List State) (after : State) → end_of s (ss ++ after ∷ []) ≡ after
 end_more s [] after = refl
 end_more s (next ∷ ss) after = end_more next ss after
+
+-- no event is a run from a good state to itself
+pub run_start : (s : State) → IsGoodState s → IsRunTo s [] s
+run_start s good = record { states = []; played = tt; ends = refl; lasts = λ last k. (good, k) }
+
+-- and one more event makes a longer run
+pub run_more : (s mid after : State) (es : List Event) (e : Event) → IsGoodState s → IsRunTo s es mid → IsEnabled e mid → Happens e mid after → IsRunTo s (es ++ e ∷ []) after
+run_more s mid after es e good r can h =
+    let played = played_more s es r.states e after r.played (rw (← r.ends) can) (rw (← r.ends) h) in
+    record {
+      states = r.states ++ after ∷ [];
+      played = played;
+      ends = sym (end_more s r.states after);
+      lasts = λ last k. lasts s (es ++ e ∷ []) (r.states ++ after ∷ []) last good k played;
+    }
+
+-- what a refusal says of the event
+pub refused_at : (fault : StepFault) (e : Event) (s : State) → (fault ≡ NotEnabled → IsEnabled e s → ⊥) → (fault ≡ OutOfMemory → IsEnabled e s) → IsRefusedFor fault (Some e) s
+refused_at NotEnabled e s never always = never refl
+refused_at OutOfMemory e s never always = always refl

@@ -1,5 +1,5 @@
 -- What the core's tables say: the state that they stand for, and what is always true of them.
-use Rattle.std.specs.Prelude.{◌≡◌, ℕ, ◌+◌, ◌*◌, ◌/◌, ◌%◌, ◌<◌, ◌≤◌, List, [], ◌∷◌, ◌++◌, Bool, true, false, ◌==◌, ◌&&◌, ◌⊎◌, Contains, nat_le, nat_lt, Option, Some, None, length, map, slice_index, slice_set, if◌then◌else◌}
+use Rattle.std.specs.Prelude.{◌≡◌, ℕ, ◌+◌, ◌*◌, ◌/◌, ◌%◌, ◌<◌, ◌≤◌, List, [], ◌∷◌, ◌++◌, Bool, true, false, ◌==◌, ◌&&◌, ◌⊎◌, Contains, nat_le, nat_lt, Option, Some, None, length, map, slice_index, slice_set, replicate, if◌then◌else◌}
 use Rattle.std.specs.List.{slice_index_or, range_with_len, flat_map, swap_remove}
 use Rattle.std.specs.Prelude.{Box}
 use Rattle.std.specs.Global.{Global}
@@ -167,3 +167,11 @@ pub record IsFilled {A : Type 0} (d : A) (before : List A) (start end : ℕ) (va
   pub len : length after ≡ length before
   pub within : (i : ℕ) → start ≤ i → i < end → slice_index_or after i d ≡ value
   pub outside : (i : ℕ) → (i < start) ⊎ (end ≤ i) → slice_index_or after i d ≡ slice_index_or before i d
+
+-- the tables at the start
+pub record IsStartTables (bytes actors : ℕ) (c : Tables) : Type 0 where
+  pub words : c.words.items ≡ replicate (bytes / 8) 0
+  pub holders : c.holders.items ≡ replicate bytes (Some 0)
+  pub slots : c.slots.items ≡ replicate (bytes / 8) None
+  pub homes : c.homes.items ≡ replicate (bytes / 8) 0
+  pub count : c.actors ≡ actors

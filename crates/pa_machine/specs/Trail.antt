@@ -1,5 +1,5 @@
 -- Whole runs of the core, and what holds along each of them.
-use Rattle.std.specs.Prelude.{◌≡◌, ℕ, ◌+◌, ◌<◌, ◌≤◌, ◌⊎◌, List, [], ◌∷◌, Bool, true, false, length, if◌then◌else◌}
+use Rattle.std.specs.Prelude.{◌≡◌, ℕ, ◌+◌, ◌<◌, ◌≤◌, ◌⊎◌, List, [], ◌∷◌, Bool, true, false, Option, Some, None, if◌then◌else◌}
 use Rattle.pa_machine.specs.declared.word.Step.{Step}
 use Rattle.pa_machine.specs.declared.word.Step.TheVariants.{Issue, Copy, Reset, Free, Write}
 use Rattle.pa_machine.specs.declared.title.Title.{Title}
@@ -7,6 +7,8 @@ use Rattle.pa_machine.specs.declared.title.OwnState.{OwnState}
 use Rattle.pa_machine.specs.declared.title.OwnState.TheVariants.{Clean, Dirty, Poisoned}
 use Rattle.pa_machine.specs.declared.event.Event.{Event}
 use Rattle.pa_machine.specs.declared.event.Event.TheVariants.{Count, Store, Poison, Load, Hand, Cut, Uncut}
+use Rattle.pa_machine.specs.declared.event.StepFault.{StepFault}
+use Rattle.pa_machine.specs.declared.event.StepFault.TheVariants.{NotEnabled, OutOfMemory}
 use Rattle.pa_machine.specs.Run.{IsReturning}
 use Rattle.pa_machine.specs.Titles.{content_at, count_word, HasContentFrom, same_title}
 use Rattle.pa_machine.specs.Holdings.{Thing, FreeTitle, OwnOf, OwnAs, RefOf}
@@ -70,3 +72,18 @@ Lasts s (e ∷ es) (after ∷ ss) last =
     IsGoodState s × KeepsContent s last × OnlyReturns e s after × Lasts after es ss (noted e after last)
 Lasts s [] (after ∷ ss) last = ⊥
 Lasts s (e ∷ es) [] last = ⊥
+
+-- The events were enabled one after the other from the state `before`, and left the state `after`; and along them the
+-- core was good, each content was the one of its last Issue or Write, and a title became free by a returning step alone.
+pub record IsRunTo (before : State) (events : List Event) (after : State) : Type 0 where
+  pub states : List State
+  pub played : Played before events states
+  pub ends : after ≡ end_of before states
+  pub lasts : (last : Title → ℕ) → KeepsContent before last → Lasts before events states last
+
+-- why an event was refused at a state: its condition fails there; or it holds there, and there was no memory
+abbrev pub IsRefusedFor : StepFault → Option Event → State → Type 0
+IsRefusedFor NotEnabled None s = ⊥
+IsRefusedFor OutOfMemory None s = ⊥
+IsRefusedFor NotEnabled (Some e) s = IsEnabled e s → ⊥
+IsRefusedFor OutOfMemory (Some e) s = IsEnabled e s

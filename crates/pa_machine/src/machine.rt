@@ -1,7 +1,7 @@
-ghost use Rattle.std.specs.Prelude.{◌≡◌, ◌≢◌, ℕ, ◌+◌, ◌*◌, ◌/◌, ◌%◌, ◌^◌, ◌<◌, ◌≤◌, ◌↔◌, IsTrue, Ok, Err, OnOk, OnErr, IfOk, IfErr, length, slice_index, List, take};
+ghost use Rattle.std.specs.Prelude.{◌≡◌, ◌≢◌, ℕ, ◌+◌, ◌*◌, ◌/◌, ◌%◌, ◌^◌, ◌<◌, ◌≤◌, ◌↔◌, IsTrue, Ok, Err, OnOk, OnErr, IfOk, IfErr, length, slice_index, slice_get, take};
 ghost use Rattle.pa_machine.specs.declared.title.Title.{Title as TitleOf};
 ghost use Rattle.pa_machine.specs.Events.{State, IsEnabled, Happens, IsStart};
-ghost use Rattle.pa_machine.specs.Trail.{IsGoodState, KeepsContent, OnlyReturns, noted, Played, end_of, Lasts};
+ghost use Rattle.pa_machine.specs.Trail.{IsGoodState, KeepsContent, OnlyReturns, noted, IsRunTo, IsRefusedFor};
 
 use crate::event::{Event, StepFault};
 use crate::fault::OutOfMemory;
@@ -56,4 +56,39 @@ impl Core {
     {
         self.tables.words[at as usize / 8]
     }
+
+    /// A core of `bytes` bytes, all of whose words are 0, with actors from 0; actor 0 holds every byte as raw.
+    pub fn new(alloc: Global, bytes: u32, actors: u32) -> Result<Core, OutOfMemory>
+        requires whole { bytes % 8 ≡ 0 }
+        requires some_actor { 1 ≤ actors }
+        ensures start { IfOk result (λ c. IsStart bytes actors c) }
+        ensures good { IfOk result (λ c. IsGoodState c) }
+        ensures content { IfOk result (λ c. (last : TitleOf → ℕ) → KeepsContent c last) }
+    {
+        let tables = Tables::new(alloc, bytes, actors)?;
+        Ok(Core { tables })
+    }
+}
+
+/// Plays the events in order. At a refusal the number is the event's index, and the events before it stand.
+pub fn core_run(core: &mut Core, events: &[Event]) -> Result<(), (u32, StepFault)>
+    requires { length events.now < 2 ^ 32 }
+    ensures done { OnOk result (IsRunTo core.old events.now core.new) }
+    ensures refused { IfErr result (λ e. (e.0 < length events.now) × IsRunTo core.old (take e.0 events.now) core.new × IsRefusedFor e.1 (slice_get events.now e.0) core.new) }
+    ensures good { IsGoodState core.new }
+{
+    known_good(core);
+    for (index, event) in events.iter().enumerate() {
+        if let Err(fault) = core.step(event) {
+            return Err((index as u32, fault));
+        }
+    }
+    Ok(())
+}
+
+// Every core is good.
+fn known_good(core: &Core)
+    ensures { IsGoodState core.now }
+{
+    let _ = &core.tables;
 }

@@ -1,10 +1,11 @@
-ghost use Rattle.std.specs.Prelude.{◌≡◌, ℕ, ◌+◌, ◌-◌, ◌*◌, ◌/◌, ◌<◌, ◌≤◌, ◌↔◌, ◌⊎◌, IsTrue, Some, None, length, option_copied};
+ghost use Rattle.std.specs.Prelude.{◌≡◌, ℕ, ◌+◌, ◌-◌, ◌*◌, ◌/◌, ◌<◌, ◌≤◌, ◌%◌, ◌↔◌, ◌⊎◌, IsTrue, Some, None, length, option_copied, IfOk, replicate};
 ghost use Rattle.std.specs.List.{slice_index_or};
 ghost use Rattle.pa_machine.specs.Titles.{IsWellFormed, count_word, HasContentFrom, IsUniform};
 ghost use Rattle.pa_machine.specs.Holdings.{FreeTitle, OwnAs, RefOf};
 ghost use Rattle.pa_machine.specs.Events.{HasActor, Holds, HoldsRaw};
-ghost use Rattle.pa_machine.specs.Tables.{IsSound, state_of, slot_at, slot_over};
+ghost use Rattle.pa_machine.specs.Tables.{IsSound, IsStartTables, state_of, slot_at, slot_over};
 
+use crate::fault::OutOfMemory;
 use crate::slot::Slot;
 use crate::title::{OwnState, Title};
 use crate::word::Word;
@@ -23,6 +24,23 @@ pub struct Tables {
 }
 
 impl Tables {
+    // Words of 0, and every byte raw for actor 0.
+    pub fn new(alloc: Global, bytes: u32, actors: u32) -> Result<Tables, OutOfMemory>
+        requires whole { bytes % 8 ≡ 0 }
+        requires some_actor { 1 ≤ actors }
+        ensures start { IfOk result (λ c. IsStartTables bytes actors c) }
+    {
+        let count = bytes as usize / 8;
+        Ok(Tables {
+            words: vec![in alloc; 0; count]?,
+            holders: vec![in alloc; Some(0); bytes as usize]?,
+            slots: no_slots(alloc, count)?,
+            homes: vec![in alloc; 0; count]?,
+            actors,
+            alloc,
+        })
+    }
+
     pub fn has_actor(&self, actor: u32) -> bool
         ensures { IsTrue result ↔ HasActor (state_of self.now) actor }
     {
@@ -149,4 +167,15 @@ impl Tables {
     {
         self.content_is(title, self.words[title.first_word()])
     }
+}
+
+// A table of so many places with no title.
+fn no_slots(alloc: Global, count: usize) -> Result<Vec<Option<Box<Slot>>>, OutOfMemory>
+    ensures { IfOk result (λ v. v.items ≡ replicate count None) }
+{
+    let mut slots = Vec::with_capacity(alloc, count)?;
+    for _ in 0..count {
+        slots.push(None)?;
+    }
+    Ok(slots)
 }
