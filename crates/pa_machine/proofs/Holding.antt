@@ -1,5 +1,6 @@
 -- A title that is held after an event was held before it, unless the event cut it out.
-use Rattle.std.proofs.Common.{◌≡◌, ℕ, ◌+◌, ◌<◌, ◌≤◌, List, [], ◌∷◌, Option, Some, None, refl, sym, ◌∙◌, ap, subst, arith, ◌⊎◌, inl, inr}
+use Rattle.std.proofs.Common.{◌≡◌, ℕ, ◌+◌, ◌<◌, ◌≤◌, List, [], ◌∷◌, length, Option, Some, None, refl, sym, ◌∙◌, ap, subst, arith, ◌⊎◌, inl, inr}
+use Rattle.std.proofs.lemmas.List.{length-set}
 use Rattle.pa_machine.specs.declared.word.Step.{Step}
 use Rattle.pa_machine.specs.declared.word.Step.TheVariants.{Issue, Copy, Reset, Free, Write}
 use Rattle.pa_machine.specs.declared.title.Title.{Title}
@@ -10,7 +11,7 @@ use Rattle.pa_machine.specs.declared.event.Event.TheVariants.{Count, Store, Pois
 use Rattle.pa_machine.specs.Count.{stepped}
 use Rattle.pa_machine.specs.Titles.{content_count, count_word}
 use Rattle.pa_machine.specs.Holdings.{Piece, RawPiece, FreePiece, OwnPiece, RefPiece, Thing, FreeTitle, OwnOf, OwnAs, RefOf, IsTitleHeld, held_in}
-use Rattle.pa_machine.specs.Events.{State, HasActor, IsEnabled, Happens, IsAfter, total_of, piece_of, HoldsOpen, Holds}
+use Rattle.pa_machine.specs.Events.{State, HasActor, IsEnabled, Happens, IsAfter, IsSameShape, total_of, piece_of, HoldsOpen, Holds}
 use Rattle.pa_machine.proofs.Same.{title_tells}
 use Rattle.pa_machine.proofs.Totals.{total_exchanged, tally_of}
 use Rattle.pa_machine.proofs.Parts.{Changes, IsNoneOf, nil_none, free_none, own_none, ref_none, raw_none}
@@ -78,3 +79,21 @@ held_back (Cut actor t) s after can h u held = elim (title_tells t u) [
 ]
 held_back (Uncut actor t) s after can h u held =
     inl (gained_back (total_of s) (total_of after) (FreePiece t ∷ []) (RawPiece t.start t.len ∷ []) u (after_changes s after actor _ _ _ can.0 h) (raw_none t.start t.len u) held)
+
+-- no event changes how many words and actors there are
+after_shape : (s after : State) (actor : ℕ) (lost gained : List Piece) (words : List ℕ) → IsAfter s actor lost gained words after → length words ≡ length s.words → IsSameShape s after
+after_shape s after actor lost gained words h e = (ap length h.words ∙ e, h.holdings.0)
+
+pub same_shape : (e : Event) (s after : State) → Happens e s after → IsSameShape s after
+same_shape (Count actor t Issue) s after h = after_shape s after actor _ _ _ h (length-set s.words _ _)
+same_shape (Count actor t Copy) s after h = after_shape s after actor _ _ _ h (length-set s.words _ _)
+same_shape (Count actor t Reset) s after h = after_shape s after actor _ _ _ h (length-set s.words _ _)
+same_shape (Count actor t Free) s after h = after_shape s after actor _ _ _ h (length-set s.words _ _)
+same_shape (Count actor t Write) s after h = after_shape s after actor _ _ _ h.2 (length-set s.words _ _)
+same_shape (Store actor at_byte value) s after (inl plain) = after_shape s after actor _ _ _ plain.1 (length-set s.words _ _)
+same_shape (Store actor at_byte value) s after (inr own) = after_shape s after actor _ _ _ own.3 (length-set s.words _ _)
+same_shape (Poison actor t) s after h = after_shape s after actor _ _ _ h.2 (length-set s.words _ _)
+same_shape (Load actor at_byte) s after h = (ap (λ (x : State). length x.words) h, ap (λ (x : State). length x.holdings) h)
+same_shape (Hand from to item) s after h = (ap length h.0, h.1.0)
+same_shape (Cut actor t) s after h = after_shape s after actor _ _ _ h refl
+same_shape (Uncut actor t) s after h = after_shape s after actor _ _ _ h refl

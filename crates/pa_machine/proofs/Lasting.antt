@@ -8,6 +8,7 @@ use Rattle.pa_machine.specs.declared.event.Event.{Event}
 use Rattle.pa_machine.specs.Events.{State, IsEnabled, Happens}
 use Rattle.pa_machine.specs.Trail.{Played, end_of, IsGoodState, KeepsContent, noted, Lasts, IsRunTo, IsRefusedFor}
 use Rattle.pa_machine.proofs.Happening.{happens_good}
+use Rattle.pa_machine.proofs.Holding.{same_shape}
 use Rattle.pa_machine.proofs.Returning.{only_returns}
 use Rattle.pa_machine.proofs.Noting.{keeps_content}
 
@@ -36,7 +37,7 @@ end_more s (next ∷ ss) after = end_more next ss after
 
 -- no event is a run from a good state to itself
 pub run_start : (s : State) → IsGoodState s → IsRunTo s [] s
-run_start s good = record { states = []; played = tt; ends = refl; lasts = λ last k. (good, k) }
+run_start s good = record { states = []; played = tt; ends = refl; shape = (refl, refl); lasts = λ last k. (good, k) }
 
 -- and one more event makes a longer run
 pub run_more : (s mid after : State) (es : List Event) (e : Event) → IsGoodState s → IsRunTo s es mid → IsEnabled e mid → Happens e mid after → IsRunTo s (es ++ e ∷ []) after
@@ -46,6 +47,7 @@ run_more s mid after es e good r can h =
       states = r.states ++ after ∷ [];
       played = played;
       ends = sym (end_more s r.states after);
+      shape = ((same_shape e mid after h).0 ∙ r.shape.0, (same_shape e mid after h).1 ∙ r.shape.1);
       lasts = λ last k. lasts s (es ++ e ∷ []) (r.states ++ after ∷ []) last good k played;
     }
 

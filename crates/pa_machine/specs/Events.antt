@@ -155,6 +155,10 @@ Happens (Hand from to item) s after =
 Happens (Cut actor t) s after = IsAfter s actor (RawPiece t.start t.len ∷ []) (FreePiece t ∷ []) s.words after
 Happens (Uncut actor t) s after = IsAfter s actor (FreePiece t ∷ []) (RawPiece t.start t.len ∷ []) s.words after
 
+-- a state has as many words and as many actors as another
+abbrev pub IsSameShape : State → State → Type 0
+IsSameShape s after = (length after.words ≡ length s.words) × (length after.holdings ≡ length s.holdings)
+
 -- the start: all words are 0, and actor 0 holds every byte as raw
 pub record IsStart (bytes actors : ℕ) (s : State) : Type 0 where
   pub count : length s.holdings ≡ actors

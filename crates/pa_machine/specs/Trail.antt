@@ -13,7 +13,7 @@ use Rattle.pa_machine.specs.Run.{IsReturning}
 use Rattle.pa_machine.specs.Titles.{content_at, count_word, HasContentFrom, same_title}
 use Rattle.pa_machine.specs.Holdings.{Thing, FreeTitle, OwnOf, OwnAs, RefOf}
 use Rattle.pa_machine.specs.Good.{IsGood}
-use Rattle.pa_machine.specs.Events.{State, held_by, total_of, IsEnabled, Happens}
+use Rattle.pa_machine.specs.Events.{State, held_by, total_of, IsEnabled, Happens, IsSameShape}
 
 -- these are the states after the events, one after the other, and each event was enabled
 abbrev pub Played : State → List Event → List State → Type 0
@@ -79,6 +79,7 @@ pub record IsRunTo (before : State) (events : List Event) (after : State) : Type
   pub states : List State
   pub played : Played before events states
   pub ends : after ≡ end_of before states
+  pub shape : IsSameShape before after
   pub lasts : (last : Title → ℕ) → KeepsContent before last → Lasts before events states last
 
 -- why an event was refused at a state: its condition fails there; or it holds there, and there was no memory

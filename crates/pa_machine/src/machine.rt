@@ -1,6 +1,6 @@
 ghost use Rattle.std.specs.Prelude.{◌≡◌, ◌≢◌, ℕ, ◌+◌, ◌*◌, ◌/◌, ◌%◌, ◌^◌, ◌<◌, ◌≤◌, ◌↔◌, IsTrue, Ok, Err, OnOk, OnErr, IfOk, IfErr, length, slice_index, slice_get, take};
 ghost use Rattle.pa_machine.specs.declared.title.Title.{Title as TitleOf};
-ghost use Rattle.pa_machine.specs.Events.{State, IsEnabled, Happens, IsStart};
+ghost use Rattle.pa_machine.specs.Events.{State, IsEnabled, Happens, IsSameShape, IsStart};
 ghost use Rattle.pa_machine.specs.Trail.{IsGoodState, KeepsContent, OnlyReturns, noted, IsRunTo, IsRefusedFor};
 
 use crate::event::{Event, StepFault};
@@ -35,6 +35,7 @@ impl Core {
         ensures refused { result ≡ Err StepFault.NotEnabled → (IsEnabled event.now self.old → ⊥) }
         ensures enabled { result ≡ Err StepFault.OutOfMemory → IsEnabled event.now self.old }
         ensures same { OnErr result (self.new ≡ self.old) }
+        ensures shape { IsSameShape self.old self.new }
         ensures good { IsGoodState self.new }
         ensures returns { OnOk result (OnlyReturns event.now self.old self.new) }
         ensures content { OnOk result ((last : TitleOf → ℕ) → KeepsContent self.old last → KeepsContent self.new (noted event.now self.new last)) }
@@ -75,6 +76,7 @@ pub fn core_run(core: &mut Core, events: &[Event]) -> Result<(), (u32, StepFault
     requires { length events.now < 2 ^ 32 }
     ensures done { OnOk result (IsRunTo core.old events.now core.new) }
     ensures refused { IfErr result (λ e. (e.0 < length events.now) × IsRunTo core.old (take e.0 events.now) core.new × IsRefusedFor e.1 (slice_get events.now e.0) core.new) }
+    ensures shape { IsSameShape core.old core.new }
     ensures good { IsGoodState core.new }
 {
     known_good(core);
@@ -92,3 +94,6 @@ fn known_good(core: &Core)
 {
     let _ = &core.tables;
 }
+
+#[cfg(test)]
+mod tests;
