@@ -75,7 +75,7 @@ fn can_step(w: Word, s: Step) -> bool
 }
 
 // The word after a step that is enabled at it.
-fn next(w: Word, s: Step) -> Word
+pub(crate) fn next(w: Word, s: Step) -> Word
     requires { CanStep s w.0 }
     ensures { result.0 ≡ stepped s w.0 }
 {

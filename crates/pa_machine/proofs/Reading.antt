@@ -1,0 +1,274 @@
+-- Whether an actor holds a thing, as the tables have it.
+use Rattle.std.proofs.Common.{◌≡◌, ℕ, zero, suc, ◌+◌, ◌-◌, ◌*◌, ◌/◌, ◌%◌, ◌<◌, ◌≤◌, Bool, true, false, cond, eqb, List, [], ◌∷◌, ◌++◌, Option, Some, None, length, map, get_or, set, refl, sym, ◌∙◌, ap, subst, arith, ◌⊎◌, inl, inr, Contains, ◌↔◌}
+use Rattle.std.specs.List.{sum_by, slice_index_or, range_with_len, flat_map}
+use Rattle.std.proofs.lemmas.List.Sums.{sum_by-cons, sum_by-append, get_or-le-sum_by}
+use Rattle.std.proofs.lemmas.Bool.{cases_eq, cases_lt}
+use Rattle.std.proofs.lemmas.Bool.Decides.{eqb_tells}
+use Rattle.pa_machine.specs.declared.title.Title.{Title}
+use Rattle.pa_machine.specs.declared.title.OwnState.{OwnState}
+use Rattle.pa_machine.specs.declared.slot.Owner.{Owner}
+use Rattle.pa_machine.specs.declared.slot.Slot.{Slot}
+use Rattle.pa_machine.specs.declared.tables.Tables.{Tables}
+use Rattle.pa_machine.specs.Titles.{same_title, same_state}
+use Rattle.pa_machine.specs.Holdings.{Piece, RawPiece, FreePiece, OwnPiece, RefPiece, Thing, RawByte, FreeTitle, OwnOf, OwnAs, RefOf, one, amount, held_in}
+use Rattle.pa_machine.specs.Events.{State, of_actor, held_by, HasActor, Holds, HoldsRaw}
+use Rattle.pa_machine.specs.Tables.{Place, is_holder, raw_pieces, free_pieces, own_pieces, ref_pieces, slot_pieces, place_pieces, holdings_of, state_of, kept_as, slot_at, IsPlaced, IsSound}
+use Rattle.pa_machine.proofs.Same.{title_tells, title_self, state_tells, state_self}
+use Rattle.pa_machine.proofs.Parts.{IsNoneOf}
+use Rattle.pa_machine.proofs.Amounts.{free_self, own_self, ref_self, state_here, state_apart}
+use Rattle.pa_machine.proofs.Tabled.{held_join, held_tables, raw_titles, raw_amount, place_raw, ref_sum, slots_at, kept_amount}
+
+-- pieces that are there by a test
+pub if_amount : (c : Bool) (ps : List Piece) (x : Thing) → held_in (cond c ps []) x ≡ cond c (held_in ps x) 0
+if_amount true ps x = refl
+if_amount false ps x = refl
+
+if_zero : (c : Bool) (ps : List Piece) (x : Thing) → held_in ps x ≡ 0 → held_in (cond c ps []) x ≡ 0
+if_zero true ps x h = h
+if_zero false ps x h = refl
+
+-- an entry's parts
+pub slot_parts : (actor : ℕ) (o : Slot) (x : Thing) → held_in (slot_pieces actor o) x
+    ≡ held_in (free_pieces actor o.title o.free) x + (held_in (own_pieces actor o.title o.own) x + held_in (ref_pieces actor o.title o.refs.items) x)
+slot_parts actor o x =
+    let j = held_join (free_pieces actor o.title o.free) (own_pieces actor o.title o.own ++ ref_pieces actor o.title o.refs.items) x in
+    let k = held_join (own_pieces actor o.title o.own) (ref_pieces actor o.title o.refs.items) x in
+    omega arith
+
+-- Refs count for nothing that a Ref isn't
+pub refs_zero : (actor : ℕ) (t : Title) (rs : List ℕ) (x : Thing) → held_in (RefPiece t ∷ []) x ≡ 0 → held_in (ref_pieces actor t rs) x ≡ 0
+refs_zero actor t [] x h = refl
+refs_zero actor t (r ∷ rs) x h = by_test (eqb r actor) (refs_zero actor t rs x h)
+  where
+    by_test : (c : Bool) → held_in (ref_pieces actor t rs) x ≡ 0 → held_in (cond c (RefPiece t ∷ ref_pieces actor t rs) (ref_pieces actor t rs)) x ≡ 0
+    by_test false z = z
+    by_test true z = let e = sum_by-cons (amount x) (RefPiece t) (ref_pieces actor t rs) in omega arith
+
+frees_zero : (actor : ℕ) (t : Title) (h : Option ℕ) (x : Thing) → held_in (FreePiece t ∷ []) x ≡ 0 → held_in (free_pieces actor t h) x ≡ 0
+frees_zero actor t None x h = refl
+frees_zero actor t (Some other) x h = if_zero (eqb other actor) (FreePiece t ∷ []) x h
+
+owns_zero : (actor : ℕ) (t : Title) (w : Option Owner) (x : Thing) → ((s : OwnState) → held_in (OwnPiece t s ∷ []) x ≡ 0) → held_in (own_pieces actor t w) x ≡ 0
+owns_zero actor t None x h = refl
+owns_zero actor t (Some w) x h = if_zero (eqb w.actor actor) (OwnPiece t w.state ∷ []) x (h w.state)
+
+-- whether an entry is held free by the actor, owned by it in a state, or by a Ref of it
+frees_some : (actor : ℕ) (t : Title) (h : Option ℕ) → 0 < held_in (free_pieces actor t h) (FreeTitle t) → h ≡ Some actor
+frees_some actor t None has = absurd (omega arith)
+frees_some actor t (Some other) has = elim (eqb_tells other actor) [
+  | inl y ↦ ap Some y.1
+  | inr n ↦ let z = rw n.0 at has in absurd (omega arith)
+]
+
+frees_here : (actor : ℕ) (t : Title) → held_in (free_pieces actor t (Some actor)) (FreeTitle t) ≡ 1
+frees_here actor t = elim (eqb_tells actor actor) [ inl y ↦ rw y.0 (free_self t) | inr n ↦ absurd (n.1 refl) ]
+
+pub owner_is : (w : Owner) (actor : ℕ) (s : OwnState) → w.actor ≡ actor → w.state ≡ s → Some w ≡ Some (record { actor = actor; state = s })
+owner_is w actor s e f = ap (λ (a : ℕ). let o : Owner = record { actor = a; state = w.state } in Some o) e ∙ ap (λ (q : OwnState). let o : Owner = record { actor = actor; state = q } in Some o) f
+
+owns_some : (actor : ℕ) (t : Title) (s : OwnState) (h : Option Owner) → 0 < held_in (own_pieces actor t h) (OwnAs t s) → h ≡ Some (record { actor = actor; state = s })
+owns_some actor t s None has = absurd (omega arith)
+owns_some actor t s (Some w) has = elim (eqb_tells w.actor actor) [
+  | inl y ↦ elim (state_tells w.state s) [
+    | inl e ↦ owner_is w actor s y.1 e.1
+    | inr m ↦ let z = rw y.0 at has in let none = state_apart t w.state s m.1 in absurd (omega arith)
+  ]
+  | inr n ↦ let z = rw n.0 at has in absurd (omega arith)
+]
+
+owns_here : (actor : ℕ) (t : Title) (s : OwnState) → held_in (own_pieces actor t (Some (record { actor = actor; state = s }))) (OwnAs t s) ≡ 1
+owns_here actor t s = elim (eqb_tells actor actor) [ inl y ↦ rw y.0 (state_here t s) | inr n ↦ absurd (n.1 refl) ]
+
+refs_some : (actor : ℕ) (t : Title) (rs : List ℕ) → 0 < held_in (ref_pieces actor t rs) (RefOf t) → Contains rs actor
+refs_some actor t [] has = absurd (omega arith)
+refs_some actor t (r ∷ rs) has = elim (eqb_tells r actor) [
+  | inl y ↦ (0, omega arith, y.1)
+  | inr n ↦
+      let rest = refs_some actor t rs (rw n.0 at has) in
+      (suc rest.0, (let l = rest.1 in omega arith), rest.2)
+]
+
+refs_here : (actor : ℕ) (t : Title) (rs : List ℕ) → Contains rs actor → 0 < held_in (ref_pieces actor t rs) (RefOf t)
+refs_here actor t rs (k, below, is) =
+    let part = get_or-le-sum_by (λ r. held_in (of_actor r (RefPiece t ∷ []) actor) (RefOf t)) rs k actor below in
+    let e = ref_sum actor t rs (RefOf t) in
+    let one_here : held_in (of_actor (get_or rs k actor) (RefPiece t ∷ []) actor) (RefOf t) ≡ 1 =
+    rw is (elim (eqb_tells actor actor) [ inl y ↦ rw y.0 (ref_self t) | inr n ↦ absurd (n.1 refl) ]) in
+    omega arith
+
+-- what an actor of the core holds of a title is what the title's entry has for it, if there is one
+pub reads : (c : Tables) (actor : ℕ) (t : Title) (x : Thing) → IsSound c → actor < c.actors → ((ps : List Piece) → IsNoneOf ps t → held_in ps x ≡ 0) →
+    ((o : Slot) × (slot_at c.slots.items t ≡ Some o) × (o.title ≡ t) × (held_by (state_of c) actor x ≡ held_in (slot_pieces actor o) x))
+    ⊎ ((slot_at c.slots.items t ≡ None) × (held_by (state_of c) actor x ≡ 0))
+reads c actor t x sound has about =
+    let all = held_tables c.holders.items c.slots.items c.actors actor x has in
+    let raw = about (raw_pieces actor 0 c.holders.items) (raw_titles actor 0 c.holders.items t) in
+    let at_one = slots_at actor (length c.words.items) c.actors c.slots.items t x sound.placed about in
+    elim (kept_amount actor (get_or c.slots.items (t.start / 8) None) t x about) [
+      | inl y ↦ let e = y.3 in inl (y.0, y.1, y.2, omega arith)
+      | inr n ↦ let e = n.1 in inr (n.0, omega arith)
+    ]
+
+-- it holds the title free
+pub reads_free : (c : Tables) (actor : ℕ) (t : Title) → IsSound c → actor < c.actors → Holds (state_of c) actor (FreeTitle t) →
+    (o : Slot) × (slot_at c.slots.items t ≡ Some o) × (o.title ≡ t) × (o.free ≡ Some actor)
+reads_free c actor t sound has holds = elim (reads c actor t (FreeTitle t) sound has (λ ps n. n.free)) [
+  | inl y ↦
+      let e = y.3 in
+      let p = slot_parts actor y.0 (FreeTitle t) in
+      let z = owns_zero actor y.0.title y.0.own (FreeTitle t) (λ s. refl) in
+      let r = refs_zero actor y.0.title y.0.refs.items (FreeTitle t) refl in
+      let f : 0 < held_in (free_pieces actor y.0.title y.0.free) (FreeTitle t) = omega arith in
+      (y.0, y.1, y.2, frees_some actor y.0.title y.0.free (rw (← y.2) at f))
+  | inr n ↦ let e = n.1 in absurd (omega arith)
+]
+
+pub free_read : (c : Tables) (actor : ℕ) (t : Title) (o : Slot) → IsSound c → actor < c.actors → slot_at c.slots.items t ≡ Some o →
+    o.free ≡ Some actor → Holds (state_of c) actor (FreeTitle t)
+free_read c actor t o sound has is free = elim (reads c actor t (FreeTitle t) sound has (λ ps n. n.free)) [
+  | inl y ↦
+      let same : y.0 ≡ o = cc in
+      let e = y.3 in
+      let p = slot_parts actor y.0 (FreeTitle t) in
+      let f : held_in (free_pieces actor y.0.title y.0.free) (FreeTitle t) ≡ 1 =
+      let is_free : y.0.free ≡ Some actor = ap (λ (q : Slot). q.free) same ∙ free in
+      rw (is_free, y.2) (frees_here actor t) in
+      omega arith
+  | inr n ↦ let e = n.0 in cc
+]
+
+-- it has the title's Own in this state
+pub reads_own : (c : Tables) (actor : ℕ) (t : Title) (s : OwnState) → IsSound c → actor < c.actors → Holds (state_of c) actor (OwnAs t s) →
+    (o : Slot) × (slot_at c.slots.items t ≡ Some o) × (o.title ≡ t) × (o.own ≡ Some (record { actor = actor; state = s }))
+reads_own c actor t s sound has holds = elim (reads c actor t (OwnAs t s) sound has (λ ps n. n.state s)) [
+  | inl y ↦
+      let e = y.3 in
+      let p = slot_parts actor y.0 (OwnAs t s) in
+      let z = frees_zero actor y.0.title y.0.free (OwnAs t s) refl in
+      let r = refs_zero actor y.0.title y.0.refs.items (OwnAs t s) refl in
+      let f : 0 < held_in (own_pieces actor y.0.title y.0.own) (OwnAs t s) = omega arith in
+      (y.0, y.1, y.2, owns_some actor y.0.title s y.0.own (rw (← y.2) at f))
+  | inr n ↦ let e = n.1 in absurd (omega arith)
+]
+
+pub own_read : (c : Tables) (actor : ℕ) (t : Title) (s : OwnState) (o : Slot) → IsSound c → actor < c.actors → slot_at c.slots.items t ≡ Some o →
+    o.own ≡ Some (record { actor = actor; state = s }) → Holds (state_of c) actor (OwnAs t s)
+own_read c actor t s o sound has is own = elim (reads c actor t (OwnAs t s) sound has (λ ps n. n.state s)) [
+  | inl y ↦
+      let same : y.0 ≡ o = cc in
+      let e = y.3 in
+      let p = slot_parts actor y.0 (OwnAs t s) in
+      let f : held_in (own_pieces actor y.0.title y.0.own) (OwnAs t s) ≡ 1 =
+      let is_own : y.0.own ≡ Some (record { actor = actor; state = s }) = ap (λ (q : Slot). q.own) same ∙ own in
+      rw (is_own, y.2) (owns_here actor t s) in
+      omega arith
+  | inr n ↦ let e = n.0 in cc
+]
+
+-- it has a Ref of the title
+pub reads_ref : (c : Tables) (actor : ℕ) (t : Title) → IsSound c → actor < c.actors → Holds (state_of c) actor (RefOf t) →
+    (o : Slot) × (slot_at c.slots.items t ≡ Some o) × (o.title ≡ t) × Contains o.refs.items actor
+reads_ref c actor t sound has holds = elim (reads c actor t (RefOf t) sound has (λ ps n. n.ref)) [
+  | inl y ↦
+      let e = y.3 in
+      let p = slot_parts actor y.0 (RefOf t) in
+      let z = frees_zero actor y.0.title y.0.free (RefOf t) refl in
+      let w = owns_zero actor y.0.title y.0.own (RefOf t) (λ s. refl) in
+      let f : 0 < held_in (ref_pieces actor y.0.title y.0.refs.items) (RefOf t) = omega arith in
+      (y.0, y.1, y.2, refs_some actor y.0.title y.0.refs.items (rw (← y.2) at f))
+  | inr n ↦ let e = n.1 in absurd (omega arith)
+]
+
+pub ref_read : (c : Tables) (actor : ℕ) (t : Title) (o : Slot) → IsSound c → actor < c.actors → slot_at c.slots.items t ≡ Some o →
+    Contains o.refs.items actor → Holds (state_of c) actor (RefOf t)
+ref_read c actor t o sound has is refs = elim (reads c actor t (RefOf t) sound has (λ ps n. n.ref)) [
+  | inl y ↦
+      let same : y.0 ≡ o = cc in
+      let e = y.3 in
+      let p = slot_parts actor y.0 (RefOf t) in
+      let in_y : Contains y.0.refs.items actor = subst (λ (q : Slot). Contains q.refs.items actor) (sym same) refs in
+      let f : 0 < held_in (ref_pieces actor y.0.title y.0.refs.items) (RefOf t) = rw y.2 (refs_here actor t y.0.refs.items in_y) in
+      omega arith
+  | inr n ↦ let e = n.0 in cc
+]
+
+-- it holds the byte as raw
+holder_some : (actor : ℕ) (h : Option ℕ) → 0 < one (is_holder actor h) → h ≡ Some actor
+holder_some actor None has = absurd (omega arith)
+holder_some actor (Some other) has = elim (eqb_tells other actor) [
+  | inl y ↦ ap Some y.1
+  | inr n ↦ let z = rw n.0 at has in absurd (omega arith)
+]
+
+holder_here : (actor : ℕ) → one (is_holder actor (Some actor)) ≡ 1
+holder_here actor = elim (eqb_tells actor actor) [ inl y ↦ rw y.0 refl | inr n ↦ absurd (n.1 refl) ]
+
+sum_raw : (actor : ℕ) (slots : List Place) (b : ℕ) → sum_by (λ p. held_in (place_pieces actor p) (RawByte b)) slots ≡ 0
+sum_raw actor [] b = refl
+sum_raw actor (p ∷ ps) b =
+    let e = sum_by-cons (λ q. held_in (place_pieces actor q) (RawByte b)) p ps in
+    let first = place_raw actor p b in
+    let rest = sum_raw actor ps b in
+    omega arith
+
+pub raw_is : (c : Tables) (actor b : ℕ) → actor < c.actors → held_by (state_of c) actor (RawByte b) ≡ one (is_holder actor (get_or c.holders.items b None))
+raw_is c actor b has =
+    let all = held_tables c.holders.items c.slots.items c.actors actor (RawByte b) has in
+    let raw = raw_amount actor c.holders.items b in
+    let rest = sum_raw actor c.slots.items b in
+    omega arith
+
+pub reads_raw : (c : Tables) (actor b : ℕ) → actor < c.actors → Holds (state_of c) actor (RawByte b) → get_or c.holders.items b None ≡ Some actor
+reads_raw c actor b has holds = let e = raw_is c actor b has in holder_some actor (get_or c.holders.items b None) (omega arith)
+
+pub raw_read : (c : Tables) (actor b : ℕ) → actor < c.actors → get_or c.holders.items b None ≡ Some actor → Holds (state_of c) actor (RawByte b)
+raw_read c actor b has is =
+    let e = raw_is c actor b has in
+    let f : one (is_holder actor (get_or c.holders.items b None)) ≡ 1 = rw is (holder_here actor) in
+    omega arith
+
+-- the same both ways, for an entry that is there, and for one that isn't
+pub free_same : (c : Tables) (actor : ℕ) (t : Title) (o : Slot) → IsSound c → actor < c.actors → slot_at c.slots.items t ≡ Some o →
+    (o.free ≡ Some actor) ↔ Holds (state_of c) actor (FreeTitle t)
+free_same c actor t o sound has is = (
+  free_read c actor t o sound has is,
+  λ holds.
+      let r = reads_free c actor t sound has holds in
+      let same : r.0 ≡ o = let e = r.1 in cc in
+      ap (λ (q : Slot). q.free) (sym same) ∙ r.3,
+)
+
+pub own_same : (c : Tables) (actor : ℕ) (t : Title) (s : OwnState) (o : Slot) → IsSound c → actor < c.actors → slot_at c.slots.items t ≡ Some o →
+    (o.own ≡ Some (record { actor = actor; state = s })) ↔ Holds (state_of c) actor (OwnAs t s)
+own_same c actor t s o sound has is = (
+  own_read c actor t s o sound has is,
+  λ holds.
+      let r = reads_own c actor t s sound has holds in
+      let same : r.0 ≡ o = let e = r.1 in cc in
+      ap (λ (q : Slot). q.own) (sym same) ∙ r.3,
+)
+
+pub ref_same : (c : Tables) (actor : ℕ) (t : Title) (o : Slot) → IsSound c → actor < c.actors → slot_at c.slots.items t ≡ Some o →
+    Contains o.refs.items actor ↔ Holds (state_of c) actor (RefOf t)
+ref_same c actor t o sound has is = (
+  ref_read c actor t o sound has is,
+  λ holds.
+      let r = reads_ref c actor t sound has holds in
+      let same : r.0 ≡ o = let e = r.1 in cc in
+      subst (λ (q : Slot). Contains q.refs.items actor) same r.3,
+)
+
+pub none_free : (c : Tables) (actor : ℕ) (t : Title) → IsSound c → actor < c.actors → slot_at c.slots.items t ≡ None → Holds (state_of c) actor (FreeTitle t) → ⊥
+none_free c actor t sound has is holds = let r = reads_free c actor t sound has holds in let e = r.1 in cc
+
+pub none_own : (c : Tables) (actor : ℕ) (t : Title) (s : OwnState) → IsSound c → actor < c.actors → slot_at c.slots.items t ≡ None → Holds (state_of c) actor (OwnAs t s) → ⊥
+none_own c actor t s sound has is holds = let r = reads_own c actor t s sound has holds in let e = r.1 in cc
+
+pub none_ref : (c : Tables) (actor : ℕ) (t : Title) → IsSound c → actor < c.actors → slot_at c.slots.items t ≡ None → Holds (state_of c) actor (RefOf t) → ⊥
+none_ref c actor t sound has is holds = let r = reads_ref c actor t sound has holds in let e = r.1 in cc
+
+-- a whole range, byte by byte
+pub raw_same : (c : Tables) (actor start len : ℕ) → actor < c.actors →
+    ((b : ℕ) → start ≤ b → b < start + len → get_or c.holders.items b None ≡ Some actor) ↔ HoldsRaw (state_of c) actor start len
+raw_same c actor start len has =
+    (λ all b low high. raw_read c actor b has (all b low high), λ holds b low high. reads_raw c actor b has (holds b low high))

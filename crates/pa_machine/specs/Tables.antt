@@ -1,0 +1,177 @@
+-- What the core's tables say: the state that they stand for, and what is always true of them.
+use Rattle.std.specs.Prelude.{◌≡◌, ℕ, ◌+◌, ◌*◌, ◌/◌, ◌%◌, ◌<◌, ◌≤◌, List, [], ◌∷◌, ◌++◌, Bool, true, false, ◌==◌, ◌&&◌, ◌⊎◌, Contains, nat_le, nat_lt, Option, Some, None, length, map, slice_index, slice_set, replicate, if◌then◌else◌}
+use Rattle.std.specs.List.{slice_index_or, range_with_len, flat_map, swap_remove}
+use Rattle.std.specs.Prelude.{Box}
+use Rattle.std.specs.Global.{Global}
+use Rattle.pa_machine.specs.declared.title.Title.{Title}
+use Rattle.pa_machine.specs.declared.title.OwnState.{OwnState}
+use Rattle.pa_machine.specs.declared.title.OwnState.TheVariants.{Clean, Dirty, Poisoned}
+use Rattle.pa_machine.specs.declared.word.Step.{Step}
+use Rattle.pa_machine.specs.declared.word.Step.TheVariants.{Issue, Copy, Reset, Free, Write}
+use Rattle.pa_machine.specs.Count.{refs_of}
+use Rattle.pa_machine.specs.declared.slot.Owner.{Owner}
+use Rattle.pa_machine.specs.declared.slot.Slot.{Slot}
+use Rattle.pa_machine.specs.declared.tables.Tables.{Tables}
+use Rattle.pa_machine.specs.Titles.{same_title, count_place, count_word, content_count, progress, IsWellFormed}
+use Rattle.pa_machine.specs.Holdings.{Piece, RawPiece, FreePiece, OwnPiece, RefPiece, FreeTitle, OwnAs, IsTitleHeld}
+use Rattle.pa_machine.specs.Good.{IsGood}
+use Rattle.pa_machine.specs.Events.{State, total_of, Holds, HoldsRaw, HoldsOpen, IsFreeWord, IsOwnWord}
+
+-- an entry of the table of titles
+abbrev pub Place : Type 0
+Place = Option (Box Slot Global)
+
+-- the bytes that an actor holds as raw, one by one from byte b on
+abbrev pub is_holder : ℕ → Option ℕ → Bool
+is_holder actor None = false
+is_holder actor (Some other) = other == actor
+
+abbrev pub raw_pieces : ℕ → ℕ → List (Option ℕ) → List Piece
+raw_pieces actor b [] = []
+raw_pieces actor b (h ∷ hs) = if is_holder actor h then RawPiece b 1 ∷ raw_pieces actor (b + 1) hs else raw_pieces actor (b + 1) hs
+
+-- what an actor holds of one title
+abbrev pub free_pieces : ℕ → Title → Option ℕ → List Piece
+free_pieces actor t None = []
+free_pieces actor t (Some other) = if other == actor then FreePiece t ∷ [] else []
+
+abbrev pub own_pieces : ℕ → Title → Option Owner → List Piece
+own_pieces actor t None = []
+own_pieces actor t (Some owner) = if owner.actor == actor then OwnPiece t owner.state ∷ [] else []
+
+abbrev pub ref_pieces : ℕ → Title → List ℕ → List Piece
+ref_pieces actor t [] = []
+ref_pieces actor t (r ∷ rs) = if r == actor then RefPiece t ∷ ref_pieces actor t rs else ref_pieces actor t rs
+
+abbrev pub slot_pieces : ℕ → Slot → List Piece
+slot_pieces actor o = free_pieces actor o.title o.free ++ (own_pieces actor o.title o.own ++ ref_pieces actor o.title o.refs.items)
+
+abbrev pub place_pieces : ℕ → Place → List Piece
+place_pieces actor None = []
+place_pieces actor (Some b) = slot_pieces actor b.value
+
+-- what an actor holds
+abbrev pub pieces_of : List (Option ℕ) → List Place → ℕ → List Piece
+pieces_of holders slots actor = raw_pieces actor 0 holders ++ flat_map (place_pieces actor) slots
+
+abbrev pub holdings_of : List (Option ℕ) → List Place → ℕ → List (List Piece)
+holdings_of holders slots actors = map (pieces_of holders slots) (range_with_len 0 actors)
+
+-- the state that the tables stand for
+abbrev pub state_of : Tables → State
+state_of c = record { words = c.words.items; holdings = holdings_of c.holders.items c.slots.items c.actors }
+
+-- the title's entry, if it is there
+abbrev pub kept_as : Title → Place → Option Slot
+kept_as t None = None
+kept_as t (Some b) = if same_title b.value.title t then Some b.value else None
+
+abbrev pub slot_at : List Place → Title → Option Slot
+slot_at slots t = kept_as t (slice_index_or slots (t.start / 8) None)
+
+-- a free title's holder and an owner are among the actors
+abbrev pub IsHolderWithin : ℕ → Option ℕ → Type 0
+IsHolderWithin actors None = Unit {0}
+IsHolderWithin actors (Some actor) = actor < actors
+
+abbrev pub IsOwnerWithin : ℕ → Option Owner → Type 0
+IsOwnerWithin actors None = Unit {0}
+IsOwnerWithin actors (Some owner) = owner.actor < actors
+
+-- the actor holds an entry's title in some way; it owns it, with content words left to poison
+abbrev pub IsHeldBy : Slot → ℕ → Type 0
+IsHeldBy o actor =
+    (o.free ≡ Some actor)
+    ⊎ (((state : OwnState) × (o.own ≡ Some (record { actor = actor; state = state }))) ⊎ Contains o.refs.items actor)
+
+abbrev pub CanPoison : Slot → ℕ → Type 0
+CanPoison o actor =
+    (state : OwnState) × (o.own ≡ Some (record { actor = actor; state = state })) × (progress state < content_count o.title)
+
+-- the actor has an Own of the title with content words left to poison
+abbrev pub MayPoison : State → ℕ → Title → Type 0
+MayPoison s actor t = (state : OwnState) × Holds s actor (OwnAs t state) × (progress state < content_count t)
+
+-- the actor holds a title's bytes as raw, in which it may be cut out
+abbrev pub MayCut : State → ℕ → Title → Type 0
+MayCut s actor t =
+    HoldsRaw s actor t.start t.len ×
+    (t.start % 8 ≡ 0) × (t.len % 8 ≡ 0) × (16 ≤ t.len) × (count_word s.words t ≡ 0)
+
+-- the actor may write the title's content; the word at the byte offset `at` is a content word that it may write
+abbrev pub MayChange : State → ℕ → Title → Type 0
+MayChange s actor t =
+    Holds s actor (FreeTitle t) ⊎ (((state : OwnState) × HoldsOpen s actor t state) × (refs_of (count_word s.words t) ≡ 0))
+
+abbrev pub MayWrite : State → ℕ → ℕ → Type 0
+MayWrite s actor at =
+    IsFreeWord s actor at ⊎ ((t : Title) × (state : OwnState) × IsOwnWord s actor at t state)
+
+-- in a region of so many words, an entry stands at the first word of its title, which is well formed
+abbrev pub IsPlaced : ℕ → ℕ → ℕ → Place → Type 0
+IsPlaced words actors i None = Unit {0}
+IsPlaced words actors i (Some b) =
+    (b.value.title.start ≡ 8 * i) × IsWellFormed words b.value.title × IsHolderWithin actors b.value.free × IsOwnerWithin actors b.value.own
+
+-- the entry that the table of homes names for the byte offset `at`, where its title covers the byte
+abbrev pub kept_over : ℕ → Place → Option Slot
+kept_over at None = None
+kept_over at (Some b) = if nat_le b.value.title.start at && nat_lt at (b.value.title.start + b.value.title.len) then Some b.value else None
+
+abbrev pub slot_over : List ℕ → List Place → ℕ → Option Slot
+slot_over homes slots at = kept_over at (slice_index_or slots (slice_index homes (at / 8)) None)
+
+-- What is always true of the tables: their lengths, where an entry stands, where the words of a held title point, and
+-- that the state is good.
+pub record IsSound (c : Tables) : Type 0 where
+  pub holders : length c.holders.items ≡ 8 * length c.words.items
+  pub slots : length c.slots.items ≡ length c.words.items
+  pub homes : length c.homes.items ≡ length c.words.items
+  pub placed : (i : ℕ) → IsPlaced (length c.words.items) c.actors i (slice_index_or c.slots.items i None)
+  pub pointed : (t : Title) (q : ℕ) → IsTitleHeld (total_of (state_of c)) t → t.start / 8 ≤ q → q ≤ count_place t →
+      slice_index c.homes.items q ≡ t.start / 8
+  pub good : IsGood c.words.items (total_of (state_of c))
+
+-- an entry after another, of the same title
+pub record IsNextSlot (old new : Slot) (free : Option ℕ) (own : Option Owner) (refs : List ℕ) : Type 0 where
+  pub title : new.title ≡ old.title
+  pub is_free : new.free ≡ free
+  pub is_own : new.own ≡ own
+  pub is_refs : new.refs.items ≡ refs
+
+-- the entry is as before
+abbrev pub IsSameSlot : Slot → Slot → Type 0
+IsSameSlot old new = IsNextSlot old new old.free old.own old.refs.items
+
+-- how an entry changes by a step of the actor on the count word, which gives the title back or not
+abbrev pub IsSlotStepped : Step → ℕ → Bool → Slot → Slot → Type 0
+IsSlotStepped Issue actor back old new = IsNextSlot old new None (Some (record { actor = actor; state = Clean })) old.refs.items
+IsSlotStepped Copy actor back old new = IsNextSlot old new old.free old.own (old.refs.items ++ actor ∷ [])
+IsSlotStepped Reset actor back old new =
+    (k : ℕ) × (k < length old.refs.items) × (slice_index old.refs.items k ≡ actor) ×
+    IsNextSlot old new (if back then Some actor else old.free) old.own (swap_remove old.refs.items k 0)
+IsSlotStepped Free actor back old new = IsNextSlot old new (if back then Some actor else old.free) None old.refs.items
+IsSlotStepped Write actor back old new = IsNextSlot old new old.free (Some (record { actor = actor; state = Clean })) old.refs.items
+
+-- in a table of titles, the entry at a place becomes another
+abbrev pub IsChangedAt : (Slot → Slot → Type 0) → List Place → ℕ → List Place → Type 0
+IsChangedAt R before p after =
+    (old : Box Slot Global) × (new : Box Slot Global) × (slice_index_or before p None ≡ Some old) × (after ≡ slice_set before p (Some new)) × R old.value new.value
+
+-- there is an entry at the place, of which this holds
+abbrev pub IsEntryAt : (Slot → Type 0) → List Place → ℕ → Type 0
+IsEntryAt P slots p = (b : Box Slot Global) × (slice_index_or slots p None ≡ Some b) × P b.value
+
+-- the places from `start` to before `end` have this value, and the others are as before
+pub record IsFilled {A : Type 0} (d : A) (before : List A) (start end : ℕ) (value : A) (after : List A) : Type 0 where
+  pub len : length after ≡ length before
+  pub within : (i : ℕ) → start ≤ i → i < end → slice_index_or after i d ≡ value
+  pub outside : (i : ℕ) → (i < start) ⊎ (end ≤ i) → slice_index_or after i d ≡ slice_index_or before i d
+
+-- the tables at the start
+pub record IsStartTables (bytes actors : ℕ) (c : Tables) : Type 0 where
+  pub words : c.words.items ≡ replicate (bytes / 8) 0
+  pub holders : c.holders.items ≡ replicate bytes (Some 0)
+  pub slots : c.slots.items ≡ replicate (bytes / 8) None
+  pub homes : c.homes.items ≡ replicate (bytes / 8) 0
+  pub count : c.actors ≡ actors

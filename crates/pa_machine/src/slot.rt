@@ -1,0 +1,192 @@
+ghost use Rattle.std.specs.Prelude.{◌≡◌, ℕ, ◌<◌, ◌/◌, ◌↔◌, ◌⊎◌, ◌++◌, ◌∷◌, [], IsTrue, Some, None, IfSome, IfNone, Contains, OnOk, OnErr, length, slice_index, slice_set, if◌then◌else◌};
+ghost use Rattle.std.specs.List.{swap_remove};
+ghost use Rattle.pa_machine.specs.Titles.{progress};
+ghost use Rattle.pa_machine.specs.Tables.{IsHeldBy, CanPoison, IsSameSlot, IsNextSlot, IsSlotStepped};
+
+use crate::fault::OutOfMemory;
+use crate::title::{OwnState, Title};
+use crate::word::Step;
+use std::alloc::Global;
+
+/// Who has the Own handle of a title, and how it left the content.
+#[derive(Clone, Copy, Debug, PartialEq, Eq)]
+pub struct Owner {
+    pub actor: u32,
+    pub state: OwnState,
+}
+
+/// A title that some actor holds: the actor that holds it free, its owner, and the actor of each Ref.
+#[derive(Debug, Drop)]
+pub struct Slot {
+    pub title: Title,
+    pub free: Option<u32>,
+    pub own: Option<Owner>,
+    pub refs: Vec<u32>,
+}
+
+impl Slot {
+    // A title that was just cut out by the actor.
+    pub fn cut_out(alloc: Global, actor: u32, title: Title) -> Slot
+        ensures title { result.title ≡ title }
+        ensures free { result.free ≡ Some actor }
+        ensures own { result.own ≡ None }
+        ensures refs { result.refs.items ≡ [] }
+    {
+        Slot {
+            title,
+            free: Some(actor),
+            own: None,
+            refs: Vec::new(alloc),
+        }
+    }
+
+    // How many content words the owner has poisoned so far.
+    pub fn progress(&self) -> u32
+        ensures { (w : Owner) → self.now.own ≡ Some w → result ≡ progress w.state }
+    {
+        match self.own {
+            Some(owner) => owner.state.progress(),
+            None => 0,
+        }
+    }
+
+    // Where the title starts, if the actor has its Own.
+    pub fn own_place(&self, actor: u32) -> Option<usize>
+        ensures some { IfSome result (λ p. (s : OwnState) × (self.now.own ≡ Some (record { actor = actor; state = s })) × (p ≡ self.now.title.start / 8)) }
+        ensures none { IfNone result ((s : OwnState) → self.now.own ≡ Some (record { actor = actor; state = s }) → ⊥) }
+    {
+        if self.is_own_of(actor) {
+            Some(self.title.first_word())
+        } else {
+            None
+        }
+    }
+
+    pub fn is_free_of(&self, actor: u32) -> bool
+        ensures { IsTrue result ↔ (self.now.free ≡ Some actor) }
+    {
+        self.free == Some(actor)
+    }
+
+    pub fn is_owned_by(&self, actor: u32, state: OwnState) -> bool
+        ensures { IsTrue result ↔ (self.now.own ≡ Some (record { actor = actor; state = state })) }
+    {
+        self.own == Some(Owner { actor, state })
+    }
+
+    pub fn has_ref_of(&self, actor: u32) -> bool
+        ensures { IsTrue result ↔ Contains self.now.refs.items actor }
+    {
+        self.refs.contains(&actor)
+    }
+
+    // Whether the actor holds the title in any way.
+    pub fn is_held_by(&self, actor: u32) -> bool
+        ensures { IsTrue result ↔ IsHeldBy self.now actor }
+    {
+        self.is_free_of(actor) || self.is_own_of(actor) || self.has_ref_of(actor)
+    }
+
+    fn is_own_of(&self, actor: u32) -> bool
+        ensures { IsTrue result ↔ ((state : OwnState) × (self.now.own ≡ Some (record { actor = actor; state = state }))) }
+    {
+        match self.own {
+            Some(owner) => owner.actor == actor,
+            None => false,
+        }
+    }
+
+    // Whether the actor is the owner and has content words left to poison.
+    pub fn can_poison(&self, actor: u32) -> bool
+        ensures { IsTrue result ↔ CanPoison self.now actor }
+    {
+        match self.own {
+            Some(owner) => owner.actor == actor
+                && owner.state.progress() < self.title.content_words(),
+            None => false,
+        }
+    }
+
+    // The step of the actor on the count word; `back` says whether it gives the title back. Only a copy takes room.
+    pub fn make_step(&mut self, actor: u32, step: Step, back: bool) -> Result<(), OutOfMemory>
+        requires { step ≡ Step.Reset → Contains self.old.refs.items actor }
+        ensures ok { OnOk result (IsSlotStepped step actor back self.old self.new) }
+        ensures err { OnErr result (IsSameSlot self.old self.new) }
+    {
+        match step {
+            Step::Issue => {
+                self.free = None;
+                self.own = Some(Owner {
+                    actor,
+                    state: OwnState::Clean,
+                });
+            }
+            Step::Copy => self.refs.push(actor)?,
+            Step::Reset => {
+                self.drop_ref(actor);
+                self.give_back(actor, back);
+            }
+            Step::Free => {
+                self.own = None;
+                self.give_back(actor, back);
+            }
+            Step::Write => self.own = Some(Owner {
+                actor,
+                state: OwnState::Clean,
+            }),
+        }
+        Ok(())
+    }
+
+    fn give_back(&mut self, actor: u32, back: bool)
+        ensures { IsNextSlot self.old self.new (if back then Some actor else self.old.free) self.old.own self.old.refs.items }
+    {
+        if back {
+            self.free = Some(actor);
+        }
+    }
+
+    fn drop_ref(&mut self, actor: u32)
+        requires { Contains self.old.refs.items actor }
+        ensures { (k : ℕ) × (k < length self.old.refs.items) × (slice_index self.old.refs.items k ≡ actor) × IsNextSlot self.old self.new self.old.free self.old.own (swap_remove self.old.refs.items k 0) }
+    {
+        let place = self.ref_place(actor);
+        self.refs.swap_remove(place);
+    }
+
+    // Where the actor stands among the Refs.
+    fn ref_place(&self, actor: u32) -> usize
+        requires { Contains self.now.refs.items actor }
+        ensures below { result < length self.now.refs.items }
+        ensures found { slice_index self.now.refs.items result ≡ actor }
+    {
+        for (place, holder) in self.refs.iter().enumerate() {
+            if *holder == actor {
+                return place;
+            }
+        }
+        0
+    }
+
+    // The owner's state is another one.
+    pub fn restate(&mut self, actor: u32, state: OwnState)
+        ensures { IsNextSlot self.old self.new self.old.free (Some (record { actor = actor; state = state })) self.old.refs.items }
+    {
+        self.own = Some(Owner { actor, state });
+    }
+
+    // The free title, the clean Own or one Ref passes from one actor to another.
+    pub fn hand_free(&mut self, to: u32)
+        ensures { IsNextSlot self.old self.new (Some to) self.old.own self.old.refs.items }
+    {
+        self.free = Some(to);
+    }
+
+    pub fn hand_ref(&mut self, from: u32, to: u32)
+        requires { Contains self.old.refs.items from }
+        ensures { (k : ℕ) × (k < length self.old.refs.items) × (slice_index self.old.refs.items k ≡ from) × IsNextSlot self.old self.new self.old.free self.old.own (slice_set self.old.refs.items k to) }
+    {
+        let place = self.ref_place(from);
+        self.refs[place] = to;
+    }
+}
