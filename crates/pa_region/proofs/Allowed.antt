@@ -1,0 +1,228 @@
+-- The table lets a seat make its steps: the conditions of its calls.
+use Rattle.std.proofs.Common.{◌≡◌, ℕ, ◌+◌, ◌*◌, ◌/◌, ◌%◌, ◌<◌, List, length, set, get_or, refl, sym, ◌∙◌, ap, subst, arith, inl, inr}
+use Rattle.std.specs.Prelude.{slice_index}
+use mathlib.Core.Option.{some}
+use lib.ListN.{get_elem?}
+use Rattle.pa_machine.specs.declared.title.Title.{Title}
+use Rattle.pa_machine.specs.declared.word.Step.{Step}
+use Rattle.pa_machine.specs.declared.word.Step.TheVariants.{Issue, Copy, Reset, Free, Write}
+use Rattle.pa_machine.specs.Count.{CanStep, stepped}
+use Rattle.pa_machine.specs.Run.{IsFree}
+use Rattle.pa_machine.specs.Titles.{Covers, IsWellFormed, count_place, count_word}
+use Rattle.pa_machine.specs.Holdings.{FreeTitle, OwnOf, RefOf, IsTitleHeld}
+use Rattle.pa_machine.specs.Events.{total_of}
+use Rattle.pa_machine.proofs.Same.{title_tells}
+use Rattle.pa_region.specs.declared.view.Entry.TheVariants.{Counted, Looked}
+use Rattle.pa_region.specs.declared.view.View.{View}
+use Rattle.pa_machine.proofs.Parts.{free_or}
+use Rattle.pa_region.specs.Views.{held_of_view, free_of, HasTitle, byte_words, shown}
+use Rattle.pa_region.specs.Rule.{IsKept}
+use Rattle.pa_region.specs.Moves.{CanCount, IsFound, moved, value_of, after_count, after_look}
+use Rattle.pa_region.proofs.Pieces.{held_within, moved_changes, frees_have, title_held, held_title}
+use Rattle.pa_region.proofs.HolderPart.{gained_here}
+use Rattle.std.proofs.Common.{◌^◌}
+use Rattle.std.proofs.lemmas.List.{set-get_or}
+use Rattle.atomic_table.specs.Table.{Me, Allows, keeps}
+use Rattle.atomic_table.specs.Table.{State as TableState}
+use Rattle.atomic_table.specs.Seated.{TableId}
+use Rattle.atomic_table.proofs.Lists.{set_again}
+use Rattle.pa_machine.proofs.Parts.{word_covered}
+use Rattle.pa_region.specs.Views.{least_stake}
+use Rattle.pa_region.specs.Shares.{IsSound, byte_word_count, adds, CountTells, IsUser, count_offset, CanLoad, LoadTells}
+use Rattle.pa_region.proofs.Entering.{least_noted}
+use Rattle.pa_region.proofs.Counting.{bytes_word, held_in_all, handle_held, place_below, count_can, count_found, count_keeps, look_keeps, look_holds, moved_stakes}
+
+-- the sum is the next word
+adds_stepped : (step : Step) (word : ℕ) → CanStep step word → (word + adds step) % 2 ^ 64 ≡ stepped step word
+adds_stepped Issue word can = omega arith
+adds_stepped Copy word can = omega arith
+adds_stepped Reset word can = omega arith
+adds_stepped Free word can = omega arith
+adds_stepped Write word can = omega arith
+
+-- whatever the table is, a seat that can make the counted step may make it
+pub count_allowed : (step : Step) (t : Title) (slots id place : ℕ) (me : Me (Unit {0}) View) → place ≡ count_place t → CanCount step t me.0 →
+    Allows (λ (s : TableState (Unit {0}) View). IsKept s.words s.views) slots id me place (λ n. (n + adds step) % 2 ^ 64) (λ word after. CountTells step t me word after)
+count_allowed step t slots id place me at_place can s k homes at_id small =
+    let mine = handle_held step t me.0 can.0 in
+    let held = held_in_all s.words s.views id me.0 t at_id mine in
+    let word = count_word (byte_words s.words) t in
+    let enabled = count_can step t s.words s.views id me.0 k at_id can in
+    let found : slice_index s.words place ≡ word = ap (λ p. get_or s.words p 0) at_place ∙ bytes_word s.words (count_place t) (place_below s.words s.views t k held) in
+    let left : (slice_index s.words place + adds step) % 2 ^ 64 ≡ stepped step word = ap (λ n. (n + adds step) % 2 ^ 64) found ∙ adds_stepped step word enabled in (
+      after_count step t (slice_index s.words place) me.0,
+      keeps,
+      tt,
+      subst (λ (n : ℕ). IsKept (set s.words place ((slice_index s.words place + adds step) % 2 ^ 64)) (set s.views id (after_count step t n me.0))) (sym found)
+          (subst (λ (n : ℕ). IsKept (set s.words place n) (set s.views id (after_count step t word me.0))) (sym left)
+          (subst (λ (p : ℕ). IsKept (set s.words p (stepped step word)) (set s.views id (after_count step t word me.0))) (sym at_place)
+          (count_keeps step t s.words s.views id me.0 k at_id can))),
+      (
+        refl,
+        refl,
+        subst (λ (n : ℕ). CanStep step n) (sym found) enabled,
+        subst (λ (n : ℕ). IsFound t n me.0) (sym found) (count_found t s.words s.views id me.0 k at_id mine),
+      ),
+    )
+
+-- two held titles with one count word are one
+same_by_word : (words : List ℕ) (views : List View) (t u : Title) → IsKept words views → IsTitleHeld (total_of (shown words views)) t →
+    IsTitleHeld (total_of (shown words views)) u → count_place t ≡ count_place u → t ≡ u
+same_by_word words views t u k held other e =
+    k.holders.divided.apart t u (8 * count_place t) held other
+    (word_covered (length (byte_words words)) t (count_place t) (k.holders.divided.well t held) (omega arith, omega arith))
+    (subst (λ (p : ℕ). Covers u (8 * p)) (sym e)
+    (word_covered (length (byte_words words)) u (count_place u) (k.holders.divided.well u other) (omega arith, omega arith)))
+
+-- a title that a view uses or holds free is held
+user_held : (t : Title) (v : View) → IsUser t v → IsTitleHeld (held_of_view v) t
+user_held t v has = title_held v t (omega arith)
+
+-- so is a title that it holds free
+free_held : (t : Title) (v : View) → 0 < free_of v t → IsTitleHeld (held_of_view v) t
+free_held t v has = title_held v t (omega arith)
+
+-- a title that a view holds free has a free word, so that nobody has a handle of it
+free_word : (t : Title) (words : List ℕ) (views : List View) (i : ℕ) (v : View) → IsKept words views → get_elem? views i ≡ some v →
+    0 < free_of v t → IsFree (count_word (byte_words words) t)
+free_word t words views i v k at_i mine =
+    let held = held_in_all words views i v t at_i (free_held t v mine) in
+    let fn = frees_have v t in
+    let word = k.holders.word t held in
+    let f = held_within words views i v at_i (FreeTitle t) in
+    elim (free_or (count_word (byte_words words) t)) [ inl y ↦ y | inr n ↦ let z = word.taken n in absurd (omega arith) ]
+
+-- who holds a title free has no handle of it
+free_alone : (t : Title) (words : List ℕ) (views : List View) (i : ℕ) (v : View) → IsKept words views → get_elem? views i ≡ some v →
+    0 < free_of v t → IsUser t v → ⊥
+free_alone t words views i v k at_i mine has =
+    let z = free_word t words views i v k at_i mine in
+    let found = count_found t words views i v k at_i (free_held t v mine) in
+    let a = z.0 in let b = z.1 in
+    let o = found.owns in let r = found.refs in
+    absurd (omega arith)
+
+-- what the load of a count word tells, of the one title whose word it is
+load_free : (at_byte : ℕ) (t : Title) (words : List ℕ) (views : List View) (i : ℕ) (v : View) → IsKept words views → get_elem? views i ≡ some v →
+    at_byte ≡ count_offset t → 0 < free_of v t → LoadTells at_byte v (count_word (byte_words words) t) v
+load_free at_byte t words views i v k at_i at_word mine u at_other =
+    let place : count_place t ≡ count_place u = omega arith in (
+      (λ free.
+          let same = same_by_word words views t u k (held_in_all words views i v t at_i (free_held t v mine)) (held_in_all words views i v u at_i (free_held u v free)) place in (
+            refl,
+            free_word t words views i v k at_i mine,
+            subst (λ (z : Title). IsFound z (count_word (byte_words words) t) v) same (count_found t words views i v k at_i (free_held t v mine)),
+          )),
+      (λ has.
+          let same = same_by_word words views t u k (held_in_all words views i v t at_i (free_held t v mine)) (held_in_all words views i v u at_i (user_held u v has)) place in
+          absurd (free_alone t words views i v k at_i mine (subst (λ (z : Title). IsUser z v) (sym same) has))),
+    )
+
+-- what a load tells of a title of which the view has a handle
+load_look : (at_byte : ℕ) (t : Title) (words : List ℕ) (views : List View) (i : ℕ) (v : View) → IsKept words views → get_elem? views i ≡ some v →
+    at_byte ≡ count_offset t → IsUser t v → LoadTells at_byte v (count_word (byte_words words) t) (after_look t (count_word (byte_words words) t) v)
+load_look at_byte t words views i v k at_i at_word mine u at_other =
+    let place : count_place t ≡ count_place u = omega arith in (
+      (λ free.
+          let same = same_by_word words views t u k (held_in_all words views i v t at_i (user_held t v mine)) (held_in_all words views i v u at_i (free_held u v free)) place in
+          absurd (free_alone u words views i v k at_i free (subst (λ (z : Title). IsUser z v) same mine))),
+      (λ has.
+          let same = same_by_word words views t u k (held_in_all words views i v t at_i (user_held t v mine)) (held_in_all words views i v u at_i (user_held u v has)) place in
+          subst (λ (z : Title). (after_look t (count_word (byte_words words) t) v ≡ after_look z (count_word (byte_words words) t) v) × IsFound z (count_word (byte_words words) t) v) same
+          (refl, count_found t words views i v k at_i (user_held t v mine))),
+    )
+
+-- whatever the table is, a seat that may load the word may load it
+pub load_allowed : (at_byte slots id place : ℕ) (me : Me (Unit {0}) View) → place ≡ at_byte / 8 → CanLoad at_byte me.0 →
+    Allows (λ (s : TableState (Unit {0}) View). IsKept s.words s.views) slots id me place (λ n. n) (λ word after. LoadTells at_byte me.0 word after.0 × (after.1 ≡ me.1))
+load_allowed at_byte slots id place me at_place can s k homes at_id small =
+    let t = can.0 in
+    let at_word = can.1 in
+    let at_count : place ≡ count_place t = omega arith in
+    let mine : IsTitleHeld (held_of_view me.0) t = elim can.2 [ inl f ↦ free_held t me.0 f | inr h ↦ user_held t me.0 h.0 ] in
+    let held = held_in_all s.words s.views id me.0 t at_id mine in
+    let word = count_word (byte_words s.words) t in
+    let found : slice_index s.words place ≡ word = ap (λ p. get_or s.words p 0) at_count ∙ bytes_word s.words (count_place t) (place_below s.words s.views t k held) in
+    let unwritten : set s.words place (slice_index s.words place) ≡ s.words = set-get_or s.words place 0 in
+    elim can.2 [
+      | inl free ↦ (
+        me.0,
+        keeps,
+        tt,
+        subst (λ (ws : List ℕ). IsKept ws (set s.views id me.0)) (sym unwritten) (subst (λ (vs : List View). IsKept s.words vs) (sym (set_again s.views id me.0 at_id)) k),
+        (subst (λ (n : ℕ). LoadTells at_byte me.0 n me.0) (sym found) (load_free at_byte t s.words s.views id me.0 k at_id at_word free), refl),
+      )
+      | inr has ↦ (
+        after_look t (slice_index s.words place) me.0,
+        keeps,
+        tt,
+        subst (λ (ws : List ℕ). IsKept ws (set s.views id (after_look t (slice_index s.words place) me.0))) (sym unwritten)
+            (subst (λ (n : ℕ). IsKept s.words (set s.views id (after_look t n me.0))) (sym found) (look_keeps t s.words s.views id me.0 k at_id mine has.1)),
+        (subst (λ (n : ℕ). LoadTells at_byte me.0 n (after_look t n me.0)) (sym found) (load_look at_byte t s.words s.views id me.0 k at_id at_word has.0), refl),
+      )
+    ]
+
+-- what a seat's type keeps goes on: the view's titles lie in the region, and its least stake is the same
+pub count_sound : (region : TableId) (step : Step) (t : Title) (word : ℕ) (v : View) → CanCount step t v → IsSound region v → IsSound region (after_count step t word v)
+count_sound region step t word v can sound = record { small = sound.small; well = λ u held. well u held }
+  where
+    well : (u : Title) → HasTitle (after_count step t word v) u → IsWellFormed (byte_word_count region) u
+    well u has =
+        let held = title_held (after_count step t word v) u has in
+        elim (title_tells t u) [
+          | inl y ↦ subst (λ (z : Title). IsWellFormed (byte_word_count region) z) y.1 (sound.well t (held_title v t (handle_held step t v can.0)))
+          | inr n ↦
+              let moves = (moved_changes step t word v can.0).1 in
+              let a = moves (FreeTitle u) in let b = moves (OwnOf u) in let c = moves (RefOf u) in
+              let p = gained_here step t (stepped step word) u n.1 in
+              let f = p.free in let o = p.own in let r = p.ref in
+              let now : IsTitleHeld (held_of_view (moved step t word v)) u = held in
+              sound.well u (held_title v u (omega arith))
+        ]
+
+-- so it is after a look
+pub look_sound : (region : TableId) (t : Title) (word : ℕ) (v : View) → IsSound region v → IsSound region (after_look t word v)
+look_sound region t word v sound = record { small = sound.small; well = λ u held. well u held }
+  where
+    well : (u : Title) → HasTitle (after_look t word v) u → IsWellFormed (byte_word_count region) u
+    well u has =
+        let held = title_held (after_look t word v) u has in
+        let a = look_holds t word v (FreeTitle u) in let b = look_holds t word v (OwnOf u) in let c = look_holds t word v (RefOf u) in
+        sound.well u (held_title v u (omega arith))
+
+-- a counted step leaves the least stake
+pub count_least : (step : Step) (t : Title) (word : ℕ) (v : View) → least_stake (after_count step t word v).stakes ≡ least_stake v.stakes
+count_least step t word v = rw (moved_stakes step t word v) (least_noted (Counted t step word (value_of step t v)) v.stakes)
+
+-- so does a look
+pub look_least : (t : Title) (word : ℕ) (v : View) → least_stake (after_look t word v).stakes ≡ least_stake v.stakes
+look_least t word v = least_noted (Looked t word) v.stakes
+
+-- the same, by the number that is added
+pub count_allowed_by : (step : Step) (t : Title) (slots id place added : ℕ) (me : Me (Unit {0}) View) → place ≡ count_place t → added ≡ adds step → CanCount step t me.0 →
+    Allows (λ (s : TableState (Unit {0}) View). IsKept s.words s.views) slots id me place (λ n. (n + added) % 2 ^ 64) (λ word after. CountTells step t me word after)
+count_allowed_by step t slots id place added me at_place e can =
+    subst (λ (k : ℕ). Allows (λ (s : TableState (Unit {0}) View). IsKept s.words s.views) slots id me place (λ n. (n + k) % 2 ^ 64) (λ word after. CountTells step t me word after)) (sym e)
+    (count_allowed step t slots id place me at_place can)
+
+-- a title's count word is one of the table's words
+pub place_inside : (region table : TableId) (t : Title) (place : ℕ) → region ≡ table → IsWellFormed (byte_word_count region) t → place ≡ count_place t → place < table.words
+place_inside region table t place same well e =
+    let a = well.start_aligned in let b = well.len_aligned in let c = well.long in let d = well.inside in
+    let f : region.words ≡ table.words = ap (λ (z : TableId). z.words) same in
+    omega arith
+
+-- a load of a count word leaves what a seat's type keeps
+pub load_keeps : (at_byte : ℕ) (region : TableId) (v after : View) (word : ℕ) → CanLoad at_byte v → LoadTells at_byte v word after → IsSound region v →
+    IsSound region after × (least_stake after.stakes ≡ least_stake v.stakes)
+load_keeps at_byte region v after word can told sound =
+    elim can.2 [
+      | inl free ↦
+          let same = ((told can.0 can.1).0 free).0 in
+          (subst (λ (w : View). IsSound region w) (sym same) sound, ap (λ (w : View). least_stake w.stakes) same)
+      | inr has ↦
+          let same = ((told can.0 can.1).1 has.0).0 in (
+            subst (λ (w : View). IsSound region w) (sym same) (look_sound region can.0 word v sound),
+            ap (λ (w : View). least_stake w.stakes) same ∙ look_least can.0 word v,
+          )
+    ]

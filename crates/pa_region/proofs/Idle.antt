@@ -1,0 +1,156 @@
+-- What views know of counts that are 0, after a step.
+use Rattle.std.proofs.Common.{◌≡◌, ℕ, ◌+◌, ◌<◌, ◌≤◌, Bool, true, false, ◌&&◌, List, [], ◌∷◌, set, refl, sym, ◌∙◌, ap, arith, inl, inr}
+use Rattle.std.specs.Prelude.{◌==◌, if◌then◌else◌}
+use Rattle.std.specs.List.{sum_by}
+use Rattle.std.proofs.lemmas.List.Sums.{sum_by-cons, sum_by-le-sum_by}
+use Rattle.std.proofs.lemmas.Bool.{cases_lt}
+use Rattle.std.proofs.lemmas.Bool.Decides.{eqb_tells}
+use mathlib.Core.Option.{some}
+use lib.ListN.{get_elem?}
+use Rattle.pa_machine.specs.declared.title.Title.{Title}
+use Rattle.pa_machine.specs.declared.title.OwnState.TheVariants.{Clean}
+use Rattle.pa_machine.specs.declared.word.Step.{Step}
+use Rattle.pa_machine.specs.declared.word.Step.TheVariants.{Issue, Copy, Reset, Free, Write}
+use Rattle.pa_machine.specs.Count.{refs_of}
+use Rattle.pa_machine.specs.Titles.{same_title}
+use Rattle.pa_machine.specs.Holdings.{OwnOf, one}
+use Rattle.pa_machine.specs.Events.{total_of}
+use Rattle.pa_machine.proofs.Same.{title_tells}
+use Rattle.pa_region.specs.declared.view.OwnTitle.{OwnTitle}
+use Rattle.pa_region.specs.declared.view.View.{View}
+use Rattle.pa_region.specs.Views.{idle_of, idle_in, held_of_view, shown}
+use Rattle.pa_region.specs.Moves.{changed, is_own_of, HasHandle, moved, words_of_free, busy, written, idle_if}
+use Rattle.pa_region.proofs.Adding.{one_and, one_split, sum_set, sum_part, sum_split, first_of, none_changed}
+use Rattle.pa_region.proofs.Pieces.{owns_have, found_title, total_sum}
+
+-- an Own counts as idle, or as busy
+abbrev idle_own : Title → OwnTitle → ℕ
+idle_own t o = one (same_title o.title t && o.idle)
+
+-- an Own of the title that isn't known to have no Ref
+abbrev busy_own : Title → OwnTitle → ℕ
+busy_own t o = one (same_title o.title t && (if o.idle then false else true))
+
+-- how many of them a view has
+abbrev busy_of : View → Title → ℕ
+busy_of v t = sum_by (busy_own t) v.owns
+
+-- a change of an Own of the title changes nothing of what is known of another
+idle_other : (t u : Title) (change : OwnTitle → OwnTitle) (os : List OwnTitle) → (t ≡ u → ⊥) → ((o : OwnTitle) → (change o).title ≡ o.title) →
+    sum_by (idle_own u) (changed (is_own_of t) change os) ≡ sum_by (idle_own u) os
+idle_other t u change [] ne keeps = refl
+idle_other t u change (o ∷ os) ne keeps = go (is_own_of t o) refl (idle_other t u change os ne keeps)
+  where
+    none : (p : OwnTitle) → p.title ≡ t → idle_own u p ≡ 0
+    none p e = elim (title_tells p.title u) [ inl y ↦ absurd (ne (sym e ∙ y.1)) | inr n ↦ rw n.0 refl ]
+
+    go : (b : Bool) → is_own_of t o ≡ b → sum_by (idle_own u) (changed (is_own_of t) change os) ≡ sum_by (idle_own u) os →
+        sum_by (idle_own u) (if b then change o ∷ os else o ∷ changed (is_own_of t) change os) ≡ sum_by (idle_own u) (o ∷ os)
+    go true e again =
+        let is_t = found_title t o.title e in
+        let a = none o is_t in
+        let b = none (change o) (keeps o ∙ is_t) in
+        omega (arith, sum_by-cons (idle_own u) (change o) os, sum_by-cons (idle_own u) o os)
+    go false e again =
+        omega (arith, sum_by-cons (idle_own u) o (changed (is_own_of t) change os), sum_by-cons (idle_own u) o os)
+
+-- a counted step changes nothing of what its view knows of another title
+pub moved_idle_other : (step : Step) (t u : Title) (word : ℕ) (v : View) → (t ≡ u → ⊥) → HasHandle step t v →
+    idle_of (moved step t word v) u ≡ idle_of v u
+moved_idle_other Issue t u word v ne has =
+    elim (title_tells t u) [
+      | inl y ↦ absurd (ne y.1)
+      | inr n ↦
+          let new : OwnTitle = record { title = t; state = Clean; idle = true; words = words_of_free t v.frees } in
+          let z : idle_own u new ≡ 0 = rw n.0 refl in
+          omega (arith, sum_by-cons (idle_own u) new v.owns)
+    ]
+moved_idle_other Copy t u word v ne has = idle_other t u busy v.owns ne (λ o. refl)
+moved_idle_other Reset t u word v ne has = refl
+moved_idle_other Free t u word v ne has =
+    let e = owns_have v t in
+    let first = first_of (is_own_of t) v.owns (omega arith) in
+    let c = first.1.left_out (idle_own u) in
+    let is_t = found_title t first.0.title first.1.passes in
+    let z : idle_own u first.0 ≡ 0 = elim (title_tells first.0.title u) [ inl y ↦ absurd (ne (sym is_t ∙ y.1)) | inr n ↦ rw n.0 refl ] in
+    omega arith
+moved_idle_other Write t u word v ne has = idle_other t u written v.owns ne (λ o. refl)
+
+-- a look changes nothing of what its view knows of another title
+pub look_idle_other : (t u : Title) (word : ℕ) (os : List OwnTitle) → (t ≡ u → ⊥) →
+    sum_by (idle_own u) (changed (is_own_of t) (idle_if word) os) ≡ sum_by (idle_own u) os
+look_idle_other t u word os ne = idle_other t u (idle_if word) os ne (λ o. go (refs_of word == 0) o)
+  where
+    go : (b : Bool) (o : OwnTitle) → (if b then record o { idle = true } else o).title ≡ o.title
+    go true o = refl
+    go false o = refl
+
+-- a look that found another count than 0 learns nothing
+pub look_idle_none : (t : Title) (word : ℕ) (os : List OwnTitle) → (refs_of word ≡ 0 → ⊥) → changed (is_own_of t) (idle_if word) os ≡ os
+look_idle_none t word [] ne = refl
+look_idle_none t word (o ∷ os) ne = go (is_own_of t o) (look_idle_none t word os ne)
+  where
+    same : idle_if word o ≡ o
+    same = elim (eqb_tells (refs_of word) 0) [ inl y ↦ absurd (ne y.1) | inr n ↦ rw n.0 refl ]
+
+    go : (b : Bool) → changed (is_own_of t) (idle_if word) os ≡ os →
+        (if b then idle_if word o ∷ os else o ∷ changed (is_own_of t) (idle_if word) os) ≡ o ∷ os
+    go true again = ap (λ p. p ∷ os) same
+    go false again = ap (λ ps. o ∷ ps) again
+
+-- what a view knows is known of Owns that it has
+pub idle_part : (v : View) (t : Title) → idle_of v t ≤ held_of_view v (OwnOf t)
+idle_part v t =
+    let e = owns_have v t in
+    let l = sum_by-le-sum_by (idle_own t) (λ (o : OwnTitle). one (is_own_of t o)) v.owns (λ o. one_and (same_title o.title t) o.idle) in
+    omega arith
+
+-- and so is what all views know
+pub idle_within : (words : List ℕ) (views : List View) (t : Title) → idle_in views t ≤ total_of (shown words views) (OwnOf t)
+idle_within words views t =
+    let s = total_sum words views (OwnOf t) in
+    let l = sum_by-le-sum_by (λ v. idle_of v t) (λ v. held_of_view v (OwnOf t)) views (λ v. idle_part v t) in
+    omega arith
+
+-- all Owns of a title are idle or busy
+busy_split : (words : List ℕ) (views : List View) (t : Title) → idle_in views t + sum_by (λ v. busy_of v t) views ≡ total_of (shown words views) (OwnOf t)
+busy_split words views t =
+    let s = total_sum words views (OwnOf t) in
+    let l = sum_split (λ v. idle_of v t) (λ v. busy_of v t) (λ v. held_of_view v (OwnOf t)) views each in
+    omega arith
+  where
+    each : (v : View) → idle_of v t + busy_of v t ≡ held_of_view v (OwnOf t)
+    each v =
+        let e = owns_have v t in
+        let s = sum_split (idle_own t) (busy_own t) (λ (o : OwnTitle). one (is_own_of t o)) v.owns (λ o. one_split (same_title o.title t) o.idle) in
+        omega arith
+
+-- a view that has an Own, and marks it busy, has one that is busy
+busy_there : (t : Title) (os : List OwnTitle) → 0 < sum_by (λ o. one (is_own_of t o)) os → 0 < sum_by (busy_own t) (changed (is_own_of t) busy os)
+busy_there t os has =
+    let first = first_of (is_own_of t) os has in
+    let c = first.1.replaced busy (busy_own t) in
+    let within = first.1.left_out (busy_own t) in
+    let z : busy_own t (busy first.0) ≡ 1 = rw first.1.passes refl in
+    omega arith
+
+-- After a copy nobody knows that the count is 0: the view that has the Own has marked it, and where another one has it
+-- or none, a Ref was there before.
+pub copy_idle : (words : List ℕ) (views : List View) (i : ℕ) (t : Title) (word : ℕ) (v w : View) → get_elem? views i ≡ some v →
+    w.owns ≡ changed (is_own_of t) busy v.owns → total_of (shown words (set views i w)) (OwnOf t) ≤ 1 →
+    (held_of_view v (OwnOf t) ≡ 0 → idle_in views t ≡ 0) → idle_in (set views i w) t ≡ 0
+copy_idle words views i t word v w at_i owns few none =
+    let e = owns_have v t in
+    let c = sum_set (λ u. idle_of u t) views i v w at_i in
+    elim (cases_lt 0 (held_of_view v (OwnOf t))) [
+      | inl y ↦
+          let b = busy_split words (set views i w) t in
+          let mine : 0 < busy_of w t = rw owns (busy_there t v.owns (omega arith)) in
+          let d = sum_set (λ u. busy_of u t) views i v w at_i in
+          let p = sum_part (λ u. busy_of u t) views i v at_i in
+          omega arith
+      | inr n ↦
+          let z = none (omega arith) in
+          let same : idle_of w t ≡ idle_of v t = rw owns (ap (λ os. sum_by (idle_own t) os) (none_changed (is_own_of t) busy v.owns (omega arith))) in
+          omega arith
+    ]

@@ -1,0 +1,14 @@
+pub mod Adding
+pub mod Allowed
+pub mod Counting
+pub mod Ends
+pub mod Entering
+pub mod HolderPart
+pub mod Idle
+pub mod LogPart
+pub mod OneTitle
+pub mod Opens
+pub mod Pieces
+pub mod Releases
+pub mod ReservationPart
+pub mod SeenPart

@@ -1,0 +1,42 @@
+-- What the rule says of one title.
+use Rattle.std.proofs.Common.{◌≡◌, ℕ, ◌<◌, ◌≤◌, List, [], ◌∷◌, length, refl, sym, ◌∙◌, ap, arith, inl, inr}
+use Rattle.pa_machine.specs.declared.title.Title.{Title}
+use Rattle.pa_machine.specs.Count.{number_of}
+use Rattle.pa_machine.specs.Holdings.{IsTitleHeld}
+use Rattle.pa_machine.specs.Events.{total_of}
+use Rattle.pa_region.specs.declared.view.View.{View}
+use Rattle.pa_region.specs.Views.{shown, logged_in, counted_on}
+use Rattle.pa_region.specs.History.{Done, reached}
+use Rattle.pa_region.specs.Rule.{IsKept}
+use Rattle.pa_region.proofs.Adding.{one_lt}
+use Rattle.pa_region.proofs.LogPart.{reached_number}
+use Rattle.pa_region.specs.Views.{counted_at}
+use Rattle.pa_region.specs.Says.{word_shown}
+
+-- the number of a held title's word is the length of its history
+number_length : (words : List ℕ) (views : List View) (t : Title) (k : IsKept words views) → IsTitleHeld (total_of (shown words views)) t →
+    number_of (word_shown words t) ≡ length (k.history t)
+number_length words views t k held = ap number_of (k.logs.last t held) ∙ reached_number (k.history t) (k.logs.chain t).legal
+
+-- each number below the word's was found once, and no other
+pub found_once : (words : List ℕ) (views : List View) (t : Title) (k : IsKept words views) → IsTitleHeld (total_of (shown words views)) t →
+    ((n : ℕ) → n < number_of (word_shown words t) → logged_in views (counted_at t n) ≡ 1) ×
+    ((n : ℕ) → number_of (word_shown words t) ≤ n → logged_in views (counted_at t n) ≡ 0)
+found_once words views t k held =
+    let e = number_length words views t k held in (
+      (λ n below.
+          let c = (k.logs.chain t).numbers n in
+          elim (one_lt n (length (k.history t))) [ inl y ↦ let z = y.0 in omega arith | inr m ↦ let z = m.1 in absurd (omega arith) ]),
+      (λ n past.
+          let c = (k.logs.chain t).numbers n in
+          elim (one_lt n (length (k.history t))) [ inl y ↦ let z = y.1 in absurd (omega arith) | inr m ↦ let z = m.0 in omega arith ]),
+    )
+
+-- a title that no log names has made no step
+pub unnamed_new : (words : List ℕ) (views : List View) (t : Title) (k : IsKept words views) → IsTitleHeld (total_of (shown words views)) t →
+    logged_in views (counted_on t) ≡ 0 → word_shown words t ≡ 0
+unnamed_new words views t k held none = k.logs.last t held ∙ go (k.history t) (sym (k.logs.chain t).all ∙ none)
+  where
+    go : (hs : List Done) → length hs ≡ 0 → reached hs ≡ 0
+    go [] e = refl
+    go (d ∷ older) e = absurd (omega arith)

@@ -1,0 +1,397 @@
+-- The table that a region is opened with meets the rule.
+use Rattle.std.proofs.Common.{◌≡◌, ℕ, zero, suc, ◌+◌, ◌-◌, ◌*◌, ◌/◌, ◌<◌, ◌≤◌, Bool, true, false, ◌&&◌, List, [], ◌∷◌, length, take, refl, sym, ◌∙◌, ap, subst, arith, ◌⊎◌, inl, inr, eqb, ltb, leb}
+use Rattle.std.specs.Prelude.{if◌then◌else◌, slice_index}
+use Rattle.std.specs.List.{sum_by}
+use Rattle.std.proofs.lemmas.List.Sums.{sum_by-cons}
+use Rattle.std.proofs.lemmas.Bool.{cases_lt}
+use mathlib.Core.Option.{some, some-injective, some-ne-none}
+use lib.ListN.{get_elem?}
+use Rattle.pa_machine.specs.declared.title.Title.{Title}
+use Rattle.pa_machine.specs.Titles.{same_title, Covers, count_place, count_word}
+use Rattle.pa_machine.specs.Holdings.{Thing, RawByte, FreeTitle, OwnOf, RefOf, one, amount, IsTitleHeld}
+use Rattle.pa_machine.specs.Good.{IsByteGood}
+use Rattle.pa_machine.specs.Events.{total_of}
+use Rattle.pa_machine.proofs.Same.{title_one}
+use Rattle.pa_region.specs.declared.view.RawRange.{RawRange}
+use Rattle.pa_region.specs.declared.view.FreeTitle.{FreeTitle as FreeHeld}
+use Rattle.pa_region.specs.declared.view.Stake.{Stake}
+use Rattle.pa_region.specs.declared.view.View.{View}
+use Rattle.std.proofs.Common.{replicate}
+use Rattle.std.specs.Prelude.{length}
+use Rattle.std.proofs.lemmas.Bool.{lt-ltb, le-ltb, le-leb, lt-leb}
+use Rattle.std.proofs.lemmas.List.{length-take-le, length-replicate}
+use Rattle.atomic_table.specs.Seated.{TableId}
+use Rattle.atomic_table.specs.Table.{Me}
+use Rattle.pa_region.specs.Views.{raw_piece, free_piece, held_of_view, byte_words, shown, least_stake}
+use Rattle.pa_region.specs.Rule.{IsKept}
+use Rattle.pa_region.specs.Shares.{IsSound, byte_word_count}
+use Rattle.pa_region.specs.Start.{AreApart, AreWellFormed, is_covered, raw_word, rest_from, free_new, stakes_from, first_view}
+use Rattle.pa_region.proofs.Adding.{sum_map, sum_none, one_lt, one_eq}
+use Rattle.pa_region.proofs.Pieces.{held_split, frees_have, title_held}
+
+-- whether a word's range has the byte
+in_word : (from b : ℕ) → (((8 * from ≤ b) × (b < 8 * from + 8)) × (amount (RawByte b) (raw_piece (raw_word from)) ≡ 1))
+    ⊎ (((8 * from ≤ b) × (b < 8 * from + 8) → ⊥) × (amount (RawByte b) (raw_piece (raw_word from)) ≡ 0))
+in_word from b = elim (cases_lt b (8 * from)) [
+  | inl y ↦ inr ((λ h. let z = h.0 in omega arith), rw (lt-leb (8 * from) b y) refl)
+  | inr n ↦ elim (cases_lt b (8 * from + 8)) [
+    | inl y ↦ inl ((n, y), rw (le-leb (8 * from) b n, lt-ltb b (8 * from + 8) y) refl)
+    | inr m ↦ inr ((λ h. let z = h.1 in omega arith), rw (le-leb (8 * from) b n, le-ltb b (8 * from + 8) m) refl)
+  ]
+]
+
+-- how often a byte is raw among the words that no title covers
+abbrev rest_sum : ℕ → ℕ → List Title → ℕ → ℕ
+rest_sum from count titles b = sum_by (λ r. amount (RawByte b) (raw_piece r)) (rest_from from count titles)
+
+-- no byte outside these words is raw among them
+rest_out : (from count : ℕ) (titles : List Title) (b : ℕ) → (b < 8 * from) ⊎ (8 * (from + count) ≤ b) → rest_sum from count titles b ≡ 0
+unfolding rest_from
+rest_out from zero titles b h = refl
+rest_out from (suc count) titles b h =
+    go (is_covered titles (8 * from)) (rest_out (suc from) count titles b (elim h [ inl y ↦ inl (omega arith) | inr n ↦ inr (omega arith) ]))
+  where
+    go : (c : Bool) → rest_sum (suc from) count titles b ≡ 0 →
+        sum_by (λ r. amount (RawByte b) (raw_piece r)) (if c then rest_from (suc from) count titles else raw_word from ∷ rest_from (suc from) count titles) ≡ 0
+    go true again = again
+    go false again =
+        let c = sum_by-cons (λ r. amount (RawByte b) (raw_piece r)) (raw_word from) (rest_from (suc from) count titles) in
+        elim (in_word from b) [
+          | inl y ↦ let p = y.0.0 in let q = y.0.1 in elim h [ inl z ↦ absurd (omega arith) | inr z ↦ absurd (omega arith) ]
+          | inr n ↦ let z = n.1 in omega arith
+        ]
+
+-- a byte of these words is raw among them exactly where no title covers its word's first byte
+rest_in : (from count : ℕ) (titles : List Title) (b : ℕ) → 8 * from ≤ b → b < 8 * (from + count) →
+    rest_sum from count titles b ≡ (if is_covered titles (8 * (b / 8)) then 0 else 1)
+unfolding rest_from
+rest_in from zero titles b low high = absurd (omega arith)
+rest_in from (suc count) titles b low high =
+    elim (in_word from b) [
+      | inl y ↦
+          let p = y.0.1 in
+          let here : b / 8 ≡ from = omega arith in
+          let after = rest_out (suc from) count titles b (inl (omega arith)) in
+          subst (λ (k : ℕ). rest_sum from (suc count) titles b ≡ (if is_covered titles (8 * k) then 0 else 1)) (sym here) (at_word (is_covered titles (8 * from)) y.1 after)
+      | inr n ↦
+          let past : 8 * (suc from) ≤ b = elim (cases_lt b (8 * from + 8)) [ inl y ↦ absurd (n.0 (low, y)) | inr m ↦ omega arith ] in
+          beyond (is_covered titles (8 * from)) n.1 (rest_in (suc from) count titles b past (omega arith))
+    ]
+  where
+    at_word : (c : Bool) → amount (RawByte b) (raw_piece (raw_word from)) ≡ 1 → rest_sum (suc from) count titles b ≡ 0 →
+        sum_by (λ r. amount (RawByte b) (raw_piece r)) (if c then rest_from (suc from) count titles else raw_word from ∷ rest_from (suc from) count titles) ≡ (if c then 0 else 1)
+    at_word true one_here after = after
+    at_word false one_here after =
+        let c = sum_by-cons (λ r. amount (RawByte b) (raw_piece r)) (raw_word from) (rest_from (suc from) count titles) in omega arith
+
+    beyond : (c : Bool) → amount (RawByte b) (raw_piece (raw_word from)) ≡ 0 → rest_sum (suc from) count titles b ≡ (if is_covered titles (8 * (b / 8)) then 0 else 1) →
+        sum_by (λ r. amount (RawByte b) (raw_piece r)) (if c then rest_from (suc from) count titles else raw_word from ∷ rest_from (suc from) count titles)
+        ≡ (if is_covered titles (8 * (b / 8)) then 0 else 1)
+    beyond true none again = again
+    beyond false none again =
+        let c = sum_by-cons (λ r. amount (RawByte b) (raw_piece r)) (raw_word from) (rest_from (suc from) count titles) in omega arith
+
+-- a covered byte lies in a title of the list, and the other way round
+abbrev Stands : List Title → Title → Type 0
+Stands titles t = (i : ℕ) × (get_elem? titles i ≡ some t)
+
+-- the test tells whether the title covers the byte
+covers_test : (t : Title) (b : ℕ) → (((leb t.start b && ltb b (t.start + t.len)) ≡ true) × Covers t b) ⊎ (((leb t.start b && ltb b (t.start + t.len)) ≡ false) × (Covers t b → ⊥))
+covers_test t b = elim (cases_lt b t.start) [
+  | inl y ↦ inr (rw (lt-leb t.start b y) refl, (λ h. let z = h.0 in omega arith))
+  | inr n ↦ elim (cases_lt b (t.start + t.len)) [
+    | inl y ↦ inl (rw (le-leb t.start b n, lt-ltb b (t.start + t.len) y) refl, (n, y))
+    | inr m ↦ inr (rw (le-leb t.start b n, le-ltb b (t.start + t.len) m) refl, (λ h. let z = h.1 in omega arith))
+  ]
+]
+
+-- the test over the list tells whether one of its titles covers the byte
+covered_cases : (titles : List Title) (b : ℕ) →
+    ((is_covered titles b ≡ true) × ((t : Title) × Stands titles t × Covers t b))
+    ⊎ ((is_covered titles b ≡ false) × ((t : Title) → Stands titles t → Covers t b → ⊥))
+covered_cases [] b = inr (refl, (λ t stands covers. absurd (some-ne-none t (sym stands.1))))
+covered_cases (u ∷ us) b = elim (covers_test u b) [
+  | inl y ↦ inl (rw y.0 refl, (u, (0, refl), y.1))
+  | inr n ↦ elim (covered_cases us b) [
+    | inl y ↦ inl (rw (n.0, y.0) refl, (y.1.0, (suc y.1.1.0, y.1.1.1), y.1.2))
+    | inr m ↦ inr (rw (n.0, m.0) refl, (λ t stands covers. step t stands.0 stands.1 covers n.1 m.1))
+  ]
+]
+  where
+    step : (t : Title) (i : ℕ) → get_elem? (u ∷ us) i ≡ some t → Covers t b → (Covers u b → ⊥) → ((s : Title) → Stands us s → Covers s b → ⊥) → ⊥
+    step t zero e covers not_here none = not_here (subst (λ (z : Title). Covers z b) (sym (some-injective u t e)) covers)
+    step t (suc i) e covers not_here none = none t (i, e) covers
+
+-- how often a title stands in the list
+abbrev count_of : List Title → Title → ℕ
+count_of titles t = sum_by (λ u. one (same_title u t)) titles
+
+-- a title that is counted stands in the list
+stands_of : (titles : List Title) (t : Title) → 0 < count_of titles t → Stands titles t
+stands_of [] t h = absurd (omega arith)
+stands_of (u ∷ us) t h =
+    let c = sum_by-cons (λ x. one (same_title x t)) u us in
+    elim (title_one u t) [
+      | inl y ↦ (0, ap some y.1)
+      | inr n ↦ let z = n.0 in let again = stands_of us t (omega arith) in (suc again.0, again.1)
+    ]
+
+-- a title that stands in the list is counted
+count_of_stands : (titles : List Title) (t : Title) (i : ℕ) → get_elem? titles i ≡ some t → 0 < count_of titles t
+count_of_stands [] t i e = absurd (some-ne-none t (sym e))
+count_of_stands (u ∷ us) t zero e =
+    let c = sum_by-cons (λ x. one (same_title x t)) u us in
+    elim (title_one u t) [ inl y ↦ let z = y.0 in omega arith | inr n ↦ absurd (n.1 (some-injective u t e)) ]
+count_of_stands (u ∷ us) t (suc i) e =
+    let c = sum_by-cons (λ x. one (same_title x t)) u us in
+    let again = count_of_stands us t i e in omega arith
+
+-- a title that stands at one place alone is counted once
+count_once : (titles : List Title) (t : Title) → ((i k : ℕ) → get_elem? titles i ≡ some t → get_elem? titles k ≡ some t → i ≡ k) → count_of titles t ≤ 1
+count_once [] t same = omega arith
+count_once (u ∷ us) t same =
+    let c = sum_by-cons (λ x. one (same_title x t)) u us in
+    elim (title_one u t) [
+      | inl y ↦
+          let z = y.0 in
+          elim (cases_lt 0 (count_of us t)) [
+            | inl more ↦ let s = stands_of us t more in let e = same 0 (suc s.0) (ap some y.1) s.1 in absurd (omega arith)
+            | inr none ↦ omega arith
+          ]
+      | inr n ↦
+          let z = n.0 in
+          let again = count_once us t (λ i k p q. let e = same (suc i) (suc k) p q in omega arith) in
+          omega arith
+    ]
+
+-- what the first view holds
+first_frees : (words budget : ℕ) (titles : List Title) (t : Title) → held_of_view (first_view words budget titles) (FreeTitle t) ≡ count_of titles t
+first_frees words budget titles t =
+    let f = frees_have (first_view words budget titles) t in
+    let m = sum_map (λ (f : FreeHeld). one (same_title f.title t)) free_new titles in
+    omega arith
+
+-- the first view has no Own
+first_owns : (words budget : ℕ) (titles : List Title) (t : Title) → held_of_view (first_view words budget titles) (OwnOf t) ≡ 0
+first_owns words budget titles t =
+    let v = first_view words budget titles in
+    let s = held_split v (OwnOf t) in
+    let a = sum_none (λ (r : RawRange). amount (OwnOf t) (raw_piece r)) v.raws (λ r. refl) in
+    let b = sum_none (λ (f : FreeHeld). amount (OwnOf t) (free_piece f)) v.frees (λ f. refl) in
+    omega arith
+
+-- and no Ref
+first_refs : (words budget : ℕ) (titles : List Title) (t : Title) → held_of_view (first_view words budget titles) (RefOf t) ≡ 0
+first_refs words budget titles t =
+    let v = first_view words budget titles in
+    let s = held_split v (RefOf t) in
+    let a = sum_none (λ (r : RawRange). amount (RefOf t) (raw_piece r)) v.raws (λ r. refl) in
+    let b = sum_none (λ (f : FreeHeld). amount (RefOf t) (free_piece f)) v.frees (λ f. refl) in
+    omega arith
+
+-- and as raw the words that no title covers
+first_raw : (words budget : ℕ) (titles : List Title) (b : ℕ) → held_of_view (first_view words budget titles) (RawByte b) ≡ rest_sum 0 words titles b
+first_raw words budget titles b =
+    let v = first_view words budget titles in
+    let s = held_split v (RawByte b) in
+    let f = sum_none (λ (f : FreeHeld). amount (RawByte b) (free_piece f)) v.frees (λ f. refl) in
+    omega arith
+
+-- what it holds stands in the list
+first_held : (words budget : ℕ) (titles : List Title) (t : Title) → IsTitleHeld (held_of_view (first_view words budget titles)) t → Stands titles t
+first_held words budget titles t held =
+    let f = first_frees words budget titles t in
+    let o = first_owns words budget titles t in
+    let r = first_refs words budget titles t in
+    stands_of titles t (omega arith)
+
+-- all words are 0
+abbrev zeros : ℕ → List ℕ
+zeros m = replicate m 0
+
+-- each of them is 0, and so is what is read past their end
+zero_at : (n m i : ℕ) → slice_index (take n (zeros m)) i ≡ 0
+zero_at zero m i = refl
+zero_at (suc n) zero i = refl
+zero_at (suc n) (suc m) zero = refl
+zero_at (suc n) (suc m) (suc i) = zero_at n m i
+
+-- a byte and the first byte of its word lie in the same titles
+aligned_covered : (words : ℕ) (titles : List Title) (b : ℕ) → AreWellFormed words titles → is_covered titles (8 * (b / 8)) ≡ is_covered titles b
+aligned_covered words titles b well =
+    elim (covered_cases titles (8 * (b / 8))) [
+      | inl y ↦ elim (covered_cases titles b) [
+        | inl z ↦ y.0 ∙ sym z.0
+        | inr n ↦
+            let w = well y.1.1.0 y.1.0 y.1.1.1 in
+            let p = w.start_aligned in let q = w.len_aligned in let l = y.1.2.0 in let h = y.1.2.1 in
+            absurd (n.1 y.1.0 y.1.1 (omega arith, omega arith))
+      ]
+      | inr m ↦ elim (covered_cases titles b) [
+        | inl z ↦
+            let w = well z.1.1.0 z.1.0 z.1.1.1 in
+            let p = w.start_aligned in let q = w.len_aligned in let l = z.1.2.0 in let h = z.1.2.1 in
+            absurd (m.1 z.1.0 z.1.1 (omega arith, omega arith))
+        | inr n ↦ m.0 ∙ sym n.0
+      ]
+    ]
+
+-- the stakes from 0 on, each once
+stake_count : (from count k : ℕ) → ((from ≤ k) × (k < from + count) × (sum_by (λ (s : Stake). one (eqb s.number k)) (stakes_from from count) ≡ 1))
+    ⊎ (((from ≤ k) × (k < from + count) → ⊥) × (sum_by (λ (s : Stake). one (eqb s.number k)) (stakes_from from count) ≡ 0))
+stake_count from zero k = inr ((λ h. let p = h.0 in let q = h.1 in omega arith), refl)
+stake_count from (suc count) k =
+    let c = sum_by-cons (λ (s : Stake). one (eqb s.number k)) (record { number = from; log = [] }) (stakes_from (suc from) count) in
+    elim (one_eq from k) [
+      | inl y ↦
+          let e = y.0 in let f = y.1 in
+          inl (omega arith, omega arith, elim (stake_count (suc from) count k) [ inl z ↦ let p = z.0 in absurd (omega arith) | inr n ↦ let z = n.1 in omega arith ])
+      | inr n ↦
+          let e = n.0 in
+          elim (stake_count (suc from) count k) [
+            | inl z ↦ let p = z.0 in let q = z.1 in let r = z.2 in inl (omega arith, omega arith, omega arith)
+            | inr m ↦ let r = m.1 in inr ((λ h. let p = h.0 in let q = h.1 in m.0 (elim (cases_lt from k) [ inl a ↦ omega arith | inr a ↦ absurd (n.1 (omega arith)) ], omega arith)), omega arith)
+          ]
+    ]
+
+-- the rule holds at the start, where the words are 0
+pub opens : (words budget : ℕ) (titles : List Title) → budget ≤ 65536 → AreWellFormed words titles → AreApart titles →
+    IsKept (replicate (words + 16) 0) (first_view words budget titles ∷ [])
+opens words budget titles few well apart = record {
+  history = λ t. [];
+  holders = record {
+    divided = record {
+      bytes = λ b below. go b (rw long at below) (covered_cases titles b);
+      outside = λ b past. raw_total b ∙ rest_out 0 words titles b (inr (let far : 8 * words ≤ b = rw long at past in omega arith));
+      well = λ t held. let s = stands t held in rw long (well s.0 t s.1);
+      apart = λ t u b held other covers inside.
+          let s = stands t held in
+          let z = stands u other in
+          let e = apart s.0 z.0 b t u s.1 z.1 covers inside in
+          some-injective t u (sym s.1 ∙ (ap (λ i. get_elem? titles i) e ∙ z.1));
+    };
+    word = λ t held.
+        let s = stands t held in
+        let w = well s.0 t s.1 in
+        let l = w.long in
+        let once = count_once titles t (λ i k p q. apart i k t.start t t p q (omega arith, omega arith) (omega arith, omega arith)) in
+        let there = count_of_stands titles t s.0 s.1 in
+        let f = frees_total t in
+        rw (zero_word t) (record {
+          owns = sym (owns_total t);
+          refs = sym (refs_total t);
+          free = λ is_free. omega arith;
+          taken = λ not_free. absurd (not_free (refl, refl));
+        });
+    known = λ t some_idle. absurd (omega arith);
+    affords = omega arith;
+    few = λ t held. rw (zero_word t) (omega arith);
+    few_refs = λ t held. rw (zero_word t) (omega arith);
+  };
+  reservations = record {
+    floors = λ t b some_name covers. absurd (omega arith);
+    later = λ t u b some_name held ne covers inside. absurd (omega arith);
+    gone = λ t some_name held. absurd (omega arith);
+  };
+  logs = record {
+    chain = λ t. record {
+      legal = tt;
+      steps = tt;
+      numbers = λ k. elim (one_lt k 0) [ inl y ↦ let z = y.1 in absurd (omega arith) | inr n ↦ sym n.0 ];
+      all = refl;
+      looks = λ word some_look. absurd (omega arith);
+    };
+    last = λ t held. zero_word t;
+    each_stake = λ k. elim (stake_count 0 16 k) [
+      | inl y ↦ elim (one_lt k 16) [ inl z ↦ let a = y.2 in let b = z.0 in omega arith | inr n ↦ let a = y.1 in let b = n.1 in absurd (omega arith) ]
+      | inr m ↦ elim (one_lt k 16) [ inl z ↦ let a = z.1 in absurd (m.0 (omega arith, omega arith)) | inr n ↦ let a = m.1 in let b = n.0 in omega arith ]
+    ];
+  };
+  seen = record {
+    numbers = λ t. refl;
+    own_logs = refl;
+  };
+}
+  where
+    all_words : List ℕ
+    all_words = replicate (words + 16) 0
+
+    views : List View
+    views = first_view words budget titles ∷ []
+
+    long : length (byte_words all_words) ≡ words
+    long = let a : length all_words ≡ words + 16 = length-replicate (words + 16) 0 in
+        let b = length-take-le (length all_words - 16) all_words (omega arith) in
+        omega arith
+
+    zero_word : (t : Title) → count_word (byte_words all_words) t ≡ 0
+    zero_word t = zero_at (length all_words - 16) (words + 16) (count_place t)
+
+    total_is : (x : Thing) → total_of (shown all_words views) x ≡ held_of_view (first_view words budget titles) x
+    total_is x = omega arith
+
+    frees_total : (t : Title) → total_of (shown all_words views) (FreeTitle t) ≡ count_of titles t
+    frees_total t = total_is (FreeTitle t) ∙ first_frees words budget titles t
+
+    owns_total : (t : Title) → total_of (shown all_words views) (OwnOf t) ≡ 0
+    owns_total t = total_is (OwnOf t) ∙ first_owns words budget titles t
+
+    refs_total : (t : Title) → total_of (shown all_words views) (RefOf t) ≡ 0
+    refs_total t = total_is (RefOf t) ∙ first_refs words budget titles t
+
+    raw_total : (b : ℕ) → total_of (shown all_words views) (RawByte b) ≡ rest_sum 0 words titles b
+    raw_total b = total_is (RawByte b) ∙ first_raw words budget titles b
+
+    stands : (t : Title) → IsTitleHeld (total_of (shown all_words views)) t → Stands titles t
+    stands t held =
+        let f = frees_total t in let o = owns_total t in let r = refs_total t in
+        stands_of titles t (omega arith)
+
+    go : (b : ℕ) → b < 8 * words →
+        ((is_covered titles b ≡ true) × ((t : Title) × Stands titles t × Covers t b))
+        ⊎ ((is_covered titles b ≡ false) × ((t : Title) → Stands titles t → Covers t b → ⊥)) →
+        IsByteGood (total_of (shown all_words views)) b
+    go b below (inl y) =
+        let there = count_of_stands titles y.1.0 y.1.1.0 y.1.1.1 in
+        let f = frees_total y.1.0 in
+        inr (
+          raw_total b ∙ (rest_in 0 words titles b (omega arith) (omega arith) ∙ rw (aligned_covered words titles b well, y.0) refl),
+          (y.1.0, omega arith, y.1.2),
+        )
+    go b below (inr n) =
+        inl (
+          raw_total b ∙ (rest_in 0 words titles b (omega arith) (omega arith) ∙ rw (aligned_covered words titles b well, n.0) refl),
+          λ t held covers. n.1 t (stands t held) covers,
+        )
+
+-- the first view is sound, and its least stake is 0
+pub first_sound : (region : TableId) (words budget : ℕ) (titles : List Title) → byte_word_count region ≡ words → words ≤ 4194304 → AreWellFormed words titles →
+    IsSound region (first_view words budget titles)
+first_sound region words budget titles e small well = record {
+  small = rw e small;
+  well = λ t has. let s = first_held words budget titles t (title_held (first_view words budget titles) t has) in rw e (well s.0 t s.1);
+}
+
+-- the same, with the lists as the code makes them
+pub opens_with : (supers budget : ℕ) (titles copied : List Title) (words : List ℕ) → budget ≤ 65536 →
+    AreWellFormed (262144 * supers) titles × AreApart titles → copied ≡ titles → words ≡ replicate (supers * 262144 + 16) 0 →
+    IsKept words (first_view (supers * 262144) budget copied ∷ [])
+opens_with supers budget titles copied words few good e z =
+    let same : supers * 262144 ≡ 262144 * supers = omega arith in
+    rw (e, z, same) (opens (262144 * supers) budget titles few good.0 good.1)
+
+-- what the first seat's type keeps
+pub first_keeps : (supers budget : ℕ) (titles copied : List Title) (words : List ℕ) (table region : TableId) (me : Me (Unit {0}) View) → supers ≤ 16 →
+    AreWellFormed (262144 * supers) titles × AreApart titles → copied ≡ titles → words ≡ replicate (supers * 262144 + 16) 0 →
+    table.words ≡ length words → region ≡ table → me ≡ (first_view (supers * 262144) budget copied, []) →
+    (me.1 ≡ []) × IsSound region me.0 × (0 ≡ least_stake me.0.stakes)
+first_keeps supers budget titles copied words table region me few good e z long same is_first =
+    let scaled : supers * 262144 ≡ 262144 * supers = omega arith in
+    let count : length words ≡ supers * 262144 + 16 = ap (λ (ws : List ℕ). length ws) z ∙ length-replicate (supers * 262144 + 16) 0 in
+    let n : region.words ≡ length words = ap (λ (x : TableId). x.words) same ∙ long in
+    let view : me.0 ≡ first_view (262144 * supers) budget titles =
+    ap (λ (m : Me (Unit {0}) View). m.0) is_first ∙ (ap (λ (k : ℕ). first_view k budget copied) scaled ∙ ap (λ (ts : List Title). first_view (262144 * supers) budget ts) e) in (
+      ap (λ (m : Me (Unit {0}) View). m.1) is_first,
+      subst (λ (v : View). IsSound region v) (sym view) (first_sound region (262144 * supers) budget titles (omega arith) (omega arith) good.0),
+      sym (ap (λ (v : View). least_stake v.stakes) view),
+    )

@@ -1,0 +1,228 @@
+-- What a view holds, kind by kind, and what all views hold when one of them changes.
+use Rattle.std.proofs.Common.{◌≡◌, ℕ, ◌+◌, ◌<◌, ◌≤◌, Bool, true, false, ◌&&◌, List, [], ◌∷◌, ◌++◌, map, set, refl, sym, ◌∙◌, ap, arith, inl, inr}
+use Rattle.std.specs.Prelude.{◌==◌, if◌then◌else◌}
+use Rattle.std.specs.List.{sum_by}
+use Rattle.std.proofs.lemmas.List.Sums.{sum_by-cons, sum_by-append, sum_by-le-sum_by}
+use Rattle.std.proofs.lemmas.Bool.{true≢false}
+use mathlib.Core.Option.{some}
+use lib.ListN.{get_elem?}
+use Rattle.pa_machine.specs.declared.title.Title.{Title}
+use Rattle.pa_machine.specs.declared.title.OwnState.{OwnState}
+use Rattle.pa_machine.specs.declared.title.OwnState.TheVariants.{Clean}
+use Rattle.pa_machine.specs.declared.word.Step.{Step}
+use Rattle.pa_machine.specs.declared.word.Step.TheVariants.{Issue, Copy, Reset, Free, Write}
+use Rattle.pa_machine.specs.Count.{stepped, refs_of, held_of}
+use Rattle.pa_machine.specs.Titles.{same_title}
+use Rattle.pa_machine.specs.Holdings.{Piece, FreePiece, OwnPiece, RefPiece, Thing, FreeTitle, OwnOf, RefOf, one, amount, held_in, IsTitleHeld}
+use Rattle.pa_machine.specs.Events.{returned_at, total_of}
+use Rattle.pa_machine.proofs.Same.{title_tells}
+use Rattle.pa_machine.proofs.Parts.{Changes}
+use Rattle.pa_region.specs.declared.view.RawRange.{RawRange}
+use Rattle.pa_region.specs.declared.view.FreeTitle.{FreeTitle as FreeHeld}
+use Rattle.pa_region.specs.declared.view.OwnTitle.{OwnTitle}
+use Rattle.pa_region.specs.declared.view.View.{View}
+use Rattle.pa_region.specs.Views.{raw_piece, free_piece, own_piece, pieces_of, held_of_view, free_of, own_of, ref_of, HasTitle, shown, idle_of}
+use Rattle.pa_region.specs.Moves.{changed, returned, is_free_of, is_own_of, is_ref_of, HasHandle, moved, words_of_free, words_of_own, busy, written}
+use Rattle.pa_region.proofs.Adding.{sum_set, sum_part, sum_map, sum_none, first_of, one_and}
+
+-- how often a view holds a thing, by the four lists of its holdings
+abbrev pub raw_sum : View → Thing → ℕ
+raw_sum v x = sum_by (λ r. amount x (raw_piece r)) v.raws
+
+-- by its free titles
+abbrev pub frees_sum : List FreeHeld → Thing → ℕ
+frees_sum fs x = sum_by (λ f. amount x (free_piece f)) fs
+
+-- by its Owns
+abbrev pub owns_sum : List OwnTitle → Thing → ℕ
+owns_sum os x = sum_by (λ o. amount x (own_piece o)) os
+
+-- by its Refs
+abbrev pub refs_sum : List Title → Thing → ℕ
+refs_sum ts x = sum_by (λ t. amount x (RefPiece t)) ts
+
+-- what a view holds is the sum of the four
+pub held_split : (v : View) (x : Thing) → held_of_view v x ≡ raw_sum v x + frees_sum v.frees x + owns_sum v.owns x + refs_sum v.refs x
+held_split v x =
+    let rest1 = map own_piece v.owns ++ map RefPiece v.refs in
+    let rest2 = map free_piece v.frees ++ rest1 in
+    let a = sum_by-append (amount x) (map raw_piece v.raws) rest2 in
+    let b = sum_by-append (amount x) (map free_piece v.frees) rest1 in
+    let c = sum_by-append (amount x) (map own_piece v.owns) (map RefPiece v.refs) in
+    let d = sum_map (amount x) raw_piece v.raws in
+    let e = sum_map (amount x) free_piece v.frees in
+    let f = sum_map (amount x) own_piece v.owns in
+    let g = sum_map (amount x) RefPiece v.refs in
+    omega arith
+
+-- the titles that a view holds stand in its lists
+pub frees_have : (v : View) (t : Title) → held_of_view v (FreeTitle t) ≡ free_of v t
+frees_have v t =
+    let s = held_split v (FreeTitle t) in
+    let a = sum_none (λ (r : RawRange). amount (FreeTitle t) (raw_piece r)) v.raws (λ r. refl) in
+    let b = sum_none (λ (o : OwnTitle). amount (FreeTitle t) (own_piece o)) v.owns (λ o. refl) in
+    let c = sum_none (λ (u : Title). amount (FreeTitle t) (RefPiece u)) v.refs (λ u. refl) in
+    omega arith
+
+-- the Owns
+pub owns_have : (v : View) (t : Title) → held_of_view v (OwnOf t) ≡ own_of v t
+owns_have v t =
+    let s = held_split v (OwnOf t) in
+    let a = sum_none (λ (r : RawRange). amount (OwnOf t) (raw_piece r)) v.raws (λ r. refl) in
+    let b = sum_none (λ (f : FreeHeld). amount (OwnOf t) (free_piece f)) v.frees (λ o. refl) in
+    let c = sum_none (λ (u : Title). amount (OwnOf t) (RefPiece u)) v.refs (λ u. refl) in
+    omega arith
+
+-- and the Refs
+pub refs_have : (v : View) (t : Title) → held_of_view v (RefOf t) ≡ ref_of v t
+refs_have v t =
+    let s = held_split v (RefOf t) in
+    let a = sum_none (λ (r : RawRange). amount (RefOf t) (raw_piece r)) v.raws (λ r. refl) in
+    let b = sum_none (λ (f : FreeHeld). amount (RefOf t) (free_piece f)) v.frees (λ o. refl) in
+    let c = sum_none (λ (o : OwnTitle). amount (RefOf t) (own_piece o)) v.owns (λ u. refl) in
+    omega arith
+
+-- a view holds a title as the core says it
+pub title_held : (v : View) (t : Title) → HasTitle v t → IsTitleHeld (held_of_view v) t
+title_held v t h =
+    let f = frees_have v t in let o = owns_have v t in let r = refs_have v t in
+    omega arith
+
+-- and the other way round
+pub held_title : (v : View) (t : Title) → IsTitleHeld (held_of_view v) t → HasTitle v t
+held_title v t h =
+    let f = frees_have v t in let o = owns_have v t in let r = refs_have v t in
+    omega arith
+
+-- a test that is passed finds the title
+pub found_title : (t u : Title) → same_title u t ≡ true → u ≡ t
+found_title t u e = elim (title_tells u t) [ inl y ↦ y.1 | inr n ↦ absurd (true≢false (sym e ∙ n.0)) ]
+
+-- what a view holds, summed over all views, and after a change of one
+pub total_sum : (words : List ℕ) (views : List View) (x : Thing) → total_of (shown words views) x ≡ sum_by (λ v. held_of_view v x) views
+total_sum words views x = sum_map (λ ps. held_in ps x) pieces_of views
+
+-- what all hold after a change of one view
+pub total_set : (words after : List ℕ) (views : List View) (i : ℕ) (v w : View) → get_elem? views i ≡ some v → (x : Thing) →
+    total_of (shown after (set views i w)) x + held_of_view v x ≡ total_of (shown words views) x + held_of_view w x
+total_set words after views i v w at_i x =
+    let a = total_sum after (set views i w) x in
+    let b = total_sum words views x in
+    let c = sum_set (λ u. held_of_view u x) views i v w at_i in
+    omega arith
+
+-- what one view holds is within what all hold
+pub held_within : (words : List ℕ) (views : List View) (i : ℕ) (v : View) → get_elem? views i ≡ some v → (x : Thing) →
+    held_of_view v x ≤ total_of (shown words views) x
+held_within words views i v at_i x =
+    let b = total_sum words views x in
+    let c = sum_part (λ u. held_of_view u x) views i v at_i in
+    omega arith
+
+-- what a counted step that leaves this word takes from its view, and what it gives to it
+abbrev pub lost_by : Step → Title → OwnState → List Piece
+lost_by Issue t a = FreePiece t ∷ []
+lost_by Copy t a = []
+lost_by Reset t a = RefPiece t ∷ []
+lost_by Free t a = OwnPiece t a ∷ []
+lost_by Write t a = OwnPiece t a ∷ []
+
+-- what it gives to it
+abbrev pub gained_by : Step → Title → ℕ → List Piece
+gained_by Issue t left = OwnPiece t Clean ∷ []
+gained_by Copy t left = RefPiece t ∷ []
+gained_by Reset t left = returned_at left t
+gained_by Free t left = returned_at left t
+gained_by Write t left = OwnPiece t Clean ∷ []
+
+-- the free titles after a return
+returned_sum : (left : ℕ) (t : Title) (words : List ℕ) (frees : List FreeHeld) (x : Thing) →
+    frees_sum (returned left t words frees) x ≡ frees_sum frees x + held_in (returned_at left t) x
+returned_sum left t words frees x = go ((held_of left == 0) && (refs_of left == 0))
+  where
+    go : (b : Bool) → frees_sum (if b then record { title = t; words = words } ∷ frees else frees) x ≡ frees_sum frees x + held_in (if b then FreePiece t ∷ [] else []) x
+    go true = omega (arith, sum_by-cons (λ f. amount x (free_piece f)) (record { title = t; words = words }) frees)
+    go false = omega arith
+
+-- a view's Own with any idle mark
+pub idle_owns : (v : View) (t : Title) → 0 < idle_of v t → 0 < held_of_view v (OwnOf t)
+idle_owns v t h =
+    let e = owns_have v t in
+    let l = sum_by-le-sum_by (λ (o : OwnTitle). one (same_title o.title t && o.idle)) (λ (o : OwnTitle). one (is_own_of t o)) v.owns (λ o. one_and (same_title o.title t) o.idle) in
+    omega arith
+
+-- a change of an Own that leaves title and state changes nothing of what is held
+pub unchanged_sum : (t : Title) (change : OwnTitle → OwnTitle) (os : List OwnTitle) → ((o : OwnTitle) → own_piece (change o) ≡ own_piece o) →
+    (x : Thing) → owns_sum (changed (is_own_of t) change os) x ≡ owns_sum os x
+unchanged_sum t change [] same x = refl
+unchanged_sum t change (o ∷ os) same x = go (is_own_of t o) (unchanged_sum t change os same x)
+  where
+    go : (b : Bool) → owns_sum (changed (is_own_of t) change os) x ≡ owns_sum os x →
+        owns_sum (if b then change o ∷ os else o ∷ changed (is_own_of t) change os) x ≡ owns_sum (o ∷ os) x
+    go true again =
+        let here : amount x (own_piece (change o)) ≡ amount x (own_piece o) = ap (amount x) (same o) in
+        omega (arith, sum_by-cons (λ p. amount x (own_piece p)) (change o) os, sum_by-cons (λ p. amount x (own_piece p)) o os)
+    go false again =
+        omega (arith, sum_by-cons (λ p. amount x (own_piece p)) o (changed (is_own_of t) change os), sum_by-cons (λ p. amount x (own_piece p)) o os)
+
+-- what a counted step changes of what the view holds
+pub moved_changes : (step : Step) (t : Title) (word : ℕ) (v : View) → HasHandle step t v →
+    (a : OwnState) × Changes (held_of_view v) (lost_by step t a) (gained_by step t (stepped step word)) (held_of_view (moved step t word v))
+moved_changes Issue t word v has =
+    let e = frees_have v t in
+    let first = first_of (is_free_of t) v.frees (omega arith) in (
+      Clean,
+      λ x.
+          let own : OwnTitle = record { title = t; state = Clean; idle = true; words = words_of_free t v.frees } in
+          let f = first.1.left_out (λ f. amount x (free_piece f)) in
+          let same : amount x (free_piece first.0) ≡ amount x (FreePiece t) = ap (λ u. amount x (FreePiece u)) (found_title t first.0.title first.1.passes) in
+          let before = held_split v x in
+          let after = held_split (moved Issue t word v) x in
+          omega (arith, sum_by-cons (λ o. amount x (own_piece o)) own v.owns),
+    )
+moved_changes Copy t word v has = (
+  Clean,
+  λ x.
+      let before = held_split v x in
+      let after = held_split (moved Copy t word v) x in
+      let same = unchanged_sum t busy v.owns (λ o. refl) x in
+      omega (arith, sum_by-cons (λ u. amount x (RefPiece u)) t v.refs),
+)
+moved_changes Reset t word v has =
+    let e = refs_have v t in
+    let first = first_of (is_ref_of t) v.refs (omega arith) in (
+      Clean,
+      λ x.
+          let f = first.1.left_out (λ u. amount x (RefPiece u)) in
+          let same : amount x (RefPiece first.0) ≡ amount x (RefPiece t) = ap (λ u. amount x (RefPiece u)) (found_title t first.0 first.1.passes) in
+          let back = returned_sum (stepped Reset word) t [] v.frees x in
+          let before = held_split v x in
+          let after = held_split (moved Reset t word v) x in
+          omega arith,
+    )
+moved_changes Free t word v has =
+    let e = owns_have v t in
+    let first = first_of (is_own_of t) v.owns (omega arith) in (
+      first.0.state,
+      λ x.
+          let f = first.1.left_out (λ o. amount x (own_piece o)) in
+          let same : amount x (own_piece first.0) ≡ amount x (OwnPiece t first.0.state) = ap (λ u. amount x (OwnPiece u first.0.state)) (found_title t first.0.title first.1.passes) in
+          let back = returned_sum (stepped Free word) t (words_of_own t v.owns) v.frees x in
+          let before = held_split v x in
+          let after = held_split (moved Free t word v) x in
+          omega arith,
+    )
+moved_changes Write t word v has =
+    let e = owns_have v t in
+    let some_own = idle_owns v t has in
+    let first = first_of (is_own_of t) v.owns (omega arith) in (
+      first.0.state,
+      λ x.
+          let f = first.1.replaced written (λ o. amount x (own_piece o)) in
+          let title = found_title t first.0.title first.1.passes in
+          let same : amount x (own_piece first.0) ≡ amount x (OwnPiece t first.0.state) = ap (λ u. amount x (OwnPiece u first.0.state)) title in
+          let now : amount x (own_piece (written first.0)) ≡ amount x (OwnPiece t Clean) = ap (λ u. amount x (OwnPiece u Clean)) title in
+          let before = held_split v x in
+          let after = held_split (moved Write t word v) x in
+          omega arith,
+    )

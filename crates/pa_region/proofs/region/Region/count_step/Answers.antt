@@ -1,0 +1,49 @@
+use Rattle.std.proofs.Common.{◌∙◌, sym, ap, subst}
+use Rattle.atomic_table.specs.Seated.{TableId}
+use Rattle.pa_region.specs.declared.view.View.{View}
+use Rattle.pa_region.specs.Views.{least_stake}
+use Rattle.pa_region.specs.Moves.{CanCount, IsFound, after_count}
+use Rattle.pa_region.specs.Shares.{Share, IsSound, byte_word_count}
+use Rattle.pa_region.proofs.Counting.{handle_held}
+use Rattle.pa_region.proofs.Pieces.{held_title}
+use Rattle.pa_region.proofs.Allowed.{count_allowed_by, count_sound, count_least, place_inside}
+use Rattle.pa_region.proofs.region.Region.count_step.Goals as goal
+
+pub count_index-word-requires : goal.count_index-word-requires
+count_index-word-requires c =
+    let can = subst (λ (h : Share). CanCount c.args.step c.args.title h.view) (sym c.seat.view_is) c.requires.able in
+    (byte_word_count c.seat.inside.seat.table_id, c.seat.invariant.1.well c.args.title (held_title c.seat.inside.seat.me.0 c.args.title (handle_held c.args.step c.args.title c.seat.inside.seat.me.0 can.0)))
+
+pub add_as-requires-clause-region : goal.add_as-requires-clause-region
+add_as-requires-clause-region c =
+    let can = subst (λ (h : Share). CanCount c.args.step c.args.title h.view) (sym c.seat.view_is) c.requires.able in
+    let same = ap (λ (h : Share). h.region) c.seat.view_is ∙ (c.requires.region ∙ sym c.self.view_is) in
+    let well = c.seat.invariant.1.well c.args.title (held_title c.seat.inside.seat.me.0 c.args.title (handle_held c.args.step c.args.title c.seat.inside.seat.me.0 can.0)) in
+    (same, place_inside c.seat.inside.seat.table_id c.self.inside.table.shared.table_id c.args.title c.count_index-word.result same well c.count_index-word.ensures)
+
+pub add_as-requires-clause-allowed : goal.add_as-requires-clause-allowed
+add_as-requires-clause-allowed c =
+    let can = subst (λ (h : Share). CanCount c.args.step c.args.title h.view) (sym c.seat.view_is) c.requires.able in
+    count_allowed_by c.args.step c.args.title c.self.inside.table.shared.table_id.slots c.seat.inside.seat.id c.count_index-word.result c.added.result c.seat.inside.seat.me c.count_index-word.ensures c.added.ensures can
+
+pub invariant_of-seat : goal.invariant_of-seat
+invariant_of-seat c =
+    let can = subst (λ (h : Share). CanCount c.args.step c.args.title h.view) (sym c.seat.view_is) c.requires.able in
+    let told = c.add_as.ensures.told in
+    let before = c.seat.inside.seat.me.0 in
+    let region = c.add_as.ensures.seat.0 in (
+      told.1 ∙ c.seat.invariant.0,
+      subst (λ (z : TableId). IsSound z c.add_as.new.seat.me.0) (sym region)
+          (subst (λ (w : View). IsSound c.seat.inside.seat.table_id w) (sym told.0) (count_sound c.seat.inside.seat.table_id c.args.step c.args.title c.add_as.result before can c.seat.invariant.1)),
+      c.seat.invariant.2 ∙ (sym (count_least c.args.step c.args.title c.add_as.result before) ∙ sym (ap (λ (w : View). least_stake w.stakes) told.0)),
+    )
+
+pub returns : goal.returns
+returns c =
+    let told = c.add_as.ensures.told in
+    record {
+      region = c.add_as.ensures.seat.0 ∙ ap (λ (h : Share). h.region) c.seat.view_is;
+      view = told.0 ∙ ap (λ (h : Share). after_count c.args.step c.args.title c.add_as.result h.view) c.seat.view_is;
+      enabled = told.2;
+      found = subst (λ (h : Share). IsFound c.args.title c.add_as.result h.view) c.seat.view_is told.3;
+    }

@@ -1,0 +1,23 @@
+use Rattle.std.proofs.Common.{◌/◌, ◌∙◌, refl, sym, subst}
+use Rattle.atomic_table.specs.Seated.{TableId}
+use Rattle.pa_region.specs.Shares.{Share, IsSound, CanLoad, LoadTells}
+use Rattle.pa_region.proofs.Allowed.{load_allowed, load_keeps}
+use Rattle.pa_region.proofs.region.Region.load.Goals as goal
+
+pub load_as-requires-clause-allowed : goal.load_as-requires-clause-allowed
+load_as-requires-clause-allowed c =
+    let can = subst (λ (h : Share). CanLoad c.args.at h.view) (sym c.seat.view_is) c.requires.able in
+    load_allowed c.args.at c.self.inside.table.shared.table_id.slots c.seat.inside.seat.id (c.args.at / 8) c.seat.inside.seat.me refl can
+
+pub invariant_of-seat : goal.invariant_of-seat
+invariant_of-seat c =
+    let can = subst (λ (h : Share). CanLoad c.args.at h.view) (sym c.seat.view_is) c.requires.able in
+    let told = c.load_as.ensures.told in
+    let kept = load_keeps c.args.at c.seat.inside.seat.table_id c.seat.inside.seat.me.0 c.load_as.new.seat.me.0 c.load_as.result can told.0 c.seat.invariant.1 in (
+      told.1 ∙ c.seat.invariant.0,
+      subst (λ (z : TableId). IsSound z c.load_as.new.seat.me.0) (sym c.load_as.ensures.seat.0) kept.0,
+      c.seat.invariant.2 ∙ sym kept.1,
+    )
+
+pub returns-clause-told : goal.returns-clause-told
+returns-clause-told c = subst (λ (h : Share). LoadTells c.args.at h.view c.load_as.result c.load_as.new.seat.me.0) c.seat.view_is c.load_as.ensures.told.0

@@ -1,0 +1,145 @@
+-- What each kind of step makes of the stepping seat's view.
+use Rattle.std.specs.Prelude.{◌≡◌, ℕ, ◌+◌, ◌-◌, ◌<◌, ◌≤◌, List, [], ◌∷◌, ◌++◌, Bool, true, false, ◌==◌, ◌&&◌, slice_index, if◌then◌else◌}
+use Rattle.pa_machine.specs.declared.title.Title.{Title}
+use Rattle.pa_machine.specs.declared.title.OwnState.TheVariants.{Clean}
+use Rattle.pa_machine.specs.declared.word.Step.{Step}
+use Rattle.pa_machine.specs.declared.word.Step.TheVariants.{Issue, Copy, Reset, Free, Write}
+use Rattle.pa_machine.specs.Count.{stepped, number_of, refs_of, held_of}
+use Rattle.pa_machine.specs.Run.{IsFree}
+use Rattle.pa_machine.specs.Titles.{same_title}
+use Rattle.pa_region.specs.declared.view.FreeTitle.{FreeTitle as FreeHeld}
+use Rattle.pa_region.specs.declared.view.OwnTitle.{OwnTitle}
+use Rattle.pa_region.specs.declared.view.Deeds.{Deeds}
+use Rattle.pa_region.specs.declared.view.Entry.{Entry}
+use Rattle.pa_region.specs.declared.view.Entry.TheVariants.{Counted, Looked}
+use Rattle.pa_region.specs.declared.view.Stake.{Stake}
+use Rattle.pa_region.specs.declared.view.View.{View}
+use Rattle.pa_region.specs.Views.{free_of, own_of, ref_of, idle_of, seen_of, least_stake, HasStake}
+
+module _ {A : Type 0} where
+  -- the list without the first member that passes the test
+  abbrev pub without : (A → Bool) → List A → List A
+  without test [] = []
+  without test (x ∷ xs) = if test x then xs else x ∷ without test xs
+
+  -- the list with the first member that passes the test changed
+  abbrev pub changed : (A → Bool) → (A → A) → List A → List A
+  changed test change [] = []
+  changed test change (x ∷ xs) = if test x then change x ∷ xs else x ∷ changed test change xs
+
+-- a free title that is this one
+abbrev pub is_free_of : Title → FreeHeld → Bool
+is_free_of t f = same_title f.title t
+
+-- an Own of the title
+abbrev pub is_own_of : Title → OwnTitle → Bool
+is_own_of t o = same_title o.title t
+
+-- a Ref of it
+abbrev pub is_ref_of : Title → Title → Bool
+is_ref_of t u = same_title u t
+
+-- the words known of the first free title that is this one
+abbrev pub words_of_free : Title → List FreeHeld → List ℕ
+words_of_free t [] = []
+words_of_free t (f ∷ fs) = if same_title f.title t then f.words else words_of_free t fs
+
+-- the words known of the first Own of the title
+abbrev pub words_of_own : Title → List OwnTitle → List ℕ
+words_of_own t [] = []
+words_of_own t (o ∷ os) = if same_title o.title t then o.words else words_of_own t os
+
+-- an Own after a copy
+abbrev pub busy : OwnTitle → OwnTitle
+busy o = record o { idle = false }
+
+-- an Own after a write that found no Ref
+abbrev pub written : OwnTitle → OwnTitle
+written o = record o { state = Clean; idle = true }
+
+-- an Own after a look that found this word: where the count in it is 0, that is known
+abbrev pub idle_if : ℕ → OwnTitle → OwnTitle
+idle_if word o = if refs_of word == 0 then record o { idle = true } else o
+
+-- the free titles after a step that leaves this word: with the title, where bit and count are 0
+abbrev pub returned : ℕ → Title → List ℕ → List FreeHeld → List FreeHeld
+returned left t words frees =
+    if (held_of left == 0) && (refs_of left == 0) then record { title = t; words = words } ∷ frees else frees
+
+-- what the view holds after a counted step on the title that found this word
+abbrev pub moved : Step → Title → ℕ → View → View
+moved Issue t word v = record v {
+  frees = without (is_free_of t) v.frees;
+  owns = record { title = t; state = Clean; idle = true; words = words_of_free t v.frees } ∷ v.owns;
+}
+moved Copy t word v = record v { owns = changed (is_own_of t) busy v.owns; refs = t ∷ v.refs }
+moved Reset t word v = record v {
+  frees = returned (stepped Reset word) t [] v.frees;
+  refs = without (is_ref_of t) v.refs;
+}
+moved Free t word v = record v {
+  frees = returned (stepped Free word) t (words_of_own t v.owns) v.frees;
+  owns = without (is_own_of t) v.owns;
+}
+moved Write t word v = record v { owns = changed (is_own_of t) written v.owns }
+
+-- the value that a step writes: the first content word, for a write
+abbrev pub value_of : Step → Title → View → ℕ
+value_of Issue t v = 0
+value_of Copy t v = 0
+value_of Reset t v = 0
+value_of Free t v = 0
+value_of Write t v = slice_index (words_of_own t v.owns) 0
+
+-- the log of the least stake gets the entry, at its end
+abbrev pub noted : Entry → List Stake → List Stake
+noted e stakes =
+    changed (λ (s : Stake). s.number == least_stake stakes) (λ (s : Stake). record s { log = s.log ++ e ∷ [] }) stakes
+
+-- nothing was done since the last entry
+abbrev pub no_deeds : Deeds
+no_deeds = record { handed = false; stored = false; poisoned = false }
+
+-- the view after an entry in its log, with a number of the title that is now seen
+abbrev pub entered : Entry → Title → ℕ → View → View
+entered e t number v = record v {
+  stakes = noted e v.stakes;
+  since = no_deeds;
+  seen = record { title = t; number = number } ∷ v.seen;
+}
+
+-- the view after a counted step on the title that found this word: the holdings, one step less in the budget, the
+-- entry in the log, and the number that the step leaves
+abbrev pub after_count : Step → Title → ℕ → View → View
+after_count step t word v =
+    entered (Counted t step word (value_of step t v)) t (number_of word + 1)
+    (record (moved step t word v) { budget = v.budget - 1 })
+
+-- the view after a look at the title that found this word
+abbrev pub after_look : Title → ℕ → View → View
+after_look t word v =
+    entered (Looked t word) t (number_of word) (record v { owns = changed (is_own_of t) (idle_if word) v.owns })
+
+-- the view has the handle that the step needs; a write also needs that no Ref is known to be left
+abbrev pub HasHandle : Step → Title → View → Type 0
+HasHandle Issue t v = 0 < free_of v t
+HasHandle Copy t v = 0 < own_of v t + ref_of v t
+HasHandle Reset t v = 0 < ref_of v t
+HasHandle Free t v = 0 < own_of v t
+HasHandle Write t v = 0 < idle_of v t
+
+-- a seat with this view may make the step
+abbrev pub CanCount : Step → Title → View → Type 0
+CanCount step t v = HasHandle step t v × HasStake v × (0 < v.budget)
+
+-- What a word that was found on a title tells: its number isn't below one that was seen before; the view's handles are
+-- among those that it counts; a title that isn't free is nobody's free title; and its number and count are small.
+pub record IsFound (t : Title) (word : ℕ) (v : View) : Type 0 where
+  pub not_older : seen_of v t ≤ number_of word
+  pub owns : own_of v t ≤ held_of word
+  pub refs : ref_of v t ≤ refs_of word
+  pub frees : free_of v t ≤ 1
+  pub taken : (IsFree word → ⊥) → free_of v t ≡ 0
+  pub idle : 0 < idle_of v t → refs_of word ≡ 0
+  pub few : v.budget + number_of word ≤ 65536
+  pub few_refs : refs_of word ≤ number_of word

@@ -1,0 +1,52 @@
+-- The region's rule: what holds between any two steps, of the words and the views of all seats.
+use Rattle.std.specs.Prelude.{◌≡◌, ℕ, ◌+◌, ◌<◌, ◌≤◌, List, length, nat_lt}
+use Rattle.pa_machine.specs.declared.title.Title.{Title}
+use Rattle.pa_machine.specs.Count.{number_of, refs_of}
+use Rattle.pa_machine.specs.Titles.{Covers, count_word}
+use Rattle.pa_machine.specs.Holdings.{Thing, one, IsTitleHeld}
+use Rattle.pa_machine.specs.Good.{IsDivided, IsCounted}
+use Rattle.pa_machine.specs.Events.{total_of}
+use Rattle.pa_region.specs.declared.view.Entry.{Entry}
+use Rattle.pa_region.specs.declared.view.View.{View}
+use Rattle.pa_region.specs.Views.{byte_words, shown, idle_in, budget_in, low_in, uncut_in, stakes_in, logged_in, ahead_in, unseen_in, counted, counted_on, names}
+use Rattle.pa_region.specs.History.{Done, reached, IsChained}
+
+-- The first part: the core that is shown is divided and counted well. Where a view knows of a title that no Ref of it
+-- is left, the count is 0. The steps that may still be made and those that were made are at most 65,536, also with
+-- the number of any one held title; and a count isn't above its number.
+pub record Holders (words : List ℕ) (total : Thing → ℕ) (idle : Title → ℕ) (budget steps : ℕ) : Type 0 where
+  pub divided : IsDivided (length words) total
+  pub word : (t : Title) → IsTitleHeld total t → IsCounted (count_word words t) total t
+  pub known : (t : Title) → 0 < idle t → refs_of (count_word words t) ≡ 0
+  pub affords : budget + steps ≤ 65536
+  pub few : (t : Title) → IsTitleHeld total t → budget + number_of (count_word words t) ≤ 65536
+  pub few_refs : (t : Title) → IsTitleHeld total t → refs_of (count_word words t) ≤ number_of (count_word words t)
+
+-- The second part, of each title that some log names or some view has uncut: the raw bytes that it covers have floors
+-- above its `born`, and each other held title that shares a byte with it has a greater `born`. What was uncut isn't
+-- held.
+pub record Reservations (total : Thing → ℕ) (low : ℕ → ℕ → ℕ) (named uncut : Title → ℕ) : Type 0 where
+  pub floors : (t : Title) (b : ℕ) → 0 < named t + uncut t → Covers t b → low b t.born ≡ 0
+  pub later : (t u : Title) (b : ℕ) → 0 < named t + uncut t → IsTitleHeld total u → (t ≡ u → ⊥) → Covers t b → Covers u b → t.born < u.born
+  pub gone : (t : Title) → 0 < uncut t → IsTitleHeld total t → ⊥
+
+-- The third part: the logs chain the history of each title, held or not. A held title's word is the last one of its
+-- history. Each of the 16 stakes is in exactly one view, and there are no others.
+pub record Logs (history : Title → List Done) (words : List ℕ) (total : Thing → ℕ) (logs : (Entry → ℕ) → ℕ) (stakes : ℕ → ℕ) : Type 0 where
+  pub chain : (t : Title) → IsChained logs t (history t)
+  pub last : (t : Title) → IsTitleHeld total t → count_word words t ≡ reached (history t)
+  pub each_stake : (k : ℕ) → stakes k ≡ one (nat_lt k 16)
+
+-- The fourth part: what a view has seen of a title isn't above the number of the title's counted steps in all logs,
+-- and a view has seen what the logs of its own stakes say.
+pub record Seen (logs : (Entry → ℕ) → ℕ) (ahead : Title → ℕ → ℕ) (unseen : ℕ) : Type 0 where
+  pub numbers : (t : Title) → ahead t (logs (counted_on t)) ≡ 0
+  pub own_logs : unseen ≡ 0
+
+-- the rule: the four parts, each of what it reads
+pub record IsKept (words : List ℕ) (views : List View) : Type 0 where
+  pub history : Title → List Done
+  pub holders : Holders (byte_words words) (total_of (shown words views)) (idle_in views) (budget_in views) (logged_in views counted)
+  pub reservations : Reservations (total_of (shown words views)) (low_in views) (λ t. logged_in views (names t)) (uncut_in views)
+  pub logs : Logs history (byte_words words) (total_of (shown words views)) (logged_in views) (stakes_in views)
+  pub seen : Seen (logged_in views) (ahead_in views) (unseen_in views)

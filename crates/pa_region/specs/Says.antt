@@ -1,0 +1,63 @@
+-- What the rule says, of any number of seats.
+use Rattle.std.specs.Prelude.{◌≡◌, ℕ, ◌+◌, ◌<◌, ◌≤◌, List, [], ◌∷◌, length, slice_set, replicate}
+use mathlib.Core.Option.{some}
+use lib.ListN.{get_elem?}
+use Rattle.pa_machine.specs.declared.title.Title.{Title}
+use Rattle.pa_machine.specs.declared.word.Step.{Step}
+use Rattle.pa_machine.specs.Count.{CanStep, stepped, number_of}
+use Rattle.pa_machine.specs.Titles.{count_place, count_word}
+use Rattle.pa_machine.specs.Holdings.{IsTitleHeld}
+use Rattle.pa_machine.specs.Good.{IsDivided, IsCounted}
+use Rattle.pa_machine.specs.Events.{total_of}
+use Rattle.pa_region.specs.declared.view.View.{View}
+use Rattle.pa_region.specs.Views.{byte_words, shown, logged_in, counted_on, counted_at, HasTitle, HasStake}
+use Rattle.pa_region.specs.Rule.{IsKept}
+use Rattle.pa_region.specs.Moves.{CanCount, IsFound, after_count, after_look}
+use Rattle.pa_region.specs.Start.{AreApart, AreWellFormed, first_view}
+
+-- the word that is shown for a title
+abbrev pub word_shown : List ℕ → Title → ℕ
+word_shown words t = count_word (byte_words words) t
+
+-- A counted step by any one seat keeps the rule: it is enabled at the word that it finds, which is one that its view
+-- could find; it changes this word and this view alone.
+abbrev pub CountKeeps : Type 0
+CountKeeps =
+    (step : Step) (t : Title) (words : List ℕ) (views : List View) (i : ℕ) (v : View) →
+    IsKept words views → get_elem? views i ≡ some v → CanCount step t v →
+    CanStep step (word_shown words t) × IsFound t (word_shown words t) v ×
+    IsKept (slice_set words (count_place t) (stepped step (word_shown words t))) (slice_set views i (after_count step t (word_shown words t) v))
+
+-- so does a look, which changes this view alone
+abbrev pub LookKeeps : Type 0
+LookKeeps =
+    (t : Title) (words : List ℕ) (views : List View) (i : ℕ) (v : View) →
+    IsKept words views → get_elem? views i ≡ some v → HasTitle v t → HasStake v →
+    IsFound t (word_shown words t) v × IsKept words (slice_set views i (after_look t (word_shown words t) v))
+
+-- the rule holds of a new region's words, which are 0, and of the first seat's view
+abbrev pub StartKeeps : Type 0
+StartKeeps =
+    (words budget : ℕ) (titles : List Title) → budget ≤ 65536 → AreWellFormed words titles → AreApart titles →
+    IsKept (replicate (words + 16) 0) (first_view words budget titles ∷ [])
+
+-- under the rule the core that is shown is divided well, and each held title's word counts the handles of all seats
+abbrev pub ShowsGood : Type 0
+ShowsGood =
+    (words : List ℕ) (views : List View) → IsKept words views →
+    IsDivided (length (shown words views).words) (total_of (shown words views)) ×
+    ((t : Title) → IsTitleHeld (total_of (shown words views)) t → IsCounted (word_shown words t) (total_of (shown words views)) t)
+
+-- Under the rule each number below a held title's was found by exactly one counted step in all logs, and no log has a
+-- step that found another number.
+abbrev pub FindsEachNumberOnce : Type 0
+FindsEachNumberOnce =
+    (words : List ℕ) (views : List View) (t : Title) → IsKept words views → IsTitleHeld (total_of (shown words views)) t →
+    ((k : ℕ) → k < number_of (word_shown words t) → logged_in views (counted_at t k) ≡ 1) ×
+    ((k : ℕ) → number_of (word_shown words t) ≤ k → logged_in views (counted_at t k) ≡ 0)
+
+-- under the rule a held title that no log names has the word 0
+abbrev pub UnnamedIsNew : Type 0
+UnnamedIsNew =
+    (words : List ℕ) (views : List View) (t : Title) → IsKept words views → IsTitleHeld (total_of (shown words views)) t →
+    logged_in views (counted_on t) ≡ 0 → word_shown words t ≡ 0

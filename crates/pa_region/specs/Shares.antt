@@ -1,0 +1,75 @@
+-- What contracts see of a region and of a seat, and what a step tells its seat.
+use Rattle.std.specs.Prelude.{◌≡◌, ℕ, ◌+◌, ◌-◌, ◌*◌, ◌<◌, ◌≤◌, ◌⊎◌}
+use Rattle.atomic_table.specs.Table.{Me}
+use Rattle.atomic_table.specs.Seated.{TableId}
+use Rattle.pa_machine.specs.declared.title.Title.{Title}
+use Rattle.pa_machine.specs.declared.word.Step.{Step}
+use Rattle.pa_machine.specs.declared.word.Step.TheVariants.{Issue, Copy, Reset, Free, Write}
+use Rattle.pa_machine.specs.Count.{CanStep}
+use Rattle.pa_machine.specs.Run.{IsFree}
+use Rattle.pa_machine.specs.Titles.{IsWellFormed, count_place}
+use Rattle.pa_region.specs.declared.view.View.{View}
+use Rattle.pa_region.specs.Views.{free_of, own_of, ref_of, HasTitle, HasStake}
+use Rattle.pa_region.specs.Moves.{IsFound, after_count, after_look}
+
+-- a seat: the region that it is of, and its view
+pub record Share : Type 0 where
+  pub region : TableId
+  pub view : View
+
+-- how many words the region has for bytes
+abbrev pub byte_word_count : TableId → ℕ
+byte_word_count region = region.words - 16
+
+-- What a seat's type keeps: the region has at most 16 super pages, and each title that the view holds lies in it.
+pub record IsSound (region : TableId) (v : View) : Type 0 where
+  pub small : byte_word_count region ≤ 4194304
+  pub well : (t : Title) → HasTitle v t → IsWellFormed (byte_word_count region) t
+
+-- what each step adds to the word
+abbrev pub adds : Step → ℕ
+adds Issue = 16777217
+adds Copy = 16777218
+adds Reset = 16777214
+adds Free = 16777215
+adds Write = 16777216
+
+-- what a counted step tells: the view after it, and what was found
+abbrev pub CountTells : {S : Type 0} → Step → Title → Me S View → ℕ → Me S View → Type 0
+CountTells step t me word after =
+    (after.0 ≡ after_count step t word me.0) × (after.1 ≡ me.1) × CanStep step word × IsFound t word me.0
+
+-- the view has a handle of the title
+abbrev pub IsUser : Title → View → Type 0
+IsUser t v = 0 < own_of v t + ref_of v t
+
+-- the offset of the title's count word, in bytes
+abbrev pub count_offset : Title → ℕ
+count_offset t = 8 * count_place t
+
+-- a seat with this view may load the word at the offset: it is the count word of a title that it holds free; or the
+-- count word of a title of which it has a handle, and it has a stake
+abbrev pub CanLoad : ℕ → View → Type 0
+CanLoad at_byte v = (t : Title) × (at_byte ≡ count_offset t) × ((0 < free_of v t) ⊎ (IsUser t v × HasStake v))
+
+-- What such a load tells, of the title whose count word it is. Of a free title it finds a free word, and the view
+-- stays; of another it is a look.
+abbrev pub LoadTells : ℕ → View → ℕ → View → Type 0
+LoadTells at_byte v word after =
+    (t : Title) → at_byte ≡ count_offset t →
+    (0 < free_of v t → (after ≡ v) × IsFree word × IsFound t word v) ×
+    (IsUser t v → (after ≡ after_look t word v) × IsFound t word v)
+
+-- A counted step was made that found this word: the seat is of the same region, its view is the one after the step,
+-- the step was enabled at the word, and the word is one that the view could find.
+pub record IsMade (step : Step) (t : Title) (word : ℕ) (before after : Share) : Type 0 where
+  pub region : after.region ≡ before.region
+  pub view : after.view ≡ after_count step t word before.view
+  pub enabled : CanStep step word
+  pub found : IsFound t word before.view
+
+-- a look was made that found this word
+pub record IsLooked (t : Title) (word : ℕ) (before after : Share) : Type 0 where
+  pub region : after.region ≡ before.region
+  pub view : after.view ≡ after_look t word before.view
+  pub found : IsFound t word before.view

@@ -1,0 +1,32 @@
+//! What the region's rule says of any number of seats, as laws: calls that do nothing, and whose clauses are proved.
+ghost use Rattle.pa_region.specs.Says.{CountKeeps, LookKeeps, StartKeeps, ShowsGood, FindsEachNumberOnce, UnnamedIsNew};
+
+/// Each counted step keeps the rule.
+pub fn counted_steps_keep_the_rule()
+    ensures { CountKeeps }
+{}
+
+/// Each look keeps the rule.
+pub fn looks_keep_the_rule()
+    ensures { LookKeeps }
+{}
+
+/// A new region meets the rule.
+pub fn a_new_region_meets_the_rule()
+    ensures { StartKeeps }
+{}
+
+/// Under the rule the core that words and views show is good, as far as its bytes and its count words go.
+pub fn the_shown_core_is_good()
+    ensures { ShowsGood }
+{}
+
+/// Under the rule the counted steps in all logs found each number of a title once.
+pub fn each_number_is_found_once()
+    ensures { FindsEachNumberOnce }
+{}
+
+/// Under the rule a title that no log names has the word 0.
+pub fn an_unnamed_title_is_new()
+    ensures { UnnamedIsNew }
+{}

@@ -1,0 +1,22 @@
+//! The region: its words, and the seats through which threads step on them.
+//!
+//! A seat has no bytes. Its view, which exists in proofs alone, says what its holder has of the region and knows of it:
+//! raw bytes, free titles, handles, a budget of counted steps, stakes with their logs, and what it has seen. A rule over
+//! the words and the views of all seats holds between any two steps, and each call is one atomic step that keeps it.
+#![tactic(auto)]
+
+mod closed;
+mod laws;
+mod region;
+mod rule;
+mod view;
+
+pub use closed::Closed;
+pub use laws::{
+    a_new_region_meets_the_rule, an_unnamed_title_is_new, counted_steps_keep_the_rule,
+    each_number_is_found_once, looks_keep_the_rule, the_shown_core_is_good,
+};
+pub use region::{Region, Seat};
+pub use view::{
+    Deeds, Entry, FreeTitle, Keeper, Leases, OwnTitle, RawRange, SeenList, SeenNumber, Stake, View,
+};

@@ -1,0 +1,154 @@
+ghost use Rattle.std.specs.Prelude.{◌≡◌, ℕ, ◌-◌, ◌*◌, ◌<◌, ◌≤◌, [], length, IfOk};
+ghost use Rattle.atomic_table.specs.Seated.{TableId};
+ghost use Rattle.pa_machine.specs.Titles.{IsWellFormed, count_place};
+ghost use Rattle.pa_region.specs.Views.{HasTitle, HasStake, HasEveryStake, least_stake};
+ghost use Rattle.pa_region.specs.Moves.{CanCount};
+ghost use Rattle.pa_region.specs.Shares.{Share, IsSound, IsMade, byte_word_count, adds, CanLoad, LoadTells};
+ghost use Rattle.pa_region.specs.Start.{AreApart, AreWellFormed, first_view, IsEnd};
+
+use crate::closed::Closed;
+use crate::rule::{Opening, Words, add_as, load_as};
+use crate::view::View;
+use atomic_table::Table;
+use pa_machine::{OutOfMemory, Step, Title, Word};
+use std::alloc::Global;
+use std::marker::{Brand, Model};
+
+/// The words of one reserved region: its bytes, and behind them 16 totals words. Threads share it by `&`; each
+/// changes it by single atomic steps with a seat of its own. Contracts see which region it is.
+#[derive(Drop)]
+pub struct Region {
+    table: Words,
+}
+
+impl Model for Region {
+    ghost Value = { TableId };
+
+    ghost view = { λ r. r.table.shared.table_id };
+
+    ghost invariant = { λ r. r.table.shared.table_id.slots ≡ 0 };
+}
+
+/// A share of a region: what its holder has of it and knows of it. It has no bytes of the region. Contracts see
+/// which region it is of, and its view.
+#[derive(Drop)]
+pub struct Seat {
+    seat: atomic_table::Seat<(), View>,
+    // The least stake, and 16 where there is none.
+    least: u32,
+}
+
+impl Model for Seat {
+    ghost Value = { Share };
+
+    ghost view = { λ s. record { region = s.seat.table_id; view = s.seat.me.0 } };
+
+    ghost invariant = { λ s. (s.seat.me.1 ≡ []) × IsSound s.seat.table_id s.seat.me.0 × (s.least ≡ least_stake s.seat.me.0.stakes) };
+}
+
+impl Seat {
+    /// The number of the seat's least stake, 0 to 15.
+    pub fn stake(&self) -> u32
+        requires { HasStake self.now.view }
+        ensures { result ≡ least_stake self.now.view.stakes }
+    {
+        self.least
+    }
+
+    /// A title that the seat holds free, or has a handle of, lies in the seat's region, which has at most 16 super
+    /// pages. It costs nothing: it hands on what the seat's type keeps.
+    pub fn placed(&self, title: Title)
+        requires { HasTitle self.now.view title }
+        ensures small { byte_word_count self.now.region ≤ 4194304 }
+        ensures well { IsWellFormed (byte_word_count self.now.region) title }
+    {
+        let _ = &self.seat;
+        let _ = title;
+    }
+}
+
+impl Region {
+    /// A region of so many super pages of 2,097,152 bytes, whose words are all 0, and its first seat: it holds these
+    /// titles free, the rest of the bytes as raw, the right to make `budget` counted steps, and every stake.
+    pub fn with_titles(
+        alloc: Global,
+        supers: u32,
+        budget: u32,
+        titles: &[Title],
+    ) -> Result<(Region, Seat), OutOfMemory>
+        requires supers { (1 ≤ supers) × (supers ≤ 16) }
+        requires budget { budget ≤ 65536 }
+        requires titles { AreWellFormed (262144 * supers) titles.now × AreApart titles.now }
+        ensures words { IfOk result (λ r. byte_word_count r.0 ≡ 262144 * supers) }
+        ensures region { IfOk result (λ r. r.1.region ≡ r.0) }
+        ensures view { IfOk result (λ r. r.1.view ≡ first_view (262144 * supers) budget titles.now) }
+    {
+        let words = supers * 262144;
+        let zeros = vec![in alloc; 0u64; words as usize + 16]?;
+        let mut kept = Vec::new(alloc);
+        kept.extend_from_slice(titles)?;
+        let opening = Opening {
+            words,
+            budget,
+            titles: kept,
+        };
+        let (table, seat) = Table::of_words(alloc, zeros.as_slice(), &opening)?;
+        Ok((Region { table }, Seat { seat, least: 0 }))
+    }
+
+    /// One step on the title's count word, which changes number, count and bit at once. It answers the word that it
+    /// found.
+    pub fn count_step(&self, seat: &mut Seat, title: Title, step: Step) -> Word
+        requires region { seat.old.region ≡ self.now }
+        requires able { CanCount step title seat.old.view }
+        ensures { IsMade step title result.0 seat.old seat.new }
+    {
+        let _ = &seat.seat;
+        let word = count_index(title);
+        Word(add_as::<Brand>(&self.table, &mut seat.seat, word, added(step), title, step))
+    }
+
+    /// The word at the offset `at`, in bytes: a title's count word.
+    pub fn load(&self, seat: &mut Seat, at: u32) -> u64
+        requires region { seat.old.region ≡ self.now }
+        requires able { CanLoad at seat.old.view }
+        ensures region { seat.new.region ≡ seat.old.region }
+        ensures told { LoadTells at seat.old.view result seat.new.view }
+    {
+        let _ = &seat.seat;
+        load_as::<Brand>(&self.table, &mut seat.seat, (at / 8) as usize, at)
+    }
+
+    /// The region's words at the end, once all stakes are back in one seat.
+    pub fn close(self, seat: Seat) -> Closed
+        requires region { seat.region ≡ self }
+        requires stakes { HasEveryStake seat.view }
+        ensures words { length result ≡ byte_word_count self }
+        ensures end { IsEnd result seat.view }
+    {
+        let Region { table } = self;
+        let Seat { seat, least: _ } = seat;
+        Closed::of(table.close_with(seat))
+    }
+}
+
+// Which word of the region is the title's count word.
+fn count_index(title: Title) -> usize
+    requires { (words : ℕ) × IsWellFormed words title }
+    ensures { result ≡ count_place title }
+{
+    (title.start / 8 + (title.len / 8 - 1)) as usize
+}
+
+// What a step adds to the count word.
+fn added(step: Step) -> u64
+    ensures { result ≡ adds step }
+{
+    match step {
+        Step::Issue => (1 << 24) + 1,
+        Step::Copy => (1 << 24) + 2,
+        Step::Reset => (1 << 24) - 2,
+        Step::Free => (1 << 24) - 1,
+        Step::Write => 1 << 24,
+    }
+}

@@ -1,0 +1,122 @@
+use pa_machine::{OwnState, Step, Title};
+use std::collections::LinkedList;
+
+/// A range of raw bytes that a seat holds: offsets in bytes, multiples of 8.
+pub struct RawRange {
+    pub start: u32,
+    pub len: u32,
+    /// A title that is cut out of these bytes has at least this `born`.
+    pub floor: u32,
+    /// The values of the range's words, from the first on, as far as the seat knows them.
+    pub words: LinkedList<u64>,
+}
+
+/// A title that a seat holds free.
+pub struct FreeTitle {
+    pub title: Title,
+    /// The values of the title's content words, from the first on, as far as the seat knows them.
+    pub words: LinkedList<u64>,
+}
+
+/// An Own handle that a seat holds.
+pub struct OwnTitle {
+    pub title: Title,
+    pub state: OwnState,
+    /// It is known that no Ref of the title is left.
+    pub idle: bool,
+    /// The values of the title's content words, from the first on, as far as the seat knows them.
+    pub words: LinkedList<u64>,
+}
+
+/// What a seat did since the last entry of its least stake's log: whether it handed something over, stored, or
+/// poisoned. A read that follows a look carries this.
+pub struct Deeds {
+    pub handed: bool,
+    pub stored: bool,
+    pub poisoned: bool,
+}
+
+/// One thing that was done with a stake.
+pub enum Entry {
+    /// A step on the title's count word, with the word that it found; a write also has the value written.
+    Counted {
+        title: Title,
+        step: Step,
+        found: u64,
+        value: u64,
+    },
+    /// A load of the title's count word, with the word that it found.
+    Looked {
+        title: Title,
+        found: u64,
+    },
+    /// A load of the title's content word number `place`, with the value that it gave; what the seat did since the
+    /// entry before it; and whether the seat held the title's Own in another state than clean.
+    Read {
+        title: Title,
+        place: u32,
+        value: u64,
+        since: Deeds,
+        unclean: bool,
+    },
+    /// An addition of so many bytes to a totals word, numbered from 0.
+    Added {
+        word: u32,
+        bytes: u64,
+    },
+    /// An entry in a keeper's list.
+    Entered {
+        keeper: u32,
+        numbers: LinkedList<u64>,
+    },
+}
+
+/// The right to make steps, one for each thread number from 0 to 15, with the log of what was done with it, in order.
+pub struct Stake {
+    pub number: u32,
+    pub log: LinkedList<Entry>,
+}
+
+/// The right to append to a keeper's list, with the list. The keepers are 0 to 3 for the roots, 4 for the pool and 5
+/// for the cells.
+pub struct Keeper {
+    pub number: u32,
+    pub entries: LinkedList<LinkedList<u64>>,
+}
+
+/// The leases that a seat has: these, and all from some number on. A lease is the number of a pool entry.
+pub struct Leases {
+    pub single: LinkedList<u32>,
+    pub from: LinkedList<u32>,
+}
+
+/// A number of a title's count word that a seat has seen.
+pub struct SeenNumber {
+    pub title: Title,
+    pub number: u64,
+}
+
+/// A beginning of a keeper's list that a seat has seen.
+pub struct SeenList {
+    pub keeper: u32,
+    pub entries: LinkedList<LinkedList<u64>>,
+}
+
+/// What a seat holds and knows. No value of it is ever made: it exists in proofs alone.
+pub struct View {
+    pub raws: LinkedList<RawRange>,
+    pub frees: LinkedList<FreeTitle>,
+    pub owns: LinkedList<OwnTitle>,
+    /// Each Ref handle that the seat holds, as often as it holds it.
+    pub refs: LinkedList<Title>,
+    /// How many counted steps the seat may still make.
+    pub budget: u32,
+    pub stakes: LinkedList<Stake>,
+    pub since: Deeds,
+    pub keepers: LinkedList<Keeper>,
+    pub leases: Leases,
+    /// The titles that the seat has made raw again.
+    pub uncut: LinkedList<Title>,
+    pub seen: LinkedList<SeenNumber>,
+    pub seen_lists: LinkedList<SeenList>,
+}
