@@ -111,6 +111,7 @@ fn returned(step: Step, found: Word) -> bool
 mod tests {
     use super::*;
     use std::test::Fail;
+    use std::thread;
 
     #[test]
     fn a_quarantined_slot_comes_back_by_its_last_reset(rt: HostRuntime) -> Result<(), Fail> {
@@ -139,6 +140,38 @@ mod tests {
         let closed = region.close(seat);
         assert_eq!(rt; closed.word(0x4008), 0x5000001);
         assert_eq!(rt; closed.word(0x4018), 0x1000001);
+        Ok(())
+    }
+
+    // A reset by whoever has the seat, which is handed on.
+    fn reset_by(region: &Region, seat: Seat, title: Title) -> (Seat, (Word, Fate))
+        requires region { seat.region ≡ region.now }
+        requires able { CanCount Reset title seat.view }
+        ensures { IsMade Reset title result.1.0.0 seat result.0 }
+    {
+        let mut seat = seat;
+        let released = reset(region, &mut seat, title);
+        (seat, released)
+    }
+
+    // A region has one seat until seats can be split, so the two threads have it one after the other.
+    #[test]
+    fn two_threads_reset_a_freed_slot(rt: HostRuntime) -> Result<(), Fail> {
+        let title = Title {
+            start: 0x4000,
+            len: 16,
+            born: 0,
+        };
+        let (region, mut seat) = Region::with_titles(rt.alloc(), 1, 16, &[title])?;
+        issue(&region, &mut seat, title);
+        copy(&region, &mut seat, title);
+        copy(&region, &mut seat, title);
+        assert_eq!(rt; free(&region, &mut seat, title).1, Fate::Kept);
+        let shared = &region;
+        let ((seat, first), ()) = thread::join(&rt, move || reset_by(shared, seat, title), || ());
+        let ((), (_, second)) = thread::join(&rt, || (), move || reset_by(shared, seat, title));
+        assert_eq!(rt; first, (Word(0x4000004), Fate::Kept));
+        assert_eq!(rt; second, (Word(0x5000002), Fate::Last));
         Ok(())
     }
 
