@@ -6,29 +6,40 @@ use Rattle.pa_trace.specs.declared.script.Trace.{Trace}
 use Rattle.pa_trace.specs.Form.{IsInput, IsNoInput}
 use Rattle.pa_cli.specs.declared.status.Status.{Status}
 use Rattle.pa_cli.specs.declared.status.Status.TheVariants.{Done, BadCommand, BadLine, ReadFault, WriteFault, OutOfMemory}
-use Rattle.pa_cli.specs.Call.{Call, KeepsSource, KeepsSink, HasGiven, IsRead}
+use Rattle.pa_cli.specs.Call.{Stream, Call, KeepsSource, KeepsSink, HasGiven, IsRead}
+use Rattle.pa_cli.specs.declared.command.Command.{Command}
+use Rattle.pa_cli.specs.declared.command.Command.TheVariants.{Model}
 use Rattle.pa_cli.specs.Command.{IsModel, IsCommand}
 use Rattle.pa_cli.specs.Output.{IsOutput}
 
 -- The input is faulty: it was read without a fault, and what was read is the text of no trace of the form, nor is all
 -- that the source told.
-pub record IsFaulty (c : Call) : Type 0 where
+pub record IsFaulty (before after : Stream) : Type 0 where
   pub bytes : List ℕ
-  pub read : IsRead c.source c.source_after bytes
+  pub read : IsRead before after bytes
   pub no_input : IsNoInput bytes
-  pub told : IfSome c.source.told IsNoInput
+  pub told : IfSome before.told IsNoInput
 
 -- a fault of the source came in this call
-pub record IsReadFault (c : Call) : Type 0 where
-  pub risen : HasRisen c.source.faults c.source_after.faults
+pub record IsReadFault (before after : Stream) : Type 0 where
+  pub risen : HasRisen before.faults after.faults
   pub bytes : List ℕ
-  pub given : HasGiven c.source c.source_after bytes
+  pub given : HasGiven before after bytes
 
 -- the call stopped without a fault of the source
-pub record IsStopped (c : Call) : Type 0 where
-  pub calm : c.source_after.faults ≡ c.source.faults
+pub record IsStopped (before after : Stream) : Type 0 where
+  pub calm : after.faults ≡ before.faults
   pub bytes : List ℕ
-  pub given : HasGiven c.source c.source_after bytes
+  pub given : HasGiven before after bytes
+
+-- why a command has no output, by what the source tells before it and after it; the other statuses are no reason
+abbrev pub IsRefusal : Status → Command → Stream → Stream → Type 0
+IsRefusal Done command before after = ⊥
+IsRefusal BadCommand command before after = ⊥
+IsRefusal (BadLine n) command before after = (n ≡ 0) × (command ≡ Model) × IsFaulty before after
+IsRefusal ReadFault command before after = (command ≡ Model) × IsReadFault before after
+IsRefusal WriteFault command before after = ⊥
+IsRefusal OutOfMemory command before after = IsStopped before after
 
 -- each status comes where
 --   Done: the output was written whole
@@ -40,11 +51,11 @@ pub record IsStopped (c : Call) : Type 0 where
 abbrev pub Caused : Status → Call → Type 0
 Caused Done c = (text : List ℕ) × IsOutput c text × Appends c.sink.told c.sink_after.told text × (c.sink_after.faults ≡ c.sink.faults)
 Caused BadCommand c = (IsCommand c.words → ⊥) × KeepsSource c × KeepsSink c
-Caused (BadLine n) c = (n ≡ 0) × IsModel c.words × IsFaulty c × KeepsSink c
-Caused ReadFault c = IsModel c.words × IsReadFault c × KeepsSink c
+Caused (BadLine n) c = (n ≡ 0) × IsModel c.words × IsFaulty c.source c.source_after × KeepsSink c
+Caused ReadFault c = IsModel c.words × IsReadFault c.source c.source_after × KeepsSink c
 Caused WriteFault c =
     (text : List ℕ) × IsOutput c text × HasRisen c.sink.faults c.sink_after.faults × HasWrittenPart c.sink.told c.sink_after.told text
-Caused OutOfMemory c = IsCommand c.words × IsStopped c × KeepsSink c
+Caused OutOfMemory c = IsCommand c.words × IsStopped c.source c.source_after × KeepsSink c
 
 -- no fault of the source came in this call
 abbrev pub HasNoReadFault : Call → Type 0
@@ -54,13 +65,21 @@ HasNoReadFault c = HasRisen c.source.faults c.source_after.faults → ⊥
 abbrev pub HasNoWriteFault : Call → Type 0
 HasNoWriteFault c = HasRisen c.sink.faults c.sink_after.faults → ⊥
 
--- the command and an input of the form, without a fault of source or sink, lead to Done, unless memory is wanting
+-- `model` and an input of the form, without a fault of source or sink, lead to Done, unless memory is wanting
 abbrev pub Completes : Status → Call → Type 0
 Completes status c =
     (bytes : List ℕ) (trace : Trace) → IsModel c.words → c.source.told ≡ Some bytes → IsInput trace bytes → HasNoReadFault c → HasNoWriteFault c
     → (status ≡ Done) ⊎ (status ≡ OutOfMemory)
 
--- the command and bytes that are no input, without a fault of the source, lead to BadLine, unless memory is wanting
+-- a command that reads nothing leads to Done where the sink has no fault, unless memory is wanting
+abbrev pub Answers : Status → Call → Type 0
+Answers status c = IsCommand c.words → (IsModel c.words → ⊥) → HasNoWriteFault c → (status ≡ Done) ⊎ (status ≡ OutOfMemory)
+
+-- nothing is read but for `model`
+abbrev pub ReadsForModel : Call → Type 0
+ReadsForModel c = (IsModel c.words → ⊥) → KeepsSource c
+
+-- `model` and bytes that are no input, without a fault of the source, lead to BadLine, unless memory is wanting
 abbrev pub Refuses : Status → Call → Type 0
 Refuses status c =
     (bytes : List ℕ) → IsModel c.words → c.source.told ≡ Some bytes → IsNoInput bytes → HasNoReadFault c

@@ -1,16 +1,32 @@
 -- The words of a command.
-use Rattle.std.specs.Prelude.{◌≡◌, ℕ, List, [], ◌∷◌, codes}
+use Rattle.std.specs.Prelude.{◌≡◌, ℕ, ◌≤◌, List, [], ◌∷◌, codes}
+use Rattle.pa_text.specs.Numeral.{IsNumeral}
 use Rattle.pa_cli.specs.declared.command.Command.{Command}
-use Rattle.pa_cli.specs.declared.command.Command.TheVariants.{Model}
+use Rattle.pa_cli.specs.declared.command.Command.TheVariants.{Model, Layout, Help, Version}
 
 -- the one word `model`
 abbrev pub IsModel : List (List ℕ) → Type 0
 IsModel words = words ≡ codes "model" ∷ []
 
+-- the word `layout` and a size of 32 bits in decimal
+abbrev pub IsLayout : ℕ → List (List ℕ) → Type 0
+IsLayout size words =
+    (number : List ℕ) × (words ≡ codes "layout" ∷ number ∷ []) × IsNumeral size number × (size ≤ 4294967295)
+
+-- the one word `--help`, and the one word `--version`
+abbrev pub IsHelp : List (List ℕ) → Type 0
+IsHelp words = words ≡ codes "--help" ∷ []
+
+abbrev pub IsVersion : List (List ℕ) → Type 0
+IsVersion words = words ≡ codes "--version" ∷ []
+
 -- the words ask for this command
 abbrev pub AsksFor : Command → List (List ℕ) → Type 0
 AsksFor Model words = IsModel words
+AsksFor (Layout size) words = IsLayout size words
+AsksFor Help words = IsHelp words
+AsksFor Version words = IsVersion words
 
 -- the words are those of one of the commands
 abbrev pub IsCommand : List (List ℕ) → Type 0
-IsCommand words = IsModel words
+IsCommand words = (command : Command) × AsksFor command words

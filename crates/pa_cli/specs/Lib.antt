@@ -1,5 +1,7 @@
 pub mod Call
 pub mod Command
+pub mod LayoutText
+pub mod HelpText
 pub mod Output
 pub mod Cause
 pub mod StatusText

@@ -1,4 +1,4 @@
--- The output of the command `model`.
+-- The output of each command.
 use Rattle.std.specs.Prelude.{◌≡◌, ℕ, List}
 use Rattle.pa_trace.specs.declared.script.Trace.{Trace}
 use Rattle.pa_trace.specs.Form.{IsInput}
@@ -6,8 +6,12 @@ use Rattle.pa_record.specs.declared.entry.Entry.{Entry}
 use Rattle.pa_rules.specs.declared.slot_word.SlotWord.{SlotWord}
 use Rattle.pa_rules.specs.Plain.{IsPlainRun}
 use Rattle.pa_plain.specs.PlainText.{plain_text}
-use Rattle.pa_cli.specs.Call.{Call, IsReadWhole}
-use Rattle.pa_cli.specs.Command.{IsModel}
+use Rattle.pa_cli.specs.Call.{Stream, Call, IsReadWhole}
+use Rattle.pa_cli.specs.declared.command.Command.{Command}
+use Rattle.pa_cli.specs.declared.command.Command.TheVariants.{Model, Layout, Help, Version}
+use Rattle.pa_cli.specs.Command.{AsksFor}
+use Rattle.pa_cli.specs.LayoutText.{IsLayoutText}
+use Rattle.pa_cli.specs.HelpText.{help_text, version_text}
 
 -- the text is the plain text of a plain run of the trace's lines
 pub record IsRunText (trace : Trace) (text : List ℕ) : Type 0 where
@@ -22,10 +26,19 @@ pub record IsPlayedText (bytes text : List ℕ) : Type 0 where
   pub input : IsInput trace bytes
   pub run : IsRunText trace text
 
--- the output of the call is this text: the words are `model`, and the text is that of the source's bytes, all of
--- which were read
-pub record IsOutput (c : Call) (text : List ℕ) : Type 0 where
-  pub words : IsModel c.words
+-- the output of `model`: the text is that of the source's bytes, all of which were read
+pub record IsModelOutput (before after : Stream) (text : List ℕ) : Type 0 where
   pub bytes : List ℕ
-  pub read : IsReadWhole c.source c.source_after bytes
+  pub read : IsReadWhole before after bytes
   pub played : IsPlayedText bytes text
+
+-- the output of each command, by what the source tells before it and after it
+abbrev pub IsOutputOf : Command → Stream → Stream → List ℕ → Type 0
+IsOutputOf Model before after text = IsModelOutput before after text
+IsOutputOf (Layout size) before after text = IsLayoutText size text
+IsOutputOf Help before after text = text ≡ help_text
+IsOutputOf Version before after text = text ≡ version_text
+
+-- the output of the call is this text: that of the command for which the words ask
+abbrev pub IsOutput : Call → List ℕ → Type 0
+IsOutput c text = (command : Command) × AsksFor command c.words × IsOutputOf command c.source c.source_after text

@@ -4,6 +4,7 @@
 //! The output is made whole before its first byte is written, so want of memory never follows one.
 #![tactic(auto)]
 
+mod answers;
 mod command;
 mod input;
 mod output;

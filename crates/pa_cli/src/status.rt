@@ -1,6 +1,10 @@
 ghost use Rattle.std.specs.Prelude.{◌≡◌};
-ghost use Rattle.pa_cli.specs.StatusText.{status_number};
+ghost use Rattle.pa_cli.specs.StatusText.{status_number, status_of_input, status_of_trace};
+ghost use Rattle.pa_cli.specs.declared.status.Status.TheVariants as statuses;
 
+use crate::input::InputFault;
+use pa_machine::OutOfMemory;
+use pa_trace::TraceFault;
 use std::fmt;
 
 /// How a call of the program ended. Its text is what the program prints on standard error where it isn't done.
@@ -51,5 +55,35 @@ impl fmt::Display for Status {
             Status::WriteFault => write!(f, "write fault"),
             Status::OutOfMemory => write!(f, "out of memory"),
         }
+    }
+}
+
+impl From<InputFault> for Status {
+    ghost from_gives = { λ fault status. status ≡ status_of_input fault };
+
+    fn from(fault: InputFault) -> Status {
+        match fault {
+            InputFault::ReadFault => Status::ReadFault,
+            InputFault::OutOfMemory => Status::OutOfMemory,
+        }
+    }
+}
+
+impl From<TraceFault> for Status {
+    ghost from_gives = { λ fault status. status ≡ status_of_trace fault };
+
+    fn from(fault: TraceFault) -> Status {
+        match fault {
+            TraceFault::BadLine(line) => Status::BadLine(line),
+            TraceFault::OutOfMemory => Status::OutOfMemory,
+        }
+    }
+}
+
+impl From<OutOfMemory> for Status {
+    ghost from_gives = { λ _ status. status ≡ statuses.OutOfMemory };
+
+    fn from(_fault: OutOfMemory) -> Status {
+        Status::OutOfMemory
     }
 }

@@ -77,8 +77,17 @@ fn a_third_write_that_fails_leaves_the_first_two(rt: HostRuntime) -> Result<(), 
 
 #[test]
 fn other_words_leave_the_source_unread(rt: HostRuntime) -> Result<(), Fail> {
-    let lines: [&[&str]; 5] = [
+    let lines: [&[&str]; 14] = [
         &[],
+        &["layout"],
+        &["layout", ""],
+        &["layout", "01"],
+        &["layout", "8x"],
+        &["layout", "4294967296"],
+        &["layout", "8", "8"],
+        &["Layout", "8"],
+        &["--help", "model"],
+        &["help"],
         &["replay"],
         &["models"],
         &["model", "x"],
@@ -111,6 +120,63 @@ fn an_input_is_read_to_one_byte_past_the_limit(rt: HostRuntime) -> Result<(), Fa
     );
     let mut into = [0; 100];
     assert_eq!(rt; source.read(&mut into), Ok(2));
+    Ok(())
+}
+
+// What a command that reads nothing writes; its source fails at every read.
+fn told(alloc: Global, line: &[&str]) -> Result<Vec<u8>, Fail> {
+    let line = words(alloc, line)?;
+    let mut source = MemSource::new(alloc, TRACE, 1000, &[0, 1, 2])?;
+    let mut sink = MemSink::new(alloc, 10_000, 7, &[])?;
+    if run(alloc, &line, &mut source, &mut sink) != Status::Done {
+        return Ok(Vec::new(alloc));
+    }
+    Ok(Vec::from_slice(alloc, sink.written())?)
+}
+
+#[test]
+fn layout_tells_where_a_request_is_placed(rt: HostRuntime) -> Result<(), Fail> {
+    let lines: [(&str, &[u8]); 9] = [
+        (
+            "0",
+            b"class 0 slot 16 pages 1 system 4 slots 1024 waste 0\n",
+        ),
+        (
+            "88",
+            b"class 5 slot 96 pages 1 system 4 slots 170 waste 64\n",
+        ),
+        (
+            "376",
+            b"class 13 slot 384 pages 3 system 12 slots 128 waste 0\n",
+        ),
+        (
+            "888",
+            b"class 18 slot 896 pages 2 system 7 slots 32 waste 0\n",
+        ),
+        (
+            "917496",
+            b"class 58 slot 917504 pages 56 system 224 slots 1 waste 0\n",
+        ),
+        ("917497", b"direct slot 921600 super 1\n"),
+        ("33521656", b"direct slot 33521664 super 16\n"),
+        ("33521657", b"too-large\n"),
+        ("4294967295", b"too-large\n"),
+    ];
+    for (size, text) in lines {
+        assert_eq!(rt; told(rt.alloc(), &["layout", size])?.as_slice(), text);
+    }
+    Ok(())
+}
+
+#[test]
+fn help_and_version_are_told(rt: HostRuntime) -> Result<(), Fail> {
+    let help = told(rt.alloc(), &["--help"])?;
+    assert!(rt; help.starts_with(b"usage: partalloc COMMAND\n\ncommands\n  model "));
+    assert!(rt; help.ends_with(b"README.md.\n"));
+    assert_eq!(rt;
+        told(rt.alloc(), &["--version"])?.as_slice(),
+        b"partalloc 0.1.0\n".as_slice()
+    );
     Ok(())
 }
 

@@ -1,11 +1,13 @@
-ghost use Rattle.std.specs.Prelude.{◌≡◌, ◌↔◌, map, string_bytes, codes, [], ◌∷◌, IfOk, IfErr};
+ghost use Rattle.std.specs.Prelude.{◌≡◌, ◌↔◌, map, string_bytes, IfOk, IfErr};
 ghost use Rattle.pa_cli.specs.Command.{IsCommand};
-ghost use Rattle.pa_cli.specs.Cause.{Caused, Completes, Refuses};
-ghost use Rattle.pa_cli.specs.Output.{IsPlayedText, IsRunText};
+ghost use Rattle.pa_cli.specs.Cause.{Caused, ReadsForModel, Answers, Completes, Refuses, IsRefusal};
+ghost use Rattle.pa_cli.specs.Output.{IsOutputOf, IsModelOutput, IsPlayedText, IsRunText};
+ghost use Rattle.pa_cli.specs.declared.command.Command.TheVariants as Command;
 ghost use Rattle.pa_trace.specs.Form.{IsFault, IsPlainTrace};
 
+use crate::answers::{write_help, write_layout, write_version};
 use crate::command::Command;
-use crate::input::{InputFault, read_input};
+use crate::input::read_input;
 use crate::output::write_output;
 use crate::status::Status;
 use pa_io::{Failed, Sink, Source};
@@ -14,8 +16,9 @@ use pa_plain::{play, write_plain};
 use pa_trace::{Trace, TraceFault, read_trace};
 use std::alloc::Global;
 
-/// Does what the words ask for: `model` reads a trace from the source, plays it, and writes the answers to the sink.
-/// The input is read to its end, or to one byte past the 4,194,304 bytes that it may have.
+/// Does what the words ask for. `model` reads a trace from the source, plays it, and writes the answers to the sink; the
+/// input is read to its end, or to one byte past the 4,194,304 bytes that it may have. `layout SIZE` writes where a request
+/// of so many bytes is placed, and `--help` and `--version` write their texts; these three read nothing.
 pub fn run<S: Source, K: Sink>(
     alloc: Global,
     words: &[String],
@@ -34,7 +37,21 @@ pub fn run<S: Source, K: Sink>(
       sink_after = record { told = K.written sink.new; faults = K.faults sink.new };
     }) }
 
-    // A good input is played, and a faulty one refused.
+    // Only `model` reads. A good input is played, and a faulty one refused; the other commands answer.
+    ensures reads { ReadsForModel (record {
+      words = map string_bytes words.now;
+      source = record { told = S.left source.old; faults = S.faults source.old };
+      source_after = record { told = S.left source.new; faults = S.faults source.new };
+      sink = record { told = K.written sink.old; faults = K.faults sink.old };
+      sink_after = record { told = K.written sink.new; faults = K.faults sink.new };
+    }) }
+    ensures answers { Answers result (record {
+      words = map string_bytes words.now;
+      source = record { told = S.left source.old; faults = S.faults source.old };
+      source_after = record { told = S.left source.new; faults = S.faults source.new };
+      sink = record { told = K.written sink.old; faults = K.faults sink.old };
+      sink_after = record { told = K.written sink.new; faults = K.faults sink.new };
+    }) }
     ensures completes { Completes result (record {
       words = map string_bytes words.now;
       source = record { told = S.left source.old; faults = S.faults source.old };
@@ -50,36 +67,48 @@ pub fn run<S: Source, K: Sink>(
       sink_after = record { told = K.written sink.new; faults = K.faults sink.new };
     }) }
 {
-    match Command::of(words) {
-        Some(Command::Model) => model(alloc, source, sink),
-        None => Status::BadCommand,
+    let Some(command) = Command::of(words) else {
+        return Status::BadCommand;
+    };
+    match output_of(alloc, command, source) {
+        Ok(text) => match write_output(sink, text.as_slice()) {
+            Ok(()) => Status::Done,
+            Err(Failed) => Status::WriteFault,
+        },
+        Err(status) => status,
     }
 }
 
-// The command `model`.
-fn model<S: Source, K: Sink>(alloc: Global, source: &mut S, sink: &mut K) -> Status
-    ensures { Caused result (record {
-      words = codes "model" ∷ [];
-      source = record { told = S.left source.old; faults = S.faults source.old };
-      source_after = record { told = S.left source.new; faults = S.faults source.new };
-      sink = record { told = K.written sink.old; faults = K.faults sink.old };
-      sink_after = record { told = K.written sink.new; faults = K.faults sink.new };
-    }) }
+// The output of a command.
+fn output_of<S: Source>(alloc: Global, command: Command, source: &mut S) -> Result<Vec<u8>, Status>
+    ensures text { IfOk result (λ text. IsOutputOf command
+        (record { told = S.left source.old; faults = S.faults source.old })
+        (record { told = S.left source.new; faults = S.faults source.new }) text.items) }
+    ensures refusal { IfErr result (λ status. IsRefusal status command
+        (record { told = S.left source.old; faults = S.faults source.old })
+        (record { told = S.left source.new; faults = S.faults source.new })) }
+    ensures unread { (command ≡ Command.Model → ⊥) → (S.left source.new ≡ S.left source.old) × (S.faults source.new ≡ S.faults source.old) }
 {
-    let input = match read_input(alloc, source) {
-        Ok(input) => input,
-        Err(InputFault::ReadFault) => return Status::ReadFault,
-        Err(InputFault::OutOfMemory) => return Status::OutOfMemory,
-    };
-    let text = match played_text(alloc, input.as_slice()) {
-        Ok(text) => text,
-        Err(TraceFault::BadLine(line)) => return Status::BadLine(line),
-        Err(TraceFault::OutOfMemory) => return Status::OutOfMemory,
-    };
-    match write_output(sink, text.as_slice()) {
-        Ok(()) => Status::Done,
-        Err(Failed) => Status::WriteFault,
+    match command {
+        Command::Model => model(alloc, source),
+        Command::Layout(size) => Ok(write_layout(alloc, size)?),
+        Command::Help => Ok(write_help(alloc)?),
+        Command::Version => Ok(write_version(alloc)?),
     }
+}
+
+// The output of `model`.
+#[tactic(auto, using(crate::proofs::Refusing::trace_refused))]
+fn model<S: Source>(alloc: Global, source: &mut S) -> Result<Vec<u8>, Status>
+    ensures text { IfOk result (λ text. IsModelOutput
+        (record { told = S.left source.old; faults = S.faults source.old })
+        (record { told = S.left source.new; faults = S.faults source.new }) text.items) }
+    ensures refusal { IfErr result (λ status. IsRefusal status Command.Model
+        (record { told = S.left source.old; faults = S.faults source.old })
+        (record { told = S.left source.new; faults = S.faults source.new })) }
+{
+    let input = read_input(alloc, source)?;
+    Ok(played_text(alloc, input.as_slice())?)
 }
 
 // The plain text of the trace whose text the bytes are.

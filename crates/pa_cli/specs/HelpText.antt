@@ -1,0 +1,34 @@
+-- What `--help` and `--version` print.
+use Rattle.std.specs.Prelude.{ℕ, List, [], ◌∷◌, ◌++◌, codes}
+use Rattle.std.specs.List.{flat_map}
+
+-- the lines, each with an LF
+abbrev pub ended : List (List ℕ) → List ℕ
+ended lines = flat_map (λ line. line ++ 10 ∷ []) lines
+
+-- the commands, and what each status means
+abbrev pub help_text : List ℕ
+help_text =
+    ended (codes "usage: partalloc COMMAND"
+    ∷ []
+    ∷ codes "commands"
+    ∷ codes "  model        read a trace from standard input, play its lines in their order, print every answer and the slots"
+    ∷ codes "  layout SIZE  print the size class or the direct map of a request of SIZE bytes, 0 to 4294967295"
+    ∷ codes "  --help       print this text"
+    ∷ codes "  --version    print the name and the version"
+    ∷ []
+    ∷ codes "status, and what it prints on standard error"
+    ∷ codes "  0            done"
+    ∷ codes "  1            bad command: the words are none of the above"
+    ∷ codes "  2            bad line N: line N of the input is the first that is wrong; 0 stands for the whole input"
+    ∷ codes "  4            read fault"
+    ∷ codes "  5            write fault"
+    ∷ codes "  6            out of memory"
+    ∷ codes "  8            no words: the words could not be had"
+    ∷ []
+    ∷ codes "The trace and what comes out are described in README.md."
+    ∷ [])
+
+-- the name and the version
+abbrev pub version_text : List ℕ
+version_text = codes "partalloc 0.1.0" ++ 10 ∷ []

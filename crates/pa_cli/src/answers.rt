@@ -1,0 +1,103 @@
+ghost use Rattle.std.specs.Prelude.{◌≡◌, ◌++◌, decimal, IfOk, OnOk};
+ghost use Rattle.pa_cli.specs.LayoutText.{IsLayoutText, class_line, direct_line};
+ghost use Rattle.pa_cli.specs.HelpText.{help_text, version_text};
+
+use pa_buckets::{Class, class_of, raw_of, slot_size, span_of};
+use pa_direct::{Shape, shape};
+use pa_machine::OutOfMemory;
+use pa_text::{push_bytes, push_number};
+use std::alloc::Global;
+
+// A request above this many bytes is too large.
+const LARGEST: u32 = 33_521_656;
+
+// The most bytes of a line of `layout`, for the room that is made ahead.
+const LINE_BYTES: usize = 80;
+
+// What `--help` prints.
+const HELP: &[u8] = b"usage: partalloc COMMAND
+
+commands
+  model        read a trace from standard input, play its lines in their order, print every answer and the slots
+  layout SIZE  print the size class or the direct map of a request of SIZE bytes, 0 to 4294967295
+  --help       print this text
+  --version    print the name and the version
+
+status, and what it prints on standard error
+  0            done
+  1            bad command: the words are none of the above
+  2            bad line N: line N of the input is the first that is wrong; 0 stands for the whole input
+  4            read fault
+  5            write fault
+  6            out of memory
+  8            no words: the words could not be had
+
+The trace and what comes out are described in README.md.
+";
+
+// What `--version` prints.
+const VERSION: &[u8] = b"partalloc 0.1.0\n";
+
+// The text of `--help`.
+pub fn write_help(alloc: Global) -> Result<Vec<u8>, OutOfMemory>
+    ensures { IfOk result (λ text. text.items ≡ help_text) }
+{
+    let mut out = Vec::new(alloc);
+    push_bytes(&mut out, HELP)?;
+    Ok(out)
+}
+
+// The text of `--version`.
+pub fn write_version(alloc: Global) -> Result<Vec<u8>, OutOfMemory>
+    ensures { IfOk result (λ text. text.items ≡ version_text) }
+{
+    let mut out = Vec::new(alloc);
+    push_bytes(&mut out, VERSION)?;
+    Ok(out)
+}
+
+// The text of `layout` for a request of so many bytes.
+pub fn write_layout(alloc: Global, size: u32) -> Result<Vec<u8>, OutOfMemory>
+    ensures { IfOk result (λ text. IsLayoutText size text.items) }
+{
+    let mut out = Vec::with_capacity(alloc, LINE_BYTES)?;
+    if size > LARGEST {
+        push_bytes(&mut out, b"too-large\n")?;
+    } else if let Some(class) = class_of(raw_of(size)) {
+        push_class(&mut out, class)?;
+    } else if let Some(shape) = shape(size) {
+        push_direct(&mut out, shape)?;
+    }
+    Ok(out)
+}
+
+// Appends the line of a class.
+fn push_class(out: &mut Vec<u8>, class: Class) -> Result<(), OutOfMemory>
+    ensures { OnOk result (out.new.items ≡ out.old.items ++ class_line class) }
+{
+    let span = span_of(class);
+    push_field(out, b"class ", class.number())?;
+    push_field(out, b" slot ", slot_size(class))?;
+    push_field(out, b" pages ", span.pages)?;
+    push_field(out, b" system ", span.system_pages)?;
+    push_field(out, b" slots ", span.slots)?;
+    push_field(out, b" waste ", span.waste)?;
+    push_bytes(out, b"\n")
+}
+
+// Appends the line of a direct map.
+fn push_direct(out: &mut Vec<u8>, shape: Shape) -> Result<(), OutOfMemory>
+    ensures { OnOk result (out.new.items ≡ out.old.items ++ direct_line shape) }
+{
+    push_field(out, b"direct slot ", shape.slot)?;
+    push_field(out, b" super ", shape.supers)?;
+    push_bytes(out, b"\n")
+}
+
+// Appends the words and a number.
+fn push_field(out: &mut Vec<u8>, words: &[u8], number: u32) -> Result<(), OutOfMemory>
+    ensures { OnOk result (out.new.items ≡ out.old.items ++ (words.now ++ decimal number)) }
+{
+    push_bytes(out, words)?;
+    push_number(out, u64::from(number))
+}
