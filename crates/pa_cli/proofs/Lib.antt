@@ -1,3 +1,4 @@
 mod Words
 mod Given
 mod Refusing
+mod Ending

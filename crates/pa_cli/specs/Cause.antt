@@ -3,22 +3,26 @@ use Rattle.std.specs.Prelude.{◌≡◌, ℕ, ◌⊎◌, List, Some, IfSome}
 use Rattle.std.specs.Io.KnownBytes.{Appends}
 use Rattle.pa_io.specs.Moves.{HasRisen, HasWrittenPart}
 use Rattle.pa_trace.specs.declared.script.Trace.{Trace}
-use Rattle.pa_trace.specs.Form.{IsInput, IsNoInput}
+use Rattle.pa_trace.specs.Limits.{IsInput}
+use Rattle.pa_trace.specs.Faults.{IsFirstFault}
+use Rattle.pa_trace.specs.declared.fault.TraceFault.{TraceFault}
+use Rattle.pa_trace.specs.declared.fault.TraceFault.TheVariants as faults
 use Rattle.pa_cli.specs.declared.status.Status.{Status}
-use Rattle.pa_cli.specs.declared.status.Status.TheVariants.{Done, BadCommand, BadLine, ReadFault, WriteFault, OutOfMemory}
+use Rattle.pa_cli.specs.declared.status.Status.TheVariants.{Done, BadCommand, BadLine, Limit, ReadFault, WriteFault, OutOfMemory}
 use Rattle.pa_cli.specs.Call.{Stream, Call, KeepsSource, KeepsSink, HasGiven, IsRead}
 use Rattle.pa_cli.specs.declared.command.Command.{Command}
 use Rattle.pa_cli.specs.declared.command.Command.TheVariants.{Model}
 use Rattle.pa_cli.specs.Command.{IsModel, IsCommand}
 use Rattle.pa_cli.specs.Output.{IsOutput}
+use Rattle.pa_cli.specs.StatusText.{status_of_trace}
 
--- The input is faulty: it was read without a fault, and what was read is the text of no trace of the form, nor is all
--- that the source told.
-pub record IsFaulty (before after : Stream) : Type 0 where
+-- The input has this fault: it was read without a fault of the source, and the first faulty line of what was read has
+-- it, and so has that of all that the source told.
+pub record HasFault (fault : TraceFault) (before after : Stream) : Type 0 where
   pub bytes : List ℕ
   pub read : IsRead before after bytes
-  pub no_input : IsNoInput bytes
-  pub told : IfSome before.told IsNoInput
+  pub first : IsFirstFault fault bytes
+  pub told : IfSome before.told (IsFirstFault fault)
 
 -- a fault of the source came in this call
 pub record IsReadFault (before after : Stream) : Type 0 where
@@ -36,7 +40,8 @@ pub record IsStopped (before after : Stream) : Type 0 where
 abbrev pub IsRefusal : Status → Command → Stream → Stream → Type 0
 IsRefusal Done command before after = ⊥
 IsRefusal BadCommand command before after = ⊥
-IsRefusal (BadLine n) command before after = (n ≡ 0) × (command ≡ Model) × IsFaulty before after
+IsRefusal (BadLine n) command before after = (command ≡ Model) × HasFault (faults.BadLine n) before after
+IsRefusal (Limit n) command before after = (command ≡ Model) × HasFault (faults.Limit n) before after
 IsRefusal ReadFault command before after = (command ≡ Model) × IsReadFault before after
 IsRefusal WriteFault command before after = ⊥
 IsRefusal OutOfMemory command before after = IsStopped before after
@@ -44,14 +49,16 @@ IsRefusal OutOfMemory command before after = IsStopped before after
 -- each status comes where
 --   Done: the output was written whole
 --   BadCommand: the words are those of no command; nothing was read or written
---   BadLine: the input is faulty; the one line that is named stands for all of it, and nothing was written
+--   BadLine: line n of the input is the first faulty one, and it is outside the grammar; nothing was written
+--   Limit: line n of the input is the first faulty one, and it passes a limit; nothing was written
 --   ReadFault: the source had a fault in this call; nothing was written
 --   WriteFault: the sink had a fault in this call; what was written is a first part of the output
 --   OutOfMemory: the words are those of a command, and no fault of the source came first; nothing was written
 abbrev pub Caused : Status → Call → Type 0
 Caused Done c = (text : List ℕ) × IsOutput c text × Appends c.sink.told c.sink_after.told text × (c.sink_after.faults ≡ c.sink.faults)
 Caused BadCommand c = (IsCommand c.words → ⊥) × KeepsSource c × KeepsSink c
-Caused (BadLine n) c = (n ≡ 0) × IsModel c.words × IsFaulty c.source c.source_after × KeepsSink c
+Caused (BadLine n) c = IsModel c.words × HasFault (faults.BadLine n) c.source c.source_after × KeepsSink c
+Caused (Limit n) c = IsModel c.words × HasFault (faults.Limit n) c.source c.source_after × KeepsSink c
 Caused ReadFault c = IsModel c.words × IsReadFault c.source c.source_after × KeepsSink c
 Caused WriteFault c =
     (text : List ℕ) × IsOutput c text × HasRisen c.sink.faults c.sink_after.faults × HasWrittenPart c.sink.told c.sink_after.told text
@@ -65,7 +72,7 @@ HasNoReadFault c = HasRisen c.source.faults c.source_after.faults → ⊥
 abbrev pub HasNoWriteFault : Call → Type 0
 HasNoWriteFault c = HasRisen c.sink.faults c.sink_after.faults → ⊥
 
--- `model` and an input of the form, without a fault of source or sink, lead to Done, unless memory is wanting
+-- `model` and an input, without a fault of source or sink, lead to Done, unless memory is wanting
 abbrev pub Completes : Status → Call → Type 0
 Completes status c =
     (bytes : List ℕ) (trace : Trace) → IsModel c.words → c.source.told ≡ Some bytes → IsInput trace bytes → HasNoReadFault c → HasNoWriteFault c
@@ -79,8 +86,9 @@ Answers status c = IsCommand c.words → (IsModel c.words → ⊥) → HasNoWrit
 abbrev pub ReadsForModel : Call → Type 0
 ReadsForModel c = (IsModel c.words → ⊥) → KeepsSource c
 
--- `model` and bytes that are no input, without a fault of the source, lead to BadLine, unless memory is wanting
+-- `model` and bytes with a first faulty line, without a fault of the source, lead to that fault's status, unless memory is
+-- wanting
 abbrev pub Refuses : Status → Call → Type 0
 Refuses status c =
-    (bytes : List ℕ) → IsModel c.words → c.source.told ≡ Some bytes → IsNoInput bytes → HasNoReadFault c
-    → (status ≡ BadLine 0) ⊎ (status ≡ OutOfMemory)
+    (bytes : List ℕ) (fault : TraceFault) → IsModel c.words → c.source.told ≡ Some bytes → IsFirstFault fault bytes → HasNoReadFault c
+    → (status ≡ status_of_trace fault) ⊎ (status ≡ OutOfMemory)

@@ -20,13 +20,14 @@ help_text =
     ∷ codes "status, and what it prints on standard error"
     ∷ codes "  0            done"
     ∷ codes "  1            bad command: the words are none of the above"
-    ∷ codes "  2            bad line N: line N of the input is the first that is wrong; 0 stands for the whole input"
+    ∷ codes "  2            bad line N: line N of the input is the first that is wrong"
+    ∷ codes "  3            limit at line N: line N of the input is the first that is wrong, and it passes a limit"
     ∷ codes "  4            read fault"
     ∷ codes "  5            write fault"
     ∷ codes "  6            out of memory"
     ∷ codes "  8            no words: the words could not be had"
     ∷ []
-    ∷ codes "The trace and what comes out are described in README.md."
+    ∷ codes "The texts are described in docs/FORMATS.md."
     ∷ [])
 
 -- the name and the version

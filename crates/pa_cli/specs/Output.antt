@@ -1,8 +1,9 @@
 -- The output of each command.
 use Rattle.std.specs.Prelude.{◌≡◌, ℕ, List}
 use Rattle.pa_trace.specs.declared.script.Trace.{Trace}
-use Rattle.pa_trace.specs.Form.{IsInput}
+use Rattle.pa_trace.specs.Limits.{IsInput}
 use Rattle.pa_record.specs.declared.entry.Entry.{Entry}
+use Rattle.pa_record.specs.declared.history.CellEntry.{CellEntry}
 use Rattle.pa_rules.specs.declared.slot_word.SlotWord.{SlotWord}
 use Rattle.pa_rules.specs.Plain.{IsPlainRun}
 use Rattle.pa_plain.specs.PlainText.{plain_text}
@@ -16,11 +17,12 @@ use Rattle.pa_cli.specs.HelpText.{help_text, version_text}
 -- the text is the plain text of a plain run of the trace's lines
 pub record IsRunText (trace : Trace) (text : List ℕ) : Type 0 where
   pub entries : List Entry
+  pub cells : List (List CellEntry)
   pub slots : List SlotWord
-  pub run : IsPlainRun trace.lines entries slots
-  pub printed : text ≡ plain_text entries slots
+  pub run : IsPlainRun trace.lines entries cells slots
+  pub printed : text ≡ plain_text entries cells slots
 
--- the bytes are the text of a trace of the form, and the text is that of its run
+-- the bytes are the text of a trace within the limits, and the text is that of its run
 pub record IsPlayedText (bytes text : List ℕ) : Type 0 where
   pub trace : Trace
   pub input : IsInput trace bytes

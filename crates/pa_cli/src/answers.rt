@@ -26,13 +26,14 @@ commands
 status, and what it prints on standard error
   0            done
   1            bad command: the words are none of the above
-  2            bad line N: line N of the input is the first that is wrong; 0 stands for the whole input
+  2            bad line N: line N of the input is the first that is wrong
+  3            limit at line N: line N of the input is the first that is wrong, and it passes a limit
   4            read fault
   5            write fault
   6            out of memory
   8            no words: the words could not be had
 
-The trace and what comes out are described in README.md.
+The texts are described in docs/FORMATS.md.
 ";
 
 // What `--version` prints.

@@ -14,8 +14,10 @@ pub enum Status {
     Done,
     /// The words are those of no command.
     BadCommand,
-    /// This line of the input is the first that is outside the grammar. Line 0 stands for the whole input.
+    /// This line of the input is the first faulty one, and it is outside the grammar. Lines count from 1.
     BadLine(u32),
+    /// This line of the input is the first faulty one, and it passes a limit.
+    Limit(u32),
     /// The source had a fault.
     ReadFault,
     /// The sink had a fault.
@@ -33,6 +35,7 @@ impl Status {
             Status::Done => 0,
             Status::BadCommand => 1,
             Status::BadLine(_) => 2,
+            Status::Limit(_) => 3,
             Status::ReadFault => 4,
             Status::WriteFault => 5,
             Status::OutOfMemory => 6,
@@ -51,6 +54,7 @@ impl fmt::Display for Status {
             Status::Done => Ok(()),
             Status::BadCommand => write!(f, "bad command"),
             Status::BadLine(line) => write!(f, "bad line {line}"),
+            Status::Limit(line) => write!(f, "limit at line {line}"),
             Status::ReadFault => write!(f, "read fault"),
             Status::WriteFault => write!(f, "write fault"),
             Status::OutOfMemory => write!(f, "out of memory"),
@@ -75,6 +79,7 @@ impl From<TraceFault> for Status {
     fn from(fault: TraceFault) -> Status {
         match fault {
             TraceFault::BadLine(line) => Status::BadLine(line),
+            TraceFault::Limit(line) => Status::Limit(line),
             TraceFault::OutOfMemory => Status::OutOfMemory,
         }
     }

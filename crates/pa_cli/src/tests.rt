@@ -47,6 +47,33 @@ fn a_trace_is_played_by_short_reads_and_writes(rt: HostRuntime) -> Result<(), Fa
 }
 
 #[test]
+fn the_first_faulty_line_is_named(rt: HostRuntime) -> Result<(), Fail> {
+    let model = words(rt.alloc(), &["model"])?;
+    let faulty: [(&[u8], Status); 4] = [
+        (b"", Status::BadLine(1)),
+        (
+            b"trace 1 region 17 partitions 1 threads 1\n0\n",
+            Status::Limit(1),
+        ),
+        (
+            b"trace 1 region 1 partitions 1 threads 1\n0 P\n0 P",
+            Status::BadLine(3),
+        ),
+        (
+            b"trace 1 region 1 partitions 1 threads 1\n1 P\n0 P",
+            Status::Limit(2),
+        ),
+    ];
+    for (text, status) in faulty {
+        let mut source = MemSource::new(rt.alloc(), text, 11, &[])?;
+        let mut sink = MemSink::new(rt.alloc(), 1000, 10, &[])?;
+        assert_eq!(rt; run(rt.alloc(), &model, &mut source, &mut sink), status);
+        assert!(rt; sink.written().is_empty());
+    }
+    Ok(())
+}
+
+#[test]
 fn a_second_read_that_fails_leaves_nothing_written(rt: HostRuntime) -> Result<(), Fail> {
     let model = words(rt.alloc(), &["model"])?;
     let texts: [&[u8]; 2] = [TRACE, b"neither a trace nor a part of one"];
@@ -116,7 +143,7 @@ fn an_input_is_read_to_one_byte_past_the_limit(rt: HostRuntime) -> Result<(), Fa
     let mut sink = MemSink::new(rt.alloc(), 10, 10, &[])?;
     assert_eq!(rt;
         run(rt.alloc(), &model, &mut source, &mut sink),
-        Status::BadLine(0)
+        Status::Limit(1)
     );
     let mut into = [0; 100];
     assert_eq!(rt; source.read(&mut into), Ok(2));
@@ -172,7 +199,7 @@ fn layout_tells_where_a_request_is_placed(rt: HostRuntime) -> Result<(), Fail> {
 fn help_and_version_are_told(rt: HostRuntime) -> Result<(), Fail> {
     let help = told(rt.alloc(), &["--help"])?;
     assert!(rt; help.starts_with(b"usage: partalloc COMMAND\n\ncommands\n  model "));
-    assert!(rt; help.ends_with(b"README.md.\n"));
+    assert!(rt; help.ends_with(b"docs/FORMATS.md.\n"));
     assert_eq!(rt;
         told(rt.alloc(), &["--version"])?.as_slice(),
         b"partalloc 0.1.0\n".as_slice()
@@ -185,7 +212,8 @@ fn each_status_has_its_number_and_text(rt: HostRuntime) -> Result<(), Fail> {
     let told = [
         (Status::Done, 0, ""),
         (Status::BadCommand, 1, "bad command"),
-        (Status::BadLine(65_537), 2, "bad line 65537"),
+        (Status::BadLine(65_536), 2, "bad line 65536"),
+        (Status::Limit(65_537), 3, "limit at line 65537"),
         (Status::ReadFault, 4, "read fault"),
         (Status::WriteFault, 5, "write fault"),
         (Status::OutOfMemory, 6, "out of memory"),

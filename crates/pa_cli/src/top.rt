@@ -3,7 +3,8 @@ ghost use Rattle.pa_cli.specs.Command.{IsCommand};
 ghost use Rattle.pa_cli.specs.Cause.{Caused, ReadsForModel, Answers, Completes, Refuses, IsRefusal};
 ghost use Rattle.pa_cli.specs.Output.{IsOutputOf, IsModelOutput, IsPlayedText, IsRunText};
 ghost use Rattle.pa_cli.specs.declared.command.Command.TheVariants as Command;
-ghost use Rattle.pa_trace.specs.Form.{IsFault, IsPlainTrace};
+ghost use Rattle.pa_trace.specs.Faults.{IsFault};
+ghost use Rattle.pa_trace.specs.Limits.{IsWithinLimits};
 
 use crate::answers::{write_help, write_layout, write_version};
 use crate::command::Command;
@@ -60,6 +61,32 @@ pub fn run<S: Source, K: Sink>(
       sink_after = record { told = K.written sink.new; faults = K.faults sink.new };
     }) }
     ensures refuses { Refuses result (record {
+      words = map string_bytes words.now;
+      source = record { told = S.left source.old; faults = S.faults source.old };
+      source_after = record { told = S.left source.new; faults = S.faults source.new };
+      sink = record { told = K.written sink.old; faults = K.faults sink.old };
+      sink_after = record { told = K.written sink.new; faults = K.faults sink.new };
+    }) }
+{
+    answer(alloc, words, source, sink)
+}
+
+// The same, by its cause.
+fn answer<S: Source, K: Sink>(
+    alloc: Global,
+    words: &[String],
+    source: &mut S,
+    sink: &mut K,
+) -> Status
+    ensures command { result ≡ Status.BadCommand ↔ ¬ IsCommand (map string_bytes words.now) }
+    ensures cause { Caused result (record {
+      words = map string_bytes words.now;
+      source = record { told = S.left source.old; faults = S.faults source.old };
+      source_after = record { told = S.left source.new; faults = S.faults source.new };
+      sink = record { told = K.written sink.old; faults = K.faults sink.old };
+      sink_after = record { told = K.written sink.new; faults = K.faults sink.new };
+    }) }
+    ensures reads { ReadsForModel (record {
       words = map string_bytes words.now;
       source = record { told = S.left source.old; faults = S.faults source.old };
       source_after = record { told = S.left source.new; faults = S.faults source.new };
@@ -125,7 +152,7 @@ fn played_text(alloc: Global, bytes: &[u8]) -> Result<Vec<u8>, TraceFault>
 
 // The plain text of the trace's run.
 fn run_text(alloc: Global, trace: &Trace) -> Result<Vec<u8>, OutOfMemory>
-    requires { IsPlainTrace trace.now }
+    requires { IsWithinLimits trace.now }
     ensures { IfOk result (λ text. IsRunText trace.now text.items) }
 {
     let run = play(alloc, trace)?;

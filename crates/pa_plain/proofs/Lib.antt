@@ -1,5 +1,16 @@
-pub mod Counted
+pub mod RegisterHandles
+pub mod CellHandles
 pub mod Turning
+pub mod Pointing
+pub mod Owning
+pub mod Accessing
+pub mod Exchanging
+pub mod EmptyPlayer
+pub mod Marking
 pub mod Since
 pub mod Following
+pub mod Histories
+pub mod Usable
+pub mod Containing
+pub mod Advancing
 pub mod Playing

@@ -120,7 +120,7 @@ since_new ms n p line rising at step r = record {
 }
 
 -- for a line that isn't after the mark, nothing changes
-pub since_before : (ms : List Mark) (n : Mark) (t : SlotName) (k l : ℕ) → l ≤ n.line → IsFreeSince ms t k l → IsFreeSince (ms ++ n ∷ []) t k l
+since_before : (ms : List Mark) (n : Mark) (t : SlotName) (k l : ℕ) → l ≤ n.line → IsFreeSince ms t k l → IsFreeSince (ms ++ n ∷ []) t k l
 since_before ms n t k l le f = record {
   mark = f.mark;
   step = f.step;
@@ -136,7 +136,7 @@ since_before ms n t k l le f = record {
   ];
 }
 
-pub since_after : (ms : List Mark) (n : Mark) (t : SlotName) (k l : ℕ) → l ≤ n.line → IsFreeSince (ms ++ n ∷ []) t k l → IsFreeSince ms t k l
+since_after : (ms : List Mark) (n : Mark) (t : SlotName) (k l : ℕ) → l ≤ n.line → IsFreeSince (ms ++ n ∷ []) t k l → IsFreeSince ms t k l
 since_after ms n t k l le f = elim (Contains-push_cases ms n f.mark f.among) [
   | inl a ↦ record {
     mark = f.mark;
@@ -152,10 +152,10 @@ since_after ms n t k l le f = elim (Contains-push_cases ms n f.mark f.among) [
   | inr q ↦ absurd (omega (arith, ap (λ (y : Mark). y.line) q, f.at, f.before))
 ]
 
-pub made_before : (ms : List Mark) (n : Mark) (s : SlotName) (l : ℕ) → IsMadeBefore ms s l → IsMadeBefore (ms ++ n ∷ []) s l
+made_before : (ms : List Mark) (n : Mark) (s : SlotName) (l : ℕ) → IsMadeBefore ms s l → IsMadeBefore (ms ++ n ∷ []) s l
 made_before ms n s l h = (h.0, Contains-append_left ms (n ∷ []) h.0 h.1, h.2, h.3, h.4)
 
-pub made_after : (ms : List Mark) (n : Mark) (s : SlotName) (l : ℕ) → l ≤ n.line → IsMadeBefore (ms ++ n ∷ []) s l → IsMadeBefore ms s l
+made_after : (ms : List Mark) (n : Mark) (s : SlotName) (l : ℕ) → l ≤ n.line → IsMadeBefore (ms ++ n ∷ []) s l → IsMadeBefore ms s l
 made_after ms n s l le h = elim (Contains-push_cases ms n h.0 h.1) [
   | inl a ↦ (h.0, a, h.2, h.3, h.4)
   | inr q ↦ absurd (omega (arith, ap (λ (y : Mark). y.line) q, h.4))

@@ -1,2 +1,5 @@
-pub mod PlainText
 pub mod Player
+pub mod SlotEvents
+pub mod SlotTests
+pub mod Slots
+pub mod PlainText

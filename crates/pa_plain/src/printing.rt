@@ -5,7 +5,7 @@ ghost use Rattle.pa_plain.specs.PlainText.{place_text, plain_text, slot_line};
 
 use crate::PlainRun;
 use pa_machine::{OutOfMemory, Word, held, refs};
-use pa_record::{Entry, push_entry};
+use pa_record::{Entry, push_cells, push_entry};
 use pa_rules::SlotWord;
 use pa_text::{push_bytes, push_slot, push_word};
 use std::alloc::Global;
@@ -13,14 +13,16 @@ use std::alloc::Global;
 // The bytes of a line, for the room that is made ahead: few lines are longer.
 const LINE_BYTES: usize = 64;
 
-/// The run's text: a first line, the records, the slots with their places and words, and a last line.
+/// The run's text: a first line, the records, the exchanges with the cells, the slots with their places and words, and a
+/// last line.
 pub fn write_plain(alloc: Global, run: &PlainRun) -> Result<Vec<u8>, OutOfMemory>
-    ensures { IfOk result (λ text. text.items ≡ plain_text run.now.entries.items run.now.slots.items) }
+    ensures { IfOk result (λ text. text.items ≡ plain_text run.now.entries.items run.now.cells.items run.now.slots.items) }
 {
     let lines = run.entries.len().saturating_add(run.slots.len());
     let mut out = Vec::with_capacity(alloc, lines.saturating_mul(LINE_BYTES))?;
     push_bytes(&mut out, b"plain 1\n")?;
     push_entries(&mut out, &run.entries)?;
+    push_cells(&mut out, &run.cells)?;
     push_slots(&mut out, &run.slots)?;
     push_bytes(&mut out, b"end\n")?;
     Ok(out)
@@ -74,7 +76,7 @@ fn place(word: Word) -> &'static [u8]
 mod tests {
     use super::*;
     use pa_machine::SlotName;
-    use pa_record::{Answer, Seen};
+    use pa_record::{Answer, CellEntry, Held, History, Seen};
     use std::test::Fail;
 
     // A slot of the plain player, with this word.
@@ -111,7 +113,12 @@ mod tests {
         };
         let entries = Vec::from_array(rt.alloc(), [made, done(3, 0x01000001)])?;
         let slots = Vec::from_array(rt.alloc(), [slot_word(0, 0x02000000)])?;
-        let text = write_plain(rt.alloc(), &PlainRun { entries, slots })?;
+        let run = PlainRun {
+            entries,
+            cells: Vec::new(rt.alloc()),
+            slots,
+        };
+        let text = write_plain(rt.alloc(), &run)?;
         let due = b"plain 1
 e 2 0 made 00000000.0 8 0000000000000000
 e 3 0 done 00000000.0 0000000001000001
@@ -132,6 +139,7 @@ end
         ];
         let run = PlainRun {
             entries,
+            cells: Vec::new(rt.alloc()),
             slots: Vec::from_array(rt.alloc(), slots)?,
         };
         let text = write_plain(rt.alloc(), &run)?;
@@ -146,9 +154,39 @@ end
     }
 
     #[test]
+    fn exchanges_are_printed_by_cell(rt: HostRuntime) -> Result<(), Fail> {
+        let slot = SlotName { start: 16, born: 0 };
+        let mut second = History::new(rt.alloc());
+        second.push(CellEntry {
+            line: 4,
+            gave: Held::Ref(slot),
+            found: Held::Nothing,
+        })?;
+        second.push(CellEntry {
+            line: 5,
+            gave: Held::Own(slot),
+            found: Held::Ref(slot),
+        })?;
+        let run = PlainRun {
+            entries: Vec::new(rt.alloc()),
+            cells: vec![in rt.alloc(); History::new(rt.alloc()), second]?,
+            slots: Vec::new(rt.alloc()),
+        };
+        let text = write_plain(rt.alloc(), &run)?;
+        let due = b"plain 1
+c 1 0 4 ref:00000010.0 -
+c 1 1 5 own:00000010.0 ref:00000010.0
+end
+";
+        assert_eq!(rt; text.as_slice(), due.as_slice());
+        Ok(())
+    }
+
+    #[test]
     fn a_run_of_no_lines_is_printed(rt: HostRuntime) -> Result<(), Fail> {
         let run = PlainRun {
             entries: Vec::new(rt.alloc()),
+            cells: Vec::new(rt.alloc()),
             slots: Vec::new(rt.alloc()),
         };
         let text = write_plain(rt.alloc(), &run)?;

@@ -1,1 +1,13 @@
 pub mod Text
+pub mod Numbers
+pub mod Fits
+pub mod RunText
+pub mod Pool
+pub mod Spans
+pub mod Root
+pub mod Census
+pub mod Worked
+pub mod Sound
+pub mod PoolLaws
+pub mod Steps
+pub mod Laws

@@ -2,7 +2,7 @@ ghost use Rattle.std.specs.Prelude.{◌≡◌, ◌++◌, codes, OnOk, OnErr};
 ghost use Rattle.std.specs.Fmt.{decimal};
 ghost use Rattle.std.specs.Io.{StartsWith};
 ghost use Rattle.pa_text.specs.Hex.{hex};
-ghost use Rattle.pa_record.specs.Text.{answer_text, entry_text, seen_text, seen_text_if, spaced_slot};
+ghost use Rattle.pa_record.specs.Text.{answer_text, entry_text, field_text, seen_text, seen_text_if, spaced_slot};
 
 use crate::{Answer, Entry, Seen};
 use pa_machine::OutOfMemory;
@@ -50,9 +50,9 @@ fn push_answer(out: &mut Vec<u8>, answer: Answer) -> Result<(), OutOfMemory>
         Answer::Shared { seen } => push_seen(out, b"shared", seen),
         Answer::OutOfRange => push_bytes(out, b"out-of-range"),
         Answer::TooLarge => push_bytes(out, b"too-large"),
-        Answer::Full { entry } => push_counted(out, b"full ", entry),
-        Answer::Swapped { entry } => push_counted(out, b"swapped ", entry),
-        Answer::Purged { slots } => push_counted(out, b"purged ", slots),
+        Answer::Full { entry } => push_field(out, b"full ", u64::from(entry)),
+        Answer::Swapped { entry } => push_field(out, b"swapped ", u64::from(entry)),
+        Answer::Purged { slots } => push_field(out, b"purged ", u64::from(slots)),
     }
 }
 
@@ -102,13 +102,13 @@ fn push_read(out: &mut Vec<u8>, word: &[u8], seen: Seen, value: u64) -> Result<(
     push_word(out, value)
 }
 
-// Appends the words and a number.
-fn push_counted(out: &mut Vec<u8>, words: &[u8], n: u32) -> Result<(), OutOfMemory>
-    ensures pushed { OnOk result (out.new.items ≡ out.old.items ++ (words.now ++ decimal n)) }
+// Appends a word and a number.
+pub(crate) fn push_field(out: &mut Vec<u8>, word: &[u8], n: u64) -> Result<(), OutOfMemory>
+    ensures pushed { OnOk result (out.new.items ≡ out.old.items ++ field_text word.now n) }
     ensures kept { OnErr result (StartsWith out.new.items out.old.items) }
 {
-    push_bytes(out, words)?;
-    push_number(out, u64::from(n))
+    push_bytes(out, word)?;
+    push_number(out, n)
 }
 
 #[cfg(test)]

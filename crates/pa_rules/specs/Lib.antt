@@ -1,3 +1,11 @@
 pub mod Played
 pub mod Registers
+pub mod Cells
+pub mod Contents
 pub mod Plain
+pub mod Roots
+pub mod Holders
+pub mod Caches
+pub mod Report
+pub mod Laws
+pub mod Worked

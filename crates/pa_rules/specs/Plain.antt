@@ -1,5 +1,5 @@
 -- Plain slots, played in the order of the lines: every slot has 16 bytes, and slot i starts at 16 i.
-use Rattle.std.specs.Prelude.{◌≡◌, ℕ, ◌+◌, ◌*◌, ◌<◌, ◌≤◌, ◌==◌, ◌&&◌, Bool, nat_lt, ◌⊎◌, ◌↔◌, List, [], ◌∷◌, map, count_by, Option, Some, None, IsSome, is_some, Contains}
+use Rattle.std.specs.Prelude.{◌≡◌, ℕ, ◌*◌, ◌<◌, ◌≤◌, ◌&&◌, Bool, nat_lt, ◌⊎◌, ◌↔◌, List, [], ◌∷◌, map, count_by, Some, IsSome, is_some, Contains, length, slice_index_or}
 use Rattle.std.specs.List.Sorted.{IsStrictlyIncreasing}
 use Rattle.pa_machine.specs.declared.word.SlotName.{SlotName}
 use Rattle.pa_machine.specs.declared.word.Step.{Step}
@@ -8,10 +8,13 @@ use Rattle.pa_machine.specs.Count.{number_of}
 use Rattle.pa_machine.specs.Run.{Mark, Slots, IsRunFrom, IsReturning, same_slot}
 use Rattle.pa_trace.specs.declared.script.Line.{Line}
 use Rattle.pa_record.specs.declared.entry.Entry.{Entry}
-use Rattle.pa_record.specs.declared.entry.Answer.TheVariants.{Full}
+use Rattle.pa_record.specs.declared.entry.Answer.TheVariants.{Full, Purged}
+use Rattle.pa_record.specs.declared.history.CellEntry.{CellEntry}
 use Rattle.pa_rules.specs.declared.slot_word.SlotWord.{SlotWord}
 use Rattle.pa_rules.specs.Played.{Played, AreLines, entry_of, marks_of}
 use Rattle.pa_rules.specs.Registers.{AreRegisters}
+use Rattle.pa_rules.specs.Cells.{AreCells}
+use Rattle.pa_rules.specs.Contents.{AreContents}
 
 -- the i-th plain slot
 abbrev pub plain_name : ℕ → SlotName
@@ -65,14 +68,28 @@ pub record AreLastWords (ms : List Mark) (ws : List SlotWord) : Type 0 where
   pub ordered : IsStrictlyIncreasing (map (λ w. w.slot.start) ws)
   pub last : (w : SlotWord) → Contains ws w → (vs : List ℕ) × IsRunFrom ms w.slot 0 vs × (w.word.0 ≡ last_word 0 vs)
 
--- The records are those of the trace's lines over plain slots: each line's op in order, answers by the registers, the
--- steps of each slot one run, in file order, and never full; and these are the slots with their words at the end.
-pub record IsPlainRun (ls : List Line) (entries : List Entry) (ws : List SlotWord) : Type 0 where
+-- the exchanges of each cell, by the cell's number
+abbrev pub history_at : List (List CellEntry) → ℕ → List CellEntry
+history_at cells k = slice_index_or cells k []
+
+-- every cell's exchanges stand in the order of their lines
+abbrev pub AreCellsInFileOrder : (ℕ → List CellEntry) → Type 0
+AreCellsInFileOrder cells = (k : ℕ) → IsStrictlyIncreasing (map (λ e. e.line) (cells k))
+
+-- The records are those of the trace's lines over plain slots, of which 8 bytes are usable: each line's op in order,
+-- exchanges and answers by cells and registers, the steps of each slot one run, what was read the content or poison, all
+-- in file order; never full, and no slot given back by a purge; and these are the slots with their words at the end.
+pub record IsPlainRun (ls : List Line) (entries : List Entry) (cells : List (List CellEntry)) (ws : List SlotWord) : Type 0 where
   pub played : List Played
   pub told : map entry_of played ≡ entries
   pub lines : AreLines ls played
-  pub registers : AreRegisters (λ size. 8) played
+  pub exchanged : AreCells (history_at cells) played
+  pub registers : AreRegisters (λ size. 8) (history_at cells) played
   pub slots : Slots (marks_of played)
+  pub contents : AreContents played
   pub order : IsInFileOrder (marks_of played)
+  pub cell_order : AreCellsInFileOrder (history_at cells)
   pub never_full : (p : Played) (entry : ℕ) → Contains played p → p.answer ≡ Full entry → ⊥
+  pub none_given : (p : Played) (slots : ℕ) → Contains played p → p.answer ≡ Purged slots → slots ≡ 0
   pub words : AreLastWords (marks_of played) ws
+  pub few_cells : length cells ≡ 64

@@ -5,7 +5,7 @@ use Rattle.pa_machine.specs.declared.word.Step.{Step}
 use Rattle.pa_machine.specs.declared.word.Step.TheVariants as steps
 use Rattle.pa_machine.specs.Run.{Mark}
 use Rattle.pa_trace.specs.declared.script.Line.{Line}
-use Rattle.pa_trace.specs.declared.script.Line.TheVariants.{Do}
+use Rattle.pa_trace.specs.declared.script.Line.TheVariants.{Phase, Do}
 use Rattle.pa_trace.specs.declared.script.Op.{Op}
 use Rattle.pa_trace.specs.declared.script.Op.TheVariants as ops
 use Rattle.pa_record.specs.declared.entry.Entry.{Entry}
@@ -13,41 +13,50 @@ use Rattle.pa_record.specs.declared.entry.Seen.{Seen}
 use Rattle.pa_record.specs.declared.entry.Answer.{Answer}
 use Rattle.pa_record.specs.declared.entry.Answer.TheVariants.{Made, Done, Value, Dangling, SecondFree, NotOwner, StaleReset, StaleUse, Nothing, Filled, NotRef, Shared, OutOfRange, TooLarge, Full, Swapped, Purged}
 
--- an op line: its number in the trace, its thread and its op
+-- an op line: its number in the trace, its thread, its phase and its op
 pub record OpLine : Type 0 where
   pub line : ℕ
   pub thread : ℕ
+  pub phase : ℕ
   pub op : Op
 
--- the op lines of a trace whose next line has this number; the head is line 1, so a trace begins at 2
-abbrev pub op_lines : ℕ → List Line → List OpLine
-op_lines n [] = []
-op_lines n (Do thread op ∷ ls) = record { line = n; thread = thread; op = op } ∷ op_lines (n + 1) ls
+-- the op lines of a trace whose next line has this number and stands in this phase
+abbrev pub op_lines : ℕ → ℕ → List Line → List OpLine
+op_lines n phase [] = []
+op_lines n phase (Phase ∷ ls) = op_lines (n + 1) (phase + 1) ls
+op_lines n phase (Do thread op ∷ ls) = record { line = n; thread = thread; phase = phase; op = op } ∷ op_lines (n + 1) phase ls
 
 -- a record beside the op of its line
 pub record Played : Type 0 where
   pub line : ℕ
   pub thread : ℕ
+  pub phase : ℕ
   pub op : Op
   pub answer : Answer
 
 -- its op line, and its record
 abbrev pub op_line_of : Played → OpLine
-op_line_of p = record { line = p.line; thread = p.thread; op = p.op }
+op_line_of p = record { line = p.line; thread = p.thread; phase = p.phase; op = p.op }
 
 abbrev pub entry_of : Played → Entry
 entry_of p = record { line = p.line; thread = p.thread; answer = p.answer }
 
--- the records are the trace's op lines, in order, each once, with its thread
+-- the records are the trace's op lines, in order, each once, with its thread; the head is line 1, and phases count
+-- from 1
 abbrev pub AreLines : List Line → List Played → Type 0
-AreLines ls ps = map op_line_of ps ≡ op_lines 2 ls
+AreLines ls ps = map op_line_of ps ≡ op_lines 2 1 ls
 
--- the step that an op makes where its answer is `done`; an allocation has an answer of its own
+-- the step that an op makes where its answer is `done`; an allocation has an answer of its own, and
+-- reads, exchanges and purges make no step
 abbrev pub step_of : Op → Option Step
 step_of (ops.Alloc reg partition size) = None
 step_of (ops.Copy from to) = Some steps.Copy
 step_of (ops.Reset reg) = Some steps.Reset
 step_of (ops.Free reg) = Some steps.Free
+step_of (ops.Write reg value) = Some steps.Write
+step_of (ops.Read reg place) = None
+step_of (ops.Swap cell reg) = None
+step_of ops.Purge = None
 
 abbrev pub mark_at : ℕ → Seen → Option Step → Mark
 mark_at line seen step = record { line = line; slot = seen.slot; found = seen.found.0; step = step }

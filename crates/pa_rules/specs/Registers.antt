@@ -1,12 +1,16 @@
 -- The registers of the threads: the answer of each op, and the registers after it.
-use Rattle.std.specs.Prelude.{◌≡◌, ℕ, ◌<◌, ◌≤◌, ◌==◌, if◌then◌else◌, ◌⊎◌, List, [], ◌∷◌, Some, None}
+use Rattle.std.specs.Prelude.{◌≡◌, ℕ, ◌*◌, ◌<◌, ◌≤◌, ◌==◌, if◌then◌else◌, ◌⊎◌, List, [], ◌∷◌, Option, Some, None, slice_get}
 use Rattle.pa_machine.specs.declared.word.SlotName.{SlotName}
-use Rattle.pa_machine.specs.Count.{held_of}
+use Rattle.pa_machine.specs.Count.{held_of, refs_of}
+use Rattle.pa_machine.specs.Run.{same_slot}
 use Rattle.pa_trace.specs.declared.script.Op.{Op}
 use Rattle.pa_trace.specs.declared.script.Op.TheVariants as ops
 use Rattle.pa_record.specs.declared.entry.Seen.{Seen}
 use Rattle.pa_record.specs.declared.entry.Answer.{Answer}
-use Rattle.pa_record.specs.declared.entry.Answer.TheVariants.{Made, Done, SecondFree, NotOwner, StaleReset, StaleUse, Nothing, Filled, NotRef, TooLarge, Full}
+use Rattle.pa_record.specs.declared.entry.Answer.TheVariants.{Made, Done, Value, Dangling, SecondFree, NotOwner, StaleReset, StaleUse, Nothing, Filled, NotRef, Shared, OutOfRange, TooLarge, Full, Swapped, Purged}
+use Rattle.pa_record.specs.declared.history.CellEntry.{CellEntry}
+use Rattle.pa_record.specs.declared.history.Held.{Held}
+use Rattle.pa_record.specs.declared.history.Held.TheVariants as held
 use Rattle.pa_rules.specs.declared.register.Reg.{Reg}
 use Rattle.pa_rules.specs.declared.register.Reg.TheVariants.{Empty, Own, Ref, Freed, Cleared}
 use Rattle.pa_rules.specs.Played.{Played}
@@ -23,21 +27,28 @@ with regs i r k = if k == i then r else regs k
 abbrev pub Becomes : Regs → Regs → Type 0
 Becomes after regs = (k : ℕ) → after k ≡ regs k
 
+-- What the rows ask besides the registers: how many bytes of a size's slot and of a slot are usable, and what was done
+-- with each cell.
+pub record Facts : Type 0 where
+  pub usable_of : ℕ → ℕ
+  pub usable_at : SlotName → ℕ
+  pub cells : ℕ → List CellEntry
+
 -- A request that finds its register without a handle. One above 33,521,656 bytes is too large; else it made a slot,
 -- or the placement was full.
-abbrev pub RequestRow : (ℕ → ℕ) → Regs → ℕ → ℕ → Answer → Regs → Type 0
-RequestRow usable_of regs reg size answer after =
+abbrev pub RequestRow : Facts → Regs → ℕ → ℕ → Answer → Regs → Type 0
+RequestRow facts regs reg size answer after =
     ((33521656 < size) × (answer ≡ TooLarge) × Becomes after regs)
-    ⊎ ((size ≤ 33521656) × (seen : Seen) × (answer ≡ Made seen (usable_of size)) × Becomes after (with regs reg (Own seen.slot)))
+    ⊎ ((size ≤ 33521656) × (seen : Seen) × (answer ≡ Made seen (facts.usable_of size)) × Becomes after (with regs reg (Own seen.slot)))
     ⊎ ((size ≤ 33521656) × (entry : ℕ) × (answer ≡ Full entry) × Becomes after regs)
 
 -- an allocation, by what its register holds
-abbrev pub AllocRow : Reg → (ℕ → ℕ) → Regs → ℕ → ℕ → Answer → Regs → Type 0
-AllocRow Empty usable_of regs reg size answer after = RequestRow usable_of regs reg size answer after
-AllocRow (Own s) usable_of regs reg size answer after = (answer ≡ Filled) × Becomes after regs
-AllocRow (Ref s) usable_of regs reg size answer after = (answer ≡ Filled) × Becomes after regs
-AllocRow Freed usable_of regs reg size answer after = RequestRow usable_of regs reg size answer after
-AllocRow Cleared usable_of regs reg size answer after = RequestRow usable_of regs reg size answer after
+abbrev pub AllocRow : Reg → Facts → Regs → ℕ → ℕ → Answer → Regs → Type 0
+AllocRow Empty facts regs reg size answer after = RequestRow facts regs reg size answer after
+AllocRow (Own s) facts regs reg size answer after = (answer ≡ Filled) × Becomes after regs
+AllocRow (Ref s) facts regs reg size answer after = (answer ≡ Filled) × Becomes after regs
+AllocRow Freed facts regs reg size answer after = RequestRow facts regs reg size answer after
+AllocRow Cleared facts regs reg size answer after = RequestRow facts regs reg size answer after
 
 -- a copy of a handle to slot s, by what the second register holds; it may be the first itself, which has a handle
 abbrev pub CopyToRow : Reg → SlotName → Regs → ℕ → Answer → Regs → Type 0
@@ -73,12 +84,65 @@ FreeRow (Ref s) regs reg answer after =
 FreeRow Freed regs reg answer after = (answer ≡ SecondFree None) × Becomes after regs
 FreeRow Cleared regs reg answer after = (answer ≡ StaleUse None) × Becomes after regs
 
+-- a write, by what its register holds; an owner writes only where no raw_ptr points to the slot
+abbrev pub WriteRow : Reg → Regs → Answer → Regs → Type 0
+WriteRow Empty regs answer after = (answer ≡ Nothing) × Becomes after regs
+WriteRow (Own s) regs answer after =
+    (seen : Seen) × (seen.slot ≡ s) × Becomes after regs
+    × (((0 < refs_of seen.found.0) × (answer ≡ Shared seen)) ⊎ ((refs_of seen.found.0 ≡ 0) × (answer ≡ Done seen)))
+WriteRow (Ref s) regs answer after =
+    (seen : Seen) × (seen.slot ≡ s) × Becomes after regs
+    × (((held_of seen.found.0 ≡ 1) × (answer ≡ NotOwner seen)) ⊎ ((held_of seen.found.0 ≡ 0) × (answer ≡ StaleUse (Some seen))))
+WriteRow Freed regs answer after = (answer ≡ StaleUse None) × Becomes after regs
+WriteRow Cleared regs answer after = (answer ≡ StaleUse None) × Becomes after regs
+
+-- A read through a handle to slot s. A word that isn't inside the usable bytes is out of range; else the slot is looked
+-- at, and the read is dangling where it was freed. What value is read stands in the contents.
+abbrev pub ReadFromRow : SlotName → Facts → Regs → ℕ → Answer → Regs → Type 0
+ReadFromRow s facts regs place answer after =
+    Becomes after regs
+    × (((facts.usable_at s ≤ 8 * place) × (answer ≡ OutOfRange))
+    ⊎ ((8 * place < facts.usable_at s) × (seen : Seen) × (value : ℕ) × (seen.slot ≡ s)
+    × (((held_of seen.found.0 ≡ 1) × (answer ≡ Value seen value)) ⊎ ((held_of seen.found.0 ≡ 0) × (answer ≡ Dangling seen value)))))
+
+-- a read, by what its register holds
+abbrev pub ReadRow : Reg → Facts → Regs → ℕ → Answer → Regs → Type 0
+ReadRow Empty facts regs place answer after = (answer ≡ Nothing) × Becomes after regs
+ReadRow (Own s) facts regs place answer after = ReadFromRow s facts regs place answer after
+ReadRow (Ref s) facts regs place answer after = ReadFromRow s facts regs place answer after
+ReadRow Freed facts regs place answer after = (answer ≡ StaleUse None) × Becomes after regs
+ReadRow Cleared facts regs place answer after = (answer ≡ StaleUse None) × Becomes after regs
+
+-- the handle that a register holds, and the register that holds a handle
+abbrev pub handle_of : Reg → Held
+handle_of Empty = held.Nothing
+handle_of (Own s) = held.Own s
+handle_of (Ref s) = held.Ref s
+handle_of Freed = held.Nothing
+handle_of Cleared = held.Nothing
+
+abbrev pub reg_of : Held → Reg
+reg_of held.Nothing = Empty
+reg_of (held.Own s) = Own s
+reg_of (held.Ref s) = Ref s
+
+-- An exchange with a cell: it gave what the register held, and the register holds what it found. The answer names it in
+-- the cell's history.
+abbrev pub SwapRow : List CellEntry → Regs → ℕ → Answer → Regs → Type 0
+SwapRow history regs reg answer after =
+    (entry : ℕ) × (e : CellEntry) × (answer ≡ Swapped entry) × (slice_get history entry ≡ Some e)
+    × (e.gave ≡ handle_of (regs reg)) × Becomes after (with regs reg (reg_of e.found))
+
 -- the answer of an op, and its thread's registers after it
-abbrev pub Row : (ℕ → ℕ) → Op → Regs → Answer → Regs → Type 0
-Row usable_of (ops.Alloc reg partition size) regs answer after = AllocRow (regs reg) usable_of regs reg size answer after
-Row usable_of (ops.Copy from to) regs answer after = CopyRow (regs from) regs to answer after
-Row usable_of (ops.Reset reg) regs answer after = ResetRow (regs reg) regs reg answer after
-Row usable_of (ops.Free reg) regs answer after = FreeRow (regs reg) regs reg answer after
+abbrev pub Row : Facts → Op → Regs → Answer → Regs → Type 0
+Row facts (ops.Alloc reg partition size) regs answer after = AllocRow (regs reg) facts regs reg size answer after
+Row facts (ops.Copy from to) regs answer after = CopyRow (regs from) regs to answer after
+Row facts (ops.Reset reg) regs answer after = ResetRow (regs reg) regs reg answer after
+Row facts (ops.Free reg) regs answer after = FreeRow (regs reg) regs reg answer after
+Row facts (ops.Write reg value) regs answer after = WriteRow (regs reg) regs answer after
+Row facts (ops.Read reg place) regs answer after = ReadRow (regs reg) facts regs place answer after
+Row facts (ops.Swap cell reg) regs answer after = SwapRow (facts.cells cell) regs reg answer after
+Row facts ops.Purge regs answer after = (slots : ℕ) × (answer ≡ Purged slots) × Becomes after regs
 
 -- the registers of all threads, and the same with one thread's changed
 abbrev pub AllRegs : Type 0
@@ -88,14 +152,47 @@ abbrev pub with_thread : AllRegs → ℕ → Regs → AllRegs
 with_thread all thread regs t = if t == thread then regs else all t
 
 -- record by record, each answer is the one that the registers ask for, and leads to the next registers
-abbrev pub RowsTo : (ℕ → ℕ) → AllRegs → List Played → AllRegs → Type 0
-RowsTo usable_of all [] after = after ≡ all
-RowsTo usable_of all (p ∷ ps) after =
-    (next : Regs) × Row usable_of p.op (all p.thread) p.answer next × RowsTo usable_of (with_thread all p.thread next) ps after
+abbrev pub RowsTo : Facts → AllRegs → List Played → AllRegs → Type 0
+RowsTo facts all [] after = after ≡ all
+RowsTo facts all (p ∷ ps) after =
+    (next : Regs) × Row facts p.op (all p.thread) p.answer next × RowsTo facts (with_thread all p.thread next) ps after
 
 -- at the start every register is empty
 abbrev pub no_regs : AllRegs
 no_regs thread reg = Empty
 
-abbrev pub AreRegisters : (ℕ → ℕ) → List Played → Type 0
-AreRegisters usable_of ps = (after : AllRegs) × RowsTo usable_of no_regs ps after
+-- the slot that an answer made, with its usable number
+abbrev pub made_of : Answer → Option (SlotName × ℕ)
+made_of (Made seen usable) = Some (seen.slot, usable)
+made_of (Done seen) = None
+made_of (Value seen value) = None
+made_of (Dangling seen value) = None
+made_of (SecondFree seen) = None
+made_of (NotOwner seen) = None
+made_of StaleReset = None
+made_of (StaleUse seen) = None
+made_of Nothing = None
+made_of Filled = None
+made_of NotRef = None
+made_of (Shared seen) = None
+made_of OutOfRange = None
+made_of TooLarge = None
+made_of (Full entry) = None
+made_of (Swapped entry) = None
+made_of (Purged slots) = None
+
+-- the usable number of slot s where this made it, else another number
+abbrev pub usable_or : Option (SlotName × ℕ) → SlotName → ℕ → ℕ
+usable_or None s other = other
+usable_or (Some m) s other = if same_slot m.0 s then m.1 else other
+
+-- the usable number of slot s that the first record says which made it, and 0 where none did
+abbrev pub usable_in : List Played → SlotName → ℕ
+usable_in [] s = 0
+usable_in (p ∷ ps) s = usable_or (made_of p.answer) s (usable_in ps s)
+
+-- Every answer and every register is the one that the rows ask for. The usable number of a slot for a size is given; that
+-- of a slot is what the first record says which made it.
+abbrev pub AreRegisters : (ℕ → ℕ) → (ℕ → List CellEntry) → List Played → Type 0
+AreRegisters usable_of cells ps =
+    (after : AllRegs) × RowsTo (record { usable_of = usable_of; usable_at = usable_in ps; cells = cells }) no_regs ps after

@@ -2,8 +2,10 @@
 //! the checker and the top call cite them; nothing here runs.
 #![tactic(auto)]
 
+mod laws;
 mod register;
 mod slot_word;
 
+pub use laws::{titles_follow, worked_caches_fit};
 pub use register::Reg;
 pub use slot_word::SlotWord;

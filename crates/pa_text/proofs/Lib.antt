@@ -2,3 +2,5 @@ pub mod Hex
 pub mod Joining
 pub mod Numbers
 pub mod Numerals
+pub mod Words
+pub mod Splitting

@@ -1,10 +1,12 @@
 -- What is read in front of bytes is a numeral, a numeral is read in front of them, and a number has one numeral.
-use Rattle.std.proofs.Common.{◌≡◌, ℕ, zero, suc, ◌+◌, ◌-◌, ◌*◌, ◌≤◌, Bool, true, false, cond, eqb, ◌&&◌, List, [], ◌∷◌, ◌++◌, length, take, drop, Option, Some, None, is_some, Bor, inl, inr, refl, sym, ap, subst, ◌∙◌, arith}
+use Rattle.std.proofs.Common.{◌≡◌, ℕ, zero, suc, ◌+◌, ◌-◌, ◌*◌, ◌/◌, ◌%◌, ◌<◌, ◌≤◌, Bool, true, false, cond, eqb, ◌&&◌, List, [], ◌∷◌, ◌++◌, length, take, drop, Option, Some, None, is_some, Bor, inl, inr, refl, sym, ap, subst, ◌∙◌, arith}
 use Rattle.std.specs.List.{AllByRecursion}
 use Rattle.std.specs.Option.{option_map, IfSome, IfNone}
 use Rattle.std.proofs.lemmas.Option.{some_pair_parts}
 use Rattle.std.proofs.lemmas.Bool.{le-leb, leb-true, and_from, and_parts, ne_eqb, and_left, and_right, cases_Bool, cases_eq, cases_lt}
 use Rattle.std.proofs.lemmas.List.{take-append-drop, length-append, length-drop, nil_from_length}
+use Rattle.std.specs.Fmt.{decimal}
+use Rattle.std.proofs.lemmas.Fmt.{decimal_by_steps}
 use Rattle.pa_text.specs.Numeral.{IsDigit, value_after, IsNumeral}
 use Rattle.pa_text.specs.Reading.{is_digit, fit, fitted, IsStop, BeginsWith, digit_at, digits_from, number_at}
 use Rattle.pa_text.proofs.Numbers.{digit_first, digit_last}
@@ -128,7 +130,7 @@ number_takes (c ∷ cs) n rest e =
 
 -- ---- a number has one numeral
 
-value_append : (n : ℕ) (a b : List ℕ) → value_after n (a ++ b) ≡ value_after (value_after n a) b
+pub value_append : (n : ℕ) (a b : List ℕ) → value_after n (a ++ b) ≡ value_after (value_after n a) b
 value_append n [] b = refl
 value_append n (c ∷ cs) b = value_append (10 * n + (c - 48)) cs b
 
@@ -184,6 +186,45 @@ one_numeral n a b ha hb =
 
 pub one_value : (m n : ℕ) (text : List ℕ) → IsNumeral m text → IsNumeral n text → m ≡ n
 one_value m n text hm hn = sym hm.value ∙ hn.value
+
+-- ---- a number is printed by its numeral
+
+one_digit : (n : ℕ) → n < 10 → IsNumeral n ((48 + n) ∷ [])
+one_digit n lt = record {
+  digits = ((omega arith, omega arith), tt);
+  written = λ e. cc;
+  canonical = λ rest e. let none : [] ≡ rest = cc in sym none;
+  value = omega arith;
+}
+
+digits_push : (ds : List ℕ) (d : ℕ) → AreDigits ds → IsDigit d → AreDigits (ds ++ d ∷ [])
+digits_push [] d h hd = (hd, tt)
+digits_push (c ∷ ds) d h hd = (h.0, digits_push ds d h.1 hd)
+
+-- a numeral of at least 1 does not begin with a `0`
+no_zero_front : (m d : ℕ) (ds rest : List ℕ) → 1 ≤ m → IsNumeral m ds → ds ++ d ∷ [] ≡ 48 ∷ rest → ⊥
+no_zero_front m d [] rest some' h e = h.written refl
+no_zero_front m d (c ∷ ds) rest some' h e =
+    let head : c ≡ 48 = cc in
+    let none : ds ≡ [] = h.canonical ds (ap (λ (x : ℕ). x ∷ ds) head) in
+    let value : value_after 0 (c ∷ []) ≡ m = ap (λ (x : List ℕ). value_after 0 (c ∷ x)) (sym none) ∙ h.value in
+    omega (arith, value, head)
+
+filled : (ds : List ℕ) (d : ℕ) → ds ++ d ∷ [] ≡ [] → ⊥
+filled [] d e = cc
+filled (c ∷ ds) d e = cc
+
+one_digit_more : (n : ℕ) (ds : List ℕ) → 10 ≤ n → IsNumeral (n / 10) ds → IsNumeral n (ds ++ (48 + n % 10) ∷ [])
+one_digit_more n ds large h =
+    let more : 1 ≤ n / 10 = omega arith in record {
+      digits = digits_push ds (48 + n % 10) h.digits (omega arith, omega arith);
+      written = λ e. filled ds (48 + n % 10) e;
+      canonical = λ rest e. absurd (no_zero_front (n / 10) (48 + n % 10) ds rest more h e);
+      value = value_append 0 ds ((48 + n % 10) ∷ []) ∙ omega (arith, h.value);
+    }
+
+pub decimal_numeral : (n : ℕ) → n < 18446744073709551616 → IsNumeral n (decimal n)
+decimal_numeral n lt = decimal_by_steps (λ m ds. IsNumeral m ds) one_digit one_digit_more n lt
 
 -- ---- what the reader of bytes answers
 

@@ -1,5 +1,5 @@
 -- Words and slot names as they are printed.
-use Rattle.std.specs.Prelude.{ℕ, zero, suc, ◌+◌, ◌/◌, ◌%◌, List, [], ◌∷◌, ◌++◌, nat_lt, if◌then◌else◌}
+use Rattle.std.specs.Prelude.{ℕ, zero, suc, ◌+◌, ◌/◌, ◌%◌, ◌^◌, ◌<◌, List, [], ◌∷◌, ◌++◌, nat_lt, if◌then◌else◌}
 use Rattle.std.specs.Fmt.{decimal}
 use Rattle.pa_machine.specs.declared.word.SlotName.{SlotName}
 
@@ -15,3 +15,7 @@ hex (suc k) n = hex k (n / 16) ++ hex_digit (n % 16) ∷ []
 -- a slot's name: its start as eight hexadecimal digits, a dot, and its born
 abbrev pub slot_text : SlotName → List ℕ
 slot_text s = hex 8 s.start ++ 46 ∷ decimal s.born
+
+-- both numbers of a slot's name have 32 bits
+abbrev pub SlotFits : SlotName → Type 0
+SlotFits s = (s.start < 2 ^ 32) × (s.born < 2 ^ 32)

@@ -1,5 +1,5 @@
--- Numbers in front of bytes, and how they are read.
-use Rattle.std.specs.Prelude.{◌≡◌, ℕ, ◌+◌, ◌-◌, ◌*◌, ◌==◌, ◌&&◌, nat_le, nat_lt, if◌then◌else◌, Bool, false, List, [], ◌∷◌, ◌++◌, Option, Some, None, is_some}
+-- Numbers and words in front of bytes, and how they are read.
+use Rattle.std.specs.Prelude.{◌≡◌, ℕ, zero, suc, ◌+◌, ◌-◌, ◌*◌, ◌==◌, ◌&&◌, nat_le, nat_lt, if◌then◌else◌, Bool, false, List, [], ◌∷◌, ◌++◌, Option, Some, None, is_some}
 use Rattle.pa_text.specs.Numeral.{IsNumeral}
 
 -- the byte is one of `0` to `9`
@@ -47,3 +47,22 @@ unfoldable pub number_at : List ℕ → Option (ℕ × List ℕ)
 number_at bytes = do
   first ← digit_at bytes
   if first.0 == 0 && is_some (digit_at first.1) then None else Some (digits_from first.0 first.1)
+
+-- the value of a hexadecimal digit, one of `0` to `9` and `a` to `f`
+abbrev pub hex_value : ℕ → Option ℕ
+hex_value c = if is_digit c then Some (c - 48) else (if nat_le 97 c && nat_le c 102 then Some (c - 87) else None)
+
+-- the hexadecimal digit in front, and the bytes behind it
+abbrev pub hex_at : List ℕ → Option (ℕ × List ℕ)
+hex_at [] = None
+hex_at (c ∷ cs) = do
+  digit ← hex_value c
+  Some (digit, cs)
+
+-- the number that the first k bytes write, each a hexadecimal digit, and the bytes behind them
+unfoldable pub hexes_at : ℕ → List ℕ → Option (ℕ × List ℕ)
+hexes_at zero bytes = Some (0, bytes)
+hexes_at (suc k) bytes = do
+  front ← hexes_at k bytes
+  digit ← hex_at front.1
+  Some (16 * front.0 + digit.0, digit.1)

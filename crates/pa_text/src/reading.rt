@@ -1,7 +1,10 @@
-ghost use Rattle.std.specs.Prelude.{◌≡◌, ℕ, ◌<◌, List, Option, IfSome, IfNone};
+ghost use Rattle.std.specs.Prelude.{◌≡◌, ℕ, ◌<◌, ◌^◌, List, ◌++◌, Option, IfSome, IfNone};
+ghost use Rattle.std.specs.Fmt.{decimal};
 ghost use Rattle.std.specs.Option.{option_map};
 ghost use Rattle.pa_text.specs.Numeral.{IsNumeral};
-ghost use Rattle.pa_text.specs.Reading.{BeginsWith, fit, fitted, digit_at, digits_from, number_at};
+ghost use Rattle.pa_text.specs.Reading.{BeginsWith, IsStop, fit, fitted, digit_at, digits_from, number_at};
+ghost use Rattle.pa_text.specs.Hex.{SlotFits, hex, slot_text};
+ghost use Rattle.pa_machine.specs.declared.word.SlotName.{SlotName};
 
 // A number from here on has no 32 bits.
 const TOO_LARGE: u64 = 1 << 32;
@@ -19,6 +22,15 @@ pub fn number_at(bytes: &[u8]) -> Option<(Option<u32>, &[u8])>
 pub fn one_spelling()
     ensures spelling { (n : ℕ) (a b : List ℕ) → IsNumeral n a → IsNumeral n b → a ≡ b }
     ensures number { (m n : ℕ) (text : List ℕ) → IsNumeral m text → IsNumeral n text → m ≡ n }
+    // What is printed of a number spells it.
+    ensures printed { (n : ℕ) → n < 2 ^ 64 → IsNumeral n (decimal n) }
+{}
+
+/// What is printed of a number, a word or a slot's name, with no digit behind it, tells it and what stands behind it.
+pub fn one_front()
+    ensures number { (m n : ℕ) (x y : List ℕ) → m < 2 ^ 64 → n < 2 ^ 64 → IsStop x → IsStop y → decimal m ++ x ≡ decimal n ++ y → (m ≡ n) × (x ≡ y) }
+    ensures word { (m n : ℕ) (x y : List ℕ) → m < 2 ^ 64 → n < 2 ^ 64 → hex 16 m ++ x ≡ hex 16 n ++ y → (m ≡ n) × (x ≡ y) }
+    ensures slot { (s t : SlotName) (x y : List ℕ) → SlotFits s → SlotFits t → IsStop x → IsStop y → slot_text s ++ x ≡ slot_text t ++ y → (s ≡ t) × (x ≡ y) }
 {}
 
 // The same, byte by byte.

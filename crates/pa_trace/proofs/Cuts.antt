@@ -1,15 +1,17 @@
 -- Lines in a text: where a line ends, and that a text is cut in one way.
-use Rattle.std.proofs.Common.{◌≡◌, ℕ, ◌+◌, ◌<◌, ◌≤◌, List, [], ◌∷◌, ◌++◌, length, get_or, take, drop, Bool, true, not, ◌&&◌, eqb, codes, refl, sym, ap, subst, ◌∙◌, arith}
+use Rattle.std.proofs.Common.{◌≡◌, ℕ, zero, suc, ◌+◌, ◌/◌, ◌%◌, ◌<◌, ◌≤◌, inl, inr, List, [], ◌∷◌, ◌++◌, length, get_or, take, drop, Bool, true, not, ◌&&◌, eqb, codes, refl, sym, ap, subst, ◌∙◌, arith}
 use Rattle.std.specs.List.{AllByRecursion}
 use Rattle.std.proofs.lemmas.List.{take_more, take_all, drop_more, take-append-drop}
-use Rattle.std.proofs.lemmas.Bool.{and_parts, eqb-false, not-true}
+use Rattle.std.proofs.lemmas.Bool.{and_parts, eqb-false, ne_eqb, not-true, cases_lt, lt-ltb, le-ltb}
+use Rattle.pa_text.specs.Hex.{hex, hex_digit}
 use Rattle.pa_text.specs.Numeral.{IsDigit, IsNumeral}
 use Rattle.pa_trace.specs.declared.script.Line.{Line}
-use Rattle.pa_trace.specs.declared.script.Line.TheVariants.{Do}
+use Rattle.pa_trace.specs.declared.script.Line.TheVariants.{Phase, Do}
 use Rattle.pa_trace.specs.declared.script.Op.{Op}
-use Rattle.pa_trace.specs.declared.script.Op.TheVariants.{Alloc, Copy, Reset, Free}
+use Rattle.pa_trace.specs.declared.script.Op.TheVariants.{Alloc, Copy, Reset, Free, Write, Read, Swap, Purge}
 use Rattle.pa_trace.specs.Grammar.{IsOpText, IsLineText, IsHeadText}
 use Rattle.pa_trace.specs.Cut.{IsOneLine}
+use Rattle.pa_trace.specs.Faults.{with_front, lines_of}
 
 -- ---- bytes without an LF
 
@@ -46,6 +48,35 @@ no_cut [] (x ∷ a) r h e = cc
 no_cut (y ∷ bytes) [] r h e = h.0 (cc)
 no_cut (y ∷ bytes) (x ∷ a) r h e = no_cut bytes a r h.1 (cc)
 
+-- ---- the lines of a text
+
+pub lf_front : (lines : List (List ℕ)) → with_front 10 lines ≡ (10 ∷ []) ∷ lines
+lf_front [] = refl
+lf_front (line ∷ lines) = refl
+
+pub other_front : (b : ℕ) (line : List ℕ) (lines : List (List ℕ)) → (b ≡ 10 → ⊥) → with_front b (line ∷ lines) ≡ (b ∷ line) ∷ lines
+other_front b line lines other = rw (ne_eqb b 10 other) refl
+
+-- a line with its LF stands in front of the lines behind it
+pub cut_lines : (line after : List ℕ) → IsOneLine line → lines_of (line ++ 10 ∷ after) ≡ (line ++ 10 ∷ []) ∷ lines_of after
+unfolding lines_of
+cut_lines [] after one = lf_front (lines_of after)
+cut_lines (b ∷ line) after one = ap (with_front b) (cut_lines line after one.1) ∙ other_front b (line ++ 10 ∷ []) (lines_of after) one.0
+
+-- bytes without an LF are one line
+last_cons : (b : ℕ) (line : List ℕ) → IsOneLine (b ∷ line) → lines_of (b ∷ line) ≡ (b ∷ line) ∷ []
+unfolding lines_of
+last_cons b [] one = refl
+last_cons b (c ∷ line) one = ap (with_front b) (last_cons c line one.1) ∙ other_front b (c ∷ line) [] one.0
+
+pub last_line : (line : List ℕ) → IsOneLine line → (line ≡ [] → ⊥) → lines_of line ≡ line ∷ []
+last_line [] one some' = absurd (some' refl)
+last_line (b ∷ line) one some' = last_cons b line one
+
+pub no_lines : lines_of [] ≡ []
+unfolding lines_of
+no_lines = refl
+
 -- ---- what is spelled in a line has no LF
 
 numeral_line : (ds : List ℕ) → AllByRecursion IsDigit ds → IsOneLine ds
@@ -75,6 +106,18 @@ word_line (b ∷ bs) e =
     let p = and_parts (not (eqb b 10)) (has_no_lf bs) e in
     (eqb-false b 10 (not-true (eqb b 10) p.0), word_line bs p.1)
 
+digit_line : (d : ℕ) → hex_digit d ≡ 10 → ⊥
+digit_line d e =
+    elim (cases_lt d 10) [
+      | inl low ↦ let is : hex_digit d ≡ 48 + d = rw (lt-ltb d 10 low) refl in omega (arith, e, is)
+      | inr high ↦ let is : hex_digit d ≡ 87 + d = rw (le-ltb d 10 high) refl in omega (arith, e, is)
+    ]
+
+hex_line : (k n : ℕ) → IsOneLine (hex k n)
+unfolding hex
+hex_line zero n = tt
+hex_line (suc k) n = one_line_append (hex k (n / 16)) (hex_digit (n % 16) ∷ []) (hex_line k (n / 16)) (digit_line (n % 16), tt)
+
 along : (a b : List ℕ) → a ≡ b → IsOneLine b → IsOneLine a
 along a b e h = subst (λ (x : List ℕ). IsOneLine x) (sym e) h
 
@@ -84,8 +127,14 @@ op_line (Alloc reg partition size) text h =
 op_line (Copy from to) text h = along text _ h.4 (two_line (codes "C r") h.0 (codes " r") h.1 from to (word_line (codes "C r") refl) (word_line (codes " r") refl) h.2 h.3)
 op_line (Reset reg) text h = along text _ h.2 (field_line (codes "R r") h.0 reg (word_line (codes "R r") refl) h.1)
 op_line (Free reg) text h = along text _ h.2 (field_line (codes "F r") h.0 reg (word_line (codes "F r") refl) h.1)
+op_line (Write reg value) text h =
+    along text _ h.3 (one_line_append (codes "W r" ++ h.0 ++ codes " ") (hex 16 value) (one_line_append (codes "W r" ++ h.0) (codes " ") (field_line (codes "W r") h.0 reg (word_line (codes "W r") refl) h.1) (word_line (codes " ") refl)) (hex_line 16 value))
+op_line (Read reg place) text h = along text _ h.4 (two_line (codes "D r") h.0 (codes " ") h.1 reg place (word_line (codes "D r") refl) (word_line (codes " ") refl) h.2 h.3)
+op_line (Swap cell reg) text h = along text _ h.4 (two_line (codes "X c") h.0 (codes " r") h.1 cell reg (word_line (codes "X c") refl) (word_line (codes " r") refl) h.2 h.3)
+op_line Purge text h = along text _ h (word_line (codes "P") refl)
 
 pub line_line : (line : Line) (text : List ℕ) → IsLineText line text → IsOneLine text
+line_line Phase text h = along text _ h (word_line (codes "phase") refl)
 line_line (Do thread op) text h =
     along text _ h.4 (one_line_append (h.0 ++ codes " ") h.1 (one_line_append h.0 (codes " ") (numeral_one thread h.0 h.2) (word_line (codes " ") refl)) (op_line op h.1 h.3))
 

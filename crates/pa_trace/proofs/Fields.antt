@@ -1,5 +1,5 @@
 -- Words with numbers: what is read is spelled so, what is spelled so is read, and numbers are handed on as they fit.
-use Rattle.std.proofs.Common.{◌≡◌, ℕ, Bool, true, false, cond, eqb, List, [], ◌++◌, length, take, drop, Option, Some, None, Result, Ok, Err, refl, sym, ap, subst, ◌∙◌}
+use Rattle.std.proofs.Common.{◌≡◌, ℕ, ◌<◌, Bool, true, false, cond, eqb, List, [], ◌++◌, codes, length, take, drop, Option, Some, None, Result, Ok, Err, refl, sym, ap, subst, ◌∙◌}
 use Rattle.std.specs.Prelude.{nat_eq}
 use Rattle.std.specs.Cmp.Lexicographic.{pointwise}
 use Rattle.std.proofs.lemmas.Bool.{eqb-true}
@@ -7,11 +7,13 @@ use Rattle.std.proofs.lemmas.Bool.Decides.{Decides-eqb}
 use Rattle.std.proofs.lemmas.Slice.Eq.{slice_eq-Decides}
 use Rattle.std.proofs.lemmas.List.{append-nil, append_assoc, take-append-drop, take_at, drop_at, nil_from_length}
 use Rattle.pa_text.specs.Numeral.{IsNumeral}
-use Rattle.pa_text.specs.Reading.{IsStop, BeginsWith, fit, number_at}
+use Rattle.pa_text.specs.Hex.{hex}
+use Rattle.pa_text.specs.Reading.{IsStop, BeginsWith, fit, number_at, hexes_at}
 use Rattle.pa_text.proofs.Numerals.{number_takes, number_again, begins_read}
+use Rattle.pa_text.proofs.Words.{hexes_take, hexes_again}
 use Rattle.pa_trace.specs.declared.field.LineFault.{LineFault}
 use Rattle.pa_trace.specs.declared.field.LineFault.TheVariants.{Outside}
-use Rattle.pa_trace.specs.Reading.{◌>>=◌, behind, hand_on, number_in, field_in, ended, one_in, two_in, three_in}
+use Rattle.pa_trace.specs.Reading.{◌>>=◌, or_outside, behind, hand_on, number_in, word_in, field_in, ended, one_in, two_in, three_in, field_and_word_in}
 
 -- the value of a step that did not fail
 pub bind_ok : {A B : Type 0} (r : Result A LineFault) (f : A → Result B LineFault) (y : B) → (r >>= f) ≡ Ok y → (x : A) × (r ≡ Ok x) × (f x ≡ Ok y)
@@ -24,11 +26,15 @@ if_ok false d x y e = absurd cc
 
 -- ---- a word in front
 
+-- the test of a word
+pub word_same : (a b : List ℕ) → pointwise nat_eq a b ≡ true → a ≡ b
+word_same a b e = (slice_eq-Decides Decides-eqb a b _ refl).0 e
+
 pub behind_takes : (word bytes rest : List ℕ) → behind word bytes ≡ Ok rest → bytes ≡ word ++ rest
 unfolding behind
 behind_takes word bytes rest e =
     let t = if_ok (pointwise nat_eq (take (length word) bytes) word) Outside (drop (length word) bytes) rest e in
-    let front : take (length word) bytes ≡ word = (slice_eq-Decides Decides-eqb (take (length word) bytes) word _ refl).0 t.0 in
+    let front : take (length word) bytes ≡ word = word_same (take (length word) bytes) word t.0 in
     sym (take-append-drop (length word) bytes) ∙ ap (λ (x : List ℕ). x ++ drop (length word) bytes) front ∙ ap (λ (x : List ℕ). word ++ x) t.1
 
 pub behind_again : (word rest : List ℕ) → behind word (word ++ rest) ≡ Ok rest
@@ -38,11 +44,6 @@ behind_again word rest =
     rw (take_at word rest (length word) refl, drop_at word rest (length word) refl, same) refl
 
 -- ---- the number in front, with its value whatever its length
-
--- nothing there is a line outside the grammar
-abbrev pub or_outside : {A : Type 0} → Option A → Result A LineFault
-or_outside None = Err Outside
-or_outside (Some x) = Ok x
 
 unfoldable pub field_at : List ℕ → List ℕ → Result (ℕ × List ℕ) LineFault
 field_at word bytes = do
@@ -78,7 +79,7 @@ field_again word n i rest h stop = rw (behind_again word (i ++ rest), number_aga
 
 -- ---- one, two or three words with numbers
 
-ended_ok : (bytes : List ℕ) (u : Unit {0}) → ended bytes ≡ Ok u → bytes ≡ []
+pub ended_ok : (bytes : List ℕ) (u : Unit {0}) → ended bytes ≡ Ok u → bytes ≡ []
 ended_ok bytes u e = nil_from_length bytes (eqb-true _ _ (if_ok (eqb (length bytes) 0) Outside tt u e).0)
 
 unfoldable pub one_at : List ℕ → List ℕ → Result ℕ LineFault
@@ -181,6 +182,54 @@ three_again v w y m n p i j k stop_w stop_y hi hj hk =
     let third : field_at y (y ++ k) ≡ Ok (p, []) = ap (λ (x : List ℕ). field_at y (y ++ x)) (sym (append-nil k)) ∙ field_again y p k [] hk tt in
     rw (first, second, third) refl
 
+-- ---- a word with a number, a space, and sixteen digits
+
+word_takes : (bytes : List ℕ) (x : ℕ × List ℕ) → word_in bytes ≡ Ok x → (bytes ≡ hex 16 x.0 ++ x.1) × (x.0 < 18446744073709551616)
+unfolding word_in
+word_takes bytes x e = hexes_take 16 bytes x (or_outside_ok (hexes_at 16 bytes) x e)
+
+word_again : (value : ℕ) (rest : List ℕ) → value < 18446744073709551616 → word_in (hex 16 value ++ rest) ≡ Ok (value, rest)
+unfolding word_in
+word_again value rest lt = ap or_outside (hexes_again 16 value rest lt)
+
+unfoldable pub field_and_word_at : List ℕ → List ℕ → Result (ℕ × ℕ) LineFault
+field_and_word_at bytes first = do
+  a ← field_at first bytes
+  rest ← behind (codes " ") a.1
+  value ← word_in rest
+  end ← ended value.1
+  Ok (a.0, value.0)
+
+join_word : (bytes v i r t h z : List ℕ) → bytes ≡ v ++ i ++ r → r ≡ codes " " ++ t → t ≡ h ++ z → z ≡ [] → bytes ≡ v ++ i ++ codes " " ++ h
+join_word bytes v i r t h z e f g none =
+    e ∙ ap (λ (x : List ℕ). v ++ i ++ x) (f ∙ ap (λ (x : List ℕ). codes " " ++ x) (g ∙ ap (λ (x : List ℕ). h ++ x) none ∙ append-nil h)) ∙ sym (append_assoc (v ++ i) (codes " ") h)
+
+pub field_and_word_takes : (bytes v : List ℕ) (x : ℕ × ℕ) → field_and_word_at bytes v ≡ Ok x
+    → (i : List ℕ) × IsNumeral x.0 i × (x.1 < 18446744073709551616) × (bytes ≡ v ++ i ++ codes " " ++ hex 16 x.1)
+unfolding field_and_word_at
+field_and_word_takes bytes v x e =
+    let a = bind_ok (field_at v bytes) (λ a. behind (codes " ") a.1 >>= λ rest. word_in rest >>= λ value. ended value.1 >>= λ end. Ok (a.0, value.0)) x e in
+    let b = bind_ok (behind (codes " ") a.0.1) (λ rest. word_in rest >>= λ value. ended value.1 >>= λ end. Ok (a.0.0, value.0)) x a.2 in
+    let w = bind_ok (word_in b.0) (λ value. ended value.1 >>= λ end. Ok (a.0.0, value.0)) x b.2 in
+    let z = bind_ok (ended w.0.1) (λ end. Ok (a.0.0, w.0.0)) x w.2 in
+    let t = field_takes v bytes a.0 a.1 in
+    let u = word_takes b.0 w.0 w.1 in
+    let same = ok_is (a.0.0, w.0.0) x z.2 in
+    let parts = join_word bytes v t.numeral a.0.1 b.0 (hex 16 w.0.0) w.0.1 t.parts (behind_takes (codes " ") a.0.1 b.0 b.1) u.0 (ended_ok w.0.1 z.0 z.1) in (
+      t.numeral,
+      subst (λ (k : ℕ × ℕ). IsNumeral k.0 t.numeral) same t.spelled,
+      subst (λ (k : ℕ × ℕ). k.1 < 18446744073709551616) same u.1,
+      subst (λ (k : ℕ × ℕ). bytes ≡ v ++ t.numeral ++ codes " " ++ hex 16 k.1) same parts,
+    )
+
+pub field_and_word_again : (v : List ℕ) (n value : ℕ) (i : List ℕ) → IsNumeral n i → value < 18446744073709551616 → field_and_word_at (v ++ i ++ codes " " ++ hex 16 value) v ≡ Ok (n, value)
+unfolding field_and_word_at
+field_and_word_again v n value i hi lt =
+    let h : List ℕ = hex 16 value in
+    let first : field_at v (v ++ i ++ codes " " ++ h) ≡ Ok (n, codes " " ++ h) = ap (field_at v) (simp append_assoc) ∙ field_again v n i (codes " " ++ h) hi refl in
+    let second : word_in h ≡ Ok (value, []) = ap word_in (sym (append-nil h)) ∙ word_again value [] lt in
+    rw (first, behind_again (codes " ") h, second) refl
+
 -- ---- what is handed on of the numbers
 
 pub number_some : (bytes : List ℕ) (value : Option ℕ) (rest : List ℕ) → ((n : ℕ) × BeginsWith bytes n rest × (value ≡ fit n)) → number_in bytes ≡ Ok (value, rest)
@@ -272,3 +321,43 @@ three_cases w y (Err e) = refl
 pub three_is : (bytes v w y : List ℕ) → three_in bytes v w y ≡ (three_at bytes v w y >>= three_handed)
 unfolding three_in three_at
 three_is bytes v w y = ap (λ (r : Result (Option ℕ × List ℕ) LineFault). r >>= λ a. field_in w a.1 >>= λ b. field_in y b.1 >>= λ c. ended c.1 >>= λ end. Ok (a.0, b.0, c.0)) (field_handed v bytes) ∙ three_cases w y (field_at v bytes)
+
+abbrev pub word_handed : ℕ × ℕ → Result (Option ℕ × ℕ) LineFault
+word_handed x = Ok (fit x.0, x.1)
+
+end_word : (m n : ℕ) (r : Result (Unit {0}) LineFault) → (r >>= λ end. Ok (fit m, n)) ≡ ((r >>= λ end. Ok (m, n)) >>= word_handed)
+end_word m n (Ok u) = refl
+end_word m n (Err e) = refl
+
+word_last : (m : ℕ) (r : Result (ℕ × List ℕ) LineFault) → (r >>= λ value. ended value.1 >>= λ end. Ok (fit m, value.0)) ≡ ((r >>= λ value. ended value.1 >>= λ end. Ok (m, value.0)) >>= word_handed)
+word_last m (Ok x) = end_word m x.0 (ended x.1)
+word_last m (Err e) = refl
+
+word_rest : (m : ℕ) (r : Result (List ℕ) LineFault) → (r >>= λ rest. word_in rest >>= λ value. ended value.1 >>= λ end. Ok (fit m, value.0)) ≡ ((r >>= λ rest. word_in rest >>= λ value. ended value.1 >>= λ end. Ok (m, value.0)) >>= word_handed)
+word_rest m (Ok rest) = word_last m (word_in rest)
+word_rest m (Err e) = refl
+
+word_cases : (r : Result (ℕ × List ℕ) LineFault) → ((r >>= handed) >>= λ a. behind (codes " ") a.1 >>= λ rest. word_in rest >>= λ value. ended value.1 >>= λ end. Ok (a.0, value.0))
+    ≡ ((r >>= λ a. behind (codes " ") a.1 >>= λ rest. word_in rest >>= λ value. ended value.1 >>= λ end. Ok (a.0, value.0)) >>= word_handed)
+word_cases (Ok a) = word_rest a.0 (behind (codes " ") a.1)
+word_cases (Err e) = refl
+
+pub field_and_word_is : (bytes v : List ℕ) → field_and_word_in bytes v ≡ (field_and_word_at bytes v >>= word_handed)
+unfolding field_and_word_in field_and_word_at
+field_and_word_is bytes v = ap (λ (r : Result (Option ℕ × List ℕ) LineFault). r >>= λ a. behind (codes " ") a.1 >>= λ rest. word_in rest >>= λ value. ended value.1 >>= λ end. Ok (a.0, value.0)) (field_handed v bytes) ∙ word_cases (field_at v bytes)
+
+-- what the reader of sixteen digits tells is what is read
+pub word_some : (bytes : List ℕ) (value : ℕ) (rest : List ℕ) → value < 18446744073709551616 → bytes ≡ hex 16 value ++ rest → word_in bytes ≡ Ok (value, rest)
+word_some bytes value rest lt parts = ap word_in parts ∙ word_again value rest lt
+
+word_none_in : (bytes : List ℕ) (r : Result (ℕ × List ℕ) LineFault) → word_in bytes ≡ r → ((e : LineFault) → r ≡ Err e → e ≡ Outside) → ((n : ℕ) (rest : List ℕ) → n < 18446744073709551616 → bytes ≡ hex 16 n ++ rest → ⊥) → r ≡ Err Outside
+word_none_in bytes (Ok x) same outside none = let t = word_takes bytes x same in absurd (none x.0 x.1 t.1 t.0)
+word_none_in bytes (Err e) same outside none = ap (λ (d : LineFault). Err d) (outside e refl)
+
+outside_is : {A : Type 0} (o : Option A) (e : LineFault) → or_outside o ≡ Err e → e ≡ Outside
+outside_is None e same = cc
+outside_is (Some x) e same = absurd cc
+
+pub word_none : (bytes : List ℕ) → ((n : ℕ) (rest : List ℕ) → n < 18446744073709551616 → bytes ≡ hex 16 n ++ rest → ⊥) → word_in bytes ≡ Err Outside
+unfolding word_in
+word_none bytes none = word_none_in bytes (word_in bytes) refl (λ e same. outside_is (hexes_at 16 bytes) e same) none

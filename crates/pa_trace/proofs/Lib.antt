@@ -1,5 +1,12 @@
 pub mod Fields
 pub mod Spelled
+pub mod Shapes
 pub mod Limits
 pub mod Cuts
-pub mod Whole
+pub mod Behind
+pub mod Texts
+pub mod Written
+pub mod Lengths
+pub mod Firsts
+pub mod Early
+pub mod Found

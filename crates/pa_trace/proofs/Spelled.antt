@@ -1,17 +1,20 @@
 -- Ops, lines and heads with numbers of any length: what is read is spelled so, and what is spelled so is read.
-use Rattle.std.proofs.Common.{◌≡◌, ℕ, Bool, true, false, cond, eqb, List, [], ◌∷◌, ◌++◌, Option, Some, None, Result, Ok, Err, codes, refl, sym, ap, subst, ◌∙◌, append_assoc, ◌⊎◌, inl, inr}
-use Rattle.std.proofs.lemmas.Bool.{eqb-true}
+use Rattle.std.proofs.Common.{◌≡◌, ℕ, Bool, true, false, cond, eqb, List, [], ◌∷◌, ◌++◌, Option, Some, None, Result, Ok, Err, codes, refl, sym, ap, subst, ◌∙◌, append_assoc, ◌⊎◌, inl, inr, arith}
+use Rattle.std.specs.Prelude.{nat_eq}
+use Rattle.std.specs.Cmp.Lexicographic.{pointwise}
+use Rattle.std.proofs.lemmas.Bool.{eqb-true, ne_eqb}
+use Rattle.pa_text.specs.Numeral.{IsNumeral}
 use Rattle.pa_text.specs.Reading.{number_at}
 use Rattle.pa_text.proofs.Numerals.{number_takes, number_again}
 use Rattle.pa_trace.specs.declared.field.LineFault.{LineFault}
 use Rattle.pa_trace.specs.declared.field.LineFault.TheVariants.{Outside}
 use Rattle.pa_trace.specs.declared.script.Line.{Line}
-use Rattle.pa_trace.specs.declared.script.Line.TheVariants.{Do}
+use Rattle.pa_trace.specs.declared.script.Line.TheVariants.{Phase, Do}
 use Rattle.pa_trace.specs.declared.script.Op.{Op}
-use Rattle.pa_trace.specs.declared.script.Op.TheVariants.{Alloc, Copy, Reset, Free}
+use Rattle.pa_trace.specs.declared.script.Op.TheVariants.{Alloc, Copy, Reset, Free, Write, Read, Swap, Purge}
 use Rattle.pa_trace.specs.Grammar.{IsOpText, IsLineText, IsHeadText}
-use Rattle.pa_trace.specs.Reading.{◌>>=◌, behind}
-use Rattle.pa_trace.proofs.Fields.{bind_ok, or_outside, behind_takes, behind_again, one_at, one_takes, one_again, two_at, two_takes, two_again, three_at, three_takes, three_again}
+use Rattle.pa_trace.specs.Reading.{◌>>=◌, or_outside, behind, ended, purge_in}
+use Rattle.pa_trace.proofs.Fields.{bind_ok, behind_takes, behind_again, ended_ok, word_same, one_at, one_takes, one_again, two_at, two_takes, two_again, three_at, three_takes, three_again, field_and_word_at, field_and_word_takes, field_and_word_again}
 
 -- ---- ops
 
@@ -36,13 +39,26 @@ free_at bytes = do
   n ← one_at bytes (codes " r")
   Ok (Free n)
 
+unfoldable pub write_at : List ℕ → Result Op LineFault
+write_at bytes = do
+  x ← field_and_word_at bytes (codes " r")
+  Ok (Write x.0 x.1)
+
+unfoldable pub read_at : List ℕ → Result Op LineFault
+read_at bytes = do
+  x ← two_at bytes (codes " r") (codes " ")
+  Ok (Read x.0 x.1)
+
+unfoldable pub swap_at : List ℕ → Result Op LineFault
+swap_at bytes = do
+  x ← two_at bytes (codes " c") (codes " r")
+  Ok (Swap x.0 x.1)
+
 unfoldable pub op_at : List ℕ → Result Op LineFault
 op_at [] = Err Outside
-op_at (c ∷ rest) = cond (eqb c 65) (alloc_at rest) (cond (eqb c 67) (copy_at rest) (cond (eqb c 82) (reset_at rest) (cond (eqb c 70) (free_at rest) (Err Outside))))
-
--- a letter and what stands behind it spell the op
-abbrev SpellsOp : ℕ → List ℕ → Op → Type 0
-SpellsOp c rest op = IsOpText op (c ∷ rest)
+op_at (c ∷ rest) =
+    cond (eqb c 65) (alloc_at rest) (cond (eqb c 67) (copy_at rest) (cond (eqb c 82) (reset_at rest) (cond (eqb c 70) (free_at rest)
+    (cond (eqb c 87) (write_at rest) (cond (eqb c 68) (read_at rest) (cond (eqb c 88) (swap_at rest) (cond (eqb c 80) (purge_in rest) (Err Outside))))))))
 
 ok_op : (x y : Op) → ◌≡◌ {A = Result Op LineFault} (Ok x) (Ok y) → x ≡ y
 ok_op x y e = cc
@@ -78,6 +94,33 @@ free_takes rest op e =
     let t = one_takes rest (codes " r") b.0 b.1 in
     subst (λ (o : Op). IsOpText o (70 ∷ rest)) (ok_op (Free b.0) op b.2) (t.0, t.1, lead 70 _ _ t.2)
 
+write_takes : (rest : List ℕ) (op : Op) → write_at rest ≡ Ok op → IsOpText op (87 ∷ rest)
+unfolding write_at
+write_takes rest op e =
+    let b = bind_ok (field_and_word_at rest (codes " r")) (λ x. Ok (Write x.0 x.1)) op e in
+    let t = field_and_word_takes rest (codes " r") b.0 b.1 in
+    subst (λ (o : Op). IsOpText o (87 ∷ rest)) (ok_op (Write b.0.0 b.0.1) op b.2) (t.0, t.1, t.2, lead 87 _ _ t.3)
+
+read_takes : (rest : List ℕ) (op : Op) → read_at rest ≡ Ok op → IsOpText op (68 ∷ rest)
+unfolding read_at
+read_takes rest op e =
+    let b = bind_ok (two_at rest (codes " r") (codes " ")) (λ x. Ok (Read x.0 x.1)) op e in
+    let t = two_takes rest (codes " r") (codes " ") b.0 b.1 in
+    subst (λ (o : Op). IsOpText o (68 ∷ rest)) (ok_op (Read b.0.0 b.0.1) op b.2) (t.0, t.1, t.2, t.3, lead 68 _ _ t.4)
+
+swap_takes : (rest : List ℕ) (op : Op) → swap_at rest ≡ Ok op → IsOpText op (88 ∷ rest)
+unfolding swap_at
+swap_takes rest op e =
+    let b = bind_ok (two_at rest (codes " c") (codes " r")) (λ x. Ok (Swap x.0 x.1)) op e in
+    let t = two_takes rest (codes " c") (codes " r") b.0 b.1 in
+    subst (λ (o : Op). IsOpText o (88 ∷ rest)) (ok_op (Swap b.0.0 b.0.1) op b.2) (t.0, t.1, t.2, t.3, lead 88 _ _ t.4)
+
+purge_takes : (rest : List ℕ) (op : Op) → purge_in rest ≡ Ok op → IsOpText op (80 ∷ rest)
+unfolding purge_in
+purge_takes rest op e =
+    let b = bind_ok (ended rest) (λ end. Ok Purge) op e in
+    subst (λ (o : Op). IsOpText o (80 ∷ rest)) (ok_op Purge op b.2) (lead 80 rest [] (ended_ok rest b.0 b.1))
+
 -- which way a test went
 chosen : {A : Type 0} (b : Bool) (x y z : A) → cond b x y ≡ z → ((b ≡ true) × (x ≡ z)) ⊎ ((b ≡ false) × (y ≡ z))
 chosen true x y z e = inl (refl, e)
@@ -102,10 +145,14 @@ op_takes (c ∷ rest) op e =
     by_letter c 65 rest op (alloc_at rest) _ (alloc_takes rest op)
     (by_letter c 67 rest op (copy_at rest) _ (copy_takes rest op)
     (by_letter c 82 rest op (reset_at rest) _ (reset_takes rest op)
-    (by_letter c 70 rest op (free_at rest) (Err Outside) (free_takes rest op) (no_letter (c ∷ rest) op)))) e
+    (by_letter c 70 rest op (free_at rest) _ (free_takes rest op)
+    (by_letter c 87 rest op (write_at rest) _ (write_takes rest op)
+    (by_letter c 68 rest op (read_at rest) _ (read_takes rest op)
+    (by_letter c 88 rest op (swap_at rest) _ (swap_takes rest op)
+    (by_letter c 80 rest op (purge_in rest) (Err Outside) (purge_takes rest op) (no_letter (c ∷ rest) op)))))))) e
 
 pub op_again : (op : Op) (text : List ℕ) → IsOpText op text → op_at text ≡ Ok op
-unfolding op_at alloc_at copy_at reset_at free_at
+unfolding op_at alloc_at copy_at reset_at free_at write_at read_at swap_at purge_in
 op_again (Alloc reg partition size) text h =
     ap op_at h.6 ∙ rw (three_again (codes " r") (codes " p") (codes " ") reg partition size h.0 h.1 h.2 (λ x. refl) (λ x. refl) h.3 h.4 h.5) refl
 op_again (Copy from to) text h =
@@ -114,15 +161,25 @@ op_again (Reset reg) text h =
     ap op_at h.2 ∙ rw (one_again (codes " r") reg h.0 h.1) refl
 op_again (Free reg) text h =
     ap op_at h.2 ∙ rw (one_again (codes " r") reg h.0 h.1) refl
+op_again (Write reg value) text h =
+    ap op_at h.3 ∙ rw (field_and_word_again (codes " r") reg value h.0 h.1 h.2) refl
+op_again (Read reg place) text h =
+    ap op_at h.4 ∙ rw (two_again (codes " r") (codes " ") reg place h.0 h.1 (λ x. refl) h.2 h.3) refl
+op_again (Swap cell reg) text h =
+    ap op_at h.4 ∙ rw (two_again (codes " c") (codes " r") cell reg h.0 h.1 (λ x. refl) h.2 h.3) refl
+op_again Purge text h = ap op_at h
 
 -- ---- lines
 
-unfoldable pub line_at : List ℕ → Result Line LineFault
-line_at bytes = do
+unfoldable pub do_at : List ℕ → Result Line LineFault
+do_at bytes = do
   thread ← or_outside (number_at bytes)
   rest ← behind (codes " ") thread.1
   op ← op_at rest
   Ok (Do thread.0 op)
+
+unfoldable pub line_at : List ℕ → Result Line LineFault
+line_at bytes = cond (pointwise nat_eq bytes (codes "phase")) (Ok Phase) (do_at bytes)
 
 ok_line : (x y : Line) → ◌≡◌ {A = Result Line LineFault} (Ok x) (Ok y) → x ≡ y
 ok_line x y e = cc
@@ -134,9 +191,9 @@ or_outside_ok (Some y) x e = cc
 join_line : (bytes t r o : List ℕ) → bytes ≡ t ++ r → r ≡ codes " " ++ o → bytes ≡ t ++ codes " " ++ o
 join_line bytes t r o e f = e ∙ ap (λ (x : List ℕ). t ++ x) f ∙ sym (append_assoc t (codes " ") o)
 
-pub line_takes : (bytes : List ℕ) (line : Line) → line_at bytes ≡ Ok line → IsLineText line bytes
-unfolding line_at
-line_takes bytes line e =
+do_takes : (bytes : List ℕ) (line : Line) → do_at bytes ≡ Ok line → IsLineText line bytes
+unfolding do_at
+do_takes bytes line e =
     let a = bind_ok (or_outside (number_at bytes)) (λ thread. behind (codes " ") thread.1 >>= λ rest. op_at rest >>= λ op. Ok (Do thread.0 op)) line e in
     let b = bind_ok (behind (codes " ") a.0.1) (λ rest. op_at rest >>= λ op. Ok (Do a.0.0 op)) line a.2 in
     let c = bind_ok (op_at b.0) (λ op. Ok (Do a.0.0 op)) line b.2 in
@@ -144,11 +201,25 @@ line_takes bytes line e =
     subst (λ (l : Line). IsLineText l bytes) (ok_line (Do a.0.0 c.0) line c.2)
     (t.digits, b.0, t.numeral, op_takes b.0 c.0 c.1, join_line bytes t.digits a.0.1 b.0 t.parts (behind_takes (codes " ") a.0.1 b.0 b.1))
 
-pub line_again : (line : Line) (text : List ℕ) → IsLineText line text → line_at text ≡ Ok line
+pub line_takes : (bytes : List ℕ) (line : Line) → line_at bytes ≡ Ok line → IsLineText line bytes
 unfolding line_at
+line_takes bytes line e =
+    elim (chosen (pointwise nat_eq bytes (codes "phase")) (Ok Phase) (do_at bytes) (Ok line) e) [
+      | inl a ↦ subst (λ (l : Line). IsLineText l bytes) (ok_line Phase line a.1) (word_same bytes (codes "phase") a.0)
+      | inr a ↦ do_takes bytes line a.1
+    ]
+
+-- what begins with a digit is not the word `phase`
+not_phase : (n : ℕ) (ds rest : List ℕ) → IsNumeral n ds → pointwise nat_eq (ds ++ rest) (codes "phase") ≡ false
+not_phase n [] rest h = absurd (h.written refl)
+not_phase n (d ∷ ds) rest h = rw (ne_eqb d 112 (λ e. omega (arith, h.digits.0.1))) refl
+
+pub line_again : (line : Line) (text : List ℕ) → IsLineText line text → line_at text ≡ Ok line
+unfolding line_at do_at
+line_again Phase text h = ap line_at h
 line_again (Do thread op) text h =
     let joined : text ≡ h.0 ++ (codes " " ++ h.1) = h.4 ∙ append_assoc h.0 (codes " ") h.1 in
-    ap line_at joined ∙ rw (number_again thread h.0 (codes " " ++ h.1) h.2 refl, behind_again (codes " ") h.1, op_again op h.1 h.3) refl
+    ap line_at joined ∙ rw (not_phase thread h.0 (codes " " ++ h.1) h.2, number_again thread h.0 (codes " " ++ h.1) h.2 refl, behind_again (codes " ") h.1, op_again op h.1 h.3) refl
 
 -- ---- the head
 

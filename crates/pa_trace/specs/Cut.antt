@@ -1,17 +1,32 @@
--- A text cut into lines.
-use Rattle.std.specs.Prelude.{◌≡◌, ℕ, ◌<◌, List, length}
+-- What the parts of the reader and the writer tell of lines.
+use Rattle.std.specs.Prelude.{◌≡◌, ℕ, ◌++◌, List}
 use Rattle.std.specs.List.{AllByRecursion}
+use Rattle.pa_text.specs.Numeral.{IsNumeral}
 use Rattle.pa_trace.specs.declared.fault.TraceFault.{TraceFault}
-use Rattle.pa_trace.specs.declared.fault.TraceFault.TheVariants.{BadLine, OutOfMemory}
-use Rattle.pa_trace.specs.declared.script.Line.{Line}
-use Rattle.pa_trace.specs.Grammar.{AreLinesText}
-use Rattle.pa_trace.specs.Form.{IsPlainLine}
+use Rattle.pa_trace.specs.declared.fault.TraceFault.TheVariants.{BadLine, Limit, OutOfMemory}
+use Rattle.pa_trace.specs.declared.field.LineFault.{LineFault}
+use Rattle.pa_trace.specs.declared.field.LineFault.TheVariants.{Outside, Past}
+use Rattle.pa_trace.specs.Faults.{lines_of, IsFirstBehind}
 
 -- no LF is among the bytes
 abbrev pub IsOneLine : List ℕ → Type 0
 IsOneLine bytes = AllByRecursion (λ b. b ≡ 10 → ⊥) bytes
 
--- the bytes are not the lines behind a head
-abbrev pub IsLinesFault : TraceFault → List ℕ → Type 0
-IsLinesFault (BadLine n) bytes = (n ≡ 0) × ((ls : List Line) → AreLinesText ls bytes → AllByRecursion IsPlainLine ls → length ls < 65536 → ⊥)
-IsLinesFault OutOfMemory bytes = Unit {0}
+-- how the fault of line n is told, where the line is not past
+abbrev pub told : ℕ → LineFault → TraceFault
+told n Outside = BadLine n
+told n Past = Limit n
+
+-- the first fault of the lines behind a head, or want of memory
+abbrev pub IsFaultBehind : ℕ → ℕ → ℕ → ℕ → List ℕ → TraceFault → Type 0
+IsFaultBehind partitions threads n before bytes (BadLine m) = IsFirstBehind partitions threads n before (lines_of bytes) (BadLine m)
+IsFaultBehind partitions threads n before bytes (Limit m) = IsFirstBehind partitions threads n before (lines_of bytes) (Limit m)
+IsFaultBehind partitions threads n before bytes OutOfMemory = Unit {0}
+
+-- new is old and behind it a text of this kind
+abbrev pub Appends : (List ℕ → Type 0) → List ℕ → List ℕ → Type 0
+Appends IsText old new = (text : List ℕ) × IsText text × (new ≡ old ++ text)
+
+-- a word and a number's spelling
+abbrev pub IsField : List ℕ → ℕ → List ℕ → Type 0
+IsField word n text = (i : List ℕ) × IsNumeral n i × (text ≡ word ++ i)

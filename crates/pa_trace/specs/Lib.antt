@@ -1,4 +1,6 @@
 pub mod Grammar
-pub mod Form
+pub mod Limits
+pub mod Faults
+pub mod FaultText
 pub mod Reading
 pub mod Cut

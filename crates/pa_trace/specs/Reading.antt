@@ -1,14 +1,14 @@
 -- Reading a line from left to right. A number is handed on with its value where it has 32 bits.
 use Rattle.std.specs.Prelude.{◌≡◌, ℕ, ◌==◌, ◌&&◌, nat_eq, nat_lt, nat_le, if◌then◌else◌, List, [], ◌∷◌, length, take, drop, codes, Option, Some, None, Result, Ok, Err}
 use Rattle.std.specs.Cmp.Lexicographic.{pointwise}
-use Rattle.pa_text.specs.Reading.{fitted, number_at}
+use Rattle.pa_text.specs.Reading.{fitted, number_at, hexes_at}
 use Rattle.pa_trace.specs.declared.field.LineFault.{LineFault}
 use Rattle.pa_trace.specs.declared.field.LineFault.TheVariants.{Outside, Past}
 use Rattle.pa_trace.specs.declared.line.Head.{Head}
 use Rattle.pa_trace.specs.declared.script.Line.{Line}
-use Rattle.pa_trace.specs.declared.script.Line.TheVariants.{Do}
+use Rattle.pa_trace.specs.declared.script.Line.TheVariants.{Phase, Do}
 use Rattle.pa_trace.specs.declared.script.Op.{Op}
-use Rattle.pa_trace.specs.declared.script.Op.TheVariants.{Alloc, Copy, Reset, Free}
+use Rattle.pa_trace.specs.declared.script.Op.TheVariants.{Alloc, Copy, Reset, Free, Write, Read, Swap, Purge}
 
 -- one step that may fail, and then the next
 infixl 10 ◌>>=◌
@@ -24,6 +24,11 @@ Gives view (Err e) read = read ≡ Err e
 -- the bytes behind a word that stands in front
 unfoldable pub behind : List ℕ → List ℕ → Result (List ℕ) LineFault
 behind word bytes = if pointwise nat_eq (take (length word) bytes) word then Ok (drop (length word) bytes) else Err Outside
+
+-- nothing there is a line outside the grammar
+abbrev pub or_outside : {A : Type 0} → Option A → Result A LineFault
+or_outside None = Err Outside
+or_outside (Some x) = Ok x
 
 -- what is handed on of a number that was read
 abbrev pub hand_on : Option (ℕ × List ℕ) → Result (Option ℕ × List ℕ) LineFault
@@ -43,6 +48,10 @@ field_in word bytes = do
 -- nothing is left
 abbrev pub ended : List ℕ → Result (Unit {0}) LineFault
 ended bytes = if length bytes == 0 then Ok tt else Err Outside
+
+-- the word that sixteen hexadecimal digits in front write, and the bytes behind it
+unfoldable pub word_in : List ℕ → Result (ℕ × List ℕ) LineFault
+word_in bytes = or_outside (hexes_at 16 bytes)
 
 -- all of the bytes are one, two or three words, each with a number
 unfoldable pub one_in : List ℕ → List ℕ → Result (Option ℕ) LineFault
@@ -66,6 +75,15 @@ three_in bytes first second third = do
   end ← ended c.1
   Ok (a.0, b.0, c.0)
 
+-- all of the bytes are a word and a number, a space, and sixteen digits
+unfoldable pub field_and_word_in : List ℕ → List ℕ → Result (Option ℕ × ℕ) LineFault
+field_and_word_in bytes first = do
+  a ← field_in first bytes
+  rest ← behind (codes " ") a.1
+  value ← word_in rest
+  end ← ended value.1
+  Ok (a.0, value.0)
+
 -- the number where it is below the limit, has 32 bits, or is 1 to the most
 abbrev pub below : Option ℕ → ℕ → Result ℕ LineFault
 below None limit = Err Past
@@ -82,8 +100,8 @@ count_in (Some n) most = if nat_le 1 n && nat_le n most then Ok n else Err Past
 abbrev pub head_of : Option ℕ → Option ℕ → Option ℕ → Result Head LineFault
 head_of one two three = do
   region ← count_in one 16
-  partitions ← count_in two 1
-  threads ← count_in three 1
+  partitions ← count_in two 4
+  threads ← count_in three 16
   Ok (record { region = region; partitions = partitions; threads = threads })
 
 unfoldable pub head_in : List ℕ → Result Head LineFault
@@ -91,11 +109,11 @@ head_in bytes = do
   numbers ← three_in bytes (codes "trace 1 region ") (codes " partitions ") (codes " threads ")
   head_of numbers.0 numbers.1 numbers.2
 
-unfoldable pub alloc_in : List ℕ → Result Op LineFault
-alloc_in bytes = do
+unfoldable pub alloc_in : ℕ → List ℕ → Result Op LineFault
+alloc_in partitions bytes = do
   numbers ← three_in bytes (codes " r") (codes " p") (codes " ")
   reg ← below numbers.0 64
-  partition ← below numbers.1 1
+  partition ← below numbers.1 partitions
   size ← within numbers.2
   Ok (Alloc reg partition size)
 
@@ -118,16 +136,47 @@ free_in bytes = do
   reg ← below number 64
   Ok (Free reg)
 
--- the op by its letter
-unfoldable pub op_in : List ℕ → Result Op LineFault
-op_in [] = Err Outside
-op_in (c ∷ rest) = if c == 65 then alloc_in rest else (if c == 67 then copy_in rest else (if c == 82 then reset_in rest else (if c == 70 then free_in rest else Err Outside)))
+unfoldable pub write_in : List ℕ → Result Op LineFault
+write_in bytes = do
+  x ← field_and_word_in bytes (codes " r")
+  reg ← below x.0 64
+  Ok (Write reg x.1)
+
+unfoldable pub read_in : List ℕ → Result Op LineFault
+read_in bytes = do
+  numbers ← two_in bytes (codes " r") (codes " ")
+  reg ← below numbers.0 64
+  place ← within numbers.1
+  Ok (Read reg place)
+
+unfoldable pub swap_in : List ℕ → Result Op LineFault
+swap_in bytes = do
+  numbers ← two_in bytes (codes " c") (codes " r")
+  cell ← below numbers.0 64
+  reg ← below numbers.1 64
+  Ok (Swap cell reg)
+
+unfoldable pub purge_in : List ℕ → Result Op LineFault
+purge_in bytes = do
+  end ← ended bytes
+  Ok Purge
+
+-- the op by its letter: A, C, R, F, W, D, X, P
+unfoldable pub op_in : ℕ → List ℕ → Result Op LineFault
+op_in partitions [] = Err Outside
+op_in partitions (c ∷ rest) =
+    if c == 65 then alloc_in partitions rest else (if c == 67 then copy_in rest else (if c == 82 then reset_in rest else (if c == 70 then free_in rest
+    else (if c == 87 then write_in rest else (if c == 68 then read_in rest else (if c == 88 then swap_in rest else (if c == 80 then purge_in rest else Err Outside)))))))
 
 -- the thread, a space and the op
-unfoldable pub line_in : List ℕ → Result Line LineFault
-line_in bytes = do
+unfoldable pub do_in : ℕ → ℕ → List ℕ → Result Line LineFault
+do_in partitions threads bytes = do
   thread ← number_in bytes
   rest ← behind (codes " ") thread.1
-  op ← op_in rest
-  number ← below thread.0 1
+  op ← op_in partitions rest
+  number ← below thread.0 threads
   Ok (Do number op)
+
+-- a line behind the head, without its LF
+unfoldable pub line_in : ℕ → ℕ → List ℕ → Result Line LineFault
+line_in partitions threads bytes = if pointwise nat_eq bytes (codes "phase") then Ok Phase else do_in partitions threads bytes

@@ -1,23 +1,32 @@
 ghost use Rattle.std.specs.Prelude.{◌≡◌};
 ghost use Rattle.pa_trace.specs.declared.fault.TraceFault.TheVariants as faults;
 
-use pa_machine::OutOfMemory;
 use std::alloc::{AllocError, AllocFailed};
 use std::error::Error;
 use std::fmt;
 
-/// Why a text is no trace. Lines count from 1; line 0 stands for the whole text.
+/// Why a text is no trace. Lines count from 1.
 #[derive(Clone, Copy, Debug, PartialEq, Eq)]
 pub enum TraceFault {
+    /// This line is the first faulty one, and it is outside the grammar or has no LF.
     BadLine(u32),
+    /// This line is the first faulty one, and it passes a limit.
+    Limit(u32),
+    /// Memory was wanting.
     OutOfMemory,
 }
 
 impl fmt::Display for TraceFault {
+    ghost use Rattle.std.specs.Prelude.{Some};
+    ghost use Rattle.pa_trace.specs.FaultText.{fault_text};
+
+    ghost output = { λ fault. Some (fault_text fault) };
+
     fn fmt<W: fmt::Write>(&self, f: &mut fmt::Formatter<W>) -> fmt::Result {
         match self {
             TraceFault::BadLine(line) => write!(f, "bad line {line}"),
-            TraceFault::OutOfMemory => write!(f, "{OutOfMemory}"),
+            TraceFault::Limit(line) => write!(f, "limit at line {line}"),
+            TraceFault::OutOfMemory => write!(f, "out of memory"),
         }
     }
 }

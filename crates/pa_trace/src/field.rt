@@ -1,7 +1,7 @@
 ghost use Rattle.std.specs.Prelude.{◌≡◌, ℕ, List, Option};
-ghost use Rattle.pa_trace.specs.Reading.{Gives, behind, number_in, field_in, ended, one_in, two_in, three_in, below, within};
+ghost use Rattle.pa_trace.specs.Reading.{Gives, behind, number_in, field_in, word_in, ended, one_in, two_in, three_in, field_and_word_in, below, within};
 
-use pa_text::number_at;
+use pa_text::{number_at, word_at};
 
 /// Why a line isn't read: it is outside the grammar, or it is in the grammar and a number passes its limit.
 #[derive(Clone, Copy, Debug, PartialEq, Eq)]
@@ -40,8 +40,18 @@ fn field_in<'a>(word: &[u8], bytes: &'a [u8]) -> Result<(Option<u32>, &'a [u8]),
     number_in(rest)
 }
 
+// The word that sixteen digits in front write, and the bytes behind them.
+fn word_in(bytes: &[u8]) -> Result<(u64, &[u8]), LineFault>
+    ensures { Gives {Y = ℕ × List ℕ} (λ x. (x.0, x.1.now)) result (word_in bytes.now) }
+{
+    match word_at(bytes) {
+        Some(found) => Ok(found),
+        None => Err(LineFault::Outside),
+    }
+}
+
 // Nothing is left of the line.
-fn ended(bytes: &[u8]) -> Result<(), LineFault>
+pub fn ended(bytes: &[u8]) -> Result<(), LineFault>
     ensures { Gives (λ x. x) result (ended bytes.now) }
 {
     if bytes.is_empty() {
@@ -91,6 +101,18 @@ pub fn three_numbers(
     let (three, rest) = field_in(third, rest)?;
     ended(rest)?;
     Ok((one, two, three))
+}
+
+// What is left of the line is a word with a number, a space, and sixteen digits.
+#[tactic(auto, unfolding(crate::specs::Reading::field_and_word_in))]
+pub fn number_and_word(bytes: &[u8], first: &[u8]) -> Result<(Option<u32>, u64), LineFault>
+    ensures { Gives (λ x. x) result (field_and_word_in bytes.now first.now) }
+{
+    let (one, rest) = field_in(first, bytes)?;
+    let rest = behind(b" ", rest)?;
+    let (value, rest) = word_in(rest)?;
+    ended(rest)?;
+    Ok((one, value))
 }
 
 // The number where it is below the limit.

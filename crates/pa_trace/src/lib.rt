@@ -3,13 +3,18 @@
 
 mod fault;
 mod field;
+mod laws;
 mod line;
+mod op;
 mod reading;
 mod script;
+mod writing;
 
 pub use fault::TraceFault;
-pub use reading::{one_text, read_trace};
+pub use laws::{early_fault, one_answer, one_text, short_text};
+pub use reading::read_trace;
 pub use script::{Line, Lines, Op, Trace};
+pub use writing::write_trace;
 
 #[cfg(test)]
 mod tests;

@@ -1,36 +1,45 @@
-ghost use Rattle.std.specs.Prelude.{◌≡◌, ℕ, ◌++◌, [], ◌∷◌, List, length, ◌<◌, IfOk, IfErr, MatchOption};
+ghost use Rattle.std.specs.Prelude.{◌≡◌, ◌-◌, ◌<◌, ◌≤◌, ◌⊎◌, ◌↔◌, ◌++◌, ◌∷◌, nat_lt, if◌then◌else◌, length, IsTrue, IfOk, IfErr, OnOk, MatchOption};
 ghost use Rattle.std.specs.List.{AllByRecursion};
-ghost use Rattle.pa_trace.specs.Grammar.{IsTraceText, AreLinesText, IsSameTrace};
-ghost use Rattle.pa_trace.specs.Form.{IsPlainLine, IsInput, IsFault};
-ghost use Rattle.pa_trace.specs.declared.script.Trace.{Trace};
-ghost use Rattle.pa_trace.specs.Cut.{IsOneLine, IsLinesFault};
+ghost use Rattle.pa_trace.specs.Grammar.{AreLinesText};
+ghost use Rattle.pa_trace.specs.Limits.{IsHeadWithin, IsLineWithin, IsInput};
+ghost use Rattle.pa_trace.specs.Faults.{IsFault};
+ghost use Rattle.pa_trace.specs.Cut.{IsOneLine, IsFaultBehind, told};
+ghost use Rattle.pa_trace.specs.declared.fault.TraceFault.TheVariants as faults;
 
 use crate::fault::TraceFault;
-use crate::line::{head_in, line_in};
+use crate::field::LineFault;
+use crate::line::{Head, head_in, line_in};
 use crate::script::{Line, Lines, Trace};
 use std::alloc::Global;
 
-// The most bytes and lines of a trace, the head included.
+// The most lines of a trace, the head included.
+const MOST_LINES: u32 = 65_536;
+
+// The most bytes of a trace.
 const MOST_BYTES: usize = 4_194_304;
 
-const MOST_LINES: usize = 65_536;
+// About as many bytes as a line has.
+const LINE: usize = 12;
 
-/// The trace that the bytes are the text of: one partition, one thread, and the ops that are named by `Op`, within the
-/// limits. `BadLine(0)` comes exactly where the bytes are the text of no such trace.
+/// The trace that the bytes are the text of. `BadLine(n)` and `Limit(n)` name the first faulty line; lines and bytes count
+/// from 1. A line is faulty by `Limit` where it is line 65,537 or contains byte 4,194,305; else by `BadLine` where it is
+/// outside the grammar or has no LF; else by `Limit` where a number passes its limit. No bytes are `BadLine(1)`.
 pub fn read_trace(alloc: Global, bytes: &[u8]) -> Result<Trace, TraceFault>
     ensures found { IfOk result (λ t. IsInput t bytes.now) }
     ensures fault { IfErr result (λ e. IsFault e bytes.now) }
 {
-    if bytes.len() > MOST_BYTES {
-        return Err(TraceFault::BadLine(0));
-    }
     let Some((first, rest)) = cut_line(bytes) else {
-        return Err(TraceFault::BadLine(0));
+        return Err(without_end(1, bytes.len(), MOST_BYTES));
     };
-    let Ok(head) = head_in(first) else {
-        return Err(TraceFault::BadLine(0));
+    let length = first.len() + 1;
+    if is_past(1, length, MOST_BYTES) {
+        return Err(TraceFault::Limit(1));
+    }
+    let head = match head_in(first) {
+        Ok(head) => head,
+        Err(fault) => return Err(fault_at(1, fault)),
     };
-    let lines = lines_of(alloc, rest)?;
+    let lines = read_lines(alloc, head, MOST_BYTES - length, rest)?;
     Ok(Trace {
         region: head.region,
         partitions: head.partitions,
@@ -38,12 +47,6 @@ pub fn read_trace(alloc: Global, bytes: &[u8]) -> Result<Trace, TraceFault>
         lines: Lines::of(lines),
     })
 }
-
-/// A trace has one text, and a text belongs to one trace, also where numbers pass their limits.
-pub fn one_text()
-    ensures text { (t : Trace) (a b : List ℕ) → IsTraceText t a → IsTraceText t b → a ≡ b }
-    ensures trace { (s t : Trace) (text : List ℕ) → IsTraceText s text → IsTraceText t text → IsSameTrace s t }
-{}
 
 // The first line without its LF, and the bytes behind the LF. `None` where there is no LF.
 fn cut_line(bytes: &[u8]) -> Option<(&[u8], &[u8])>
@@ -59,27 +62,64 @@ fn cut_line(bytes: &[u8]) -> Option<(&[u8], &[u8])>
     None
 }
 
-// The lines behind the head, each with its LF.
-fn lines_of(alloc: Global, bytes: &[u8]) -> Result<Vec<Line>, TraceFault>
-    ensures text { IfOk result (λ lines. AreLinesText lines.items bytes.now) }
-    ensures plain { IfOk result (λ lines. AllByRecursion IsPlainLine lines.items) }
-    ensures few { IfOk result (λ lines. length lines.items < 65536) }
-    ensures fault { IfErr result (λ e. IsLinesFault e bytes.now) }
+// Whether line n, which has so many bytes where so many may still come, is one line or one byte too many.
+fn is_past(n: u32, length: usize, room: usize) -> bool
+    ensures { IsTrue result ↔ ((65536 < n) ⊎ (room < length)) }
 {
-    let mut lines = Vec::new(alloc);
+    n > MOST_LINES || length > room
+}
+
+// The fault of line n, which is not past.
+fn fault_at(n: u32, fault: LineFault) -> TraceFault
+    ensures { result ≡ told n fault }
+{
+    match fault {
+        LineFault::Outside => TraceFault::BadLine(n),
+        LineFault::Past => TraceFault::Limit(n),
+    }
+}
+
+// The fault of line n, which has so many bytes where so many may still come, and no LF.
+fn without_end(n: u32, length: usize, room: usize) -> TraceFault
+    ensures past { (65536 < n) ⊎ (room < length) → result ≡ faults.Limit n }
+    ensures bad { n ≤ 65536 → length ≤ room → result ≡ faults.BadLine n }
+{
+    if is_past(n, length, room) {
+        TraceFault::Limit(n)
+    } else {
+        TraceFault::BadLine(n)
+    }
+}
+
+// The lines behind the head, each with its LF, where so many bytes may still come.
+fn read_lines(alloc: Global, head: Head, room: usize, bytes: &[u8]) -> Result<Vec<Line>, TraceFault>
+    requires head_within { IsHeadWithin head.region head.partitions head.threads }
+    requires space { room ≤ 4194304 }
+    ensures text { IfOk result (λ lines. AreLinesText lines.items bytes.now) }
+    ensures within { IfOk result (λ lines. AllByRecursion (IsLineWithin head.partitions head.threads) lines.items) }
+    ensures few { IfOk result (λ lines. length lines.items < 65536) }
+    ensures short { OnOk result (length bytes.now ≤ room) }
+    ensures fault { IfErr result (IsFaultBehind head.partitions head.threads 2 (4194304 - room) bytes.now) }
+{
+    let mut lines = Vec::with_capacity(alloc, (bytes.len() / LINE).min(MOST_LINES as usize))?;
     let mut rest = bytes;
+    let mut left = room;
     while let Some((line, after)) = cut_line(rest) {
-        if lines.len() + 1 == MOST_LINES {
-            return Err(TraceFault::BadLine(0));
+        let n = lines.len() as u32 + 2;
+        let length = line.len() + 1;
+        if is_past(n, length, left) {
+            return Err(TraceFault::Limit(n));
         }
-        match line_in(line) {
+        match line_in(head, line) {
             Ok(line) => lines.push(line)?,
-            Err(_) => return Err(TraceFault::BadLine(0)),
+            Err(fault) => return Err(fault_at(n, fault)),
         }
+        left -= length;
         rest = after;
     }
-    if !rest.is_empty() {
-        return Err(TraceFault::BadLine(0));
+    if rest.is_empty() {
+        return Ok(lines);
     }
-    Ok(lines)
+    let n = lines.len() as u32 + 2;
+    Err(without_end(n, rest.len(), left))
 }

@@ -3,7 +3,7 @@ ghost use Rattle.std.specs.Prelude.{◌≡◌};
 use std::marker::Model;
 
 /// A trace: the region in super pages, the number of partitions, the number of threads, and the lines after the head.
-/// `lines[i]` is line `i + 2` of the text; the head is line 1.
+/// `lines[i]` is line `i + 2` of the text; the head is line 1. A trace has one phase more than it has lines `Phase`.
 #[derive(Debug, Drop)]
 pub struct Trace {
     pub region: u32,
@@ -12,13 +12,16 @@ pub struct Trace {
     pub lines: Lines,
 }
 
-/// One line after the head: what one thread does.
+/// One line after the head.
 #[derive(Clone, Copy, Debug, PartialEq, Eq)]
 pub enum Line {
+    /// A new phase begins: what stands before it is over for every thread.
+    Phase,
+    /// What one thread does. Threads are numbered from 0.
     Do { thread: u32, op: Op },
 }
 
-/// One op. A register is named by its number, 0 to 63; sizes are in bytes.
+/// One op. Registers and cells are named by their numbers, 0 to 63; sizes are in bytes.
 #[derive(Clone, Copy, Debug, PartialEq, Eq)]
 pub enum Op {
     /// Allocates an object into a register, which then owns it.
@@ -29,6 +32,14 @@ pub enum Op {
     Reset { reg: u32 },
     /// Frees the object that the register owns.
     Free { reg: u32 },
+    /// Writes the value to every word of the object that the register owns.
+    Write { reg: u32, value: u64 },
+    /// Reads a word of the object that the register owns or points to. Words are numbered from 0.
+    Read { reg: u32, place: u32 },
+    /// Gives the register's handle to a cell that all threads share, and gets what the cell held.
+    Swap { cell: u32, reg: u32 },
+    /// Gives back what the thread's caches hold, and decommits the empty spans.
+    Purge,
 }
 
 /// The lines of a trace after its head, in order.

@@ -1,14 +1,10 @@
-use Rattle.std.proofs.Common.{arith}
-use Rattle.pa_plain.proofs.Turning.{empty_regs, start_counted, start_bounded, start_free}
+use Rattle.std.proofs.Common.{replicate, refl, arith}
+use Rattle.pa_record.specs.declared.history.Held.TheVariants.{Nothing}
+use Rattle.pa_plain.proofs.EmptyPlayer.{begun}
 use Rattle.pa_plain.proofs.player_ops.Player.new.Goals as goal
 
-pub returns-clause-ready : goal.returns-clause-ready
-returns-clause-ready c = record {
-  counted = rw c.new.ensures.items start_counted;
-  bounded = rw c.new.ensures.items start_bounded;
-  free = rw (c.new.ensures.items, c.new-2.ensures.items) start_free;
-  line = omega arith;
-}
-
-pub returns-clause-registers : goal.returns-clause-registers
-returns-clause-registers c = empty_regs 64
+pub returns : goal.returns
+returns c =
+    let s = c.in_ok-new.ensures in
+    begun c.args.threads (record { slots = c.in_ok-new.field-0; registers = c.loop.registers; cells = replicate 64 Nothing; histories = c.loop-2.histories; line = 2 })
+    s.kept s.start (omega arith) c.loop.invariant.1 refl (omega arith) c.loop-2.invariant.1 refl

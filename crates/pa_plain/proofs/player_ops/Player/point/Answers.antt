@@ -1,9 +1,11 @@
-use Rattle.pa_plain.proofs.Turning.{can_copy, turn_point}
+use Rattle.pa_plain.proofs.Pointing.{turn_point}
 use Rattle.pa_plain.proofs.player_ops.Player.point.Goals as goal
 
-pub step-seen-requires-clause-can : goal.step-seen-requires-clause-can
-step-seen-requires-clause-can c =
-    can_copy c.args.self.now c.args.from c.args.slot c.requires.ready c.requires.form.0 c.requires.handle
-
 pub returns : goal.returns
-returns c = turn_point c.args.self.now c.step-seen.new.self c.args.from c.args.to c.args.slot c.step-seen.result c.requires.ready c.requires.form.0 c.requires.form.1 c.requires.handle c.requires.empty c.step-seen.ensures.slot c.step-seen.ensures.steps c.step-seen.ensures.free c.step-seen.ensures.registers c.step-seen.ensures.line
+returns c =
+    let e = c.in_ok-found.ensures in
+    let w = c.set_register.ensures in
+    turn_point c.args.self.now c.set_register.new.self c.copy.new.self c.args.thread c.args.from c.args.to c.args.slot c.in_ok-found.found
+    c.requires.ready c.requires.thread c.requires.from c.requires.to c.requires.handle c.requires.empty
+    e.kept e.free e.steps e.values e.owns e.refs e.actors
+    (record { registers = w.registers; slots = w.slots; cells = w.cells; histories = w.histories; line = w.line })

@@ -1,6 +1,12 @@
 use Rattle.std.proofs.Common.{arith}
-use Rattle.pa_plain.proofs.Turning.{turn_request}
+use Rattle.pa_plain.proofs.Owning.{turn_request}
 use Rattle.pa_plain.proofs.player_ops.Player.request.Goals as goal
 
 pub returns : goal.returns
-returns c = turn_request c.args.self.now c.next_slot.new.self c.step-seen.new.self c.args.reg c.args.partition c.args.size c.in_ok-index.index c.step-seen.result c.requires.ready c.requires.form.0 (omega arith) c.requires.empty c.in_ok-index.ensures.takes c.in_ok-index.ensures.registers c.in_ok-index.ensures.line c.step-seen.ensures.slot c.step-seen.ensures.steps c.step-seen.ensures.free c.step-seen.ensures.registers c.step-seen.ensures.line
+returns c = λ partition.
+    let e = c.in_ok-place.ensures in
+    let w = c.set_register.ensures in
+    turn_request c.args.self.now c.set_register.new.self c.issue.new.self c.args.thread c.args.reg partition c.args.size c.in_ok-place.place c.in_ok-place.found
+    c.requires.ready c.requires.thread c.requires.reg c.requires.empty (omega (arith, c.if-size-gt-LARGEST.false))
+    e.kept e.takes e.steps e.sets e.owns e.refs e.actors
+    (record { registers = w.registers; slots = w.slots; cells = w.cells; histories = w.histories; line = w.line })

@@ -1,0 +1,294 @@
+-- What the records so far say of the contents of the slots, kept by each line.
+use Rattle.std.proofs.Common.{◌≡◌, ℕ, ◌+◌, ◌<◌, ◌≤◌, ◌⊎◌, inl, inr, List, [], ◌∷◌, ◌++◌, Some, None, IsSome, Contains, refl, sym, ap, ◌∙◌, subst, arith, rules}
+use Rattle.std.proofs.lemmas.Bool.{cases_eq}
+use Rattle.std.proofs.lemmas.List.Elements.{Contains-append_left, Contains-push, Contains-push_cases}
+use Rattle.pa_machine.specs.declared.word.SlotName.{SlotName}
+use Rattle.pa_machine.specs.declared.word.Step.{Step}
+use Rattle.pa_machine.specs.declared.word.Step.TheVariants as steps
+use Rattle.pa_machine.specs.Count.{number_of, held_of, CanStep, stepped}
+use Rattle.pa_machine.specs.Run.{Mark}
+use Rattle.pa_machine.proofs.Runs.{number_stepped}
+use Rattle.pa_trace.specs.declared.script.Op.TheVariants as ops
+use Rattle.pa_record.specs.declared.entry.Seen.{Seen}
+use Rattle.pa_record.specs.declared.entry.Answer.{Answer}
+use Rattle.pa_record.specs.declared.entry.Answer.TheVariants.{Made, Done, Value, Dangling, SecondFree, NotOwner, StaleReset, StaleUse, Nothing, Filled, NotRef, Shared, OutOfRange, TooLarge, Full, Swapped, Purged}
+use Rattle.pa_rules.specs.Played.{Played, mark_at, mark_of, mark_of_answer, marks_of}
+use Rattle.pa_rules.specs.Contents.{IsMadeAt, IsWrittenAt, IsWrittenFor, IsContent, IsReadRight, AreContents}
+use Rattle.pa_rules.specs.Plain.{plain_name}
+use Rattle.pa_plain.specs.Player.{index_of}
+use Rattle.pa_plain.proofs.Marking.{mark_among}
+use Rattle.pa_plain.proofs.Following.{Follows, StepsTo, slot_word, slot_word_plain}
+
+-- this one record made slot s, or wrote the value to it, and found this number
+abbrev pub IsMadeBy : Played → SlotName → ℕ → Type 0
+IsMadeBy x s n = (seen : Seen) × (usable : ℕ) × (x.answer ≡ Made seen usable) × (seen.slot ≡ s) × (number_of seen.found.0 ≡ n)
+
+abbrev pub IsWrittenBy : Played → SlotName → ℕ → ℕ → Type 0
+IsWrittenBy x s n value =
+    (seen : Seen) × (reg : ℕ) × (x.op ≡ ops.Write reg value) × (x.answer ≡ Done seen) × (seen.slot ≡ s) × (number_of seen.found.0 ≡ n)
+
+made_kept : (ps : List Played) (x : Played) (s : SlotName) (n : ℕ) → IsMadeAt ps s n → IsMadeAt (ps ++ x ∷ []) s n
+made_kept ps x s n h = (h.0, h.1, h.2, Contains-append_left ps (x ∷ []) h.0 h.3, h.4, h.5, h.6)
+
+written_kept : (ps : List Played) (x : Played) (s : SlotName) (n value : ℕ) → IsWrittenAt ps s n value → IsWrittenAt (ps ++ x ∷ []) s n value
+written_kept ps x s n value h = (h.0, h.1, h.2, Contains-append_left ps (x ∷ []) h.0 h.3, h.4, h.5, h.6, h.7)
+
+made_cases : (ps : List Played) (x : Played) (s : SlotName) (n : ℕ) → IsMadeAt (ps ++ x ∷ []) s n → IsMadeAt ps s n ⊎ IsMadeBy x s n
+made_cases ps x s n h = elim (Contains-push_cases ps x h.0 h.3) [
+  | inl a ↦ inl (h.0, h.1, h.2, a, h.4, h.5, h.6)
+  | inr e ↦ inr (h.1, h.2, ap (λ (y : Played). y.answer) e ∙ h.4, h.5, h.6)
+]
+
+written_cases : (ps : List Played) (x : Played) (s : SlotName) (n value : ℕ) → IsWrittenAt (ps ++ x ∷ []) s n value
+    → IsWrittenAt ps s n value ⊎ IsWrittenBy x s n value
+written_cases ps x s n value h = elim (Contains-push_cases ps x h.0 h.3) [
+  | inl a ↦ inl (h.0, h.1, h.2, a, h.4, h.5, h.6, h.7)
+  | inr e ↦ inr (h.1, h.2, ap (λ (y : Played). y.op) e ∙ h.4, ap (λ (y : Played). y.answer) e ∙ h.5, h.6, h.7)
+]
+
+-- what such a record tells of the slot
+pub made_mark : (x : Played) (s : SlotName) (n : ℕ) → (h : IsMadeBy x s n) → mark_of x ≡ Some (mark_at x.line h.0 (Some steps.Issue))
+made_mark x s n h = ap (λ a. mark_of_answer x.line x.op a) h.2
+
+pub written_mark : (x : Played) (s : SlotName) (n value : ℕ) → (h : IsWrittenBy x s n value) → mark_of x ≡ Some (mark_at x.line h.0 (Some steps.Write))
+written_mark x s n value h =
+    ap (λ a. mark_of_answer x.line x.op a) h.3 ∙ ap (λ o. mark_of_answer x.line o (Done h.0)) h.2
+
+value_mark : (x : Played) (seen : Seen) (value : ℕ) → x.answer ≡ Value seen value → mark_of x ≡ Some (mark_at x.line seen None)
+value_mark x seen value e = ap (λ a. mark_of_answer x.line x.op a) e
+
+-- every record that made or wrote a slot found a number below the slot's
+some_is : (p : Step) → IsSome (Some p)
+some_is p = search rules
+
+counted : (ps : List Played) (line : ℕ) (word : ℕ → ℕ) (made : ℕ) (free : List ℕ) → Follows (marks_of ps) line word made free
+    → (p : Played) (seen : Seen) (step : Step) (s : SlotName) (n : ℕ) → Contains ps p → mark_of p ≡ Some (mark_at p.line seen (Some step))
+    → seen.slot ≡ s → number_of seen.found.0 ≡ n → n < number_of (slot_word word s)
+counted ps line word made free f p seen step s n c e at number =
+    let m : Mark = mark_at p.line seen (Some step) in
+    let P : SlotName → Type 0 = λ t. number_of m.found < number_of (slot_word word t) in
+    let lt : number_of m.found < number_of (slot_word word s) = subst P at (f.runs.counted m (mark_among ps p m c e) (some_is step)) in
+    omega (arith, lt, number)
+
+made_below : (ps : List Played) (line : ℕ) (word : ℕ → ℕ) (made : ℕ) (free : List ℕ) → Follows (marks_of ps) line word made free
+    → (s : SlotName) (n : ℕ) → IsMadeAt ps s n → n < number_of (slot_word word s)
+made_below ps line word made free f s n h =
+    counted ps line word made free f h.0 h.1 steps.Issue s n h.3 (made_mark h.0 s n (h.1, h.2, h.4, h.5, h.6)) h.5 h.6
+
+written_below : (ps : List Played) (line : ℕ) (word : ℕ → ℕ) (made : ℕ) (free : List ℕ) → Follows (marks_of ps) line word made free
+    → (s : SlotName) (n value : ℕ) → IsWrittenAt ps s n value → n < number_of (slot_word word s)
+written_below ps line word made free f s n value h =
+    counted ps line word made free f h.0 h.1 steps.Write s n h.3 (written_mark h.0 s n value (h.1, h.2, h.4, h.5, h.6, h.7)) h.6 h.7
+
+-- The content at a number is that at a later one, where no record more finds a number below this one, and none at all
+-- one from the first number on.
+pub record IsQuiet (ps qs : List Played) (s : SlotName) (k l : ℕ) : Type 0 where
+  pub up : k ≤ l
+  pub made : (n : ℕ) → IsMadeAt ps s n → IsMadeAt qs s n
+  pub written : (n value : ℕ) → IsWrittenAt ps s n value → IsWrittenAt qs s n value
+  pub made_back : (n : ℕ) → IsMadeAt qs s n → n < l → IsMadeAt ps s n × (n < k)
+  pub written_back : (n value : ℕ) → IsWrittenAt qs s n value → n < l → IsWrittenAt ps s n value × (n < k)
+
+content_kept : (ps qs : List Played) (s : SlotName) (k l value : ℕ) → IsQuiet ps qs s k l → IsContent ps s k value → IsContent qs s l value
+content_kept ps qs s k l value q h =
+    let forth : (n v : ℕ) → IsWrittenFor ps s k n v → IsWrittenFor qs s l n v = λ n v w. (
+      q.written n v w.0,
+      omega (arith, w.1, q.up),
+      λ m made above below. let b = q.made_back m made below in w.2 m b.0 above b.1,
+    ) in
+    let back : (n v : ℕ) → IsWrittenFor qs s l n v → IsWrittenFor ps s k n v = λ n v w.
+    let b = q.written_back n v w.0 w.1 in
+    (b.0, b.1, λ m made above below. w.2 m (q.made m made) above (omega (arith, below, q.up))) in
+    elim h as (λ x. IsContent qs s l value) [
+      | inl c ↦ inl (c.0, forth c.0 value c.1, λ m other w lt. c.2 m other (back m other w) lt)
+      | inr z ↦ inr (z.0, λ n other w. z.1 n other (back n other w))
+    ]
+
+-- a record more that finds no number of slot s below k
+still_quiet : (ps : List Played) (x : Played) (s : SlotName) (k : ℕ) → ((n : ℕ) → IsMadeBy x s n → k ≤ n) → ((n value : ℕ) → IsWrittenBy x s n value → k ≤ n)
+    → IsQuiet ps (ps ++ x ∷ []) s k k
+still_quiet ps x s k made written = record {
+  up = omega arith;
+  made = made_kept ps x s;
+  written = written_kept ps x s;
+  made_back = λ n h lt. elim (made_cases ps x s n h) [ inl a ↦ (a, lt) | inr b ↦ absurd (omega (arith, made n b, lt)) ];
+  written_back = λ n value h lt. elim (written_cases ps x s n value h) [ inl a ↦ (a, lt) | inr b ↦ absurd (omega (arith, written n value b, lt)) ];
+}
+
+-- What is known of the contents on the lines before this one, where these are the slots' words and contents.
+pub record HasContents (ps : List Played) (word value : ℕ → ℕ) (made : ℕ) : Type 0 where
+  pub content : (i : ℕ) → i < made → held_of (word i) ≡ 1 → IsContent ps (plain_name i) (number_of (word i)) (value i)
+  pub right : AreContents ps
+
+-- before the first line
+pub contents_none : (word value : ℕ → ℕ) → HasContents [] word value 0
+contents_none word value = record {
+  content = λ i lt h. absurd (omega (arith, lt));
+  right = λ p c. absurd (omega (arith, c.1));
+}
+
+-- what was read rightly stays so with a record more that finds no number below the slots'
+right_kept : (ps : List Played) (x : Played) (a : Answer) → ((seen : Seen) (value : ℕ) → a ≡ Value seen value → IsQuiet ps (ps ++ x ∷ []) seen.slot (number_of seen.found.0) (number_of seen.found.0))
+    → IsReadRight ps a → IsReadRight (ps ++ x ∷ []) a
+right_kept ps x (Made seen usable) q h = tt
+right_kept ps x (Done seen) q h = tt
+right_kept ps x (Value seen value) q h = content_kept ps (ps ++ x ∷ []) seen.slot (number_of seen.found.0) (number_of seen.found.0) value (q seen value refl) h
+right_kept ps x (Dangling seen value) q h = h
+right_kept ps x (SecondFree seen) q h = tt
+right_kept ps x (NotOwner seen) q h = tt
+right_kept ps x StaleReset q h = tt
+right_kept ps x (StaleUse seen) q h = tt
+right_kept ps x Nothing q h = tt
+right_kept ps x Filled q h = tt
+right_kept ps x NotRef q h = tt
+right_kept ps x (Shared seen) q h = tt
+right_kept ps x OutOfRange q h = tt
+right_kept ps x TooLarge q h = tt
+right_kept ps x (Full entry) q h = tt
+right_kept ps x (Swapped entry) q h = tt
+right_kept ps x (Purged slots) q h = tt
+
+-- a record's mark has found the slot's word
+abbrev pub HasFound : (ℕ → ℕ) → Played → Type 0
+HasFound word x = (m : Mark) → mark_of x ≡ Some m → m.found ≡ slot_word word m.slot
+
+made_late : (word : ℕ → ℕ) (x : Played) (s : SlotName) (n : ℕ) → HasFound word x → IsMadeBy x s n → number_of (slot_word word s) ≡ n
+made_late word x s n found h =
+    let m : Mark = mark_at x.line h.0 (Some steps.Issue) in
+    let e : h.0.found.0 ≡ slot_word word h.0.slot = found m (made_mark x s n h) in
+    ap (λ t. number_of (slot_word word t)) (sym h.3) ∙ ap number_of (sym e) ∙ h.4
+
+written_late : (word : ℕ → ℕ) (x : Played) (s : SlotName) (n value : ℕ) → HasFound word x → IsWrittenBy x s n value → number_of (slot_word word s) ≡ n
+written_late word x s n value found h =
+    let m : Mark = mark_at x.line h.0 (Some steps.Write) in
+    let e : h.0.found.0 ≡ slot_word word h.0.slot = found m (written_mark x s n value h) in
+    ap (λ t. number_of (slot_word word t)) (sym h.4) ∙ ap number_of (sym e) ∙ h.5
+
+-- so it changes nothing up to the slots' numbers
+quiet_upto : (ps : List Played) (x : Played) (word : ℕ → ℕ) (s : SlotName) (k : ℕ) → HasFound word x → k ≤ number_of (slot_word word s)
+    → IsQuiet ps (ps ++ x ∷ []) s k k
+quiet_upto ps x word s k found le =
+    still_quiet ps x s k (λ n h. omega (arith, made_late word x s n found h, le)) (λ n value h. omega (arith, written_late word x s n value found h, le))
+
+-- the values read, with a record more
+right_push : (ps : List Played) (x : Played) (line : ℕ) (word : ℕ → ℕ) (made : ℕ) (free : List ℕ) → Follows (marks_of ps) line word made free
+    → HasFound word x → AreContents ps → IsReadRight (ps ++ x ∷ []) x.answer → AreContents (ps ++ x ∷ [])
+right_push ps x line word made free f found right here p c = elim (Contains-push_cases ps x p c) as (λ w. IsReadRight (ps ++ x ∷ []) p.answer) [
+  | inl a ↦ right_kept ps x p.answer
+      (λ seen value e.
+      let m : Mark = mark_at p.line seen None in
+      let le : number_of seen.found.0 ≤ number_of (slot_word word seen.slot) = f.found m (mark_among ps p m a (value_mark p seen value e)) in
+      quiet_upto ps x word seen.slot (number_of seen.found.0) found le)
+      (right p a)
+  | inr e ↦ let P : Played → Type 0 = λ y. IsReadRight (ps ++ x ∷ []) y.answer in subst P e here
+]
+
+name_index : (i : ℕ) → plain_name i ≡ plain_name (index_of (plain_name i))
+name_index i = ap plain_name (omega arith)
+
+word_name : (word : ℕ → ℕ) (i : ℕ) → slot_word word (plain_name i) ≡ word i
+word_name word i = slot_word_plain word (plain_name i) (name_index i) ∙ ap word (omega arith)
+
+-- the content of a slot that this record doesn't step
+pub content_same : (ps : List Played) (x : Played) (word value : ℕ → ℕ) (made i : ℕ) → HasContents ps word value made → HasFound word x
+    → i < made → held_of (word i) ≡ 1 → IsContent (ps ++ x ∷ []) (plain_name i) (number_of (word i)) (value i)
+content_same ps x word value made i h found lt held =
+    content_kept ps (ps ++ x ∷ []) (plain_name i) (number_of (word i)) (number_of (word i)) (value i)
+    (quiet_upto ps x word (plain_name i) (number_of (word i)) found (omega (arith, ap number_of (word_name word i))))
+    (h.content i lt held)
+
+-- a record that steps no slot, where nothing changes
+pub contents_same : (ps : List Played) (x : Played) (line : ℕ) (word value next now : ℕ → ℕ) (made : ℕ) (free : List ℕ) → Follows (marks_of ps) line word made free
+    → HasContents ps word value made → HasFound word x → ((i : ℕ) → next i ≡ word i) → ((i : ℕ) → now i ≡ value i)
+    → IsReadRight (ps ++ x ∷ []) x.answer → HasContents (ps ++ x ∷ []) next now made
+contents_same ps x line word value next now made free f h found words values read = record {
+  content = λ i lt held.
+      rw (words i, values i) (content_same ps x word value made i h found lt (ap held_of (sym (words i)) ∙ held));
+  right = right_push ps x line word made free f found h.right read;
+}
+
+-- a record that steps slot i
+pub contents_step : (ps : List Played) (x : Played) (line : ℕ) (word value next now : ℕ → ℕ) (made wide : ℕ) (free : List ℕ) (i : ℕ)
+    → Follows (marks_of ps) line word made free → HasContents ps word value made → HasFound word x
+    → ((j : ℕ) → (j ≡ i → ⊥) → next j ≡ word j) → ((j : ℕ) → (j ≡ i → ⊥) → now j ≡ value j) → ((j : ℕ) → j < wide → (j ≡ i → ⊥) → j < made)
+    → (held_of (next i) ≡ 1 → IsContent (ps ++ x ∷ []) (plain_name i) (number_of (next i)) (now i))
+    → IsReadRight (ps ++ x ∷ []) x.answer → HasContents (ps ++ x ∷ []) next now wide
+contents_step ps x line word value next now made wide free i f h found words values old here read = record {
+  content = λ j lt held. elim (cases_eq j i) [
+    | inl q ↦
+        let P : ℕ → Type 0 = λ n. IsContent (ps ++ x ∷ []) (plain_name n) (number_of (next n)) (now n) in
+        subst P (sym q) (here (ap (λ n. held_of (next n)) (sym q) ∙ held))
+    | inr ne ↦ rw (words j ne, values j ne) (content_same ps x word value made j h found (old j lt ne) (ap held_of (sym (words j ne)) ∙ held))
+  ];
+  right = right_push ps x line word made free f found h.right read;
+}
+
+-- a slot that is made has the content 0 after its step
+pub content_made : (ps : List Played) (x : Played) (line : ℕ) (word next : ℕ → ℕ) (made : ℕ) (free : List ℕ) (i : ℕ) (seen : Seen) (usable : ℕ)
+    → Follows (marks_of ps) line word made free → x.answer ≡ Made seen usable → seen.slot ≡ plain_name i → StepsTo i steps.Issue seen.found.0 word next
+    → IsContent (ps ++ x ∷ []) (plain_name i) (number_of (next i)) 0
+content_made ps x line word next made free i seen usable f e at st =
+    let up : number_of (next i) ≡ number_of seen.found.0 + 1 = ap number_of st.next ∙ number_stepped steps.Issue seen.found.0 st.can in
+    let number : number_of (slot_word word (plain_name i)) ≡ number_of seen.found.0 = ap number_of (word_name word i ∙ sym st.found) in
+    inr (
+      refl,
+      λ n other w. elim (written_cases ps x (plain_name i) n other w.0) [
+        | inl a ↦
+            let lt = written_below ps line word made free f (plain_name i) n other a in
+            w.2 (number_of seen.found.0) (x, seen, usable, Contains-push ps x, e, at, refl) (omega (arith, lt, number)) (omega (arith, up))
+        | inr b ↦
+            let bad : Made seen usable ≡ Done b.0 = sym e ∙ b.3 in
+            absurd cc
+      ],
+    )
+
+-- a slot that is written has the value after its step
+pub content_written : (ps : List Played) (x : Played) (line : ℕ) (word next : ℕ → ℕ) (made : ℕ) (free : List ℕ) (i : ℕ) (seen : Seen) (reg value : ℕ)
+    → Follows (marks_of ps) line word made free → x.op ≡ ops.Write reg value → x.answer ≡ Done seen → seen.slot ≡ plain_name i
+    → StepsTo i steps.Write seen.found.0 word next → IsContent (ps ++ x ∷ []) (plain_name i) (number_of (next i)) value
+content_written ps x line word next made free i seen reg value f op e at st =
+    let up : number_of (next i) ≡ number_of seen.found.0 + 1 = ap number_of st.next ∙ number_stepped steps.Write seen.found.0 st.can in
+    inl (
+      number_of seen.found.0,
+      ((x, seen, reg, Contains-push ps x, op, e, at, refl), omega (arith, up), λ m made above below. omega (arith, up, above, below)),
+      λ m other w lt. omega (arith, up, w.1, lt),
+    )
+
+-- a record that neither makes nor writes a slot
+abbrev pub IsNeither : Played → Type 0
+IsNeither x = ((s : SlotName) (n : ℕ) → IsMadeBy x s n → ⊥) × ((s : SlotName) (n value : ℕ) → IsWrittenBy x s n value → ⊥)
+
+-- a slot that stays held keeps its content over a step of another kind
+pub content_stays : (ps : List Played) (x : Played) (line : ℕ) (word value next : ℕ → ℕ) (made : ℕ) (free : List ℕ) (i w : ℕ) (p : Step)
+    → Follows (marks_of ps) line word made free → HasContents ps word value made → IsNeither x → i < made → held_of (word i) ≡ 1
+    → StepsTo i p w word next → IsContent (ps ++ x ∷ []) (plain_name i) (number_of (next i)) (value i)
+content_stays ps x line word value next made free i w p f h none lt held st =
+    let s = plain_name i in
+    let up : number_of (next i) ≡ number_of (word i) + 1 = ap number_of st.next ∙ number_stepped p w st.can ∙ ap (λ x. number_of x + 1) st.found in
+    let number : number_of (slot_word word s) ≡ number_of (word i) = ap number_of (word_name word i) in
+    let quiet : IsQuiet ps (ps ++ x ∷ []) s (number_of (word i)) (number_of (next i)) = record {
+      up = omega (arith, up);
+      made = made_kept ps x s;
+      written = written_kept ps x s;
+      made_back = λ n h lt. elim (made_cases ps x s n h) [
+        | inl a ↦ (a, omega (arith, made_below ps line word made free f s n a, number))
+        | inr b ↦ absurd (none.0 s n b)
+      ];
+      written_back = λ n v h lt. elim (written_cases ps x s n v h) [
+        | inl a ↦ (a, omega (arith, written_below ps line word made free f s n v a, number))
+        | inr b ↦ absurd (none.1 s n v b)
+      ];
+    } in
+    content_kept ps (ps ++ x ∷ []) s (number_of (word i)) (number_of (next i)) (value i) quiet (h.content i lt held)
+
+-- a slot that was held before its step where it is held after
+pub held_before : (p : Step) (w : ℕ) → (p ≡ steps.Issue → ⊥) → held_of (stepped p w) ≡ 1 → CanStep p w → held_of w ≡ 1
+held_before steps.Issue w ne h c = absurd (ne refl)
+held_before steps.Copy w ne h c = omega (arith, h)
+held_before steps.Reset w ne h c = omega (arith, h, c)
+held_before steps.Free w ne h c = omega (arith, h, c)
+held_before steps.Write w ne h c = omega (arith, h)
+
+-- a freed slot isn't held
+pub freed : (w : ℕ) → CanStep steps.Free w → held_of (stepped steps.Free w) ≡ 1 → ⊥
+freed w c h = omega (arith, h, c)

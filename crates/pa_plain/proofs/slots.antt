@@ -1,0 +1,15 @@
+pub mod Back
+pub mod Beginning
+pub mod Copying
+pub mod Freeing
+pub mod Handles
+pub mod Having
+pub mod Issuing
+pub mod Moving
+pub mod Outcomes
+pub mod Places
+pub mod Reading
+pub mod Resetting
+pub mod Steady
+pub mod Taking
+pub mod Writing

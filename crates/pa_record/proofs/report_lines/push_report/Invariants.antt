@@ -1,0 +1,8 @@
+use Rattle.std.proofs.Common.{◌≡◌, ◌++◌, take}
+use Rattle.std.specs.List.{flat_map}
+use Rattle.pa_record.specs.Text.{report_text}
+use Rattle.pa_record.proofs.report_lines.push_report.Given as goal
+
+-- what was told so far stands behind what was there
+abbrev pub invariant-loop-line : goal.invariant-loop-line
+invariant-loop-line l = l.out.items ≡ l.fn.out.items ++ flat_map report_text (take l.line-index l.report)

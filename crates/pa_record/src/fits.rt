@@ -1,0 +1,160 @@
+//! What the types of a run say of its numbers. These calls do nothing when they run.
+ghost use Rattle.std.specs.Prelude.{IfSome};
+ghost use Rattle.std.specs.List.{AllByRecursion};
+ghost use Rattle.pa_text.specs.Hex.{SlotFits};
+ghost use Rattle.pa_record.specs.Fits.{Is32, IsClass, EntryFits, NumberedFits, RootActFits, RootFits, PoolFits, CellFits, ReportFits, RunFits};
+
+use crate::{
+    CellEntry, Entry, History, Journal, Numbered, PoolEntry, ReportLine, RootAct, RootEntry, Run,
+};
+use pa_buckets::Class;
+use pa_machine::SlotName;
+
+/// Each number of a run has the bits of its type, each class is one of the 59, and no batch has more than 16 slots.
+pub fn run_fits(run: &Run)
+    ensures { RunFits run.now }
+{
+    entries_fit(&run.entries);
+    journals_fit(&run.roots);
+    pool_fits(&run.pool);
+    histories_fit(&run.cells);
+    report_fits(&run.report);
+}
+
+fn entries_fit(entries: &[Entry])
+    ensures { AllByRecursion EntryFits entries.now }
+{
+    for entry in entries {
+        entry_fits(*entry);
+    }
+}
+
+fn entry_fits(entry: Entry)
+    ensures { EntryFits entry }
+{}
+
+fn journals_fit(journals: &[Journal])
+    ensures { AllByRecursion (AllByRecursion RootFits) journals.now }
+{
+    for journal in journals {
+        journal_fits(journal.entries());
+    }
+}
+
+fn journal_fits(entries: &[RootEntry])
+    ensures { AllByRecursion RootFits entries.now }
+{
+    for entry in entries {
+        root_fits(entry);
+    }
+}
+
+fn root_fits(entry: &RootEntry)
+    ensures { RootFits entry.now }
+{
+    number_fits(entry.line);
+    root_act_fits(&entry.act);
+}
+
+fn root_act_fits(act: &RootAct)
+    ensures { RootActFits act.now }
+{
+    match act {
+        RootAct::Fill { class, pool, slots } => {
+            class_fits(Some(*class));
+            pool_number_fits(*pool);
+            batch_fits(slots.items());
+        }
+        RootAct::Map { pool, slot, len } => {
+            number_fits(*pool);
+            slot_fits(*slot);
+            number_fits(*len);
+        }
+        RootAct::Full { class, pool } => {
+            class_fits(*class);
+            number_fits(*pool);
+        }
+        RootAct::Give { slots } => batch_fits(slots.items()),
+        RootAct::Unmap { pool, slot } => {
+            number_fits(*pool);
+            numbered_fits(*slot);
+        }
+        RootAct::Purge => {}
+    }
+}
+
+fn number_fits(n: u32)
+    ensures { Is32 n }
+{}
+
+fn pool_number_fits(n: Option<u32>)
+    ensures { IfSome n Is32 }
+{}
+
+fn class_fits(class: Option<Class>)
+    ensures { IfSome class IsClass }
+{
+    if let Some(class) = class {
+        class.number();
+    }
+}
+
+fn slot_fits(slot: SlotName)
+    ensures { SlotFits slot }
+{}
+
+fn batch_fits(slots: &[Numbered])
+    ensures { AllByRecursion NumberedFits slots.now }
+{
+    for slot in slots {
+        numbered_fits(*slot);
+    }
+}
+
+fn numbered_fits(slot: Numbered)
+    ensures { NumberedFits slot }
+{}
+
+fn pool_fits(entries: &[PoolEntry])
+    ensures { AllByRecursion PoolFits entries.now }
+{
+    for entry in entries {
+        pool_entry_fits(*entry);
+    }
+}
+
+fn pool_entry_fits(entry: PoolEntry)
+    ensures { PoolFits entry }
+{}
+
+fn histories_fit(histories: &[History])
+    ensures { AllByRecursion (AllByRecursion CellFits) histories.now }
+{
+    for history in histories {
+        history_fits(history.entries());
+    }
+}
+
+fn history_fits(entries: &[CellEntry])
+    ensures { AllByRecursion CellFits entries.now }
+{
+    for entry in entries {
+        exchange_fits(*entry);
+    }
+}
+
+fn exchange_fits(entry: CellEntry)
+    ensures { CellFits entry }
+{}
+
+fn report_fits(report: &[ReportLine])
+    ensures { AllByRecursion ReportFits report.now }
+{
+    for line in report {
+        line_fits(*line);
+    }
+}
+
+fn line_fits(line: ReportLine)
+    ensures { ReportFits line }
+{}

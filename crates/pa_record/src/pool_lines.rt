@@ -1,0 +1,49 @@
+ghost use Rattle.std.specs.Prelude.{◌≡◌, ◌++◌, OnOk};
+ghost use Rattle.pa_record.specs.Text.{field_text, number_or, pool_act_text, pool_text, pools_text};
+
+use crate::root_lines::push_number_or;
+use crate::writing::push_field;
+use crate::{PoolAct, PoolEntry};
+use pa_machine::OutOfMemory;
+use pa_text::push_bytes;
+
+// Appends the lines of the pool.
+pub(crate) fn push_pool(out: &mut Vec<u8>, entries: &[PoolEntry]) -> Result<(), OutOfMemory>
+    ensures pushed { OnOk result (out.new.items ≡ out.old.items ++ pools_text entries.now) }
+{
+    let mut index = 0;
+    for entry in entries {
+        push_turn(out, index, entry)?;
+        index += 1;
+    }
+    Ok(())
+}
+
+// Appends the line of one entry, with its LF.
+fn push_turn(out: &mut Vec<u8>, index: u64, entry: &PoolEntry) -> Result<(), OutOfMemory>
+    ensures pushed { OnOk result (out.new.items ≡ out.old.items ++ pool_text index entry.now) }
+{
+    push_field(out, b"p ", index)?;
+    push_field(out, b" ", u64::from(entry.line))?;
+    push_field(out, b" ", u64::from(entry.partition))?;
+    push_bytes(out, b" ")?;
+    push_act(out, entry.act)?;
+    push_bytes(out, b"\n")
+}
+
+// Appends `take COUNT FIRST`, where the first may be `none`, or `give COUNT FIRST`.
+fn push_act(out: &mut Vec<u8>, act: PoolAct) -> Result<(), OutOfMemory>
+    ensures pushed { OnOk result (out.new.items ≡ out.old.items ++ pool_act_text act) }
+{
+    match act {
+        PoolAct::Take { count, first } => {
+            push_field(out, b"take ", u64::from(count))?;
+            push_bytes(out, b" ")?;
+            push_number_or(out, b"none", first)
+        }
+        PoolAct::Give { count, first } => {
+            push_field(out, b"give ", u64::from(count))?;
+            push_field(out, b" ", u64::from(first))
+        }
+    }
+}

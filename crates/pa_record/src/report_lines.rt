@@ -1,0 +1,61 @@
+ghost use Rattle.std.specs.Prelude.{◌≡◌, ◌++◌, OnOk};
+ghost use Rattle.std.specs.List.{flat_map};
+ghost use Rattle.pa_record.specs.Text.{field_text, tally_text, places_text, bytes_text, spans_text, report_text};
+
+use crate::writing::push_field;
+use crate::{ReportLine, Tally};
+use pa_machine::OutOfMemory;
+use pa_text::push_bytes;
+
+// Appends the lines of the report.
+pub(crate) fn push_report(out: &mut Vec<u8>, report: &[ReportLine]) -> Result<(), OutOfMemory>
+    ensures pushed { OnOk result (out.new.items ≡ out.old.items ++ flat_map report_text report.now) }
+{
+    for line in report {
+        push_line(out, line)?;
+    }
+    Ok(())
+}
+
+// Appends one line of the report, with its LF.
+fn push_line(out: &mut Vec<u8>, line: &ReportLine) -> Result<(), OutOfMemory>
+    ensures pushed { OnOk result (out.new.items ≡ out.old.items ++ report_text line.now) }
+{
+    push_places(out, line)?;
+    push_field(out, b" committed ", line.committed)?;
+    push_field(out, b" reserved ", line.reserved)?;
+    push_spans(out, line)?;
+    push_bytes(out, b"\n")
+}
+
+// Appends the line's phase, its partition, and where its slots are.
+#[tactic(auto, unfolding(crate::specs::Text::places_text))]
+fn push_places(out: &mut Vec<u8>, line: &ReportLine) -> Result<(), OutOfMemory>
+    ensures pushed { OnOk result (out.new.items ≡ out.old.items ++ places_text line.now) }
+{
+    push_field(out, b"s ", u64::from(line.phase))?;
+    push_field(out, b" ", u64::from(line.partition))?;
+    push_tally(out, b" live ", line.live)?;
+    push_tally(out, b" quarantined ", line.quarantined)?;
+    push_tally(out, b" cached ", line.cached)?;
+    push_tally(out, b" root ", line.root)
+}
+
+// Appends the line's spans by state.
+#[tactic(auto, unfolding(crate::specs::Text::spans_text))]
+fn push_spans(out: &mut Vec<u8>, line: &ReportLine) -> Result<(), OutOfMemory>
+    ensures pushed { OnOk result (out.new.items ≡ out.old.items ++ spans_text line.now) }
+{
+    push_field(out, b" full ", u64::from(line.full))?;
+    push_field(out, b" active ", u64::from(line.active))?;
+    push_field(out, b" empty ", u64::from(line.empty))?;
+    push_field(out, b" decommitted ", u64::from(line.decommitted))
+}
+
+// Appends the word, the number of slots and the number of bytes.
+fn push_tally(out: &mut Vec<u8>, word: &[u8], tally: Tally) -> Result<(), OutOfMemory>
+    ensures pushed { OnOk result (out.new.items ≡ out.old.items ++ tally_text word.now tally) }
+{
+    push_field(out, word, tally.slots)?;
+    push_field(out, b" ", tally.bytes)
+}

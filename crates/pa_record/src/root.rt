@@ -1,0 +1,43 @@
+use crate::{Batch, Numbered};
+use pa_buckets::Class;
+use pa_machine::SlotName;
+
+/// One entry of a root's journal: the line of the trace whose op made it, and what the root did.
+#[derive(Debug, Drop, PartialEq, Eq)]
+pub struct RootEntry {
+    pub line: u32,
+    pub act: RootAct,
+}
+
+/// What a root did for one op. `pool` is the index of the pool's entry that was made for it.
+#[derive(Debug, Drop, PartialEq, Eq)]
+pub enum RootAct {
+    /// Slots of a class went out to a thread's cache, 1 to 16, each at its number.
+    Fill {
+        class: Class,
+        pool: Option<u32>,
+        slots: Batch,
+    },
+    /// A direct map was made, whose slot has `len` bytes.
+    Map {
+        pool: u32,
+        slot: SlotName,
+        len: u32,
+    },
+    /// No room for a slot of the class, or for a direct map where no class is named.
+    Full {
+        class: Option<Class>,
+        pool: u32,
+    },
+    /// Slots came back from a thread's cache, 1 to 16, each at its number.
+    Give {
+        slots: Batch,
+    },
+    /// A direct map came back.
+    Unmap {
+        pool: u32,
+        slot: Numbered,
+    },
+    /// Every empty span was decommitted.
+    Purge,
+}

@@ -1,0 +1,153 @@
+ghost use Rattle.std.specs.Prelude.{◌≡◌, ◌++◌, codes, OnOk, length, ◌≤◌};
+ghost use Rattle.std.specs.Fmt.{decimal};
+ghost use Rattle.pa_text.specs.Hex.{slot_text};
+ghost use Rattle.pa_record.specs.Text.{field_text, number_or, numbered_text, slots_text, root_act_text, root_text, journal_text, roots_text};
+ghost use Rattle.pa_record.specs.declared.root.RootAct.TheVariants as acts;
+
+use crate::writing::push_field;
+use crate::{Journal, Numbered, RootAct, RootEntry};
+use pa_buckets::Class;
+use pa_machine::{OutOfMemory, SlotName};
+use pa_text::{push_bytes, push_number, push_slot};
+
+// Appends the lines of all journals, from partition 0 on.
+pub(crate) fn push_roots(out: &mut Vec<u8>, journals: &[Journal]) -> Result<(), OutOfMemory>
+    ensures pushed { OnOk result (out.new.items ≡ out.old.items ++ roots_text journals.now) }
+{
+    let mut partition = 0;
+    for journal in journals {
+        push_journal(out, partition, journal.entries())?;
+        partition += 1;
+    }
+    Ok(())
+}
+
+// Appends the lines of the journal of one partition.
+fn push_journal(out: &mut Vec<u8>, partition: u64, entries: &[RootEntry]) -> Result<(), OutOfMemory>
+    ensures pushed { OnOk result (out.new.items ≡ out.old.items ++ journal_text partition entries.now) }
+{
+    let mut index = 0;
+    for entry in entries {
+        push_root(out, partition, index, entry)?;
+        index += 1;
+    }
+    Ok(())
+}
+
+// Appends the line of one entry, with its LF.
+fn push_root(
+    out: &mut Vec<u8>,
+    partition: u64,
+    index: u64,
+    entry: &RootEntry,
+) -> Result<(), OutOfMemory>
+    ensures pushed { OnOk result (out.new.items ≡ out.old.items ++ root_text partition index entry.now) }
+{
+    push_field(out, b"r ", partition)?;
+    push_field(out, b" ", index)?;
+    push_field(out, b" ", u64::from(entry.line))?;
+    push_bytes(out, b" ")?;
+    push_act(out, &entry.act)?;
+    push_bytes(out, b"\n")
+}
+
+// Appends what the root did.
+fn push_act(out: &mut Vec<u8>, act: &RootAct) -> Result<(), OutOfMemory>
+    ensures pushed { OnOk result (out.new.items ≡ out.old.items ++ root_act_text act.now) }
+{
+    match act {
+        RootAct::Fill { class, pool, slots } => push_fill(out, *class, *pool, slots.items()),
+        RootAct::Map { pool, slot, len } => push_map(out, *pool, *slot, *len),
+        RootAct::Full { class, pool } => push_full(out, *class, *pool),
+        RootAct::Give { slots } => push_give(out, slots.items()),
+        RootAct::Unmap { pool, slot } => push_unmap(out, *pool, *slot),
+        RootAct::Purge => push_bytes(out, b"purge"),
+    }
+}
+
+// Appends `fill CLASS POOL SLOT@K ..`.
+fn push_fill(
+    out: &mut Vec<u8>,
+    class: Class,
+    pool: Option<u32>,
+    slots: &[Numbered],
+) -> Result<(), OutOfMemory>
+    ensures pushed { OnOk result (out.new.items ≡ out.old.items ++ root_act_text (acts.Fill class pool slots.now)) }
+{
+    push_field(out, b"fill ", u64::from(class.number()))?;
+    push_bytes(out, b" ")?;
+    push_number_or(out, b"-", pool)?;
+    push_slots(out, slots)
+}
+
+// Appends `map POOL SLOT@0 LEN`.
+fn push_map(out: &mut Vec<u8>, pool: u32, slot: SlotName, len: u32) -> Result<(), OutOfMemory>
+    ensures pushed { OnOk result (out.new.items ≡ out.old.items ++ root_act_text (acts.Map pool slot len)) }
+{
+    push_field(out, b"map ", u64::from(pool))?;
+    push_bytes(out, b" ")?;
+    push_slot(out, slot)?;
+    push_field(out, b"@0 ", u64::from(len))
+}
+
+// Appends `full CLASS POOL`, where the class may be `direct`.
+fn push_full(out: &mut Vec<u8>, class: Option<Class>, pool: u32) -> Result<(), OutOfMemory>
+    ensures pushed { OnOk result (out.new.items ≡ out.old.items ++ root_act_text (acts.Full class pool)) }
+{
+    push_bytes(out, b"full ")?;
+    match class {
+        Some(class) => push_number(out, u64::from(class.number()))?,
+        None => push_bytes(out, b"direct")?,
+    }
+    push_field(out, b" ", u64::from(pool))
+}
+
+// Appends `give SLOT@K ..`.
+fn push_give(out: &mut Vec<u8>, slots: &[Numbered]) -> Result<(), OutOfMemory>
+    ensures pushed { OnOk result (out.new.items ≡ out.old.items ++ root_act_text (acts.Give slots.now)) }
+{
+    push_bytes(out, b"give")?;
+    push_slots(out, slots)
+}
+
+// Appends `unmap POOL SLOT@K`.
+fn push_unmap(out: &mut Vec<u8>, pool: u32, slot: Numbered) -> Result<(), OutOfMemory>
+    ensures pushed { OnOk result (out.new.items ≡ out.old.items ++ root_act_text (acts.Unmap pool slot)) }
+{
+    push_field(out, b"unmap ", u64::from(pool))?;
+    push_bytes(out, b" ")?;
+    push_numbered(out, slot)
+}
+
+// Appends the slots, a space in front of each.
+fn push_slots(out: &mut Vec<u8>, slots: &[Numbered]) -> Result<(), OutOfMemory>
+    ensures pushed { OnOk result (out.new.items ≡ out.old.items ++ slots_text slots.now) }
+{
+    for slot in slots {
+        push_bytes(out, b" ")?;
+        push_numbered(out, *slot)?;
+    }
+    Ok(())
+}
+
+// Appends `SLOT@K`.
+fn push_numbered(out: &mut Vec<u8>, slot: Numbered) -> Result<(), OutOfMemory>
+    ensures pushed { OnOk result (out.new.items ≡ out.old.items ++ numbered_text slot) }
+{
+    push_slot(out, slot.slot)?;
+    push_field(out, b"@", slot.number)
+}
+
+// Appends the number, or the word where there is none.
+pub(crate) fn push_number_or(
+    out: &mut Vec<u8>,
+    word: &[u8],
+    n: Option<u32>,
+) -> Result<(), OutOfMemory>
+    ensures pushed { OnOk result (out.new.items ≡ out.old.items ++ number_or word.now n) }
+{
+    match n {
+        Some(n) => push_number(out, u64::from(n)),
+        None => push_bytes(out, word),
+    }
+}

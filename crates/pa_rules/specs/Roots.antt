@@ -1,0 +1,101 @@
+-- The journals of the roots and the pool's entries, beside the records of the run.
+use Rattle.std.specs.Prelude.{◌≡◌, ℕ, ◌+◌, ◌<◌, ◌≤◌, ◌⊎◌, max, List, [], Option, Some, None, Contains, slice_get, slice_index_or}
+use Rattle.pa_machine.specs.declared.title.Title.{Title}
+use Rattle.pa_buckets.specs.Classes.{IsClassOf}
+use Rattle.pa_direct.specs.Shapes.{shape_of, IsDirectSize}
+use Rattle.pa_trace.specs.declared.script.Op.{Op}
+use Rattle.pa_trace.specs.declared.script.Op.TheVariants as ops
+use Rattle.pa_record.specs.declared.entry.Answer.TheVariants as answers
+use Rattle.pa_record.specs.declared.pool.PoolEntry.{PoolEntry}
+use Rattle.pa_record.specs.declared.root.RootEntry.{RootEntry}
+use Rattle.pa_record.specs.declared.root.RootAct.{RootAct}
+use Rattle.pa_record.specs.declared.root.RootAct.TheVariants.{Fill, Map, Full, Give, Unmap, Purge}
+use Rattle.pa_record.specs.Pool.{IsPool, FoundNone}
+use Rattle.pa_record.specs.Root.{new_root, IsJournal, asked_by}
+use Rattle.pa_record.specs.Sound.{titles_made, AreTitles}
+use Rattle.pa_rules.specs.Played.{Played}
+use Rattle.pa_rules.specs.Cells.{StandsBefore}
+
+-- the journals, by their partitions
+abbrev pub Journals : Type 0
+Journals = ℕ → List RootEntry
+
+-- e is entry j of the journal of partition p
+abbrev pub IsEntry : Journals → ℕ → ℕ → RootEntry → Type 0
+IsEntry roots p j e = slice_get (roots p) j ≡ Some e
+
+-- x is the record of that line
+abbrev pub IsOfLine : List Played → ℕ → Played → Type 0
+IsOfLine ps line x = Contains ps x × (x.line ≡ line)
+
+-- the op asks partition p for a slot of the class; for a direct map of that many bytes. A size above 33,521,656 is of no
+-- class and for no direct map.
+abbrev pub AsksForClass : Op → ℕ → ℕ → Type 0
+AsksForClass op p class = (reg size : ℕ) × (op ≡ ops.Alloc reg p size) × IsClassOf (max size 1 + 8) class
+
+abbrev pub AsksForMap : Op → ℕ → ℕ → Type 0
+AsksForMap op p size = (reg : ℕ) × (op ≡ ops.Alloc reg p size) × IsDirectSize size
+
+-- ops that give slots back
+abbrev pub IsFreeing : Op → Type 0
+IsFreeing op = ((reg : ℕ) × (op ≡ ops.Free reg)) ⊎ ((reg : ℕ) × (op ≡ ops.Reset reg))
+
+abbrev pub MakesFull : List PoolEntry → ℕ → Option ℕ → ℕ → Op → Type 0
+MakesFull pools p None asked op = (size : ℕ) × AsksForMap op p size × FoundNone pools asked (shape_of size).supers
+MakesFull pools p (Some class) asked op = AsksForClass op p class
+
+-- The op makes such an entry of partition p's journal: an allocation fills from its class, maps the shape of its size or
+-- finds no room for them; a free or a reset gives back; a purge gives back and purges.
+abbrev pub MakesEntry : List PoolEntry → ℕ → RootAct → Op → Type 0
+MakesEntry pools p (Fill class asked slots) op = AsksForClass op p class
+MakesEntry pools p (Map asked slot len) op = (size : ℕ) × AsksForMap op p size × (len ≡ (shape_of size).slot)
+MakesEntry pools p (Full class asked) op = MakesFull pools p class asked op
+MakesEntry pools p (Give slots) op = IsFreeing op ⊎ (op ≡ ops.Purge)
+MakesEntry pools p (Unmap asked slot) op = IsFreeing op
+MakesEntry pools p Purge op = op ≡ ops.Purge
+
+-- a Full
+abbrev pub IsFull : RootAct → Type 0
+IsFull act = (class : Option ℕ) × (asked : ℕ) × (act ≡ Full class asked)
+
+-- The journals are those of the records.
+--   journals: each is one of a root, replayed with the pool's entries
+--   lines: each entry's line is an op that makes it
+--   order: entries of one thread stand in the order of its lines, and those of an earlier phase before those of a later
+--   none_past: there are none past the trace's
+--   refusals: a record that is full names a Full of its line
+pub record AreRoots (partitions : ℕ) (ps : List Played) (pools : List PoolEntry) (roots : Journals) : Type 0 where
+  pub journals : (p : ℕ) → IsJournal pools (roots p)
+  pub lines : (p j : ℕ) (e : RootEntry) → IsEntry roots p j e → (x : Played) × IsOfLine ps e.line x × MakesEntry pools p e.act x.op
+  pub order : (p i j : ℕ) (e f : RootEntry) (x y : Played) → IsEntry roots p i e → IsEntry roots p j f
+      → IsOfLine ps e.line x → IsOfLine ps f.line y → StandsBefore x y → i < j
+  pub none_past : (p : ℕ) → partitions ≤ p → roots p ≡ []
+  pub refusals : (x : Played) (j reg p size : ℕ) → Contains ps x → x.answer ≡ answers.Full j → x.op ≡ ops.Alloc reg p size
+      → (e : RootEntry) × IsEntry roots p j e × (e.line ≡ x.line) × IsFull e.act
+
+-- entry i of partition p's journal names entry j of the pool
+abbrev pub Names : Journals → ℕ → ℕ → ℕ → Type 0
+Names roots p i j = (e : RootEntry) × IsEntry roots p i e × (asked_by e.act ≡ Some j)
+
+-- The pool's entries are those of the records.
+--   fits: each take and give fits the pool after those before it
+--   named: each entry is named by a journal entry, which is of its partition and line; once: and by no other
+--   order: entries of one thread stand in the order of its lines, and those of an earlier phase before those of a later
+pub record IsPoolOf (supers : ℕ) (ps : List Played) (pools : List PoolEntry) (roots : Journals) : Type 0 where
+  pub fits : IsPool supers pools
+  pub named : (j : ℕ) (e : PoolEntry) → slice_get pools j ≡ Some e
+      → (i : ℕ) × (f : RootEntry) × IsEntry roots e.partition i f × (asked_by f.act ≡ Some j) × (f.line ≡ e.line)
+  pub once : (j p q i k : ℕ) → Names roots p i j → Names roots q k j → (p ≡ q) × (i ≡ k)
+  pub order : (i j : ℕ) (e f : PoolEntry) (x y : Played) → slice_get pools i ≡ Some e → slice_get pools j ≡ Some f
+      → IsOfLine ps e.line x → IsOfLine ps f.line y → StandsBefore x y → i < j
+
+-- The titles that the journals make: those of one entry of the pool are equal or don't overlap, each lies in payload or is
+-- a direct map, and an entry of the pool belongs to one partition.
+pub record AreAllTitles (pools : List PoolEntry) (roots : Journals) : Type 0 where
+  pub titles : (p : ℕ) → AreTitles pools (titles_made pools (roots p) new_root)
+  pub owned : (p q : ℕ) (t u : Title) → Contains (titles_made pools (roots p) new_root) t → Contains (titles_made pools (roots q) new_root) u
+      → t.born ≡ u.born → p ≡ q
+
+-- the journals of a run, by their partitions
+abbrev pub journal_at : List (List RootEntry) → Journals
+journal_at roots p = slice_index_or roots p []

@@ -1,0 +1,66 @@
+ghost use Rattle.std.specs.Prelude.{◌≡◌, ℕ, ◌<◌, List, ◌++◌, Option, IfSome, IfNone};
+ghost use Rattle.std.specs.Option.{option_map};
+ghost use Rattle.pa_text.specs.Hex.{hex};
+ghost use Rattle.pa_text.specs.Reading.{hex_at};
+
+/// The word that the sixteen digits in front write, hexadecimal and in lower case, and the bytes behind them. Nothing is
+/// read where fewer than sixteen such digits stand in front.
+pub fn word_at(bytes: &[u8]) -> Option<(u64, &[u8])>
+    ensures found { IfSome result (λ x. (x.0 < 18446744073709551616) × (bytes.now ≡ hex 16 x.0 ++ x.1.now)) }
+    ensures none { IfNone result ((n : ℕ) (rest : List ℕ) → n < 18446744073709551616 → bytes.now ≡ hex 16 n ++ rest → ⊥) }
+{
+    let mut value = 0;
+    let mut rest = bytes;
+    for _ in 0..16u32 {
+        let (digit, after) = hex_at(rest)?;
+        value = 16 * value + digit;
+        rest = after;
+    }
+    Some((value, rest))
+}
+
+// The hexadecimal digit in front, and the bytes behind it.
+fn hex_at(bytes: &[u8]) -> Option<(u64, &[u8])>
+    ensures digit { option_map {U = ℕ × List ℕ} (λ x. (x.0, x.1.now)) result ≡ hex_at bytes.now }
+    ensures small { IfSome result (λ x. x.0 < 16) }
+{
+    match bytes {
+        [digit @ b'0'..=b'9', rest @ ..] => Some((u64::from(*digit - b'0'), rest)),
+        [digit @ b'a'..=b'f', rest @ ..] => Some((u64::from(*digit - b'a' + 10), rest)),
+        _ => None,
+    }
+}
+
+#[cfg(test)]
+mod tests {
+    use super::*;
+
+    // Sixteen digits are read, whatever stands behind them, and fewer or others are not.
+    #[test]
+    fn words_are_read(rt: HostRuntime) {
+        let read: [(&[u8], u64, &[u8]); 5] = [
+            (b"0000000000000000", 0, b""),
+            (b"0123456789abcdef", 0x0123_4567_89ab_cdef, b""),
+            (b"fedcba98765432100", 0xfedc_ba98_7654_3210, b"0"),
+            (b"ffffffffffffffff\n", u64::MAX, b"\n"),
+            (b"efefefefefefefef g", 0xefef_efef_efef_efef, b" g"),
+        ];
+        for (bytes, value, rest) in read {
+            assert_eq!(rt; word_at(bytes), Some((value, rest)));
+        }
+        let refused: [&[u8]; 9] = [
+            b"",
+            b"000000000000000",
+            b"000000000000000 0",
+            b"000000000000000A",
+            b"F000000000000000",
+            b"g000000000000000",
+            b"0x00000000000000",
+            b"+000000000000000",
+            b"-000000000000000",
+        ];
+        for bytes in refused {
+            assert_eq!(rt; word_at(bytes), None);
+        }
+    }
+}

@@ -1,0 +1,77 @@
+-- Which line of a text is the first faulty one, and by which fault. Lines and bytes count from 1, and a line contains its LF.
+use Rattle.std.specs.Prelude.{◌≡◌, ℕ, ◌+◌, ◌<◌, ◌==◌, ◌⊎◌, if◌then◌else◌, List, [], ◌∷◌, ◌++◌, length}
+use Rattle.pa_trace.specs.declared.fault.TraceFault.{TraceFault}
+use Rattle.pa_trace.specs.declared.fault.TraceFault.TheVariants.{BadLine, Limit, OutOfMemory}
+use Rattle.pa_trace.specs.declared.script.Line.{Line}
+use Rattle.pa_trace.specs.Grammar.{IsHeadText, IsLineText}
+use Rattle.pa_trace.specs.Limits.{IsHeadWithin, IsLineWithin}
+
+-- a byte in front of lines: an LF is a line there, any other byte begins the first line
+abbrev pub with_front : ℕ → List (List ℕ) → List (List ℕ)
+with_front b [] = (b ∷ []) ∷ []
+with_front b (line ∷ lines) = if b == 10 then (b ∷ []) ∷ line ∷ lines else (b ∷ line) ∷ lines
+
+-- the lines of a text, each with its LF; the last may have none
+unfoldable pub lines_of : List ℕ → List (List ℕ)
+lines_of [] = []
+lines_of (b ∷ bytes) = with_front b (lines_of bytes)
+
+-- line n, behind so many bytes, is line 65,537 or contains byte 4,194,305, or stands behind such a line
+abbrev pub IsPast : ℕ → ℕ → List ℕ → Type 0
+IsPast n before line = (65536 < n) ⊎ (4194304 < before + length line)
+
+-- the line is a head's text and an LF
+abbrev pub IsHeadLine : ℕ → ℕ → ℕ → List ℕ → Type 0
+IsHeadLine region partitions threads line = (text : List ℕ) × IsHeadText region partitions threads text × (line ≡ text ++ 10 ∷ [])
+
+-- the line is the text of a line behind the head, and an LF
+abbrev pub IsBodyLine : Line → List ℕ → Type 0
+IsBodyLine l line = (text : List ℕ) × IsLineText l text × (line ≡ text ++ 10 ∷ [])
+
+-- the line is outside the grammar or has no LF, as a head and as a line behind a head
+abbrev pub IsBadHead : List ℕ → Type 0
+IsBadHead line = (region partitions threads : ℕ) → IsHeadLine region partitions threads line → ⊥
+
+abbrev pub IsBadLine : List ℕ → Type 0
+IsBadLine line = (l : Line) → IsBodyLine l line → ⊥
+
+-- the line is in the grammar and a number passes its limit, as a head and as a line behind a head
+abbrev pub IsHeadOverLimit : List ℕ → Type 0
+IsHeadOverLimit line =
+    (region partitions threads : ℕ) × IsHeadLine region partitions threads line × (IsHeadWithin region partitions threads → ⊥)
+
+abbrev pub IsLineOverLimit : ℕ → ℕ → List ℕ → Type 0
+IsLineOverLimit partitions threads line = (l : Line) × IsBodyLine l line × (IsLineWithin partitions threads l → ⊥)
+
+-- the fault of line n by what it is: past first, then bad, then over a limit
+abbrev pub IsFaultOf : ℕ → Type 0 → Type 0 → Type 0 → TraceFault → Type 0
+IsFaultOf n past bad over (BadLine m) = (m ≡ n) × (past → ⊥) × bad
+IsFaultOf n past bad over (Limit m) = (m ≡ n) × (past ⊎ over)
+IsFaultOf n past bad over OutOfMemory = ⊥
+
+-- the first faulty one of the lines behind a head, of which the first is line n and stands behind so many bytes:
+-- it is faulty itself, or it is in the grammar and the limits and a later one is the first faulty one
+abbrev pub IsFirstBehind : ℕ → ℕ → ℕ → ℕ → List (List ℕ) → TraceFault → Type 0
+IsFirstBehind partitions threads n before [] e = ⊥
+IsFirstBehind partitions threads n before (line ∷ lines) e =
+    IsFaultOf n (IsPast n before line) (IsBadLine line) (IsLineOverLimit partitions threads line) e
+    ⊎ ((l : Line) × IsBodyLine l line × IsLineWithin partitions threads l × (IsPast n before line → ⊥)
+    × IsFirstBehind partitions threads (n + 1) (before + length line) lines e)
+
+-- the first faulty one of all lines; where there is none, line 1 is bad
+abbrev pub IsFirstOf : List (List ℕ) → TraceFault → Type 0
+IsFirstOf [] e = e ≡ BadLine 1
+IsFirstOf (line ∷ lines) e =
+    IsFaultOf 1 (IsPast 1 0 line) (IsBadHead line) (IsHeadOverLimit line) e
+    ⊎ ((region partitions threads : ℕ) × IsHeadLine region partitions threads line × IsHeadWithin region partitions threads
+    × (IsPast 1 0 line → ⊥) × IsFirstBehind partitions threads 2 (length line) lines e)
+
+-- the first faulty line of a text, and its fault
+abbrev pub IsFirstFault : TraceFault → List ℕ → Type 0
+IsFirstFault e bytes = IsFirstOf (lines_of bytes) e
+
+-- why the bytes were not read
+abbrev pub IsFault : TraceFault → List ℕ → Type 0
+IsFault (BadLine n) bytes = IsFirstFault (BadLine n) bytes
+IsFault (Limit n) bytes = IsFirstFault (Limit n) bytes
+IsFault OutOfMemory bytes = Unit {0}
