@@ -56,7 +56,7 @@ passing_not test (suc n) =
     let ih = passing_not test n in
     elim (cases_Bool (test n)) [ inl hit ↦ rw hit (omega arith) | inr miss ↦ rw miss (omega arith) ]
 
-out_counted : (s : Span) → IsCounted s → length (out_of s) ≡ s.allocated
+pub out_counted : (s : Span) → IsCounted s → length (out_of s) ≡ s.allocated
 out_counted s h =
     let test : ℕ → Bool = λ n. not (list_any (eqb n) s.free) in
     let a = length-filter test (numbers 0 s.provisioned) in
@@ -96,10 +96,10 @@ same_map (x ∷ ts) t u h among among' same = elim (in_cases x t ts among) [
   ]
 ]
 
-slot_low : (r : Root) (s : Span) (name : SlotName) (n : ℕ) → IsSound r → Contains r.spans s → IsOutOf s name n → n < slots_of s.class
+pub slot_low : (r : Root) (s : Span) (name : SlotName) (n : ℕ) → IsSound r → Contains r.spans s → IsOutOf s name n → n < slots_of s.class
 slot_low r s name n sound among out = let c = (sound.spans s among).counted in let p = out.provisioned in let q = c.made in let k = c.most in omega arith
 
-not_mapped : (r : Root) (s : Span) (t u : Title) (n : ℕ) → IsSound r → Contains r.spans s → t ≡ title_at s n → Contains r.maps u → t.born ≡ u.born → ⊥
+pub not_mapped : (r : Root) (s : Span) (t u : Title) (n : ℕ) → IsSound r → Contains r.spans s → t ≡ title_at s n → Contains r.maps u → t.born ≡ u.born → ⊥
 not_mapped r s t u n sound among e member same =
     let (at, page, p) = sound.placed s among in
     sound.mixed u at member p.among (sym same ∙ ap (λ (z : Title). z.born) e ∙ p.born)

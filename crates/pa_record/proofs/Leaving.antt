@@ -29,7 +29,7 @@ use Rattle.pa_record.proofs.Stepping.{next_is}
 use Rattle.pa_record.proofs.Titles.{new_sound, new_born, rise_parts}
 
 -- a name stands once in a list of different names, or not at all
-once_or_not : (name : SlotName) (xs : List SlotName) → AllPairs ◌≢◌ xs → (Contains xs name × (times name xs ≡ 1)) ⊎ ((Contains xs name → ⊥) × (times name xs ≡ 0))
+pub once_or_not : (name : SlotName) (xs : List SlotName) → AllPairs ◌≢◌ xs → (Contains xs name × (times name xs ≡ 1)) ⊎ ((Contains xs name → ⊥) × (times name xs ≡ 0))
 once_or_not name [] h = inr (λ among. not_in_none name among, refl)
 once_or_not name (x ∷ xs) h =
     let R : SlotName → SlotName → Type 0 = λ a b. a ≢ b in
@@ -64,7 +64,7 @@ once_or_not name (x ∷ xs) h =
 slot_out : (r : Root) (name : SlotName) → IsOut r name → IsNameOut r name
 slot_out r name (s, among, n, out) = (title_at s n, inl (s, among, n, subst (λ x. IsOutOf s x n) out.named out, refl), out.named)
 
-name_cases : (r : Root) (name : SlotName) → IsNameOut r name → IsOut r name ⊎ ((u : Title) × Contains r.maps u × (name ≡ name_of u))
+pub name_cases : (r : Root) (name : SlotName) → IsNameOut r name → IsOut r name ⊎ ((u : Title) × Contains r.maps u × (name ≡ name_of u))
 name_cases r name (t, inl (s, among, n, out, e), same) = inl (s, among, n, subst (λ x. IsOutOf s x n) (sym same) out)
 name_cases r name (t, inr member, same) = inr (t, member, same)
 

@@ -30,3 +30,5 @@ pub mod Asked
 pub mod Leaving
 pub mod Calling
 pub mod Used
+pub mod Joined
+pub mod AddingUp

@@ -1,6 +1,6 @@
 -- The laws of a root's journal.
-use Rattle.std.specs.Prelude.{◌≡◌, ◌≢◌, ℕ, suc, ◌+◌, ◌<◌, ◌≤◌, ◌⊎◌, Bool, false, not, eqb, List, [], ◌∷◌, ◌++◌, length, map, Option, Some, None, IsSome, IsNone, is_some, All, AllPairs, Contains, filter, find, slice_get, count_by}
-use Rattle.std.specs.List.{list_any}
+use Rattle.std.specs.Prelude.{◌≡◌, ◌≢◌, ℕ, suc, ◌+◌, ◌<◌, ◌≤◌, ◌⊎◌, ◌↔◌, Bool, false, not, eqb, List, [], ◌∷◌, ◌++◌, length, map, Option, Some, None, IsSome, IsNone, is_some, All, AllPairs, Contains, filter, find, slice_get, count_by, sum_by}
+use Rattle.std.specs.List.{list_any, flat_map}
 use Rattle.pa_machine.specs.declared.title.Title.{Title}
 use Rattle.pa_machine.specs.declared.word.SlotName.{SlotName}
 use Rattle.pa_machine.specs.Run.{same_slot}
@@ -13,9 +13,9 @@ use Rattle.pa_record.specs.declared.root.RootEntry.{RootEntry}
 use Rattle.pa_record.specs.declared.root.RootAct.{RootAct}
 use Rattle.pa_record.specs.declared.root.RootAct.TheVariants.{Fill, Map, Full, Give, Unmap, Purge}
 use Rattle.pa_buckets.specs.declared.spans.State.TheVariants as state
-use Rattle.pa_record.specs.Spans.{Span, is_in, numbers, holds, number_in, latest, earliest, name_of}
+use Rattle.pa_record.specs.Spans.{Span, is_in, numbers, holds, number_in, latest, earliest, title_at, name_of}
 use Rattle.pa_record.specs.Root.{Root, new_root, opened, span_for, takes, all_returned, purged, empties, map_title, supers_for, mapped, unmapped, names, root_next, root_replayed, RootActFits, IsJournal, asked_by, IsOut, IsOutOf, IsTitleOut}
-use Rattle.pa_record.specs.Census.{count_in}
+use Rattle.pa_record.specs.Census.{count_in, census}
 use Rattle.pa_record.specs.Sound.{IsSound, IsSettled, IsBornBelow, AsksFrom, least_after_all, IsNext, titles_made, AreTitles}
 use Rattle.pa_record.specs.Steps.{IsLatest, IsEarliest, IsFilled, IsReturned, IsDecommittedTimes}
 
@@ -179,3 +179,24 @@ pub record SpansAreUsed : Type 0 where
   pub purge_keeps : (r : Root) → IsSound r → IsUsed r → IsUsed (purged r)
   pub journal : (pools : List PoolEntry) (journal : List RootEntry) → IsJournal pools journal → IsUsed (root_replayed pools journal new_root)
   pub counted : (r : Root) → IsUsed r → count_in state.Full r + count_in state.Active r + count_in state.Empty r + count_in state.Decommitted r ≡ length r.spans
+
+-- the names of a span's slots that are out, and of all slots and direct maps that are out of a root
+abbrev pub names_of : Span → List SlotName
+names_of s = map (λ n. name_of (title_at s n)) (out_of s)
+
+abbrev pub names_out : Root → List SlotName
+names_out r = flat_map names_of r.spans ++ map name_of r.maps
+
+-- how many slots of its spans were made
+abbrev pub slots_made : Root → ℕ
+slots_made r = sum_by (λ (s : Span). s.made) r.spans
+
+-- What is out is listed, each once; and the slots that a root keeps and those that are out are together the slots that
+-- were made and the direct maps that are mapped.
+pub record AddsUp (r : Root) : Type 0 where
+  pub out : (name : SlotName) → Contains (names_out r) name ↔ IsNameOut r name
+  pub once : AllPairs ◌≢◌ (names_out r)
+  pub counted : (census r).root.slots + length (names_out r) ≡ slots_made r + length r.maps
+
+abbrev pub RootAddsUp : Type 0
+RootAddsUp = (pools : List PoolEntry) (journal : List RootEntry) → IsJournal pools journal → AddsUp (root_replayed pools journal new_root)

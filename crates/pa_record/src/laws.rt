@@ -1,4 +1,4 @@
-ghost use Rattle.pa_record.specs.Laws.{TurnsChoose, OutIsOut, FillKeeps, ReturnKeeps, EntryKeeps, JournalLeaves, JournalGrows, EntryIsOne, TitlesAreAsked, OutIsLeft, CallsFit, SpansAreUsed};
+ghost use Rattle.pa_record.specs.Laws.{TurnsChoose, OutIsOut, FillKeeps, ReturnKeeps, EntryKeeps, JournalLeaves, JournalGrows, EntryIsOne, TitlesAreAsked, OutIsLeft, CallsFit, SpansAreUsed, RootAddsUp};
 ghost use Rattle.pa_record.specs.PoolLaws.{PoolIsSound, PoolGrows, PoolAnswers};
 ghost use Rattle.pa_record.specs.Worked.{IsWorked, short_fill_pool, short_fill_journal, short_fill_census, full_region_pool, full_region_journal, full_region_census, direct_map_again_pool, direct_map_again_journal, direct_map_again_census, cache_overflow_pool, cache_overflow_journal, cache_overflow_census, empty_ring_pool, empty_ring_journal, empty_ring_census, purge_pool, purge_journal, purge_census};
 
@@ -92,4 +92,10 @@ pub fn calls_fit()
 /// The law that each span of a root entered one of the four states, and that their counts add up to the spans.
 pub fn spans_are_used()
     ensures { SpansAreUsed }
+{}
+
+/// The law that the free slots which a root keeps and the slots and direct maps that are out of it are together the
+/// slots that were made and the direct maps that are mapped.
+pub fn root_adds_up()
+    ensures { RootAddsUp }
 {}

@@ -1,2 +1,13 @@
 pub mod Following
 pub mod Worked
+pub mod Counted
+pub mod Flowing
+pub mod Marking
+pub mod Running
+pub mod Owned
+pub mod ByLines
+pub mod Known
+pub mod Totals
+pub mod FourPlaces
+pub mod Phases
+pub mod Numbering

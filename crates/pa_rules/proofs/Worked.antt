@@ -1,16 +1,18 @@
 -- The caches of the worked purge.
-use Rattle.std.proofs.Common.{◌≡◌, ℕ, zero, suc, ◌<◌, List, [], ◌∷◌, Some, None, refl, arith, inl, lit<}
+use Rattle.std.proofs.Common.{◌≡◌, ℕ, zero, suc, ◌<◌, List, [], ◌∷◌, length, Some, None, refl, arith, inl, lit<}
 use Rattle.pa_machine.specs.declared.word.Step.TheVariants as steps
-use Rattle.pa_buckets.specs.Table.{rows, row_of, slot_of}
-use Rattle.pa_buckets.specs.Bands.{limit_of}
+use Rattle.pa_buckets.specs.Table.{rows, row_of, slot_of, pages_of, slots_of}
+use Rattle.pa_buckets.specs.Bands.{limit_of, fill_of}
 use Rattle.pa_buckets.specs.Classes.{IsClassOf}
 use Rattle.pa_trace.specs.declared.script.Op.TheVariants as ops
 use Rattle.pa_record.specs.declared.entry.Answer.TheVariants as answers
 use Rattle.pa_record.specs.declared.numbered.Numbered.{Numbered}
-use Rattle.pa_record.specs.Worked.{purge_journal, slots, fill}
+use Rattle.pa_record.specs.Worked.{purge_pool, purge_journal, slots, fill}
+use Rattle.pa_record.specs.Root.{new_root, root_replayed}
+use Rattle.pa_record.specs.Laws.{names_out, slots_made}
 use Rattle.pa_rules.specs.Roots.{Journals, journal_at}
 use Rattle.pa_rules.specs.Caches.{Cache, with_list, acts_of, purge_acts, MadeRow, DoneRow, no_caches}
-use Rattle.pa_rules.specs.Worked.{first_slot, played, PurgeIsCached}
+use Rattle.pa_rules.specs.Worked.{first_slot, played, PurgeIsCached, IsCountedAs, PurgeIsCounted}
 
 -- a request of 8 bytes is of class 0
 class_0 : IsClassOf 16 0
@@ -67,3 +69,21 @@ purge_is_cached = (
   _,
   (after_made, made_first, (after_free, freed, (after_purge, (purged_acts, refl, λ p c. refl), (after_again, made_again, refl)))),
 )
+
+-- the counts of that run
+first_counted : IsCountedAs (record { start = 16384; born = 0 }) 2 1 2 1
+first_counted = record { issues = refl; backs = refl; lefts = refl; returns = refl }
+
+second_counted : IsCountedAs (record { start = 16400; born = 0 }) 0 1 2 0
+second_counted = record { issues = refl; backs = refl; lefts = refl; returns = refl }
+
+eight_out : length (names_out (root_replayed purge_pool purge_journal new_root)) ≡ 8
+unfolding rows row_of slot_of pages_of slots_of fill_of
+eight_out = refl
+
+all_made : slots_made (root_replayed purge_pool purge_journal new_root) ≡ 256
+unfolding rows row_of slot_of pages_of slots_of fill_of
+all_made = refl
+
+pub purge_is_counted : PurgeIsCounted
+purge_is_counted = record { first = first_counted; second = second_counted; out = eight_out; made = all_made }

@@ -1,8 +1,16 @@
--- The laws of titles and super pages over all partitions.
-use Rattle.std.specs.Prelude.{◌≡◌, ℕ, List, Some, slice_get}
+-- The laws of titles and super pages over all partitions, and of the report.
+use Rattle.std.specs.Prelude.{◌≡◌, ◌≢◌, ℕ, ◌+◌, ◌<◌, List, length, All, AllPairs, Some, slice_get}
+use Rattle.pa_trace.specs.declared.script.Line.{Line}
 use Rattle.pa_record.specs.declared.pool.PoolEntry.{PoolEntry}
-use Rattle.pa_rules.specs.Played.{Played}
+use Rattle.pa_machine.specs.Run.{Slots}
+use Rattle.pa_record.specs.declared.report.ReportLine.{ReportLine}
+use Rattle.pa_record.specs.declared.root.RootEntry.{RootEntry}
+use Rattle.pa_record.specs.Root.{new_root, root_replayed}
+use Rattle.pa_record.specs.Laws.{slots_made}
+use Rattle.pa_rules.specs.Played.{Played, AreLines, marks_of}
 use Rattle.pa_rules.specs.Roots.{Journals, AreRoots, IsPoolOf, Names, AreAllTitles}
+use Rattle.pa_rules.specs.Report.{IsReportLine, AreUntil}
+use Rattle.pa_rules.specs.Flow.{IsInPhases}
 
 -- Titles lie apart: it follows from the journals and the pool. And an entry of the pool that a journal names is one of its
 -- own partition; so, as no super page is in two runs that are taken, a partition's super pages are its own.
@@ -11,3 +19,19 @@ pub record TitlesFollow : Type 0 where
       AreRoots partitions ps pools roots → IsPoolOf supers ps pools roots → AreAllTitles pools roots
   pub own : (supers : ℕ) (ps : List Played) (pools : List PoolEntry) (roots : Journals) (p i j : ℕ) (e : PoolEntry) →
       IsPoolOf supers ps pools roots → Names roots p i j → slice_get pools j ≡ Some e → e.partition ≡ p
+
+-- each record of a trace has a line of its own
+abbrev pub LinesDiffer : Type 0
+LinesDiffer = (ls : List Line) (ps : List Played) → AreLines ls ps → AllPairs (λ (x y : Played). x.line ≢ y.line) ps
+
+-- The four places of a line of the report add up, where each record's line is its own and each slot's steps are one run,
+-- in the order of the phases: live, quarantined and cached slots and those with the root are together the slots that were
+-- made and the direct maps that are mapped at the end of the phase.
+abbrev pub PlacesAddUp : Type 0
+PlacesAddUp =
+    (supers partitions threads : ℕ) (ps : List Played) (pools : List PoolEntry) (roots : Journals) (l : ReportLine) (before : List RootEntry) →
+    AreRoots partitions ps pools roots → IsPoolOf supers ps pools roots → AllPairs (λ (x y : Played). x.line ≢ y.line) ps →
+    All (λ (x : Played). x.thread < threads) ps → Slots (marks_of ps) → IsInPhases ps → l.partition < partitions →
+    IsReportLine partitions threads ps pools roots l → AreUntil ps l.phase (roots l.partition) before →
+    l.live.slots + l.quarantined.slots + l.cached.slots + l.root.slots
+    ≡ slots_made (root_replayed pools before new_root) + length (root_replayed pools before new_root).maps

@@ -6,6 +6,7 @@ pub mod Plain
 pub mod Roots
 pub mod Holders
 pub mod Caches
+pub mod Flow
 pub mod Report
 pub mod Laws
 pub mod Worked

@@ -1,5 +1,6 @@
-ghost use Rattle.pa_rules.specs.Laws.{TitlesFollow};
-ghost use Rattle.pa_rules.specs.Worked.{PurgeIsCached};
+ghost use Rattle.pa_rules.specs.Flow.{CachesKeep, IssuesReturn, RunsUntil};
+ghost use Rattle.pa_rules.specs.Laws.{LinesDiffer, PlacesAddUp, TitlesFollow};
+ghost use Rattle.pa_rules.specs.Worked.{PurgeIsCached, PurgeIsCounted};
 
 /// The law that titles of one entry of the pool are equal or share no byte over all partitions, and that the entries of
 /// the pool which a partition's journal names are its own.
@@ -10,4 +11,37 @@ pub fn titles_follow()
 /// The caches of a run that was worked out by hand are those that the definitions give.
 pub fn worked_caches_fit()
     ensures { PurgeIsCached }
+{}
+
+/// The law that a slot stands in the caches, was issued or came back to the root as often as it left the root and was
+/// returned.
+pub fn caches_keep()
+    ensures { CachesKeep }
+{}
+
+/// The law that a slot was issued as often as it was returned, and once more where it isn't free.
+pub fn issues_return()
+    ensures { IssuesReturn }
+{}
+
+/// The law that each record of a trace has a line of its own.
+pub fn lines_differ()
+    ensures { LinesDiffer }
+{}
+
+/// The law that the four places of a report's line, in slots, add up to the slots that were made and the direct maps that
+/// are mapped at the end of its phase.
+pub fn places_add_up()
+    ensures { PlacesAddUp }
+{}
+
+/// The law that the records up to the end of a phase have one run for each slot, where all records have and none of a
+/// later phase found a lower number than one of an earlier phase left.
+pub fn runs_until()
+    ensures { RunsUntil }
+{}
+
+/// The counts of a run that was worked out by hand are those that the definitions give.
+pub fn worked_counts_fit()
+    ensures { PurgeIsCounted }
 {}

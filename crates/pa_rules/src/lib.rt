@@ -6,6 +6,9 @@ mod laws;
 mod register;
 mod slot_word;
 
-pub use laws::{titles_follow, worked_caches_fit};
+pub use laws::{
+    caches_keep, issues_return, lines_differ, places_add_up, runs_until, titles_follow,
+    worked_caches_fit, worked_counts_fit,
+};
 pub use register::Reg;
 pub use slot_word::SlotWord;

@@ -1,0 +1,167 @@
+-- What a journal's entries weigh is what those on the lines of the records weigh, as each entry's line is one record's.
+use Rattle.std.proofs.Common.{◌≡◌, ℕ, ◌+◌, Bool, cond, List, [], ◌∷◌, ◌++◌, map, filter, refl, sym, ◌∙◌, ap, arith, inl, inr}
+use Rattle.std.specs.Prelude.{Contains, AllPairs, ◌==◌, nat_le}
+use Rattle.std.proofs.lemmas.Bool.{cases_Bool, eq-eqb, ne_eqb, le-leb, leb-true}
+use Rattle.std.proofs.lemmas.List.Elements.{All-contains}
+use Rattle.std.proofs.lemmas.List.Kept.{AllPairs-filter}
+use Rattle.pa_machine.specs.declared.word.SlotName.{SlotName}
+use Rattle.pa_record.specs.declared.root.RootEntry.{RootEntry}
+use Rattle.pa_record.specs.declared.root.RootAct.{RootAct}
+use Rattle.pa_record.specs.Laws.{times, leaves_by, comes_by, times_left, times_back}
+use Rattle.pa_record.proofs.Members.{not_in_none, first_in, later_in, in_cases}
+use Rattle.pa_record.proofs.Pairs.{pairs_head, pairs_tail}
+use Rattle.pa_record.proofs.Joined.{filter_cases, filter_in}
+use Rattle.pa_rules.specs.Played.{Played}
+use Rattle.pa_rules.specs.Roots.{Journals}
+use Rattle.pa_rules.specs.Caches.{acts_of}
+use Rattle.pa_rules.specs.Report.{until, AreUntil, InPhases, PastPhases}
+use Rattle.pa_rules.specs.Flow.{left_in, back_in, left_on, back_on}
+use Rattle.pa_rules.proofs.Running.{OtherRecord}
+
+-- the weights of acts, of entries, and of what the lines of records have
+abbrev weigh : (RootAct → ℕ) → List RootAct → ℕ
+weigh f [] = 0
+weigh f (a ∷ acts) = f a + weigh f acts
+
+abbrev weight : (RootAct → ℕ) → List RootEntry → ℕ
+weight f [] = 0
+weight f (e ∷ es) = f e.act + weight f es
+
+abbrev over : (ℕ → ℕ) → List Played → ℕ
+over g [] = 0
+over g (x ∷ xs) = g x.line + over g xs
+
+abbrev acts_at : List RootEntry → ℕ → List RootAct
+acts_at es line = map (λ (e : RootEntry). e.act) (filter (λ (e : RootEntry). e.line == line) es)
+
+abbrev here : (RootAct → ℕ) → RootEntry → ℕ → ℕ
+here f e line = cond (e.line == line) (f e.act) 0
+
+one_more : (f : RootAct → ℕ) (e : RootEntry) (es : List RootEntry) (line : ℕ) → weigh f (acts_at (e ∷ es) line) ≡ here f e line + weigh f (acts_at es line)
+one_more f e es line = elim (cases_Bool (e.line == line)) [
+  | inl hit ↦ rw hit refl
+  | inr miss ↦ rw miss (omega arith)
+]
+
+over_add : (g h k : ℕ → ℕ) (xs : List Played) → ((n : ℕ) → g n ≡ h n + k n) → over g xs ≡ over h xs + over k xs
+over_add g h k [] e = refl
+over_add g h k (x ∷ xs) e =
+    let a = e x.line in
+    let ih = over_add g h k xs e in
+    omega arith
+
+over_none : (g : ℕ → ℕ) (xs : List Played) → ((x : Played) → Contains xs x → g x.line ≡ 0) → over g xs ≡ 0
+over_none g [] h = refl
+over_none g (x ∷ xs) h =
+    let a = h x (first_in x xs) in
+    let ih = over_none g xs (λ y among. h y (later_in x y xs among)) in
+    omega arith
+
+here_hit : (f : RootAct → ℕ) (e : RootEntry) (line : ℕ) → e.line ≡ line → here f e line ≡ f e.act
+here_hit f e line same = rw (eq-eqb e.line line same) refl
+
+here_miss : (f : RootAct → ℕ) (e : RootEntry) (line : ℕ) → (e.line ≡ line → ⊥) → here f e line ≡ 0
+here_miss f e line other = rw (ne_eqb e.line line other) refl
+
+over_hit : (f : RootAct → ℕ) (e : RootEntry) (xs : List Played) (x : Played) → AllPairs OtherRecord xs → Contains xs x → e.line ≡ x.line → over (here f e) xs ≡ f e.act
+over_hit f e [] x h among same = absurd (not_in_none x among)
+over_hit f e (y ∷ ys) x h among same = elim (in_cases y x ys among) [
+  | inl i ↦
+      let at : e.line ≡ y.line = same ∙ ap (λ (z : Played). z.line) (sym i) in
+      let a = here_hit f e y.line at in
+      let rest = over_none (here f e) ys (λ z member. here_miss f e z.line (λ there. pairs_head OtherRecord y z ys h member (sym at ∙ there))) in
+      omega arith
+  | inr after ↦
+      let a = here_miss f e y.line (λ there. pairs_head OtherRecord y x ys h after (sym there ∙ same)) in
+      let ih = over_hit f e ys x (pairs_tail OtherRecord y ys h) after same in
+      omega arith
+]
+
+-- the entries of a list have the line of one of these records each, those behind it of none
+by_lines : (f : RootAct → ℕ) (es rest : List RootEntry) (xs : List Played) → AllPairs OtherRecord xs → ((e : RootEntry) → Contains es e → (x : Played) × Contains xs x × (e.line ≡ x.line))
+    → ((e : RootEntry) (x : Played) → Contains rest e → Contains xs x → e.line ≡ x.line → ⊥) → over (λ line. weigh f (acts_at (es ++ rest) line)) xs ≡ weight f es
+by_lines f [] [] xs h each none = over_none (λ line. 0) xs (λ x among. refl)
+by_lines f [] (e ∷ rest) xs h each none =
+    let a = over_add (λ line. weigh f (acts_at (e ∷ rest) line)) (here f e) (λ line. weigh f (acts_at rest line)) xs (one_more f e rest) in
+    let b = over_none (here f e) xs (λ x among. here_miss f e x.line (none e x (first_in e rest) among)) in
+    let ih = by_lines f [] rest xs h each (λ g x member. none g x (later_in e g rest member)) in
+    omega arith
+by_lines f (e ∷ es) rest xs h each none =
+    let a = over_add (λ line. weigh f (acts_at ((e ∷ es) ++ rest) line)) (here f e) (λ line. weigh f (acts_at (es ++ rest) line)) xs (one_more f e (es ++ rest)) in
+    let (x, among, same) = each e (first_in e es) in
+    let b = over_hit f e xs x h among same in
+    let ih = by_lines f es rest xs h (λ g member. each g (later_in e g es member)) none in
+    omega arith
+
+-- one line has one record
+pub same_record : (xs : List Played) (x y : Played) → AllPairs OtherRecord xs → Contains xs x → Contains xs y → x.line ≡ y.line → x ≡ y
+same_record [] x y h first second e = absurd (not_in_none x first)
+same_record (z ∷ zs) x y h first second e = elim (in_cases z x zs first) [
+  | inl f ↦ elim (in_cases z y zs second) [
+    | inl g ↦ sym f ∙ g
+    | inr rest ↦ absurd (pairs_head OtherRecord z y zs h rest (ap (λ (w : Played). w.line) f ∙ e))
+  ]
+  | inr rest ↦ elim (in_cases z y zs second) [
+    | inl g ↦ absurd (pairs_head OtherRecord z x zs h rest (ap (λ (w : Played). w.line) g ∙ sym e))
+    | inr after ↦ same_record zs x y (pairs_tail OtherRecord z zs h) rest after e
+  ]
+]
+
+abbrev pub is_until : ℕ → Played → Bool
+is_until phase x = nat_le x.phase phase
+
+until_weighs : (f : RootAct → ℕ) (ps : List Played) (phase : ℕ) (journal before : List RootEntry) → AllPairs OtherRecord ps → AreUntil ps phase journal before →
+    over (λ line. weigh f (acts_at journal line)) (until phase ps) ≡ weight f before
+until_weighs f ps phase journal before h u =
+    ap (λ es. over (λ line. weigh f (acts_at es line)) (until phase ps)) u.parts
+    ∙ by_lines f before u.rest (until phase ps) (AllPairs-filter OtherRecord (is_until phase) ps h)
+    (λ e among.
+    let (x, of, low) = All-contains (InPhases ps phase) before e u.in_phases among in
+    (x, filter_in (is_until phase) ps x of.0 (le-leb _ _ low), sym of.1))
+    (λ e x among member same.
+    let (y, of, high) = All-contains (PastPhases ps phase) u.rest e u.past_phases among in
+    let (there, low) = filter_cases (is_until phase) ps x member in
+    let one = same_record ps y x h of.0 there (of.1 ∙ same) in
+    let phases : y.phase ≡ x.phase = ap (λ (z : Played). z.phase) one in
+    let up = leb-true _ _ low in
+    omega arith)
+
+-- ---- how often a slot leaves and comes back
+
+abbrev leaving : SlotName → RootAct → ℕ
+leaving s a = times s (leaves_by a)
+
+abbrev coming : SlotName → RootAct → ℕ
+coming s a = times s (comes_by a)
+
+left_weighs : (s : SlotName) (acts : List RootAct) → left_in s acts ≡ weigh (leaving s) acts
+left_weighs s [] = refl
+left_weighs s (a ∷ acts) = ap (λ n. leaving s a + n) (left_weighs s acts)
+
+back_weighs : (s : SlotName) (acts : List RootAct) → back_in s acts ≡ weigh (coming s) acts
+back_weighs s [] = refl
+back_weighs s (a ∷ acts) = ap (λ n. coming s a + n) (back_weighs s acts)
+
+left_over : (s : SlotName) (roots : Journals) (p : ℕ) (xs : List Played) → left_on s roots p xs ≡ over (λ line. weigh (leaving s) (acts_of roots line p)) xs
+left_over s roots p [] = refl
+left_over s roots p (x ∷ xs) = let a = left_weighs s (acts_of roots x.line p) in let ih = left_over s roots p xs in omega arith
+
+back_over : (s : SlotName) (roots : Journals) (p : ℕ) (xs : List Played) → back_on s roots p xs ≡ over (λ line. weigh (coming s) (acts_of roots line p)) xs
+back_over s roots p [] = refl
+back_over s roots p (x ∷ xs) = let a = back_weighs s (acts_of roots x.line p) in let ih = back_over s roots p xs in omega arith
+
+left_times : (s : SlotName) (es : List RootEntry) → weight (leaving s) es ≡ times_left s es
+left_times s [] = refl
+left_times s (e ∷ es) = ap (λ n. leaving s e.act + n) (left_times s es)
+
+back_times : (s : SlotName) (es : List RootEntry) → weight (coming s) es ≡ times_back s es
+back_times s [] = refl
+back_times s (e ∷ es) = ap (λ n. coming s e.act + n) (back_times s es)
+
+pub left_until : (s : SlotName) (ps : List Played) (roots : Journals) (p phase : ℕ) (before : List RootEntry) → AllPairs OtherRecord ps → AreUntil ps phase (roots p) before →
+    left_on s roots p (until phase ps) ≡ times_left s before
+left_until s ps roots p phase before h u = left_over s roots p (until phase ps) ∙ until_weighs (leaving s) ps phase (roots p) before h u ∙ left_times s before
+
+pub back_until : (s : SlotName) (ps : List Played) (roots : Journals) (p phase : ℕ) (before : List RootEntry) → AllPairs OtherRecord ps → AreUntil ps phase (roots p) before →
+    back_on s roots p (until phase ps) ≡ times_back s before
+back_until s ps roots p phase before h u = back_over s roots p (until phase ps) ∙ until_weighs (coming s) ps phase (roots p) before h u ∙ back_times s before

@@ -1,0 +1,35 @@
+-- A record's mark has the record's line.
+use Rattle.std.proofs.Common.{◌≡◌, ℕ, Option, Some, None, ap, sym}
+use Rattle.pa_machine.specs.Run.{Mark}
+use Rattle.pa_trace.specs.declared.script.Op.{Op}
+use Rattle.pa_record.specs.declared.entry.Seen.{Seen}
+use Rattle.pa_record.specs.declared.entry.Answer.{Answer}
+use Rattle.pa_record.specs.declared.entry.Answer.TheVariants as answers
+use Rattle.pa_record.proofs.Members.{of_some, not_some}
+use Rattle.pa_rules.specs.Played.{Played, mark_of, mark_of_answer, mark_at, look_at, step_of}
+
+look_line : (line : ℕ) (o : Option Seen) (m : Mark) → look_at line o ≡ Some m → m.line ≡ line
+look_line line None m e = absurd (not_some m e)
+look_line line (Some seen) m e = ap (λ (z : Mark). z.line) (sym (of_some (mark_at line seen None) m e))
+
+answer_line : (line : ℕ) (op : Op) (a : Answer) (m : Mark) → mark_of_answer line op a ≡ Some m → m.line ≡ line
+answer_line line op (answers.Made seen usable) m e = ap (λ (z : Mark). z.line) (sym (of_some _ m e))
+answer_line line op (answers.Done seen) m e = ap (λ (z : Mark). z.line) (sym (of_some (mark_at line seen (step_of op)) m e))
+answer_line line op (answers.Value seen value) m e = look_line line (Some seen) m e
+answer_line line op (answers.Dangling seen value) m e = look_line line (Some seen) m e
+answer_line line op (answers.SecondFree seen) m e = look_line line seen m e
+answer_line line op (answers.NotOwner seen) m e = look_line line (Some seen) m e
+answer_line line op answers.StaleReset m e = absurd (not_some m e)
+answer_line line op (answers.StaleUse seen) m e = look_line line seen m e
+answer_line line op answers.Nothing m e = absurd (not_some m e)
+answer_line line op answers.Filled m e = absurd (not_some m e)
+answer_line line op answers.NotRef m e = absurd (not_some m e)
+answer_line line op (answers.Shared seen) m e = look_line line (Some seen) m e
+answer_line line op answers.OutOfRange m e = absurd (not_some m e)
+answer_line line op answers.TooLarge m e = absurd (not_some m e)
+answer_line line op (answers.Full entry) m e = absurd (not_some m e)
+answer_line line op (answers.Swapped entry) m e = absurd (not_some m e)
+answer_line line op (answers.Purged slots) m e = absurd (not_some m e)
+
+pub mark_line : (x : Played) (m : Mark) → mark_of x ≡ Some m → m.line ≡ x.line
+mark_line x m e = answer_line x.line x.op x.answer m e
