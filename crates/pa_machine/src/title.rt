@@ -3,7 +3,7 @@ ghost use Rattle.pa_machine.specs.Titles.{content_count, count_place, progress, 
 
 /// A title: the bytes `start` to `start + len - 1` as one slot, its last 8 bytes the count word and those before it
 /// the content words. `born` tells apart titles that use the same bytes one after the other.
-#[derive(Clone, Copy, Debug, PartialEq, Eq)]
+#[derive(Clone, Copy, Debug, PartialEq, Eq, Default)]
 pub struct Title {
     pub start: u32,
     pub len: u32,
