@@ -9,6 +9,10 @@ pub record Stream : Type 0 where
   pub told : Option (List ℕ)
   pub faults : ℕ
 
+-- a source or a sink that tells this, after so many faults
+abbrev pub stream_of : Option (List ℕ) → ℕ → Stream
+stream_of told faults = record { told = told; faults = faults }
+
 -- the words, and what source and sink tell before the call and after it
 pub record Call : Type 0 where
   pub words : List (List ℕ)
@@ -16,6 +20,16 @@ pub record Call : Type 0 where
   pub source_after : Stream
   pub sink : Stream
   pub sink_after : Stream
+
+-- the call with these words, this source and this sink, each as it was before and as it is after
+abbrev pub call_of : List (List ℕ) → Stream → Stream → Stream → Stream → Call
+call_of words source source_after sink sink_after = record {
+  words = words;
+  source = source;
+  source_after = source_after;
+  sink = sink;
+  sink_after = sink_after;
+}
 
 -- nothing was read: the source is as it was
 abbrev pub KeepsSource : Call → Type 0

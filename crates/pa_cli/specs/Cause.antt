@@ -92,3 +92,12 @@ abbrev pub Refuses : Status → Call → Type 0
 Refuses status c =
     (bytes : List ℕ) (fault : TraceFault) → IsModel c.words → c.source.told ≡ Some bytes → IsFirstFault fault bytes → HasNoReadFault c
     → (status ≡ status_of_trace fault) ⊎ (status ≡ OutOfMemory)
+
+-- the call is right: its status has its cause, nothing is read but for `model`, the commands that read nothing answer, a
+-- good input completes, and a faulty one is refused
+pub record IsRightCall (status : Status) (c : Call) : Type 0 where
+  pub cause : Caused status c
+  pub reads : ReadsForModel c
+  pub answers : Answers status c
+  pub completes : Completes status c
+  pub refuses : Refuses status c

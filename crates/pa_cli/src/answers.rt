@@ -3,13 +3,10 @@ ghost use Rattle.pa_cli.specs.LayoutText.{IsLayoutText, class_line, direct_line}
 ghost use Rattle.pa_cli.specs.HelpText.{help_text, version_text};
 
 use pa_buckets::{Class, class_of, raw_of, slot_size, span_of};
-use pa_direct::{Shape, shape};
+use pa_direct::{GREATEST_SIZE, Shape, shape};
 use pa_machine::OutOfMemory;
 use pa_text::{push_bytes, push_number};
 use std::alloc::Global;
-
-// A request above this many bytes is too large.
-const LARGEST: u32 = 33_521_656;
 
 // The most bytes of a line of `layout`, for the room that is made ahead.
 const LINE_BYTES: usize = 80;
@@ -62,7 +59,7 @@ pub fn write_layout(alloc: Global, size: u32) -> Result<Vec<u8>, OutOfMemory>
     ensures { IfOk result (λ text. IsLayoutText size text.items) }
 {
     let mut out = Vec::with_capacity(alloc, LINE_BYTES)?;
-    if size > LARGEST {
+    if size > GREATEST_SIZE {
         push_bytes(&mut out, b"too-large\n")?;
     } else if let Some(class) = class_of(raw_of(size)) {
         push_class(&mut out, class)?;

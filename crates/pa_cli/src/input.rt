@@ -1,7 +1,7 @@
 ghost use Rattle.std.specs.Prelude.{◌≡◌, ℕ, ◌+◌, ◌<◌, ◌≤◌, List, ◌++◌, Err, length, take, vec_len, IfOk, OnOk, OnErr};
 ghost use Rattle.std.specs.Io.KnownBytes.{Consumes};
 ghost use Rattle.pa_io.specs.Moves.{Moves, HasRisen};
-ghost use Rattle.pa_cli.specs.Call.{IsRead, HasGiven};
+ghost use Rattle.pa_cli.specs.Call.{IsRead, HasGiven, stream_of};
 ghost use Rattle.pa_cli.specs.declared.input.InputFault.TheVariants.{ReadFault, OutOfMemory};
 
 use pa_io::{Failed, Source};
@@ -47,11 +47,11 @@ impl<T: Drop> From<AllocFailed<T>> for InputFault {
 // Reads the input: to its end, or to one byte past the most that it may have.
 pub fn read_input<S: Source>(alloc: Global, source: &mut S) -> Result<Vec<u8>, InputFault>
     ensures read { IfOk result (λ input. IsRead
-        (record { told = S.left source.old; faults = S.faults source.old })
-        (record { told = S.left source.new; faults = S.faults source.new }) input.items) }
+        (stream_of (S.left source.old) (S.faults source.old))
+        (stream_of (S.left source.new) (S.faults source.new)) input.items) }
     ensures given { OnErr result ((bytes : List ℕ) × HasGiven
-        (record { told = S.left source.old; faults = S.faults source.old })
-        (record { told = S.left source.new; faults = S.faults source.new }) bytes) }
+        (stream_of (S.left source.old) (S.faults source.old))
+        (stream_of (S.left source.new) (S.faults source.new)) bytes) }
     ensures cause { result ≡ Err InputFault.ReadFault → HasRisen (S.faults source.old) (S.faults source.new) }
     ensures calm { result ≡ Err InputFault.OutOfMemory → S.faults source.new ≡ S.faults source.old }
 {

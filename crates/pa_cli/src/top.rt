@@ -1,6 +1,7 @@
 ghost use Rattle.std.specs.Prelude.{◌≡◌, ◌↔◌, map, string_bytes, IfOk, IfErr};
+ghost use Rattle.pa_cli.specs.Call.{call_of, stream_of};
 ghost use Rattle.pa_cli.specs.Command.{IsCommand};
-ghost use Rattle.pa_cli.specs.Cause.{Caused, ReadsForModel, Answers, Completes, Refuses, IsRefusal};
+ghost use Rattle.pa_cli.specs.Cause.{Caused, ReadsForModel, IsRightCall, IsRefusal};
 ghost use Rattle.pa_cli.specs.Output.{IsOutputOf, IsModelOutput, IsPlayedText, IsRunText};
 ghost use Rattle.pa_cli.specs.declared.command.Command.TheVariants as Command;
 ghost use Rattle.pa_trace.specs.Faults.{IsFault};
@@ -29,44 +30,11 @@ pub fn run<S: Source, K: Sink>(
     // The words alone decide on the command.
     ensures command { result ≡ Status.BadCommand ↔ ¬ IsCommand (map string_bytes words.now) }
 
-    // Each status has its cause, and leaves source and sink as that cause says.
-    ensures cause { Caused result (record {
-      words = map string_bytes words.now;
-      source = record { told = S.left source.old; faults = S.faults source.old };
-      source_after = record { told = S.left source.new; faults = S.faults source.new };
-      sink = record { told = K.written sink.old; faults = K.faults sink.old };
-      sink_after = record { told = K.written sink.new; faults = K.faults sink.new };
-    }) }
-
-    // Only `model` reads. A good input is played, and a faulty one refused; the other commands answer.
-    ensures reads { ReadsForModel (record {
-      words = map string_bytes words.now;
-      source = record { told = S.left source.old; faults = S.faults source.old };
-      source_after = record { told = S.left source.new; faults = S.faults source.new };
-      sink = record { told = K.written sink.old; faults = K.faults sink.old };
-      sink_after = record { told = K.written sink.new; faults = K.faults sink.new };
-    }) }
-    ensures answers { Answers result (record {
-      words = map string_bytes words.now;
-      source = record { told = S.left source.old; faults = S.faults source.old };
-      source_after = record { told = S.left source.new; faults = S.faults source.new };
-      sink = record { told = K.written sink.old; faults = K.faults sink.old };
-      sink_after = record { told = K.written sink.new; faults = K.faults sink.new };
-    }) }
-    ensures completes { Completes result (record {
-      words = map string_bytes words.now;
-      source = record { told = S.left source.old; faults = S.faults source.old };
-      source_after = record { told = S.left source.new; faults = S.faults source.new };
-      sink = record { told = K.written sink.old; faults = K.faults sink.old };
-      sink_after = record { told = K.written sink.new; faults = K.faults sink.new };
-    }) }
-    ensures refuses { Refuses result (record {
-      words = map string_bytes words.now;
-      source = record { told = S.left source.old; faults = S.faults source.old };
-      source_after = record { told = S.left source.new; faults = S.faults source.new };
-      sink = record { told = K.written sink.old; faults = K.faults sink.old };
-      sink_after = record { told = K.written sink.new; faults = K.faults sink.new };
-    }) }
+    // The status has its cause, and leaves source and sink as that cause says. Only `model` reads. A good input is played,
+    // and a faulty one refused; the other commands answer.
+    ensures call { IsRightCall result (call_of (map string_bytes words.now)
+        (stream_of (S.left source.old) (S.faults source.old)) (stream_of (S.left source.new) (S.faults source.new))
+        (stream_of (K.written sink.old) (K.faults sink.old)) (stream_of (K.written sink.new) (K.faults sink.new))) }
 {
     answer(alloc, words, source, sink)
 }
@@ -79,20 +47,12 @@ fn answer<S: Source, K: Sink>(
     sink: &mut K,
 ) -> Status
     ensures command { result ≡ Status.BadCommand ↔ ¬ IsCommand (map string_bytes words.now) }
-    ensures cause { Caused result (record {
-      words = map string_bytes words.now;
-      source = record { told = S.left source.old; faults = S.faults source.old };
-      source_after = record { told = S.left source.new; faults = S.faults source.new };
-      sink = record { told = K.written sink.old; faults = K.faults sink.old };
-      sink_after = record { told = K.written sink.new; faults = K.faults sink.new };
-    }) }
-    ensures reads { ReadsForModel (record {
-      words = map string_bytes words.now;
-      source = record { told = S.left source.old; faults = S.faults source.old };
-      source_after = record { told = S.left source.new; faults = S.faults source.new };
-      sink = record { told = K.written sink.old; faults = K.faults sink.old };
-      sink_after = record { told = K.written sink.new; faults = K.faults sink.new };
-    }) }
+    ensures cause { Caused result (call_of (map string_bytes words.now)
+        (stream_of (S.left source.old) (S.faults source.old)) (stream_of (S.left source.new) (S.faults source.new))
+        (stream_of (K.written sink.old) (K.faults sink.old)) (stream_of (K.written sink.new) (K.faults sink.new))) }
+    ensures reads { ReadsForModel (call_of (map string_bytes words.now)
+        (stream_of (S.left source.old) (S.faults source.old)) (stream_of (S.left source.new) (S.faults source.new))
+        (stream_of (K.written sink.old) (K.faults sink.old)) (stream_of (K.written sink.new) (K.faults sink.new))) }
 {
     let Some(command) = Command::of(words) else {
         return Status::BadCommand;
@@ -109,11 +69,11 @@ fn answer<S: Source, K: Sink>(
 // The output of a command.
 fn output_of<S: Source>(alloc: Global, command: Command, source: &mut S) -> Result<Vec<u8>, Status>
     ensures text { IfOk result (λ text. IsOutputOf command
-        (record { told = S.left source.old; faults = S.faults source.old })
-        (record { told = S.left source.new; faults = S.faults source.new }) text.items) }
+        (stream_of (S.left source.old) (S.faults source.old))
+        (stream_of (S.left source.new) (S.faults source.new)) text.items) }
     ensures refusal { IfErr result (λ status. IsRefusal status command
-        (record { told = S.left source.old; faults = S.faults source.old })
-        (record { told = S.left source.new; faults = S.faults source.new })) }
+        (stream_of (S.left source.old) (S.faults source.old))
+        (stream_of (S.left source.new) (S.faults source.new))) }
     ensures unread { (command ≡ Command.Model → ⊥) → (S.left source.new ≡ S.left source.old) × (S.faults source.new ≡ S.faults source.old) }
 {
     match command {
@@ -128,11 +88,11 @@ fn output_of<S: Source>(alloc: Global, command: Command, source: &mut S) -> Resu
 #[tactic(auto, using(crate::proofs::Refusing::trace_refused))]
 fn model<S: Source>(alloc: Global, source: &mut S) -> Result<Vec<u8>, Status>
     ensures text { IfOk result (λ text. IsModelOutput
-        (record { told = S.left source.old; faults = S.faults source.old })
-        (record { told = S.left source.new; faults = S.faults source.new }) text.items) }
+        (stream_of (S.left source.old) (S.faults source.old))
+        (stream_of (S.left source.new) (S.faults source.new)) text.items) }
     ensures refusal { IfErr result (λ status. IsRefusal status Command.Model
-        (record { told = S.left source.old; faults = S.faults source.old })
-        (record { told = S.left source.new; faults = S.faults source.new })) }
+        (stream_of (S.left source.old) (S.faults source.old))
+        (stream_of (S.left source.new) (S.faults source.new))) }
 {
     let input = read_input(alloc, source)?;
     Ok(played_text(alloc, input.as_slice())?)

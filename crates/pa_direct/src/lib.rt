@@ -9,4 +9,4 @@ mod sizes;
 
 pub use laws::shapes_leave_room;
 pub use maps::Shape;
-pub use sizes::shape;
+pub use sizes::{GREATEST_SIZE, shape};

@@ -4,8 +4,8 @@ ghost use Rattle.pa_direct.specs.Shapes.{shape_of};
 use crate::maps::Shape;
 use pa_layout::{PARTITION_PAGE, SUPER_PAGE, SYSTEM_PAGE};
 
-// The greatest request that is served, in bytes: with it the slot and its guards fill 16 super pages.
-const GREATEST: u32 = 33521656;
+/// The greatest request that is served, in bytes: with it the slot and its guards fill 16 super pages.
+pub const GREATEST_SIZE: u32 = 33_521_656;
 
 // Bytes of a count word.
 const COUNT_WORD: u32 = 8;
@@ -18,7 +18,7 @@ pub fn shape(size: u32) -> Option<Shape>
     ensures refused { IsNone result ↔ (33521656 < size) }
     ensures shape { IfSome result (λ s. s ≡ shape_of size) }
 {
-    if size > GREATEST {
+    if size > GREATEST_SIZE {
         return None;
     }
     let slot = (size + COUNT_WORD).div_ceil(SYSTEM_PAGE) * SYSTEM_PAGE;

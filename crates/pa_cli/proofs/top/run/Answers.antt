@@ -1,11 +1,11 @@
 use Rattle.pa_cli.proofs.Ending.{caused_answers, caused_completes, caused_refuses}
 use Rattle.pa_cli.proofs.top.run.Goals as goal
 
-pub returns-clause-answers : goal.returns-clause-answers
-returns-clause-answers g c = caused_answers _ _ c.answer.ensures.cause
-
-pub returns-clause-completes : goal.returns-clause-completes
-returns-clause-completes g c = caused_completes _ _ c.answer.ensures.cause
-
-pub returns-clause-refuses : goal.returns-clause-refuses
-returns-clause-refuses g c = caused_refuses _ _ c.answer.ensures.cause
+pub returns-clause-call : goal.returns-clause-call
+returns-clause-call g c = record {
+  cause = c.answer.ensures.cause;
+  reads = c.answer.ensures.reads;
+  answers = caused_answers _ _ c.answer.ensures.cause;
+  completes = caused_completes _ _ c.answer.ensures.cause;
+  refuses = caused_refuses _ _ c.answer.ensures.cause;
+}
