@@ -15,7 +15,7 @@ use Rattle.pa_record.specs.declared.history.Held.{Held}
 use Rattle.pa_record.specs.declared.history.Held.TheVariants as held
 use Rattle.pa_rules.specs.Played.{Played, step_of, look_at, mark_at, mark_of, mark_of_answer, marks_of}
 use Rattle.pa_rules.specs.Cells.{IsExchange}
-use Rattle.pa_rules.specs.Contents.{IsContent, IsReadRight}
+use Rattle.pa_rules.specs.Contents.{IsContent, IsReadExact}
 use Rattle.pa_rules.specs.Plain.{plain_name, history_at}
 use Rattle.pa_plain.specs.declared.player_ops.Player.{Player}
 use Rattle.pa_plain.specs.Slots.{Shown, word_at, value_at, Takes, Steps, KeepsFree, KeepsWords, KeepsValues}
@@ -105,19 +105,19 @@ pub record IsTurning (ps : List Played) (x : Played) (s : Shown) : Type 0 where
 
 -- a line that steps no slot
 contents_calm : (ps : List Played) (x : Played) (s u : Shown) → IsTurning ps x s → KeepsWords s u → KeepsFree s u → KeepsValues s u
-    → IsReadRight (ps ++ x ∷ []) x.answer → HasContents (ps ++ x ∷ []) (word_at u) (value_at u) u.made
+    → IsReadExact (ps ++ x ∷ []) x.answer → HasContents (ps ++ x ∷ []) (word_at u) (value_at u) u.made
 contents_calm ps x s u t words free values read =
     rw free.0 (contents_same ps x x.line (word_at s) (value_at s) (word_at u) (value_at u) s.made s.free t.follows t.contents t.found words values read)
 
 contents_look : (ps : List Played) (x : Played) (s u : Shown) (m : Mark) → IsTurning ps x s → m.step ≡ None → Turns (Some m) s u → KeepsValues s u
-    → IsReadRight (ps ++ x ∷ []) x.answer → HasContents (ps ++ x ∷ []) (word_at u) (value_at u) u.made
+    → IsReadExact (ps ++ x ∷ []) x.answer → HasContents (ps ++ x ∷ []) (word_at u) (value_at u) u.made
 contents_look ps x s u m t none (plain, by) values read =
     let P : Option Step → Type 0 = λ o. TurnsBy o (index_of m.slot) m.found s u in
     let look : TurnsBy None (index_of m.slot) m.found s u = subst P none by in
     contents_calm ps x s u t look.2 look.3 values read
 
 contents_looked : (ps : List Played) (x : Played) (s u : Shown) (line : ℕ) (seen : Option Seen) → IsTurning ps x s → Turns (look_at line seen) s u → KeepsValues s u
-    → IsReadRight (ps ++ x ∷ []) x.answer → HasContents (ps ++ x ∷ []) (word_at u) (value_at u) u.made
+    → IsReadExact (ps ++ x ∷ []) x.answer → HasContents (ps ++ x ∷ []) (word_at u) (value_at u) u.made
 contents_looked ps x s u line None t (words, free) values read = contents_calm ps x s u t words free values read
 contents_looked ps x s u line (Some seen) t turns values read = contents_look ps x s u (mark_at line seen None) t refl turns values read
 
@@ -136,7 +136,7 @@ neither x m e no_issue no_write =
 -- a copy or a reset, which leave the contents
 contents_stay : (ps : List Played) (x : Played) (s u : Shown) (m : Mark) (p : Step) → IsTurning ps x s → mark_of x ≡ Some m → m.step ≡ Some p
     → (p ≡ steps.Issue → ⊥) → (p ≡ steps.Write → ⊥) → index_of m.slot < s.made → Steps (index_of m.slot) p m.found s u → u.made ≡ s.made → KeepsValues s u
-    → IsReadRight (ps ++ x ∷ []) x.answer → HasContents (ps ++ x ∷ []) (word_at u) (value_at u) u.made
+    → IsReadExact (ps ++ x ∷ []) x.answer → HasContents (ps ++ x ∷ []) (word_at u) (value_at u) u.made
 contents_stay ps x s u m p t e step no_issue no_write among st made values read =
     let i = index_of m.slot in
     let none : IsNeither x = neither x m e

@@ -13,7 +13,7 @@ use Rattle.pa_record.specs.declared.entry.Seen.{Seen}
 use Rattle.pa_record.specs.declared.entry.Answer.{Answer}
 use Rattle.pa_record.specs.declared.entry.Answer.TheVariants.{Made, Done, Value, Dangling, SecondFree, NotOwner, StaleReset, StaleUse, Nothing, Filled, NotRef, Shared, OutOfRange, TooLarge, Full, Swapped, Purged}
 use Rattle.pa_rules.specs.Played.{Played, mark_at, mark_of, mark_of_answer, marks_of}
-use Rattle.pa_rules.specs.Contents.{IsMadeAt, IsWrittenAt, IsWrittenFor, IsContent, IsReadRight, AreContents}
+use Rattle.pa_rules.specs.Contents.{IsMadeAt, IsWrittenAt, IsWrittenFor, IsContent, IsReadExact, AreExactContents}
 use Rattle.pa_rules.specs.Plain.{plain_name}
 use Rattle.pa_plain.specs.Player.{index_of}
 use Rattle.pa_plain.proofs.Marking.{mark_among}
@@ -118,7 +118,7 @@ still_quiet ps x s k made written = record {
 -- What is known of the contents on the lines before this one, where these are the slots' words and contents.
 pub record HasContents (ps : List Played) (word value : ℕ → ℕ) (made : ℕ) : Type 0 where
   pub content : (i : ℕ) → i < made → held_of (word i) ≡ 1 → IsContent ps (plain_name i) (number_of (word i)) (value i)
-  pub right : AreContents ps
+  pub right : AreExactContents ps
 
 -- before the first line
 pub contents_none : (word value : ℕ → ℕ) → HasContents [] word value 0
@@ -129,7 +129,7 @@ contents_none word value = record {
 
 -- what was read rightly stays so with a record more that finds no number below the slots'
 right_kept : (ps : List Played) (x : Played) (a : Answer) → ((seen : Seen) (value : ℕ) → a ≡ Value seen value → IsQuiet ps (ps ++ x ∷ []) seen.slot (number_of seen.found.0) (number_of seen.found.0))
-    → IsReadRight ps a → IsReadRight (ps ++ x ∷ []) a
+    → IsReadExact ps a → IsReadExact (ps ++ x ∷ []) a
 right_kept ps x (Made seen usable) q h = tt
 right_kept ps x (Done seen) q h = tt
 right_kept ps x (Value seen value) q h = content_kept ps (ps ++ x ∷ []) seen.slot (number_of seen.found.0) (number_of seen.found.0) value (q seen value refl) h
@@ -172,15 +172,15 @@ quiet_upto ps x word s k found le =
 
 -- the values read, with a record more
 right_push : (ps : List Played) (x : Played) (line : ℕ) (word : ℕ → ℕ) (made : ℕ) (free : List ℕ) → Follows (marks_of ps) line word made free
-    → HasFound word x → AreContents ps → IsReadRight (ps ++ x ∷ []) x.answer → AreContents (ps ++ x ∷ [])
-right_push ps x line word made free f found right here p c = elim (Contains-push_cases ps x p c) as (λ w. IsReadRight (ps ++ x ∷ []) p.answer) [
+    → HasFound word x → AreExactContents ps → IsReadExact (ps ++ x ∷ []) x.answer → AreExactContents (ps ++ x ∷ [])
+right_push ps x line word made free f found right here p c = elim (Contains-push_cases ps x p c) as (λ w. IsReadExact (ps ++ x ∷ []) p.answer) [
   | inl a ↦ right_kept ps x p.answer
       (λ seen value e.
       let m : Mark = mark_at p.line seen None in
       let le : number_of seen.found.0 ≤ number_of (slot_word word seen.slot) = f.found m (mark_among ps p m a (value_mark p seen value e)) in
       quiet_upto ps x word seen.slot (number_of seen.found.0) found le)
       (right p a)
-  | inr e ↦ let P : Played → Type 0 = λ y. IsReadRight (ps ++ x ∷ []) y.answer in subst P e here
+  | inr e ↦ let P : Played → Type 0 = λ y. IsReadExact (ps ++ x ∷ []) y.answer in subst P e here
 ]
 
 name_index : (i : ℕ) → plain_name i ≡ plain_name (index_of (plain_name i))
@@ -200,7 +200,7 @@ content_same ps x word value made i h found lt held =
 -- a record that steps no slot, where nothing changes
 pub contents_same : (ps : List Played) (x : Played) (line : ℕ) (word value next now : ℕ → ℕ) (made : ℕ) (free : List ℕ) → Follows (marks_of ps) line word made free
     → HasContents ps word value made → HasFound word x → ((i : ℕ) → next i ≡ word i) → ((i : ℕ) → now i ≡ value i)
-    → IsReadRight (ps ++ x ∷ []) x.answer → HasContents (ps ++ x ∷ []) next now made
+    → IsReadExact (ps ++ x ∷ []) x.answer → HasContents (ps ++ x ∷ []) next now made
 contents_same ps x line word value next now made free f h found words values read = record {
   content = λ i lt held.
       rw (words i, values i) (content_same ps x word value made i h found lt (ap held_of (sym (words i)) ∙ held));
@@ -212,7 +212,7 @@ pub contents_step : (ps : List Played) (x : Played) (line : ℕ) (word value nex
     → Follows (marks_of ps) line word made free → HasContents ps word value made → HasFound word x
     → ((j : ℕ) → (j ≡ i → ⊥) → next j ≡ word j) → ((j : ℕ) → (j ≡ i → ⊥) → now j ≡ value j) → ((j : ℕ) → j < wide → (j ≡ i → ⊥) → j < made)
     → (held_of (next i) ≡ 1 → IsContent (ps ++ x ∷ []) (plain_name i) (number_of (next i)) (now i))
-    → IsReadRight (ps ++ x ∷ []) x.answer → HasContents (ps ++ x ∷ []) next now wide
+    → IsReadExact (ps ++ x ∷ []) x.answer → HasContents (ps ++ x ∷ []) next now wide
 contents_step ps x line word value next now made wide free i f h found words values old here read = record {
   content = λ j lt held. elim (cases_eq j i) [
     | inl q ↦

@@ -9,7 +9,8 @@ use Rattle.pa_machine.specs.declared.word.Step.TheVariants.{Issue, Copy, Reset, 
 use Rattle.pa_machine.specs.Count.{number_of, CanStep, stepped}
 use Rattle.pa_machine.specs.Run.{Mark, IsFree, IsReturning, same_slot}
 use Rattle.pa_machine.proofs.Runs.{HasRuns, runs_none, runs_same, runs_look, runs_step, same_slot_cases, same_slot_yes, same_slot_no, number_stepped}
-use Rattle.pa_rules.specs.Plain.{plain_name, steps_before, IsFreeSince, IsNext, IsInFileOrder}
+use Rattle.pa_rules.specs.FileOrder.{steps_before}
+use Rattle.pa_rules.specs.Plain.{plain_name, IsFreeSince, IsNext, IsPlainOrder}
 use Rattle.pa_plain.specs.Player.{index_of, IsAmong}
 use Rattle.pa_plain.proofs.Since.{contains_reverse, contains_forward, AreBefore, since_unique, since_later, since_sooner, since_kept, since_back, since_new, next_kept, steps_late, steps_look, steps_other, steps_more, IsStack, stack_kept, stack_wider, stack_at}
 
@@ -26,7 +27,7 @@ pub record Follows (ms : List Mark) (line : ℕ) (word : ℕ → ℕ) (made : �
   pub found : (m : Mark) → Contains ms m → number_of m.found ≤ number_of (slot_word word m.slot)
   pub makers : (j : ℕ) → j < made → (m : Mark) × Contains ms m × (m.slot ≡ plain_name j) × (m.step ≡ Some Issue)
   pub numbers : (s : SlotName) (l : ℕ) → line ≤ l → number_of (slot_word word s) ≡ steps_before s l ms
-  pub order : IsInFileOrder ms
+  pub order : IsPlainOrder ms
   pub stack : IsStack ms line line (reverse free)
   pub are_free : (i : ℕ) → Contains free i → (i < made) × IsFree (word i)
   pub complete : (t : SlotName) (k : ℕ) → IsFreeSince ms t k line → (t ≡ plain_name (index_of t)) × Contains free (index_of t)
@@ -101,8 +102,8 @@ follows_none ms line word next made free f same =
     }
 
 -- the order with one mark more
-order_more : (ms : List Mark) (n : Mark) (line : ℕ) → AreBefore ms line → n.line ≡ line → IsInFileOrder ms
-    → number_of n.found ≡ steps_before n.slot line ms → (n.step ≡ Some Issue → IsNext ms line n.slot) → IsInFileOrder (ms ++ n ∷ [])
+order_more : (ms : List Mark) (n : Mark) (line : ℕ) → AreBefore ms line → n.line ≡ line → IsPlainOrder ms
+    → number_of n.found ≡ steps_before n.slot line ms → (n.step ≡ Some Issue → IsNext ms line n.slot) → IsPlainOrder (ms ++ n ∷ [])
 order_more ms n line rising at o number next = record {
   numbers = λ m c. elim (Contains-push_cases ms n m c) [
     | inl a ↦ o.numbers m a ∙ sym (steps_late ms n m.slot m.line (omega (arith, rising m a)))

@@ -22,7 +22,8 @@ use Rattle.pa_rules.specs.declared.register.Reg.TheVariants.{Empty}
 use Rattle.pa_rules.specs.declared.slot_word.SlotWord.{SlotWord}
 use Rattle.pa_rules.specs.Played.{Played, OpLine, op_lines, op_line_of, entry_of, mark_of_answer, marks_of}
 use Rattle.pa_rules.specs.Registers.{Regs, AllRegs, Row, with_thread, no_regs, usable_in}
-use Rattle.pa_rules.specs.Plain.{plain_name, last_word, AreLastWords, history_at, IsPlainRun}
+use Rattle.pa_rules.specs.Report.{last_word}
+use Rattle.pa_rules.specs.Plain.{plain_name, AreLastWords, history_at, IsPlainRun}
 use Rattle.pa_plain.specs.declared.player_ops.Player.{Player}
 use Rattle.pa_plain.specs.Slots.{Shown, word_at, value_at, IsKept}
 use Rattle.pa_plain.specs.Player.{regs_list, regs_of, index_of, IsAmong, NamesAmong, AreHeld, AreBounded, AreShort, IsTurn, IsLineTurn, IsReady, IsBegun, AreSlots}

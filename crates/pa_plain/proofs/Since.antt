@@ -8,7 +8,8 @@ use Rattle.pa_machine.specs.declared.word.SlotName.{SlotName}
 use Rattle.pa_machine.specs.declared.word.Step.{Step}
 use Rattle.pa_machine.specs.Run.{Mark, IsReturning, same_slot}
 use Rattle.pa_machine.proofs.Runs.{same_slot_yes, same_slot_no}
-use Rattle.pa_rules.specs.Plain.{plain_name, is_step_before, steps_before, IsFreeSince, IsMadeBefore, IsNext}
+use Rattle.pa_rules.specs.FileOrder.{is_step_before, steps_before}
+use Rattle.pa_rules.specs.Plain.{plain_name, IsFreeSince, IsMadeBefore, IsNext}
 
 -- an element stands in the list turned round, and the other way
 pub contains_reverse : (xs : List ℕ) (x : ℕ) → Contains xs x → Contains (reverse xs) x

@@ -3,7 +3,6 @@ use Rattle.std.proofs.Common.{◌≡◌, ℕ, ◌+◌, Bool, cond, List, [], ◌
 use Rattle.std.specs.Prelude.{Contains, AllPairs, ◌==◌, nat_le}
 use Rattle.std.proofs.lemmas.Bool.{cases_Bool, eq-eqb, ne_eqb, le-leb, leb-true}
 use Rattle.std.proofs.lemmas.List.Elements.{All-contains}
-use Rattle.std.proofs.lemmas.List.Kept.{AllPairs-filter}
 use Rattle.pa_machine.specs.declared.word.SlotName.{SlotName}
 use Rattle.pa_record.specs.declared.root.RootEntry.{RootEntry}
 use Rattle.pa_record.specs.declared.root.RootAct.{RootAct}
@@ -16,7 +15,7 @@ use Rattle.pa_rules.specs.Roots.{Journals}
 use Rattle.pa_rules.specs.Caches.{acts_of}
 use Rattle.pa_rules.specs.Report.{until, AreUntil, InPhases, PastPhases}
 use Rattle.pa_rules.specs.Flow.{left_in, back_in, left_on, back_on}
-use Rattle.pa_rules.proofs.Running.{OtherRecord}
+use Rattle.pa_rules.proofs.Running.{OtherRecord, one_by}
 
 -- the weights of acts, of entries, and of what the lines of records have
 abbrev weigh : (RootAct → ℕ) → List RootAct → ℕ
@@ -95,36 +94,38 @@ by_lines f (e ∷ es) rest xs h each none =
 
 -- one line has one record
 pub same_record : (xs : List Played) (x y : Played) → AllPairs OtherRecord xs → Contains xs x → Contains xs y → x.line ≡ y.line → x ≡ y
-same_record [] x y h first second e = absurd (not_in_none x first)
-same_record (z ∷ zs) x y h first second e = elim (in_cases z x zs first) [
-  | inl f ↦ elim (in_cases z y zs second) [
-    | inl g ↦ sym f ∙ g
-    | inr rest ↦ absurd (pairs_head OtherRecord z y zs h rest (ap (λ (w : Played). w.line) f ∙ e))
-  ]
-  | inr rest ↦ elim (in_cases z y zs second) [
-    | inl g ↦ absurd (pairs_head OtherRecord z x zs h rest (ap (λ (w : Played). w.line) g ∙ sym e))
-    | inr after ↦ same_record zs x y (pairs_tail OtherRecord z zs h) rest after e
-  ]
-]
+same_record xs x y h first second e = one_by (λ (z : Played). z.line) xs x y h first second e
 
 abbrev pub is_until : ℕ → Played → Bool
 is_until phase x = nat_le x.phase phase
 
-until_weighs : (f : RootAct → ℕ) (ps : List Played) (phase : ℕ) (journal before : List RootEntry) → AllPairs OtherRecord ps → AreUntil ps phase journal before →
-    over (λ line. weigh f (acts_at journal line)) (until phase ps) ≡ weight f before
-until_weighs f ps phase journal before h u =
-    ap (λ es. over (λ line. weigh f (acts_at es line)) (until phase ps)) u.parts
-    ∙ by_lines f before u.rest (until phase ps) (AllPairs-filter OtherRecord (is_until phase) ps h)
-    (λ e among.
-    let (x, of, low) = All-contains (InPhases ps phase) before e u.in_phases among in
-    (x, filter_in (is_until phase) ps x of.0 (le-leb _ _ low), sym of.1))
-    (λ e x among member same.
-    let (y, of, high) = All-contains (PastPhases ps phase) u.rest e u.past_phases among in
-    let (there, low) = filter_cases (is_until phase) ps x member in
-    let one = same_record ps y x h of.0 there (of.1 ∙ same) in
-    let phases : y.phase ≡ x.phase = ap (λ (z : Played). z.phase) one in
-    let up = leb-true _ _ low in
-    omega arith)
+-- the entries on the lines of some records stand in front of a journal, the others behind them
+pub record IsFront (xs : List Played) (journal front : List RootEntry) : Type 0 where
+  pub rest : List RootEntry
+  pub parts : journal ≡ front ++ rest
+  pub each : (e : RootEntry) → Contains front e → (x : Played) × Contains xs x × (e.line ≡ x.line)
+  pub none : (e : RootEntry) (x : Played) → Contains rest e → Contains xs x → e.line ≡ x.line → ⊥
+
+-- so do those up to the end of a phase
+pub until_front : (ps : List Played) (phase : ℕ) (journal before : List RootEntry) → AllPairs OtherRecord ps → AreUntil ps phase journal before → IsFront (until phase ps) journal before
+until_front ps phase journal before h u = record {
+  rest = u.rest;
+  parts = u.parts;
+  each = λ e among.
+      let (x, of, low) = All-contains (InPhases ps phase) before e u.in_phases among in
+      (x, filter_in (is_until phase) ps x of.0 (le-leb _ _ low), sym of.1);
+  none = λ e x among member same.
+      let (y, of, high) = All-contains (PastPhases ps phase) u.rest e u.past_phases among in
+      let (there, low) = filter_cases (is_until phase) ps x member in
+      let one = same_record ps y x h of.0 there (of.1 ∙ same) in
+      let phases : y.phase ≡ x.phase = ap (λ (z : Played). z.phase) one in
+      let up = leb-true _ _ low in
+      omega arith;
+}
+
+front_weighs : (f : RootAct → ℕ) (xs : List Played) (journal front : List RootEntry) → AllPairs OtherRecord xs → IsFront xs journal front →
+    over (λ line. weigh f (acts_at journal line)) xs ≡ weight f front
+front_weighs f xs journal front h u = ap (λ es. over (λ line. weigh f (acts_at es line)) xs) u.parts ∙ by_lines f front u.rest xs h u.each u.none
 
 -- ---- how often a slot leaves and comes back
 
@@ -158,10 +159,8 @@ back_times : (s : SlotName) (es : List RootEntry) → weight (coming s) es ≡ t
 back_times s [] = refl
 back_times s (e ∷ es) = ap (λ n. coming s e.act + n) (back_times s es)
 
-pub left_until : (s : SlotName) (ps : List Played) (roots : Journals) (p phase : ℕ) (before : List RootEntry) → AllPairs OtherRecord ps → AreUntil ps phase (roots p) before →
-    left_on s roots p (until phase ps) ≡ times_left s before
-left_until s ps roots p phase before h u = left_over s roots p (until phase ps) ∙ until_weighs (leaving s) ps phase (roots p) before h u ∙ left_times s before
+pub left_front : (s : SlotName) (xs : List Played) (roots : Journals) (p : ℕ) (front : List RootEntry) → AllPairs OtherRecord xs → IsFront xs (roots p) front → left_on s roots p xs ≡ times_left s front
+left_front s xs roots p front h u = left_over s roots p xs ∙ front_weighs (leaving s) xs (roots p) front h u ∙ left_times s front
 
-pub back_until : (s : SlotName) (ps : List Played) (roots : Journals) (p phase : ℕ) (before : List RootEntry) → AllPairs OtherRecord ps → AreUntil ps phase (roots p) before →
-    back_on s roots p (until phase ps) ≡ times_back s before
-back_until s ps roots p phase before h u = back_over s roots p (until phase ps) ∙ until_weighs (coming s) ps phase (roots p) before h u ∙ back_times s before
+pub back_front : (s : SlotName) (xs : List Played) (roots : Journals) (p : ℕ) (front : List RootEntry) → AllPairs OtherRecord xs → IsFront xs (roots p) front → back_on s roots p xs ≡ times_back s front
+back_front s xs roots p front h u = back_over s roots p xs ∙ front_weighs (coming s) xs (roots p) front h u ∙ back_times s front

@@ -65,7 +65,7 @@ not_of roots s t p q own ne (e, among, leaves) = not_once s t (λ same. ne (own 
 pub class_leaves : (roots : Journals) (t : SlotName) (q class : ℕ) → IsOfClass roots t q class → (e : RootEntry) × Contains (roots q) e × Contains (leaves_by e.act) t
 class_leaves roots t q class (e, asked, slots, among, act, member) = (e, among, subst (λ a. Contains (leaves_by a) t) (sym act) member)
 
-map_leaves : (roots : Journals) (t : SlotName) (q : ℕ) → IsDirect roots t q → (e : RootEntry) × Contains (roots q) e × Contains (leaves_by e.act) t
+pub map_leaves : (roots : Journals) (t : SlotName) (q : ℕ) → IsDirect roots t q → (e : RootEntry) × Contains (roots q) e × Contains (leaves_by e.act) t
 map_leaves roots t q (e, asked, len, among, act) = (e, among, subst (λ a. Contains (leaves_by a) t) (sym act) (first_in t []))
 
 -- the marks of an issue, and of a step that is none
@@ -134,7 +134,7 @@ fill_real pools (f ∷ es) r e class asked slots fits among act = elim (in_cases
   | inr rest ↦ fill_real pools es (root_next pools f.act r) e class asked slots fits.1 rest act
 ]
 
-class_real : (pools : List PoolEntry) (roots : Journals) (t : SlotName) (q class : ℕ) → IsJournal pools (roots q) → IsOfClass roots t q class → class < 59
+pub class_real : (pools : List PoolEntry) (roots : Journals) (t : SlotName) (q class : ℕ) → IsJournal pools (roots q) → IsOfClass roots t q class → class < 59
 class_real pools roots t q class j (e, asked, slots, among, act, member) = fill_real pools (roots q) new_root e class asked slots j.replays among act
 
 -- a slot that a step returned, where its mark is one return and no issue
@@ -198,7 +198,7 @@ returns_no Reset w h = both_test (held_of w) 0 (refs_of w) 1 h
 returns_no Free w h = both_test (held_of w) 1 (refs_of w) 0 h
 returns_no Write w h = refl
 
-no_issue : (op : Op) → is_issue (step_of op) ≡ false
+pub no_issue : (op : Op) → is_issue (step_of op) ≡ false
 no_issue (ops.Alloc reg partition size) = refl
 no_issue (ops.Copy from to) = refl
 no_issue (ops.Reset reg) = refl

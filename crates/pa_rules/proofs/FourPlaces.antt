@@ -22,7 +22,7 @@ use Rattle.pa_record.proofs.Members.{not_in_none, first_in, later_in, in_cases}
 use Rattle.pa_record.proofs.Leaving.{out_is_left}
 use Rattle.pa_record.proofs.AddingUp.{root_adds_up}
 use Rattle.pa_rules.specs.Played.{Played, marks_of}
-use Rattle.pa_rules.specs.Plain.{last_word}
+use Rattle.pa_rules.specs.Report.{last_word}
 use Rattle.pa_rules.specs.Roots.{Journals, AreRoots, IsPoolOf}
 use Rattle.pa_rules.specs.Caches.{Caches, CachesTo, no_caches}
 use Rattle.pa_rules.specs.Report.{until, HasSize, HasWord, AreSlots, cached_slots, InPhases, PastPhases, AreUntil}
@@ -33,44 +33,43 @@ use Rattle.pa_rules.proofs.Flowing.{caches_keep, class_leaves, not_once}
 use Rattle.pa_rules.proofs.Running.{OtherRecord, marks_differ, one_run, issues_return, busy_free, busy_some}
 use Rattle.pa_rules.proofs.Known.{all_known}
 use Rattle.pa_rules.proofs.Owned.{only_of, journal_front}
-use Rattle.pa_rules.proofs.ByLines.{is_until, same_record, left_until, back_until}
+use Rattle.pa_rules.proofs.ByLines.{IsFront, is_until, until_front, same_record, left_front, back_front}
 use Rattle.pa_rules.proofs.Phases.{runs_until}
 use Rattle.pa_rules.proofs.Totals.{total_add, total_same, total_ones, times_in, times_out, total_times, total_cached, some_cached}
 
--- what a line of the report stands on: the journals and the pool, records with a line each, and the caches after them
-record Given (supers partitions threads p phase : ℕ) (ps : List Played) (pools : List PoolEntry) (roots : Journals) (before : List RootEntry) (all : Caches) : Type 0 where
-  are_roots : AreRoots partitions ps pools roots
-  are_pool : IsPoolOf supers ps pools roots
-  lines : AllPairs OtherRecord ps
-  threads_below : All (λ (x : Played). x.thread < threads) ps
-  steps : Slots (marks_of (until phase ps))
-  below : p < partitions
-  parts : AreUntil ps phase (roots p) before
-  caches : CachesTo partitions roots no_caches (until phase ps) all
+-- what the places of slots after some records stand on: the journals and the pool, those records with a line each, the
+-- entries on their lines, which stand in front of partition p's journal, and the caches after them
+pub record Given (supers partitions threads p : ℕ) (ps : List Played) (pools : List PoolEntry) (roots : Journals) (xs : List Played) (front : List RootEntry) (all : Caches) : Type 0 where
+  pub are_roots : AreRoots partitions ps pools roots
+  pub are_pool : IsPoolOf supers ps pools roots
+  pub lines : AllPairs OtherRecord xs
+  pub threads_below : All (λ (x : Played). x.thread < threads) xs
+  pub steps : Slots (marks_of xs)
+  pub below : p < partitions
+  pub parts : IsFront xs (roots p) front
+  pub caches : CachesTo partitions roots no_caches xs all
 
 -- an entry of the journal by which a slot left
-abbrev HasLeft : Journals → ℕ → SlotName → Type 0
+abbrev pub HasLeft : Journals → ℕ → SlotName → Type 0
 HasLeft roots p s = (e : RootEntry) × Contains (roots p) e × Contains (leaves_by e.act) s
 
 -- a slot that is out is cached or in use, once; another is neither
-abbrev IsOnce : Root → SlotName → ℕ → Type 0
+abbrev pub IsOnce : Root → SlotName → ℕ → Type 0
 IsOnce r s n = (IsNameOut r s × (n ≡ 1)) ⊎ ((IsNameOut r s → ⊥) × (n ≡ 0))
 
-before_is : (pools : List PoolEntry) (ps : List Played) (phase : ℕ) (journal before : List RootEntry) → IsJournal pools journal → AreUntil ps phase journal before → IsJournal pools before
-before_is pools ps phase journal before h u = journal_front pools before u.rest (subst (λ z. IsJournal pools z) u.parts h)
+front_is : (pools : List PoolEntry) (xs : List Played) (journal front : List RootEntry) → IsJournal pools journal → IsFront xs journal front → IsJournal pools front
+front_is pools xs journal front h u = journal_front pools front u.rest (subst (λ z. IsJournal pools z) u.parts h)
 
-slot_once : (supers partitions threads p phase : ℕ) (ps : List Played) (pools : List PoolEntry) (roots : Journals) (before : List RootEntry) (all : Caches) (s : SlotName) (w : ℕ) →
-    Given supers partitions threads p phase ps pools roots before all → HasLeft roots p s → HasWord (until phase ps) s w →
-    IsOnce (root_replayed pools before new_root) s (cached_times s all p threads + busy w)
-slot_once supers partitions threads p phase ps pools roots before all s w g (e, among, leaves) word =
-    let xs = until phase ps in
+-- where a slot that left stands after some records: its times in the caches and in use
+pub slot_once : (supers partitions threads p : ℕ) (ps : List Played) (pools : List PoolEntry) (roots : Journals) (xs : List Played) (front : List RootEntry) (all : Caches) (s : SlotName) (w : ℕ) →
+    Given supers partitions threads p ps pools roots xs front all → HasLeft roots p s → HasWord xs s w → IsOnce (root_replayed pools front new_root) s (cached_times s all p threads + busy w)
+slot_once supers partitions threads p ps pools roots xs front all s w g (e, among, leaves) word =
     let own = only_of supers partitions ps pools roots p e s g.are_roots g.are_pool among leaves in
-    let few = All-filter (is_until phase) (λ (x : Played). x.thread < threads) ps g.threads_below in
-    let flow = caches_keep partitions threads p pools roots s xs all g.are_roots.journals own g.below few g.caches in
-    let run = issues_return xs s w (AllPairs-filter OtherRecord (is_until phase) ps g.lines) g.steps word in
-    let left = left_until s ps roots p phase before g.lines g.parts in
-    let back = back_until s ps roots p phase before g.lines g.parts in
-    elim (out_is_left pools before s (before_is pools ps phase (roots p) before (g.are_roots.journals p) g.parts)) [
+    let flow = caches_keep partitions threads p pools roots s xs all g.are_roots.journals own g.below g.threads_below g.caches in
+    let run = issues_return xs s w g.lines g.steps word in
+    let left = left_front s xs roots p front g.lines g.parts in
+    let back = back_front s xs roots p front g.lines g.parts in
+    elim (out_is_left pools front s (front_is pools xs (roots p) front (g.are_roots.journals p) g.parts)) [
       | inl (out, more) ↦ inl (out, omega arith)
       | inr (in', same) ↦ inr (in', omega arith)
     ]
@@ -93,12 +92,12 @@ left_member s (e ∷ es) some = elim (cases_eq (times s (leaves_by e.act)) 0) [
   | inr more ↦ (e, first_in e es, times_member s (leaves_by e.act) (omega arith))
 ]
 
-out_left : (pools : List PoolEntry) (ps : List Played) (phase p : ℕ) (roots : Journals) (before : List RootEntry) (s : SlotName) → IsJournal pools (roots p) → AreUntil ps phase (roots p) before →
-    IsNameOut (root_replayed pools before new_root) s → HasLeft roots p s
-out_left pools ps phase p roots before s h u out = elim (out_is_left pools before s (before_is pools ps phase (roots p) before h u)) [
+out_left : (pools : List PoolEntry) (xs : List Played) (p : ℕ) (roots : Journals) (front : List RootEntry) (s : SlotName) → IsJournal pools (roots p) → IsFront xs (roots p) front →
+    IsNameOut (root_replayed pools front new_root) s → HasLeft roots p s
+out_left pools xs p roots front s h u out = elim (out_is_left pools front s (front_is pools xs (roots p) front h u)) [
   | inl (still, more) ↦
-      let (e, member, leaves) = left_member s before (omega arith) in
-      (e, subst (λ z. Contains z e) (sym u.parts) (Contains-append_left before u.rest e member), leaves)
+      let (e, member, leaves) = left_member s front (omega arith) in
+      (e, subst (λ z. Contains z e) (sym u.parts) (Contains-append_left front u.rest e member), leaves)
   | inr (in', same) ↦ absurd (in' out)
 ]
 
@@ -118,7 +117,7 @@ sized_left : (roots : Journals) (p : ℕ) (s : SlotName) (len : ℕ) → HasSize
 sized_left roots p s len (inl (class, of, is)) = class_leaves roots s p class of
 sized_left roots p s len (inr (e, asked, among, is)) = (e, among, subst (λ a. Contains (leaves_by a) s) (sym is) (first_in s []))
 
-one_word : (xs : List Played) (s : SlotName) (u w : ℕ) → AllPairs OtherRecord xs → HasWord xs s u → HasWord xs s w → u ≡ w
+pub one_word : (xs : List Played) (s : SlotName) (u w : ℕ) → AllPairs OtherRecord xs → HasWord xs s u → HasWord xs s w → u ≡ w
 one_word xs s u w h (vs, run, last) (ws, run', last') = last ∙ one_run (marks_of xs) s 0 0 vs ws (marks_differ xs h) refl run run' ∙ sym last'
 
 -- a slot that isn't free is live or quarantined
@@ -154,19 +153,17 @@ in_use roots xs p lives quarantined sizes more s len w h live quarantine size wo
 ]
 
 -- the sum over what is out
-out_adds : (supers partitions threads p phase : ℕ) (ps : List Played) (pools : List PoolEntry) (roots : Journals) (before : List RootEntry) (all : Caches) (lives quarantined : List SlotName) (sizes more : List ℕ) →
-    Given supers partitions threads p phase ps pools roots before all → AreSlots IsLive roots (until phase ps) p lives sizes → AreSlots IsQuarantined roots (until phase ps) p quarantined more →
-    length lives + length quarantined + cached_slots all p threads ≡ length (names_out (root_replayed pools before new_root))
-out_adds supers partitions threads p phase ps pools roots before all lives quarantined sizes more g live quarantine =
-    let xs = until phase ps in
-    let r = root_replayed pools before new_root in
+out_adds : (supers partitions threads p : ℕ) (ps : List Played) (pools : List PoolEntry) (roots : Journals) (xs : List Played) (front : List RootEntry) (all : Caches) (lives quarantined : List SlotName) (sizes more : List ℕ) →
+    Given supers partitions threads p ps pools roots xs front all → AreSlots IsLive roots xs p lives sizes → AreSlots IsQuarantined roots xs p quarantined more →
+    length lives + length quarantined + cached_slots all p threads ≡ length (names_out (root_replayed pools front new_root))
+out_adds supers partitions threads p ps pools roots xs front all lives quarantined sizes more g live quarantine =
+    let r = root_replayed pools front new_root in
     let ss = names_out r in
-    let up = root_adds_up pools before (before_is pools ps phase (roots p) before (g.are_roots.journals p) g.parts) in
-    let lines = AllPairs-filter OtherRecord (is_until phase) ps g.lines in
+    let up = root_adds_up pools front (front_is pools xs (roots p) front (g.are_roots.journals p) g.parts) in
     let has_word : (s : SlotName) → (w : ℕ) × HasWord xs s w = λ s. let (vs, run, one) = g.steps s in (last_word 0 vs, (vs, run, refl)) in
     -- a slot that left, and is cached or in use, is out
     let is_out : (s : SlotName) (w : ℕ) → HasLeft roots p s → HasWord xs s w → 1 ≤ cached_times s all p threads + busy w → Contains ss s =
-    λ s w left word some. elim (slot_once supers partitions threads p phase ps pools roots before all s w g left word) [
+    λ s w left word some. elim (slot_once supers partitions threads p ps pools roots xs front all s w g left word) [
       | inl (out, one) ↦ (up.out s).1 out
       | inr (in', none) ↦ absurd (omega arith)
     ] in
@@ -189,10 +186,10 @@ out_adds supers partitions threads p phase ps pools roots before all lives quara
     let f = total_same (λ s. cached_times s all p threads + (times s lives + times s quarantined)) (λ s. 1) ss (λ s among.
     let out = (up.out s).0 among in
     let (w, word) = has_word s in
-    let left = out_left pools ps phase p roots before s (g.are_roots.journals p) g.parts out in
+    let left = out_left pools xs p roots front s (g.are_roots.journals p) g.parts out in
     let (len, size) = size_by roots p s left.0 left.0.act left.1 refl left.2 in
-    let use' = in_use roots xs p lives quarantined sizes more s len w lines live quarantine size word in
-    elim (slot_once supers partitions threads p phase ps pools roots before all s w g left word) [
+    let use' = in_use roots xs p lives quarantined sizes more s len w g.lines live quarantine size word in
+    elim (slot_once supers partitions threads p ps pools roots xs front all s w g left word) [
       | inl (still, one) ↦ omega arith
       | inr (in', none) ↦ absurd (in' out)
     ]) in
@@ -219,7 +216,7 @@ one_front ps phase (x ∷ xs) (y ∷ ys) us vs h inx iny pastu pastv e =
     let rest = one_front ps phase xs ys us vs h (All-tail (InPhases ps phase) x xs inx) (All-tail (InPhases ps phase) y ys iny) pastu pastv (ap (drop 1) e) in
     ap (λ z. z ∷ xs) head ∙ ap (λ zs. y ∷ zs) rest
 
-one_until : (ps : List Played) (phase : ℕ) (journal xs ys : List RootEntry) → AllPairs OtherRecord ps → AreUntil ps phase journal xs → AreUntil ps phase journal ys → xs ≡ ys
+pub one_until : (ps : List Played) (phase : ℕ) (journal xs ys : List RootEntry) → AllPairs OtherRecord ps → AreUntil ps phase journal xs → AreUntil ps phase journal ys → xs ≡ ys
 one_until ps phase journal xs ys h a b = one_front ps phase xs ys a.rest b.rest h a.in_phases b.in_phases a.past_phases b.past_phases (sym a.parts ∙ b.parts)
 
 abbrev census_at : List PoolEntry → List RootEntry → Census
@@ -233,18 +230,20 @@ places_add_up supers partitions threads ps pools roots l before are_roots are_po
     let (all, caches, c_slots, c_bytes) = line.cached in
     let (other, parts', is) = line.root in
     let r = root_replayed pools before new_root in
-    let g : Given supers partitions threads p l.phase ps pools roots before all = record {
+    let xs = until l.phase ps in
+    let front = until_front ps l.phase (roots p) before lines parts in
+    let g : Given supers partitions threads p ps pools roots xs before all = record {
       are_roots = are_roots;
       are_pool = are_pool;
-      lines = lines;
-      threads_below = few;
+      lines = AllPairs-filter OtherRecord (is_until l.phase) ps lines;
+      threads_below = All-filter (is_until l.phase) (λ (x : Played). x.thread < threads) ps few;
       steps = runs_until ps l.phase lines slots phases;
       below = below;
-      parts = parts;
+      parts = front;
       caches = caches;
     } in
-    let a = out_adds supers partitions threads p l.phase ps pools roots before all lives quarantined sizes more g live quarantine in
-    let up = (root_adds_up pools before (before_is pools ps l.phase (roots p) before (are_roots.journals p) parts)).counted in
+    let a = out_adds supers partitions threads p ps pools roots xs before all lives quarantined sizes more g live quarantine in
+    let up = (root_adds_up pools before (front_is pools xs (roots p) before (are_roots.journals p) front)).counted in
     let same = one_until ps l.phase (roots p) other before lines parts' parts in
     let kept : l.root.slots ≡ (census_at pools other).root.slots = ap (λ (c : Census). c.root.slots) is in
     let here : (census_at pools other).root.slots ≡ (census_at pools before).root.slots = ap (λ es. (census_at pools es).root.slots) same in

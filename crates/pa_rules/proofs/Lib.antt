@@ -11,3 +11,6 @@ pub mod Totals
 pub mod FourPlaces
 pub mod Phases
 pub mod Numbering
+pub mod Within
+pub mod Reported
+pub mod Sizes

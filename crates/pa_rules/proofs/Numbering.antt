@@ -1,16 +1,19 @@
--- The records of a trace's lines have a line each.
-use Rattle.std.proofs.Common.{◌≡◌, ◌≢◌, ℕ, ◌+◌, ◌≤◌, List, [], ◌∷◌, map, sym, ap, subst, arith, inl, inr}
+-- The records of a trace's lines stand in the order of the lines, and have a line each.
+use Rattle.std.proofs.Common.{◌≡◌, ◌≢◌, ℕ, ◌+◌, ◌<◌, ◌≤◌, List, [], ◌∷◌, map, sym, ap, subst, arith, inl, inr}
 use Rattle.std.specs.Prelude.{Contains, AllPairs}
 use Rattle.pa_trace.specs.declared.script.Line.{Line}
 use Rattle.pa_trace.specs.declared.script.Line.TheVariants.{Phase, Do}
 use Rattle.pa_record.proofs.Members.{not_in_none, in_cases}
 use Rattle.pa_record.proofs.Pairs.{pairs_none, pairs_cons, pairs_head, pairs_tail}
 use Rattle.pa_record.proofs.Joined.{map_in}
-use Rattle.pa_rules.specs.Played.{OpLine, Played, op_lines, op_line_of}
+use Rattle.pa_rules.specs.Played.{OpLine, Played, AreLines, op_lines, op_line_of}
 use Rattle.pa_rules.specs.Laws.{LinesDiffer}
 
-abbrev OtherOp : OpLine → OpLine → Type 0
-OtherOp a b = a.line ≢ b.line
+abbrev EarlierOp : OpLine → OpLine → Type 0
+EarlierOp a b = a.line < b.line
+
+abbrev EarlierRecord : Played → Played → Type 0
+EarlierRecord x y = x.line < y.line
 
 from_line : (n phase : ℕ) (ls : List Line) (a : OpLine) → Contains (op_lines n phase ls) a → n ≤ a.line
 from_line n phase [] a among = absurd (not_in_none a among)
@@ -20,20 +23,27 @@ from_line n phase (Do thread op ∷ ls) a among = elim (in_cases (record { line 
   | inr rest ↦ let ih = from_line (n + 1) phase ls a rest in omega arith
 ]
 
-lines_rise : (n phase : ℕ) (ls : List Line) → AllPairs OtherOp (op_lines n phase ls)
-lines_rise n phase [] = pairs_none OtherOp
-lines_rise n phase (Phase ∷ ls) = lines_rise (n + 1) (phase + 1) ls
-lines_rise n phase (Do thread op ∷ ls) =
-    pairs_cons OtherOp (record { line = n; thread = thread; phase = phase; op = op }) (op_lines (n + 1) phase ls)
-    (λ a among same. let low = from_line (n + 1) phase ls a among in omega arith)
-    (lines_rise (n + 1) phase ls)
+ops_rise : (n phase : ℕ) (ls : List Line) → AllPairs EarlierOp (op_lines n phase ls)
+ops_rise n phase [] = pairs_none EarlierOp
+ops_rise n phase (Phase ∷ ls) = ops_rise (n + 1) (phase + 1) ls
+ops_rise n phase (Do thread op ∷ ls) =
+    pairs_cons EarlierOp (record { line = n; thread = thread; phase = phase; op = op }) (op_lines (n + 1) phase ls)
+    (λ a among. let low = from_line (n + 1) phase ls a among in omega arith)
+    (ops_rise (n + 1) phase ls)
 
-records_differ : (ps : List Played) → AllPairs OtherOp (map op_line_of ps) → AllPairs (λ (x y : Played). x.line ≢ y.line) ps
-records_differ [] h = pairs_none (λ (x y : Played). x.line ≢ y.line)
-records_differ (x ∷ xs) h =
-    pairs_cons (λ (x y : Played). x.line ≢ y.line) x xs
-    (λ y among. pairs_head OtherOp (op_line_of x) (op_line_of y) (map op_line_of xs) h (map_in op_line_of xs y among))
-    (records_differ xs (pairs_tail OtherOp (op_line_of x) (map op_line_of xs) h))
+records_rise : (ps : List Played) → AllPairs EarlierOp (map op_line_of ps) → AllPairs EarlierRecord ps
+records_rise [] h = pairs_none EarlierRecord
+records_rise (x ∷ xs) h =
+    pairs_cons EarlierRecord x xs
+    (λ y among. pairs_head EarlierOp (op_line_of x) (op_line_of y) (map op_line_of xs) h (map_in op_line_of xs y among))
+    (records_rise xs (pairs_tail EarlierOp (op_line_of x) (map op_line_of xs) h))
+
+pub lines_rise : (ls : List Line) (ps : List Played) → AreLines ls ps → AllPairs (λ (x y : Played). x.line < y.line) ps
+lines_rise ls ps h = records_rise ps (subst (λ z. AllPairs EarlierOp z) (sym h) (ops_rise 2 1 ls))
+
+-- lines that rise differ
+pub rising_differ : (ps : List Played) → AllPairs (λ (x y : Played). x.line < y.line) ps → AllPairs (λ (x y : Played). x.line ≢ y.line) ps
+rising_differ ps h i j d before below e = let up = h i j d before below in omega arith
 
 pub lines_differ : LinesDiffer
-lines_differ ls ps h = records_differ ps (subst (λ z. AllPairs OtherOp z) (sym h) (lines_rise 2 1 ls))
+lines_differ ls ps h = rising_differ ps (lines_rise ls ps h)

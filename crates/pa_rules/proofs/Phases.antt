@@ -20,7 +20,7 @@ mark_in_one : (x : Played) (xs : List Played) (m : Mark) (o : Option Mark) → m
 mark_in_one x xs m None e rest = rw e rest
 mark_in_one x xs m (Some n) e rest = rw e (later_in n m (marks_of xs) rest)
 
-mark_in : (xs : List Played) (x : Played) (m : Mark) → Contains xs x → mark_of x ≡ Some m → Contains (marks_of xs) m
+pub mark_in : (xs : List Played) (x : Played) (m : Mark) → Contains xs x → mark_of x ≡ Some m → Contains (marks_of xs) m
 mark_in [] x m among e = absurd (not_in_none x among)
 mark_in (y ∷ ys) x m among e = elim (in_cases y x ys among) [
   | inl same ↦

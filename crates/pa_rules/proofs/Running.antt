@@ -13,28 +13,28 @@ use Rattle.pa_machine.proofs.Runs.{same_slot_eq, same_slot_yes, number_stepped}
 use Rattle.pa_record.proofs.Members.{not_in_none, first_in, later_in, in_cases, of_some}
 use Rattle.pa_record.proofs.Pairs.{pairs_none, pairs_cons, pairs_head, pairs_tail}
 use Rattle.pa_rules.specs.Played.{Played, mark_of, marks_of}
-use Rattle.pa_rules.specs.Plain.{last_word}
+use Rattle.pa_rules.specs.Report.{last_word}
 use Rattle.pa_rules.specs.Flow.{returns_at, is_issue, is_return, is_issue_of, is_return_of, issues_of, returns_of, busy, IssuesReturn}
 use Rattle.pa_rules.proofs.Marking.{mark_line}
 
 abbrev pub OtherLine : Mark → Mark → Type 0
 OtherLine m n = m.line ≢ n.line
 
--- one line has one mark
-same_line : (ms : List Mark) (m n : Mark) → AllPairs OtherLine ms → Contains ms m → Contains ms n → m.line ≡ n.line → m ≡ n
-same_line [] m n h first second e = absurd (not_in_none m first)
-same_line (x ∷ ms) m n h first second e = elim (in_cases x m ms first) [
-  | inl f ↦ elim (in_cases x n ms second) [
-    | inl g ↦ sym f ∙ g
-    | inr rest ↦ absurd (pairs_head OtherLine x n ms h rest (ap (λ (z : Mark). z.line) f ∙ e))
+-- a list whose elements differ in f has one of each value
+pub one_by : {A B : Type 0} (f : A → B) (xs : List A) (x y : A) → AllPairs (λ u v. f u ≢ f v) xs → Contains xs x → Contains xs y → f x ≡ f y → x ≡ y
+one_by f [] x y h first second e = absurd (not_in_none x first)
+one_by f (z ∷ zs) x y h first second e = elim (in_cases z x zs first) [
+  | inl same ↦ elim (in_cases z y zs second) [
+    | inl same' ↦ sym same ∙ same'
+    | inr rest ↦ absurd (pairs_head (λ u v. f u ≢ f v) z y zs h rest (ap f same ∙ e))
   ]
-  | inr rest ↦ elim (in_cases x n ms second) [
-    | inl g ↦ absurd (pairs_head OtherLine x m ms h rest (ap (λ (z : Mark). z.line) g ∙ sym e))
-    | inr after ↦ same_line ms m n (pairs_tail OtherLine x ms h) rest after e
+  | inr rest ↦ elim (in_cases z y zs second) [
+    | inl same ↦ absurd (pairs_head (λ u v. f u ≢ f v) z x zs h rest (ap f same ∙ sym e))
+    | inr rest' ↦ one_by f zs x y (pairs_tail (λ u v. f u ≢ f v) z zs h) rest rest' e
   ]
 ]
 
-made_some : (o : Option Step) (p : Step) → o ≡ Some p → IsSome o
+pub made_some : (o : Option Step) (p : Step) → o ≡ Some p → IsSome o
 made_some o p e = subst (λ z. IsSome z) (sym e) refl
 
 -- two first marks at a word have one line
@@ -44,11 +44,12 @@ first_line ms s u m n p q f g =
     let b = g.least m f.among f.slot f.found (made_some m.step p f.step) in
     omega arith
 
--- so a run is determined
+-- so they are one, and a run is determined
+pub one_mark : (ms : List Mark) (s : SlotName) (u : ℕ) (m n : Mark) (p q : Step) → AllPairs OtherLine ms → IsFirstAt ms s u m p → IsFirstAt ms s u n q → m ≡ n
+one_mark ms s u m n p q h f g = one_by (λ (z : Mark). z.line) ms m n h f.among g.among (first_line ms s u m n p q f g)
+
 one_step : (ms : List Mark) (s : SlotName) (u : ℕ) (m n : Mark) (p q : Step) → AllPairs OtherLine ms → IsFirstAt ms s u m p → IsFirstAt ms s u n q → p ≡ q
-one_step ms s u m n p q h f g =
-    let e = same_line ms m n h f.among g.among (first_line ms s u m n p q f g) in
-    of_some p q (sym f.step ∙ ap (λ (z : Mark). z.step) e ∙ g.step)
+one_step ms s u m n p q h f g = of_some p q (sym f.step ∙ ap (λ (z : Mark). z.step) (one_mark ms s u m n p q h f g) ∙ g.step)
 
 pub one_run : (ms : List Mark) (s : SlotName) (u w : ℕ) (vs ws : List ℕ) → AllPairs OtherLine ms → u ≡ w → IsRunFrom ms s u vs → IsRunFrom ms s w ws → last_word u vs ≡ last_word w ws
 one_run ms s u w [] [] h e f g = e
@@ -345,18 +346,17 @@ pub mark_from : (ps : List Played) (m : Mark) → Contains (marks_of ps) m → I
 mark_from [] m among = absurd (not_in_none m among)
 mark_from (x ∷ xs) m among = mark_from_one x xs m (mark_of x) refl (mark_from xs m) among
 
-one_more_differs : (x : Played) (xs : List Played) (o : Option Mark) → mark_of x ≡ o → AllPairs OtherRecord (x ∷ xs) → AllPairs OtherLine (marks_of xs) → AllPairs OtherLine (marks_of (x ∷ xs))
-one_more_differs x xs None e h rest = rw e rest
-one_more_differs x xs (Some m) e h rest = rw e
-    (pairs_cons OtherLine m (marks_of xs)
-    (λ n among same.
-    let (y, member, is) = mark_from xs n among in
-    pairs_head OtherRecord x y xs h member (sym (mark_line x m e) ∙ same ∙ mark_line y n is))
-    rest)
+one_more_pair : (R : Played → Played → Type 0) (S : Mark → Mark → Type 0) → ((x y : Played) (m n : Mark) → R x y → mark_of x ≡ Some m → mark_of y ≡ Some n → S m n) → (x : Played) (xs : List Played) (o : Option Mark) → mark_of x ≡ o → AllPairs R (x ∷ xs) → AllPairs S (marks_of xs) → AllPairs S (marks_of (x ∷ xs))
+one_more_pair R S of x xs None e h rest = rw e rest
+one_more_pair R S of x xs (Some m) e h rest = rw e (pairs_cons S m (marks_of xs) (λ n among. let (y, member, is) = mark_from xs n among in of x y m n (pairs_head R x y xs h member) e is) rest)
+
+-- what pairs of records say of their marks
+pub marks_pairs : (R : Played → Played → Type 0) (S : Mark → Mark → Type 0) → ((x y : Played) (m n : Mark) → R x y → mark_of x ≡ Some m → mark_of y ≡ Some n → S m n) → (ps : List Played) → AllPairs R ps → AllPairs S (marks_of ps)
+marks_pairs R S of [] h = pairs_none S
+marks_pairs R S of (x ∷ xs) h = one_more_pair R S of x xs (mark_of x) refl h (marks_pairs R S of xs (pairs_tail R x xs h))
 
 pub marks_differ : (ps : List Played) → AllPairs OtherRecord ps → AllPairs OtherLine (marks_of ps)
-marks_differ [] h = pairs_none OtherLine
-marks_differ (x ∷ xs) h = one_more_differs x xs (mark_of x) refl h (marks_differ xs (pairs_tail OtherRecord x xs h))
+marks_differ ps h = marks_pairs OtherRecord OtherLine (λ x y m n other is is' same. other (sym (mark_line x m is) ∙ same ∙ mark_line y n is')) ps h
 
 pub issues_return : IssuesReturn
 issues_return ps s w h slots (vs, run, last) =

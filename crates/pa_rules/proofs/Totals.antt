@@ -94,7 +94,7 @@ total_cached all p (suc t) ss h inside =
     let ih = total_cached all p t ss h (λ u c m below. inside u c m (omega arith)) in
     omega arith
 
-some_times : (s : SlotName) (ss : List SlotName) → Contains ss s → 1 ≤ times s ss
+pub some_times : (s : SlotName) (ss : List SlotName) → Contains ss s → 1 ≤ times s ss
 some_times s [] among = absurd (not_in_none s among)
 some_times s (t ∷ ss) among =
     let a = times_cons s t ss in
@@ -103,7 +103,7 @@ some_times s (t ∷ ss) among =
       | inr rest ↦ let ih = some_times s ss rest in omega arith
     ]
 
-some_listed : (s : SlotName) (lists : ℕ → List Numbered) (c from k : ℕ) → from ≤ c → c < from + k → 1 ≤ stands s (lists c) → 1 ≤ listed_times s lists from k
+pub some_listed : (s : SlotName) (lists : ℕ → List Numbered) (c from k : ℕ) → from ≤ c → c < from + k → 1 ≤ stands s (lists c) → 1 ≤ listed_times s lists from k
 some_listed s lists c from zero low high some = absurd (omega arith)
 some_listed s lists c from (suc k) low high some = elim (cases_eq from c) [
   | inl e ↦ let same : stands s (lists from) ≡ stands s (lists c) = ap (λ z. stands s (lists z)) e in omega arith

@@ -1,13 +1,16 @@
--- The content of a slot, and what a read gives.
-use Rattle.std.specs.Prelude.{◌≡◌, ℕ, ◌<◌, ◌⊎◌, List, Contains}
+-- The content of a slot, and what a read may give.
+use Rattle.std.specs.Prelude.{◌≡◌, ◌≢◌, ℕ, ◌<◌, ◌≤◌, ◌⊎◌, List, ◌∷◌, ◌++◌, Contains}
 use Rattle.pa_machine.specs.declared.word.SlotName.{SlotName}
 use Rattle.pa_machine.specs.Count.{number_of}
 use Rattle.pa_machine.specs.Titles.{poison}
 use Rattle.pa_trace.specs.declared.script.Op.TheVariants as ops
 use Rattle.pa_record.specs.declared.entry.Seen.{Seen}
 use Rattle.pa_record.specs.declared.entry.Answer.{Answer}
-use Rattle.pa_record.specs.declared.entry.Answer.TheVariants.{Made, Done, Value, Dangling, SecondFree, NotOwner, StaleReset, StaleUse, Nothing, Filled, NotRef, Shared, OutOfRange, TooLarge, Full, Swapped, Purged}
+use Rattle.pa_record.specs.declared.entry.Answer.TheVariants.{Made, Done, Value, Dangling}
+use Rattle.pa_record.specs.declared.history.CellEntry.{CellEntry}
+use Rattle.pa_rules.specs.declared.register.Reg.TheVariants.{Ref}
 use Rattle.pa_rules.specs.Played.{Played}
+use Rattle.pa_rules.specs.Registers.{Regs, AllRegs, RowsTo, no_regs, usable_in}
 
 -- a record made slot s, and found this number
 abbrev pub IsMadeAt : List Played → SlotName → ℕ → Type 0
@@ -33,25 +36,50 @@ IsContent ps s k value =
     ⊎ ((value ≡ 0) × ((n other : ℕ) → IsWrittenFor ps s k n other → ⊥))
 
 -- what an answer says was read: a slot that is held gives its content at the number found, a freed one poison
-abbrev pub IsReadRight : List Played → Answer → Type 0
-IsReadRight ps (Made seen usable) = Unit {0}
-IsReadRight ps (Done seen) = Unit {0}
-IsReadRight ps (Value seen value) = IsContent ps seen.slot (number_of seen.found.0) value
-IsReadRight ps (Dangling seen value) = value ≡ poison
-IsReadRight ps (SecondFree seen) = Unit {0}
-IsReadRight ps (NotOwner seen) = Unit {0}
-IsReadRight ps StaleReset = Unit {0}
-IsReadRight ps (StaleUse seen) = Unit {0}
-IsReadRight ps Nothing = Unit {0}
-IsReadRight ps Filled = Unit {0}
-IsReadRight ps NotRef = Unit {0}
-IsReadRight ps (Shared seen) = Unit {0}
-IsReadRight ps OutOfRange = Unit {0}
-IsReadRight ps TooLarge = Unit {0}
-IsReadRight ps (Full entry) = Unit {0}
-IsReadRight ps (Swapped entry) = Unit {0}
-IsReadRight ps (Purged slots) = Unit {0}
+abbrev pub IsReadExact : List Played → Answer → Type 0
+IsReadExact ps (Value seen value) = IsContent ps seen.slot (number_of seen.found.0) value
+IsReadExact ps (Dangling seen value) = value ≡ poison
+IsReadExact ps answer = Unit {0}
 
--- each value that was read is the one that the rules give
-abbrev pub AreContents : List Played → Type 0
-AreContents ps = (p : Played) → Contains ps p → IsReadRight ps p.answer
+-- each value that was read is the content or poison, as the slot was held or freed
+abbrev pub AreExactContents : List Played → Type 0
+AreExactContents ps = (p : Played) → Contains ps p → IsReadExact ps p.answer
+
+-- While another thread's free of the slot is under way, a read through a raw_ptr may find poison already.
+
+-- the record y freed slot s by its owner, and found this number
+abbrev pub IsFreedBy : List Played → SlotName → ℕ → Played → Type 0
+IsFreedBy ps s n y =
+    Contains ps y × (seen : Seen) × (reg : ℕ) × (y.op ≡ ops.Free reg) × (y.answer ≡ Done seen) × (seen.slot ≡ s) × (number_of seen.found.0 ≡ n)
+
+-- y's free of slot s is the first that found a number not below k
+abbrev pub IsNextFree : List Played → SlotName → ℕ → Played → Type 0
+IsNextFree ps s k y =
+    (n : ℕ) × IsFreedBy ps s n y × (k ≤ n) × ((m : ℕ) (z : Played) → IsFreedBy ps s m z → k ≤ m → n ≤ m)
+
+-- these are the registers of the record's thread just before it
+abbrev pub HasRegs : (ℕ → ℕ) → (ℕ → List CellEntry) → List Played → Played → Regs → Type 0
+HasRegs usable_of cells ps x regs =
+    (before after : List Played) × (all : AllRegs) × (ps ≡ before ++ x ∷ after)
+    × RowsTo (record { usable_of = usable_of; usable_at = usable_in ps; cells = cells }) no_regs before all × (regs ≡ all x.thread)
+
+-- the record reads slot s through a raw_ptr
+abbrev pub ReadsByRef : (ℕ → ℕ) → (ℕ → List CellEntry) → List Played → Played → SlotName → Type 0
+ReadsByRef usable_of cells ps x s =
+    (reg place : ℕ) × (regs : Regs) × (x.op ≡ ops.Read reg place) × HasRegs usable_of cells ps x regs × (regs reg ≡ Ref s)
+
+-- it may read poison at number k: the next free of the slot is another thread's, in the same phase
+abbrev pub IsBeingFreed : (ℕ → ℕ) → (ℕ → List CellEntry) → List Played → Played → SlotName → ℕ → Type 0
+IsBeingFreed usable_of cells ps x s k =
+    ReadsByRef usable_of cells ps x s × (y : Played) × IsNextFree ps s k y × (y.thread ≢ x.thread) × (y.phase ≡ x.phase)
+
+abbrev pub IsReadAllowed : (ℕ → ℕ) → (ℕ → List CellEntry) → List Played → Played → Answer → Type 0
+IsReadAllowed usable_of cells ps x (Value seen value) =
+    IsContent ps seen.slot (number_of seen.found.0) value
+    ⊎ ((value ≡ poison) × IsBeingFreed usable_of cells ps x seen.slot (number_of seen.found.0))
+IsReadAllowed usable_of cells ps x (Dangling seen value) = value ≡ poison
+IsReadAllowed usable_of cells ps x answer = Unit {0}
+
+-- each value that was read is one that the rules allow
+abbrev pub AreContents : (ℕ → ℕ) → (ℕ → List CellEntry) → List Played → Type 0
+AreContents usable_of cells ps = (x : Played) → Contains ps x → IsReadAllowed usable_of cells ps x x.answer

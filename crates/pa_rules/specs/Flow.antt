@@ -1,5 +1,5 @@
 -- How often a slot stands in the caches, and how often it goes into and out of them.
-use Rattle.std.specs.Prelude.{◌≡◌, ◌≢◌, ℕ, zero, suc, ◌+◌, ◌<◌, ◌≤◌, ◌==◌, ◌&&◌, Bool, true, false, if◌then◌else◌, List, [], ◌∷◌, Option, Some, None, is_some, Contains, All, AllPairs, count_by}
+use Rattle.std.specs.Prelude.{◌≡◌, ◌≢◌, ℕ, zero, suc, ◌+◌, ◌<◌, ◌≤◌, ◌==◌, ◌&&◌, Bool, true, false, if◌then◌else◌, List, [], ◌∷◌, Option, Some, None, Contains, All, AllPairs, count_by}
 use Rattle.pa_machine.specs.declared.word.SlotName.{SlotName}
 use Rattle.pa_machine.specs.declared.word.Step.{Step}
 use Rattle.pa_machine.specs.declared.word.Step.TheVariants.{Issue, Copy, Reset, Free, Write}
@@ -12,6 +12,7 @@ use Rattle.pa_record.specs.declared.root.RootAct.{RootAct}
 use Rattle.pa_record.specs.Root.{names, IsJournal}
 use Rattle.pa_record.specs.Laws.{leaves_by, comes_by, times}
 use Rattle.pa_rules.specs.Played.{Played, mark_of, marks_of}
+use Rattle.pa_rules.specs.Seen.{left_number}
 use Rattle.pa_rules.specs.Roots.{Journals}
 use Rattle.pa_rules.specs.Report.{HasWord, until}
 use Rattle.pa_rules.specs.Caches.{Caches, acts_of, no_caches, CachesTo}
@@ -94,10 +95,6 @@ abbrev pub IssuesReturn : Type 0
 IssuesReturn =
     (ps : List Played) (s : SlotName) (w : ℕ) → AllPairs (λ (x y : Played). x.line ≢ y.line) ps → Slots (marks_of ps) → HasWord ps s w →
     issues_of s (marks_of ps) ≡ returns_of s (marks_of ps) + busy w
-
--- the number that a mark leaves: a step adds 1 to the one that it found
-abbrev pub left_number : Mark → ℕ
-left_number m = number_of m.found + (if is_some m.step then 1 else 0)
 
 -- no record of a later phase found a lower number at a slot than one of an earlier phase left there
 abbrev pub IsInPhases : List Played → Type 0

@@ -2,11 +2,15 @@ pub mod Played
 pub mod Registers
 pub mod Cells
 pub mod Contents
-pub mod Plain
+pub mod Seen
+pub mod Sizes
 pub mod Roots
 pub mod Holders
 pub mod Caches
-pub mod Flow
 pub mod Report
+pub mod FileOrder
+pub mod Legal
+pub mod Plain
+pub mod Flow
 pub mod Laws
 pub mod Worked

@@ -1,11 +1,10 @@
 -- Plain slots, played in the order of the lines: every slot has 16 bytes, and slot i starts at 16 i.
-use Rattle.std.specs.Prelude.{◌≡◌, ℕ, ◌*◌, ◌<◌, ◌≤◌, ◌&&◌, Bool, nat_lt, ◌⊎◌, ◌↔◌, List, [], ◌∷◌, map, count_by, Some, IsSome, is_some, Contains, length, slice_index_or}
+use Rattle.std.specs.Prelude.{◌≡◌, ℕ, ◌*◌, ◌<◌, ◌≤◌, ◌⊎◌, ◌↔◌, List, [], map, Some, IsSome, Contains, length, slice_index_or}
 use Rattle.std.specs.List.Sorted.{IsStrictlyIncreasing}
 use Rattle.pa_machine.specs.declared.word.SlotName.{SlotName}
 use Rattle.pa_machine.specs.declared.word.Step.{Step}
 use Rattle.pa_machine.specs.declared.word.Step.TheVariants.{Issue}
-use Rattle.pa_machine.specs.Count.{number_of}
-use Rattle.pa_machine.specs.Run.{Mark, Slots, IsRunFrom, IsReturning, same_slot}
+use Rattle.pa_machine.specs.Run.{Mark, Slots, IsRunFrom, IsReturning}
 use Rattle.pa_trace.specs.declared.script.Line.{Line}
 use Rattle.pa_record.specs.declared.entry.Entry.{Entry}
 use Rattle.pa_record.specs.declared.entry.Answer.TheVariants.{Full, Purged}
@@ -14,19 +13,13 @@ use Rattle.pa_rules.specs.declared.slot_word.SlotWord.{SlotWord}
 use Rattle.pa_rules.specs.Played.{Played, AreLines, entry_of, marks_of}
 use Rattle.pa_rules.specs.Registers.{AreRegisters}
 use Rattle.pa_rules.specs.Cells.{AreCells}
-use Rattle.pa_rules.specs.Contents.{AreContents}
+use Rattle.pa_rules.specs.Contents.{AreExactContents}
+use Rattle.pa_rules.specs.FileOrder.{AreNumbersInFileOrder, AreCellsInFileOrder}
+use Rattle.pa_rules.specs.Report.{last_word}
 
 -- the i-th plain slot
 abbrev pub plain_name : ℕ → SlotName
 plain_name i = record { start = 16 * i; born = 0 }
-
--- m is a step of slot s on a line before this one; a look is none
-abbrev pub is_step_before : SlotName → ℕ → Mark → Bool
-is_step_before s line m = same_slot m.slot s && (nat_lt m.line line && is_some m.step)
-
--- how many steps of slot s stand on the lines before this one
-abbrev pub steps_before : SlotName → ℕ → List Mark → ℕ
-steps_before s line ms = count_by (is_step_before s line) ms
 
 -- Slot s is free at this line: its last step before it, on line `since`, is a returning one.
 pub record IsFreeSince (ms : List Mark) (s : SlotName) (since line : ℕ) : Type 0 where
@@ -53,14 +46,9 @@ IsNext ms line s =
     × (i : ℕ) × (s ≡ plain_name i) × (IsMadeBefore ms s line → ⊥) × ((j : ℕ) → j < i → IsMadeBefore ms (plain_name j) line))
 
 -- each number found is how many steps of the slot stand on the lines before, and each allocation takes the next slot
-pub record IsInFileOrder (ms : List Mark) : Type 0 where
-  pub numbers : (m : Mark) → Contains ms m → number_of m.found ≡ steps_before m.slot m.line ms
+pub record IsPlainOrder (ms : List Mark) : Type 0 where
+  pub numbers : AreNumbersInFileOrder ms
   pub next : (m : Mark) → Contains ms m → m.step ≡ Some Issue → IsNext ms m.line m.slot
-
--- the last word of a run that begins at u
-abbrev pub last_word : ℕ → List ℕ → ℕ
-last_word u [] = u
-last_word u (v ∷ vs) = last_word v vs
 
 -- these are the slots that were allocated, by where they start, each with the last word of its run
 pub record AreLastWords (ms : List Mark) (ws : List SlotWord) : Type 0 where
@@ -72,10 +60,6 @@ pub record AreLastWords (ms : List Mark) (ws : List SlotWord) : Type 0 where
 abbrev pub history_at : List (List CellEntry) → ℕ → List CellEntry
 history_at cells k = slice_index_or cells k []
 
--- every cell's exchanges stand in the order of their lines
-abbrev pub AreCellsInFileOrder : (ℕ → List CellEntry) → Type 0
-AreCellsInFileOrder cells = (k : ℕ) → IsStrictlyIncreasing (map (λ e. e.line) (cells k))
-
 -- The records are those of the trace's lines over plain slots, of which 8 bytes are usable: each line's op in order,
 -- exchanges and answers by cells and registers, the steps of each slot one run, what was read the content or poison, all
 -- in file order; never full, and no slot given back by a purge; and these are the slots with their words at the end.
@@ -86,8 +70,8 @@ pub record IsPlainRun (ls : List Line) (entries : List Entry) (cells : List (Lis
   pub exchanged : AreCells (history_at cells) played
   pub registers : AreRegisters (λ size. 8) (history_at cells) played
   pub slots : Slots (marks_of played)
-  pub contents : AreContents played
-  pub order : IsInFileOrder (marks_of played)
+  pub contents : AreExactContents played
+  pub order : IsPlainOrder (marks_of played)
   pub cell_order : AreCellsInFileOrder (history_at cells)
   pub never_full : (p : Played) (entry : ℕ) → Contains played p → p.answer ≡ Full entry → ⊥
   pub none_given : (p : Played) (slots : ℕ) → Contains played p → p.answer ≡ Purged slots → slots ≡ 0

@@ -13,7 +13,6 @@ use Rattle.pa_record.specs.declared.census.Census.{Census}
 use Rattle.pa_record.specs.Root.{new_root, root_replayed}
 use Rattle.pa_record.specs.Census.{census}
 use Rattle.pa_rules.specs.Played.{Played, marks_of}
-use Rattle.pa_rules.specs.Plain.{last_word}
 use Rattle.pa_rules.specs.Roots.{Journals, IsOfLine}
 use Rattle.pa_rules.specs.Caches.{Caches, CachesTo, no_caches, IsOfClass, listed_slots}
 
@@ -26,6 +25,11 @@ abbrev pub HasSize : Journals → ℕ → SlotName → ℕ → Type 0
 HasSize roots p s len =
     ((class : ℕ) × IsOfClass roots s p class × (len ≡ slot_of class))
     ⊎ ((e : RootEntry) × (asked : ℕ) × Contains (roots p) e × (e.act ≡ Map asked s len))
+
+-- the last word of a run that begins at u
+abbrev pub last_word : ℕ → List ℕ → ℕ
+last_word u [] = u
+last_word u (v ∷ vs) = last_word v vs
 
 -- the word of a slot after these records
 abbrev pub HasWord : List Played → SlotName → ℕ → Type 0

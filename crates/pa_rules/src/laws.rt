@@ -1,5 +1,6 @@
 ghost use Rattle.pa_rules.specs.Flow.{CachesKeep, IssuesReturn, RunsUntil};
-ghost use Rattle.pa_rules.specs.Laws.{LinesDiffer, PlacesAddUp, TitlesFollow};
+ghost use Rattle.pa_rules.specs.Laws.{LinesDiffer, PlacesAddUp, ReportAddsUp, TitlesFollow};
+ghost use Rattle.pa_rules.specs.Sizes.{SizesFit};
 ghost use Rattle.pa_rules.specs.Worked.{PurgeIsCached, PurgeIsCounted};
 
 /// The law that titles of one entry of the pool are equal or share no byte over all partitions, and that the entries of
@@ -35,6 +36,11 @@ pub fn places_add_up()
     ensures { PlacesAddUp }
 {}
 
+/// The law that they add up in every line of a legal run's report.
+pub fn report_adds_up()
+    ensures { ReportAddsUp }
+{}
+
 /// The law that the records up to the end of a phase have one run for each slot, where all records have and none of a
 /// later phase found a lower number than one of an earlier phase left.
 pub fn runs_until()
@@ -44,4 +50,9 @@ pub fn runs_until()
 /// The counts of a run that was worked out by hand are those that the definitions give.
 pub fn worked_counts_fit()
     ensures { PurgeIsCounted }
+{}
+
+/// The law that the slot of a request is that of its class, or of its direct map.
+pub fn sizes_fit()
+    ensures { SizesFit }
 {}

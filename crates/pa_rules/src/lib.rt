@@ -7,8 +7,8 @@ mod register;
 mod slot_word;
 
 pub use laws::{
-    caches_keep, issues_return, lines_differ, places_add_up, runs_until, titles_follow,
-    worked_caches_fit, worked_counts_fit,
+    caches_keep, issues_return, lines_differ, places_add_up, report_adds_up, runs_until, sizes_fit,
+    titles_follow, worked_caches_fit, worked_counts_fit,
 };
 pub use register::Reg;
 pub use slot_word::SlotWord;
