@@ -1,0 +1,117 @@
+-- A run in the order of its lines, as its clauses say; and two such runs that agree before a line.
+use Rattle.std.proofs.Common.{◌≡◌, ℕ, ◌<◌, cond, List, [], ◌∷◌, Option, Some, None, ◌≤◌, sym, refl}
+use Rattle.std.specs.Prelude.{Contains, All, AllPairs}
+use Rattle.pa_machine.specs.declared.word.SlotName.{SlotName}
+use Rattle.pa_machine.specs.declared.word.Step.{Step}
+use Rattle.pa_machine.specs.Count.{stepped}
+use Rattle.pa_machine.specs.Run.{Mark, Slots, same_slot}
+use Rattle.pa_trace.specs.Limits.{IsOpWithin}
+use Rattle.pa_record.specs.declared.entry.Seen.{Seen}
+use Rattle.pa_record.specs.declared.entry.Answer.{Answer}
+use Rattle.pa_record.specs.declared.entry.Answer.TheVariants.{Made, Full, Purged}
+use Rattle.pa_record.specs.declared.history.CellEntry.{CellEntry}
+use Rattle.pa_record.specs.declared.pool.PoolEntry.{PoolEntry}
+use Rattle.pa_record.specs.declared.root.RootEntry.{RootEntry}
+use Rattle.pa_rules.specs.Played.{Played, marks_of}
+use Rattle.pa_rules.specs.Cells.{AreCells}
+use Rattle.pa_rules.specs.Registers.{AreRegisters}
+use Rattle.pa_rules.specs.Sizes.{usable_of}
+use Rattle.pa_rules.specs.Roots.{Journals, IsPoolOf, AreRoots}
+use Rattle.pa_rules.specs.Holders.{AreHolders}
+use Rattle.pa_rules.specs.Caches.{AreCaches}
+use Rattle.pa_rules.specs.FileOrder.{IsInFileOrder}
+use Rattle.pa_one_run.proofs.lines.Sorting.{below, below_alike}
+
+-- x's line is less than y's
+abbrev pub Earlier : Played → Played → Type 0
+Earlier x y = x.line < y.line
+
+-- the lines of entries and exchanges
+abbrev pub entry_line : RootEntry → ℕ
+entry_line e = e.line
+
+abbrev pub pool_line : PoolEntry → ℕ
+pool_line e = e.line
+
+abbrev pub cell_line : CellEntry → ℕ
+cell_line e = e.line
+
+-- what a run is made of, but for its report, with the numbers of its trace's head
+pub record Parts : Type 0 where
+  pub supers : ℕ
+  pub partitions : ℕ
+  pub threads : ℕ
+  pub ps : List Played
+  pub pools : List PoolEntry
+  pub roots : Journals
+  pub cells : ℕ → List CellEntry
+
+-- what is used of a legal run in the order of its lines: of the contents only what that order says
+pub record IsFiled (a : Parts) : Type 0 where
+  pub rising : AllPairs Earlier a.ps
+  pub few : All (λ (x : Played). x.thread < a.threads) a.ps
+  pub within : All (λ (x : Played). IsOpWithin a.partitions x.op) a.ps
+  pub exchanged : AreCells a.cells a.ps
+  pub registers : AreRegisters usable_of a.cells a.ps
+  pub slots : Slots (marks_of a.ps)
+  pub pool : IsPoolOf a.supers a.ps a.pools a.roots
+  pub journals : AreRoots a.partitions a.ps a.pools a.roots
+  pub holders : AreHolders a.ps a.roots
+  pub caches : AreCaches a.partitions a.roots a.ps
+  pub order : IsInFileOrder a.ps a.pools a.roots a.cells
+
+-- the word of slot s after some marks: that of a slot which was never stepped on is 0
+abbrev pub stepped_by : Option Step → ℕ → ℕ
+stepped_by None u = u
+stepped_by (Some p) u = stepped p u
+
+abbrev pub word_from : List Mark → SlotName → ℕ → ℕ
+word_from [] s u = u
+word_from (m ∷ ms) s u = word_from ms s (cond (same_slot m.slot s) (stepped_by m.step u) u)
+
+-- the word of slot s after some records
+abbrev pub word_after : List Played → SlotName → ℕ
+word_after ps s = word_from (marks_of ps) s 0
+
+-- one of the records made slot s
+abbrev pub IsMadeIn : List Played → SlotName → Type 0
+IsMadeIn ps s = (q : Played) × (seen : Seen) × (usable : ℕ) × Contains ps q × (q.answer ≡ Made seen usable) × (seen.slot ≡ s)
+
+-- two runs of one trace's head have the same entries and exchanges before line n
+pub record Agrees (n : ℕ) (a b : Parts) : Type 0 where
+  pub supers : a.supers ≡ b.supers
+  pub partitions : a.partitions ≡ b.partitions
+  pub pool : below pool_line n a.pools ≡ below pool_line n b.pools
+  pub journals : (p : ℕ) → below entry_line n (a.roots p) ≡ below entry_line n (b.roots p)
+  pub cells : (k : ℕ) → below cell_line n (a.cells k) ≡ below cell_line n (b.cells k)
+
+-- what the placement settles of two answers to one op: which slot was made, whether there was room, which entry says that
+-- there was none, and how many slots a purge gave back
+pub record IsPlacedAlike (x y : Answer) : Type 0 where
+  pub made : (seen other : Seen) (u v : ℕ) → x ≡ Made seen u → y ≡ Made other v → seen.slot ≡ other.slot
+  pub made_full : (seen : Seen) (u j : ℕ) → x ≡ Made seen u → y ≡ Full j → ⊥
+  pub full_made : (seen : Seen) (u j : ℕ) → x ≡ Full j → y ≡ Made seen u → ⊥
+  pub full : (i j : ℕ) → x ≡ Full i → y ≡ Full j → i ≡ j
+  pub purged : (i j : ℕ) → x ≡ Purged i → y ≡ Purged j → i ≡ j
+
+-- a run agrees with itself, the other with the one, and two before an earlier line
+pub agrees_self : (n : ℕ) (a : Parts) → Agrees n a a
+agrees_self n a = record { supers = refl; partitions = refl; pool = refl; journals = λ p. refl; cells = λ k. refl }
+
+pub agrees_swap : (n : ℕ) (a b : Parts) → Agrees n a b → Agrees n b a
+agrees_swap n a b h = record {
+  supers = sym h.supers;
+  partitions = sym h.partitions;
+  pool = sym h.pool;
+  journals = λ p. sym (h.journals p);
+  cells = λ k. sym (h.cells k);
+}
+
+pub agrees_earlier : (a b : Parts) (m n : ℕ) → m ≤ n → Agrees n a b → Agrees m a b
+agrees_earlier a b m n low h = record {
+  supers = h.supers;
+  partitions = h.partitions;
+  pool = below_alike pool_line m n a.pools b.pools low h.pool;
+  journals = λ p. below_alike entry_line m n (a.roots p) (b.roots p) low (h.journals p);
+  cells = λ k. below_alike cell_line m n (a.cells k) (b.cells k) low (h.cells k);
+}

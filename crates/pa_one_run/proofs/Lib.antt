@@ -1,0 +1,12 @@
+pub mod lines
+pub mod Filed
+pub mod words
+pub mod rows
+pub mod roots
+pub mod numbers
+pub mod placing
+pub mod Reports
+pub mod Legality
+pub mod OneRun
+pub mod OneThread
+pub mod worked

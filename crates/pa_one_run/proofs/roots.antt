@@ -1,0 +1,4 @@
+pub mod Classes
+pub mod Replays
+pub mod Asking
+pub mod Requests

@@ -1,0 +1,5 @@
+pub mod Laws
+pub mod Worked
+pub mod WorkedWrites
+pub mod WorkedPurge
+pub mod WorkedOnly
