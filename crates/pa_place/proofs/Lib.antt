@@ -1,0 +1,9 @@
+pub mod Bounds
+pub mod Filling
+pub mod Giving
+pub mod Keeping
+pub mod Looking
+pub mod Placing
+pub mod Removing
+pub mod Runs
+pub mod Scanning

@@ -1,0 +1,89 @@
+use Rattle.std.proofs.Common.{◌≡◌, ◌+◌, ◌<◌, ◌≤◌, ℕ, List, length, refl, ◌∙◌, subst, arith, rules, Option}
+use Rattle.pa_machine.specs.declared.title.Title.{Title}
+use Rattle.pa_record.specs.Pool.{PoolState}
+use Rattle.pa_record.specs.Root.{Root, takes}
+use Rattle.pa_record.specs.Sound.{IsBornBelow}
+use Rattle.pa_place.specs.declared.store.Store.{Store}
+use Rattle.pa_place.specs.Store.{root_of, HasLowSupers, IsKept, AsksWhere}
+use Rattle.pa_place.proofs.Filling.{filled_with}
+use Rattle.pa_place.proofs.Keeping.{IsGood, IsAfterAsk, good_of, kept_by, asked_step, filled_step, fills_by}
+use Rattle.pa_place.proofs.placement.Placement.fill.Goals as goal
+
+-- the pool was asked
+asked : (before room after : Store) (r : Root) (class : ℕ) (pool next : PoolState) (o : Option ℕ) → IsKept before → root_of before ≡ r → root_of room ≡ root_of before →
+    length room.supers.items < 65536 → IsBornBelow pool.entries r → HasLowSupers (root_of after) → AsksWhere class pool next (root_of room) (root_of after) o → IsAfterAsk pool next r (root_of after)
+asked before room after r class pool next o kept e same few old low asks =
+    let f = same ∙ e in
+    asked_step class pool next r (root_of after) o (subst IsGood e (good_of before kept)) (subst (λ (z : Root). length z.supers < 65536) f few) old low
+    (subst (λ z. AsksWhere class pool next z (root_of after) o) f asks)
+
+-- and then the takes were made
+record IsFilledFrom (pool next : PoolState) (r after : Root) : Type 0 where
+  good : IsGood after
+  turn : after.turn ≤ r.turn + 32
+  rises : r.turn ≤ after.turn
+  born : IsBornBelow next.entries after
+  maps : after.maps ≡ r.maps
+
+filled : (class want : ℕ) (pool next : PoolState) (r between after : Root) (titles : List Title) → IsAfterAsk pool next r between → class < 59 → want ≤ 8 →
+    takes class want between ≡ filled_with after titles → IsFilledFrom pool next r after
+filled class want pool next r between after titles a real few e =
+    let b = filled_step class want between after titles a.good real few e in
+    record {
+      good = b.good;
+      turn = let p = a.turn in let q = b.turn in omega arith;
+      rises = let p = a.turn in let q = b.rises in omega arith;
+      born = b.born next.entries a.born;
+      maps = b.maps ∙ a.maps;
+    }
+
+pub takes-titles-requires-clause-ready : goal.takes-titles-requires-clause-ready
+takes-titles-requires-clause-ready c =
+    (asked c.self.inside.store c.make_room.new.self c.ask-pool.new.self c.args.self.now c.args.class c.args.pool.now c.ask-pool.new.pool c.ask-pool.result c.self.invariant c.self.view_is
+    c.make_room.ensures.same c.in_ok-make_room.ensures.room.few_supers c.requires.born c.ask-pool.ensures.low c.ask-pool.ensures.asks).good.ready
+
+pub invariant_of-self-2 : goal.invariant_of-self-2
+invariant_of-self-2 c =
+    let a = asked c.self.inside.store c.make_room.new.self c.ask-pool.new.self c.args.self.now c.args.class c.args.pool.now c.ask-pool.new.pool c.ask-pool.result c.self.invariant c.self.view_is
+    c.make_room.ensures.same c.in_ok-make_room.ensures.room.few_supers c.requires.born c.ask-pool.ensures.low c.ask-pool.ensures.asks in
+    let real : c.args.class < 59 = search rules in
+    let b = filled c.args.class c.args.want c.args.pool.now c.ask-pool.new.pool c.args.self.now (root_of c.ask-pool.new.self) (root_of c.takes-titles.new.self) c.takes-titles.result.items a real c.requires.few c.takes-titles.ensures.filled in
+    let many = c.takes-titles.ensures.many in
+    let same = c.ask-pool.ensures.spans in
+    let few = c.in_ok-make_room.ensures.room.few_spans in
+    kept_by c.takes-titles.new.self (root_of c.takes-titles.new.self) refl b.good (omega arith)
+
+pub returns-clause-filled : goal.returns-clause-filled
+returns-clause-filled c =
+    let f = c.make_room.ensures.same ∙ c.self.view_is in
+    fills_by c.args.class c.args.want c.args.pool.now c.ask-pool.new.pool c.args.self.now (root_of c.ask-pool.new.self) (root_of c.takes-titles.new.self) c.takes-titles.result.items c.ask-pool.result
+    (subst (λ z. AsksWhere c.args.class c.args.pool.now c.ask-pool.new.pool z (root_of c.ask-pool.new.self) c.ask-pool.result) f c.ask-pool.ensures.asks)
+    c.takes-titles.ensures.filled
+
+pub returns-clause-turn : goal.returns-clause-turn
+returns-clause-turn c =
+    let a = asked c.self.inside.store c.make_room.new.self c.ask-pool.new.self c.args.self.now c.args.class c.args.pool.now c.ask-pool.new.pool c.ask-pool.result c.self.invariant c.self.view_is
+    c.make_room.ensures.same c.in_ok-make_room.ensures.room.few_supers c.requires.born c.ask-pool.ensures.low c.ask-pool.ensures.asks in
+    let real : c.args.class < 59 = search rules in
+    (filled c.args.class c.args.want c.args.pool.now c.ask-pool.new.pool c.args.self.now (root_of c.ask-pool.new.self) (root_of c.takes-titles.new.self) c.takes-titles.result.items a real c.requires.few c.takes-titles.ensures.filled).turn
+
+pub returns-clause-rises : goal.returns-clause-rises
+returns-clause-rises c =
+    let a = asked c.self.inside.store c.make_room.new.self c.ask-pool.new.self c.args.self.now c.args.class c.args.pool.now c.ask-pool.new.pool c.ask-pool.result c.self.invariant c.self.view_is
+    c.make_room.ensures.same c.in_ok-make_room.ensures.room.few_supers c.requires.born c.ask-pool.ensures.low c.ask-pool.ensures.asks in
+    let real : c.args.class < 59 = search rules in
+    (filled c.args.class c.args.want c.args.pool.now c.ask-pool.new.pool c.args.self.now (root_of c.ask-pool.new.self) (root_of c.takes-titles.new.self) c.takes-titles.result.items a real c.requires.few c.takes-titles.ensures.filled).rises
+
+pub returns-clause-born : goal.returns-clause-born
+returns-clause-born c =
+    let a = asked c.self.inside.store c.make_room.new.self c.ask-pool.new.self c.args.self.now c.args.class c.args.pool.now c.ask-pool.new.pool c.ask-pool.result c.self.invariant c.self.view_is
+    c.make_room.ensures.same c.in_ok-make_room.ensures.room.few_supers c.requires.born c.ask-pool.ensures.low c.ask-pool.ensures.asks in
+    let real : c.args.class < 59 = search rules in
+    (filled c.args.class c.args.want c.args.pool.now c.ask-pool.new.pool c.args.self.now (root_of c.ask-pool.new.self) (root_of c.takes-titles.new.self) c.takes-titles.result.items a real c.requires.few c.takes-titles.ensures.filled).born
+
+pub returns-clause-maps : goal.returns-clause-maps
+returns-clause-maps c =
+    let a = asked c.self.inside.store c.make_room.new.self c.ask-pool.new.self c.args.self.now c.args.class c.args.pool.now c.ask-pool.new.pool c.ask-pool.result c.self.invariant c.self.view_is
+    c.make_room.ensures.same c.in_ok-make_room.ensures.room.few_supers c.requires.born c.ask-pool.ensures.low c.ask-pool.ensures.asks in
+    let real : c.args.class < 59 = search rules in
+    (filled c.args.class c.args.want c.args.pool.now c.ask-pool.new.pool c.args.self.now (root_of c.ask-pool.new.self) (root_of c.takes-titles.new.self) c.takes-titles.result.items a real c.requires.few c.takes-titles.ensures.filled).maps

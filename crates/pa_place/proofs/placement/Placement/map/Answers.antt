@@ -1,0 +1,34 @@
+use Rattle.std.proofs.Common.{◌≡◌, ◌<◌, ℕ, List, length, refl, sym, ◌∙◌, ap, subst, arith, Option}
+use Rattle.pa_machine.specs.declared.title.Title.{Title}
+use Rattle.pa_record.specs.Pool.{PoolState, took}
+use Rattle.pa_record.specs.Root.{Root}
+use Rattle.pa_record.specs.Sound.{IsBornBelow}
+use Rattle.pa_place.specs.declared.store.Store.{Store}
+use Rattle.pa_place.specs.Placed.{mapped_by}
+use Rattle.pa_place.specs.Store.{root_of, IsKept}
+use Rattle.pa_place.proofs.Filling.{filled_with}
+use Rattle.pa_place.proofs.Keeping.{IsGood, IsAfterMap, good_of, kept_by, mapped_step, entries_after}
+use Rattle.pa_place.proofs.placement.Placement.map.Goals as goal
+
+step : (before room after : Store) (r : Root) (len entry count : ℕ) (found : Option ℕ) (pool next : PoolState) (titles : List Title) → IsKept before → root_of before ≡ r → root_of room ≡ root_of before →
+    length room.maps.items < 65536 → IsBornBelow pool.entries r → entry ≡ pool.entries → next ≡ took count found pool → mapped_by len entry found (root_of room) ≡ filled_with (root_of after) titles →
+    IsAfterMap pool next r (root_of after)
+step before room after r len entry count found pool next titles kept e same few old is more mapped =
+    let f = same ∙ e in
+    mapped_step len entry found pool next r (root_of after) titles (subst IsGood e (good_of before kept)) (subst (λ (z : Root). length z.maps < 65536) f few) old is
+    (ap (λ (z : PoolState). z.entries) more ∙ entries_after count found pool)
+    (sym (ap (mapped_by len entry found) f) ∙ mapped)
+
+pub invariant_of-self-2 : goal.invariant_of-self-2
+invariant_of-self-2 c =
+    let a = step c.self.inside.store c.make_map_room.new.self c.map-titles.new.self c.args.self.now c.args.slot c.entries-entry.result c.args.supers c.take-found.result c.args.pool.now c.take-found.new.self
+    c.map-titles.result.items c.self.invariant c.self.view_is c.make_map_room.ensures.same c.in_ok-make_map_room.ensures.few c.requires.born c.entries-entry.ensures c.take-found.ensures.after c.map-titles.ensures.mapped in
+    let many = c.map-titles.ensures.many in
+    let many' = c.make_map_room.ensures.many in
+    let few = c.self.invariant.spans in
+    kept_by c.map-titles.new.self (root_of c.map-titles.new.self) refl a.good (omega arith)
+
+pub returns-clause-born : goal.returns-clause-born
+returns-clause-born c =
+    (step c.self.inside.store c.make_map_room.new.self c.map-titles.new.self c.args.self.now c.args.slot c.entries-entry.result c.args.supers c.take-found.result c.args.pool.now c.take-found.new.self
+    c.map-titles.result.items c.self.invariant c.self.view_is c.make_map_room.ensures.same c.in_ok-make_map_room.ensures.few c.requires.born c.entries-entry.ensures c.take-found.ensures.after c.map-titles.ensures.mapped).born

@@ -1,0 +1,21 @@
+use Rattle.std.proofs.Common.{◌≡◌, refl, ◌∙◌, ap, subst, arith}
+use Rattle.pa_machine.specs.declared.title.Title.{Title}
+use Rattle.pa_record.specs.Spans.{name_of}
+use Rattle.pa_record.specs.Root.{Root, unmapped}
+use Rattle.pa_place.specs.declared.store.Store.{Store}
+use Rattle.pa_place.specs.Store.{root_of, IsKept}
+use Rattle.pa_place.proofs.Keeping.{IsGood, IsAfterUnmap, good_of, kept_by, unmapped_step}
+use Rattle.pa_place.proofs.placement.Placement.unmap.Goals as goal
+
+step : (before after : Store) (r : Root) (title : Title) → IsKept before → root_of before ≡ r → root_of after ≡ unmapped (name_of title) (root_of before) → IsAfterUnmap r (root_of after)
+step before after r title kept e is = unmapped_step (name_of title) r (root_of after) (subst IsGood e (good_of before kept)) (is ∙ ap (unmapped (name_of title)) e)
+
+pub invariant_of-self : goal.invariant_of-self
+invariant_of-self c =
+    let a = step c.self.inside.store c.unmap.new.self c.args.self.now c.args.title c.self.invariant c.self.view_is c.unmap.ensures.unmapped in
+    let many = c.unmap.ensures.many in
+    let few = c.self.invariant.spans in
+    kept_by c.unmap.new.self (root_of c.unmap.new.self) refl a.good (omega arith)
+
+pub returns-clause-born : goal.returns-clause-born
+returns-clause-born c = (step c.self.inside.store c.unmap.new.self c.args.self.now c.args.title c.self.invariant c.self.view_is c.unmap.ensures.unmapped).born

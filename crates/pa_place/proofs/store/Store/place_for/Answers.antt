@@ -1,0 +1,26 @@
+use Rattle.std.proofs.Common.{sym, ◌∙◌}
+use Rattle.pa_place.specs.Store.{root_of}
+use Rattle.pa_place.proofs.Placing.{is_room, current_in, listed_place, unlisted, new_place, blanks_popped}
+use Rattle.pa_place.proofs.store.Store.place_for.Goals as goal
+
+pub returns-then-is_some-clause-place : goal.returns-then-is_some-clause-place
+returns-then-is_some-clause-place c =
+    let same = rw c.deref.ensures.value at c.place_listed-listed.ensures in
+    listed_place c.args.class (root_of c.args.self.now) c.place_listed-listed.result same.listed same.within (sym c.if-is_some.ensures)
+
+pub add_span-requires-clause-number : goal.add_span-requires-clause-number
+add_span-requires-clause-number c =
+    let r = root_of c.args.self.now in
+    let room = is_room c.args.class r c.in_ok-at.at (sym c.in_ok-at.ensures) in
+    c.requires.ready.low c.in_ok-at.at (current_in r c.in_ok-at.at room.now)
+
+pub returns-clause-place : goal.returns-clause-place
+returns-clause-place c =
+    let r = root_of c.args.self.now in
+    let same = rw c.deref.ensures.value at c.place_listed-listed.ensures in
+    let none = unlisted c.args.class r c.place_listed-listed.result same.listed (sym c.if-is_some.ensures) in
+    let many = rw c.deref.ensures.value at c.deref.ensures.len in
+    new_place c.args.class r (root_of c.add_span.new.self) c.in_ok-at.at c.len-place.result none (sym c.in_ok-at.ensures) c.add_span.ensures.after (c.len-place.ensures ∙ sym many)
+
+pub returns-clause-blanks : goal.returns-clause-blanks
+returns-clause-blanks c = λ n h. blanks_popped c.args.class n c.args.blanks.now.items c.pop.new.self.items c.unwrap-span.result (rw c.unwrap-span.ensures at c.pop.ensures.items) h

@@ -1,0 +1,58 @@
+use Rattle.std.proofs.Common.{◌≡◌, ℕ, length, refl, sym, ◌∙◌, ap, subst, Option, Some, None}
+use Rattle.std.specs.Prelude.{find, IfNone}
+use Rattle.std.proofs.lemmas.Option.{slice_get_read}
+use Rattle.pa_machine.specs.declared.title.Title.{Title}
+use Rattle.pa_record.specs.Spans.{holds}
+use Rattle.pa_record.specs.Root.{IsOutOf}
+use Rattle.pa_place.specs.Scans.{span_at}
+use Rattle.pa_place.specs.Store.{root_of}
+use Rattle.pa_place.proofs.Scanning.{position_find}
+use Rattle.pa_place.proofs.Looking.{holder_is, none_holds, not_out}
+use Rattle.pa_place.proofs.store.Store.slot_out.Goals as goal
+
+pub returns-in_err-at-clause-none : goal.returns-in_err-at-clause-none
+returns-in_err-at-clause-none c =
+    let ss = c.args.self.now.spans.items in
+    let found = rw c.deref.ensures.value at c.in_err-at.ensures in
+    let none : find (holds c.args.name) ss ≡ None = sym (ap (span_at ss) found.holding ∙ position_find (holds c.args.name) ss) in
+    rw c.from_residual.ensures (none_holds (root_of c.args.self.now) c.args.name c.requires none)
+
+pub out-requires-clause-counted : goal.out-requires-clause-counted
+out-requires-clause-counted c =
+    let ss = c.args.self.now.spans.items in
+    let s = c.index.result.now in
+    let found = rw c.deref.ensures.value at c.in_ok-at.ensures in
+    let here = slice_get_read ss (length ss) c.in_ok-at.at s refl found.within c.index.ensures in
+    let held : find (holds c.args.name) ss ≡ Some s = sym (ap (span_at ss) found.holding ∙ position_find (holds c.args.name) ss) ∙ here in
+    (holder_is (root_of c.args.self.now) s c.args.name c.requires held).counted
+
+pub out-requires-clause-low : goal.out-requires-clause-low
+out-requires-clause-low c =
+    let ss = c.args.self.now.spans.items in
+    let s = c.index.result.now in
+    let found = rw c.deref.ensures.value at c.in_ok-at.ensures in
+    let here = slice_get_read ss (length ss) c.in_ok-at.at s refl found.within c.index.ensures in
+    let held : find (holds c.args.name) ss ≡ Some s = sym (ap (span_at ss) found.holding ∙ position_find (holds c.args.name) ss) ∙ here in
+    (holder_is (root_of c.args.self.now) s c.args.name c.requires held).low
+
+pub out-requires-clause-held : goal.out-requires-clause-held
+out-requires-clause-held c =
+    let ss = c.args.self.now.spans.items in
+    let s = c.index.result.now in
+    let found = rw c.deref.ensures.value at c.in_ok-at.ensures in
+    let here = slice_get_read ss (length ss) c.in_ok-at.at s refl found.within c.index.ensures in
+    let held : find (holds c.args.name) ss ≡ Some s = sym (ap (span_at ss) found.holding ∙ position_find (holds c.args.name) ss) ∙ here in
+    (holder_is (root_of c.args.self.now) s c.args.name c.requires held).held
+
+pub returns-clause-none : goal.returns-clause-none
+returns-clause-none c =
+    let ss = c.args.self.now.spans.items in
+    let s = c.index.result.now in
+    let found = rw c.deref.ensures.value at c.in_ok-at.ensures in
+    let here = slice_get_read ss (length ss) c.in_ok-at.at s refl found.within c.index.ensures in
+    let held : find (holds c.args.name) ss ≡ Some s = sym (ap (span_at ss) found.holding ∙ position_find (holds c.args.name) ss) ∙ here in
+    by_cases c.out.result (λ e. not_out (root_of c.args.self.now) s c.args.name c.requires held (subst (λ o. IfNone o ((n : ℕ) → IsOutOf s c.args.name n → ⊥)) e c.out.ensures.none))
+  where
+    by_cases : {P : Type 0} (o : Option Title) → (o ≡ None → P) → IfNone o P
+    by_cases None h = h refl
+    by_cases (Some t) h = tt

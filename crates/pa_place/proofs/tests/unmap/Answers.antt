@@ -1,0 +1,18 @@
+use Rattle.std.proofs.Common.{ap, ◌∙◌, arith}
+use Rattle.pa_record.specs.Pool.{PoolState}
+use Rattle.pa_record.specs.Root.{Root}
+use Rattle.pa_record.proofs.Mapping.{born_more}
+use Rattle.pa_place.proofs.tests.unmap.Goals as goal
+
+pub returns : goal.returns
+returns g c =
+    let old = c.requires.maps in
+    let more = ap (λ (p : PoolState). p.entries) c.unmap-went.ensures.pool in
+    let few = old.entries in
+    record {
+      maps = record {
+        entries = omega arith;
+        born = born_more c.args.pool.now.entries c.unmap-went.new.pool.entries c.unmap-went.new.self (omega arith) (c.unmap-went.ensures.born c.args.pool.now.entries old.born);
+        spans = ap (λ (r : Root). r.spans) c.unmap-went.ensures.unmapped ∙ old.spans;
+      };
+    }

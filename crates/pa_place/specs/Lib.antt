@@ -1,0 +1,6 @@
+pub mod Placed
+pub mod Pool
+pub mod Scans
+pub mod Served
+pub mod Store
+pub mod Tests

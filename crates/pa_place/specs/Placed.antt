@@ -1,0 +1,38 @@
+-- What a fill and a direct map do to a placement and its pool.
+use Rattle.std.specs.Prelude.{◌≡◌, ℕ, [], ◌∷◌, Option, Some, None, IsSome, IsNone}
+use Rattle.pa_machine.specs.declared.title.Title.{Title}
+use Rattle.pa_layout.specs.Pages.{page_place}
+use Rattle.pa_record.specs.Pool.{PoolState, IsLowest, took}
+use Rattle.pa_record.specs.Root.{Root, Filled, span_for, takes, opened, map_title, mapped, supers_for}
+
+-- The pool was asked for `count` super pages: by its next entry it found the lowest that are free, or none.
+pub record IsAsked (count asked : ℕ) (found : Option ℕ) (pool next : PoolState) : Type 0 where
+  pub entry : asked ≡ pool.entries
+  pub lowest : IsLowest pool count found
+  pub took : next ≡ took count found pool
+
+-- the root and the slots after a fill that asked the pool: without room nothing changed
+abbrev pub filled_by : ℕ → ℕ → ℕ → Option ℕ → Root → Filled
+filled_by class want entry None r = record { root = r; titles = [] }
+filled_by class want entry (Some first) r = takes class want (opened first entry r)
+
+-- A fill asks the pool exactly where no span of the class has a slot left and the current super page has no room for one.
+abbrev pub Fills : ℕ → ℕ → PoolState → PoolState → Root → Filled → Option ℕ → Type 0
+Fills class want pool next r filled None = IsSome (span_for class r) × (next ≡ pool) × (filled ≡ takes class want r)
+Fills class want pool next r filled (Some entry) =
+    IsNone (span_for class r) × (found : Option ℕ) × IsAsked 1 entry found pool next × (filled ≡ filled_by class want entry found r)
+
+-- a direct map in the super pages from `first` on
+abbrev pub map_in : ℕ → ℕ → ℕ → Title
+map_in first len entry = map_title (record { start = page_place first 1; born = entry }) len
+
+-- the root and the slot after a direct map was asked for
+abbrev pub mapped_by : ℕ → ℕ → Option ℕ → Root → Filled
+mapped_by len entry None r = record { root = r; titles = [] }
+mapped_by len entry (Some first) r = record { root = mapped (map_in first len entry) r; titles = map_in first len entry ∷ [] }
+
+-- a direct map always asks the pool, for as many super pages as its slot needs
+abbrev pub Maps : ℕ → PoolState → PoolState → Root → Filled → Option ℕ → Type 0
+Maps len pool next r filled None = ⊥
+Maps len pool next r filled (Some entry) =
+    (found : Option ℕ) × IsAsked (supers_for len) entry found pool next × (filled ≡ mapped_by len entry found r)

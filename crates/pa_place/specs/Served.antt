@@ -1,0 +1,26 @@
+-- A span before it stands anywhere, and what a take leaves of one.
+use Rattle.std.specs.Prelude.{◌≡◌, ℕ, ◌+◌, ◌≤◌, ◌^◌, List, [], ◌∷◌}
+use Rattle.pa_machine.specs.declared.title.Title.{Title}
+use Rattle.pa_buckets.specs.declared.spans.State.TheVariants as state
+use Rattle.pa_record.specs.Spans.{Span, bytes_of, title_at, with_free, without_front}
+
+-- a span of the class in no place, of which nothing is committed
+abbrev pub blank_span : ℕ → Span
+blank_span class =
+    record { place = 0; born = 0; class = class; state = state.None; turn = 0; allocated = 0; provisioned = 0; committed = 0; made = 0; free = [] }
+
+-- the same span there
+abbrev pub stands_at : ℕ → ℕ → Span → Span
+stands_at place born s = record s { place = place; born = born }
+
+-- its bytes lie in the region
+abbrev pub IsLow : Span → Type 0
+IsLow s = s.place + bytes_of s ≤ 2 ^ 32
+
+-- The front of the span's list was taken, after the span was provisioned where the list was empty.
+pub record IsServed (s next : Span) (served : Title) : Type 0 where
+  pub number : ℕ
+  pub rest : List ℕ
+  pub front : (with_free s).free ≡ number ∷ rest
+  pub after : next ≡ without_front rest (with_free s)
+  pub title : served ≡ title_at (with_free s) number

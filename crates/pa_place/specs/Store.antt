@@ -1,0 +1,69 @@
+-- The plain store as a root, and what it keeps.
+use Rattle.std.specs.Prelude.{◌≡◌, ℕ, ◌+◌, ◌<◌, ◌≤◌, List, length, Option, Some, None, IsSome, IsNone, slice_get, All, Contains, vec_len, nat_le, if◌then◌else◌}
+use Rattle.std.specs.Vec.{vec_capacity}
+use Rattle.pa_buckets.specs.Table.{pages_of, slots_of}
+use Rattle.pa_record.specs.declared.taken.SuperPage.{SuperPage}
+use Rattle.pa_record.specs.Pool.{PoolState}
+use Rattle.pa_record.specs.Spans.{Span}
+use Rattle.pa_record.specs.Root.{Root, Found, opened, span_for}
+use Rattle.pa_record.specs.Sound.{IsSound, IsSettled}
+use Rattle.pa_place.specs.declared.store.Store.{Store}
+use Rattle.pa_place.specs.Placed.{IsAsked}
+use Rattle.pa_place.specs.Served.{blank_span}
+
+abbrev pub root_of : Store → Root
+root_of s = record { supers = s.supers.items; page = s.page; turn = s.turn; maps = s.maps.items; spans = s.spans.items }
+
+-- each super page of the root lies in the region
+abbrev pub HasLowSupers : Root → Type 0
+HasLowSupers r = (at : SuperPage) → Contains r.supers at → at.number < 64
+
+-- a store in which a take may be made
+pub record IsReady (r : Root) : Type 0 where
+  pub sound : IsSound r
+  pub low : HasLowSupers r
+
+-- the span at that place of the list has slots that aren't out
+abbrev pub IsUsableAt : Root → ℕ → Type 0
+IsUsableAt r at = (s : Span) × (slice_get r.spans at ≡ Some s) × (s.allocated < slots_of s.class)
+
+-- The span from which a take is made stands there, in a root with it; where there is none, nothing changed.
+abbrev pub FindsPlace : ℕ → Root → Root → Option ℕ → Type 0
+FindsPlace class r after None = (span_for class r ≡ None) × (after ≡ r)
+FindsPlace class r after (Some at) = (f : Found) × (span_for class r ≡ Some f) × (f.root ≡ after) × (slice_get after.spans at ≡ Some f.span)
+
+-- so many blank spans of the class lie ready
+pub record HasBlanks (class n : ℕ) (blanks : List Span) : Type 0 where
+  pub many : n ≤ length blanks
+  pub blank : All (λ s. s ≡ blank_span class) blanks
+
+-- the current super page, if it has room for a span of the class
+abbrev pub room_for : ℕ → Root → Option SuperPage → Option SuperPage
+room_for class r None = None
+room_for class r (Some at) = if nat_le (r.page + pages_of class) 127 then Some at else None
+
+-- What a store keeps between calls: a sound root of which at most 16 spans are empty, and lists that aren't too long.
+pub record IsKept (s : Store) : Type 0 where
+  pub ready : IsReady (root_of s)
+  pub settled : IsSettled (root_of s)
+  pub supers : length s.supers.items ≤ 65536
+  pub maps : length s.maps.items ≤ 65536
+  pub spans : vec_len s.spans ≤ 65536
+
+-- there is room for so many spans more, and for one super page
+pub record HasRoomFor (s : Store) (spans : ℕ) : Type 0 where
+  pub room : vec_len s.spans + spans ≤ vec_capacity s.spans
+  pub few_spans : vec_len s.spans + spans ≤ 65536
+  pub supers : vec_len s.supers < vec_capacity s.supers
+  pub few_supers : length s.supers.items < 65536
+
+-- the super pages that the pool found become the current ones
+abbrev pub opened_where : Option ℕ → ℕ → Root → Root
+opened_where None entry r = r
+opened_where (Some first) entry r = opened first entry r
+
+-- the pool was asked where no span for the class is there
+abbrev pub AsksWhere : ℕ → PoolState → PoolState → Root → Root → Option ℕ → Type 0
+AsksWhere class pool next r after None = IsSome (span_for class r) × (next ≡ pool) × (after ≡ r)
+AsksWhere class pool next r after (Some entry) =
+    IsNone (span_for class r) × (found : Option ℕ) × IsAsked 1 entry found pool next × (after ≡ opened_where found entry r)

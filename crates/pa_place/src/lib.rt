@@ -1,0 +1,19 @@
+//! The plain placement, over lists: the pool of super pages, and the root of one partition. It says what each call of an
+//! allocator's root has to answer, in the words of the definitions of what such a call is.
+#![tactic(auto)]
+
+mod looks;
+mod placed;
+mod placement;
+mod plain_span;
+mod pool_plan;
+mod returns;
+mod scans;
+mod store;
+mod takes;
+#[cfg(test)]
+mod tests;
+
+pub use placed::Placed;
+pub use placement::Placement;
+pub use pool_plan::PoolPlan;

@@ -1,0 +1,180 @@
+ghost use Rattle.std.specs.Prelude.{◌≡◌, ◌≢◌, ℕ, ◌+◌, ◌-◌, ◌%◌, ◌<◌, ◌≤◌, ◌^◌, IfOk, IfSome, IfNone, OnErr, All, AllPairs, Contains, length, map};
+ghost use Rattle.pa_machine.specs.declared.title.Title.{Title as Slot};
+ghost use Rattle.pa_layout.specs.Pages.{super_page_at};
+ghost use Rattle.pa_record.specs.declared.taken.Taken.{Taken};
+ghost use Rattle.pa_record.specs.Pool.{IsOneTake, gave};
+ghost use Rattle.pa_record.specs.Spans.{name_of};
+ghost use Rattle.pa_record.specs.Root.{new_root, all_returned, purged, unmapped, supers_for, IsOut, IsTitleOut};
+ghost use Rattle.pa_record.specs.Census.{census};
+ghost use Rattle.pa_record.specs.Sound.{IsBornBelow};
+ghost use Rattle.pa_place.specs.Placed.{Fills, Maps};
+
+use crate::looks::supers_of;
+use crate::placed::Placed;
+use crate::pool_plan::PoolPlan;
+use crate::store::{Store, blank_spans};
+use pa_buckets::Class;
+use pa_layout::super_page_of;
+use pa_machine::{OutOfMemory, SlotName, Title};
+use pa_record::Census;
+use std::alloc::Global;
+use std::marker::Model;
+
+/// The root of one partition, as lists. It is seen as that root, which is sound, and of which at most 16 spans are empty.
+/// A list that would have more than 65,536 members is refused as want of memory; 64 super pages have 8,064 spans at most.
+#[derive(Drop)]
+pub struct Placement {
+    store: Store,
+    alloc: Global,
+}
+
+impl Model for Placement {
+    ghost use Rattle.pa_record.specs.Root.{Root};
+
+    ghost Value = { Root };
+
+    ghost use Rattle.pa_place.specs.Store.{root_of, IsKept};
+
+    ghost view = { λ p. root_of p.store };
+
+    ghost invariant = { λ p. IsKept p.store };
+}
+
+impl Placement {
+    /// A root with no super page.
+    pub fn new(alloc: Global) -> Result<Placement, OutOfMemory>
+        ensures start { IfOk result (λ p. p ≡ new_root) }
+    {
+        let store = Store::new(alloc)?;
+        Ok(Placement { store, alloc })
+    }
+
+    /// Takes `want` slots of the class, 1 to 8, or as many as there are. Only the first take may ask the pool, for one super
+    /// page. After want of memory the placement and the pool are unchanged.
+    pub fn fill(
+        &mut self,
+        pool: &mut PoolPlan,
+        class: Class,
+        want: u32,
+    ) -> Result<Placed, OutOfMemory>
+        requires some { 1 ≤ want }
+        requires few { want ≤ 8 }
+        requires turn { self.old.turn < 2 ^ 62 }
+        requires entries { pool.old.entries < 2 ^ 32 - 1 }
+        requires born { IsBornBelow pool.old.entries self.old }
+        ensures filled { IfOk result (λ p. Fills class want pool.old pool.new self.old (record { root = self.new; titles = p.titles.items }) p.pool) }
+        ensures pool { OnErr result (pool.new ≡ pool.old) }
+        ensures root { OnErr result (self.new ≡ self.old) }
+
+        // What callers need over many calls.
+        ensures turn { self.new.turn ≤ self.old.turn + 32 }
+        ensures rises { self.old.turn ≤ self.new.turn }
+        ensures entries { pool.new.entries ≤ pool.old.entries + 1 }
+        ensures born { IsBornBelow pool.new.entries self.new }
+        ensures maps { self.new.maps ≡ self.old.maps }
+    {
+        let blanks = blank_spans(self.alloc, class, want)?;
+        self.store.make_room(want)?;
+        let pool = self.store.ask(pool, class);
+        let titles = self.store.takes(class, want, blanks);
+        Ok(Placed { pool, titles })
+    }
+
+    /// Makes a direct map whose slot has `slot` bytes, a multiple of 4,096, in `supers` super pages that the pool is asked
+    /// for: 1 to 16, which the slot and 32,768 bytes need. After want of memory the placement and the pool are unchanged.
+    pub fn map(
+        &mut self,
+        pool: &mut PoolPlan,
+        slot: u32,
+        supers: u32,
+    ) -> Result<Placed, OutOfMemory>
+        requires whole { slot % 4096 ≡ 0 }
+        requires some { 0 < slot }
+        requires supers { supers ≡ supers_for slot }
+        requires few { supers ≤ 16 }
+        requires entries { pool.old.entries < 2 ^ 32 - 1 }
+        requires born { IsBornBelow pool.old.entries self.old }
+        ensures mapped { IfOk result (λ p. Maps slot pool.old pool.new self.old (record { root = self.new; titles = p.titles.items }) p.pool) }
+        ensures pool { OnErr result (pool.new ≡ pool.old) }
+        ensures root { OnErr result (self.new ≡ self.old) }
+
+        // What callers need over many calls.
+        ensures turn { self.new.turn ≡ self.old.turn }
+        ensures entries { pool.new.entries ≤ pool.old.entries + 1 }
+        ensures born { IsBornBelow pool.new.entries self.new }
+    {
+        self.store.make_map_room()?;
+        let entry = pool.entries();
+        let found = pool.take(supers);
+        let titles = self.store.map(found, entry, slot);
+        Ok(Placed {
+            pool: Some(entry),
+            titles,
+        })
+    }
+
+    /// Returns the slots one by one: at most 16, each of which is out of this root and stands once. It takes no memory.
+    pub fn give(&mut self, titles: &[Title])
+        requires few { length titles.now ≤ 16 }
+        requires out { All (IsOut self.old) (map name_of titles.now) }
+        requires once { AllPairs ◌≢◌ (map name_of titles.now) }
+        requires turn { self.old.turn < 2 ^ 62 }
+        ensures returned { self.new ≡ all_returned (map name_of titles.now) self.old }
+
+        // What callers need over many calls.
+        ensures turn { self.new.turn ≤ self.old.turn + 32 }
+        ensures rises { self.old.turn ≤ self.new.turn }
+        ensures born { (n : ℕ) → IsBornBelow n self.old → IsBornBelow n self.new }
+        ensures maps { self.new.maps ≡ self.old.maps }
+    {
+        self.store.give_all(titles);
+    }
+
+    /// Gives the super pages of a direct map back to the pool, and tells the pool's entry. The map is one of this root, and
+    /// its super pages are one take that wasn't given. It takes no memory.
+    pub fn unmap(&mut self, pool: &mut PoolPlan, title: Title) -> u32
+        requires mapped { Contains self.old.maps title }
+        requires one_take { (t : Taken) × IsOneTake pool.old (super_page_at title.start) (supers_for title.len) t }
+        requires entries { pool.old.entries < 2 ^ 32 - 1 }
+        ensures entry { result ≡ pool.old.entries }
+        ensures unmapped { self.new ≡ unmapped (name_of title) self.old }
+        ensures pool { pool.new ≡ gave (super_page_at title.start) pool.old }
+
+        // What callers need over many calls.
+        ensures born { (n : ℕ) → IsBornBelow n self.old → IsBornBelow n self.new }
+    {
+        let entry = pool.entries();
+        pool.give(super_page_of(title.start), supers_of(title.len) as u32);
+        self.store.unmap(title);
+        entry
+    }
+
+    /// Decommits every empty span, the one that became empty first before the others. It takes no memory.
+    pub fn purge(&mut self)
+        requires turn { self.old.turn < 2 ^ 62 }
+        ensures purged { self.new ≡ purged self.old }
+
+        // What callers need over many calls.
+        ensures turn { self.new.turn ≤ self.old.turn + 32 }
+        ensures rises { self.old.turn ≤ self.new.turn }
+        ensures born { (n : ℕ) → IsBornBelow n self.old → IsBornBelow n self.new }
+        ensures maps { self.new.maps ≡ self.old.maps }
+    {
+        self.store.purge();
+    }
+
+    /// The slot of a span, or the direct map, that has that name and is out of this root. `None` exactly where none is.
+    pub fn out(&self, slot: SlotName) -> Option<Title>
+        ensures some { IfSome result (λ t. IsTitleOut self.now t × (name_of t ≡ slot)) }
+        ensures none { IfNone result ((t : Slot) → IsTitleOut self.now t → name_of t ≡ slot → ⊥) }
+    {
+        self.store.out(slot)
+    }
+
+    /// What the root has: its free slots, its bytes, and its spans by their states.
+    pub fn census(&self) -> Census
+        ensures { result ≡ census self.now }
+    {
+        self.store.census()
+    }
+}

@@ -1,0 +1,220 @@
+ghost use Rattle.std.specs.Prelude.{◌≡◌, ℕ, ◌+◌, ◌*◌, ◌<◌, ◌≤◌, [], OnOk};
+ghost use Rattle.pa_place.specs.Tests.{IsYoung, HasOnlyMaps};
+
+use crate::{Placement, PoolPlan};
+use pa_buckets::Class;
+use pa_machine::SlotName;
+use pa_record::{Census, Tally};
+use std::process::Abort;
+use std::test::Fail;
+
+// What a fill has to do: the entry of the pool that it makes, and where its slots start.
+#[derive(Clone, Copy)]
+struct Expected<'a> {
+    pool: Option<u32>,
+    starts: &'a [u32],
+}
+
+// A fill of `want` slots of the class. At most so many steps were made before.
+fn fill(
+    rt: &impl Abort,
+    placement: &mut Placement,
+    pool: &mut PoolPlan,
+    steps: u32,
+    class: u32,
+    want: u32,
+    expected: Expected<'_>,
+) -> Result<(), Fail>
+    requires young { IsYoung steps pool.old.entries placement.old }
+    requires few { steps < 1000 }
+    requires some { 1 ≤ want }
+    requires most { want ≤ 8 }
+    ensures young { OnOk result (IsYoung (steps + 1) pool.new.entries placement.new) }
+{
+    let class = Class::of(class).ok_or("no such class")?;
+    let placed = placement.fill(pool, class, want)?;
+    assert!(rt; placed.pool == expected.pool);
+    let titles = placed.titles.as_slice();
+    assert_eq!(rt; titles.len(), expected.starts.len());
+    for (title, start) in titles.iter().zip(expected.starts) {
+        assert_eq!(rt; title.start, *start);
+        assert_eq!(rt; title.born, 0);
+    }
+    Ok(())
+}
+
+// The slot that starts there is returned. At most so many steps were made before.
+fn give(rt: &impl Abort, placement: &mut Placement, steps: u32, start: u32) -> Result<(), Fail>
+    requires turn { placement.old.turn ≤ 32 * steps }
+    requires maps { placement.old.maps ≡ [] }
+    requires few { steps < 1000 }
+    ensures young { OnOk result ((n : ℕ) → IsYoung steps n placement.old → IsYoung (steps + 1) n placement.new) }
+{
+    let name = SlotName { start, born: 0 };
+    let title = placement.out(name).ok_or("the slot isn't out")?;
+    placement.give(&[title]);
+    assert!(rt; placement.out(name) == None);
+    Ok(())
+}
+
+// A direct map of 2,002,944 bytes at the start of the region, by this entry of the pool, or none where there is no room.
+fn map(
+    rt: &impl Abort,
+    placement: &mut Placement,
+    pool: &mut PoolPlan,
+    steps: u32,
+    entry: u32,
+    room: bool,
+) -> Result<(), Fail>
+    requires few { steps < 1000 }
+    requires maps { HasOnlyMaps steps pool.old placement.old }
+    ensures maps { OnOk result (HasOnlyMaps (steps + 1) pool.new placement.new) }
+{
+    let placed = placement.map(pool, 2002944, 1)?;
+    assert!(rt; placed.pool == Some(entry));
+    let titles = placed.titles.as_slice();
+    if room {
+        assert_eq!(rt; titles.len(), 1);
+        assert_eq!(rt; titles[0].start, 16384);
+        assert_eq!(rt; titles[0].len, 2002944);
+        assert_eq!(rt; titles[0].born, entry);
+    } else {
+        assert!(rt; titles.is_empty());
+    }
+    Ok(())
+}
+
+// That direct map goes back, by this entry of the pool.
+fn unmap(
+    rt: &impl Abort,
+    placement: &mut Placement,
+    pool: &mut PoolPlan,
+    steps: u32,
+    born: u32,
+    entry: u32,
+) -> Result<(), Fail>
+    requires few { steps < 1000 }
+    requires maps { HasOnlyMaps steps pool.old placement.old }
+    ensures maps { OnOk result (HasOnlyMaps (steps + 1) pool.new placement.new) }
+{
+    let name = SlotName { start: 16384, born };
+    let title = placement.out(name).ok_or("the map isn't out")?;
+    assert_eq!(rt; title.len, 2002944);
+    assert!(rt; pool.taken(0, 1));
+    let went = placement.unmap(pool, title);
+    assert_eq!(rt; went, entry);
+    assert!(rt; placement.out(name) == None);
+    Ok(())
+}
+
+// The census with these numbers, in the report's order.
+fn census(slots: u64, bytes: u64, committed: u64, states: [u32; 4]) -> Census {
+    Census {
+        root: Tally { slots, bytes },
+        committed,
+        reserved: 2097152,
+        full: states[0],
+        active: states[1],
+        empty: states[2],
+        decommitted: states[3],
+    }
+}
+
+#[test]
+fn a_short_fill(rt: HostRuntime) -> Result<(), Fail> {
+    let mut pool = PoolPlan::new(rt.alloc(), 1)?;
+    let mut placement = Placement::new(rt.alloc())?;
+    let first = Expected {
+        pool: Some(0),
+        starts: &[16384],
+    };
+    fill(&rt, &mut placement, &mut pool, 0, 58, 1, first)?;
+    let second = Expected {
+        pool: None,
+        starts: &[933888],
+    };
+    fill(&rt, &mut placement, &mut pool, 1, 58, 1, second)?;
+    let third = Expected {
+        pool: None,
+        starts: &[1851392],
+    };
+    fill(&rt, &mut placement, &mut pool, 2, 49, 1, third)?;
+    let short = Expected {
+        pool: None,
+        starts: &[2048000],
+    };
+    fill(&rt, &mut placement, &mut pool, 3, 37, 2, short)?;
+    let full = Expected {
+        pool: Some(1),
+        starts: &[],
+    };
+    fill(&rt, &mut placement, &mut pool, 4, 38, 2, full)?;
+    assert!(rt; placement.census() == census(0, 0, 2056192, [4, 0, 0, 0]));
+    assert_eq!(rt; pool.entries(), 2);
+    assert!(rt; pool.taken(0, 1));
+    assert!(rt; !pool.taken(0, 2));
+    Ok(())
+}
+
+#[test]
+fn the_ring_of_empty_spans(rt: HostRuntime) -> Result<(), Fail> {
+    let mut pool = PoolPlan::new(rt.alloc(), 1)?;
+    let mut placement = Placement::new(rt.alloc())?;
+    'fills: for at in 0..17 {
+        let pool_entry = if at == 0 { Some(0) } else { None };
+        let expected = Expected {
+            pool: pool_entry,
+            starts: &[16384 + 65536 * at],
+        };
+        fill(&rt, &mut placement, &mut pool, at, 43, 1, expected)?;
+    }
+    'gives: for at in 0..17 {
+        give(&rt, &mut placement, 17 + at, 16384 + 65536 * at)?;
+    }
+    let last = Expected {
+        pool: None,
+        starts: &[1064960],
+    };
+    fill(&rt, &mut placement, &mut pool, 34, 43, 1, last)?;
+    assert!(rt; placement.census() == census(16, 1048576, 1048576, [1, 0, 15, 1]));
+    Ok(())
+}
+
+#[test]
+fn a_purge(rt: HostRuntime) -> Result<(), Fail> {
+    let mut pool = PoolPlan::new(rt.alloc(), 1)?;
+    let mut placement = Placement::new(rt.alloc())?;
+    let starts = [16384, 16400, 16416, 16432, 16448, 16464, 16480, 16496];
+    let first = Expected {
+        pool: Some(0),
+        starts: &starts,
+    };
+    fill(&rt, &mut placement, &mut pool, 0, 0, 8, first)?;
+    'gives: for at in 0..8 {
+        give(&rt, &mut placement, 1 + at, 16384 + 16 * at)?;
+    }
+    placement.purge();
+    assert!(rt; placement.census() == census(256, 4096, 0, [0, 0, 0, 1]));
+    let second = Expected {
+        pool: None,
+        starts: &starts,
+    };
+    fill(&rt, &mut placement, &mut pool, 10, 0, 8, second)?;
+    assert!(rt; placement.census() == census(248, 3968, 4096, [0, 1, 0, 0]));
+    Ok(())
+}
+
+#[test]
+fn a_direct_map_again(rt: HostRuntime) -> Result<(), Fail> {
+    let mut pool = PoolPlan::new(rt.alloc(), 1)?;
+    let mut placement = Placement::new(rt.alloc())?;
+    map(&rt, &mut placement, &mut pool, 0, 0, true)?;
+    unmap(&rt, &mut placement, &mut pool, 1, 0, 1)?;
+    map(&rt, &mut placement, &mut pool, 2, 2, true)?;
+    map(&rt, &mut placement, &mut pool, 3, 3, false)?;
+    unmap(&rt, &mut placement, &mut pool, 4, 2, 4)?;
+    map(&rt, &mut placement, &mut pool, 5, 5, true)?;
+    assert!(rt; placement.census() == census(0, 0, 2002944, [0, 0, 0, 0]));
+    assert_eq!(rt; pool.entries(), 6);
+    Ok(())
+}
