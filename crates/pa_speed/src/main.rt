@@ -2,6 +2,8 @@
 //! many bytes that were in all. `bench/run` times it.
 #![tactic(auto)]
 
+ghost use Rattle.std.specs.Prelude.{◌≡◌, ◌*◌, ℕ, List, IfSome, length};
+ghost use Rattle.pa_trace.specs.Grammar.{IsTraceText};
 ghost use Rattle.pa_trace.specs.Limits.{IsWithinLimits};
 
 use pa_plain::play;
@@ -43,11 +45,13 @@ fn measured(rt: &HostRuntime) -> Option<u64> {
 }
 
 // Reads the trace so many times. Tells the bytes that were read.
-fn read_again(alloc: Global, bytes: &[u8], times: u32) -> Option<u64> {
+fn read_again(alloc: Global, bytes: &[u8], times: u32) -> Option<u64>
+    ensures { IfSome result (λ total. total ≡ times * length bytes.now) }
+{
     let mut total = 0u64;
     for _ in 0..times {
         read_trace(alloc, bytes).ok()?;
-        total = total.wrapping_add(bytes.len() as u64);
+        total += bytes.len() as u64;
     }
     Some(total)
 }
@@ -55,11 +59,14 @@ fn read_again(alloc: Global, bytes: &[u8], times: u32) -> Option<u64> {
 // Writes the trace so many times. Tells the bytes that were written.
 fn write_again(alloc: Global, trace: &Trace, times: u32) -> Option<u64>
     requires { IsWithinLimits trace.now }
+    ensures { IfSome result (λ total. (text : List ℕ) → IsTraceText trace.now text → total ≡ times * length text) }
 {
     let mut total = 0u64;
     for _ in 0..times {
-        let text = write_trace(alloc, trace).ok()?;
-        total = total.wrapping_add(text.len() as u64);
+        let Ok(text) = write_trace(alloc, trace) else {
+            return None;
+        };
+        total += text.len() as u64;
     }
     Some(total)
 }
