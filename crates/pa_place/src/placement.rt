@@ -75,9 +75,12 @@ impl Placement {
     {
         let blanks = blank_spans(self.alloc, class, want)?;
         self.store.make_room(want)?;
-        let pool = self.store.ask(pool, class);
+        let entry = self.store.ask(pool, class);
         let titles = self.store.takes(class, want, blanks);
-        Ok(Placed { pool, titles })
+        Ok(Placed {
+            pool: entry,
+            titles,
+        })
     }
 
     /// Makes a direct map whose slot has `slot` bytes, a multiple of 4,096, in `supers` super pages that the pool is asked

@@ -39,51 +39,51 @@ filled class want pool next r between after titles a real few e =
 
 pub takes-titles-requires-clause-ready : goal.takes-titles-requires-clause-ready
 takes-titles-requires-clause-ready c =
-    (asked c.self.inside.store c.make_room.new.self c.ask-pool.new.self c.args.self.now c.args.class c.args.pool.now c.ask-pool.new.pool c.ask-pool.result c.self.invariant c.self.view_is
-    c.make_room.ensures.same c.in_ok-make_room.ensures.room.few_supers c.requires.born c.ask-pool.ensures.low c.ask-pool.ensures.asks).good.ready
+    (asked c.self.inside.store c.make_room.new.self c.ask-entry.new.self c.args.self.now c.args.class c.args.pool.now c.ask-entry.new.pool c.ask-entry.result c.self.invariant c.self.view_is
+    c.make_room.ensures.same c.in_ok-make_room.ensures.room.few_supers c.requires.born c.ask-entry.ensures.low c.ask-entry.ensures.asks).good.ready
 
 pub invariant_of-self-2 : goal.invariant_of-self-2
 invariant_of-self-2 c =
-    let a = asked c.self.inside.store c.make_room.new.self c.ask-pool.new.self c.args.self.now c.args.class c.args.pool.now c.ask-pool.new.pool c.ask-pool.result c.self.invariant c.self.view_is
-    c.make_room.ensures.same c.in_ok-make_room.ensures.room.few_supers c.requires.born c.ask-pool.ensures.low c.ask-pool.ensures.asks in
+    let a = asked c.self.inside.store c.make_room.new.self c.ask-entry.new.self c.args.self.now c.args.class c.args.pool.now c.ask-entry.new.pool c.ask-entry.result c.self.invariant c.self.view_is
+    c.make_room.ensures.same c.in_ok-make_room.ensures.room.few_supers c.requires.born c.ask-entry.ensures.low c.ask-entry.ensures.asks in
     let real : c.args.class < 59 = search rules in
-    let b = filled c.args.class c.args.want c.args.pool.now c.ask-pool.new.pool c.args.self.now (root_of c.ask-pool.new.self) (root_of c.takes-titles.new.self) c.takes-titles.result.items a real c.requires.few c.takes-titles.ensures.filled in
+    let b = filled c.args.class c.args.want c.args.pool.now c.ask-entry.new.pool c.args.self.now (root_of c.ask-entry.new.self) (root_of c.takes-titles.new.self) c.takes-titles.result.items a real c.requires.few c.takes-titles.ensures.filled in
     let many = c.takes-titles.ensures.many in
-    let same = c.ask-pool.ensures.spans in
+    let same = c.ask-entry.ensures.spans in
     let few = c.in_ok-make_room.ensures.room.few_spans in
     kept_by c.takes-titles.new.self (root_of c.takes-titles.new.self) refl b.good (omega arith)
 
 pub returns-clause-filled : goal.returns-clause-filled
 returns-clause-filled c =
     let f = c.make_room.ensures.same ∙ c.self.view_is in
-    fills_by c.args.class c.args.want c.args.pool.now c.ask-pool.new.pool c.args.self.now (root_of c.ask-pool.new.self) (root_of c.takes-titles.new.self) c.takes-titles.result.items c.ask-pool.result
-    (subst (λ z. AsksWhere c.args.class c.args.pool.now c.ask-pool.new.pool z (root_of c.ask-pool.new.self) c.ask-pool.result) f c.ask-pool.ensures.asks)
+    fills_by c.args.class c.args.want c.args.pool.now c.ask-entry.new.pool c.args.self.now (root_of c.ask-entry.new.self) (root_of c.takes-titles.new.self) c.takes-titles.result.items c.ask-entry.result
+    (subst (λ z. AsksWhere c.args.class c.args.pool.now c.ask-entry.new.pool z (root_of c.ask-entry.new.self) c.ask-entry.result) f c.ask-entry.ensures.asks)
     c.takes-titles.ensures.filled
 
 pub returns-clause-turn : goal.returns-clause-turn
 returns-clause-turn c =
-    let a = asked c.self.inside.store c.make_room.new.self c.ask-pool.new.self c.args.self.now c.args.class c.args.pool.now c.ask-pool.new.pool c.ask-pool.result c.self.invariant c.self.view_is
-    c.make_room.ensures.same c.in_ok-make_room.ensures.room.few_supers c.requires.born c.ask-pool.ensures.low c.ask-pool.ensures.asks in
+    let a = asked c.self.inside.store c.make_room.new.self c.ask-entry.new.self c.args.self.now c.args.class c.args.pool.now c.ask-entry.new.pool c.ask-entry.result c.self.invariant c.self.view_is
+    c.make_room.ensures.same c.in_ok-make_room.ensures.room.few_supers c.requires.born c.ask-entry.ensures.low c.ask-entry.ensures.asks in
     let real : c.args.class < 59 = search rules in
-    (filled c.args.class c.args.want c.args.pool.now c.ask-pool.new.pool c.args.self.now (root_of c.ask-pool.new.self) (root_of c.takes-titles.new.self) c.takes-titles.result.items a real c.requires.few c.takes-titles.ensures.filled).turn
+    (filled c.args.class c.args.want c.args.pool.now c.ask-entry.new.pool c.args.self.now (root_of c.ask-entry.new.self) (root_of c.takes-titles.new.self) c.takes-titles.result.items a real c.requires.few c.takes-titles.ensures.filled).turn
 
 pub returns-clause-rises : goal.returns-clause-rises
 returns-clause-rises c =
-    let a = asked c.self.inside.store c.make_room.new.self c.ask-pool.new.self c.args.self.now c.args.class c.args.pool.now c.ask-pool.new.pool c.ask-pool.result c.self.invariant c.self.view_is
-    c.make_room.ensures.same c.in_ok-make_room.ensures.room.few_supers c.requires.born c.ask-pool.ensures.low c.ask-pool.ensures.asks in
+    let a = asked c.self.inside.store c.make_room.new.self c.ask-entry.new.self c.args.self.now c.args.class c.args.pool.now c.ask-entry.new.pool c.ask-entry.result c.self.invariant c.self.view_is
+    c.make_room.ensures.same c.in_ok-make_room.ensures.room.few_supers c.requires.born c.ask-entry.ensures.low c.ask-entry.ensures.asks in
     let real : c.args.class < 59 = search rules in
-    (filled c.args.class c.args.want c.args.pool.now c.ask-pool.new.pool c.args.self.now (root_of c.ask-pool.new.self) (root_of c.takes-titles.new.self) c.takes-titles.result.items a real c.requires.few c.takes-titles.ensures.filled).rises
+    (filled c.args.class c.args.want c.args.pool.now c.ask-entry.new.pool c.args.self.now (root_of c.ask-entry.new.self) (root_of c.takes-titles.new.self) c.takes-titles.result.items a real c.requires.few c.takes-titles.ensures.filled).rises
 
 pub returns-clause-born : goal.returns-clause-born
 returns-clause-born c =
-    let a = asked c.self.inside.store c.make_room.new.self c.ask-pool.new.self c.args.self.now c.args.class c.args.pool.now c.ask-pool.new.pool c.ask-pool.result c.self.invariant c.self.view_is
-    c.make_room.ensures.same c.in_ok-make_room.ensures.room.few_supers c.requires.born c.ask-pool.ensures.low c.ask-pool.ensures.asks in
+    let a = asked c.self.inside.store c.make_room.new.self c.ask-entry.new.self c.args.self.now c.args.class c.args.pool.now c.ask-entry.new.pool c.ask-entry.result c.self.invariant c.self.view_is
+    c.make_room.ensures.same c.in_ok-make_room.ensures.room.few_supers c.requires.born c.ask-entry.ensures.low c.ask-entry.ensures.asks in
     let real : c.args.class < 59 = search rules in
-    (filled c.args.class c.args.want c.args.pool.now c.ask-pool.new.pool c.args.self.now (root_of c.ask-pool.new.self) (root_of c.takes-titles.new.self) c.takes-titles.result.items a real c.requires.few c.takes-titles.ensures.filled).born
+    (filled c.args.class c.args.want c.args.pool.now c.ask-entry.new.pool c.args.self.now (root_of c.ask-entry.new.self) (root_of c.takes-titles.new.self) c.takes-titles.result.items a real c.requires.few c.takes-titles.ensures.filled).born
 
 pub returns-clause-maps : goal.returns-clause-maps
 returns-clause-maps c =
-    let a = asked c.self.inside.store c.make_room.new.self c.ask-pool.new.self c.args.self.now c.args.class c.args.pool.now c.ask-pool.new.pool c.ask-pool.result c.self.invariant c.self.view_is
-    c.make_room.ensures.same c.in_ok-make_room.ensures.room.few_supers c.requires.born c.ask-pool.ensures.low c.ask-pool.ensures.asks in
+    let a = asked c.self.inside.store c.make_room.new.self c.ask-entry.new.self c.args.self.now c.args.class c.args.pool.now c.ask-entry.new.pool c.ask-entry.result c.self.invariant c.self.view_is
+    c.make_room.ensures.same c.in_ok-make_room.ensures.room.few_supers c.requires.born c.ask-entry.ensures.low c.ask-entry.ensures.asks in
     let real : c.args.class < 59 = search rules in
-    (filled c.args.class c.args.want c.args.pool.now c.ask-pool.new.pool c.args.self.now (root_of c.ask-pool.new.self) (root_of c.takes-titles.new.self) c.takes-titles.result.items a real c.requires.few c.takes-titles.ensures.filled).maps
+    (filled c.args.class c.args.want c.args.pool.now c.ask-entry.new.pool c.args.self.now (root_of c.ask-entry.new.self) (root_of c.takes-titles.new.self) c.takes-titles.result.items a real c.requires.few c.takes-titles.ensures.filled).maps
