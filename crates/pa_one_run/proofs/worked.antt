@@ -17,6 +17,7 @@ pub mod Moves
 pub mod Contents
 pub mod Alone
 pub mod OneJournal
+pub mod OneFill
 pub mod Clauses
 pub mod Telling
 pub mod Writes

@@ -1,53 +1,24 @@
 -- The direct maps of the worked run: who holds them, the caches, and the report.
-use Rattle.std.proofs.Common.{◌≡◌, ℕ, zero, suc, ◌<◌, List, [], ◌∷◌, refl, sym, arith, inl, inr, lit<, lit≤}
-use Rattle.std.specs.Prelude.{Contains, AllPairs, flat_map}
+use Rattle.std.proofs.Common.{[], ◌∷◌, refl, arith, inl, inr, lit<, lit≤}
+use Rattle.std.specs.Prelude.{AllPairs}
 use Rattle.std.specs.List.{AllByRecursion, AllZip}
 use Rattle.std.proofs.lemmas.List.Elements.{All-from_recursion}
-use Rattle.pa_machine.specs.declared.word.Step.TheVariants as steps
 use Rattle.pa_machine.specs.Run.{IsLive, IsQuarantined}
 use Rattle.pa_buckets.specs.Table.{rows, row_of, slot_of}
-use Rattle.pa_record.specs.declared.numbered.Numbered.{Numbered}
-use Rattle.pa_record.specs.declared.root.RootEntry.{RootEntry}
-use Rattle.pa_record.specs.declared.root.RootAct.TheVariants.{Unmap}
 use Rattle.pa_record.specs.Worked.{direct_map_again_pool, direct_map_again_journal, direct_map_again_census}
 use Rattle.pa_record.proofs.Worked.{direct_map_again}
-use Rattle.pa_record.proofs.Members.{not_some}
-use Rattle.pa_rules.specs.Played.{Played, marks_of}
-use Rattle.pa_rules.specs.Roots.{IsEntry}
+use Rattle.pa_rules.specs.Played.{marks_of}
 use Rattle.pa_rules.proofs.Running.{OtherLine}
-use Rattle.pa_machine.specs.declared.word.SlotName.{SlotName}
-use Rattle.pa_rules.specs.Holders.{moves_by, InRoot, WithThread, Move, moves_at, HasHolders, IsOfSlot, NamesSlot, AreHolders}
-use Rattle.pa_rules.specs.Caches.{Caches, with_cache, no_caches, acts_of, NoActs, IsDirect, CachesTo, AreCaches}
-use Rattle.pa_rules.specs.Report.{HasSize, IsTally, InPhases, PastPhases, IsReportLine, IsReport}
+use Rattle.pa_rules.specs.Holders.{InRoot, AreHolders}
+use Rattle.pa_rules.specs.Caches.{Caches, with_cache, no_caches, IsDirect, CachesTo, AreCaches}
+use Rattle.pa_rules.specs.Report.{HasSize, IsTally, InPhases, IsReportLine, IsReport}
 use Rattle.pa_one_run.specs.Worked.{seen_at, tally, report_line, direct_map_records, direct_map_report}
-use Rattle.pa_one_run.proofs.worked.Lists.{each}
-use Rattle.pa_one_run.proofs.worked.Holders.{HasItsHolders, all_have_holders, HasIt, IsIssued, issued, away_from_journal, away_from_records}
+use Rattle.pa_one_run.proofs.worked.Holders.{HasIt, IsIssued, issued}
+use Rattle.pa_one_run.proofs.worked.Moves.{holders_of_one}
+use Rattle.pa_one_run.proofs.worked.OneJournal.{no_other, none_on, census_of_one}
 use Rattle.pa_one_run.proofs.worked.Report.{other_lines, slots_passing, slots_of_kind, is_live, live-true, live-from, is_quarantined, quarantined-true, quarantined-from}
 use Rattle.pa_one_run.proofs.worked.Maps.{slot_by, words, worded}
 use Rattle.pa_one_run.proofs.worked.MapsPlaced.{roots, direct}
-
--- what the journal does with slots, in order
-abbrev moves : List Move
-moves = flat_map (λ (e : RootEntry). moves_by e.line e.act) direct_map_again_journal
-
-have_holders : AllByRecursion (HasItsHolders direct_map_records moves) moves
-have_holders = (
-  (InRoot, inl (refl, refl), (_, ((0, lit< tt, refl), refl), refl, tt)),
-  (
-    (WithThread 0, inr (_, ((1, lit< tt, refl), _, steps.Free, refl, refl, refl, (refl, refl), refl), refl), (_, ((1, lit< tt, refl), refl), refl, tt)),
-    (
-      (InRoot, inl (refl, refl), (_, ((2, lit< tt, refl), refl), refl, tt)),
-      (
-        (WithThread 0, inr (_, ((6, lit< tt, refl), _, steps.Reset, refl, refl, refl, (refl, refl), refl), refl), (_, ((6, lit< tt, refl), refl), refl, tt)),
-        ((InRoot, inl (refl, refl), (_, ((7, lit< tt, refl), refl), refl, tt)), tt),
-      ),
-    ),
-  ),
-)
-
-all_held : (p : ℕ) (s : SlotName) (k : ℕ) → HasHolders direct_map_records s k (moves_at (roots p) s k)
-all_held zero s k = all_have_holders direct_map_records moves have_holders s k
-all_held (suc p) s k = tt
 
 -- an allocation that made a slot has it
 has_first : HasIt direct_map_records roots 0 0 (seen_at 16384 0 0)
@@ -83,34 +54,8 @@ all_issued = (
   ),
 )
 
-away : (p i j asked : ℕ) (slot : Numbered) (e f : RootEntry) → IsEntry roots p i e → e.act ≡ Unmap asked slot → IsEntry roots p j f → i < j → NamesSlot f slot.slot → ⊥
-away zero i j asked slot e f at is at' less = away_from_journal direct_map_again_journal refl i j asked slot e f at is at' less
-away (suc p) i j asked slot e f at is at' less = absurd (not_some e at)
-
-away_after : (p i asked n : ℕ) (slot : Numbered) (e : RootEntry) (x : Played) → IsEntry roots p i e → e.act ≡ Unmap asked slot → Contains direct_map_records x → IsOfSlot x slot.slot n → n < slot.number
-away_after zero i asked n slot e x at is = away_from_records direct_map_records direct_map_again_journal refl i asked n slot e x at is
-away_after (suc p) i asked n slot e x at is = absurd (not_some e at)
-
 pub held : AreHolders direct_map_records roots
-held = record {
-  moves = all_held;
-  issues = λ x seen usable reg p size among a b. each (IsIssued direct_map_records roots) direct_map_records all_issued x among seen usable reg p size a b;
-  gone_from_journal = away;
-  gone_from_records = away_after;
-}
-
--- no other partition has entries
-no_other : (line q : ℕ) → (q ≡ 0 → ⊥) → acts_of roots line q ≡ []
-no_other line zero ne = absurd (ne refl)
-no_other line (suc q) ne = refl
-
-none_on_5 : NoActs roots 5
-none_on_5 zero = refl
-none_on_5 (suc q) = refl
-
-none_on_6 : NoActs roots 6
-none_on_6 zero = refl
-none_on_6 (suc q) = refl
+held = holders_of_one direct_map_records direct_map_again_journal refl refl refl all_issued
 
 -- the thread's lists stay empty
 abbrev again : Caches → Caches
@@ -128,26 +73,26 @@ second_map = (_, 2, 2002944, (2, lit< tt, refl), refl)
 cached_to : CachesTo 1 roots no_caches direct_map_records at_end
 cached_to = (
   no_caches 0,
-  inr (0, 2000000, 0, 2002944, direct 0, (refl, no_other 2), λ p c. refl),
+  inr (0, 2000000, 0, 2002944, direct 0, (refl, no_other direct_map_again_journal 2), λ p c. refl),
   (
     no_caches 0,
-    inl ((refl, refl), inr (0, 1, first_map, (refl, no_other 3), λ p c. refl)),
+    inl ((refl, refl), inr (0, 1, first_map, (refl, no_other direct_map_again_journal 3), λ p c. refl)),
     (
       no_caches 0,
-      inr (0, 2000000, 2, 2002944, direct 0, (refl, no_other 4), λ p c. refl),
+      inr (0, 2000000, 2, 2002944, direct 0, (refl, no_other direct_map_again_journal 4), λ p c. refl),
       (
         no_caches 0,
-        inr (λ h. h, none_on_5, λ p c. refl),
+        inr (λ h. h, none_on direct_map_again_journal 5 refl, λ p c. refl),
         (
           no_caches 0,
-          inr (λ h. absurd (omega (arith, h.1)), none_on_6, λ p c. refl),
+          inr (λ h. absurd (omega (arith, h.1)), none_on direct_map_again_journal 6 refl, λ p c. refl),
           (
             no_caches 0,
-            inr (0, 2000000, 3, direct 2, (refl, no_other 7), λ p c. refl),
+            inr (0, 2000000, 3, direct 2, (refl, no_other direct_map_again_journal 7), λ p c. refl),
             (
               no_caches 0,
-              inl ((refl, refl), inr (0, 4, second_map, (refl, no_other 8), λ p c. refl)),
-              (no_caches 0, inr (0, 2000000, 5, 2002944, direct 2, (refl, no_other 9), λ p c. refl), refl),
+              inl ((refl, refl), inr (0, 4, second_map, (refl, no_other direct_map_again_journal 8), λ p c. refl)),
+              (no_caches 0, inr (0, 2000000, 5, 2002944, direct 2, (refl, no_other direct_map_again_journal 9), λ p c. refl), refl),
             ),
           ),
         ),
@@ -196,16 +141,7 @@ line_right = record {
   live = live;
   quarantined = quarantined;
   cached = (at_end, cached_to, refl, refl);
-  root = (
-    direct_map_again_journal,
-    record {
-      rest = [];
-      parts = refl;
-      in_phases = All-from_recursion (InPhases direct_map_records 1) direct_map_again_journal in_phase_1;
-      past_phases = All-from_recursion (PastPhases direct_map_records 1) [] tt;
-    },
-    sym direct_map_again.counted,
-  );
+  root = census_of_one direct_map_records direct_map_again_pool direct_map_again_journal 1 _ in_phase_1 refl direct_map_again.counted;
 }
 
 pub reported : IsReport 1 1 1 direct_map_records direct_map_again_pool roots direct_map_report

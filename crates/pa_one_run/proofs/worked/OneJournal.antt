@@ -1,10 +1,10 @@
--- A written run with one journal, in which no request was refused: the journal's entries, those of a line, and the
--- report's census.
+-- A written run with one journal: the journal's entries, those of a line, and the report's census.
 use Rattle.std.proofs.Common.{◌≡◌, ℕ, zero, suc, ◌≤◌, Bool, true, false, not, leb, List, [], ◌∷◌, ◌++◌, sym, subst, refl, arith}
 use Rattle.std.specs.Prelude.{Contains}
 use Rattle.std.specs.List.{AllByRecursion, list_all}
 use Rattle.std.proofs.lemmas.Bool.{not-true, both_ways}
 use Rattle.std.proofs.lemmas.List.Elements.{All-from_recursion}
+use Rattle.pa_trace.specs.declared.script.Op.TheVariants as ops
 use Rattle.pa_record.specs.declared.entry.Answer.{Answer}
 use Rattle.pa_record.specs.declared.entry.Answer.TheVariants as answers
 use Rattle.pa_record.specs.declared.pool.PoolEntry.{PoolEntry}
@@ -14,7 +14,7 @@ use Rattle.pa_record.specs.Root.{new_root, root_replayed, IsJournal}
 use Rattle.pa_record.specs.Census.{census}
 use Rattle.pa_record.proofs.Members.{not_some}
 use Rattle.pa_rules.specs.Played.{Played}
-use Rattle.pa_rules.specs.Roots.{journal_at, IsEntry, IsOfLine, MakesEntry, AreRoots}
+use Rattle.pa_rules.specs.Roots.{journal_at, IsEntry, IsOfLine, MakesEntry, IsFull, AreRoots}
 use Rattle.pa_rules.specs.Caches.{acts_of, NoActs}
 use Rattle.pa_rules.specs.Report.{InPhases, PastPhases, HasCensus}
 use Rattle.pa_one_run.proofs.Filed.{entry_line}
@@ -25,6 +25,11 @@ use Rattle.pa_one_run.proofs.worked.Pool.{journal_in_order}
 -- the entry is made by the op of its line
 abbrev pub IsMade : List Played → List PoolEntry → RootEntry → Type 0
 IsMade ps pools e = (x : Played) × IsOfLine ps e.line x × MakesEntry pools 0 e.act x.op
+
+-- where the record's request was refused, the journal has the entry for that
+abbrev pub IsRefused : List RootEntry → Played → Type 0
+IsRefused journal x = (j reg p size : ℕ) → x.answer ≡ answers.Full j → x.op ≡ ops.Alloc reg p size →
+    (e : RootEntry) × IsEntry (journal_at (journal ∷ [])) p j e × (e.line ≡ x.line) × IsFull e.act
 
 abbrev pub is_full : Answer → Bool
 is_full (answers.Full entry) = true
@@ -53,19 +58,26 @@ module _ (ps : List Played) (pools : List PoolEntry) (journal : List RootEntry) 
   none_past zero past = absurd (omega arith)
   none_past (suc p) past = refl
 
-  not_full : list_all (λ (x : Played). not (is_full x.answer)) ps ≡ true → (x : Played) (j : ℕ) → Contains ps x → x.answer ≡ answers.Full j → ⊥
-  not_full h x j among is = both_ways _ (not-true _ (passes (λ (y : Played). not (is_full y.answer)) ps x h among)) (subst (λ a. is_full a ≡ true) (sym is) refl)
-
-  pub roots_of_one : IsJournal pools journal → AllByRecursion (IsMade ps pools) journal → lines_follow ps ≡ true →
-      all_pairs (λ (x : RootEntry) (y : RootEntry). leb (entry_line x) (entry_line y)) journal ≡ true → list_all (λ (x : Played). not (is_full x.answer)) ps ≡ true →
+  -- the roots, from what each refusal needs
+  pub roots_by : IsJournal pools journal → AllByRecursion (IsMade ps pools) journal → lines_follow ps ≡ true →
+      all_pairs (λ (x : RootEntry) (y : RootEntry). leb (entry_line x) (entry_line y)) journal ≡ true → ((x : Played) → Contains ps x → IsRefused journal x) →
       AreRoots 1 ps pools (journal_at (journal ∷ []))
-  roots_of_one h made follow rise none_full = record {
+  roots_by h made follow rise refused = record {
     journals = is_journal h;
     lines = lines_are_made made;
     order = journal_in_order ps follow journal rise;
     none_past = none_past;
-    refusals = λ x j reg p size among full op. absurd (not_full none_full x j among full);
+    refusals = λ x j reg p size among full op. refused x among j reg p size full op;
   }
+
+  not_full : list_all (λ (x : Played). not (is_full x.answer)) ps ≡ true → (x : Played) (j : ℕ) → Contains ps x → x.answer ≡ answers.Full j → ⊥
+  not_full h x j among is = both_ways _ (not-true _ (passes (λ (y : Played). not (is_full y.answer)) ps x h among)) (subst (λ a. is_full a ≡ true) (sym is) refl)
+
+  -- where no request was refused
+  pub roots_of_one : IsJournal pools journal → AllByRecursion (IsMade ps pools) journal → lines_follow ps ≡ true →
+      all_pairs (λ (x : RootEntry) (y : RootEntry). leb (entry_line x) (entry_line y)) journal ≡ true → list_all (λ (x : Played). not (is_full x.answer)) ps ≡ true →
+      AreRoots 1 ps pools (journal_at (journal ∷ []))
+  roots_of_one h made follow rise none_full = roots_by h made follow rise (λ x among j reg p size full op. absurd (not_full none_full x j among full))
 
   -- where all its entries are of the phases up to one, the root has at its end what they replay to
   pub census_of_one : (phase : ℕ) (c : Census) → AllByRecursion (InPhases ps phase) journal → journal ≡ journal ++ [] → census (root_replayed pools journal new_root) ≡ c →

@@ -4,7 +4,6 @@ use Rattle.std.specs.Prelude.{AllPairs, slice_get}
 use Rattle.std.specs.List.{AllByRecursion}
 use Rattle.std.proofs.lemmas.List.Elements.{All-from_recursion}
 use Rattle.pa_machine.specs.declared.word.Step.TheVariants as steps
-use Rattle.pa_machine.specs.declared.word.SlotName.{SlotName}
 use Rattle.pa_machine.specs.Run.{Slots, IsLive, IsQuarantined}
 use Rattle.pa_buckets.specs.Table.{rows, row_of, slot_of}
 use Rattle.pa_buckets.specs.Bands.{limit_of}
@@ -14,7 +13,7 @@ use Rattle.pa_record.specs.declared.numbered.Numbered.{Numbered}
 use Rattle.pa_record.specs.declared.pool.PoolEntry.{PoolEntry}
 use Rattle.pa_record.specs.declared.root.RootEntry.{RootEntry}
 use Rattle.pa_record.specs.Root.{asked_by}
-use Rattle.pa_record.specs.Worked.{slots, purge_pool, purge_journal}
+use Rattle.pa_record.specs.Worked.{purge_pool, purge_journal}
 use Rattle.pa_record.proofs.Worked.{purge}
 use Rattle.pa_record.proofs.Members.{of_some, not_some}
 use Rattle.pa_rules.specs.declared.register.Reg.TheVariants.{Own, Freed}
@@ -42,13 +41,10 @@ use Rattle.pa_one_run.proofs.worked.Holders.{HasIt, IsIssued, issued}
 use Rattle.pa_one_run.proofs.worked.Moves.{holders_of_one}
 use Rattle.pa_one_run.proofs.worked.OneJournal.{IsMade, no_other, roots_of_one, census_of_one}
 use Rattle.pa_one_run.proofs.worked.Report.{other_lines, slots_of_kind, is_live, live-true, live-from, is_quarantined, quarantined-true, quarantined-from}
-use Rattle.pa_one_run.proofs.worked.WritesHeld.{class_0}
+use Rattle.pa_one_run.proofs.worked.OneFill.{the_slot, class_0, filled, rest}
 
 abbrev roots : Journals
 roots = journal_at (purge_journal ∷ [])
-
-abbrev the_slot : SlotName
-the_slot = record { start = 16384; born = 0 }
 
 pub lines : AreLines purge_trace.lines purge_records
 lines = refl
@@ -170,13 +166,6 @@ all_issued = (
 
 pub held : AreHolders purge_records roots
 held = holders_of_one purge_records purge_journal refl refl refl all_issued
-
--- the slots of the first fill, and those of the list after it
-abbrev filled : List Numbered
-filled = slots 0 0 (16384 ∷ 16400 ∷ 16416 ∷ 16432 ∷ 16448 ∷ 16464 ∷ 16480 ∷ 16496 ∷ [])
-
-abbrev rest : List Numbered
-rest = slots 0 0 (16400 ∷ 16416 ∷ 16432 ∷ 16448 ∷ 16464 ∷ 16480 ∷ 16496 ∷ [])
 
 abbrev freed : Numbered
 freed = record { slot = the_slot; number = 2 }

@@ -2,7 +2,6 @@
 use Rattle.std.proofs.Common.{◌≡◌, ℕ, zero, suc, ◌+◌, Bool, true, ◌&&◌, ◌||◌, not, eqb, ltb, List, [], ◌∷◌, Some, refl, sym, ◌∙◌, ap, subst, lit<, add-one}
 use Rattle.std.specs.Prelude.{slice_get}
 use Rattle.std.specs.List.{AllByRecursion}
-use Rattle.pa_machine.specs.declared.word.SlotName.{SlotName}
 use Rattle.pa_machine.specs.Run.{Slots}
 use Rattle.pa_trace.specs.declared.script.Op.TheVariants as ops
 use Rattle.pa_record.specs.declared.entry.Answer.TheVariants as answers
@@ -17,14 +16,12 @@ use Rattle.pa_one_run.specs.Worked.{two_threads_trace, two_threads_records, two_
 use Rattle.pa_one_run.proofs.Filed.{cell_line}
 use Rattle.pa_one_run.proofs.lines.Lists.{get_in}
 use Rattle.pa_one_run.proofs.worked.Lists.{each, rises, one_place, lines_follow, in_order}
+use Rattle.pa_one_run.proofs.worked.OneFill.{the_slot}
 use Rattle.pa_one_run.proofs.worked.Slots.{Worded, are_worded, worded_slots}
 use Rattle.pa_one_run.proofs.worked.Seen.{seen_in_order}
 
 abbrev pub cells : ℕ → List CellEntry
 cells = history_at (two_threads_history ∷ [])
-
-abbrev pub the_slot : SlotName
-the_slot = record { start = 16384; born = 0 }
 
 pub lines : AreLines two_threads_trace.lines two_threads_records
 lines = refl

@@ -12,7 +12,8 @@ use Rattle.pa_rules.specs.Contents.{HasRegs, IsNextFree, IsBeingFreed, IsReadAll
 use Rattle.pa_rules.specs.Sizes.{slot_size_for, usable_of}
 use Rattle.pa_one_run.specs.Worked.{seen_at, two_threads_records}
 use Rattle.pa_one_run.proofs.worked.Lists.{each}
-use Rattle.pa_one_run.proofs.worked.Threads.{cells, the_slot}
+use Rattle.pa_one_run.proofs.worked.OneFill.{the_slot}
+use Rattle.pa_one_run.proofs.worked.Threads.{cells}
 
 abbrev facts : Facts
 facts = record { usable_of = usable_of; usable_at = usable_in two_threads_records; cells = cells }

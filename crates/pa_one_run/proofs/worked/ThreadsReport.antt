@@ -1,21 +1,20 @@
 -- The report of the worked run of two threads: live, then quarantined, then cached.
-use Rattle.std.proofs.Common.{◌≡◌, ℕ, ◌≤◌, true, List, [], ◌∷◌, refl, inl, lit<, lit≤}
+use Rattle.std.proofs.Common.{◌≡◌, ℕ, ◌≤◌, true, List, [], ◌∷◌, refl, lit<, lit≤}
 use Rattle.std.specs.Prelude.{AllPairs}
 use Rattle.std.proofs.lemmas.List.Elements.{All-from_recursion}
 use Rattle.pa_machine.specs.Run.{IsLive, IsQuarantined}
-use Rattle.pa_buckets.specs.Table.{rows, row_of, slot_of, pages_of, slots_of}
-use Rattle.pa_buckets.specs.Bands.{fill_of}
+use Rattle.pa_buckets.specs.Table.{rows, row_of, slot_of}
 use Rattle.pa_record.specs.declared.report.ReportLine.{ReportLine}
-use Rattle.pa_record.specs.Root.{new_root, root_replayed}
-use Rattle.pa_record.specs.Census.{census}
 use Rattle.pa_rules.specs.Played.{Played, marks_of}
-use Rattle.pa_rules.specs.Report.{HasSize, until, IsTally, InPhases, PastPhases, AreUntil, HasCensus, IsReportLine, IsReport}
+use Rattle.pa_rules.specs.Report.{until, IsTally, HasCensus, IsReportLine, IsReport}
 use Rattle.pa_rules.proofs.Running.{OtherLine}
 use Rattle.pa_one_run.specs.Worked.{tally, report_line, two_threads_records, two_threads_journal, two_threads_pool, two_threads_census, two_threads_report}
 use Rattle.pa_one_run.proofs.worked.Slots.{Worded, are_worded}
+use Rattle.pa_one_run.proofs.worked.OneJournal.{census_of_one}
+use Rattle.pa_one_run.proofs.worked.OneFill.{roots, the_slot, has_size, counted}
 use Rattle.pa_one_run.proofs.worked.Report.{other_lines, slots_of_kind, is_live, live-true, live-from, is_quarantined, quarantined-true, quarantined-from}
-use Rattle.pa_one_run.proofs.worked.Threads.{the_slot, words, worded}
-use Rattle.pa_one_run.proofs.worked.ThreadsHeld.{roots, after_1, after_2, after_3, cached_1, cached_2, cached_3, of_class}
+use Rattle.pa_one_run.proofs.worked.Threads.{words, worded}
+use Rattle.pa_one_run.proofs.worked.ThreadsHeld.{after_1, after_2, after_3, cached_1, cached_2, cached_3}
 
 -- the records up to the end of each phase
 abbrev records : ℕ → List Played
@@ -43,11 +42,6 @@ alone_2 = other_lines (marks_of (records 2)) refl
 alone_3 : AllPairs OtherLine (marks_of (records 3))
 alone_3 = other_lines (marks_of (records 3)) refl
 
--- it has 16 bytes
-has_size : HasSize roots 0 the_slot 16
-unfolding rows row_of slot_of
-has_size = inl (0, of_class, refl)
-
 live_1 : IsTally IsLive roots (records 1) 0 (tally 1 16)
 live_1 = (_, 16 ∷ [], slots_of_kind IsLive is_live live-true live-from refl roots (records 1) 0 words_1 (16 ∷ []) alone_1 worded_1 (has_size, tt) refl, refl, refl)
 
@@ -72,21 +66,9 @@ live_3 = (_, [], slots_of_kind IsLive is_live live-true live-from refl roots (re
 quarantined_3 : IsTally IsQuarantined roots (records 3) 0 (tally 0 0)
 quarantined_3 = (_, [], slots_of_kind IsQuarantined is_quarantined quarantined-true quarantined-from refl roots (records 3) 0 words [] alone_3 worded tt refl, refl, refl)
 
-counted : two_threads_census ≡ census (root_replayed two_threads_pool two_threads_journal new_root)
-unfolding rows row_of slot_of pages_of slots_of fill_of
-counted = refl
-
 -- the fill is of phase 1, and there is no other entry
-whole : (phase : ℕ) → 1 ≤ phase → AreUntil two_threads_records phase two_threads_journal two_threads_journal
-whole phase from = record {
-  rest = [];
-  parts = refl;
-  in_phases = All-from_recursion (InPhases two_threads_records phase) two_threads_journal ((_, ((0, lit< tt, refl), refl), from), tt);
-  past_phases = All-from_recursion (PastPhases two_threads_records phase) [] tt;
-}
-
 has_census : (phase : ℕ) → 1 ≤ phase → HasCensus two_threads_records two_threads_pool roots phase 0 two_threads_census
-has_census phase from = (two_threads_journal, whole phase from, counted)
+has_census phase from = census_of_one two_threads_records two_threads_pool two_threads_journal phase _ ((_, ((0, lit< tt, refl), refl), from), tt) refl counted
 
 abbrev IsRight : ReportLine → Type 0
 IsRight l = IsReportLine 1 2 two_threads_records two_threads_pool roots l

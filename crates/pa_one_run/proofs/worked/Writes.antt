@@ -1,7 +1,6 @@
 -- The records of the worked run of writes: its registers, slot and contents.
 use Rattle.std.proofs.Common.{◌≡◌, true, List, [], ◌∷◌, refl, inl, inr, lit<, lit≤}
 use Rattle.std.specs.List.{AllByRecursion}
-use Rattle.pa_machine.specs.declared.word.SlotName.{SlotName}
 use Rattle.pa_machine.specs.Run.{Slots}
 use Rattle.pa_buckets.specs.Table.{rows}
 use Rattle.pa_trace.specs.declared.script.Op.TheVariants as ops
@@ -16,12 +15,10 @@ use Rattle.pa_rules.specs.Sizes.{slot_size_for, usable_of}
 use Rattle.pa_one_run.specs.Worked.{seen_at}
 use Rattle.pa_one_run.specs.WorkedWrites.{writes_trace, writes_records}
 use Rattle.pa_one_run.proofs.worked.Lists.{each, lines_follow}
+use Rattle.pa_one_run.proofs.worked.OneFill.{the_slot}
 use Rattle.pa_one_run.proofs.worked.Slots.{Worded, are_worded, worded_slots}
 use Rattle.pa_one_run.proofs.worked.Alone.{no_cells, no_cell_used, seen_by_line}
 use Rattle.pa_one_run.proofs.worked.Contents.{content_of}
-
-abbrev pub the_slot : SlotName
-the_slot = record { start = 16384; born = 0 }
 
 pub lines : AreLines writes_trace.lines writes_records
 lines = refl
