@@ -1,0 +1,174 @@
+"""The placement, by the rules that docs/DEFINITIONS.md lists rule by rule: the pool of super pages and the root of each
+partition. What the journals of a run name is what these rules give, or the text is no run."""
+
+SYSTEM_PAGE, PARTITION_PAGE, SUPER_PAGE = 4096, 16384, 2097152
+LARGEST_CLASS = 917504
+MOST_EMPTY = 16
+STATES = NONE, ACTIVE, EMPTY, DECOMMITTED, FULL = range(5)
+
+
+def slot_sizes():
+    """The slot sizes of the 59 classes: eight steps of 16 bytes, and then four steps to each doubling."""
+    sizes = list(range(16, 129, 16))
+    while sizes[-1] < LARGEST_CLASS:
+        sizes += [doubled // 4 * step for doubled in sizes[-1:] for step in range(5, 9)]
+    return sizes[: sizes.index(LARGEST_CLASS) + 1]
+
+
+def span_shape(size):
+    """Partition pages, system pages and slots of a span: the first pair of pages that leaves at most 64 bytes over."""
+    if size > PARTITION_PAGE:
+        system = size // SYSTEM_PAGE
+        return -(-system // 4), system, 1
+    for pages in range(1, 5):
+        for system in range(4 * pages, 4 * pages - pages // 2 - 1, -1):
+            if SYSTEM_PAGE * system % size <= 64:
+                return pages, system, SYSTEM_PAGE * system // size
+    raise ValueError(size)
+
+
+SIZES = slot_sizes()
+SHAPES = [span_shape(size) for size in SIZES]
+
+
+class Wrong(Exception):
+    """An entry isn't the one that the rules give."""
+
+
+class Span:
+    """A run of partition pages with slots of one class. The front of the free list is the last of `free`."""
+
+    def __init__(self, index, size_class, start, born):
+        self.index, self.size_class, self.start, self.born = index, size_class, start, born
+        self.size = SIZES[size_class]
+        self.pages, self.system_pages, self.slots = SHAPES[size_class]
+        self.state, self.turn = NONE, None
+        self.allocated = self.provisioned = self.made = self.committed = 0
+        self.free = []
+
+    def slot(self, number):
+        return f"{self.start + number * self.size:08x}.{self.born}"
+
+    def provision(self):
+        """One system page more, or as many as one slot more needs, and the slots that fit, in the order of their places."""
+        needed = -(-self.size * (self.provisioned + 1) // SYSTEM_PAGE)
+        self.committed = max(self.committed + 1, needed)
+        slots = min(SYSTEM_PAGE * self.committed // self.size, self.slots)
+        self.free = list(range(slots - 1, self.provisioned - 1, -1))
+        self.provisioned = slots
+        self.made = max(self.made, slots)
+
+
+class Root:
+    """What a partition has: spans, the current super page with its next free page, and direct maps."""
+
+    def __init__(self, spans):
+        self.all_spans = spans
+        self.by_class = {}
+        self.empty = set()
+        self.homes = {}
+        self.maps = {}
+        self.current, self.next_page, self.turn = None, 1, 0
+
+    def enter(self, span, state):
+        """A span that enters another state takes the next turn."""
+        if span.state == state:
+            return
+        self.empty.discard(span)
+        span.state, span.turn = state, self.turn
+        self.turn += 1
+        if state == EMPTY:
+            self.empty.add(span)
+
+    def listed(self, size_class):
+        """The span that a take uses: active before empty before decommitted, the greatest turn first."""
+        for state in (ACTIVE, EMPTY, DECOMMITTED):
+            spans = [span for span in self.by_class.get(size_class, ()) if span.state == state]
+            if spans:
+                return max(spans, key=lambda span: span.turn)
+        return None
+
+    def asks(self, size_class):
+        """Whether a take of this class needs a new super page."""
+        if self.listed(size_class) is not None:
+            return False
+        return self.current is None or self.next_page + SHAPES[size_class][0] > 127
+
+    def open(self, super_page, born):
+        """The pool gave a super page: it becomes the current one."""
+        self.current, self.next_page = (super_page, born), 1
+
+    def take(self, size_class):
+        """The span and the number of the slot that one take gives."""
+        span = self.listed(size_class) or self.new_span(size_class)
+        if not span.free:
+            span.provision()
+        number = span.free.pop()
+        span.allocated += 1
+        self.enter(span, FULL if span.allocated == span.slots else ACTIVE)
+        self.homes[span.slot(number)] = span, number
+        return span, number
+
+    def new_span(self, size_class):
+        """A new span at the next free page of the current super page."""
+        super_page, born = self.current
+        start = super_page * SUPER_PAGE + self.next_page * PARTITION_PAGE
+        span = Span(len(self.all_spans), size_class, start, born)
+        self.next_page += span.pages
+        self.all_spans.append(span)
+        self.by_class.setdefault(size_class, []).append(span)
+        return span
+
+    def put_back(self, slot):
+        """A slot goes back to the front of its span's list. The spans that changed."""
+        span, number = self.homes[slot]
+        span.free.append(number)
+        span.allocated -= 1
+        if span.allocated == 0:
+            self.enter(span, EMPTY)
+        elif span.state == FULL:
+            self.enter(span, ACTIVE)
+        return [span, *self.decommit_oldest()] if len(self.empty) > MOST_EMPTY else [span]
+
+    def decommit_oldest(self):
+        """The empty span with the least turn is decommitted. The spans that changed."""
+        span = min(self.empty, key=lambda span: span.turn)
+        span.free, span.provisioned, span.committed = [], 0, 0
+        self.enter(span, DECOMMITTED)
+        return [span]
+
+    def purge(self):
+        """Every empty span is decommitted, the least turn first. The spans that changed."""
+        return [span for _ in range(len(self.empty)) for span in self.decommit_oldest()]
+
+
+class Pool:
+    """The super pages of the region: for each the entry that took it, or none."""
+
+    def __init__(self, region):
+        self.taken = [None] * region
+
+    def lowest(self, count):
+        """The first of the lowest run of so many free super pages, or none."""
+        for first in range(len(self.taken) - count + 1):
+            if not any(owner is not None for owner in self.taken[first : first + count]):
+                return first
+        return None
+
+    def follow(self, j, entry):
+        """Entry j, which must be the one that the rules give."""
+        if entry.act == "take":
+            if entry.first != self.lowest(entry.count):
+                raise Wrong(f"entry {j} of the pool doesn't name the lowest run of {entry.count} free super pages")
+            owners = (None, (j, entry.partition))
+        else:
+            owner = self.taken[entry.first] if entry.first < len(self.taken) else None
+            owners = (owner, None)
+            if owner is None or self.taken.count(owner) != entry.count or owner[1] != entry.partition:
+                raise Wrong(f"entry {j} of the pool gives back what no take of its partition took")
+        if entry.first is None:
+            return
+        for at in range(entry.first, entry.first + entry.count):
+            if self.taken[at] != owners[0]:
+                raise Wrong(f"entry {j} of the pool gives back what no take of its partition took")
+            self.taken[at] = owners[1]
