@@ -64,6 +64,12 @@ function stepQuarantine(forward) {
   if (found) quarantined.show(data.quarantine, data.quarantine.indexOf(found));
 }
 
+// The line that returned the chosen slot after its last free while referenced.
+function goToReturn() {
+  const found = data.quarantine.findLast(([slot, freed, , returned]) => slot === chosen.slot && freed <= moment && returned >= 0);
+  if (found) go(found[3]);
+}
+
 // --- the pointer
 
 function overMap(event) {
@@ -172,6 +178,7 @@ function lineKey(event) {
   else if (event.key === "End") go(moments - 1);
   else if (event.key === "]" || event.key === "[") step(historyItems, (item) => item.at, event.key === "]");
   else if (event.key === "q" || event.key === "Q") stepQuarantine(event.key === "q");
+  else if (event.key === "r") goToReturn();
   else if (event.key === "f") setFollow(!follow);
   else return false;
   return true;

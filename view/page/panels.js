@@ -111,21 +111,32 @@ function makeQuarantine() {
     : "";
   const titles = ["slot", ">partition", ">bytes", ">freed at", ">raw_ptrs left", ">returned at", ">lines between", "returned by"];
   quarantined = new Rows($("quarantine"), titles, quarantineRow, "No slot was freed while a raw_ptr pointed to it.");
+  for (const wide of [1, 6]) quarantined.titles.children[wide].classList.add("wide");
   quarantined.show(data.quarantine, -1);
 }
 
+// A row leads to the free, and its last three fields to the line that returned the slot.
 function quarantineRow([slot, freed, refs, returned]) {
-  const [, partition, length] = data.slots[slot];
-  const cells = [count(partition), count(length), count(lineOf(freed)), count(refs)];
-  cells.push(returned < 0 ? "–" : count(lineOf(returned)), returned < 0 ? "–" : count(returned - freed - 1));
-  const made = make("div", "row", make("span", "", data.names[slot]), ...cells.map((text) => make("span", "right", text)));
-  made.append(make("span", "", returned < 0 ? "still in quarantine at the end" : data.trace[lineOf(returned) - 1]));
-  if (freed <= moment && (returned < 0 || moment < returned)) made.classList.add("now");
+  const [, partition, length] = data.slots[slot], back = returned >= 0;
+  const made = make("div", "row");
+  const cell = (name, text, to) => {
+    const told = make("span", name, text);
+    told.addEventListener("click", () => {
+      choose(placeOf(slot), !follow);
+      go(to);
+    });
+    made.append(told);
+  };
+  cell("", data.names[slot], freed);
+  cell("right wide", count(partition), freed);
+  cell("right", count(length), freed);
+  cell("right", count(lineOf(freed)), freed);
+  cell("right", count(refs), freed);
+  cell("right", back ? count(lineOf(returned)) : "–", back ? returned : freed);
+  cell("right wide", back ? count(returned - freed - 1) : "–", back ? returned : freed);
+  cell("", back ? data.trace[lineOf(returned) - 1] : "still in quarantine at the end", back ? returned : freed);
+  if (freed <= moment && (!back || moment < returned)) made.classList.add("now");
   if (freed > moment) made.classList.add("later");
-  made.addEventListener("click", (event) => {
-    choose(placeOf(slot));
-    go(event.offsetX > made.clientWidth / 2 && returned >= 0 ? returned : freed);
-  });
   return made;
 }
 
