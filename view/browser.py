@@ -80,7 +80,7 @@ class Browser:
         """Opens a file, and answers after how many seconds it was drawn."""
         start = time.monotonic()
         self.call("Page.navigate", url=f"file://{path}")
-        while self.value("document.readyState") != "complete":
+        while self.value("location.pathname + document.readyState") != f"{path}complete":
             time.sleep(0.01)
         self.settle()
         return time.monotonic() - start

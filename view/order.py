@@ -53,7 +53,7 @@ def chains(trace, run, found):
 def by_thread(trace, found):
     lists = defaultdict(list)
     for event in found:
-        op = trace.lines[event[0] - 1] if event[0] <= len(trace.lines) else None
+        op = trace.lines[event[0] - 1] if 1 < event[0] <= len(trace.lines) else None
         if op is None or (op is PHASE and event[1] != RECORD):
             raise NoRun(0, f"an entry of partition {event[2]}'s journal is of line {event[0]}, which has no op")
         if op is not PHASE:

@@ -157,18 +157,15 @@ class Pool:
 
     def follow(self, j, entry):
         """Entry j, which must be the one that the rules give."""
+        run = slice(entry.first or 0, (entry.first or 0) + entry.count)
         if entry.act == "take":
             if entry.first != self.lowest(entry.count):
                 raise Wrong(f"entry {j} of the pool doesn't name the lowest run of {entry.count} free super pages")
-            owners = (None, (j, entry.partition))
-        else:
-            owner = self.taken[entry.first] if entry.first < len(self.taken) else None
-            owners = (owner, None)
-            if owner is None or self.taken.count(owner) != entry.count or owner[1] != entry.partition:
-                raise Wrong(f"entry {j} of the pool gives back what no take of its partition took")
-        if entry.first is None:
+            if entry.first is not None:
+                self.taken[run] = [(j, entry.partition)] * entry.count
             return
-        for at in range(entry.first, entry.first + entry.count):
-            if self.taken[at] != owners[0]:
-                raise Wrong(f"entry {j} of the pool gives back what no take of its partition took")
-            self.taken[at] = owners[1]
+        owner = self.taken[entry.first] if entry.first < len(self.taken) else None
+        one_take = owner is not None and owner[1] == entry.partition and self.taken.count(owner) == entry.count
+        if not one_take or self.taken[run] != [owner] * entry.count:
+            raise Wrong(f"entry {j} of the pool gives back what no take of its partition took")
+        self.taken[run] = [None] * entry.count

@@ -2,12 +2,15 @@
 and keeps what changed at which moment; a moment is one line of the trace. Where an entry isn't the one that the rules give,
 the text is no run."""
 
-from order import RECORD, has_slot, in_order
+from order import RECORD, has_slot, in_order, is_step
 from placement import NONE, SUPER_PAGE, Pool, Root, Wrong
 from texts import PHASE, NoRun
 
 PLACES = ROOT, LIVE, QUARANTINED, CACHED, GONE, HELD = range(6)
 EMPTY, OWN, REF, FREED, CLEARED = range(5)
+TELLS = {"made": "A", "done": "CRFW", "word": "D", "dangling": "D", "second-free": "F", "not-owner": "FW", "stale-use": "W", "shared": "W"}
+FINDS = {"word": 1, "dangling": 0, "second-free": 0, "not-owner": 1, "stale-use": 0}
+MAKES = {"fill": "A", "map": "A", "full": "A", "give": "RFP", "unmap": "RF", "purge": "P"}
 STEPS = {"A": 1, "C": 2, "R": -2, "F": -1, "W": 0}
 ONE = 1 << 24
 BIT = 1
@@ -75,12 +78,22 @@ class Heap:
         for line, record in self.run.records.items():
             if record.thread != self.trace.lines[line - 1].thread:
                 raise NoRun(0, f"the record of line {line} names another thread")
+        for cell, history in enumerate(self.run.cells):
+            for j, entry in enumerate(history):
+                record = self.run.records.get(entry.line)
+                op = self.trace.lines[entry.line - 1] if record else None
+                if op is None or op.name != "X" or op.fields[0] != cell or (record.answer, record.fields) != ("swapped", (j,)):
+                    raise NoRun(0, f"no record names exchange {j} of cell {cell}")
+        if any(self.run.journals[self.trace.partitions :]):
+            raise NoRun(0, "there is a journal of a partition that the trace doesn't have")
 
     def record(self, line):
         op = self.trace.lines[line - 1]
         if op is PHASE:
             return self.end_phase()
         record = self.run.records[line]
+        if (record.answer == "swapped") != (op.name == "X") or (has_slot(record) and op.name not in TELLS[record.answer]):
+            self.refuse(line, f"an op {op.name} has no such answer")
         if record.answer == "swapped":
             return self.exchange(op, record)
         if has_slot(record):
@@ -100,9 +113,11 @@ class Heap:
             self.refuse(record.line, f"register {op.fields[0]} doesn't hold {name}")
         if found != slot.word:
             self.refuse(record.line, f"{name} has the count word {slot.word:016x}")
-        if record.answer not in ("made", "done"):
+        if not is_step(record):
+            if FINDS.get(record.answer, found & BIT) != found & BIT or (record.answer == "shared" and not found % ONE >> 1):
+                self.refuse(record.line, f"a look that finds {found:016x} isn't told so")
             return self.note_slot(slot)
-        if (record.answer == "made") != (op.name == "A") or not is_enabled(op.name, found):
+        if not is_enabled(op.name, found):
             self.refuse(record.line, "its step isn't enabled")
         if op.name == "A" and (slot.place not in (CACHED, HELD) or slot.who != op.thread):
             self.refuse(record.line, f"thread {op.thread} doesn't hold {name}")
@@ -146,6 +161,9 @@ class Heap:
     def entry(self, line, _, partition, j):
         """Entry j of a partition's journal."""
         entry = self.run.journals[partition][j]
+        op = self.trace.lines[line - 1]
+        if op.name not in MAKES[entry.act] or (op.name == "A" and op.fields[1] != partition):
+            raise NoRun(0, f"entry {j} of partition {partition}'s journal: line {line} doesn't make it")
         try:
             getattr(self, entry.act)(self.roots[partition], partition, entry)
         except Wrong as wrong:
@@ -190,6 +208,8 @@ class Heap:
         (name, number), = entry.slots
         if asked.first is None or name != f"{asked.first * SUPER_PAGE + 16384:08x}.{entry.pool}":
             raise Wrong("it isn't where the pool's entry has it")
+        if asked.count != -(-(entry.len + 32768) // SUPER_PAGE):
+            raise Wrong(f"{entry.len} bytes and its guards don't need {asked.count} super pages")
         self.use_supers(partition, asked, 2)
         root.maps[name] = asked.first, asked.count
         self.add(partition, COMMITTED, entry.len)
