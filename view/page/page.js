@@ -237,7 +237,7 @@ function themes() {
 
 function start() {
   $("head").textContent = data.trace[0];
-  $("about").textContent = `${plural(moments, "line")}, ${plural(phaseStarts.length + 1, "phase")}`;
+  $("about").textContent = `${plural(moments, "line")}, ${plural(phaseStarts.length + 1, "phase")}${data.lines ? ", in an order of the steps" : ""}`;
   $("of").textContent = `of ${count(moments)}`;
   $("slider").max = moments - 1;
   $("order").textContent = data.lines
