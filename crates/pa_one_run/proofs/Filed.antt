@@ -12,7 +12,8 @@ use Rattle.pa_record.specs.declared.entry.Answer.TheVariants.{Made, Full, Purged
 use Rattle.pa_record.specs.declared.history.CellEntry.{CellEntry}
 use Rattle.pa_record.specs.declared.pool.PoolEntry.{PoolEntry}
 use Rattle.pa_record.specs.declared.root.RootEntry.{RootEntry}
-use Rattle.pa_rules.specs.Played.{Played, marks_of}
+use Rattle.pa_rules.specs.declared.played.Played.{Played}
+use Rattle.pa_rules.specs.Played.{marks_of}
 use Rattle.pa_rules.specs.Cells.{AreCells}
 use Rattle.pa_rules.specs.Registers.{AreRegisters}
 use Rattle.pa_rules.specs.Sizes.{usable_of}

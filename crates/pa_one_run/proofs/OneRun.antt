@@ -2,11 +2,13 @@
 use Rattle.std.proofs.Common.{◌≡◌, ℕ, ◌+◌, ◌<◌, ◌≤◌, List, [], ◌∷◌, ◌++◌, map, get_or, drop, refl, sym, ◌∙◌, ap, subst, arith, inl, inr}
 use Rattle.std.specs.Prelude.{Contains}
 use Rattle.pa_record.specs.declared.entry.Answer.{Answer}
-use Rattle.pa_record.specs.RunText.{journal_of}
 use Rattle.pa_record.proofs.Members.{not_in_none, first_in}
-use Rattle.pa_rules.specs.Played.{OpLine, Played, op_line_of, entry_of}
+use Rattle.pa_rules.specs.declared.played.Played.{Played}
+use Rattle.pa_rules.specs.Played.{OpLine, op_line_of, entry_of}
 use Rattle.pa_rules.specs.Report.{IsReport}
+use Rattle.pa_rules.specs.Told.{told_by, records_of}
 use Rattle.pa_rules.specs.Legal.{phases_in}
+use Rattle.pa_rules.proofs.Recorded.{records_are_lines}
 use Rattle.pa_one_run.specs.Laws.{AtMostOneFileRun}
 use Rattle.pa_one_run.proofs.lines.Sorting.{below_all, rising_strictly, next_below, none_below, below_gap}
 use Rattle.pa_one_run.proofs.Filed.{Parts, IsFiled, Agrees, entry_line, pool_line, cell_line}
@@ -127,22 +129,26 @@ one_filed a b h k supers partitions same =
 -- ---- the law
 
 pub one_file_run : AtMostOneFileRun
-one_file_run t r r' limits (ps, legal, order) (ps', legal', order') =
-    let a = parts_of t r ps in
-    let b = parts_of t r' ps' in
-    let h = filed t r ps limits legal order in
-    let k = filed t r' ps' limits legal' order' in
-    let one = one_filed a b h k refl refl (legal.lines ∙ sym legal'.lines) in
-    let journals : journal_of r' ≡ journal_of r = λ i p. sym (one.entries p) i in
+one_file_run t r r' limits (legal, order) (legal', order') =
+    let told = told_by r in
+    let told' = told_by r' in
+    let ps = records_of t told in
+    let ps' = records_of t told' in
+    let h = filed t told limits (legal, order) in
+    let k = filed t told' limits (legal', order') in
+    let lines = records_are_lines.lines t.lines told.entries legal.lines in
+    let lines' = records_are_lines.lines t.lines told'.entries legal'.lines in
+    let one = one_filed (parts_of t told) (parts_of t told') h k refl refl (lines ∙ sym lines') in
+    let journals : told'.roots ≡ told.roots = λ i p. sym (one.entries p) i in
     let phases = phases_in t.lines in
-    let told : IsReport phases t.partitions t.threads ps r.pool.items (journal_of r) r'.report.items =
-    subst (λ z. IsReport phases t.partitions t.threads z r.pool.items (journal_of r) r'.report.items) (sym one.records)
-    (subst (λ z. IsReport phases t.partitions t.threads ps' z (journal_of r) r'.report.items) (sym one.pool)
-    (subst (λ z. IsReport phases t.partitions t.threads ps' r'.pool.items z r'.report.items) journals legal'.report)) in
+    let report : IsReport phases t.partitions t.threads ps told.pools told.roots told'.report =
+    subst (λ z. IsReport phases t.partitions t.threads z told.pools told.roots told'.report) (sym one.records)
+    (subst (λ z. IsReport phases t.partitions t.threads ps' z told.roots told'.report) (sym one.pool)
+    (subst (λ z. IsReport phases t.partitions t.threads ps' told'.pools z told'.report) journals legal'.report)) in
     record {
-      entries = sym legal.told ∙ ap (map entry_of) one.records ∙ legal'.told;
+      entries = sym (records_are_lines.told t.lines told.entries legal.lines) ∙ ap (map entry_of) one.records ∙ records_are_lines.told t.lines told'.entries legal'.lines;
       roots = one.entries;
       pool = one.pool;
       cells = one.exchanges;
-      report = one_report a phases r.report.items r'.report.items h legal.report told;
+      report = one_report (parts_of t told) phases told.report told'.report h legal.report report;
     }

@@ -16,18 +16,19 @@ use Rattle.pa_record.specs.declared.entry.Answer.TheVariants.{Value, Dangling}
 use Rattle.pa_record.specs.declared.history.CellEntry.{CellEntry}
 use Rattle.pa_record.specs.declared.pool.PoolEntry.{PoolEntry}
 use Rattle.pa_record.specs.declared.root.RootEntry.{RootEntry}
-use Rattle.pa_record.specs.declared.run.Run.{Run}
-use Rattle.pa_record.specs.RunText.{journal_of, history_of}
 use Rattle.pa_record.proofs.Members.{first_in, in_cases}
 use Rattle.pa_record.proofs.Pairs.{pairs_head}
-use Rattle.pa_rules.specs.Played.{Played, marks_of}
+use Rattle.pa_rules.specs.declared.played.Played.{Played}
+use Rattle.pa_rules.specs.Played.{marks_of}
 use Rattle.pa_rules.specs.Cells.{AreCells}
 use Rattle.pa_rules.specs.Roots.{Journals, IsPoolOf, AreRoots}
 use Rattle.pa_rules.specs.Contents.{IsReadAllowed, IsReadExact, AreContents, AreExactContents}
 use Rattle.pa_rules.specs.Seen.{IsSeenInOrder, left_number}
 use Rattle.pa_rules.specs.Seen.IsBefore.{Standing}
 use Rattle.pa_rules.specs.FileOrder.{AreNumbersInFileOrder, AreCellsInFileOrder, IsInFileOrder}
-use Rattle.pa_rules.specs.Legal.{IsLegalBy}
+use Rattle.pa_rules.specs.Told.{Told, records_of}
+use Rattle.pa_rules.specs.Legal.{IsLegalTold}
+use Rattle.pa_rules.proofs.Recorded.{records_are_lines}
 use Rattle.pa_rules.specs.Sizes.{usable_of}
 use Rattle.pa_rules.proofs.Marking.{mark_line}
 use Rattle.pa_rules.proofs.Numbering.{lines_rise}
@@ -177,16 +178,18 @@ numbers ms slots rises seen m among =
     let h = front_of ms slots front (m ∷ back) rises (finds_left ms slots rises seen) parts in
     ap number_of (finds_left ms slots rises seen front back m parts h) ∙ h.counted m.slot ∙ sym (steps_at ms front back m rises parts)
 
-pub one_thread : (t : Trace) (r : Run) (ps : List Played) → IsWithinLimits t → t.threads ≡ 1 → IsLegalBy t r ps → IsInFileOrder ps r.pool.items (journal_of r) (history_of r)
-one_thread t r ps limits one h =
+pub one_thread : (t : Trace) (r : Told) → IsWithinLimits t → t.threads ≡ 1 → IsLegalTold t r → IsInFileOrder (records_of t r) r.pools r.roots r.cells
+one_thread t r limits one h =
+    let ps = records_of t r in
+    let lines = records_are_lines.lines t.lines r.entries h.lines in
     let alone : IsAlone ps = λ x y among among'.
-    let (a, within) = records_within t ps x limits h.lines among in
-    let (b, within') = records_within t ps y limits h.lines among' in
+    let (a, within) = records_within t ps x limits lines among in
+    let (b, within') = records_within t ps y limits lines among' in
     omega arith in
     record {
-      journals = journals_sorted t.partitions ps r.pool.items (journal_of r) alone h.roots;
-      pool = pool_sorted t.region t.partitions ps r.pool.items (journal_of r) alone h.roots h.pool;
-      exchanges = cells_sorted (history_of r) ps alone h.cells;
-      numbers = numbers (marks_of ps) h.slots (marks_rise ps (lines_rise t.lines ps h.lines)) (finds_no_less (history_of r) ps alone h.seen);
-      contents = exact_contents usable_of (history_of r) ps alone h.contents;
+      journals = journals_sorted t.partitions ps r.pools r.roots alone h.roots;
+      pool = pool_sorted t.region t.partitions ps r.pools r.roots alone h.roots h.pool;
+      exchanges = cells_sorted r.cells ps alone h.cells;
+      numbers = numbers (marks_of ps) h.slots (marks_rise ps (lines_rise t.lines ps lines)) (finds_no_less r.cells ps alone h.seen);
+      contents = exact_contents usable_of r.cells ps alone h.contents;
     }

@@ -13,7 +13,7 @@ use Rattle.pa_record.specs.Census.{census}
 use Rattle.pa_record.proofs.Members.{first_in, later_in}
 use Rattle.pa_record.proofs.Same.{same_tally, same_line}
 use Rattle.pa_record.proofs.Joined.{filter_cases}
-use Rattle.pa_rules.specs.Played.{Played}
+use Rattle.pa_rules.specs.declared.played.Played.{Played}
 use Rattle.pa_rules.specs.Caches.{Cache, Caches, with_cache, CacheRow, CachesTo, no_caches}
 use Rattle.pa_rules.specs.Report.{until, HasSize, IsTally, IsCached, HasCensus, census_of, cached_slots, cached_bytes, IsReportLine, IsReport}
 use Rattle.pa_rules.proofs.FourPlaces.{one_until}

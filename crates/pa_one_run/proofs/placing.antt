@@ -1,3 +1,4 @@
 pub mod Returns
+pub mod Unmaps
 pub mod CacheRows
 pub mod Placing

@@ -15,6 +15,8 @@ pub mod Runs
 pub mod Told
 pub mod Moves
 pub mod Contents
+pub mod Words
+pub mod HeldWords
 pub mod Alone
 pub mod OneJournal
 pub mod OneFill

@@ -3,3 +3,4 @@ pub mod Worked
 pub mod WorkedWrites
 pub mod WorkedPurge
 pub mod WorkedOnly
+pub mod WorkedHeld

@@ -19,7 +19,8 @@ use Rattle.pa_record.specs.declared.census.Census.{Census}
 use Rattle.pa_record.specs.declared.run.Run.{Run}
 use Rattle.pa_record.specs.Fits.{RunFits}
 use Rattle.pa_record.specs.Worked.{slots, fill, pool_take, direct_map_again_pool, direct_map_again_journal, direct_map_again_census, census_of}
-use Rattle.pa_rules.specs.Played.{Played, entry_of}
+use Rattle.pa_rules.specs.declared.played.Played.{Played}
+use Rattle.pa_rules.specs.Played.{entry_of}
 use Rattle.pa_rules.specs.Legal.{IsLegal, IsFileRun}
 
 -- the run tells just this

@@ -9,7 +9,8 @@ use Rattle.pa_record.specs.declared.root.RootEntry.{RootEntry}
 use Rattle.pa_record.specs.declared.report.ReportLine.{ReportLine}
 use Rattle.pa_record.specs.declared.run.Run.{Run}
 use Rattle.pa_record.specs.Worked.{census_of}
-use Rattle.pa_rules.specs.Played.{Played, entry_of}
+use Rattle.pa_rules.specs.declared.played.Played.{Played}
+use Rattle.pa_rules.specs.Played.{entry_of}
 use Rattle.pa_rules.specs.Legal.{IsFileRun}
 use Rattle.pa_one_run.specs.Worked.{IsRunOf, IsTold, seen_at, tally, report_line, two_threads_journal, two_threads_pool}
 

@@ -1,5 +1,6 @@
 ghost use Rattle.pa_one_run.specs.Laws.{AtMostOneFileRun, OneThreadInFileOrder};
 ghost use Rattle.pa_one_run.specs.Worked.{DirectMapIsFiled, DirectMapIsTold, TwoThreadsAreLegal, TwoThreadsAreTold};
+ghost use Rattle.pa_one_run.specs.WorkedHeld.{MapIsHeld, WordsAreHeld};
 ghost use Rattle.pa_one_run.specs.WorkedOnly.{OnlyDirectMaps, OnlyPurge, OnlyWrites};
 ghost use Rattle.pa_one_run.specs.WorkedPurge.{PurgeIsFiled, PurgeIsTold};
 ghost use Rattle.pa_one_run.specs.WorkedWrites.{WritesAreFiled, WritesAreTold};
@@ -49,4 +50,11 @@ pub fn worked_runs_are_the_only_ones()
     ensures direct_maps { OnlyDirectMaps }
     ensures writes { OnlyWrites }
     ensures purge { OnlyPurge }
+{}
+
+/// Two worked runs are held by regions whose words were worked out by hand: a live slot has its value, a quarantined one
+/// poison, and what went back has none.
+pub fn worked_words_are_held()
+    ensures words { WordsAreHeld }
+    ensures map { MapIsHeld }
 {}

@@ -13,7 +13,8 @@ use Rattle.pa_record.specs.declared.entry.Answer.TheVariants.{Made, Done, Value,
 use Rattle.pa_record.specs.declared.history.CellEntry.{CellEntry}
 use Rattle.pa_record.specs.declared.history.Held.{Held}
 use Rattle.pa_record.specs.declared.history.Held.TheVariants as held
-use Rattle.pa_rules.specs.Played.{Played, step_of, look_at, mark_at, mark_of, mark_of_answer, marks_of}
+use Rattle.pa_rules.specs.declared.played.Played.{Played}
+use Rattle.pa_rules.specs.Played.{step_of, look_at, mark_at, mark_of, mark_of_answer, marks_of}
 use Rattle.pa_rules.specs.Cells.{IsExchange}
 use Rattle.pa_rules.specs.Contents.{IsContent, IsReadExact}
 use Rattle.pa_rules.specs.Plain.{plain_name, history_at}

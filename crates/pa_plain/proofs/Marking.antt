@@ -10,7 +10,8 @@ use Rattle.pa_trace.specs.declared.script.Op.TheVariants as ops
 use Rattle.pa_record.specs.declared.entry.Seen.{Seen}
 use Rattle.pa_record.specs.declared.entry.Answer.{Answer}
 use Rattle.pa_record.specs.declared.entry.Answer.TheVariants.{Made, Done, Value, Dangling, SecondFree, NotOwner, StaleReset, StaleUse, Nothing, Filled, NotRef, Shared, OutOfRange, TooLarge, Full, Swapped, Purged}
-use Rattle.pa_rules.specs.Played.{Played, step_of, mark_at, look_at, mark_of, mark_of_answer, marks_of}
+use Rattle.pa_rules.specs.declared.played.Played.{Played}
+use Rattle.pa_rules.specs.Played.{step_of, mark_at, look_at, mark_of, mark_of_answer, marks_of}
 
 -- the line of a mark, where there is one
 abbrev pub line_or : ℕ → Option Mark → ℕ

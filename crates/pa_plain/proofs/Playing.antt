@@ -20,7 +20,8 @@ use Rattle.pa_record.specs.declared.history.CellEntry.{CellEntry}
 use Rattle.pa_rules.specs.declared.register.Reg.{Reg}
 use Rattle.pa_rules.specs.declared.register.Reg.TheVariants.{Empty}
 use Rattle.pa_rules.specs.declared.slot_word.SlotWord.{SlotWord}
-use Rattle.pa_rules.specs.Played.{Played, OpLine, op_lines, op_line_of, entry_of, mark_of_answer, marks_of}
+use Rattle.pa_rules.specs.declared.played.Played.{Played}
+use Rattle.pa_rules.specs.Played.{OpLine, op_lines, op_line_of, entry_of, mark_of_answer, marks_of}
 use Rattle.pa_rules.specs.Registers.{Regs, AllRegs, Row, with_thread, no_regs, usable_in}
 use Rattle.pa_rules.specs.Report.{last_word}
 use Rattle.pa_rules.specs.Plain.{plain_name, AreLastWords, history_at, IsPlainRun}

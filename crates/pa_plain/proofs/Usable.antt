@@ -12,7 +12,7 @@ use Rattle.pa_record.specs.declared.entry.Answer.TheVariants.{Made, Done, Value,
 use Rattle.pa_record.specs.declared.history.CellEntry.{CellEntry}
 use Rattle.pa_rules.specs.declared.register.Reg.{Reg}
 use Rattle.pa_rules.specs.declared.register.Reg.TheVariants.{Empty, Own, Ref, Freed, Cleared}
-use Rattle.pa_rules.specs.Played.{Played}
+use Rattle.pa_rules.specs.declared.played.Played.{Played}
 use Rattle.pa_rules.specs.Registers.{Regs, AllRegs, Facts, Row, RowsTo, AllocRow, RequestRow, CopyRow, CopyToRow, ResetRow, FreeRow, WriteRow, ReadRow, ReadFromRow, with_thread, made_of, usable_or, usable_in}
 use Rattle.pa_rules.specs.Cells.{IsExchange}
 use Rattle.pa_plain.specs.Player.{IsAmong, NamesAmong}

@@ -3,7 +3,7 @@ use Rattle.std.proofs.Common.{◌≡◌, ℕ, suc, ◌<◌, List, [], ◌∷◌,
 use Rattle.std.specs.Prelude.{Contains, slice_get}
 use Rattle.std.specs.List.{cons_option}
 use Rattle.std.proofs.lemmas.List.{append-nil, append_assoc}
-use Rattle.std.proofs.lemmas.List.Elements.{Contains-append_cases, Contains-append_left, Contains-append_right, Contains-push_cases}
+use Rattle.std.proofs.lemmas.List.Elements.{Contains-append_left, Contains-append_right, Contains-push_cases}
 use Rattle.pa_machine.specs.declared.title.Title.{Title}
 use Rattle.pa_buckets.specs.Bands.{fill_of}
 use Rattle.pa_record.specs.declared.taken.SuperPage.{SuperPage}
@@ -12,15 +12,15 @@ use Rattle.pa_record.specs.declared.root.RootEntry.{RootEntry}
 use Rattle.pa_record.specs.declared.root.RootAct.{RootAct}
 use Rattle.pa_record.specs.declared.root.RootAct.TheVariants.{Fill, Map, Full, Give, Unmap, Purge}
 use Rattle.pa_record.specs.Pool.{act_at}
-use Rattle.pa_record.specs.Root.{Root, new_root, takes, opened, opened_by, super_of, names, empties, root_next, RootActFits, RootReplays, RiseFrom, all_asked, asked_by}
-use Rattle.pa_record.specs.Sound.{IsSound, IsSettled, IsBornBelow, AsksFrom, least_after, next_titles, titles_made}
+use Rattle.pa_record.specs.Root.{Root, new_root, takes, opened, opened_by, super_of, names, empties, root_next, root_replayed, RootActFits, RootReplays, RiseFrom, all_asked, asked_by}
+use Rattle.pa_record.specs.Sound.{IsSound, IsSettled, IsBornBelow, AsksFrom, least_after, IsMapBy}
 use Rattle.pa_record.specs.Laws.{TitlesAreAsked}
 use Rattle.pa_record.proofs.Members.{not_in_none, first_in, in_cases}
 use Rattle.pa_record.proofs.Filling.{takes_filled, opened_sound}
 use Rattle.pa_record.proofs.Returning.{all_returned_is, times_is}
 use Rattle.pa_record.proofs.Mapping.{born_more}
 use Rattle.pa_record.proofs.Stepping.{next_is}
-use Rattle.pa_record.proofs.Titles.{new_sound, new_born, rise_parts, made_born, fill_made}
+use Rattle.pa_record.proofs.Titles.{new_sound, new_born, rise_parts, made_born, journal_replayed}
 
 -- each super page of the root was taken by one of these entries
 abbrev HasAsked : List ℕ → Root → Type 0
@@ -50,42 +50,21 @@ next_asked pools (Unmap asked slot) n r xs sound few old asks fits h at member =
 next_asked pools Purge n r xs sound few old asks fits h at member =
     Contains-append_left xs [] at.born (h at (subst (λ ys. Contains ys at) (times_is (empties r) r sound).kept.supers member))
 
--- an entry's titles
-titles_asked : (pools : List PoolEntry) (act : RootAct) (n : ℕ) (r : Root) (xs : List ℕ) (t : Title) → IsSound r → IsSettled r → IsBornBelow n r → AsksFrom n (asked_by act) →
-    RootActFits pools act r → HasAsked xs r → Contains (next_titles pools act r) t → Contains (xs ++ cons_option (asked_by act) []) t.born
-titles_asked pools (Fill class asked slots) n r xs t sound few old asks fits h among =
-    let next = next_is pools (Fill class asked slots) n r sound few old asks fits in
-    let made = fill_made pools n class asked r sound old asks fits.0 t among in
-    let (at, member, e) = made_born (root_next pools (Fill class asked slots) r) t next.sound made in
-    subst (λ k. Contains (xs ++ cons_option asked []) k) (sym e) (fill_asked pools class n asked r xs sound old asks fits.0 h at member)
-titles_asked pools (Map asked slot len) n r xs t sound few old asks fits h among = elim (in_cases _ t [] among) [
-  | inl e ↦ Contains-append_right xs (asked ∷ []) t.born
-      (subst (λ k. Contains (asked ∷ []) k) (sym fits.3 ∙ ap (λ (x : Title). x.born) e) (first_in asked []))
-  | inr none ↦ absurd (not_in_none t none)
-]
-titles_asked pools (Full class asked) n r xs t sound few old asks fits h among = absurd (not_in_none t among)
-titles_asked pools (Give slots) n r xs t sound few old asks fits h among = absurd (not_in_none t among)
-titles_asked pools (Unmap asked slot) n r xs t sound few old asks fits h among = absurd (not_in_none t among)
-titles_asked pools Purge n r xs t sound few old asks fits h among = absurd (not_in_none t among)
-
 cons_parts : (o : Option ℕ) (xs rest : List ℕ) → (xs ++ cons_option o []) ++ rest ≡ xs ++ cons_option o rest
 cons_parts None xs rest = ap (λ ys. ys ++ rest) (append-nil xs)
 cons_parts (Some j) xs rest = append_assoc xs (j ∷ []) rest
 
-all_titles : (pools : List PoolEntry) (es : List RootEntry) (n : ℕ) (r : Root) (xs : List ℕ) (t : Title) → IsSound r → IsSettled r → IsBornBelow n r → RootReplays pools es r →
-    RiseFrom n (all_asked es) → HasAsked xs r → Contains (titles_made pools es r) t → Contains (xs ++ all_asked es) t.born
-all_titles pools [] n r xs t sound few old fits rise h among = absurd (not_in_none t among)
-all_titles pools (e ∷ es) n r xs t sound few old fits rise h among =
+-- the root's super pages after some entries
+all_supers : (pools : List PoolEntry) (es : List RootEntry) (n : ℕ) (r : Root) (xs : List ℕ) → IsSound r → IsSettled r → IsBornBelow n r → RootReplays pools es r →
+    RiseFrom n (all_asked es) → HasAsked xs r → HasAsked (xs ++ all_asked es) (root_replayed pools es r)
+all_supers pools [] n r xs sound few old fits rise h = subst (λ ys. HasAsked ys r) (sym (append-nil xs)) h
+all_supers pools (e ∷ es) n r xs sound few old fits rise h =
     let (asks, rest) = rise_parts n (asked_by e.act) (all_asked es) rise in
     let next = next_is pools e.act n r sound few old asks fits.0 in
     let after = root_next pools e.act r in
     let ys = xs ++ cons_option (asked_by e.act) [] in
-    subst (λ zs. Contains zs t.born) (cons_parts (asked_by e.act) xs (all_asked es))
-    (elim (Contains-append_cases (next_titles pools e.act r) (titles_made pools es after) t among) [
-      | inl now ↦ Contains-append_left ys (all_asked es) t.born (titles_asked pools e.act n r xs t sound few old asks fits.0 h now)
-      | inr then ↦ all_titles pools es (least_after n (asked_by e.act)) after ys t next.sound next.settled next.born fits.1 rest
-          (next_asked pools e.act n r xs sound few old asks fits.0 h) then
-    ])
+    subst (λ zs. HasAsked zs (root_replayed pools es after)) (cons_parts (asked_by e.act) xs (all_asked es))
+    (all_supers pools es (least_after n (asked_by e.act)) after ys next.sound next.settled next.born fits.1 rest (next_asked pools e.act n r xs sound few old asks fits.0 h))
 
 -- an entry that names it
 abbrev HasNamer : List RootEntry → ℕ → Type 0
@@ -103,7 +82,24 @@ namer : (es : List RootEntry) (j : ℕ) → Contains (all_asked es) j → HasNam
 namer [] j among = absurd (not_in_none j among)
 namer (e ∷ es) j among = namer_by es e j (asked_by e.act) refl (λ rest. namer es j rest) among
 
+-- the entry that mapped a title names its entry of the pool
+map_namer : (pools : List PoolEntry) (es : List RootEntry) (r : Root) (t : Title) → RootReplays pools es r → IsMapBy es t → HasNamer es t.born
+map_namer pools [] r t fits (e, asked, len, slot, among, act, is) = absurd (not_in_none e among)
+map_namer pools (f ∷ es) r t fits (e, asked, len, slot, among, act, is) = elim (in_cases f e es among) [
+  | inl same ↦
+      let here : f.act ≡ Map asked slot len = ap (λ (z : RootEntry). z.act) same ∙ act in
+      let fit : RootActFits pools (Map asked slot len) r = subst (λ a. RootActFits pools a r) here fits.0 in
+      (0, f, refl, ap asked_by here ∙ ap Some (sym fit.3 ∙ ap (λ (z : Title). z.born) (sym is)))
+  | inr rest ↦
+      let (i, g, at, named) = map_namer pools es (root_next pools f.act r) t fits.1 (e, asked, len, slot, rest, act, is) in
+      (suc i, g, at, named)
+]
+
 pub titles_are_asked : TitlesAreAsked
-titles_are_asked pools journal t h among =
-    namer journal t.born
-    (all_titles pools journal 0 new_root [] t new_sound (omega arith) new_born h.replays h.rise (λ at member. absurd (not_in_none at member)) among)
+titles_are_asked pools journal t h (inl made) =
+    let root = root_replayed pools journal new_root in
+    let r = journal_replayed pools journal h.replays h.rise in
+    let supers = all_supers pools journal 0 new_root [] new_sound (omega arith) new_born h.replays h.rise (λ at member. absurd (not_in_none at member)) in
+    let (at, member, born) = made_born root t r.sound made in
+    namer journal t.born (subst (λ k. Contains (all_asked journal) k) (sym born) (supers at member))
+titles_are_asked pools journal t h (inr mapped) = map_namer pools journal new_root t h.replays mapped

@@ -31,6 +31,7 @@ use Rattle.pa_record.proofs.Filling.{takes_filled, opened_sound, opened_current,
 use Rattle.pa_record.proofs.Returning.{find_out, number_is, all_returned_is, times_is}
 use Rattle.pa_record.proofs.Mapping.{OtherBorn, mapped_sound, unmapped_sound}
 use Rattle.pa_record.proofs.Stepping.{next_is}
+use Rattle.pa_record.proofs.MadeBy.{made_titles}
 use Rattle.pa_record.proofs.Titles.{journal_replayed}
 use Rattle.pa_record.proofs.Replaying.{replays_more, replays_push, replayed_push, rise_push}
 
@@ -160,7 +161,7 @@ entry_keeps = next_is
 pub journal_leaves : JournalLeaves
 journal_leaves pools journal h =
     let p = journal_replayed pools journal h.replays h.rise in
-    record { sound = p.sound; settled = p.settled; born = p.born; titles = p.known.titles }
+    record { sound = p.sound; settled = p.settled; born = p.born; titles = made_titles pools journal h }
 
 pub journal_grows : JournalGrows
 journal_grows = record {

@@ -23,6 +23,7 @@ pub mod Returning
 pub mod Mapping
 pub mod Stepping
 pub mod Titles
+pub mod MadeBy
 pub mod PoolSteps
 pub mod Replaying
 pub mod Lawful

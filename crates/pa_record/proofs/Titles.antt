@@ -1,4 +1,4 @@
--- The titles that a journal makes lie apart.
+-- The titles that a journal's fills took and its maps made lie apart.
 use Rattle.std.proofs.Common.{◌≡◌, ◌≢◌, ℕ, ◌+◌, ◌<◌, ◌≤◌, false, List, [], ◌∷◌, ◌++◌, sym, ◌∙◌, ap, subst, arith, ◌⊎◌, inl, inr, Option, Some, None}
 use Rattle.std.specs.Prelude.{Contains}
 use Rattle.std.specs.List.{cons_option}
@@ -17,13 +17,27 @@ use Rattle.pa_record.specs.declared.root.RootAct.TheVariants.{Fill, Map, Full, G
 use Rattle.pa_record.specs.Pool.{act_at, FoundRun}
 use Rattle.pa_record.specs.Spans.{Span, title_at, same_place}
 use Rattle.pa_record.specs.Root.{Root, new_root, takes, opened, opened_by, super_of, map_title, mapped, supers_for, root_next, root_replayed, RootActFits, RootReplays, RiseFrom, all_asked, asked_by}
-use Rattle.pa_record.specs.Sound.{IsSound, IsSettled, IsBornBelow, IsMade, AsksFrom, least_after, least_after_all, IsNext, next_titles, titles_made, TitlesApart, IsInPayload, IsMapped, AreTitles}
+use Rattle.pa_record.specs.Sound.{IsSound, IsSettled, IsBornBelow, IsMade, AsksFrom, least_after, least_after_all, IsNext, TitlesApart, IsInPayload, IsMapped, AreTitles}
 use Rattle.pa_record.proofs.Members.{not_in_none, in_cases, not_some}
 use Rattle.pa_record.proofs.Pairs.{pairs_none}
 use Rattle.pa_record.proofs.Slots.{slot_within, slots_apart}
 use Rattle.pa_record.proofs.Filling.{takes_filled, opened_sound}
 use Rattle.pa_record.proofs.Mapping.{OtherBorn, born_more}
 use Rattle.pa_record.proofs.Stepping.{next_is}
+
+-- the titles that an entry takes or maps
+abbrev pub next_titles : List PoolEntry → RootAct → Root → List Title
+next_titles pools (Fill class asked slots) r = (takes class (fill_of class) (opened_by pools asked r)).titles
+next_titles pools (Map asked slot len) r = map_title slot len ∷ []
+next_titles pools (Full class asked) r = []
+next_titles pools (Give slots) r = []
+next_titles pools (Unmap asked slot) r = []
+next_titles pools Purge r = []
+
+-- those that a journal takes or maps
+abbrev pub titles_taken : List PoolEntry → List RootEntry → Root → List Title
+titles_taken pools [] r = []
+titles_taken pools (e ∷ es) r = next_titles pools e.act r ++ titles_taken pools es (root_next pools e.act r)
 
 -- a root at the start
 pub new_sound : IsSound new_root
@@ -84,7 +98,7 @@ IsOldMap n r t = (t.born < n) × ((at : SuperPage) → Contains r.supers at → 
 -- what is known of the titles so far
 pub record IsKnown (pools : List PoolEntry) (n : ℕ) (r : Root) (ts : List Title) : Type 0 where
   pub each : (t : Title) → Contains ts t → IsMade r t ⊎ IsOldMap n r t
-  pub titles : AreTitles pools ts
+  pub titles : AreTitles pools (λ t. Contains ts t)
 
 known_none : (pools : List PoolEntry) (n : ℕ) (r : Root) → IsKnown pools n r []
 known_none pools n r = record {
@@ -107,7 +121,7 @@ least_more n None asks = omega arith
 least_more n (Some j) asks = omega arith
 
 -- the titles of one entry, made in a root or one direct map with an entry of its own
-made_or_map : (after : Root) (m : ℕ) (t u : Title) → IsSound after → IsMade after t → IsOldMap m after u → t.born ≡ u.born → ⊥
+pub made_or_map : (after : Root) (m : ℕ) (t u : Title) → IsSound after → IsMade after t → IsOldMap m after u → t.born ≡ u.born → ⊥
 made_or_map after m t u sound made old same =
     let (at, member, born) = made_born after t sound made in
     old.1 at member (sym same ∙ born)
@@ -246,7 +260,7 @@ pub record IsReplayed (pools : List PoolEntry) (n : ℕ) (r : Root) (ts : List T
   pub known : IsKnown pools n r ts
 
 all_replayed : (pools : List PoolEntry) (es : List RootEntry) (n : ℕ) (r : Root) (ts : List Title) → IsReplayed pools n r ts → RootReplays pools es r → RiseFrom n (all_asked es) →
-    IsReplayed pools (least_after_all n es) (root_replayed pools es r) (ts ++ titles_made pools es r)
+    IsReplayed pools (least_after_all n es) (root_replayed pools es r) (ts ++ titles_taken pools es r)
 all_replayed pools [] n r ts h fits rise = subst (λ xs. IsReplayed pools n r xs) (sym (append-nil ts)) h
 all_replayed pools (e ∷ es) n r ts h fits rise =
     let (asks, rest) = rise_parts n (asked_by e.act) (all_asked es) rise in
@@ -261,9 +275,9 @@ all_replayed pools (e ∷ es) n r ts h fits rise =
     })
     fits.1 rest in
     subst (λ xs. IsReplayed pools (least_after_all n (e ∷ es)) (root_replayed pools (e ∷ es) r) xs)
-    (append_assoc ts (next_titles pools e.act r) (titles_made pools es after)) ih
+    (append_assoc ts (next_titles pools e.act r) (titles_taken pools es after)) ih
 
 pub journal_replayed : (pools : List PoolEntry) (es : List RootEntry) → RootReplays pools es new_root → RiseFrom 0 (all_asked es) →
-    IsReplayed pools (least_after_all 0 es) (root_replayed pools es new_root) (titles_made pools es new_root)
+    IsReplayed pools (least_after_all 0 es) (root_replayed pools es new_root) (titles_taken pools es new_root)
 journal_replayed pools es fits rise =
     all_replayed pools es 0 new_root [] (record { sound = new_sound; settled = omega arith; born = new_born; known = known_none pools 0 new_root }) fits rise

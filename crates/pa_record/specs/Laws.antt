@@ -16,7 +16,7 @@ use Rattle.pa_buckets.specs.declared.spans.State.TheVariants as state
 use Rattle.pa_record.specs.Spans.{Span, is_in, numbers, holds, number_in, latest, earliest, title_at, name_of}
 use Rattle.pa_record.specs.Root.{Root, new_root, opened, span_for, takes, all_returned, purged, empties, map_title, supers_for, mapped, unmapped, names, root_next, root_replayed, RootActFits, IsJournal, asked_by, IsOut, IsOutOf, IsTitleOut}
 use Rattle.pa_record.specs.Census.{count_in, census}
-use Rattle.pa_record.specs.Sound.{IsSound, IsSettled, IsBornBelow, AsksFrom, least_after_all, IsNext, titles_made, AreTitles}
+use Rattle.pa_record.specs.Sound.{IsSound, IsSettled, IsBornBelow, AsksFrom, least_after_all, IsNext, IsMadeBy, AreTitles}
 use Rattle.pa_record.specs.Steps.{IsLatest, IsEarliest, IsFilled, IsReturned, IsDecommittedTimes}
 
 -- Of the spans that pass a test the one with the greatest turn, and the one with the least; and none where none passes.
@@ -73,7 +73,7 @@ pub record IsLeft (pools : List PoolEntry) (journal : List RootEntry) (r : Root)
   pub sound : IsSound r
   pub settled : IsSettled r
   pub born : IsBornBelow (least_after_all 0 journal) r
-  pub titles : AreTitles pools (titles_made pools journal new_root)
+  pub titles : AreTitles pools (IsMadeBy pools journal)
 
 abbrev pub JournalLeaves : Type 0
 JournalLeaves = (pools : List PoolEntry) (journal : List RootEntry) → IsJournal pools journal → IsLeft pools journal (root_replayed pools journal new_root)
@@ -106,7 +106,7 @@ pub record EntryIsOne : Type 0 where
 -- the entry of the pool to which a title belongs is named by an entry of its journal
 abbrev pub TitlesAreAsked : Type 0
 TitlesAreAsked = (pools : List PoolEntry) (journal : List RootEntry) (t : Title) → IsJournal pools journal →
-    Contains (titles_made pools journal new_root) t → (i : ℕ) × (e : RootEntry) × (slice_get journal i ≡ Some e) × (asked_by e.act ≡ Some t.born)
+    IsMadeBy pools journal t → (i : ℕ) × (e : RootEntry) × (slice_get journal i ≡ Some e) × (asked_by e.act ≡ Some t.born)
 
 -- the slots that an entry takes out of the root, and those that come back
 abbrev pub leaves_by : RootAct → List SlotName

@@ -1,5 +1,5 @@
 -- What holds of a root at every moment.
-use Rattle.std.specs.Prelude.{◌≡◌, ◌≢◌, ℕ, ◌+◌, ◌*◌, ◌/◌, ◌<◌, ◌≤◌, ◌⊎◌, min, false, List, [], ◌∷◌, ◌++◌, length, Option, Some, None, Contains, AllPairs}
+use Rattle.std.specs.Prelude.{◌≡◌, ◌≢◌, ℕ, ◌+◌, ◌*◌, ◌/◌, ◌<◌, ◌≤◌, ◌⊎◌, min, false, List, [], ◌∷◌, length, Option, Some, None, Contains, AllPairs}
 use Rattle.pa_machine.specs.declared.title.Title.{Title}
 use Rattle.pa_machine.specs.declared.word.SlotName.{SlotName}
 use Rattle.pa_layout.specs.Pages.{page_place}
@@ -8,13 +8,12 @@ use Rattle.pa_buckets.specs.declared.spans.State.TheVariants as state
 use Rattle.pa_buckets.specs.Table.{slot_of, pages_of, system_of, slots_of}
 use Rattle.pa_record.specs.declared.taken.SuperPage.{SuperPage}
 use Rattle.pa_record.specs.Spans.{Span, bytes_of, title_at, is_in, same_place}
-use Rattle.pa_buckets.specs.Bands.{fill_of}
 use Rattle.pa_record.specs.declared.pool.PoolEntry.{PoolEntry}
 use Rattle.pa_record.specs.declared.root.RootEntry.{RootEntry}
 use Rattle.pa_record.specs.declared.root.RootAct.{RootAct}
 use Rattle.pa_record.specs.declared.root.RootAct.TheVariants.{Fill, Map, Full, Give, Unmap, Purge}
 use Rattle.pa_record.specs.Pool.{FoundRun}
-use Rattle.pa_record.specs.Root.{Root, current, empties, supers_for, takes, opened_by, map_title, root_next, names, asked_by, IsOut}
+use Rattle.pa_record.specs.Root.{Root, new_root, current, empties, supers_for, map_title, root_replayed, names, asked_by, IsOut}
 
 -- what a state says of the slots that are out; a span that is in none yet has none out
 abbrev pub StateSays : State → Span → Type 0
@@ -83,19 +82,15 @@ pub record IsBornBelow (n : ℕ) (r : Root) : Type 0 where
 abbrev pub IsMade : Root → Title → Type 0
 IsMade r t = (s : Span) × Contains r.spans s × (number : ℕ) × (number < s.made) × (t ≡ title_at s number)
 
--- the titles that an entry makes
-abbrev pub next_titles : List PoolEntry → RootAct → Root → List Title
-next_titles pools (Fill class asked slots) r = (takes class (fill_of class) (opened_by pools asked r)).titles
-next_titles pools (Map asked slot len) r = map_title slot len ∷ []
-next_titles pools (Full class asked) r = []
-next_titles pools (Give slots) r = []
-next_titles pools (Unmap asked slot) r = []
-next_titles pools Purge r = []
+-- the title is that of a direct map, which an entry of the journal made
+abbrev pub IsMapBy : List RootEntry → Title → Type 0
+IsMapBy journal t =
+    (e : RootEntry) × (asked len : ℕ) × (slot : SlotName) × Contains journal e × (e.act ≡ Map asked slot len) × (t ≡ map_title slot len)
 
--- the titles that a journal makes
-abbrev pub titles_made : List PoolEntry → List RootEntry → Root → List Title
-titles_made pools [] r = []
-titles_made pools (e ∷ es) r = next_titles pools e.act r ++ titles_made pools es (root_next pools e.act r)
+-- A title that a journal makes: a slot that was cut, as its root's spans tell, which never go and keep what they made; or
+-- that of a direct map, whether or not it went back.
+abbrev pub IsMadeBy : List PoolEntry → List RootEntry → Title → Type 0
+IsMadeBy pools journal t = IsMade (root_replayed pools journal new_root) t ⊎ IsMapBy journal t
 
 -- two titles have no byte in common
 abbrev pub TitlesApart : Title → Title → Type 0
@@ -112,10 +107,11 @@ pub record IsMapped (pools : List PoolEntry) (t : Title) (first : ℕ) : Type 0 
   pub start : t.start ≡ page_place first 1
   pub guard : t.start + t.len + 16384 ≤ 2097152 * (first + supers_for t.len)
 
--- Titles of one entry of the pool are equal or don't overlap, and each lies in payload or is a direct map.
-pub record AreTitles (pools : List PoolEntry) (titles : List Title) : Type 0 where
-  pub apart : (t u : Title) → Contains titles t → Contains titles u → t.born ≡ u.born → (t ≡ u) ⊎ TitlesApart t u
-  pub lie : (t : Title) → Contains titles t → IsInPayload t ⊎ ((first : ℕ) × IsMapped pools t first)
+-- Of the titles that were made, those of one entry of the pool are equal or don't overlap, and each lies in payload or is a
+-- direct map.
+pub record AreTitles (pools : List PoolEntry) (WasMade : Title → Type 0) : Type 0 where
+  pub apart : (t u : Title) → WasMade t → WasMade u → t.born ≡ u.born → (t ≡ u) ⊎ TitlesApart t u
+  pub lie : (t : Title) → WasMade t → IsInPayload t ⊎ ((first : ℕ) × IsMapped pools t first)
 
 -- the slots that an entry gives back to the root
 abbrev pub given_back : RootAct → List SlotName

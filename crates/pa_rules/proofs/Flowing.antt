@@ -19,13 +19,14 @@ use Rattle.pa_record.specs.declared.numbered.Numbered.{Numbered}
 use Rattle.pa_record.specs.declared.pool.PoolEntry.{PoolEntry}
 use Rattle.pa_record.specs.declared.root.RootEntry.{RootEntry}
 use Rattle.pa_record.specs.declared.root.RootAct.{RootAct}
-use Rattle.pa_record.specs.declared.root.RootAct.TheVariants.{Fill, Map, Full, Unmap}
+use Rattle.pa_record.specs.declared.root.RootAct.TheVariants.{Fill, Map, Full}
 use Rattle.pa_record.specs.Root.{Root, names, new_root, root_next, RootActFits, RootReplays, IsJournal}
 use Rattle.pa_record.specs.Laws.{leaves_by, times}
 use Rattle.pa_record.proofs.Members.{not_in_none, first_in, in_cases}
-use Rattle.pa_rules.specs.Played.{Played, mark_of, mark_of_answer, mark_at, look_at, marks_of, step_of}
+use Rattle.pa_rules.specs.declared.played.Played.{Played}
+use Rattle.pa_rules.specs.Played.{mark_of, mark_of_answer, mark_at, look_at, marks_of, step_of}
 use Rattle.pa_rules.specs.Roots.{Journals}
-use Rattle.pa_rules.specs.Caches.{Cache, Caches, with_list, with_cache, Becomes, acts_of, OnlyActs, NoActs, IsOfClass, IsDirect, MadeRow, FullRow, ReturnRow, DoneRow, PurgedRow, CacheRow, CachesTo, no_caches, gives, kept, spilled}
+use Rattle.pa_rules.specs.Caches.{Cache, Caches, with_list, with_cache, Becomes, acts_of, OnlyActs, NoActs, IsOfClass, IsDirect, MadeRow, FullRow, ReturnRow, DoneRow, PurgedRow, CacheRow, CachesTo, no_caches, gives, kept, spilled, unmap_at}
 use Rattle.pa_rules.specs.Flow.{returns_at, is_issue, is_issue_of, is_return_of, issues_of, returns_of, listed_times, cached_times, left_in, back_in, left_on, back_on, IsOnlyOf, CachesKeep}
 use Rattle.pa_rules.proofs.Known.{IsKnown, FirstKeeps, first_keeps, entry_of_act, known_with, row_known}
 use Rattle.pa_rules.proofs.Counted.{once, stands, times_cons, stands_kept, back_gives, left_gives, back_purge, left_purge, listed_agree, listed_none, list_of_another, listed_changed, cached_changed}
@@ -158,8 +159,8 @@ return_keeps s p pools roots x slot mark cache after journals own i o (inl (q, c
           let same = listed_agree s (after p) (cache p) 0 59 (λ c low. becomes p c ∙ list_of_another cache q class (kept class list) p c (λ e. other (sym e))) in
           omega arith
     ]
-return_keeps s p pools roots x slot mark cache after journals own i o (inr (q, asked, direct, only, becomes)) =
-    let act : RootAct = Unmap asked slot in
+return_keeps s p pools roots x slot mark cache after journals own i o (inr (q, asked, number, direct, only, becomes)) =
+    let act : RootAct = unmap_at asked slot.slot number in
     let one = times_cons s slot.slot [] in
     quiet s p (acts_of roots x.line p) mark cache after becomes
     (elim (cases_eq q p) [

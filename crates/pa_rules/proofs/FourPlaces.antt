@@ -21,7 +21,8 @@ use Rattle.pa_record.specs.Laws.{leaves_by, times, times_left, IsNameOut, names_
 use Rattle.pa_record.proofs.Members.{not_in_none, first_in, later_in, in_cases}
 use Rattle.pa_record.proofs.Leaving.{out_is_left}
 use Rattle.pa_record.proofs.AddingUp.{root_adds_up}
-use Rattle.pa_rules.specs.Played.{Played, marks_of}
+use Rattle.pa_rules.specs.declared.played.Played.{Played}
+use Rattle.pa_rules.specs.Played.{marks_of}
 use Rattle.pa_rules.specs.Report.{last_word}
 use Rattle.pa_rules.specs.Roots.{Journals, AreRoots, IsPoolOf}
 use Rattle.pa_rules.specs.Caches.{Caches, CachesTo, no_caches}

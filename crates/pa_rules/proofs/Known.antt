@@ -17,7 +17,8 @@ use Rattle.pa_record.specs.declared.root.RootAct.{RootAct}
 use Rattle.pa_record.specs.declared.root.RootAct.TheVariants.{Fill}
 use Rattle.pa_record.proofs.Members.{not_in_none, first_in, later_in, in_cases}
 use Rattle.pa_record.proofs.Joined.{map_cases, map_in, filter_cases}
-use Rattle.pa_rules.specs.Played.{Played, step_of}
+use Rattle.pa_rules.specs.declared.played.Played.{Played}
+use Rattle.pa_rules.specs.Played.{step_of}
 use Rattle.pa_rules.specs.Roots.{Journals}
 use Rattle.pa_rules.specs.Caches.{Cache, Caches, with_list, with_cache, Becomes, acts_of, FilledFirst, MadeRow, ReturnRow, DoneRow, FullRow, CacheRow, CachesTo, IsOfClass, kept}
 use Rattle.pa_rules.specs.Flow.{left_in, back_in}
@@ -109,7 +110,7 @@ return_known roots x slot cache after known (inl (q, class, of, only, becomes)) 
       | inl e ↦ subst (λ (z : Numbered). IsOfClass roots z.slot q class) e of
       | inr old ↦ known q class n old
     ])
-return_known roots x slot cache after known (inr (q, asked, direct, only, becomes)) = known_same roots cache after known becomes
+return_known roots x slot cache after known (inr (q, asked, number, direct, only, becomes)) = known_same roots cache after known becomes
 
 done_known : (roots : Journals) (x : Played) (o : Option Step) (seen : Seen) (cache after : Cache) → IsKnown roots cache → DoneRow roots x o seen cache after → IsKnown roots after
 done_known roots x None seen cache after known (acts, becomes) = known_same roots cache after known becomes

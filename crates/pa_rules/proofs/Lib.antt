@@ -1,3 +1,4 @@
+pub mod Naming
 pub mod Following
 pub mod Worked
 pub mod Counted
@@ -10,6 +11,7 @@ pub mod Known
 pub mod Totals
 pub mod FourPlaces
 pub mod Phases
+pub mod Recorded
 pub mod Numbering
 pub mod Within
 pub mod Reported

@@ -6,7 +6,8 @@ use Rattle.pa_record.specs.declared.entry.Seen.{Seen}
 use Rattle.pa_record.specs.declared.entry.Answer.{Answer}
 use Rattle.pa_record.specs.declared.entry.Answer.TheVariants as answers
 use Rattle.pa_record.proofs.Members.{of_some, not_some}
-use Rattle.pa_rules.specs.Played.{Played, mark_of, mark_of_answer, mark_at, look_at, step_of}
+use Rattle.pa_rules.specs.declared.played.Played.{Played}
+use Rattle.pa_rules.specs.Played.{mark_of, mark_of_answer, mark_at, look_at, step_of}
 
 look_line : (line : ℕ) (o : Option Seen) (m : Mark) → look_at line o ≡ Some m → m.line ≡ line
 look_line line None m e = absurd (not_some m e)

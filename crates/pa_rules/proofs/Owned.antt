@@ -13,7 +13,7 @@ use Rattle.pa_record.specs.declared.root.RootAct.TheVariants.{Fill, Map, Full, G
 use Rattle.pa_record.specs.Spans.{name_of}
 use Rattle.pa_record.specs.Root.{Root, new_root, takes, opened, opened_by, super_of, map_title, root_next, RootActFits, RootReplays, RiseFrom, IsJournal, all_asked, asked_by}
 use Rattle.pa_record.specs.Pool.{act_at}
-use Rattle.pa_record.specs.Sound.{IsSound, IsSettled, IsBornBelow, AsksFrom, least_after, next_titles, titles_made}
+use Rattle.pa_record.specs.Sound.{IsSound, IsSettled, IsBornBelow, AsksFrom, least_after, IsMadeBy}
 use Rattle.pa_record.specs.Laws.{leaves_by}
 use Rattle.pa_record.proofs.Tested.{name_is}
 use Rattle.pa_record.proofs.Members.{not_in_none, first_in, in_cases}
@@ -21,8 +21,9 @@ use Rattle.pa_record.proofs.Joined.{map_cases}
 use Rattle.pa_record.proofs.Filling.{takes_filled, opened_sound}
 use Rattle.pa_record.proofs.Mapping.{born_more}
 use Rattle.pa_record.proofs.Stepping.{next_is}
-use Rattle.pa_record.proofs.Titles.{new_sound, new_born, rise_parts}
-use Rattle.pa_rules.specs.Played.{Played}
+use Rattle.pa_record.proofs.Titles.{next_titles, titles_taken, new_sound, new_born, rise_parts}
+use Rattle.pa_record.proofs.MadeBy.{taken_made}
+use Rattle.pa_rules.specs.declared.played.Played.{Played}
 use Rattle.pa_rules.specs.Roots.{Journals, AreRoots, IsPoolOf}
 use Rattle.pa_rules.specs.Flow.{IsOnlyOf}
 use Rattle.pa_rules.proofs.Following.{titles_follow}
@@ -58,7 +59,7 @@ title_here pools (Unmap asked slot) n r s sound old asks fits among = absurd (no
 title_here pools Purge n r s sound old asks fits among = absurd (not_in_none s among)
 
 title_from : (pools : List PoolEntry) (es : List RootEntry) (n : ℕ) (r : Root) (e : RootEntry) (s : SlotName) → IsSound r → IsSettled r → IsBornBelow n r → RootReplays pools es r →
-    RiseFrom n (all_asked es) → Contains es e → Contains (leaves_by e.act) s → (t : Title) × Contains (titles_made pools es r) t × (name_of t ≡ s) × HasLen e.act t
+    RiseFrom n (all_asked es) → Contains es e → Contains (leaves_by e.act) s → (t : Title) × Contains (titles_taken pools es r) t × (name_of t ≡ s) × HasLen e.act t
 title_from pools [] n r e s sound few old fits rise among leaves = absurd (not_in_none e among)
 title_from pools (f ∷ es) n r e s sound few old fits rise among leaves =
     let (asks, rest) = rise_parts n (asked_by f.act) (all_asked es) rise in
@@ -66,17 +67,19 @@ title_from pools (f ∷ es) n r e s sound few old fits rise among leaves =
     elim (in_cases f e es among) [
       | inl same ↦
           let (t, member, is, len) = title_here pools f.act n r s sound old asks fits.0 (subst (λ (z : RootEntry). Contains (leaves_by z.act) s) (sym same) leaves) in
-          (t, Contains-append_left (next_titles pools f.act r) (titles_made pools es after) t member, is, subst (λ (z : RootEntry). HasLen z.act t) same len)
+          (t, Contains-append_left (next_titles pools f.act r) (titles_taken pools es after) t member, is, subst (λ (z : RootEntry). HasLen z.act t) same len)
       | inr later ↦
           let next = next_is pools f.act n r sound few old asks fits.0 in
           let (t, member, is, len) = title_from pools es (least_after n (asked_by f.act)) after e s next.sound next.settled next.born fits.1 rest later leaves in
-          (t, Contains-append_right (next_titles pools f.act r) (titles_made pools es after) t member, is, len)
+          (t, Contains-append_right (next_titles pools f.act r) (titles_taken pools es after) t member, is, len)
     ]
 
 -- a slot that leaves by an entry of a journal has a title, as long as the entry says
 pub title_of : (pools : List PoolEntry) (journal : List RootEntry) (e : RootEntry) (s : SlotName) → IsJournal pools journal → Contains journal e → Contains (leaves_by e.act) s →
-    (t : Title) × Contains (titles_made pools journal new_root) t × (name_of t ≡ s) × HasLen e.act t
-title_of pools journal e s h among leaves = title_from pools journal 0 new_root e s new_sound (omega arith) new_born h.replays h.rise among leaves
+    (t : Title) × IsMadeBy pools journal t × (name_of t ≡ s) × HasLen e.act t
+title_of pools journal e s h among leaves =
+    let (t, taken, is, len) = title_from pools journal 0 new_root e s new_sound (omega arith) new_born h.replays h.rise among leaves in
+    (t, taken_made pools journal t h taken, is, len)
 
 pub only_of : (supers partitions : ℕ) (ps : List Played) (pools : List PoolEntry) (roots : Journals) (p : ℕ) (e : RootEntry) (s : SlotName) → AreRoots partitions ps pools roots →
     IsPoolOf supers ps pools roots → Contains (roots p) e → Contains (leaves_by e.act) s → IsOnlyOf roots p s

@@ -9,7 +9,8 @@ use Rattle.pa_machine.specs.Run.{Mark, IsFirstAt, IsRunFrom}
 use Rattle.pa_machine.proofs.Runs.{number_stepped}
 use Rattle.pa_record.proofs.Members.{not_in_none, first_in, later_in, in_cases}
 use Rattle.pa_record.proofs.Joined.{filter_cases, filter_in}
-use Rattle.pa_rules.specs.Played.{Played, mark_of, marks_of}
+use Rattle.pa_rules.specs.declared.played.Played.{Played}
+use Rattle.pa_rules.specs.Played.{mark_of, marks_of}
 use Rattle.pa_rules.specs.Report.{until}
 use Rattle.pa_rules.specs.Flow.{RunsUntil}
 use Rattle.pa_rules.proofs.Marking.{mark_line}

@@ -3,16 +3,17 @@ use Rattle.std.proofs.Common.{◌≡◌, ℕ, zero, suc, ◌+◌, ◌<◌, List,
 use Rattle.std.specs.Prelude.{Contains}
 use Rattle.std.proofs.lemmas.List.Elements.{Contains-get_or, Contains-append_cases, All-contains}
 use Rattle.pa_record.specs.declared.report.ReportLine.{ReportLine}
-use Rattle.pa_record.specs.RunText.{journal_of}
 use Rattle.pa_record.proofs.Members.{not_in_none, in_cases}
 use Rattle.pa_record.proofs.Joined.{map_in}
-use Rattle.pa_rules.specs.Played.{Played}
+use Rattle.pa_rules.specs.declared.played.Played.{Played}
 use Rattle.pa_rules.specs.Seen.{IsSeenInOrder}
 use Rattle.pa_rules.specs.Seen.IsBefore.{Standing}
 use Rattle.pa_rules.specs.Report.{partitions_of, phases_of, IsReportLine}
 use Rattle.pa_rules.specs.Flow.{IsInPhases}
 use Rattle.pa_rules.specs.Legal.{phases_in}
 use Rattle.pa_rules.specs.Laws.{ReportAddsUp}
+use Rattle.pa_rules.specs.Told.{records_of}
+use Rattle.pa_rules.proofs.Recorded.{records_are_lines}
 use Rattle.pa_rules.proofs.Numbering.{lines_differ}
 use Rattle.pa_rules.proofs.Within.{records_within}
 use Rattle.pa_rules.proofs.FourPlaces.{places_add_up}
@@ -40,14 +41,16 @@ abbrev place_of : ReportLine → ℕ × ℕ
 place_of l = (l.phase, l.partition)
 
 pub report_adds_up : ReportAddsUp
-report_adds_up t r ps l limits legal among =
-    let right = All-contains (IsReportLine t.partitions t.threads ps r.pool.items (journal_of r)) r.report.items l legal.report.right among in
+report_adds_up t r l limits legal among =
+    let ps = records_of t r in
+    let lines = records_are_lines.lines t.lines r.entries legal.lines in
+    let right = All-contains (IsReportLine t.partitions t.threads ps r.pools r.roots) r.report l legal.report.right among in
     let place : Contains (phases_of t.partitions 1 (phases_in t.lines)) (place_of l) =
-    subst (λ z. Contains z (place_of l)) legal.report.places (map_in place_of r.report.items l among) in
+    subst (λ z. Contains z (place_of l)) legal.report.places (map_in place_of r.report l among) in
     let (before, parts, census) = right.root in (
       before,
       parts,
-      places_add_up t.region t.partitions t.threads ps r.pool.items (journal_of r) l before legal.roots legal.pool (lines_differ t.lines ps legal.lines)
-          (λ k d low. (records_within t ps (get_or ps k d) limits legal.lines (Contains-get_or ps k d low)).0) legal.slots
+      places_add_up t.region t.partitions t.threads ps r.pools r.roots l before legal.roots legal.pool (lines_differ t.lines ps lines)
+          (λ k d low. (records_within t ps (get_or ps k d) limits lines (Contains-get_or ps k d low)).0) legal.slots
           (seen_in_phases _ ps legal.seen) (in_phases t.partitions 1 (phases_in t.lines) (place_of l) place) right parts,
     )

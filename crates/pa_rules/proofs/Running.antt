@@ -12,7 +12,8 @@ use Rattle.pa_machine.proofs.Arith.{stepped_is}
 use Rattle.pa_machine.proofs.Runs.{same_slot_eq, same_slot_yes, number_stepped}
 use Rattle.pa_record.proofs.Members.{not_in_none, first_in, later_in, in_cases, of_some}
 use Rattle.pa_record.proofs.Pairs.{pairs_none, pairs_cons, pairs_head, pairs_tail}
-use Rattle.pa_rules.specs.Played.{Played, mark_of, marks_of}
+use Rattle.pa_rules.specs.declared.played.Played.{Played}
+use Rattle.pa_rules.specs.Played.{mark_of, marks_of}
 use Rattle.pa_rules.specs.Report.{last_word}
 use Rattle.pa_rules.specs.Flow.{returns_at, is_issue, is_return, is_issue_of, is_return_of, issues_of, returns_of, busy, IssuesReturn}
 use Rattle.pa_rules.proofs.Marking.{mark_line}

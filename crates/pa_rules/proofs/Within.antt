@@ -8,7 +8,8 @@ use Rattle.pa_trace.specs.declared.script.Line.TheVariants.{Phase, Do}
 use Rattle.pa_trace.specs.Limits.{IsWithinLimits, IsLineWithin, IsOpWithin}
 use Rattle.pa_record.proofs.Members.{not_in_none, in_cases}
 use Rattle.pa_record.proofs.Joined.{map_in}
-use Rattle.pa_rules.specs.Played.{OpLine, Played, AreLines, op_lines, op_line_of}
+use Rattle.pa_rules.specs.declared.played.Played.{Played}
+use Rattle.pa_rules.specs.Played.{OpLine, AreLines, op_lines, op_line_of}
 
 -- an op line of lines that are within the limits is
 abbrev IsOpLineWithin : ℕ → ℕ → OpLine → Type 0

@@ -13,7 +13,8 @@ use Rattle.pa_record.specs.declared.root.RootEntry.{RootEntry}
 use Rattle.pa_record.specs.declared.root.RootAct.{RootAct}
 use Rattle.pa_record.specs.declared.root.RootAct.TheVariants.{Fill, Map, Full, Give, Unmap, Purge}
 use Rattle.pa_record.specs.Root.{names}
-use Rattle.pa_rules.specs.Played.{Played, step_of}
+use Rattle.pa_rules.specs.declared.played.Played.{Played}
+use Rattle.pa_rules.specs.Played.{step_of}
 use Rattle.pa_rules.specs.Roots.{Journals, AsksForClass, AsksForMap}
 
 -- a thread's lists, by partition and class; all threads' lists
@@ -87,13 +88,18 @@ kept class xs = if nat_lt (limit_of class) (length xs) then take (limit_of class
 abbrev pub spilled : ℕ → List Numbered → List Numbered
 spilled class xs = if nat_lt (limit_of class) (length xs) then drop (limit_of class / 2) xs else []
 
+-- the entry of a direct map that goes back, at a number
+abbrev pub unmap_at : ℕ → SlotName → ℕ → RootAct
+unmap_at asked slot number = Unmap asked (record { slot = slot; number = number })
+
 -- a step returned a slot, which it left at this number: the slot becomes the front of its list, and what doesn't stay goes
--- back to the root; a direct map goes back at once
+-- back to the root; a direct map goes back at once, at a number of which the holders speak
 abbrev pub ReturnRow : Journals → Played → Numbered → Cache → Cache → Type 0
 ReturnRow roots x slot cache after =
     ((p class : ℕ) × IsOfClass roots slot.slot p class × OnlyActs roots x.line p (gives (spilled class (slot ∷ cache p class)))
     × Becomes after (with_list cache p class (kept class (slot ∷ cache p class))))
-    ⊎ ((p asked : ℕ) × IsDirect roots slot.slot p × OnlyActs roots x.line p (Unmap asked slot ∷ []) × Becomes after cache)
+    ⊎ ((p asked number : ℕ) × IsDirect roots slot.slot p × OnlyActs roots x.line p (unmap_at asked slot.slot number ∷ [])
+    × Becomes after cache)
 
 -- a step was made: a returning one or another
 abbrev pub DoneRow : Journals → Played → Option Step → Seen → Cache → Cache → Type 0

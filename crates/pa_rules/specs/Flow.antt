@@ -11,7 +11,8 @@ use Rattle.pa_record.specs.declared.root.RootEntry.{RootEntry}
 use Rattle.pa_record.specs.declared.root.RootAct.{RootAct}
 use Rattle.pa_record.specs.Root.{names, IsJournal}
 use Rattle.pa_record.specs.Laws.{leaves_by, comes_by, times}
-use Rattle.pa_rules.specs.Played.{Played, mark_of, marks_of}
+use Rattle.pa_rules.specs.declared.played.Played.{Played}
+use Rattle.pa_rules.specs.Played.{mark_of, marks_of}
 use Rattle.pa_rules.specs.Seen.{left_number}
 use Rattle.pa_rules.specs.Roots.{Journals}
 use Rattle.pa_rules.specs.Report.{HasWord, until}

@@ -4,14 +4,14 @@ use Rattle.pa_machine.specs.declared.word.SlotName.{SlotName}
 use Rattle.pa_machine.specs.declared.word.Step.{Step}
 use Rattle.pa_machine.specs.Count.{number_of}
 use Rattle.pa_machine.specs.Run.{Mark, IsReturning, same_slot}
-use Rattle.pa_trace.specs.declared.script.Op.TheVariants as ops
 use Rattle.pa_record.specs.declared.entry.Seen.{Seen}
 use Rattle.pa_record.specs.declared.entry.Answer.TheVariants.{Made}
 use Rattle.pa_record.specs.declared.numbered.Numbered.{Numbered}
 use Rattle.pa_record.specs.declared.root.RootEntry.{RootEntry}
 use Rattle.pa_record.specs.declared.root.RootAct.{RootAct}
 use Rattle.pa_record.specs.declared.root.RootAct.TheVariants.{Fill, Map, Full, Give, Unmap, Purge}
-use Rattle.pa_rules.specs.Played.{Played, mark_of}
+use Rattle.pa_rules.specs.declared.played.Played.{Played}
+use Rattle.pa_rules.specs.Played.{mark_of}
 use Rattle.pa_rules.specs.Roots.{Journals, IsEntry, IsOfLine}
 
 pub data Holder : Type 0 where
@@ -75,6 +75,12 @@ abbrev pub HolderAfter : List Played → Holder → List Move → Holder → Typ
 HolderAfter ps h [] last = last ≡ h
 HolderAfter ps h (m ∷ ms) last = (x : Played) × IsOfLine ps m.line x × HolderAfter ps (made_by m.way x) ms last
 
+-- The slot's holder at the number, after all entries that name it at that number: they are of one journal.
+abbrev pub IsHeld : List Played → Journals → SlotName → ℕ → Holder → Type 0
+IsHeld ps roots s k last =
+    (p : ℕ) × (h : Holder) × ((q : ℕ) → (q ≡ p → ⊥) → moves_at (roots q) s k ≡ []) × IsFirstHolder ps s k h
+    × HolderAfter ps h (moves_at (roots p) s k) last
+
 -- each of these moves has the holder that it needs
 abbrev pub MovesFit : List Played → Holder → List Move → Type 0
 MovesFit ps h [] = Unit {0}
@@ -95,13 +101,12 @@ NamesSlot e s = (m : Move) × Contains (moves_by e.line e.act) m × (m.slot ≡ 
 
 -- The holders.
 --   moves: each entry names a slot at a number where it is free, and its holder is the one that the entry needs
---   issues: an allocation that made a slot has it, after all entries of its journal that name it at that number
+--   issues: an allocation that made a slot has it, after all entries that name the slot at that number
 --   gone: after a direct map went back no entry of its journal names it, and no record found its number or a later one
 pub record AreHolders (ps : List Played) (roots : Journals) : Type 0 where
   pub moves : (p : ℕ) (s : SlotName) (k : ℕ) → HasHolders ps s k (moves_at (roots p) s k)
-  pub issues : (x : Played) (seen : Seen) (usable reg p size : ℕ) → Contains ps x → x.answer ≡ Made seen usable → x.op ≡ ops.Alloc reg p size
-      → (h : Holder) × IsFirstHolder ps seen.slot (number_of seen.found.0) h
-      × HolderAfter ps h (moves_at (roots p) seen.slot (number_of seen.found.0)) (WithThread x.thread)
+  pub issues : (x : Played) (seen : Seen) (usable : ℕ) → Contains ps x → x.answer ≡ Made seen usable
+      → IsHeld ps roots seen.slot (number_of seen.found.0) (WithThread x.thread)
   pub gone_from_journal : (p i j asked : ℕ) (slot : Numbered) (e f : RootEntry) → IsEntry roots p i e → e.act ≡ Unmap asked slot
       → IsEntry roots p j f → i < j → NamesSlot f slot.slot → ⊥
   pub gone_from_records : (p i asked n : ℕ) (slot : Numbered) (e : RootEntry) (x : Played) → IsEntry roots p i e → e.act ≡ Unmap asked slot

@@ -1,5 +1,5 @@
 -- The laws of titles and super pages over all partitions, and of the report.
-use Rattle.std.specs.Prelude.{◌≡◌, ◌≢◌, ℕ, ◌+◌, ◌<◌, List, length, All, AllPairs, Contains, Some, slice_get}
+use Rattle.std.specs.Prelude.{◌≡◌, ◌≢◌, ℕ, ◌+◌, ◌<◌, List, map, length, All, AllPairs, Contains, Some, slice_get}
 use Rattle.pa_trace.specs.declared.script.Trace.{Trace}
 use Rattle.pa_trace.specs.declared.script.Line.{Line}
 use Rattle.pa_trace.specs.Limits.{IsWithinLimits}
@@ -7,15 +7,16 @@ use Rattle.pa_record.specs.declared.pool.PoolEntry.{PoolEntry}
 use Rattle.pa_machine.specs.Run.{Slots}
 use Rattle.pa_record.specs.declared.report.ReportLine.{ReportLine}
 use Rattle.pa_record.specs.declared.root.RootEntry.{RootEntry}
-use Rattle.pa_record.specs.declared.run.Run.{Run}
-use Rattle.pa_record.specs.RunText.{journal_of}
+use Rattle.pa_record.specs.declared.entry.Entry.{Entry}
 use Rattle.pa_record.specs.Root.{new_root, root_replayed}
 use Rattle.pa_record.specs.Laws.{slots_made}
-use Rattle.pa_rules.specs.Played.{Played, AreLines, marks_of}
+use Rattle.pa_rules.specs.declared.played.Played.{Played}
+use Rattle.pa_rules.specs.Played.{AreLines, AreDue, entry_of, played, marks_of}
 use Rattle.pa_rules.specs.Roots.{Journals, AreRoots, IsPoolOf, Names, AreAllTitles}
 use Rattle.pa_rules.specs.Report.{IsReportLine, AreUntil}
 use Rattle.pa_rules.specs.Flow.{IsInPhases}
-use Rattle.pa_rules.specs.Legal.{IsLegalBy}
+use Rattle.pa_rules.specs.Told.{Told, records_of}
+use Rattle.pa_rules.specs.Legal.{IsLegalTold}
 
 -- Titles lie apart: it follows from the journals and the pool. And an entry of the pool that a journal names is one of its
 -- own partition; so, as no super page is in two runs that are taken, a partition's super pages are its own.
@@ -44,7 +45,15 @@ PlacesAddUp =
 -- So they do in every line of a legal run's report.
 abbrev pub ReportAddsUp : Type 0
 ReportAddsUp =
-    (t : Trace) (r : Run) (ps : List Played) (l : ReportLine) → IsWithinLimits t → IsLegalBy t r ps → Contains r.report.items l →
-    (before : List RootEntry) × AreUntil ps l.phase (journal_of r l.partition) before
+    (t : Trace) (r : Told) (l : ReportLine) → IsWithinLimits t → IsLegalTold t r → Contains r.report l →
+    (before : List RootEntry) × AreUntil (records_of t r) l.phase (r.roots l.partition) before
     × (l.live.slots + l.quarantined.slots + l.cached.slots + l.root.slots
-    ≡ slots_made (root_replayed r.pool.items before new_root) + length (root_replayed r.pool.items before new_root).maps)
+    ≡ slots_made (root_replayed r.pools before new_root) + length (root_replayed r.pools before new_root).maps)
+
+-- The records that are due are all of the trace's op lines and all of the run's, and lists of which this holds are the
+-- records beside their ops.
+pub record RecordsAreLines : Type 0 where
+  pub lines : (ls : List Line) (es : List Entry) → AreDue ls es → AreLines ls (played ls es)
+  pub told : (ls : List Line) (es : List Entry) → AreDue ls es → map entry_of (played ls es) ≡ es
+  pub due : (ls : List Line) (ps : List Played) → AreLines ls ps → AreDue ls (map entry_of ps)
+  pub same : (ls : List Line) (ps : List Played) → AreLines ls ps → played ls (map entry_of ps) ≡ ps

@@ -1,12 +1,13 @@
 -- A legal run of a trace, and the run in the order of its lines.
-use Rattle.std.specs.Prelude.{◌≡◌, ℕ, ◌+◌, Bool, true, false, List, map, count_by}
+use Rattle.std.specs.Prelude.{ℕ, ◌+◌, Bool, true, false, List, count_by}
 use Rattle.pa_machine.specs.Run.{Slots}
 use Rattle.pa_trace.specs.declared.script.Trace.{Trace}
 use Rattle.pa_trace.specs.declared.script.Line.{Line}
 use Rattle.pa_trace.specs.declared.script.Line.TheVariants.{Phase, Do}
 use Rattle.pa_record.specs.declared.run.Run.{Run}
-use Rattle.pa_record.specs.RunText.{journal_of, history_of}
-use Rattle.pa_rules.specs.Played.{Played, AreLines, entry_of, marks_of}
+use Rattle.pa_rules.specs.declared.played.Played.{Played}
+use Rattle.pa_rules.specs.Played.{AreDue, marks_of}
+use Rattle.pa_rules.specs.Told.{Told, told_by, records_of}
 use Rattle.pa_rules.specs.Cells.{AreCells}
 use Rattle.pa_rules.specs.Registers.{AreRegisters}
 use Rattle.pa_rules.specs.Contents.{AreContents}
@@ -26,26 +27,32 @@ is_phase (Do thread op) = false
 abbrev pub phases_in : List Line → ℕ
 phases_in ls = count_by is_phase ls + 1
 
--- The clauses of a legal run, in the order in which they are tested; its records stand beside the ops of their lines.
-pub record IsLegalBy (t : Trace) (r : Run) (ps : List Played) : Type 0 where
-  pub told : map entry_of ps ≡ r.entries.items
-  pub lines : AreLines t.lines ps
-  pub cells : AreCells (history_of r) ps
-  pub registers : AreRegisters usable_of (history_of r) ps
+-- The clauses of a legal run, in the order in which they are tested. What a run tells is legal by these records, which
+-- stand beside the ops of their lines.
+pub record IsLegalBy (t : Trace) (r : Told) (ps : List Played) : Type 0 where
+  pub lines : AreDue t.lines r.entries
+  pub cells : AreCells r.cells ps
+  pub registers : AreRegisters usable_of r.cells ps
   pub slots : Slots (marks_of ps)
-  pub contents : AreContents usable_of (history_of r) ps
-  pub pool : IsPoolOf t.region ps r.pool.items (journal_of r)
-  pub roots : AreRoots t.partitions ps r.pool.items (journal_of r)
-  pub titles : AreAllTitles r.pool.items (journal_of r)
-  pub holders : AreHolders ps (journal_of r)
-  pub caches : AreCaches t.partitions (journal_of r) ps
-  pub seen : IsSeenInOrder (history_of r) ps
-  pub report : IsReport (phases_in t.lines) t.partitions t.threads ps r.pool.items (journal_of r) r.report.items
+  pub contents : AreContents usable_of r.cells ps
+  pub pool : IsPoolOf t.region ps r.pools r.roots
+  pub roots : AreRoots t.partitions ps r.pools r.roots
+  pub titles : AreAllTitles r.pools r.roots
+  pub holders : AreHolders ps r.roots
+  pub caches : AreCaches t.partitions r.roots ps
+  pub seen : IsSeenInOrder r.cells ps
+  pub report : IsReport (phases_in t.lines) t.partitions t.threads ps r.pools r.roots r.report
 
--- a legal run of the trace
+-- what a run tells is legal; in the order of the trace's lines, as one thread plays them
+abbrev pub IsLegalTold : Trace → Told → Type 0
+IsLegalTold t r = IsLegalBy t r (records_of t r)
+
+abbrev pub IsFileTold : Trace → Told → Type 0
+IsFileTold t r = IsLegalTold t r × IsInFileOrder (records_of t r) r.pools r.roots r.cells
+
+-- a legal run of the trace; the run of the trace in the order of its lines
 abbrev pub IsLegal : Trace → Run → Type 0
-IsLegal t r = (ps : List Played) × IsLegalBy t r ps
+IsLegal t r = IsLegalTold t (told_by r)
 
--- the run of the trace in the order of its lines, as one thread plays them
 abbrev pub IsFileRun : Trace → Run → Type 0
-IsFileRun t r = (ps : List Played) × IsLegalBy t r ps × IsInFileOrder ps r.pool.items (journal_of r) (history_of r)
+IsFileRun t r = IsFileTold t (told_by r)

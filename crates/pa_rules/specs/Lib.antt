@@ -9,7 +9,13 @@ pub mod Holders
 pub mod Caches
 pub mod Report
 pub mod FileOrder
+pub mod Told
 pub mod Legal
+pub mod Held
+pub mod Places
+pub mod RecordDemands
+pub mod HeapDemands
+pub mod Verdicts
 pub mod Plain
 pub mod Flow
 pub mod Laws

@@ -10,7 +10,8 @@ use Rattle.pa_record.specs.declared.entry.Entry.{Entry}
 use Rattle.pa_record.specs.declared.entry.Answer.TheVariants.{Full, Purged}
 use Rattle.pa_record.specs.declared.history.CellEntry.{CellEntry}
 use Rattle.pa_rules.specs.declared.slot_word.SlotWord.{SlotWord}
-use Rattle.pa_rules.specs.Played.{Played, AreLines, entry_of, marks_of}
+use Rattle.pa_rules.specs.declared.played.Played.{Played}
+use Rattle.pa_rules.specs.Played.{AreLines, entry_of, marks_of}
 use Rattle.pa_rules.specs.Registers.{AreRegisters}
 use Rattle.pa_rules.specs.Cells.{AreCells}
 use Rattle.pa_rules.specs.Contents.{AreExactContents}

@@ -1,5 +1,5 @@
 -- The records of a run beside the lines of its trace, and what they tell of the slots.
-use Rattle.std.specs.Prelude.{◌≡◌, ℕ, ◌+◌, List, [], ◌∷◌, map, Option, Some, None}
+use Rattle.std.specs.Prelude.{◌≡◌, ℕ, ◌+◌, List, [], ◌∷◌, map, zip, Option, Some, None}
 use Rattle.std.specs.List.{filter_map}
 use Rattle.pa_machine.specs.declared.word.Step.{Step}
 use Rattle.pa_machine.specs.declared.word.Step.TheVariants as steps
@@ -12,6 +12,7 @@ use Rattle.pa_record.specs.declared.entry.Entry.{Entry}
 use Rattle.pa_record.specs.declared.entry.Seen.{Seen}
 use Rattle.pa_record.specs.declared.entry.Answer.{Answer}
 use Rattle.pa_record.specs.declared.entry.Answer.TheVariants.{Made, Done, Value, Dangling, SecondFree, NotOwner, StaleReset, StaleUse, Nothing, Filled, NotRef, Shared, OutOfRange, TooLarge, Full, Swapped, Purged}
+use Rattle.pa_rules.specs.declared.played.Played.{Played}
 
 -- an op line: its number in the trace, its thread, its phase and its op
 pub record OpLine : Type 0 where
@@ -26,25 +27,33 @@ op_lines n phase [] = []
 op_lines n phase (Phase ∷ ls) = op_lines (n + 1) (phase + 1) ls
 op_lines n phase (Do thread op ∷ ls) = record { line = n; thread = thread; phase = phase; op = op } ∷ op_lines (n + 1) phase ls
 
--- a record beside the op of its line
-pub record Played : Type 0 where
-  pub line : ℕ
-  pub thread : ℕ
-  pub phase : ℕ
-  pub op : Op
-  pub answer : Answer
-
--- its op line, and its record
+-- the op line of a record, and what the run says of it
 abbrev pub op_line_of : Played → OpLine
 op_line_of p = record { line = p.line; thread = p.thread; phase = p.phase; op = p.op }
 
 abbrev pub entry_of : Played → Entry
 entry_of p = record { line = p.line; thread = p.thread; answer = p.answer }
 
--- the records are the trace's op lines, in order, each once, with its thread; the head is line 1, and phases count
--- from 1
+-- the records beside their ops: those of all op lines of the trace; the head is line 1, and phases count from 1
 abbrev pub AreLines : List Line → List Played → Type 0
 AreLines ls ps = map op_line_of ps ≡ op_lines 2 1 ls
+
+-- a run's records beside the ops of the trace, place by place; where one list is longer, the rest of it stays out
+abbrev pub beside : OpLine × Entry → Played
+beside (o, e) = record { line = o.line; thread = o.thread; phase = o.phase; op = o.op; answer = e.answer }
+
+abbrev pub played : List Line → List Entry → List Played
+played ls es = map beside (zip (op_lines 2 1 ls) es)
+
+-- The records are the trace's op lines, in order, each once, with its thread: then those beside their ops are all of both.
+abbrev pub key_of_line : OpLine → ℕ × ℕ
+key_of_line o = (o.line, o.thread)
+
+abbrev pub key_of_entry : Entry → ℕ × ℕ
+key_of_entry e = (e.line, e.thread)
+
+abbrev pub AreDue : List Line → List Entry → Type 0
+AreDue ls es = map key_of_entry es ≡ map key_of_line (op_lines 2 1 ls)
 
 -- the step that an op makes where its answer is `done`; an allocation has an answer of its own, and
 -- reads, exchanges and purges make no step

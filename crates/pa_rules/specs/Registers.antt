@@ -13,7 +13,7 @@ use Rattle.pa_record.specs.declared.history.Held.{Held}
 use Rattle.pa_record.specs.declared.history.Held.TheVariants as held
 use Rattle.pa_rules.specs.declared.register.Reg.{Reg}
 use Rattle.pa_rules.specs.declared.register.Reg.TheVariants.{Empty, Own, Ref, Freed, Cleared}
-use Rattle.pa_rules.specs.Played.{Played}
+use Rattle.pa_rules.specs.declared.played.Played.{Played}
 
 -- the registers of one thread, by their numbers
 abbrev pub Regs : Type 0

@@ -11,9 +11,9 @@ use Rattle.pa_record.specs.declared.root.RootEntry.{RootEntry}
 use Rattle.pa_record.specs.declared.root.RootAct.{RootAct}
 use Rattle.pa_record.specs.declared.root.RootAct.TheVariants.{Fill, Map, Full, Give, Unmap, Purge}
 use Rattle.pa_record.specs.Pool.{IsPool, FoundNone}
-use Rattle.pa_record.specs.Root.{new_root, IsJournal, asked_by}
-use Rattle.pa_record.specs.Sound.{titles_made, AreTitles}
-use Rattle.pa_rules.specs.Played.{Played}
+use Rattle.pa_record.specs.Root.{IsJournal, asked_by}
+use Rattle.pa_record.specs.Sound.{IsMadeBy, AreTitles}
+use Rattle.pa_rules.specs.declared.played.Played.{Played}
 use Rattle.pa_rules.specs.Cells.{StandsBefore}
 
 -- the journals, by their partitions
@@ -79,22 +79,22 @@ Names roots p i j = (e : RootEntry) × IsEntry roots p i e × (asked_by e.act �
 
 -- The pool's entries are those of the records.
 --   fits: each take and give fits the pool after those before it
---   named: each entry is named by a journal entry, which is of its partition and line; once: and by no other
+--   named: each entry is named by a journal entry, which is of its partition and line; once: and by no other. A journal
+--     entry that names one which isn't there is no matter of the pool's entries
 --   order: entries of one thread stand in the order of its lines, and those of an earlier phase before those of a later
 pub record IsPoolOf (supers : ℕ) (ps : List Played) (pools : List PoolEntry) (roots : Journals) : Type 0 where
   pub fits : IsPool supers pools
   pub named : (j : ℕ) (e : PoolEntry) → slice_get pools j ≡ Some e
       → (i : ℕ) × (f : RootEntry) × IsEntry roots e.partition i f × (asked_by f.act ≡ Some j) × (f.line ≡ e.line)
-  pub once : (j p q i k : ℕ) → Names roots p i j → Names roots q k j → (p ≡ q) × (i ≡ k)
+  pub once : (j p q i k : ℕ) (e : PoolEntry) → slice_get pools j ≡ Some e → Names roots p i j → Names roots q k j → (p ≡ q) × (i ≡ k)
   pub order : (i j : ℕ) (e f : PoolEntry) (x y : Played) → slice_get pools i ≡ Some e → slice_get pools j ≡ Some f
       → IsOfLine ps e.line x → IsOfLine ps f.line y → StandsBefore x y → i < j
 
--- The titles that the journals make: those of one entry of the pool are equal or don't overlap, each lies in payload or is
--- a direct map, and an entry of the pool belongs to one partition.
+-- The titles that the journals make, slots that were cut and direct maps: those of one entry of the pool are equal or don't
+-- overlap, each lies in payload or is a direct map, and an entry of the pool belongs to one partition.
 pub record AreAllTitles (pools : List PoolEntry) (roots : Journals) : Type 0 where
-  pub titles : (p : ℕ) → AreTitles pools (titles_made pools (roots p) new_root)
-  pub owned : (p q : ℕ) (t u : Title) → Contains (titles_made pools (roots p) new_root) t → Contains (titles_made pools (roots q) new_root) u
-      → t.born ≡ u.born → p ≡ q
+  pub titles : (p : ℕ) → AreTitles pools (IsMadeBy pools (roots p))
+  pub owned : (p q : ℕ) (t u : Title) → IsMadeBy pools (roots p) t → IsMadeBy pools (roots q) u → t.born ≡ u.born → p ≡ q
 
 -- the journals of a run, by their partitions
 abbrev pub journal_at : List (List RootEntry) → Journals

@@ -4,7 +4,8 @@ use Rattle.pa_machine.specs.Count.{number_of}
 use Rattle.pa_machine.specs.Run.{Mark}
 use Rattle.pa_record.specs.declared.history.CellEntry.{CellEntry}
 use Rattle.pa_record.specs.declared.history.Held.TheVariants.{Nothing}
-use Rattle.pa_rules.specs.Played.{Played, mark_of}
+use Rattle.pa_rules.specs.declared.played.Played.{Played}
+use Rattle.pa_rules.specs.Played.{mark_of}
 use Rattle.pa_rules.specs.Cells.{IsExchange, StandsBefore}
 
 -- x's exchange gave a handle, and y's is the next exchange of that cell

@@ -9,7 +9,8 @@ use Rattle.pa_record.specs.declared.entry.Answer.TheVariants as answers
 use Rattle.pa_record.specs.Root.{new_root, root_replayed}
 use Rattle.pa_record.specs.Laws.{names_out, slots_made}
 use Rattle.pa_record.specs.Worked.{purge_pool, purge_journal}
-use Rattle.pa_rules.specs.Played.{Played, marks_of}
+use Rattle.pa_rules.specs.declared.played.Played.{Played}
+use Rattle.pa_rules.specs.Played.{marks_of}
 use Rattle.pa_rules.specs.Roots.{journal_at}
 use Rattle.pa_rules.specs.Caches.{AreCaches}
 use Rattle.pa_rules.specs.Flow.{issues_of, returns_of, left_on, back_on}
@@ -19,15 +20,15 @@ abbrev pub first_slot : ℕ → Seen
 first_slot word = record { slot = record { start = 16384; born = 0 }; found = record { 0 = word } }
 
 -- a record of thread 0 in phase 1
-abbrev pub played : ℕ → Op → Answer → Played
-played line op answer = record { line = line; thread = 0; phase = 1; op = op; answer = answer }
+abbrev pub of_first_thread : ℕ → Op → Answer → Played
+of_first_thread line op answer = record { line = line; thread = 0; phase = 1; op = op; answer = answer }
 
 abbrev pub purge_records : List Played
 purge_records =
-    played 2 (ops.Alloc 0 0 8) (answers.Made (first_slot 0) 8)
-    ∷ played 3 (ops.Free 0) (answers.Done (first_slot 16777217))
-    ∷ played 4 ops.Purge (answers.Purged 8)
-    ∷ played 5 (ops.Alloc 1 0 8) (answers.Made (first_slot 33554432) 8)
+    of_first_thread 2 (ops.Alloc 0 0 8) (answers.Made (first_slot 0) 8)
+    ∷ of_first_thread 3 (ops.Free 0) (answers.Done (first_slot 16777217))
+    ∷ of_first_thread 4 ops.Purge (answers.Purged 8)
+    ∷ of_first_thread 5 (ops.Alloc 1 0 8) (answers.Made (first_slot 33554432) 8)
     ∷ []
 
 -- the thread's lists and the entries of each line are those that the answers ask for

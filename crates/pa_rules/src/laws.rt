@@ -1,5 +1,5 @@
 ghost use Rattle.pa_rules.specs.Flow.{CachesKeep, IssuesReturn, RunsUntil};
-ghost use Rattle.pa_rules.specs.Laws.{LinesDiffer, PlacesAddUp, ReportAddsUp, TitlesFollow};
+ghost use Rattle.pa_rules.specs.Laws.{LinesDiffer, PlacesAddUp, RecordsAreLines, ReportAddsUp, TitlesFollow};
 ghost use Rattle.pa_rules.specs.Sizes.{SizesFit};
 ghost use Rattle.pa_rules.specs.Worked.{PurgeIsCached, PurgeIsCounted};
 
@@ -23,6 +23,11 @@ pub fn caches_keep()
 /// The law that a slot was issued as often as it was returned, and once more where it isn't free.
 pub fn issues_return()
     ensures { IssuesReturn }
+{}
+
+/// The law that a run's records, where they are those due, stand beside the ops of all of the trace's lines, none left out.
+pub fn records_are_lines()
+    ensures { RecordsAreLines }
 {}
 
 /// The law that each record of a trace has a line of its own.

@@ -3,12 +3,16 @@
 #![tactic(auto)]
 
 mod laws;
+mod played;
 mod register;
 mod slot_word;
+mod verdict;
 
 pub use laws::{
-    caches_keep, issues_return, lines_differ, places_add_up, report_adds_up, runs_until, sizes_fit,
-    titles_follow, worked_caches_fit, worked_counts_fit,
+    caches_keep, issues_return, lines_differ, places_add_up, records_are_lines, report_adds_up,
+    runs_until, sizes_fit, titles_follow, worked_caches_fit, worked_counts_fit,
 };
+pub use played::Played;
 pub use register::Reg;
 pub use slot_word::SlotWord;
+pub use verdict::{Clause, Place, Verdict};

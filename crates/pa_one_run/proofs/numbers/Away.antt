@@ -12,7 +12,8 @@ use Rattle.pa_record.specs.declared.root.RootEntry.{RootEntry}
 use Rattle.pa_record.specs.declared.root.RootAct.{RootAct}
 use Rattle.pa_record.specs.declared.root.RootAct.TheVariants.{Fill}
 use Rattle.pa_record.proofs.Members.{first_in}
-use Rattle.pa_rules.specs.Played.{Played, marks_of}
+use Rattle.pa_rules.specs.declared.played.Played.{Played}
+use Rattle.pa_rules.specs.Played.{marks_of}
 use Rattle.pa_rules.specs.Caches.{acts_of}
 use Rattle.pa_rules.specs.Holders.{Holder, InRoot, Out, Way, Move, moves_at, IsFirstHolder, HasHolders}
 use Rattle.pa_one_run.proofs.lines.Sorting.{below, on, past, below_on_past, below_none, below_next}

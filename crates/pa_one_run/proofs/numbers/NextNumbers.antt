@@ -19,7 +19,8 @@ use Rattle.pa_record.specs.declared.root.RootAct.{RootAct}
 use Rattle.pa_record.specs.declared.root.RootAct.TheVariants.{Map, Full, Unmap}
 use Rattle.pa_record.proofs.Members.{not_in_none, first_in, later_in, in_cases, of_some, not_some}
 use Rattle.pa_record.specs.declared.entry.Answer.TheVariants as answers
-use Rattle.pa_rules.specs.Played.{Played, mark_of, mark_of_answer, mark_at, look_at, step_of}
+use Rattle.pa_rules.specs.declared.played.Played.{Played}
+use Rattle.pa_rules.specs.Played.{mark_of, mark_of_answer, mark_at, look_at, step_of}
 use Rattle.pa_rules.specs.Holders.{Out, Back}
 use Rattle.pa_rules.specs.Caches.{Cache, Caches, with_list, with_cache, Becomes, acts_of, OnlyActs, NoActs, IsOfClass, FilledFirst, FrontIs, MadeRow, FullRow, ReturnRow, DoneRow, PurgedRow, CacheRow, CachesTo, no_caches, gives, kept, spilled}
 use Rattle.pa_rules.specs.Flow.{cached_times, listed_times, busy, is_issue}
@@ -299,13 +300,13 @@ module _ (a : Parts) (before rest : List Played) (x : Played) (all : Caches) (ne
               | inr (same, among, is) ↦ absurd (other same)
             ])
       ]
-  return_next seen step marked none (inr (q, asked, (e, asked', len, among, is), only, becomes)) =
-      let slot : Numbered = record { slot = seen.slot; number = number_of seen.found.0 + 1 } in
+  return_next seen step marked none (inr (q, asked, number', (e, asked', len, among, is), only, becomes)) =
+      let slot : Numbered = record { slot = seen.slot; number = number' } in
       let other : seen.slot ≡ s → ⊥ = λ same. class_or_direct a s p q class n.filed n.of (e, asked', len, among, is ∙ ap (λ z. Map asked' z len) same) in
       quiet (apart_slot x s (mark_at x.line seen (Some step)) marked other)
       (λ k. one_unnamed a x.line p q (Unmap asked slot) s k only
       (ways_in_none Back s k (slot ∷ [])
-      (λ m among' same number'. other (ap (λ (z : Numbered). z.slot) (in_one slot m among') ∙ same))))
+      (λ m among' same other_number. other (ap (λ (z : Numbered). z.slot) (in_one slot m among') ∙ same))))
       (λ m at. stands_same all s p a.threads x.thread next m becomes at)
 
   done_next : (seen : Seen) (o : Option Step) → mark_of x ≡ Some (mark_at x.line seen o) → is_issue o ≡ false → DoneRow a.roots x o seen (all x.thread) next → AreNumberedAfter a before x all next s p

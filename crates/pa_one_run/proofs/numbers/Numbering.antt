@@ -7,7 +7,8 @@ use Rattle.pa_machine.specs.declared.word.Step.TheVariants.{Issue, Copy, Reset, 
 use Rattle.pa_machine.specs.Count.{CanStep, stepped, number_of, held_of, refs_of}
 use Rattle.pa_machine.specs.Run.{Mark}
 use Rattle.pa_machine.proofs.Runs.{same_slot_cases, number_stepped}
-use Rattle.pa_rules.specs.Played.{Played, mark_of}
+use Rattle.pa_rules.specs.declared.played.Played.{Played}
+use Rattle.pa_rules.specs.Played.{mark_of}
 use Rattle.pa_rules.specs.Flow.{busy, is_issue}
 use Rattle.pa_rules.proofs.Running.{busy_some}
 use Rattle.pa_rules.proofs.Phases.{mark_in}

@@ -10,14 +10,15 @@ use Rattle.pa_record.specs.declared.entry.Seen.{Seen}
 use Rattle.pa_record.specs.declared.entry.Answer.{Answer}
 use Rattle.pa_record.specs.declared.numbered.Numbered.{Numbered}
 use Rattle.pa_record.specs.declared.root.RootAct.{RootAct}
-use Rattle.pa_record.specs.declared.root.RootAct.TheVariants.{Fill, Map, Full, Unmap}
+use Rattle.pa_record.specs.declared.root.RootAct.TheVariants.{Fill, Map, Full}
 use Rattle.pa_record.specs.Root.{names}
 use Rattle.pa_record.specs.Laws.{leaves_by, times}
 use Rattle.pa_record.proofs.Members.{not_in_none, in_cases}
 use Rattle.pa_record.proofs.Joined.{map_in}
 use Rattle.pa_record.specs.declared.entry.Answer.TheVariants as answers
-use Rattle.pa_rules.specs.Played.{Played, step_of}
-use Rattle.pa_rules.specs.Caches.{Cache, Caches, with_cache, acts_of, OnlyActs, IsOfClass, FilledFirst, MadeRow, FullRow, ReturnRow, DoneRow, CacheRow, CachesTo, no_caches, spilled}
+use Rattle.pa_rules.specs.declared.played.Played.{Played}
+use Rattle.pa_rules.specs.Played.{step_of}
+use Rattle.pa_rules.specs.Caches.{Cache, Caches, with_cache, acts_of, OnlyActs, IsOfClass, FilledFirst, MadeRow, FullRow, ReturnRow, DoneRow, CacheRow, CachesTo, no_caches, spilled, unmap_at}
 use Rattle.pa_rules.specs.Flow.{left_in}
 use Rattle.pa_rules.proofs.Counted.{stands, left_gives, left_purge}
 use Rattle.pa_rules.proofs.Totals.{some_times}
@@ -104,7 +105,7 @@ module _ (a : Parts) (x : Played) (p : ℕ) (s : SlotName) (real : p < a.partiti
     | inl e ↦ none_left _ (ap (acts_of a.roots x.line) e ∙ only.0) (left_gives s (spilled c (slot ∷ cache q c)))
     | inr other ↦ none_left [] (only.1 p other) refl
   ]
-  return_alone slot cache after (inr (q, asked, direct, only, becomes)) = only_alone q (Unmap asked slot) only
+  return_alone slot cache after (inr (q, asked, number, direct, only, becomes)) = only_alone q (unmap_at asked slot.slot number) only
 
   done_alone : (o : Option Step) (seen : Seen) (cache after : Cache) → DoneRow a.roots x o seen cache after → IsAlone (acts_of a.roots x.line p)
   done_alone None seen cache after (acts, becomes) = none_left [] (acts p) refl

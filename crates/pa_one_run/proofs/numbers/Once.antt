@@ -7,7 +7,7 @@ use Rattle.pa_machine.specs.declared.word.SlotName.{SlotName}
 use Rattle.pa_record.specs.declared.root.RootEntry.{RootEntry}
 use Rattle.pa_record.specs.Laws.{leaves_by}
 use Rattle.pa_record.proofs.Joined.{filter_cases}
-use Rattle.pa_rules.specs.Played.{Played}
+use Rattle.pa_rules.specs.declared.played.Played.{Played}
 use Rattle.pa_rules.specs.Caches.{Caches, CachesTo, no_caches}
 use Rattle.pa_rules.specs.Flow.{cached_times, busy}
 use Rattle.pa_rules.proofs.Running.{OtherRecord}

@@ -12,7 +12,7 @@ use Rattle.pa_record.specs.declared.root.RootEntry.{RootEntry}
 use Rattle.pa_record.specs.declared.root.RootAct.{RootAct}
 use Rattle.pa_record.specs.declared.root.RootAct.TheVariants.{Fill, Map, Full, Give, Unmap, Purge}
 use Rattle.pa_record.proofs.Members.{not_in_none, first_in, later_in, in_cases}
-use Rattle.pa_rules.specs.Played.{Played}
+use Rattle.pa_rules.specs.declared.played.Played.{Played}
 use Rattle.pa_rules.specs.Caches.{batches, gives, purge_acts}
 use Rattle.pa_rules.specs.Holders.{Holder, InRoot, WithThread, Way, Out, Back, Move, move_of, moves_by, is_move_of, moves_at, IsFirstHolder, made_by, needed_by, MovesFit, HasHolders}
 use Rattle.pa_one_run.proofs.lines.Lists.{take_in, drop_in}

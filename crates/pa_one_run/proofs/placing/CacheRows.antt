@@ -7,6 +7,7 @@ use Rattle.std.proofs.lemmas.List.Elements.{Contains-append_cases}
 use Rattle.pa_machine.specs.declared.word.SlotName.{SlotName}
 use Rattle.pa_machine.specs.declared.word.Step.{Step}
 use Rattle.pa_machine.specs.Count.{number_of}
+use Rattle.pa_machine.specs.Run.{Mark}
 use Rattle.pa_trace.specs.declared.script.Op.TheVariants as ops
 use Rattle.pa_record.specs.declared.entry.Seen.{Seen}
 use Rattle.pa_record.specs.declared.entry.Answer.{Answer}
@@ -17,9 +18,10 @@ use Rattle.pa_record.specs.declared.root.RootAct.TheVariants.{Fill, Map, Full, G
 use Rattle.pa_record.specs.Root.{asked_by}
 use Rattle.pa_record.proofs.Members.{not_in_none, first_in, in_cases}
 use Rattle.pa_record.specs.declared.entry.Answer.TheVariants as answers
-use Rattle.pa_rules.specs.Played.{Played, step_of}
+use Rattle.pa_rules.specs.declared.played.Played.{Played}
+use Rattle.pa_rules.specs.Played.{step_of, mark_at, mark_of, mark_of_answer}
 use Rattle.pa_rules.specs.Roots.{Journals}
-use Rattle.pa_rules.specs.Caches.{Cache, with_list, Becomes, acts_of, OnlyActs, NoActs, batches, gives, purge_acts, all_listed, kept, spilled, FrontIs, FilledFirst, MadeRow, FullRow, ReturnRow, DoneRow, PurgedRow, CacheRow}
+use Rattle.pa_rules.specs.Caches.{Cache, with_list, Becomes, acts_of, OnlyActs, NoActs, batches, gives, purge_acts, all_listed, kept, spilled, FrontIs, FilledFirst, MadeRow, FullRow, IsDirect, unmap_at, ReturnRow, DoneRow, PurgedRow, CacheRow}
 use Rattle.pa_one_run.proofs.lines.Sorting.{below, on}
 use Rattle.pa_one_run.proofs.Filed.{Parts, IsFiled, IsMadeIn, entry_line, pool_line, word_after}
 use Rattle.pa_one_run.proofs.roots.Classes.{class_once, map_once, class_or_map}
@@ -28,6 +30,7 @@ use Rattle.pa_one_run.proofs.roots.Asking.{asks_nothing}
 use Rattle.pa_one_run.proofs.numbers.Numbers.{filled_numbers}
 use Rattle.pa_one_run.proofs.rows.Handles.{done_made}
 use Rattle.pa_one_run.proofs.roots.Requests.{Beside, IsAlike, only_alike, only_unasked, quiet_alike, fills_alike, same_slots, maps_alike, fulls_alike, map_fulls_alike, fill_or_full, map_or_full, unmaps_alike}
+use Rattle.pa_one_run.proofs.placing.Unmaps.{unmap_number}
 use Rattle.pa_one_run.proofs.placing.Returns.{AreAfter, class_alike, direct_alike, class_not_direct, direct_not_class}
 use Rattle.pa_one_run.proofs.lines.Lists.{in_middle, in_one}
 
@@ -175,11 +178,24 @@ batch_asks_none (suc n) (x ∷ xs) act among = elim (in_cases (Give (take 16 (x 
   | inr rest ↦ batch_asks_none n (drop 16 (x ∷ xs)) act rest
 ]
 
+-- the record's step left the slot at this number
+abbrev LeavesAt : Played → Numbered → Type 0
+LeavesAt x slot = (m : Mark) × (mark_of x ≡ Some m) × (m.slot ≡ slot.slot) × (number_of m.found + 1 ≡ slot.number)
+
 -- a slot came back
-back_alike : (a b : Parts) (before : List Played) (x : Played) (slot : Numbered) (cache next next' : Cache) → Beside a b before x x.answer → IsMadeIn before slot.slot → ReturnRow a.roots x slot cache next →
-    ReturnRow b.roots x slot cache next' → IsRowAlike a b x.line next next'
-back_alike a b before x slot cache next next' h made row row' = by_place row row'
+back_alike : (a b : Parts) (before : List Played) (x : Played) (slot : Numbered) (cache next next' : Cache) → Beside a b before x x.answer → IsMadeIn before slot.slot → LeavesAt x slot →
+    ReturnRow a.roots x slot cache next → ReturnRow b.roots x slot cache next' → IsRowAlike a b x.line next next'
+back_alike a b before x slot cache next next' h made (m, marked, same, left) row row' = by_place row row'
   where
+    -- a direct map goes back at the number that was left
+    unmapped_at : (c : Parts) (p i number : ℕ) → IsFiled c → Contains c.ps x → IsDirect c.roots slot.slot p → OnlyActs c.roots x.line p (unmap_at i slot.slot number ∷ []) →
+        OnlyActs c.roots x.line p (Unmap i slot ∷ [])
+    unmapped_at c p i number filed among direct only =
+        let number_is : number ≡ slot.number =
+        unmap_number c x m p i number filed among marked (subst (λ z. IsDirect c.roots z p) (sym same) direct)
+        (only.0 ∙ ap (λ z. unmap_at i z number ∷ []) (sym same)) ∙ left in
+        subst (λ k. OnlyActs c.roots x.line p (unmap_at i slot.slot k ∷ [])) number_is only
+
     after : AreAfter a b before
     after = record { filed = h.filed; filed' = h.filed'; rest = x ∷ h.rest; rest' = x ∷ h.rest'; parts = h.parts; parts' = h.parts' }
 
@@ -204,15 +220,17 @@ back_alike a b before x slot cache next next' h made row row' = by_place row row
         subst (λ z. OnlyActs b.roots x.line z (gives (spilled class (slot ∷ cache z class))) × Becomes next' (with_list cache z class (kept class (slot ∷ cache z class)))) (sym e)
         (subst (λ z. OnlyActs b.roots x.line q (gives (spilled z (slot ∷ cache q z))) × Becomes next' (with_list cache q z (kept z (slot ∷ cache q z)))) (sym f) (only', becomes')) in
         class_back p class only becomes there become
-    by_place (inl (p, class, of, only, becomes)) (inr (q, j, direct, only', becomes')) = absurd (class_not_direct a b before slot.slot p q class after made of direct)
-    by_place (inr (p, i, direct, only, becomes)) (inl (q, class, of, only', becomes')) = absurd (direct_not_class a b before slot.slot p q class after made direct of)
-    by_place (inr (p, i, direct, only, becomes)) (inr (q, j, direct', only', becomes')) =
+    by_place (inl (p, class, of, only, becomes)) (inr (q, j, number, direct, only', becomes')) = absurd (class_not_direct a b before slot.slot p q class after made of direct)
+    by_place (inr (p, i, number, direct, only, becomes)) (inl (q, class, of, only', becomes')) = absurd (direct_not_class a b before slot.slot p q class after made direct of)
+    by_place (inr (p, i, number, direct, only, becomes)) (inr (q, j, number', direct', only', becomes')) =
         let e = direct_alike a b before slot.slot p q after made direct direct' in
-        let there : OnlyActs b.roots x.line p (Unmap j slot ∷ []) = subst (λ z. OnlyActs b.roots x.line z (Unmap j slot ∷ [])) (sym e) only' in
-        let (place, pool) = unmaps_alike a b x.line p i j slot h.filed h.filed' h.agrees only there in
+        let here = unmapped_at a p i number h.filed (in_middle before h.rest a.ps x h.parts) direct only in
+        let other = unmapped_at b q j number' h.filed' (in_middle before h.rest' b.ps x h.parts') direct' only' in
+        let there : OnlyActs b.roots x.line p (Unmap j slot ∷ []) = subst (λ z. OnlyActs b.roots x.line z (Unmap j slot ∷ [])) (sym e) other in
+        let (place, pool) = unmaps_alike a b x.line p i j slot h.filed h.filed' h.agrees here there in
         record {
           caches = both_become next next' cache cache becomes becomes' refl;
-          line = record { acts = only_alike a b x.line p (Unmap i slot ∷ []) (Unmap j slot ∷ []) only there (ap (λ z. Unmap z slot ∷ []) place); pool = pool };
+          line = record { acts = only_alike a b x.line p (Unmap i slot ∷ []) (Unmap j slot ∷ []) here there (ap (λ z. Unmap z slot ∷ []) place); pool = pool };
         }
 
 -- a row without entries
@@ -221,14 +239,14 @@ same_alike : (a b : Parts) (before : List Played) (x : Played) (v : Answer) (cac
 same_alike a b before x v cache next next' h (none, becomes) (none', becomes') =
     record { caches = both_become next next' cache cache becomes becomes' refl; line = quiet_alike a b x.line h.filed h.filed' none none' }
 
-done_alike : (a b : Parts) (before : List Played) (x : Played) (o : Option Step) (seen : Seen) (cache next next' : Cache) → Beside a b before x x.answer → IsMadeIn before seen.slot → DoneRow a.roots x o seen cache next →
-    DoneRow b.roots x o seen cache next' → IsRowAlike a b x.line next next'
-done_alike a b before x None seen cache next next' h made row row' = same_alike a b before x x.answer cache next next' h row row'
-done_alike a b before x (Some step) seen cache next next' h made (inl (returns, row)) (inl (returns', row')) =
-    back_alike a b before x (record { slot = seen.slot; number = number_of seen.found.0 + 1 }) cache next next' h made row row'
-done_alike a b before x (Some step) seen cache next next' h made (inl (returns, row)) (inr (not, none, becomes)) = absurd (not returns)
-done_alike a b before x (Some step) seen cache next next' h made (inr (not, none, becomes)) (inl (returns, row)) = absurd (not returns)
-done_alike a b before x (Some step) seen cache next next' h made (inr (not, none, becomes)) (inr (not', none', becomes')) =
+done_alike : (a b : Parts) (before : List Played) (x : Played) (o : Option Step) (seen : Seen) (cache next next' : Cache) → Beside a b before x x.answer → IsMadeIn before seen.slot →
+    mark_of x ≡ Some (mark_at x.line seen o) → DoneRow a.roots x o seen cache next → DoneRow b.roots x o seen cache next' → IsRowAlike a b x.line next next'
+done_alike a b before x None seen cache next next' h made marked row row' = same_alike a b before x x.answer cache next next' h row row'
+done_alike a b before x (Some step) seen cache next next' h made marked (inl (returns, row)) (inl (returns', row')) =
+    back_alike a b before x (record { slot = seen.slot; number = number_of seen.found.0 + 1 }) cache next next' h made (mark_at x.line seen (Some step), marked, refl, refl) row row'
+done_alike a b before x (Some step) seen cache next next' h made marked (inl (returns, row)) (inr (not, none, becomes)) = absurd (not returns)
+done_alike a b before x (Some step) seen cache next next' h made marked (inr (not, none, becomes)) (inl (returns, row)) = absurd (not returns)
+done_alike a b before x (Some step) seen cache next next' h made marked (inr (not, none, becomes)) (inr (not', none', becomes')) =
     same_alike a b before x x.answer cache next next' h (none, becomes) (none', becomes')
 
 -- ---- a purge
@@ -273,7 +291,7 @@ pub row_alike : (a b : Parts) (before : List Played) (x : Played) (u : Answer) (
     CacheRow b.partitions b.roots x u cache next' → IsRowAlike a b x.line next next'
 row_alike a b before x (answers.Made seen usable) cache next next' h is row row' = (made_alike a b before x x.answer seen seen cache next next' h row row').row
 row_alike a b before x (answers.Done seen) cache next next' h is row row' =
-    done_alike a b before x (step_of x.op) seen cache next next' h (done_made a before h.rest x seen h.filed h.parts is) row row'
+    done_alike a b before x (step_of x.op) seen cache next next' h (done_made a before h.rest x seen h.filed h.parts is) (ap (mark_of_answer x.line x.op) is) row row'
 row_alike a b before x (answers.Full entry) cache next next' h is row row' = full_alike a b before x x.answer cache next next' h row row'
 row_alike a b before x (answers.Purged slots) cache next next' h is row row' = (purged_alike a b before x x.answer slots slots cache next next' h row row').1
 row_alike a b before x answer cache next next' h is row row' = same_alike a b before x x.answer cache next next' h row row'

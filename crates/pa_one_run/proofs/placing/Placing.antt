@@ -4,7 +4,8 @@ use Rattle.std.specs.Prelude.{Contains}
 use Rattle.pa_record.specs.declared.entry.Answer.{Answer}
 use Rattle.pa_record.proofs.Members.{first_in, later_in}
 use Rattle.pa_record.specs.declared.entry.Answer.TheVariants as answers
-use Rattle.pa_rules.specs.Played.{Played, OpLine, op_line_of}
+use Rattle.pa_rules.specs.declared.played.Played.{Played}
+use Rattle.pa_rules.specs.Played.{OpLine, op_line_of}
 use Rattle.pa_rules.specs.Caches.{Cache, Caches, CacheRow, CachesTo, no_caches, with_cache}
 use Rattle.pa_one_run.proofs.lines.Sorting.{on}
 use Rattle.pa_one_run.proofs.Filed.{Parts, IsFiled, Agrees, IsPlacedAlike, entry_line, pool_line, agrees_earlier, agrees_swap, agrees_self}

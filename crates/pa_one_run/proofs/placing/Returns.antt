@@ -1,7 +1,7 @@
 -- A slot that was made before goes back to the same list in two runs.
 use Rattle.std.proofs.Common.{◌≡◌, ℕ, ◌⊎◌, List, ◌++◌, ◌∙◌, subst, inl, inr}
 use Rattle.pa_machine.specs.declared.word.SlotName.{SlotName}
-use Rattle.pa_rules.specs.Played.{Played}
+use Rattle.pa_rules.specs.declared.played.Played.{Played}
 use Rattle.pa_rules.specs.Caches.{IsOfClass, IsDirect}
 use Rattle.pa_one_run.proofs.Filed.{Parts, IsFiled, IsMadeIn}
 use Rattle.pa_one_run.proofs.roots.Classes.{class_once, map_once, class_or_map, made_class, one_class, one_direct, class_or_direct}

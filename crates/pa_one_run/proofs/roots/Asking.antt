@@ -3,20 +3,19 @@ use Rattle.std.proofs.Common.{◌≡◌, ℕ, List, [], ◌∷◌, ◌++◌, len
 use Rattle.std.specs.Prelude.{Contains, slice_get, option_map}
 use Rattle.std.proofs.lemmas.Bool.{cases_eq}
 use Rattle.pa_record.specs.declared.pool.PoolEntry.{PoolEntry}
-use Rattle.pa_record.specs.declared.pool.PoolAct.{PoolAct}
 use Rattle.pa_record.specs.declared.root.RootEntry.{RootEntry}
 use Rattle.pa_record.specs.declared.root.RootAct.{RootAct}
-use Rattle.pa_record.specs.declared.root.RootAct.TheVariants.{Fill, Map, Full, Give, Unmap, Purge}
 use Rattle.pa_record.specs.Pool.{PoolState, new_pool, pool_next, pool_replayed, PoolReplays, PoolActFits, act_at}
-use Rattle.pa_record.specs.Root.{Root, RootActFits, RootReplays, asked_by}
+use Rattle.pa_record.specs.Root.{RootReplays, asked_by}
 use Rattle.pa_record.proofs.Members.{not_in_none, first_in, of_some, not_some}
 use Rattle.pa_record.proofs.Joined.{map_in}
 use Rattle.pa_record.proofs.Same.{same_pool}
 use Rattle.pa_rules.specs.Caches.{acts_of, OnlyActs}
+use Rattle.pa_rules.proofs.Naming.{asked_there}
 use Rattle.pa_one_run.proofs.lines.Sorting.{below, on, past, in_on, on_in, on_none, below_on_past, on_one, on_alone}
 use Rattle.pa_one_run.proofs.Filed.{Parts, IsFiled, Agrees, entry_line, pool_line}
 use Rattle.pa_one_run.proofs.roots.Replays.{named_of, on_line, line_replays, root_at, pool_at}
-use Rattle.pa_one_run.proofs.lines.Lists.{get_of, get_in, option_some, in_one}
+use Rattle.pa_one_run.proofs.lines.Lists.{get_of, get_in, in_one}
 
 -- a line's only entry of a journal names the line's only entry of the pool, which fits the pool before the line
 pub record IsAsked (a : Parts) (n p j : ℕ) (e : PoolEntry) : Type 0 where
@@ -26,21 +25,6 @@ pub record IsAsked (a : Parts) (n p j : ℕ) (e : PoolEntry) : Type 0 where
   pub place : j ≡ length (below pool_line n a.pools)
   pub act : act_at a.pools j ≡ Some e.act
   pub fits : PoolActFits a.pools p e.act (pool_at a n)
-
--- an entry of the pool that is named by an entry that fits is there
-entry_at : (pools : List PoolEntry) (i j : ℕ) (act : PoolAct) → Some i ≡ Some j → act_at pools i ≡ Some act → (e : PoolEntry) × (slice_get pools j ≡ Some e)
-entry_at pools i j act same at =
-    let (e, there, is) = option_some (λ (e : PoolEntry). e.act) (slice_get pools j) act (subst (λ k. act_at pools k ≡ Some act) (of_some i j same) at) in (e, there)
-
-asked_there : (pools : List PoolEntry) (act : RootAct) (r : Root) (j : ℕ) → RootActFits pools act r → asked_by act ≡ Some j → (e : PoolEntry) × (slice_get pools j ≡ Some e)
-asked_there pools (Fill class None slots) r j fits asks = absurd (not_some j asks)
-asked_there pools (Fill class (Some i) slots) r j fits asks = entry_at pools i j _ asks fits.1.2
-asked_there pools (Map i slot len) r j fits asks = entry_at pools i j _ asks fits.1
-asked_there pools (Full None i) r j fits asks = entry_at pools i j _ asks fits.1
-asked_there pools (Full (Some class) i) r j fits asks = entry_at pools i j _ asks fits.1
-asked_there pools (Give slots) r j fits asks = absurd (not_some j asks)
-asked_there pools (Unmap i slot) r j fits asks = entry_at pools i j _ asks fits.4
-asked_there pools Purge r j fits asks = absurd (not_some j asks)
 
 -- an entry of the pool on a line is named by an entry of that line
 pub record IsNamer (a : Parts) (n p k : ℕ) (f : RootEntry) : Type 0 where

@@ -17,12 +17,11 @@ use Rattle.pa_record.specs.declared.pool.PoolEntry.{PoolEntry}
 use Rattle.pa_record.specs.declared.root.RootEntry.{RootEntry}
 use Rattle.pa_record.specs.declared.root.RootAct.TheVariants.{Map}
 use Rattle.pa_record.specs.Spans.{name_of}
-use Rattle.pa_record.specs.Root.{new_root}
-use Rattle.pa_record.specs.Sound.{titles_made, AreTitles}
+use Rattle.pa_record.specs.Sound.{IsMadeBy, AreTitles}
 use Rattle.pa_record.specs.Laws.{leaves_by}
 use Rattle.pa_record.proofs.Members.{not_in_none, first_in}
 use Rattle.pa_record.proofs.Lawful.{journal_leaves}
-use Rattle.pa_rules.specs.Played.{Played}
+use Rattle.pa_rules.specs.declared.played.Played.{Played}
 use Rattle.pa_rules.specs.Roots.{Journals, AsksForClass, AsksForMap, MakesEntry}
 use Rattle.pa_rules.specs.Caches.{Cache, MadeRow, CacheRow, no_caches, IsOfClass, IsDirect}
 use Rattle.pa_rules.proofs.Known.{IsKnown, entry_of_act, first_keeps, all_known}
@@ -94,8 +93,8 @@ made_class a x seen usable h among is =
 -- ---- the titles of slots that leave their root
 
 -- titles of one name, which aren't empty, are one
-one_title : (pools : List PoolEntry) (ts : List Title) (t u : Title) → AreTitles pools ts → Contains ts t → Contains ts u → name_of t ≡ name_of u → 1 ≤ t.len → 1 ≤ u.len → t ≡ u
-one_title pools ts t u h among among' same some some' =
+one_title : (pools : List PoolEntry) (IsOne : Title → Type 0) (t u : Title) → AreTitles pools IsOne → IsOne t → IsOne u → name_of t ≡ name_of u → 1 ≤ t.len → 1 ≤ u.len → t ≡ u
+one_title pools IsOne t u h among among' same some some' =
     let start : t.start ≡ u.start = ap (λ (x : SlotName). x.start) same in
     elim (h.apart t u among among' (ap (λ (x : SlotName). x.born) same)) [
       | inl e ↦ e
@@ -104,11 +103,11 @@ one_title pools ts t u h among among' same some some' =
     ]
 
 -- entries of one journal give a slot titles of one length
-one_len : (a : Parts) (p : ℕ) (t u : Title) → IsFiled a → Contains (titles_made a.pools (a.roots p) new_root) t → Contains (titles_made a.pools (a.roots p) new_root) u →
+one_len : (a : Parts) (p : ℕ) (t u : Title) → IsFiled a → IsMadeBy a.pools (a.roots p) t → IsMadeBy a.pools (a.roots p) u →
     name_of t ≡ name_of u → 1 ≤ t.len → 1 ≤ u.len → t.len ≡ u.len
 one_len a p t u h among among' same some some' =
     let titles = (journal_leaves a.pools (a.roots p) (h.journals.journals p)).titles in
-    ap (λ (z : Title). z.len) (one_title a.pools (titles_made a.pools (a.roots p) new_root) t u titles among among' same some some')
+    ap (λ (z : Title). z.len) (one_title a.pools (IsMadeBy a.pools (a.roots p)) t u titles among among' same some some')
 
 -- ---- one partition, and one class or a direct map
 
@@ -118,7 +117,7 @@ one_partition a s p q h (e, among, leaves) (f, among', leaves') = only_of a.supe
 
 -- the title of a slot of a class
 pub record HasClassTitle (a : Parts) (s : SlotName) (p c : ℕ) (t : Title) : Type 0 where
-  pub made : Contains (titles_made a.pools (a.roots p) new_root) t
+  pub made : IsMadeBy a.pools (a.roots p) t
   pub names : name_of t ≡ s
   pub real : c < 59
   pub len : t.len ≡ slot_of c
@@ -131,7 +130,7 @@ class_title a s p c h (e, asked, slots, among, is, member) =
 
 -- the title of a direct map, which is longer than the slots of any class
 pub record HasMapTitle (a : Parts) (s : SlotName) (p len : ℕ) (t : Title) : Type 0 where
-  pub made : Contains (titles_made a.pools (a.roots p) new_root) t
+  pub made : IsMadeBy a.pools (a.roots p) t
   pub names : name_of t ≡ s
   pub size : t.len ≡ len
   pub long : 917504 < t.len

@@ -71,7 +71,7 @@ pub named_of : (a : Parts) (p j : ℕ) (e : RootEntry) (d : PoolEntry) → IsFil
 named_of a p j e d h among asks at =
     let (i, here) = get_of (a.roots p) e among in
     let (k, f, there, names, line) = h.pool.named j d at in
-    let (same, place) = h.pool.once j p d.partition i k (e, here, asks) (f, there, names) in
+    let (same, place) = h.pool.once j p d.partition i k d at (e, here, asks) (f, there, names) in
     let here' : slice_get (a.roots d.partition) k ≡ Some e = subst (λ q. slice_get (a.roots q) k ≡ Some e) same (subst (λ m. slice_get (a.roots p) m ≡ Some e) place here) in
     let it : f ≡ e = of_some f e (sym there ∙ here') in
     record { line = sym line ∙ ap entry_line it; partition = sym same }

@@ -24,7 +24,7 @@ use Rattle.pa_record.proofs.Same.{same_numbered}
 use Rattle.pa_record.proofs.PoolSteps.{pool_answers}
 use Rattle.pa_record.proofs.Lawful.{journal_leaves}
 use Rattle.pa_record.specs.declared.pool.PoolAct.TheVariants as turns
-use Rattle.pa_rules.specs.Played.{Played}
+use Rattle.pa_rules.specs.declared.played.Played.{Played}
 use Rattle.pa_rules.specs.Roots.{Journals, AsksForMap, MakesEntry}
 use Rattle.pa_rules.specs.Caches.{acts_of, OnlyActs, NoActs}
 use Rattle.pa_rules.proofs.Running.{one_by}

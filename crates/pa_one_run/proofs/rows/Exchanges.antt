@@ -8,7 +8,7 @@ use Rattle.pa_record.specs.declared.entry.Answer.TheVariants.{Swapped}
 use Rattle.pa_record.specs.declared.history.CellEntry.{CellEntry}
 use Rattle.pa_record.specs.declared.history.Held.{Held}
 use Rattle.pa_record.specs.declared.history.Held.TheVariants.{Nothing}
-use Rattle.pa_rules.specs.Played.{Played}
+use Rattle.pa_rules.specs.declared.played.Played.{Played}
 use Rattle.pa_rules.specs.Cells.{IsChain}
 use Rattle.pa_one_run.proofs.lines.Sorting.{below, on, past, on_in, on_none, on_one, below_on_past, get_below, below_get, rising_strictly, on_alone}
 use Rattle.pa_one_run.proofs.Filed.{Parts, IsFiled, Agrees, cell_line}

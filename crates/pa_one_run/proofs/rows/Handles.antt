@@ -16,7 +16,7 @@ use Rattle.pa_record.proofs.Members.{not_in_none, first_in, later_in, of_some, n
 use Rattle.pa_record.specs.declared.history.Held.TheVariants as held
 use Rattle.pa_rules.specs.declared.register.Reg.{Reg}
 use Rattle.pa_rules.specs.declared.register.Reg.TheVariants.{Empty, Own, Ref, Freed, Cleared}
-use Rattle.pa_rules.specs.Played.{Played}
+use Rattle.pa_rules.specs.declared.played.Played.{Played}
 use Rattle.pa_rules.specs.Registers.{Regs, AllRegs, Facts, Row, RowsTo, Becomes, with, with_thread, AllocRow, RequestRow, CopyRow, CopyToRow, ResetRow, FreeRow, WriteRow, ReadRow, ReadFromRow, SwapRow, handle_of, reg_of, made_of, no_regs, usable_in}
 use Rattle.pa_rules.specs.Sizes.{usable_of}
 use Rattle.pa_one_run.proofs.lines.Sorting.{below, in_below}

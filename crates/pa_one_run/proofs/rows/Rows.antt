@@ -21,7 +21,8 @@ use Rattle.pa_record.proofs.Same.{same_seen, same_cell}
 use Rattle.pa_record.specs.declared.history.Held.TheVariants as held
 use Rattle.pa_rules.specs.declared.register.Reg.{Reg}
 use Rattle.pa_rules.specs.declared.register.Reg.TheVariants.{Empty, Own, Ref, Freed, Cleared}
-use Rattle.pa_rules.specs.Played.{Played, OpLine, op_line_of, mark_at, look_at, mark_of_answer, step_of}
+use Rattle.pa_rules.specs.declared.played.Played.{Played}
+use Rattle.pa_rules.specs.Played.{OpLine, op_line_of, mark_at, look_at, mark_of_answer, step_of}
 use Rattle.pa_rules.specs.Registers.{Regs, AllRegs, Facts, Row, RowsTo, with_thread, AllocRow, RequestRow, CopyRow, CopyToRow, ResetRow, FreeRow, WriteRow, ReadRow, ReadFromRow, handle_of, reg_of, no_regs, made_of, usable_or, usable_in}
 use Rattle.pa_rules.specs.Contents.{IsReadExact}
 use Rattle.pa_one_run.proofs.lines.Sorting.{below, on}

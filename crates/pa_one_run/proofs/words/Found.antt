@@ -11,7 +11,8 @@ use Rattle.pa_machine.specs.Run.{Mark, Slots, IsReturning}
 use Rattle.pa_machine.proofs.Arith.{stepped_is}
 use Rattle.pa_machine.proofs.Runs.{IsPath, runs_end, run_of_path, slots_of_runs, number_stepped}
 use Rattle.pa_record.proofs.Members.{first_in}
-use Rattle.pa_rules.specs.Played.{Played, mark_of, marks_of}
+use Rattle.pa_rules.specs.declared.played.Played.{Played}
+use Rattle.pa_rules.specs.Played.{mark_of, marks_of}
 use Rattle.pa_rules.specs.Report.{HasWord, last_word}
 use Rattle.pa_rules.specs.Holders.{Holder, IsFirstHolder}
 use Rattle.pa_rules.proofs.Phases.{mark_in}

@@ -7,7 +7,8 @@ use Rattle.pa_machine.specs.Count.{CanStep, number_of, stepped}
 use Rattle.pa_machine.specs.Run.{Mark, IsFirstAt, IsRunFrom}
 use Rattle.pa_machine.proofs.Runs.{number_stepped}
 use Rattle.pa_record.proofs.Members.{first_in, later_in, in_cases, of_some}
-use Rattle.pa_rules.specs.Played.{Played, marks_of}
+use Rattle.pa_rules.specs.declared.played.Played.{Played}
+use Rattle.pa_rules.specs.Played.{marks_of}
 use Rattle.pa_rules.proofs.Marking.{mark_line}
 use Rattle.pa_rules.proofs.Running.{run_rises, one_mark, marks_pairs}
 use Rattle.pa_one_run.proofs.Filed.{Earlier}

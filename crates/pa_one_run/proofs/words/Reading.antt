@@ -10,7 +10,8 @@ use Rattle.pa_machine.specs.declared.word.Step.TheVariants as steps
 use Rattle.pa_trace.specs.declared.script.Op.TheVariants as ops
 use Rattle.pa_record.specs.declared.entry.Seen.{Seen}
 use Rattle.pa_record.specs.declared.entry.Answer.TheVariants.{Made, Done, Value}
-use Rattle.pa_rules.specs.Played.{Played, mark_of, marks_of, mark_at}
+use Rattle.pa_rules.specs.declared.played.Played.{Played}
+use Rattle.pa_rules.specs.Played.{mark_of, marks_of, mark_at}
 use Rattle.pa_rules.specs.Contents.{IsMadeAt, IsWrittenAt, IsWrittenFor, IsContent, IsReadExact}
 use Rattle.pa_rules.specs.FileOrder.{is_step_before, steps_before}
 use Rattle.pa_rules.proofs.Marking.{mark_line}

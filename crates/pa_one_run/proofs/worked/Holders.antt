@@ -1,5 +1,5 @@
 -- The holders of a written run: the moves that it has, and what went back for good.
-use Rattle.std.proofs.Common.{◌≡◌, ℕ, zero, suc, ◌<◌, Bool, true, ◌&&◌, not, eqb, ltb, List, [], ◌∷◌, filter, Option, Some, None, sym, ◌∙◌, ap, subst, arith, inl, inr}
+use Rattle.std.proofs.Common.{◌≡◌, ℕ, zero, suc, ◌<◌, Bool, true, ◌&&◌, not, eqb, ltb, List, [], ◌∷◌, filter, Option, Some, None, refl, sym, ◌∙◌, ap, subst, arith, inl, inr}
 use Rattle.std.specs.Prelude.{Contains, slice_get}
 use Rattle.std.specs.List.{AllByRecursion, list_all, list_any}
 use Rattle.std.proofs.lemmas.Bool.{and_parts, eqb-true, ltb-true, not-true}
@@ -7,7 +7,6 @@ use Rattle.pa_machine.specs.declared.word.SlotName.{SlotName}
 use Rattle.pa_machine.specs.Count.{number_of}
 use Rattle.pa_machine.specs.Run.{Mark, same_slot}
 use Rattle.pa_machine.proofs.Runs.{same_slot_yes, same_slot_eq}
-use Rattle.pa_trace.specs.declared.script.Op.TheVariants as ops
 use Rattle.pa_record.specs.declared.entry.Seen.{Seen}
 use Rattle.pa_record.specs.declared.entry.Answer.TheVariants as answers
 use Rattle.pa_record.specs.declared.numbered.Numbered.{Numbered}
@@ -16,9 +15,10 @@ use Rattle.pa_record.specs.declared.root.RootAct.{RootAct}
 use Rattle.pa_record.specs.declared.root.RootAct.TheVariants.{Fill, Map, Full, Give, Unmap, Purge}
 use Rattle.pa_record.proofs.Members.{of_some, not_some}
 use Rattle.pa_record.proofs.Joined.{filter_cases}
-use Rattle.pa_rules.specs.Played.{Played, mark_of}
-use Rattle.pa_rules.specs.Roots.{Journals}
-use Rattle.pa_rules.specs.Holders.{Holder, WithThread, Move, moves_by, is_move_of, moves_at, HasHolders, IsFirstHolder, HolderAfter, IsOfSlot, NamesSlot}
+use Rattle.pa_rules.specs.declared.played.Played.{Played}
+use Rattle.pa_rules.specs.Played.{mark_of}
+use Rattle.pa_rules.specs.Roots.{Journals, journal_at}
+use Rattle.pa_rules.specs.Holders.{Holder, WithThread, Move, moves_by, is_move_of, moves_at, HasHolders, IsHeld, IsOfSlot, NamesSlot}
 use Rattle.pa_one_run.proofs.lines.Lists.{get_in}
 use Rattle.pa_one_run.proofs.worked.Lists.{each, passes, implies, implied, none_passes, none_or_some}
 
@@ -39,22 +39,22 @@ all_have_holders ps ms h s k = elim (none_or_some (filter (is_move_of s k) ms)) 
       subst (λ n. HasHolders ps s n (filter (is_move_of s n) ms)) (eqb-true m.number k b) there
 ]
 
--- a thread has this slot, which was made of partition p, at the number that was found
-abbrev pub HasIt : List Played → Journals → ℕ → ℕ → Seen → Type 0
-HasIt ps roots thread p seen =
-    (h : Holder) × IsFirstHolder ps seen.slot (number_of seen.found.0) h
-    × HolderAfter ps h (moves_at (roots p) seen.slot (number_of seen.found.0)) (WithThread thread)
+-- a thread has this slot at the number that was found
+abbrev pub HasIt : List Played → Journals → ℕ → Seen → Type 0
+HasIt ps roots thread seen = IsHeld ps roots seen.slot (number_of seen.found.0) (WithThread thread)
 
 -- where the record made a slot, its thread has it
 abbrev pub IsIssued : List Played → Journals → Played → Type 0
-IsIssued ps roots x = (seen : Seen) (usable reg p size : ℕ) → x.answer ≡ answers.Made seen usable → x.op ≡ ops.Alloc reg p size → HasIt ps roots x.thread p seen
+IsIssued ps roots x = (seen : Seen) (usable : ℕ) → x.answer ≡ answers.Made seen usable → HasIt ps roots x.thread seen
 
-pub issued : (ps : List Played) (roots : Journals) (thread : ℕ) (seen : Seen) (usable reg size : ℕ) → HasIt ps roots thread 0 seen → (other : Seen) (usable' reg' p size' : ℕ) →
-    answers.Made seen usable ≡ answers.Made other usable' → ops.Alloc reg 0 size ≡ ops.Alloc reg' p size' → HasIt ps roots thread p other
-issued ps roots thread seen usable reg size has other usable' reg' p size' a b =
-    let same : seen ≡ other = cc in
-    let here : 0 ≡ p = cc in
-    subst (λ q. HasIt ps roots thread q other) here (subst (λ z. HasIt ps roots thread 0 z) same has)
+pub issued : (ps : List Played) (roots : Journals) (thread : ℕ) (seen : Seen) (usable : ℕ) → HasIt ps roots thread seen → (other : Seen) (usable' : ℕ) →
+    answers.Made seen usable ≡ answers.Made other usable' → HasIt ps roots thread other
+issued ps roots thread seen usable has other usable' a = let same : seen ≡ other = cc in subst (λ z. HasIt ps roots thread z) same has
+
+-- only the first journal has entries
+pub no_moves : (journal : List RootEntry) (s : SlotName) (k q : ℕ) → (q ≡ 0 → ⊥) → moves_at (journal_at (journal ∷ []) q) s k ≡ []
+no_moves journal s k zero ne = absurd (ne refl)
+no_moves journal s k (suc q) ne = refl
 
 -- the slot that an entry gives back for good
 abbrev pub gone_by : RootAct → Option Numbered

@@ -10,7 +10,7 @@ use Rattle.std.proofs.lemmas.Option.{slice_get_within, get_or_from_slice_get}
 use Rattle.pa_record.specs.declared.root.RootEntry.{RootEntry}
 use Rattle.pa_record.proofs.Members.{first_in, not_in_none, not_some}
 use Rattle.pa_record.proofs.Pairs.{pairs_none, pairs_cons}
-use Rattle.pa_rules.specs.Played.{Played}
+use Rattle.pa_rules.specs.declared.played.Played.{Played}
 use Rattle.pa_rules.specs.Cells.{StandsBefore}
 use Rattle.pa_rules.specs.Roots.{IsEntry, IsOfLine, journal_at}
 

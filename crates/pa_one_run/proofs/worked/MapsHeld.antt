@@ -13,7 +13,7 @@ use Rattle.pa_rules.specs.Holders.{InRoot, AreHolders}
 use Rattle.pa_rules.specs.Caches.{Caches, with_cache, no_caches, IsDirect, CachesTo, AreCaches}
 use Rattle.pa_rules.specs.Report.{HasSize, IsTally, InPhases, IsReportLine, IsReport}
 use Rattle.pa_one_run.specs.Worked.{seen_at, tally, report_line, direct_map_records, direct_map_report}
-use Rattle.pa_one_run.proofs.worked.Holders.{HasIt, IsIssued, issued}
+use Rattle.pa_one_run.proofs.worked.Holders.{HasIt, IsIssued, issued, no_moves}
 use Rattle.pa_one_run.proofs.worked.Moves.{holders_of_one}
 use Rattle.pa_one_run.proofs.worked.OneJournal.{no_other, none_on, census_of_one}
 use Rattle.pa_one_run.proofs.worked.Report.{other_lines, slots_passing, slots_of_kind, is_live, live-true, live-from, is_quarantined, quarantined-true, quarantined-from}
@@ -21,31 +21,31 @@ use Rattle.pa_one_run.proofs.worked.Maps.{slot_by, words, worded}
 use Rattle.pa_one_run.proofs.worked.MapsPlaced.{roots, direct}
 
 -- an allocation that made a slot has it
-has_first : HasIt direct_map_records roots 0 0 (seen_at 16384 0 0)
-has_first = (InRoot, inl (refl, refl), (_, ((0, lit< tt, refl), refl), refl))
+has_first : HasIt direct_map_records roots 0 (seen_at 16384 0 0)
+has_first = (0, InRoot, no_moves direct_map_again_journal _ _, inl (refl, refl), (_, ((0, lit< tt, refl), refl), refl))
 
-has_second : HasIt direct_map_records roots 0 0 (seen_at 16384 2 0)
-has_second = (InRoot, inl (refl, refl), (_, ((2, lit< tt, refl), refl), refl))
+has_second : HasIt direct_map_records roots 0 (seen_at 16384 2 0)
+has_second = (0, InRoot, no_moves direct_map_again_journal _ _, inl (refl, refl), (_, ((2, lit< tt, refl), refl), refl))
 
-has_third : HasIt direct_map_records roots 0 0 (seen_at 16384 5 0)
-has_third = (InRoot, inl (refl, refl), (_, ((7, lit< tt, refl), refl), refl))
+has_third : HasIt direct_map_records roots 0 (seen_at 16384 5 0)
+has_third = (0, InRoot, no_moves direct_map_again_journal _ _, inl (refl, refl), (_, ((7, lit< tt, refl), refl), refl))
 
 all_issued : AllByRecursion (IsIssued direct_map_records roots) direct_map_records
 all_issued = (
-  issued direct_map_records roots 0 _ 2002936 0 2000000 has_first,
+  issued direct_map_records roots 0 _ 2002936 has_first,
   (
-    λ seen usable reg p size a b. absurd cc,
+    λ seen usable a. absurd cc,
     (
-      issued direct_map_records roots 0 _ 2002936 0 2000000 has_second,
+      issued direct_map_records roots 0 _ 2002936 has_second,
       (
-        λ seen usable reg p size a b. absurd cc,
+        λ seen usable a. absurd cc,
         (
-          λ seen usable reg p size a b. absurd cc,
+          λ seen usable a. absurd cc,
           (
-            λ seen usable reg p size a b. absurd cc,
+            λ seen usable a. absurd cc,
             (
-              λ seen usable reg p size a b. absurd cc,
-              (issued direct_map_records roots 0 _ 2002936 2 2000000 has_third, tt),
+              λ seen usable a. absurd cc,
+              (issued direct_map_records roots 0 _ 2002936 has_third, tt),
             ),
           ),
         ),
@@ -76,7 +76,7 @@ cached_to = (
   inr (0, 2000000, 0, 2002944, direct 0, (refl, no_other direct_map_again_journal 2), λ p c. refl),
   (
     no_caches 0,
-    inl ((refl, refl), inr (0, 1, first_map, (refl, no_other direct_map_again_journal 3), λ p c. refl)),
+    inl ((refl, refl), inr (0, 1, 2, first_map, (refl, no_other direct_map_again_journal 3), λ p c. refl)),
     (
       no_caches 0,
       inr (0, 2000000, 2, 2002944, direct 0, (refl, no_other direct_map_again_journal 4), λ p c. refl),
@@ -91,7 +91,7 @@ cached_to = (
             inr (0, 2000000, 3, direct 2, (refl, no_other direct_map_again_journal 7), λ p c. refl),
             (
               no_caches 0,
-              inl ((refl, refl), inr (0, 4, second_map, (refl, no_other direct_map_again_journal 8), λ p c. refl)),
+              inl ((refl, refl), inr (0, 4, 4, second_map, (refl, no_other direct_map_again_journal 8), λ p c. refl)),
               (no_caches 0, inr (0, 2000000, 5, 2002944, direct 2, (refl, no_other direct_map_again_journal 9), λ p c. refl), refl),
             ),
           ),

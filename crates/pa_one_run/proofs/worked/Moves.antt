@@ -13,7 +13,8 @@ use Rattle.pa_record.specs.declared.numbered.Numbered.{Numbered}
 use Rattle.pa_record.specs.declared.root.RootEntry.{RootEntry}
 use Rattle.pa_record.specs.declared.root.RootAct.TheVariants.{Unmap}
 use Rattle.pa_record.proofs.Members.{find_is, not_some}
-use Rattle.pa_rules.specs.Played.{Played, mark_of}
+use Rattle.pa_rules.specs.declared.played.Played.{Played}
+use Rattle.pa_rules.specs.Played.{mark_of}
 use Rattle.pa_rules.specs.Roots.{IsEntry, IsOfLine, journal_at}
 use Rattle.pa_rules.specs.Holders.{Holder, InRoot, WithThread, Way, Move, moves_by, is_move_of, moves_at, IsReturnedBy, IsFirstHolder, made_by, needed_by, MovesFit, HasHolders, IsOfSlot, NamesSlot, AreHolders}
 use Rattle.pa_one_run.proofs.worked.Lists.{each}
@@ -180,7 +181,7 @@ module _ (ps : List Played) (journal : List RootEntry) where
       AllByRecursion (IsIssued ps (journal_at (journal ∷ []))) ps → AreHolders ps (journal_at (journal ∷ []))
   holders_of_one hold stay lower all_issued = record {
     moves = held hold;
-    issues = λ x seen usable reg p size among a b. each (IsIssued ps (journal_at (journal ∷ []))) ps all_issued x among seen usable reg p size a b;
+    issues = λ x seen usable among a. each (IsIssued ps (journal_at (journal ∷ []))) ps all_issued x among seen usable a;
     gone_from_journal = away stay;
     gone_from_records = away_after lower;
   }

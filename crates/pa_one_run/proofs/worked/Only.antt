@@ -11,6 +11,7 @@ use Rattle.pa_record.specs.declared.run.Run.{Run}
 use Rattle.pa_record.specs.RunText.{IsSameRun}
 use Rattle.pa_record.specs.Worked.{direct_map_again_pool, direct_map_again_journal, purge_pool, purge_journal}
 use Rattle.pa_rules.specs.Played.{entry_of}
+use Rattle.pa_rules.specs.Told.{told_by}
 use Rattle.pa_rules.specs.Roots.{journal_at}
 use Rattle.pa_rules.specs.Plain.{history_at}
 use Rattle.pa_rules.specs.Worked.{purge_records}
@@ -38,9 +39,9 @@ module _ (told : List Entry) (journals : List (List RootEntry)) (pools : List Po
 
   only_run : (t : Trace) → t.threads ≡ 1 → IsTold t told journals pools exchanged heaps → ((a : Run) → IsRunOf a told journals pools exchanged heaps → IsFileRun t a) →
       IsOnlyRun t told journals pools exchanged heaps
-  only_run t one is_told filed r (ps, legal) =
+  only_run t one is_told filed r legal =
       let (a, fits, is) = is_told.run r.entries.alloc in
-      tells a r (one_file_run t a r is_told.limits (filed a is) (ps, legal, one_thread t r ps is_told.limits one legal)) is
+      tells a r (one_file_run t a r is_told.limits (filed a is) (legal, one_thread t (told_by r) is_told.limits one legal)) is
 
 pub only_direct_maps : OnlyDirectMaps
 only_direct_maps =

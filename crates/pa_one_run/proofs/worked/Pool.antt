@@ -7,7 +7,7 @@ use Rattle.pa_record.specs.declared.root.RootEntry.{RootEntry}
 use Rattle.pa_record.specs.Pool.{IsPool}
 use Rattle.pa_record.specs.Root.{asked_by}
 use Rattle.pa_record.proofs.Members.{of_some, not_some}
-use Rattle.pa_rules.specs.Played.{Played}
+use Rattle.pa_rules.specs.declared.played.Played.{Played}
 use Rattle.pa_rules.specs.Cells.{StandsBefore}
 use Rattle.pa_rules.specs.Roots.{journal_at, IsEntry, IsOfLine, Names, IsPoolOf}
 use Rattle.pa_one_run.proofs.Filed.{entry_line, pool_line}
@@ -78,7 +78,7 @@ module _ (supers : ℕ) (ps : List Played) (pools : List PoolEntry) (journal : L
   pool_of_one = record {
     fits = is_pool;
     named = named;
-    once = λ j p q i k a b.
+    once = λ j p q i k e at a b.
         let (here, place) = names_its_own p i j a in
         let (there, place') = names_its_own q k j b in
         (here ∙ sym there, place ∙ sym place');

@@ -27,7 +27,7 @@ use Rattle.pa_rules.specs.Caches.{Cache, Caches, with_list, with_cache, no_cache
 use Rattle.pa_rules.specs.Seen.{IsSeenInOrder}
 use Rattle.pa_rules.specs.Report.{HasSize, InPhases, IsTally, IsReportLine, IsReport}
 use Rattle.pa_rules.specs.Sizes.{slot_size_for, usable_of}
-use Rattle.pa_rules.specs.Worked.{first_slot, played, purge_records}
+use Rattle.pa_rules.specs.Worked.{first_slot, of_first_thread, purge_records}
 use Rattle.pa_rules.proofs.Following.{titles_follow}
 use Rattle.pa_rules.proofs.Running.{OtherLine}
 use Rattle.pa_one_run.specs.Worked.{tally}
@@ -37,7 +37,7 @@ use Rattle.pa_one_run.proofs.lines.Lists.{get_in}
 use Rattle.pa_one_run.proofs.worked.Lists.{each, rises, only_journal, lines_follow, in_order}
 use Rattle.pa_one_run.proofs.worked.Slots.{Worded, are_worded, worded_slots}
 use Rattle.pa_one_run.proofs.worked.Alone.{no_cells, no_cell_used, seen_by_line}
-use Rattle.pa_one_run.proofs.worked.Holders.{HasIt, IsIssued, issued}
+use Rattle.pa_one_run.proofs.worked.Holders.{HasIt, IsIssued, issued, no_moves}
 use Rattle.pa_one_run.proofs.worked.Moves.{holders_of_one}
 use Rattle.pa_one_run.proofs.worked.OneJournal.{IsMade, no_other, roots_of_one, census_of_one}
 use Rattle.pa_one_run.proofs.worked.Report.{other_lines, slots_of_kind, is_live, live-true, live-from, is_quarantined, quarantined-true, quarantined-from}
@@ -131,7 +131,7 @@ pub pooled : IsPoolOf 1 purge_records purge_pool roots
 pooled = record {
   fits = purge.is_pool;
   named = named;
-  once = λ j p q i k (e, at, asked) (f, at', asked').
+  once = λ j p q i k d is_there (e, at, asked) (f, at', asked').
       let (here, stands) = only_journal purge_journal p i e at in
       let (there, stands') = only_journal purge_journal q k f at' in
       (here ∙ sym there, first_names i j e stands asked ∙ sym (first_names k j f stands' asked'));
@@ -142,24 +142,26 @@ pub titled : AreAllTitles purge_pool roots
 titled = titles_follow.titles 1 1 purge_records purge_pool roots rooted pooled
 
 -- the root has the slot first, and then the thread that freed it, until the purge
-has_first : HasIt purge_records roots 0 0 (first_slot 0)
-has_first = (InRoot, inl (refl, refl), (_, ((0, lit< tt, refl), refl), refl))
+has_first : HasIt purge_records roots 0 (first_slot 0)
+has_first = (0, InRoot, no_moves purge_journal _ _, inl (refl, refl), (_, ((0, lit< tt, refl), refl), refl))
 
-has_again : HasIt purge_records roots 0 0 (first_slot 33554432)
+has_again : HasIt purge_records roots 0 (first_slot 33554432)
 has_again = (
+  0,
   WithThread 0,
+  no_moves purge_journal _ _,
   inr (_, ((1, lit< tt, refl), _, steps.Free, refl, refl, refl, (refl, refl), refl), refl),
   (_, ((2, lit< tt, refl), refl), (_, ((3, lit< tt, refl), refl), refl)),
 )
 
 all_issued : AllByRecursion (IsIssued purge_records roots) purge_records
 all_issued = (
-  issued purge_records roots 0 _ 8 0 8 has_first,
+  issued purge_records roots 0 _ 8 has_first,
   (
-    λ seen usable reg p size a b. absurd cc,
+    λ seen usable a. absurd cc,
     (
-      λ seen usable reg p size a b. absurd cc,
-      (issued purge_records roots 0 _ 8 1 8 has_again, tt),
+      λ seen usable a. absurd cc,
+      (issued purge_records roots 0 _ 8 has_again, tt),
     ),
   ),
 )
@@ -186,10 +188,10 @@ at_end = with_cache (with_cache (with_cache (with_cache no_caches 0 listed_made)
 of_class : IsOfClass roots the_slot 0 0
 of_class = (_, Some 0, filled, (0, lit< tt, refl), refl, (0, lit< tt, refl))
 
-made_row : MadeRow roots (played 2 (ops.Alloc 0 0 8) (answers.Made (first_slot 0) 8)) (first_slot 0) (no_caches 0) listed_made
+made_row : MadeRow roots (of_first_thread 2 (ops.Alloc 0 0 8) (answers.Made (first_slot 0) 8)) (first_slot 0) (no_caches 0) listed_made
 made_row = inl (0, 0, filled, rest, (0, 8, refl, class_0), (Some 0, (refl, no_other purge_journal 2)), refl, λ p c. refl)
 
-free_row : DoneRow roots (played 3 (ops.Free 0) (answers.Done (first_slot 16777217))) (Some steps.Free) (first_slot 16777217) listed_made listed_free
+free_row : DoneRow roots (of_first_thread 3 (ops.Free 0) (answers.Done (first_slot 16777217))) (Some steps.Free) (first_slot 16777217) listed_made listed_free
 unfolding limit_of
 free_row = inl ((refl, refl), inl (0, 0, of_class, (refl, no_other purge_journal 3), λ p c. refl))
 
@@ -197,7 +199,7 @@ purged_acts : (p : ℕ) → p < 1 → acts_of roots 4 p ≡ purge_acts (listed_f
 purged_acts zero below = refl
 purged_acts (suc p) below = absurd (omega arith)
 
-again_row : MadeRow roots (played 5 (ops.Alloc 1 0 8) (answers.Made (first_slot 33554432) 8)) (first_slot 33554432) (no_caches 0) listed_again
+again_row : MadeRow roots (of_first_thread 5 (ops.Alloc 1 0 8) (answers.Made (first_slot 33554432) 8)) (first_slot 33554432) (no_caches 0) listed_again
 again_row = inl (0, 0, freed ∷ rest, rest, (1, 8, refl, class_0), (None, (refl, no_other purge_journal 5)), refl, λ p c. refl)
 
 cached_to : CachesTo 1 roots no_caches purge_records at_end

@@ -9,7 +9,8 @@ use Rattle.pa_machine.specs.Run.{Mark, IsLive, IsQuarantined, same_slot}
 use Rattle.pa_machine.proofs.Runs.{same_slot_yes, same_slot_eq}
 use Rattle.pa_record.proofs.Members.{find_is, in_cases, not_in_none}
 use Rattle.pa_record.proofs.Joined.{map_cases, map_in, filter_cases, filter_in}
-use Rattle.pa_rules.specs.Played.{Played, marks_of}
+use Rattle.pa_rules.specs.declared.played.Played.{Played}
+use Rattle.pa_rules.specs.Played.{marks_of}
 use Rattle.pa_rules.specs.Roots.{Journals}
 use Rattle.pa_rules.specs.Report.{HasSize, last_word, HasWord, AreSlots}
 use Rattle.pa_rules.proofs.Running.{OtherLine, one_run}

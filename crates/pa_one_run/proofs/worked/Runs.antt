@@ -50,7 +50,5 @@ two_threads_written = record {
 }
 
 pub two_threads_are_legal : TwoThreadsAreLegal
-two_threads_are_legal r is = (
-  two_threads_records,
-  written_is_legal two_threads_trace r two_threads_records (two_threads_journal ∷ []) two_threads_pool (two_threads_history ∷ []) two_threads_report is two_threads_written,
-)
+two_threads_are_legal r is =
+    written_is_legal two_threads_trace r two_threads_records (two_threads_journal ∷ []) two_threads_pool (two_threads_history ∷ []) two_threads_report is two_threads_written

@@ -7,7 +7,8 @@ use Rattle.pa_machine.specs.Count.{number_of}
 use Rattle.pa_machine.specs.Run.{Mark, same_slot}
 use Rattle.pa_machine.proofs.Runs.{same_slot_yes}
 use Rattle.pa_record.specs.declared.history.CellEntry.{CellEntry}
-use Rattle.pa_rules.specs.Played.{Played, mark_of}
+use Rattle.pa_rules.specs.declared.played.Played.{Played}
+use Rattle.pa_rules.specs.Played.{mark_of}
 use Rattle.pa_rules.specs.Seen.{HandsTo, IsBefore, Standing, Handing, Between, IsSeenInOrder, left_number}
 use Rattle.pa_one_run.proofs.worked.Lists.{all_both, both_pass, passes, implies, implied, stands, stands-from}
 

@@ -8,7 +8,8 @@ use Rattle.pa_record.specs.declared.entry.Answer.TheVariants as answers
 use Rattle.pa_record.specs.declared.history.CellEntry.{CellEntry}
 use Rattle.pa_record.specs.declared.history.Held.TheVariants as held
 use Rattle.pa_record.proofs.Members.{of_some, not_some}
-use Rattle.pa_rules.specs.Played.{Played, marks_of, AreLines}
+use Rattle.pa_rules.specs.declared.played.Played.{Played}
+use Rattle.pa_rules.specs.Played.{marks_of, AreLines}
 use Rattle.pa_rules.specs.Cells.{AreCells, IsExchange, IsRecordOf, IsChain}
 use Rattle.pa_rules.specs.Seen.{IsSeenInOrder}
 use Rattle.pa_rules.specs.Plain.{history_at}

@@ -12,7 +12,7 @@ use Rattle.pa_rules.specs.Report.{until}
 use Rattle.pa_rules.proofs.Following.{titles_follow}
 use Rattle.pa_one_run.specs.Worked.{seen_at, two_threads_records, two_threads_journal, two_threads_pool}
 use Rattle.pa_one_run.proofs.worked.Pool.{pool_of_one}
-use Rattle.pa_one_run.proofs.worked.Holders.{HasIt, IsIssued, issued}
+use Rattle.pa_one_run.proofs.worked.Holders.{HasIt, IsIssued, issued, no_moves}
 use Rattle.pa_one_run.proofs.worked.Moves.{holders_of_one}
 use Rattle.pa_one_run.proofs.worked.OneJournal.{IsMade, no_other, none_on, roots_of_one}
 use Rattle.pa_one_run.proofs.worked.OneFill.{roots, the_slot, class_0, is_pool, is_journal, kept, made_row, of_class}
@@ -30,25 +30,25 @@ pooled = pool_of_one 1 two_threads_records two_threads_pool two_threads_journal 
 pub titled : AreAllTitles two_threads_pool roots
 titled = titles_follow.titles 1 1 two_threads_records two_threads_pool roots rooted pooled
 
-has_it : HasIt two_threads_records roots 0 0 (seen_at 16384 0 0)
-has_it = (InRoot, inl (refl, refl), (_, ((0, lit< tt, refl), refl), refl))
+has_it : HasIt two_threads_records roots 0 (seen_at 16384 0 0)
+has_it = (0, InRoot, no_moves two_threads_journal _ _, inl (refl, refl), (_, ((0, lit< tt, refl), refl), refl))
 
 all_issued : AllByRecursion (IsIssued two_threads_records roots) two_threads_records
 all_issued = (
-  issued two_threads_records roots 0 _ 8 0 8 has_it,
+  issued two_threads_records roots 0 _ 8 has_it,
   (
-    λ seen usable reg p size a b. absurd cc,
+    λ seen usable a. absurd cc,
     (
-      λ seen usable reg p size a b. absurd cc,
+      λ seen usable a. absurd cc,
       (
-        λ seen usable reg p size a b. absurd cc,
+        λ seen usable a. absurd cc,
         (
-          λ seen usable reg p size a b. absurd cc,
+          λ seen usable a. absurd cc,
           (
-            λ seen usable reg p size a b. absurd cc,
+            λ seen usable a. absurd cc,
             (
-              λ seen usable reg p size a b. absurd cc,
-              (λ seen usable reg p size a b. absurd cc, tt),
+              λ seen usable a. absurd cc,
+              (λ seen usable a. absurd cc, tt),
             ),
           ),
         ),

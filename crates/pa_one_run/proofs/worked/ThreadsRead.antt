@@ -6,7 +6,7 @@ use Rattle.pa_buckets.specs.Table.{rows}
 use Rattle.pa_trace.specs.declared.script.Op.TheVariants as ops
 use Rattle.pa_record.specs.declared.entry.Answer.TheVariants as answers
 use Rattle.pa_rules.specs.declared.register.Reg.TheVariants.{Empty, Own, Ref, Freed, Cleared}
-use Rattle.pa_rules.specs.Played.{Played}
+use Rattle.pa_rules.specs.declared.played.Played.{Played}
 use Rattle.pa_rules.specs.Registers.{Regs, Facts, with, no_regs, usable_in, Row, AreRegisters}
 use Rattle.pa_rules.specs.Contents.{HasRegs, IsNextFree, IsBeingFreed, IsReadAllowed, AreContents}
 use Rattle.pa_rules.specs.Sizes.{slot_size_for, usable_of}

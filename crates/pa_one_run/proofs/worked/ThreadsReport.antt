@@ -5,7 +5,8 @@ use Rattle.std.proofs.lemmas.List.Elements.{All-from_recursion}
 use Rattle.pa_machine.specs.Run.{IsLive, IsQuarantined}
 use Rattle.pa_buckets.specs.Table.{rows, row_of, slot_of}
 use Rattle.pa_record.specs.declared.report.ReportLine.{ReportLine}
-use Rattle.pa_rules.specs.Played.{Played, marks_of}
+use Rattle.pa_rules.specs.declared.played.Played.{Played}
+use Rattle.pa_rules.specs.Played.{marks_of}
 use Rattle.pa_rules.specs.Report.{until, IsTally, HasCensus, IsReportLine, IsReport}
 use Rattle.pa_rules.proofs.Running.{OtherLine}
 use Rattle.pa_one_run.specs.Worked.{tally, report_line, two_threads_records, two_threads_journal, two_threads_pool, two_threads_census, two_threads_report}

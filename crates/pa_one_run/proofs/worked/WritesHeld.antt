@@ -17,7 +17,7 @@ use Rattle.pa_rules.proofs.Following.{titles_follow}
 use Rattle.pa_rules.proofs.Running.{OtherLine}
 use Rattle.pa_one_run.specs.Worked.{seen_at, tally}
 use Rattle.pa_one_run.specs.WorkedWrites.{writes_records, writes_journal, writes_pool, writes_report}
-use Rattle.pa_one_run.proofs.worked.Holders.{HasIt, IsIssued, issued}
+use Rattle.pa_one_run.proofs.worked.Holders.{HasIt, IsIssued, issued, no_moves}
 use Rattle.pa_one_run.proofs.worked.Moves.{holders_of_one}
 use Rattle.pa_one_run.proofs.worked.Pool.{pool_of_one}
 use Rattle.pa_one_run.proofs.worked.OneJournal.{IsMade, none_on, roots_of_one, census_of_one}
@@ -37,25 +37,25 @@ pooled = pool_of_one 1 writes_records writes_pool writes_journal is_pool follow 
 pub titled : AreAllTitles writes_pool roots
 titled = titles_follow.titles 1 1 writes_records writes_pool roots rooted pooled
 
-has_it : HasIt writes_records roots 0 0 (seen_at 16384 0 0)
-has_it = (InRoot, inl (refl, refl), (_, ((0, lit< tt, refl), refl), refl))
+has_it : HasIt writes_records roots 0 (seen_at 16384 0 0)
+has_it = (0, InRoot, no_moves writes_journal _ _, inl (refl, refl), (_, ((0, lit< tt, refl), refl), refl))
 
 all_issued : AllByRecursion (IsIssued writes_records roots) writes_records
 all_issued = (
-  issued writes_records roots 0 _ 8 0 8 has_it,
+  issued writes_records roots 0 _ 8 has_it,
   (
-    λ seen usable reg p size a b. absurd cc,
+    λ seen usable a. absurd cc,
     (
-      λ seen usable reg p size a b. absurd cc,
+      λ seen usable a. absurd cc,
       (
-        λ seen usable reg p size a b. absurd cc,
+        λ seen usable a. absurd cc,
         (
-          λ seen usable reg p size a b. absurd cc,
+          λ seen usable a. absurd cc,
           (
-            λ seen usable reg p size a b. absurd cc,
+            λ seen usable a. absurd cc,
             (
-              λ seen usable reg p size a b. absurd cc,
-              (λ seen usable reg p size a b. absurd cc, tt),
+              λ seen usable a. absurd cc,
+              (λ seen usable a. absurd cc, tt),
             ),
           ),
         ),
