@@ -1,0 +1,4 @@
+pub mod Counts
+pub mod Cuts
+pub mod Rows
+pub mod Threads

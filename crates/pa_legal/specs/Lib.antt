@@ -1,0 +1,4 @@
+pub mod Turns
+pub mod Numbers
+pub mod Kinds
+pub mod Known

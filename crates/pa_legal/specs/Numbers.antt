@@ -1,0 +1,58 @@
+-- The numbers at which a root has a slot, by its journal alone.
+use Rattle.std.specs.Prelude.{◌≡◌, ◌≢◌, ℕ, Bool, List, [], ◌∷◌, ◌++◌, Option, Some, None, Contains, filter, flat_map}
+use Rattle.pa_machine.specs.declared.word.SlotName.{SlotName}
+use Rattle.pa_machine.specs.Run.{same_slot}
+use Rattle.pa_record.specs.declared.numbered.Numbered.{Numbered}
+use Rattle.pa_record.specs.declared.pool.PoolEntry.{PoolEntry}
+use Rattle.pa_record.specs.declared.root.RootEntry.{RootEntry}
+use Rattle.pa_record.specs.declared.root.RootAct.TheVariants.{Unmap}
+use Rattle.pa_record.specs.Root.{new_root, root_replayed, IsJournal}
+use Rattle.pa_record.specs.Laws.{IsNameOut}
+use Rattle.pa_rules.specs.Roots.{Journals}
+use Rattle.pa_rules.specs.Holders.{Way, Out, Back, Move, moves_by}
+
+-- what a journal does, and what it does with slot s, in order
+abbrev pub all_moves : List RootEntry → List Move
+all_moves journal = flat_map (λ (e : RootEntry). moves_by e.line e.act) journal
+
+abbrev pub is_of : SlotName → Move → Bool
+is_of s m = same_slot m.slot s
+
+abbrev pub moves_of : List RootEntry → SlotName → List Move
+moves_of journal s = filter (is_of s) (all_moves journal)
+
+-- Where the root has the slot at a number, or has it out: it hands the slot out at the number at which it has it, and takes
+-- it back while it is out.
+abbrev pub HasAt : Option ℕ → Way → ℕ → Type 0
+HasAt at Out n = at ≡ Some n
+HasAt at Back n = at ≡ None
+
+-- where it has it then: at the number at which it came back
+abbrev pub at_after : Way → ℕ → Option ℕ
+at_after Out n = None
+at_after Back n = Some n
+
+abbrev pub IsNumbered : Option ℕ → List Move → Type 0
+IsNumbered at [] = Unit {0}
+IsNumbered at (m ∷ ms) = HasAt at m.way m.number × IsNumbered (at_after m.way m.number) ms
+
+-- where it has it after these moves
+abbrev pub at_end : Option ℕ → List Move → Option ℕ
+at_end at [] = at
+at_end at (m ∷ ms) = at_end (at_after m.way m.number) ms
+
+-- at the start a root has each slot at 0
+abbrev pub AreNumbered : Journals → Type 0
+AreNumbered roots = (p : ℕ) (s : SlotName) → IsNumbered (Some 0) (moves_of (roots p) s)
+
+-- after a direct map went back no entry of its journal names it
+abbrev pub Unnamed : Type 0
+Unnamed =
+    (pools : List PoolEntry) (xs ys : List RootEntry) (e f : RootEntry) (asked : ℕ) (slot : Numbered) (m : Move) → IsJournal pools (xs ++ e ∷ ys) →
+    e.act ≡ Unmap asked slot → Contains ys f → Contains (moves_by f.line f.act) m → m.slot ≢ slot.slot
+
+-- a slot that is out of the root is at no number there
+abbrev pub OutNone : Type 0
+OutNone =
+    (pools : List PoolEntry) (journal : List RootEntry) (s : SlotName) → IsJournal pools journal → IsNumbered (Some 0) (moves_of journal s) →
+    IsNameOut (root_replayed pools journal new_root) s → at_end (Some 0) (moves_of journal s) ≡ None

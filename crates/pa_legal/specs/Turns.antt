@@ -1,0 +1,63 @@
+-- The turns of a slot at a number: threads take it out of the root, and give it back.
+use Rattle.std.specs.Prelude.{◌≡◌, ℕ, ◌+◌, ◌<◌, ◌==◌, ◌&&◌, Bool, true, false, not, if◌then◌else◌, List, [], ◌∷◌, ◌++◌, count_by}
+use Rattle.pa_rules.specs.Holders.{Holder, InRoot, WithThread, Way, Out, Back}
+
+-- a thread takes the slot out, or gives it back
+pub record Turn : Type 0 where
+  pub way : Way
+  pub thread : ℕ
+
+abbrev pub is_out : Way → Bool
+is_out Out = true
+is_out Back = false
+
+abbrev pub is_with : Holder → Bool
+is_with InRoot = false
+is_with (WithThread t) = true
+
+-- the holder that a turn needs, and the one that it makes
+abbrev pub needs : Way → ℕ → Holder
+needs Out t = InRoot
+needs Back t = WithThread t
+
+abbrev pub makes : Way → ℕ → Holder
+makes Out t = WithThread t
+makes Back t = InRoot
+
+-- the slot goes out and back in turn, where `away` says whether a thread has it before them
+abbrev pub Alternate : Bool → List Turn → Type 0
+Alternate away [] = Unit {0}
+Alternate away (u ∷ us) = (away ≡ not (is_out u.way)) × Alternate (is_out u.way) us
+
+-- each turn finds the holder that it needs
+abbrev pub TurnsFit : Holder → List Turn → Type 0
+TurnsFit h [] = Unit {0}
+TurnsFit h (u ∷ us) = (h ≡ needs u.way u.thread) × TurnsFit (makes u.way u.thread) us
+
+-- the holder after some turns
+abbrev pub holder_after : Holder → List Turn → Holder
+holder_after h [] = h
+holder_after h (u ∷ us) = holder_after (makes u.way u.thread) us
+
+-- how often a thread has the slot by its holder, once or never; takes it out; and gives it back
+abbrev pub has : ℕ → Holder → ℕ
+has t InRoot = 0
+has t (WithThread u) = if u == t then 1 else 0
+
+abbrev pub takes_of : ℕ → List Turn → ℕ
+takes_of t us = count_by (λ (u : Turn). is_out u.way && (u.thread == t)) us
+
+abbrev pub backs_of : ℕ → List Turn → ℕ
+backs_of t us = count_by (λ (u : Turn). not (is_out u.way) && (u.thread == t)) us
+
+-- no thread gives the slot back more often than it had it at first and took it out before
+abbrev pub NoneLoses : Holder → List Turn → Type 0
+NoneLoses h us =
+    (before after : List Turn) (u : Turn) → us ≡ before ++ u ∷ after → u.way ≡ Back → backs_of u.thread before < has u.thread h + takes_of u.thread before
+
+-- Where the slot goes out and back in turn and no thread gives back more than it got, each turn finds the holder that it
+-- needs, and a thread that got the slot more often than it gave it back has it after them.
+abbrev pub HoldersBalance : Type 0
+HoldersBalance =
+    (h : Holder) (us : List Turn) → Alternate (is_with h) us → NoneLoses h us →
+    TurnsFit h us × ((t : ℕ) → backs_of t us < has t h + takes_of t us → holder_after h us ≡ WithThread t)

@@ -1,0 +1,7 @@
+//! What a run that is played line by line on one thread and one that is played by many share: from the clauses of a legal
+//! run that are known one by one, and a few facts of its slots, the whole legal run. Laws alone; nothing here runs.
+#![tactic(auto)]
+
+mod laws;
+
+pub use laws::{holders_balance, holders_follow, one_kind, unnamed};
