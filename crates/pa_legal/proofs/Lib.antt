@@ -5,3 +5,5 @@ pub mod Words
 pub mod flow
 pub mod holders
 pub mod Holdings
+pub mod Whole
+pub mod Standing

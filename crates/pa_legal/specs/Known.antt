@@ -2,6 +2,7 @@
 use Rattle.std.specs.Prelude.{◌≡◌, ℕ, ◌+◌, ◌<◌, List, Some, None, Contains, AllPairs}
 use Rattle.pa_machine.specs.Count.{number_of, held_of, refs_of}
 use Rattle.pa_machine.specs.Run.{Mark, Slots}
+use Rattle.pa_trace.specs.declared.script.Trace.{Trace}
 use Rattle.pa_record.specs.declared.entry.Seen.{Seen}
 use Rattle.pa_record.specs.declared.entry.Answer.TheVariants.{Made, Done}
 use Rattle.pa_record.specs.declared.numbered.Numbered.{Numbered}
@@ -9,10 +10,18 @@ use Rattle.pa_record.specs.declared.pool.PoolEntry.{PoolEntry}
 use Rattle.pa_record.specs.declared.root.RootEntry.{RootEntry}
 use Rattle.pa_record.specs.declared.root.RootAct.TheVariants.{Unmap}
 use Rattle.pa_rules.specs.declared.played.Played.{Played}
-use Rattle.pa_rules.specs.Played.{mark_of, marks_of}
+use Rattle.pa_rules.specs.Played.{AreDue, mark_of, marks_of}
+use Rattle.pa_rules.specs.Cells.{AreCells}
+use Rattle.pa_rules.specs.Registers.{AreRegisters}
+use Rattle.pa_rules.specs.Contents.{AreContents}
 use Rattle.pa_rules.specs.Roots.{Journals, AreRoots, IsPoolOf}
 use Rattle.pa_rules.specs.Holders.{AreHolders}
 use Rattle.pa_rules.specs.Caches.{IsDirect, AreCaches}
+use Rattle.pa_rules.specs.Seen.{IsSeenInOrder}
+use Rattle.pa_rules.specs.Report.{IsReport}
+use Rattle.pa_rules.specs.Sizes.{usable_of}
+use Rattle.pa_rules.specs.Told.{Told, records_of}
+use Rattle.pa_rules.specs.Legal.{phases_in, IsLegalTold}
 use Rattle.pa_legal.specs.Numbers.{AreNumbered}
 
 -- a direct map that was made was never stepped on before: the word found has the number 0
@@ -50,3 +59,25 @@ pub record AreKnown (supers partitions : ℕ) (ps : List Played) (pools : List P
 abbrev pub HoldersFollow : Type 0
 HoldersFollow =
     (supers partitions : ℕ) (ps : List Played) (pools : List PoolEntry) (roots : Journals) → AreKnown supers partitions ps pools roots → AreHolders ps roots
+
+-- What is known of a run clause by clause: all that a legal run asks but the titles and the holders, which follow from the
+-- rest; and what is said above of its numbers, its direct maps and its looks.
+pub record IsKnown (t : Trace) (r : Told) (ps : List Played) : Type 0 where
+  pub lines : AreDue t.lines r.entries
+  pub cells : AreCells r.cells ps
+  pub registers : AreRegisters usable_of r.cells ps
+  pub slots : Slots (marks_of ps)
+  pub contents : AreContents usable_of r.cells ps
+  pub pool : IsPoolOf t.region ps r.pools r.roots
+  pub roots : AreRoots t.partitions ps r.pools r.roots
+  pub caches : AreCaches t.partitions r.roots ps
+  pub seen : IsSeenInOrder r.cells ps
+  pub report : IsReport (phases_in t.lines) t.partitions t.threads ps r.pools r.roots r.report
+  pub numbers : AreNumbered r.roots
+  pub new : (x : Played) → Contains ps x → IsNewMap r.roots x
+  pub unmaps : (x : Played) → Contains ps x → UnmapsNext r.roots x
+  pub used : (x : Played) → Contains ps x → FindsInUse x
+
+-- then what the run tells is legal
+abbrev pub LegalFollows : Type 0
+LegalFollows = (t : Trace) (r : Told) → IsKnown t r (records_of t r) → IsLegalTold t r

@@ -1,14 +1,19 @@
 -- The numbers at which a root has a slot, by its journal alone.
-use Rattle.std.specs.Prelude.{◌≡◌, ◌≢◌, ℕ, Bool, List, [], ◌∷◌, ◌++◌, Option, Some, None, Contains, filter, flat_map}
+use Rattle.std.specs.Prelude.{◌≡◌, ◌≢◌, ℕ, ◌<◌, Bool, List, [], ◌∷◌, ◌++◌, Option, Some, None, Contains, All, AllPairs, filter, flat_map}
 use Rattle.pa_machine.specs.declared.word.SlotName.{SlotName}
-use Rattle.pa_machine.specs.Run.{same_slot}
+use Rattle.pa_machine.specs.Run.{Slots, same_slot}
 use Rattle.pa_record.specs.declared.numbered.Numbered.{Numbered}
 use Rattle.pa_record.specs.declared.pool.PoolEntry.{PoolEntry}
 use Rattle.pa_record.specs.declared.root.RootEntry.{RootEntry}
 use Rattle.pa_record.specs.declared.root.RootAct.TheVariants.{Unmap}
 use Rattle.pa_record.specs.Root.{new_root, root_replayed, IsJournal}
 use Rattle.pa_record.specs.Laws.{IsNameOut}
-use Rattle.pa_rules.specs.Roots.{Journals}
+use Rattle.pa_rules.specs.declared.played.Played.{Played}
+use Rattle.pa_rules.specs.Played.{marks_of}
+use Rattle.pa_rules.specs.Roots.{Journals, AreRoots, IsPoolOf}
+use Rattle.pa_rules.specs.Caches.{Caches, CachesTo, no_caches}
+use Rattle.pa_rules.specs.Report.{HasWord}
+use Rattle.pa_rules.specs.Flow.{cached_times, busy}
 use Rattle.pa_rules.specs.Holders.{Way, Out, Back, Move, moves_by}
 
 -- what a journal does, and what it does with slot s, in order
@@ -56,3 +61,17 @@ abbrev pub OutNone : Type 0
 OutNone =
     (pools : List PoolEntry) (journal : List RootEntry) (s : SlotName) → IsJournal pools journal → IsNumbered (Some 0) (moves_of journal s) →
     IsNameOut (root_replayed pools journal new_root) s → at_end (Some 0) (moves_of journal s) ≡ None
+
+-- what stands on a thread's list is out of the root, free and nowhere else
+pub record IsCachedOut (pools : List PoolEntry) (roots : Journals) (threads p : ℕ) (all : Caches) (s : SlotName) (w : ℕ) : Type 0 where
+  pub out : IsNameOut (root_replayed pools (roots p) new_root) s
+  pub free : busy w ≡ 0
+  pub once : cached_times s all p threads ≡ 1
+
+-- So it is for each slot of a list at the end of a run whose records each have a line of its own.
+abbrev pub CachedOut : Type 0
+CachedOut =
+    (supers partitions threads p t class w : ℕ) (ps : List Played) (pools : List PoolEntry) (roots : Journals) (all : Caches) (m : Numbered) →
+    AreRoots partitions ps pools roots → IsPoolOf supers ps pools roots → AllPairs (λ (x y : Played). x.line ≢ y.line) ps → All (λ (x : Played). x.thread < threads) ps →
+    Slots (marks_of ps) → CachesTo partitions roots no_caches ps all → p < partitions → t < threads → class < 59 → Contains (all t p class) m → HasWord ps m.slot w →
+    IsCachedOut pools roots threads p all m.slot w

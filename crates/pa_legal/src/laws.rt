@@ -1,6 +1,6 @@
 ghost use Rattle.pa_legal.specs.Kinds.{OneKind};
-ghost use Rattle.pa_legal.specs.Known.{HoldersFollow};
-ghost use Rattle.pa_legal.specs.Numbers.{Unnamed};
+ghost use Rattle.pa_legal.specs.Known.{HoldersFollow, LegalFollows};
+ghost use Rattle.pa_legal.specs.Numbers.{CachedOut, OutNone, Unnamed};
 ghost use Rattle.pa_legal.specs.Turns.{HoldersBalance};
 
 /// The law that each turn of a slot finds the holder that it needs, where the slot goes out of the root and back in turn and
@@ -23,4 +23,20 @@ pub fn one_kind()
 /// root has each slot.
 pub fn holders_follow()
     ensures { HoldersFollow }
+{}
+
+/// The law that a run is legal of which each clause is known but the titles and the holders, and the numbers at which a root
+/// has each slot.
+pub fn legal_follows()
+    ensures { LegalFollows }
+{}
+
+/// The law that a slot which is out of the root is there at no number.
+pub fn out_none()
+    ensures { OutNone }
+{}
+
+/// The law that a slot on a thread's list is out of its root, free, and on no other list.
+pub fn cached_out()
+    ensures { CachedOut }
 {}

@@ -4,4 +4,6 @@
 
 mod laws;
 
-pub use laws::{holders_balance, holders_follow, one_kind, unnamed};
+pub use laws::{
+    cached_out, holders_balance, holders_follow, legal_follows, one_kind, out_none, unnamed,
+};
