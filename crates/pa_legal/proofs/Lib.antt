@@ -1,9 +1,11 @@
 pub mod Balance
 pub mod Naming
 pub mod Titling
+pub mod Parts
 pub mod Words
 pub mod flow
 pub mod holders
 pub mod Holdings
 pub mod Whole
 pub mod Standing
+pub mod tallies

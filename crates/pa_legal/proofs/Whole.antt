@@ -15,7 +15,6 @@ places_known t r known = record {
   journals = known.roots;
   caches = known.caches;
   numbers = known.numbers;
-  new = known.new;
   unmaps = known.unmaps;
   used = known.used;
 }

@@ -5,3 +5,4 @@ pub mod Holding
 pub mod Held
 pub mod Records
 pub mod Gone
+pub mod Maps

@@ -1,5 +1,5 @@
 -- What is known of a run clause by clause, and what follows from it.
-use Rattle.std.specs.Prelude.{◌≡◌, ℕ, ◌+◌, ◌<◌, List, Some, None, Contains, AllPairs}
+use Rattle.std.specs.Prelude.{◌≡◌, ◌≢◌, ℕ, ◌+◌, ◌<◌, List, Some, None, Contains, AllPairs}
 use Rattle.pa_machine.specs.Count.{number_of, held_of, refs_of}
 use Rattle.pa_machine.specs.Run.{Mark, Slots}
 use Rattle.pa_trace.specs.declared.script.Trace.{Trace}
@@ -42,8 +42,8 @@ FindsInUse x = (m : Mark) → mark_of x ≡ Some m → m.step ≡ None → 0 < h
 --   rising: the records stand in the order of their lines
 --   slots, pool, journals, caches: four clauses of a legal run
 --   numbers: a root hands a slot out at the number at which it has it
---   new, unmaps, used: a direct map is made at the number 0, one that goes back is named at the number that the step left, and
---   a look finds a word in use
+--   unmaps: a direct map that goes back is named at the number that the step left
+--   used: a look finds a word in use
 pub record AreKnown (supers partitions : ℕ) (ps : List Played) (pools : List PoolEntry) (roots : Journals) : Type 0 where
   pub rising : AllPairs (λ (x y : Played). x.line < y.line) ps
   pub slots : Slots (marks_of ps)
@@ -51,7 +51,6 @@ pub record AreKnown (supers partitions : ℕ) (ps : List Played) (pools : List P
   pub journals : AreRoots partitions ps pools roots
   pub caches : AreCaches partitions roots ps
   pub numbers : AreNumbered roots
-  pub new : (x : Played) → Contains ps x → IsNewMap roots x
   pub unmaps : (x : Played) → Contains ps x → UnmapsNext roots x
   pub used : (x : Played) → Contains ps x → FindsInUse x
 
@@ -61,7 +60,7 @@ HoldersFollow =
     (supers partitions : ℕ) (ps : List Played) (pools : List PoolEntry) (roots : Journals) → AreKnown supers partitions ps pools roots → AreHolders ps roots
 
 -- What is known of a run clause by clause: all that a legal run asks but the titles and the holders, which follow from the
--- rest; and what is said above of its numbers, its direct maps and its looks.
+-- rest; and what is said above of a root's numbers, of direct maps that go back and of looks.
 pub record IsKnown (t : Trace) (r : Told) (ps : List Played) : Type 0 where
   pub lines : AreDue t.lines r.entries
   pub cells : AreCells r.cells ps
@@ -74,10 +73,15 @@ pub record IsKnown (t : Trace) (r : Told) (ps : List Played) : Type 0 where
   pub seen : IsSeenInOrder r.cells ps
   pub report : IsReport (phases_in t.lines) t.partitions t.threads ps r.pools r.roots r.report
   pub numbers : AreNumbered r.roots
-  pub new : (x : Played) → Contains ps x → IsNewMap r.roots x
   pub unmaps : (x : Played) → Contains ps x → UnmapsNext r.roots x
   pub used : (x : Played) → Contains ps x → FindsInUse x
 
 -- then what the run tells is legal
 abbrev pub LegalFollows : Type 0
 LegalFollows = (t : Trace) (r : Told) → IsKnown t r (records_of t r) → IsLegalTold t r
+
+-- A direct map is made once, so the issue of its slot finds the number 0.
+abbrev pub NewMaps : Type 0
+NewMaps =
+    (supers partitions : ℕ) (ps : List Played) (pools : List PoolEntry) (roots : Journals) (x : Played) → AreRoots partitions ps pools roots → IsPoolOf supers ps pools roots →
+    AllPairs (λ (x y : Played). x.line ≢ y.line) ps → Slots (marks_of ps) → AreCaches partitions roots ps → Contains ps x → IsNewMap roots x

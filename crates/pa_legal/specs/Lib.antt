@@ -2,3 +2,4 @@ pub mod Turns
 pub mod Numbers
 pub mod Kinds
 pub mod Known
+pub mod Tallies

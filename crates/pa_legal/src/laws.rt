@@ -1,6 +1,7 @@
 ghost use Rattle.pa_legal.specs.Kinds.{OneKind};
-ghost use Rattle.pa_legal.specs.Known.{HoldersFollow, LegalFollows};
+ghost use Rattle.pa_legal.specs.Known.{HoldersFollow, LegalFollows, NewMaps};
 ghost use Rattle.pa_legal.specs.Numbers.{CachedOut, OutNone, Unnamed};
+ghost use Rattle.pa_legal.specs.Tallies.{TalliesFollow};
 ghost use Rattle.pa_legal.specs.Turns.{HoldersBalance};
 
 /// The law that each turn of a slot finds the holder that it needs, where the slot goes out of the root and back in turn and
@@ -39,4 +40,15 @@ pub fn out_none()
 /// The law that a slot on a thread's list is out of its root, free, and on no other list.
 pub fn cached_out()
     ensures { CachedOut }
+{}
+
+/// The law that the slots and bytes which went in by some steps and didn't go out by others are those of the live slots of
+/// a partition, or of the quarantined ones.
+pub fn tallies_follow()
+    ensures { TalliesFollow }
+{}
+
+/// The law that the issue of a direct map's slot finds the number 0: it is made once.
+pub fn new_maps()
+    ensures { NewMaps }
 {}

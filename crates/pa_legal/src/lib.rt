@@ -5,5 +5,6 @@
 mod laws;
 
 pub use laws::{
-    cached_out, holders_balance, holders_follow, legal_follows, one_kind, out_none, unnamed,
+    cached_out, holders_balance, holders_follow, legal_follows, new_maps, one_kind, out_none,
+    tallies_follow, unnamed,
 };

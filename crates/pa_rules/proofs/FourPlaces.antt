@@ -76,7 +76,7 @@ slot_once supers partitions threads p ps pools roots xs front all s w g (e, amon
     ]
 
 -- a slot that is out left by an entry
-times_member : (s : SlotName) (ss : List SlotName) → 1 ≤ times s ss → Contains ss s
+pub times_member : (s : SlotName) (ss : List SlotName) → 1 ≤ times s ss → Contains ss s
 times_member s [] some = absurd (omega arith)
 times_member s (t ∷ ss) some = elim (once_cases s t) [
   | inl e ↦ subst (λ z. Contains (t ∷ ss) z) (sym e) (first_in t ss)

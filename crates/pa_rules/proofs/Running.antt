@@ -7,7 +7,7 @@ use Rattle.pa_machine.specs.declared.word.SlotName.{SlotName}
 use Rattle.pa_machine.specs.declared.word.Step.{Step}
 use Rattle.pa_machine.specs.declared.word.Step.TheVariants.{Issue, Copy, Reset, Free, Write}
 use Rattle.pa_machine.specs.Count.{CanStep, stepped, number_of, held_of, refs_of}
-use Rattle.pa_machine.specs.Run.{Mark, IsFirstAt, IsRunFrom, IsOneRun}
+use Rattle.pa_machine.specs.Run.{Mark, IsFirstAt, IsRunFrom, IsOneRun, same_slot}
 use Rattle.pa_machine.proofs.Arith.{stepped_is}
 use Rattle.pa_machine.proofs.Runs.{same_slot_eq, same_slot_yes, number_stepped}
 use Rattle.pa_record.proofs.Members.{not_in_none, first_in, later_in, in_cases, of_some}
@@ -15,7 +15,7 @@ use Rattle.pa_record.proofs.Pairs.{pairs_none, pairs_cons, pairs_head, pairs_tai
 use Rattle.pa_rules.specs.declared.played.Played.{Played}
 use Rattle.pa_rules.specs.Played.{mark_of, marks_of}
 use Rattle.pa_rules.specs.Report.{last_word}
-use Rattle.pa_rules.specs.Flow.{returns_at, is_issue, is_return, is_issue_of, is_return_of, issues_of, returns_of, busy, IssuesReturn}
+use Rattle.pa_rules.specs.Flow.{returns_at, is_issue, is_return, at_step, steps_so, is_issue_of, is_return_of, issues_of, returns_of, busy, IssuesReturn}
 use Rattle.pa_rules.proofs.Marking.{mark_line}
 
 abbrev pub OtherLine : Mark → Mark → Type 0
@@ -154,7 +154,7 @@ busy_some w some = elim (cases_eq (held_of w) 0) [
   | inr a ↦ rw (ne_eqb (held_of w) 0 a) refl
 ]
 
-abbrev one_if : Bool → ℕ
+abbrev pub one_if : Bool → ℕ
 one_if b = cond b 1 0
 
 ret_yes : (a b c d : ℕ) → a ≡ b → c ≡ d → one_if ((a == b) && (c == d)) ≡ 1
@@ -236,23 +236,14 @@ run_rises ms s u (v ∷ vs) x (m, p, first, can, is, rest) among = elim (in_case
 abbrev IsOfSteps : SlotName → (Mark → Bool) → Type 0
 IsOfSteps s f = (m : Mark) → f m ≡ true → (m.slot ≡ s) × (p : Step) × (m.step ≡ Some p)
 
-issue_steps : (s : SlotName) → IsOfSteps s (is_issue_of s)
-issue_steps s m e =
-    let (a, b) = and_parts _ _ e in
-    let (p, step) = some_step m.step b in
-    (sym (same_slot_eq s m.slot a), p, step)
-  where
-    some_step : (o : Option Step) → is_issue o ≡ true → (p : Step) × (o ≡ Some p)
-    some_step None h = absurd (false≢true h)
-    some_step (Some p) h = (p, refl)
-
-return_steps : (s : SlotName) → IsOfSteps s (is_return_of s)
-return_steps s m e =
+-- so are those that make a step that passes
+so_steps : (test : Step → ℕ → Bool) (s : SlotName) → IsOfSteps s (steps_so test s)
+so_steps test s m e =
     let (a, b) = and_parts _ _ e in
     let (p, step) = some_step m.found m.step b in
     (sym (same_slot_eq s m.slot a), p, step)
   where
-    some_step : (w : ℕ) (o : Option Step) → is_return w o ≡ true → (p : Step) × (o ≡ Some p)
+    some_step : (w : ℕ) (o : Option Step) → at_step test w o ≡ true → (p : Step) × (o ≡ Some p)
     some_step w None h = absurd (false≢true h)
     some_step w (Some p) h = (p, refl)
 
@@ -273,9 +264,9 @@ at_end ms s u f of run used lies = count_none (from (number_of u) f) ms (λ m am
       | inr none ↦ not_in_none m.found none
     ])
 
-at_step : (ms : List Mark) (s : SlotName) (u v : ℕ) (vs : List ℕ) (f : Mark → Bool) (m : Mark) (p : Step) → AllPairs OtherLine ms → IsOfSteps s f → IsFirstAt ms s u m p → CanStep p u → v ≡ stepped p u →
+at_step_of : (ms : List Mark) (s : SlotName) (u v : ℕ) (vs : List ℕ) (f : Mark → Bool) (m : Mark) (p : Step) → AllPairs OtherLine ms → IsOfSteps s f → IsFirstAt ms s u m p → CanStep p u → v ≡ stepped p u →
     IsRunFrom ms s v vs → Used ms s → Lies ms s u (v ∷ vs) → count_by (from (number_of u) f) ms ≡ one_if (f m) + count_by (from (number_of v) f) ms
-at_step ms s u v vs f m p h of first can is rest used lies =
+at_step_of ms s u v vs f m p h of first can is rest used lies =
     let up : number_of v ≡ number_of u + 1 = ap number_of is ∙ number_stepped p u can in
     let one = one_at (number_of u) f ms m h first.among (ap number_of first.found) (λ n among hit there.
     let (slot, q, step) = of n hit in
@@ -286,46 +277,68 @@ at_step ms s u v vs f m p h of first can is rest used lies =
     let same : count_by (from (number_of v) f) ms ≡ count_by (from (number_of u + 1) f) ms = ap (λ k. count_by (from k f) ms) up in
     omega arith
 
--- the tests at the mark that made the run's step
-issue_at : (s : SlotName) (m : Mark) (p : Step) → m.slot ≡ s → m.step ≡ Some p → one_if (is_issue_of s m) ≡ one_if (is_issue (Some p))
-issue_at s m p slot step = rw (same_slot_yes s m.slot (sym slot), step) refl
-
-return_at : (s : SlotName) (m : Mark) (p : Step) (u : ℕ) → m.slot ≡ s → m.found ≡ u → m.step ≡ Some p → one_if (is_return_of s m) ≡ one_if (returns_at p u)
-return_at s m p u slot found step = rw (same_slot_yes s m.slot (sym slot), step, found) refl
-
-walk : (ms : List Mark) (s : SlotName) (u : ℕ) (vs : List ℕ) → AllPairs OtherLine ms → IsRunFrom ms s u vs → Used ms s → Lies ms s u vs →
-    count_by (from (number_of u) (is_issue_of s)) ms + busy u ≡ count_by (from (number_of u) (is_return_of s)) ms + busy (last_word u vs)
-walk ms s u [] h run used lies =
-    let a = at_end ms s u (is_issue_of s) (issue_steps s) run used lies in
-    let b = at_end ms s u (is_return_of s) (return_steps s) run used lies in
-    omega arith
-walk ms s u (v ∷ vs) h (m, p, first, can, is, rest) used lies =
-    let a = at_step ms s u v vs (is_issue_of s) m p h (issue_steps s) first can is rest used lies in
-    let b = at_step ms s u v vs (is_return_of s) m p h (return_steps s) first can is rest used lies in
-    let c = issue_at s m p first.slot first.step in
-    let d = return_at s m p u first.slot first.found first.step in
-    let e = balance p u can in
-    let f : busy v ≡ busy (stepped p u) = ap busy is in
-    let up : number_of v ≡ number_of u + 1 = ap number_of is ∙ number_stepped p u can in
-    let ih = walk ms s v vs h rest used (λ n among slot low. elim (in_cases u n.found (v ∷ vs) (lies n among slot (omega arith))) [
-      | inl e ↦ let g : number_of u ≡ number_of n.found = ap number_of e in absurd (omega arith)
-      | inr after ↦ after
-    ]) in
-    omega arith
-
 from_0 : (f : Mark → Bool) (m : Mark) → from 0 f m ≡ f m
 from_0 f m = rw (le-leb 0 (number_of m.found) (omega arith)) refl
 
-pub run_counts : (ms : List Mark) (s : SlotName) (vs : List ℕ) → AllPairs OtherLine ms → IsRunFrom ms s 0 vs → IsOneRun ms s (0 ∷ vs) → issues_of s ms ≡ returns_of s ms + busy (last_word 0 vs)
+-- the test at the mark that made the run's step
+so_at : (test : Step → ℕ → Bool) (s : SlotName) (m : Mark) (p : Step) (u : ℕ) → m.slot ≡ s → m.found ≡ u → m.step ≡ Some p → one_if (steps_so test s m) ≡ one_if (test p u)
+so_at test s m p u slot found step = rw (same_slot_yes s m.slot (sym slot), step, found) refl
+
+-- a step of the one kind raises the level of a slot's word, one of the other lowers it, and the rest leave it
+abbrev pub Balances : (Step → ℕ → Bool) → (Step → ℕ → Bool) → (ℕ → ℕ) → Type 0
+Balances up down level = (p : Step) (u : ℕ) → CanStep p u → one_if (up p u) + level u ≡ one_if (down p u) + level (stepped p u)
+
+module _ (up down : Step → ℕ → Bool) (level : ℕ → ℕ) (even : Balances up down level) where
+  walk : (ms : List Mark) (s : SlotName) (u : ℕ) (vs : List ℕ) → AllPairs OtherLine ms → IsRunFrom ms s u vs → Used ms s → Lies ms s u vs →
+      count_by (from (number_of u) (steps_so up s)) ms + level u ≡ count_by (from (number_of u) (steps_so down s)) ms + level (last_word u vs)
+  walk ms s u [] h run used lies =
+      let a = at_end ms s u (steps_so up s) (so_steps up s) run used lies in
+      let b = at_end ms s u (steps_so down s) (so_steps down s) run used lies in
+      omega arith
+  walk ms s u (v ∷ vs) h (m, p, first, can, is, rest) used lies =
+      let a = at_step_of ms s u v vs (steps_so up s) m p h (so_steps up s) first can is rest used lies in
+      let b = at_step_of ms s u v vs (steps_so down s) m p h (so_steps down s) first can is rest used lies in
+      let c = so_at up s m p u first.slot first.found first.step in
+      let d = so_at down s m p u first.slot first.found first.step in
+      let e = even p u can in
+      let f : level v ≡ level (stepped p u) = ap level is in
+      let rises : number_of v ≡ number_of u + 1 = ap number_of is ∙ number_stepped p u can in
+      let ih = walk ms s v vs h rest used (λ n among slot low. elim (in_cases u n.found (v ∷ vs) (lies n among slot (omega arith))) [
+        | inl e ↦ let g : number_of u ≡ number_of n.found = ap number_of e in absurd (omega arith)
+        | inr after ↦ after
+      ]) in
+      omega arith
+
+  -- so the level of its last word is told by how many there are of both
+  pub run_levels : (ms : List Mark) (s : SlotName) (vs : List ℕ) → AllPairs OtherLine ms → IsRunFrom ms s 0 vs → IsOneRun ms s (0 ∷ vs) →
+      count_by (steps_so up s) ms + level 0 ≡ count_by (steps_so down s) ms + level (last_word 0 vs)
+  run_levels ms s vs h run one =
+      let zero_first : number_of 0 ≡ 0 = omega arith in
+      let w = walk ms s 0 vs h run one.used (λ m among slot low. one.found m among slot) in
+      let a : count_by (from (number_of 0) (steps_so up s)) ms ≡ count_by (from 0 (steps_so up s)) ms = ap (λ k. count_by (from k (steps_so up s)) ms) zero_first in
+      let b : count_by (from (number_of 0) (steps_so down s)) ms ≡ count_by (from 0 (steps_so down s)) ms = ap (λ k. count_by (from k (steps_so down s)) ms) zero_first in
+      let c = count_same (from 0 (steps_so up s)) (steps_so up s) ms (λ m among. from_0 (steps_so up s) m) in
+      let d = count_same (from 0 (steps_so down s)) (steps_so down s) ms (λ m among. from_0 (steps_so down s) m) in
+      omega arith
+
+abbrev issues_so : Step → ℕ → Bool
+issues_so p w = is_issue (Some p)
+
+run_counts : (ms : List Mark) (s : SlotName) (vs : List ℕ) → AllPairs OtherLine ms → IsRunFrom ms s 0 vs → IsOneRun ms s (0 ∷ vs) → issues_of s ms ≡ returns_of s ms + busy (last_word 0 vs)
 run_counts ms s vs h run one =
-    let zero_first : number_of 0 ≡ 0 = omega arith in
-    let w = walk ms s 0 vs h run one.used (λ m among slot low. one.found m among slot) in
-    let a : count_by (from (number_of 0) (is_issue_of s)) ms ≡ count_by (from 0 (is_issue_of s)) ms = ap (λ k. count_by (from k (is_issue_of s)) ms) zero_first in
-    let b : count_by (from (number_of 0) (is_return_of s)) ms ≡ count_by (from 0 (is_return_of s)) ms = ap (λ k. count_by (from k (is_return_of s)) ms) zero_first in
-    let c = count_same (from 0 (is_issue_of s)) (is_issue_of s) ms (λ m among. from_0 (is_issue_of s) m) in
-    let d = count_same (from 0 (is_return_of s)) (is_return_of s) ms (λ m among. from_0 (is_return_of s) m) in
+    let levels = run_levels issues_so returns_at busy balance ms s vs h run one in
+    let c = count_same (is_issue_of s) (steps_so issues_so s) ms (λ m among. ap (λ b. same_slot s m.slot && b) (issue_so m.found m.step)) in
+    let d = count_same (is_return_of s) (steps_so returns_at s) ms (λ m among. ap (λ b. same_slot s m.slot && b) (return_so m.found m.step)) in
     let e = busy_free 0 (omega arith) (omega arith) in
     omega arith
+  where
+    issue_so : (w : ℕ) (o : Option Step) → is_issue o ≡ at_step issues_so w o
+    issue_so w None = refl
+    issue_so w (Some p) = refl
+
+    return_so : (w : ℕ) (o : Option Step) → is_return w o ≡ at_step returns_at w o
+    return_so w None = refl
+    return_so w (Some p) = refl
 
 -- ---- marks of records
 

@@ -34,6 +34,14 @@ abbrev pub is_return : ℕ → Option Step → Bool
 is_return found None = false
 is_return found (Some step) = returns_at step found
 
+-- the test of a step by the word that it finds, which no look passes; the marks of slot s that pass
+abbrev pub at_step : (Step → ℕ → Bool) → ℕ → Option Step → Bool
+at_step test found None = false
+at_step test found (Some step) = test step found
+
+abbrev pub steps_so : (Step → ℕ → Bool) → SlotName → Mark → Bool
+steps_so test s m = same_slot s m.slot && at_step test m.found m.step
+
 -- a mark that issues slot s, and one that returns it; how many of them there are
 abbrev pub is_issue_of : SlotName → Mark → Bool
 is_issue_of s m = same_slot s m.slot && is_issue m.step

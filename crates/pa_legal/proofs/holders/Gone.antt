@@ -26,6 +26,7 @@ use Rattle.pa_legal.specs.Known.{AreKnown}
 use Rattle.pa_legal.proofs.Naming.{unnamed}
 use Rattle.pa_legal.proofs.Words.{same_word, goes_on, goes_past, leaves_free, only_issue}
 use Rattle.pa_legal.proofs.holders.Holding.{lines}
+use Rattle.pa_legal.proofs.holders.Maps.{new_map}
 use Rattle.pa_legal.proofs.holders.Records.{ReturnsMap, unmap_returns, Makes, issue_makes}
 
 -- an entry, and those behind it
@@ -62,7 +63,7 @@ module _ (supers partitions : ℕ) (ps : List Played) (pools : List PoolEntry) (
   issued_at_0 s y z r x among slot issue =
       let (q, member, mark) = mark_from ps x among in
       let made = issue_makes q x issue mark in
-      let new = a.new q member made.seen made.usable r.partition made.answer (subst (λ n. IsDirect roots n r.partition) (sym slot ∙ made.slot) r.direct) in
+      let new = new_map supers partitions ps pools roots a.journals a.pool unlike a.slots a.caches q member made.seen made.usable r.partition made.answer (subst (λ n. IsDirect roots n r.partition) (sym slot ∙ made.slot) r.direct) in
       ap number_of made.found ∙ new
 
   module _ (s : SlotName) (y : Played) (r : ReturnsMap roots y s) (member : Contains ps y) where

@@ -21,7 +21,8 @@ use Rattle.pa_legal.proofs.flow.Threads.{over, issues_at, returns_at, weigh}
 use Rattle.pa_legal.proofs.holders.Order.{move_made}
 use Rattle.pa_legal.proofs.holders.First.{IsFirst, IsNever, first_holder}
 use Rattle.pa_legal.proofs.holders.Alternating.{turn_of, away_at, alternate, moved_left}
-use Rattle.pa_legal.proofs.holders.Holding.{thread_at, thread_is, weighed, map_parts, over_some, lines, flow, less}
+use Rattle.pa_legal.proofs.Parts.{map_parts}
+use Rattle.pa_legal.proofs.holders.Holding.{thread_at, thread_is, weighed, over_some, lines, flow, less}
 
 -- each of these moves has a record
 abbrev AreMade : List Played → List Move → Type 0

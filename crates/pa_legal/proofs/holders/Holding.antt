@@ -28,40 +28,11 @@ use Rattle.pa_legal.proofs.Balance.{holders_balance}
 use Rattle.pa_legal.proofs.flow.Counts.{is_back, listed, listed_none}
 use Rattle.pa_legal.proofs.flow.Cuts.{caches_cut}
 use Rattle.pa_legal.proofs.flow.Threads.{over, issues_at, returns_at, all_flow, mine, weigh, weigh_cons, weigh_append, weigh_parts, weigh_zero, over_lines, mine_one}
+use Rattle.pa_legal.proofs.Parts.{parts_across, parts_after, map_parts, split_at}
+use Rattle.pa_legal.proofs.holders.Maps.{new_map}
 use Rattle.pa_legal.proofs.holders.Order.{InOrder, one_way, move_made, moves_order}
 use Rattle.pa_legal.proofs.holders.First.{IsFirst, IsNever, first_holder}
 use Rattle.pa_legal.proofs.holders.Alternating.{turn_of, away_at, alternate, moved_left}
-
--- ---- lists
-
-pub parts_across : {A : Type 0} (R : A → A → Type 0) (xs ys : List A) (x y : A) → AllPairs R (xs ++ ys) → Contains xs x → Contains ys y → R x y
-parts_across R [] ys x y h first second = absurd (not_in_none x first)
-parts_across R (z ∷ xs) ys x y h first second = elim (in_cases z x xs first) [
-  | inl e ↦ subst (λ u. R u y) e (pairs_head R z y (xs ++ ys) h (Contains-append_right xs ys y second))
-  | inr rest ↦ parts_across R xs ys x y (pairs_tail R z (xs ++ ys) h) rest second
-]
-
-parts_after : {A : Type 0} (R : A → A → Type 0) (xs ys : List A) → AllPairs R (xs ++ ys) → AllPairs R ys
-parts_after R [] ys h = h
-parts_after R (x ∷ xs) ys h = parts_after R xs ys (pairs_tail R x (xs ++ ys) h)
-
-pub map_parts : {A B : Type 0} (f : A → B) (xs : List A) (ys : List B) (y : B) (zs : List B) → map f xs ≡ ys ++ y ∷ zs →
-    (before : List A) × (x : A) × (after : List A) × (xs ≡ before ++ x ∷ after) × (map f before ≡ ys) × (f x ≡ y)
-map_parts f [] [] y zs e = absurd cc
-map_parts f [] (w ∷ ys) y zs e = absurd cc
-map_parts f (x ∷ xs) [] y zs e = ([], x, xs, refl, refl, cc)
-map_parts f (x ∷ xs) (w ∷ ys) y zs e =
-    let head : f x ≡ w = cc in
-    let rest : map f xs ≡ ys ++ y ∷ zs = cc in
-    let (before, z, after, parts, same, is) = map_parts f xs ys y zs rest in
-    (x ∷ before, z, after, ap (λ us. x ∷ us) parts, ap (λ v. v ∷ map f before) head ∙ ap (λ vs. w ∷ vs) same, is)
-
-pub split_at : {A : Type 0} (xs : List A) (x : A) → Contains xs x → (before rest : List A) × (xs ≡ before ++ x ∷ rest)
-split_at [] x among = absurd (not_in_none x among)
-split_at (y ∷ ys) x among = elim (in_cases y x ys among) [
-  | inl e ↦ ([], ys, ap (λ z. z ∷ ys) e)
-  | inr later ↦ let (before, rest, parts) = split_at ys x later in (y ∷ before, rest, ap (λ zs. y ∷ zs) parts)
-]
 
 -- ---- the thread of a line
 
@@ -147,7 +118,7 @@ module _ (supers partitions : ℕ) (ps : List Played) (pools : List PoolEntry) (
         let (last, to) = a.caches in
         let (mid, front, back) = caches_cut partitions roots no_caches xs rest last (subst (λ zs. CachesTo partitions roots no_caches zs last) parts to) in
         let all = all_flow partitions pools roots s k p t a.journals.journals own below xs no_caches mid
-        (λ x among. (a.new x (inside xs rest x parts among), a.unmaps x (inside xs rest x parts among))) (λ u q c n among. absurd (not_in_none n among)) front in
+        (λ x among. (new_map supers partitions ps pools roots a.journals a.pool lines a.slots a.caches x (inside xs rest x parts among), a.unmaps x (inside xs rest x parts among))) (λ u q c n among. absurd (not_in_none n among)) front in
         let out = over_lines is_out t roots s k p xs in
         let back' = over_lines is_back t roots s k p xs in
         let start = listed_none s k (no_caches t p) 0 59 (λ c. refl) in

@@ -26,7 +26,7 @@ use Rattle.pa_rules.proofs.Flowing.{class_leaves, map_leaves, no_issue}
 use Rattle.pa_rules.proofs.Known.{IsKnown, first_keeps, entry_of_act, all_known}
 use Rattle.pa_rules.proofs.FourPlaces.{HasLeft}
 use Rattle.pa_legal.proofs.flow.Cuts.{caches_cut}
-use Rattle.pa_legal.proofs.holders.Holding.{split_at}
+use Rattle.pa_legal.proofs.Parts.{split_at}
 
 -- the row of a record, with what its thread's lists were
 pub row_of : (partitions : ℕ) (roots : Journals) (ps : List Played) (x : Played) → AreCaches partitions roots ps → Contains ps x →

@@ -1,0 +1,73 @@
+-- The tallies of live and quarantined slots, as sums over the steps of some records.
+use Rattle.std.specs.Prelude.{◌≡◌, ◌≢◌, ℕ, ◌+◌, ◌==◌, ◌&&◌, Bool, true, false, not, if◌then◌else◌, List, Contains, AllPairs, sum_by}
+use Rattle.pa_machine.specs.declared.word.SlotName.{SlotName}
+use Rattle.pa_machine.specs.declared.word.Step.{Step}
+use Rattle.pa_machine.specs.declared.word.Step.TheVariants.{Issue, Copy, Reset, Free, Write}
+use Rattle.pa_machine.specs.Count.{held_of, refs_of}
+use Rattle.pa_machine.specs.Run.{Mark, Slots, IsLive, IsQuarantined}
+use Rattle.pa_record.specs.declared.pool.PoolEntry.{PoolEntry}
+use Rattle.pa_record.specs.declared.report.Tally.{Tally}
+use Rattle.pa_rules.specs.declared.played.Played.{Played}
+use Rattle.pa_rules.specs.Played.{marks_of}
+use Rattle.pa_rules.specs.Roots.{Journals, AreRoots, IsPoolOf}
+use Rattle.pa_rules.specs.Report.{HasSize, IsTally}
+use Rattle.pa_rules.specs.Flow.{at_step}
+
+-- the steps that make a slot live, and those that end that
+abbrev pub issues : Step → ℕ → Bool
+issues Issue w = true
+issues Copy w = false
+issues Reset w = false
+issues Free w = false
+issues Write w = false
+
+abbrev pub frees : Step → ℕ → Bool
+frees Issue w = false
+frees Copy w = false
+frees Reset w = false
+frees Free w = true
+frees Write w = false
+
+-- a free that finds raw_ptrs quarantines a slot, and the last reset of a freed one ends that
+abbrev pub enters : Step → ℕ → Bool
+enters Issue w = false
+enters Copy w = false
+enters Reset w = false
+enters Free w = not (refs_of w == 0)
+enters Write w = false
+
+abbrev pub leaves : Step → ℕ → Bool
+leaves Issue w = false
+leaves Copy w = false
+leaves Reset w = (held_of w == 0) && (refs_of w == 1)
+leaves Free w = false
+leaves Write w = false
+
+-- what the slots of those marks weigh together whose steps pass
+abbrev pub weight_of : (Step → ℕ → Bool) → (SlotName → ℕ) → List Mark → ℕ
+weight_of test weight ms = sum_by (λ (m : Mark). if at_step test m.found m.step then weight m.slot else 0) ms
+
+-- the partition and the length of each slot that was stepped on or looked at are these
+abbrev pub AreHomes : Journals → (SlotName → ℕ) → (SlotName → ℕ) → List Mark → Type 0
+AreHomes roots home size ms = (m : Mark) → Contains ms m → HasSize roots (home m.slot) m.slot (size m.slot)
+
+-- a slot of partition p weighs 1, or its bytes; another nothing
+abbrev pub one_of : (SlotName → ℕ) → ℕ → SlotName → ℕ
+one_of home p s = if home s == p then 1 else 0
+
+abbrev pub bytes_of : (SlotName → ℕ) → (SlotName → ℕ) → ℕ → SlotName → ℕ
+bytes_of home size p s = if home s == p then size s else 0
+
+-- the tally is what went in and didn't go out, in slots and in bytes
+pub record IsLeft (into out : Step → ℕ → Bool) (home size : SlotName → ℕ) (p : ℕ) (ms : List Mark) (tally : Tally) : Type 0 where
+  pub slots : tally.slots + weight_of out (one_of home p) ms ≡ weight_of into (one_of home p) ms
+  pub bytes : tally.bytes + weight_of out (bytes_of home size p) ms ≡ weight_of into (bytes_of home size p) ms
+
+-- So a tally is that of the live slots of a partition after some records, or of the quarantined ones.
+pub record TalliesFollow : Type 0 where
+  pub live : (supers partitions p : ℕ) (ps xs : List Played) (pools : List PoolEntry) (roots : Journals) (home size : SlotName → ℕ) (tally : Tally) →
+      AreRoots partitions ps pools roots → IsPoolOf supers ps pools roots → AllPairs (λ (x y : Played). x.line ≢ y.line) xs → Slots (marks_of xs) →
+      AreHomes roots home size (marks_of xs) → IsLeft issues frees home size p (marks_of xs) tally → IsTally IsLive roots xs p tally
+  pub quarantined : (supers partitions p : ℕ) (ps xs : List Played) (pools : List PoolEntry) (roots : Journals) (home size : SlotName → ℕ) (tally : Tally) →
+      AreRoots partitions ps pools roots → IsPoolOf supers ps pools roots → AllPairs (λ (x y : Played). x.line ≢ y.line) xs → Slots (marks_of xs) →
+      AreHomes roots home size (marks_of xs) → IsLeft enters leaves home size p (marks_of xs) tally → IsTally IsQuarantined roots xs p tally
