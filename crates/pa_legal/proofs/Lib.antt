@@ -9,3 +9,4 @@ pub mod Holdings
 pub mod Whole
 pub mod Standing
 pub mod tallies
+pub mod Converse

@@ -36,11 +36,11 @@ use Rattle.pa_legal.proofs.flow.Counts.{is_back}
 
 -- ---- how often a slot moves
 
-abbrev counted : (Way → Bool) → List Move → ℕ
+abbrev pub counted : (Way → Bool) → List Move → ℕ
 counted w ms = count_by (λ (m : Move). w m.way) ms
 
 -- 1 where the root has it
-abbrev had : Option ℕ → ℕ
+abbrev pub had : Option ℕ → ℕ
 had None = 0
 had (Some n) = 1
 
@@ -89,7 +89,7 @@ slots_counted w line way s (n ∷ ns) =
         flat true = refl
         flat false = refl
 
-acts_out : (line : ℕ) (s : SlotName) (act : RootAct) → counted is_out (filter (is_of s) (moves_by line act)) ≡ times s (leaves_by act)
+pub acts_out : (line : ℕ) (s : SlotName) (act : RootAct) → counted is_out (filter (is_of s) (moves_by line act)) ≡ times s (leaves_by act)
 acts_out line s (Fill class asked slots) = slots_counted is_out line Out s slots
 acts_out line s (Map asked slot len) = slots_counted is_out line Out s (record { slot = slot; number = 0 } ∷ [])
 acts_out line s (Full class asked) = refl
@@ -97,7 +97,7 @@ acts_out line s (Give slots) = slots_counted is_out line Back s slots
 acts_out line s (Unmap asked slot) = slots_counted is_out line Back s (slot ∷ [])
 acts_out line s Purge = refl
 
-acts_back : (line : ℕ) (s : SlotName) (act : RootAct) → counted is_back (filter (is_of s) (moves_by line act)) ≡ times s (comes_by act)
+pub acts_back : (line : ℕ) (s : SlotName) (act : RootAct) → counted is_back (filter (is_of s) (moves_by line act)) ≡ times s (comes_by act)
 acts_back line s (Fill class asked slots) = slots_counted is_back line Out s slots
 acts_back line s (Map asked slot len) = slots_counted is_back line Out s (record { slot = slot; number = 0 } ∷ [])
 acts_back line s (Full class asked) = refl
@@ -110,7 +110,7 @@ parts_counted w s e es =
     ap (counted w) (filter-append (is_of s) (moves_by e.line e.act) (all_moves es))
     ∙ sum_by-append (λ (m : Move). cond {A = ℕ} (w m.way) 1 0) (filter (is_of s) (moves_by e.line e.act)) (moves_of es s)
 
-journal_out : (s : SlotName) (es : List RootEntry) → counted is_out (moves_of es s) ≡ times_left s es
+pub journal_out : (s : SlotName) (es : List RootEntry) → counted is_out (moves_of es s) ≡ times_left s es
 journal_out s [] = refl
 journal_out s (e ∷ es) =
     let a = parts_counted is_out s e es in
@@ -118,7 +118,7 @@ journal_out s (e ∷ es) =
     let ih = journal_out s es in
     omega arith
 
-journal_back : (s : SlotName) (es : List RootEntry) → counted is_back (moves_of es s) ≡ times_back s es
+pub journal_back : (s : SlotName) (es : List RootEntry) → counted is_back (moves_of es s) ≡ times_back s es
 journal_back s [] = refl
 journal_back s (e ∷ es) =
     let a = parts_counted is_back s e es in

@@ -85,3 +85,7 @@ abbrev pub NewMaps : Type 0
 NewMaps =
     (supers partitions : ℕ) (ps : List Played) (pools : List PoolEntry) (roots : Journals) (x : Played) → AreRoots partitions ps pools roots → IsPoolOf supers ps pools roots →
     AllPairs (λ (x y : Played). x.line ≢ y.line) ps → Slots (marks_of ps) → AreCaches partitions roots ps → Contains ps x → IsNewMap roots x
+
+-- Nothing is asked in vain: of each legal run whose looks find words in use all this is known.
+abbrev pub LegalIsKnown : Type 0
+LegalIsKnown = (t : Trace) (r : Told) → IsLegalTold t r → ((x : Played) → Contains (records_of t r) x → FindsInUse x) → IsKnown t r (records_of t r)

@@ -1,5 +1,5 @@
 ghost use Rattle.pa_legal.specs.Kinds.{OneKind};
-ghost use Rattle.pa_legal.specs.Known.{HoldersFollow, LegalFollows, NewMaps};
+ghost use Rattle.pa_legal.specs.Known.{HoldersFollow, LegalFollows, LegalIsKnown, NewMaps};
 ghost use Rattle.pa_legal.specs.Numbers.{CachedOut, OutNone, Unnamed};
 ghost use Rattle.pa_legal.specs.Tallies.{TalliesFollow};
 ghost use Rattle.pa_legal.specs.Turns.{HoldersBalance};
@@ -51,4 +51,9 @@ pub fn tallies_follow()
 /// The law that the issue of a direct map's slot finds the number 0: it is made once.
 pub fn new_maps()
     ensures { NewMaps }
+{}
+
+/// The law that what is asked of a run's numbers holds of each legal run whose looks find words in use.
+pub fn legal_is_known()
+    ensures { LegalIsKnown }
 {}

@@ -32,11 +32,11 @@ hit_before : (at : Option ℕ) (w : Way) (n k : ℕ) → n ≡ k → HasAt at w 
 hit_before at Out n k e has = ap (λ o. away_at o k) has ∙ ap not (eq-eqb n k e)
 hit_before at Back n k e has = ap (λ o. away_at o k) has
 
-hit_after : (w : Way) (n k : ℕ) → n ≡ k → away_at (at_after w n) k ≡ is_out w
+pub hit_after : (w : Way) (n k : ℕ) → n ≡ k → away_at (at_after w n) k ≡ is_out w
 hit_after Out n k e = refl
 hit_after Back n k e = ap not (eq-eqb n k e)
 
-miss_same : (at : Option ℕ) (w : Way) (n k : ℕ) → (n ≡ k → ⊥) → HasAt at w n → away_at at k ≡ away_at (at_after w n) k
+pub miss_same : (at : Option ℕ) (w : Way) (n k : ℕ) → (n ≡ k → ⊥) → HasAt at w n → away_at at k ≡ away_at (at_after w n) k
 miss_same at Out n k ne has = ap (λ o. away_at o k) has ∙ ap not (ne_eqb n k ne)
 miss_same at Back n k ne has = ap (λ o. away_at o k) has ∙ sym (ap not (ne_eqb n k ne))
 

@@ -60,7 +60,7 @@ module _ (ps : List Played) (lines : AllPairs OtherRecord ps) where
       let last = holder_after (makes m.way (thread_at ps m.line)) (map (turn_of (thread_at ps)) ms) in
       (x, of, subst (λ z. HolderAfter ps z ms last) same (moves_end (makes m.way (thread_at ps m.line)) ms (λ n among. made n (later_in m n ms among))))
 
-first_away : (h : Holder) (s : SlotName) (k : ℕ) (ps : List Played) → IsFirstHolder ps s k h → is_with h ≡ away_at (Some 0) k
+pub first_away : (h : Holder) (s : SlotName) (k : ℕ) (ps : List Played) → IsFirstHolder ps s k h → is_with h ≡ away_at (Some 0) k
 first_away h s k ps (inl (none, root)) = rw (root, eq-eqb 0 k (sym none)) refl
 first_away h s k ps (inr (x, (among, m, step, marked, slot, steps, returning, number), thread)) = rw (thread, ne_eqb 0 k (λ e. omega arith)) refl
 
