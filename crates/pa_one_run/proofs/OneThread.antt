@@ -34,8 +34,9 @@ use Rattle.pa_rules.proofs.Marking.{mark_line}
 use Rattle.pa_rules.proofs.Numbering.{lines_rise}
 use Rattle.pa_rules.proofs.Running.{mark_from, run_rises, made_some}
 use Rattle.pa_rules.proofs.Within.{records_within}
+use Rattle.pa_legal.proofs.Words.{same_word}
 use Rattle.pa_one_run.proofs.Filed.{word_from}
-use Rattle.pa_one_run.proofs.words.Marks.{Rises, marks_rise, same_word}
+use Rattle.pa_one_run.proofs.words.Marks.{Rises, marks_rise}
 use Rattle.pa_one_run.proofs.words.Fronts.{FindsLeft, front_of, steps_at}
 use Rattle.pa_one_run.proofs.lines.Lists.{pairs_across, pairs_after, parts_at, in_front, in_middle, in_one}
 use Rattle.pa_one_run.proofs.lines.Sorting.{rises_by, sorted_by}

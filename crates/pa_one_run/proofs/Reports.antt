@@ -20,17 +20,14 @@ use Rattle.pa_rules.proofs.FourPlaces.{one_until}
 use Rattle.pa_rules.proofs.Numbering.{rising_differ}
 use Rattle.pa_rules.proofs.ByLines.{is_until}
 use Rattle.pa_one_run.proofs.Filed.{Parts, IsFiled}
-use Rattle.pa_one_run.proofs.roots.Classes.{one_class, class_or_direct, one_map}
+use Rattle.pa_one_run.proofs.roots.Classes.{kind}
 use Rattle.pa_one_run.proofs.lines.Lists.{map_tells, one_sum}
 use Rattle.pa_one_run.proofs.placing.Placing.{row_once}
 
 -- ---- the size of a slot
 
 one_size : (a : Parts) (p : ℕ) (s : SlotName) (m n : ℕ) → IsFiled a → HasSize a.roots p s m → HasSize a.roots p s n → m ≡ n
-one_size a p s m n h (inl (c, of, is)) (inl (d, of', is')) = is ∙ ap slot_of (one_class a s p p c d h of of').1 ∙ sym is'
-one_size a p s m n h (inl (c, of, is)) (inr (e, asked, among, act)) = absurd (class_or_direct a s p p c h of (e, asked, n, among, act))
-one_size a p s m n h (inr (e, asked, among, act)) (inl (d, of, is)) = absurd (class_or_direct a s p p d h of (e, asked, m, among, act))
-one_size a p s m n h (inr (e, asked, among, act)) (inr (f, other, among', act')) = one_map a s p m n e f h (asked, among, act) (other, among', act')
+one_size a p s m n h x y = ((kind a h s).size p p m n x y).1
 
 one_tally : (a : Parts) (P : ℕ → Type 0) (xs : List Played) (p : ℕ) (t u : Tally) → IsFiled a → IsTally P a.roots xs p t → IsTally P a.roots xs p u → t ≡ u
 one_tally a P xs p t u h (slots, sizes, are, count, bytes) (others', more, are', count', bytes') =

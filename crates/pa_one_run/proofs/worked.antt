@@ -28,3 +28,4 @@ pub mod WritesFiled
 pub mod Purge
 pub mod PurgeFiled
 pub mod Only
+pub mod Knowing

@@ -4,3 +4,4 @@ pub mod WorkedWrites
 pub mod WorkedPurge
 pub mod WorkedOnly
 pub mod WorkedHeld
+pub mod WorkedKnown

@@ -1,6 +1,7 @@
 ghost use Rattle.pa_one_run.specs.Laws.{AtMostOneFileRun, OneThreadInFileOrder};
 ghost use Rattle.pa_one_run.specs.Worked.{DirectMapIsFiled, DirectMapIsTold, TwoThreadsAreLegal, TwoThreadsAreTold};
 ghost use Rattle.pa_one_run.specs.WorkedHeld.{MapIsHeld, WordsAreHeld};
+ghost use Rattle.pa_one_run.specs.WorkedKnown.{DirectMapIsKnown, TwoThreadsAreKnown};
 ghost use Rattle.pa_one_run.specs.WorkedOnly.{OnlyDirectMaps, OnlyPurge, OnlyWrites};
 ghost use Rattle.pa_one_run.specs.WorkedPurge.{PurgeIsFiled, PurgeIsTold};
 ghost use Rattle.pa_one_run.specs.WorkedWrites.{WritesAreFiled, WritesAreTold};
@@ -57,4 +58,11 @@ pub fn worked_runs_are_the_only_ones()
 pub fn worked_words_are_held()
     ensures words { WordsAreHeld }
     ensures map { MapIsHeld }
+{}
+
+/// All that is asked of a run to be shown legal is known of two worked runs, one with direct maps that come and go and one
+/// of two threads: so the laws that take it speak of something.
+pub fn worked_runs_are_known()
+    ensures direct_maps { DirectMapIsKnown }
+    ensures threads { TwoThreadsAreKnown }
 {}

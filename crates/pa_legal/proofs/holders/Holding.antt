@@ -28,7 +28,7 @@ use Rattle.pa_legal.proofs.Balance.{holders_balance}
 use Rattle.pa_legal.proofs.flow.Counts.{is_back, listed, listed_none}
 use Rattle.pa_legal.proofs.flow.Cuts.{caches_cut}
 use Rattle.pa_legal.proofs.flow.Threads.{over, issues_at, returns_at, all_flow, mine, weigh, weigh_cons, weigh_append, weigh_parts, weigh_zero, over_lines, mine_one}
-use Rattle.pa_legal.proofs.Parts.{parts_across, parts_after, map_parts, split_at}
+use Rattle.pa_legal.proofs.Parts.{pairs_across, pairs_after, map_parts, parts_at}
 use Rattle.pa_legal.proofs.holders.Maps.{new_map}
 use Rattle.pa_legal.proofs.holders.Order.{InOrder, one_way, move_made, moves_order}
 use Rattle.pa_legal.proofs.holders.First.{IsFirst, IsNever, first_holder}
@@ -142,9 +142,9 @@ module _ (supers partitions : ℕ) (ps : List Played) (pools : List PoolEntry) (
         -- no later record of the thread moved it before
         none_behind : weigh is_back x.thread rest before ≡ 0
         none_behind = weigh_zero is_back x.thread rest before (λ n y here there hit thread line.
-            parts_across (InOrder ps) before (m ∷ after) n m order here (first_in m after) y x
+            pairs_across (InOrder ps) before (m ∷ after) n m order here (first_in m after) y x
             (subst (λ zs. Contains zs y) (sym cut) (Contains-append_right front (x ∷ rest) y (later_in x y rest there)), line) of
-            (inl (sym thread, pairs_head Earlier x y rest (parts_after Earlier front (x ∷ rest) rises) there)))
+            (inl (sym thread, pairs_head Earlier x y rest (pairs_after Earlier front (x ∷ rest) rises) there)))
 
         -- none up to its own took it out after
         none_after : weigh is_out x.thread (front ++ x ∷ []) after ≡ 0
@@ -152,9 +152,9 @@ module _ (supers partitions : ℕ) (ps : List Played) (pools : List PoolEntry) (
             let member : Contains (moves_at (roots p) s k) n = subst (λ zs. Contains zs n) (sym parts) (Contains-append_right before (m ∷ after) n (later_in m n after here)) in
             elim (Contains-append_cases front (x ∷ []) y there) [
               | inl earlier ↦
-                  pairs_head (InOrder ps) m n after (parts_after (InOrder ps) before (m ∷ after) order) here x y of
+                  pairs_head (InOrder ps) m n after (pairs_after (InOrder ps) before (m ∷ after) order) here x y of
                   (subst (λ zs. Contains zs y) (sym cut) (Contains-append_left front (x ∷ rest) y earlier), line)
-                  (inl (thread, parts_across Earlier front (x ∷ rest) y x rises earlier (first_in x rest)))
+                  (inl (thread, pairs_across Earlier front (x ∷ rest) y x rises earlier (first_in x rest)))
               | inr last ↦ elim (in_cases x y [] last) [
                 | inl e ↦ one_way partitions ps pools roots a.journals lines p s k m n among member back (out_is n.way hit) (sym of.1 ∙ ap (λ (z : Played). z.line) e ∙ line)
                 | inr none ↦ not_in_none y none
@@ -193,6 +193,6 @@ module _ (supers partitions : ℕ) (ps : List Played) (pools : List PoolEntry) (
       pub less : weigh is_back (thread_at ps m.line) ps before < over (thread_at ps m.line) (returns_at s k) ps + weigh is_out (thread_at ps m.line) ps before
       less =
           let (x, of, does) = move_made partitions ps pools roots a.journals lines p s k m among in
-          let (front, rest, cut) = split_at ps x of.0 in
+          let (front, rest, cut) = parts_at ps x of.0 in
           let same : x.thread ≡ thread_at ps m.line = sym (thread_is ps x lines of.0) ∙ ap (thread_at ps) of.1 in
           subst (λ t. weigh is_back t ps before < over t (returns_at s k) ps + weigh is_out t ps before) same (less_by x of front rest cut)

@@ -26,13 +26,13 @@ use Rattle.pa_rules.proofs.Flowing.{class_leaves, map_leaves, no_issue}
 use Rattle.pa_rules.proofs.Known.{IsKnown, first_keeps, entry_of_act, all_known}
 use Rattle.pa_rules.proofs.FourPlaces.{HasLeft}
 use Rattle.pa_legal.proofs.flow.Cuts.{caches_cut}
-use Rattle.pa_legal.proofs.Parts.{split_at}
+use Rattle.pa_legal.proofs.Parts.{parts_at}
 
 -- the row of a record, with what its thread's lists were
 pub row_of : (partitions : ℕ) (roots : Journals) (ps : List Played) (x : Played) → AreCaches partitions roots ps → Contains ps x →
     (cache after : Cache) × IsKnown roots cache × CacheRow partitions roots x x.answer cache after
 row_of partitions roots ps x (last, to) among =
-    let (before, rest, parts) = split_at ps x among in
+    let (before, rest, parts) = parts_at ps x among in
     let (mid, front, (next, row, back)) = caches_cut partitions roots no_caches before (x ∷ rest) last (subst (λ zs. CachesTo partitions roots no_caches zs last) parts to) in
     (mid x.thread, next, all_known partitions roots before no_caches mid (λ t q c n none. absurd (not_in_none n none)) front x.thread, row)
 

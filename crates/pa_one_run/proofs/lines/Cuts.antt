@@ -13,6 +13,7 @@ use Rattle.pa_rules.specs.Roots.{Journals, IsOfLine, MakesEntry}
 use Rattle.pa_rules.specs.Caches.{Cache, Caches, CacheRow, CachesTo, no_caches, with_cache}
 use Rattle.pa_rules.proofs.ByLines.{same_record}
 use Rattle.pa_rules.proofs.Numbering.{rising_differ}
+use Rattle.pa_legal.proofs.flow.Cuts.{caches_cut}
 use Rattle.pa_one_run.proofs.lines.Lists.{get_of, in_one, pairs_across, pairs_after}
 use Rattle.pa_one_run.proofs.Filed.{Parts, IsFiled, Earlier}
 
@@ -107,12 +108,6 @@ recorded_cases a n m before rest cut late line (x, (among, same)) =
     ]
 
 -- ---- the caches at a cut
-
-pub caches_cut : (partitions : ℕ) (roots : Journals) (all : Caches) (xs ys : List Played) (after : Caches) → CachesTo partitions roots all (xs ++ ys) after →
-    (mid : Caches) × CachesTo partitions roots all xs mid × CachesTo partitions roots mid ys after
-caches_cut partitions roots all [] ys after to = (all, refl, to)
-caches_cut partitions roots all (x ∷ xs) ys after (next, row, to) =
-    let (mid, front, back) = caches_cut partitions roots (with_cache all x.thread next) xs ys after to in (mid, (next, row, front), back)
 
 -- one record more
 pub caches_snoc : (partitions : ℕ) (roots : Journals) (first all : Caches) (before : List Played) (x : Played) (next : Cache) → CachesTo partitions roots first before all →

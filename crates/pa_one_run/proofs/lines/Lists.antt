@@ -8,6 +8,7 @@ use Rattle.std.proofs.lemmas.List.Sums.{sum_by-cons}
 use Rattle.std.proofs.lemmas.Option.{slice_get_within, get_or_from_slice_get, slice_get-get_or}
 use Rattle.pa_record.proofs.Members.{not_in_none, first_in, later_in, in_cases, of_some, not_some}
 use Rattle.pa_record.proofs.Pairs.{pairs_none, pairs_cons, pairs_tail, pairs_head}
+pub use Rattle.pa_legal.proofs.Parts.{parts_at, pairs_across, pairs_after}
 
 -- ---- members
 
@@ -38,14 +39,6 @@ in_one x y among = elim (in_cases x y [] among) [
   | inr none ↦ absurd (not_in_none y none)
 ]
 
--- what stands before a member and behind it
-pub parts_at : {A : Type 0} (xs : List A) (x : A) → Contains xs x → (front back : List A) × (xs ≡ front ++ x ∷ back)
-parts_at [] x among = absurd (not_in_none x among)
-parts_at (y ∷ ys) x among = elim (in_cases y x ys among) [
-  | inl same ↦ ([], ys, ap (λ z. z ∷ ys) same)
-  | inr rest ↦ let (front, back, parts) = parts_at ys x rest in (y ∷ front, back, ap (λ zs. y ∷ zs) parts)
-]
-
 -- ---- parts
 
 pub both_parts : {A : Type 0} (xs ys us vs : List A) → xs ≡ us → ys ≡ vs → xs ++ ys ≡ us ++ vs
@@ -62,17 +55,6 @@ all_front P (x ∷ xs) ys h = All-cons P x xs (All-head P x (xs ++ ys) h) (all_f
 pub pairs_front : {A : Type 0} (R : A → A → Type 0) (xs ys : List A) → AllPairs R (xs ++ ys) → AllPairs R xs
 pairs_front R [] ys h = pairs_none R
 pairs_front R (x ∷ xs) ys h = pairs_cons R x xs (λ y among. pairs_head R x y (xs ++ ys) h (Contains-append_left xs ys y among)) (pairs_front R xs ys (pairs_tail R x (xs ++ ys) h))
-
-pub pairs_across : {A : Type 0} (R : A → A → Type 0) (xs ys : List A) (x y : A) → AllPairs R (xs ++ ys) → Contains xs x → Contains ys y → R x y
-pairs_across R [] ys x y h first second = absurd (not_in_none x first)
-pairs_across R (z ∷ xs) ys x y h first second = elim (in_cases z x xs first) [
-  | inl e ↦ subst (λ u. R u y) e (pairs_head R z y (xs ++ ys) h (Contains-append_right xs ys y second))
-  | inr rest ↦ pairs_across R xs ys x y (pairs_tail R z (xs ++ ys) h) rest second
-]
-
-pub pairs_after : {A : Type 0} (R : A → A → Type 0) (xs ys : List A) → AllPairs R (xs ++ ys) → AllPairs R ys
-pairs_after R [] ys h = h
-pairs_after R (x ∷ xs) ys h = pairs_after R xs ys (pairs_tail R x (xs ++ ys) h)
 
 -- ---- filters and maps
 

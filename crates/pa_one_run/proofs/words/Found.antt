@@ -18,7 +18,8 @@ use Rattle.pa_rules.specs.Holders.{Holder, IsFirstHolder}
 use Rattle.pa_rules.proofs.Phases.{mark_in}
 use Rattle.pa_one_run.proofs.Filed.{Parts, IsFiled, stepped_by, word_from, word_after}
 use Rattle.pa_one_run.proofs.words.Fronts.{finds_by_numbers, word_at, word_beside, IsFront, front_of}
-use Rattle.pa_one_run.proofs.words.Marks.{same_word, marks_rise, goes_on}
+use Rattle.pa_legal.proofs.Words.{same_word, leaves_free}
+use Rattle.pa_one_run.proofs.words.Marks.{marks_rise, goes_on}
 use Rattle.pa_one_run.proofs.lines.Lists.{in_middle}
 
 -- ---- the records before one
@@ -80,14 +81,6 @@ word_other before x m s is other = ap (λ ms. word_from ms s 0) (marks_more befo
 
 pub word_here : (before : List Played) (x : Played) (m : Mark) → mark_of x ≡ Some m → word_after (before ++ x ∷ []) m.slot ≡ stepped_by m.step (word_after before m.slot)
 word_here before x m is = ap (λ ms. word_from ms m.slot 0) (marks_more before x m is) ∙ word_at (marks_of before) m
-
--- a step that returns a slot leaves it free
-leaves_free : (p : Step) (w : ℕ) → CanStep p w → IsReturning p w → (held_of (stepped p w) ≡ 0) × (refs_of (stepped p w) ≡ 0)
-leaves_free Issue w can returning = absurd returning
-leaves_free Copy w can returning = absurd returning
-leaves_free Reset w can (free, last) = let (a, b) = stepped_is Reset w can in (b ∙ free, omega arith)
-leaves_free Free w can (held, none) = let (a, b, c) = stepped_is Free w can in (b, a ∙ none)
-leaves_free Write w can returning = absurd returning
 
 -- where a slot has a first holder at a number, the word that a record finds with that number is free
 pub held_free : (a : Parts) (s : SlotName) (k : ℕ) (holder : Holder) (n : Mark) → IsFiled a → IsFirstHolder a.ps s k holder → Contains (marks_of a.ps) n → n.slot ≡ s → number_of n.found ≡ k →

@@ -12,8 +12,9 @@ use Rattle.pa_machine.proofs.Runs.{HasRuns, runs_none, runs_same, runs_look, run
 use Rattle.pa_record.proofs.Members.{first_in, later_in, in_cases}
 use Rattle.pa_record.proofs.Pairs.{pairs_head}
 use Rattle.pa_rules.specs.FileOrder.{is_step_before, steps_before, AreNumbersInFileOrder}
+use Rattle.pa_legal.proofs.Words.{same_word}
 use Rattle.pa_one_run.proofs.Filed.{stepped_by, word_from}
-use Rattle.pa_one_run.proofs.words.Marks.{Rises, goes_on, same_word}
+use Rattle.pa_one_run.proofs.words.Marks.{Rises, goes_on}
 use Rattle.pa_one_run.proofs.lines.Lists.{pairs_across, in_middle, pairs_after}
 
 -- ---- the words of the first marks

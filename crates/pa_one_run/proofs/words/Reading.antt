@@ -19,7 +19,7 @@ use Rattle.pa_rules.proofs.Running.{first_line}
 use Rattle.pa_rules.proofs.Phases.{mark_in}
 use Rattle.pa_one_run.proofs.Filed.{Parts, IsFiled}
 use Rattle.pa_one_run.proofs.lines.Lists.{in_middle, in_front}
-use Rattle.pa_one_run.proofs.words.Marks.{same_word}
+use Rattle.pa_legal.proofs.Words.{same_word}
 use Rattle.pa_one_run.proofs.lines.Cuts.{same_played, early_in, cut_here}
 
 -- ---- a record that found a lesser number of the slot stands before
