@@ -10,3 +10,5 @@ pub mod Lengths
 pub mod Firsts
 pub mod Early
 pub mod Found
+pub mod Drawn
+pub mod Generated

@@ -4,3 +4,4 @@ pub mod Faults
 pub mod FaultText
 pub mod Reading
 pub mod Cut
+pub mod Generated

@@ -1,9 +1,10 @@
-ghost use Rattle.std.specs.Prelude.{◌≡◌, ℕ, ◌++◌, List, length};
+ghost use Rattle.std.specs.Prelude.{◌≡◌, ℕ, ◌+◌, ◌*◌, ◌≤◌, ◌++◌, List, [], ◌∷◌, length};
 ghost use Rattle.pa_trace.specs.declared.fault.TraceFault.{TraceFault};
 ghost use Rattle.pa_trace.specs.declared.script.Trace.{Trace};
 ghost use Rattle.pa_trace.specs.Grammar.{IsTraceText, IsSameTrace};
 ghost use Rattle.pa_trace.specs.Limits.{IsWithinLimits, IsInput};
 ghost use Rattle.pa_trace.specs.Faults.{IsFirstFault, IsFault};
+ghost use Rattle.pa_trace.specs.Generated.{drawn_words, IsGeneratedOf, KeepsCellsApart};
 
 /// A trace has one text, and a text belongs to one trace, also where numbers pass their limits.
 pub fn one_text()
@@ -26,4 +27,17 @@ pub fn early_fault()
 /// The text of a trace within the limits is an input, so what is written is read again.
 pub fn short_text()
     ensures { (t : Trace) (text : List ℕ) → IsWithinLimits t → IsTraceText t text → IsInput t text }
+{}
+
+/// A generated trace has 81 lines a round, the head included, and is within the limits, and no cell is touched by two threads
+/// in one phase, whatever words were drawn.
+pub fn generated_lines_fit()
+    ensures lines { (words : List ℕ) (rounds : ℕ) (t : Trace) → 1 ≤ rounds → IsGeneratedOf words rounds t → length t.lines + 1 ≡ 81 * rounds }
+    ensures limits { (words : List ℕ) (rounds : ℕ) (t : Trace) → 1 ≤ rounds → rounds ≤ 800 → IsGeneratedOf words rounds t → IsWithinLimits t }
+    ensures cells { (words : List ℕ) (rounds : ℕ) (t : Trace) → 1 ≤ rounds → IsGeneratedOf words rounds t → KeepsCellsApart t.lines }
+{}
+
+/// The first three words of key 7.
+pub fn first_draws()
+    ensures { drawn_words 7 3 ≡ 0x840d99ca ∷ 0x12c757de ∷ 0x7481b420 ∷ [] }
 {}

@@ -3,6 +3,7 @@
 
 mod fault;
 mod field;
+mod generator;
 mod laws;
 mod line;
 mod op;
@@ -11,7 +12,8 @@ mod script;
 mod writing;
 
 pub use fault::TraceFault;
-pub use laws::{early_fault, one_answer, one_text, short_text};
+pub use generator::generate;
+pub use laws::{early_fault, first_draws, generated_lines_fit, one_answer, one_text, short_text};
 pub use reading::read_trace;
 pub use script::{Line, Lines, Op, Trace};
 pub use writing::write_trace;
