@@ -9,6 +9,7 @@ use Rattle.pa_trace.specs.Faults.{IsFirstFault}
 use Rattle.pa_trace.proofs.Firsts.{one_fault, no_fault_of_input}
 use Rattle.pa_cli.specs.declared.command.Command.{Command}
 use Rattle.pa_cli.specs.declared.command.Command.TheVariants.{Model, Layout, Help, Version}
+use Rattle.pa_cli.specs.declared.command.Command.TheVariants as commands
 use Rattle.pa_cli.specs.declared.status.Status.{Status}
 use Rattle.pa_cli.specs.declared.status.Status.TheVariants.{Done, BadCommand, BadLine, Limit, ReadFault, WriteFault, OutOfMemory}
 use Rattle.pa_cli.specs.Call.{Stream, Call}
@@ -60,6 +61,7 @@ model_output : (command : Command) (words : List (List ℕ)) (before after : Str
     → IsOutputOf command before after text → IsModelOutput before after text
 model_output Model words before after text model asked h = h
 model_output (Layout size) words before after text model asked h = absurd cc
+model_output (commands.Trace rounds key) words before after text model asked h = absurd cc
 model_output Help words before after text model asked h = absurd cc
 model_output Version words before after text model asked h = absurd cc
 

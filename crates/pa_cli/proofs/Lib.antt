@@ -2,3 +2,4 @@ mod Words
 mod Given
 mod Refusing
 mod Ending
+mod Parsed

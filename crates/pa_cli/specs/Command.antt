@@ -2,7 +2,7 @@
 use Rattle.std.specs.Prelude.{◌≡◌, ℕ, ◌≤◌, List, [], ◌∷◌, codes}
 use Rattle.pa_text.specs.Numeral.{IsNumeral}
 use Rattle.pa_cli.specs.declared.command.Command.{Command}
-use Rattle.pa_cli.specs.declared.command.Command.TheVariants.{Model, Layout, Help, Version}
+use Rattle.pa_cli.specs.declared.command.Command.TheVariants.{Model, Layout, Trace, Help, Version}
 
 -- the one word `model`
 abbrev pub IsModel : List (List ℕ) → Type 0
@@ -12,6 +12,12 @@ IsModel words = words ≡ codes "model" ∷ []
 abbrev pub IsLayout : ℕ → List (List ℕ) → Type 0
 IsLayout size words =
     (number : List ℕ) × (words ≡ codes "layout" ∷ number ∷ []) × IsNumeral size number × (size ≤ 4294967295)
+
+-- the word `trace`, the rounds, 1 to 800, and a key of 64 bits, both in decimal
+abbrev pub IsTrace : ℕ → ℕ → List (List ℕ) → Type 0
+IsTrace rounds key words =
+    (many number : List ℕ) × (words ≡ codes "trace" ∷ many ∷ number ∷ [])
+    × IsNumeral rounds many × (1 ≤ rounds) × (rounds ≤ 800) × IsNumeral key number × (key ≤ 18446744073709551615)
 
 -- the one word `--help`, and the one word `--version`
 abbrev pub IsHelp : List (List ℕ) → Type 0
@@ -24,8 +30,13 @@ IsVersion words = words ≡ codes "--version" ∷ []
 abbrev pub AsksFor : Command → List (List ℕ) → Type 0
 AsksFor Model words = IsModel words
 AsksFor (Layout size) words = IsLayout size words
+AsksFor (Trace rounds key) words = IsTrace rounds key words
 AsksFor Help words = IsHelp words
 AsksFor Version words = IsVersion words
+
+-- some words ask for this command
+abbrev pub IsAsked : Command → Type 0
+IsAsked command = (words : List (List ℕ)) × AsksFor command words
 
 -- the words are those of one of the commands
 abbrev pub IsCommand : List (List ℕ) → Type 0

@@ -1,7 +1,9 @@
 -- The output of each command.
 use Rattle.std.specs.Prelude.{◌≡◌, ℕ, List}
 use Rattle.pa_trace.specs.declared.script.Trace.{Trace}
+use Rattle.pa_trace.specs.Grammar.{IsTraceText}
 use Rattle.pa_trace.specs.Limits.{IsInput}
+use Rattle.pa_trace.specs.Generated.{IsGenerated}
 use Rattle.pa_record.specs.declared.entry.Entry.{Entry}
 use Rattle.pa_record.specs.declared.history.CellEntry.{CellEntry}
 use Rattle.pa_rules.specs.declared.slot_word.SlotWord.{SlotWord}
@@ -10,6 +12,7 @@ use Rattle.pa_plain.specs.PlainText.{plain_text}
 use Rattle.pa_cli.specs.Call.{Stream, Call, IsReadWhole}
 use Rattle.pa_cli.specs.declared.command.Command.{Command}
 use Rattle.pa_cli.specs.declared.command.Command.TheVariants.{Model, Layout, Help, Version}
+use Rattle.pa_cli.specs.declared.command.Command.TheVariants as commands
 use Rattle.pa_cli.specs.Command.{AsksFor}
 use Rattle.pa_cli.specs.LayoutText.{IsLayoutText}
 use Rattle.pa_cli.specs.HelpText.{help_text, version_text}
@@ -34,10 +37,17 @@ pub record IsModelOutput (before after : Stream) (text : List ℕ) : Type 0 wher
   pub read : IsReadWhole before after bytes
   pub played : IsPlayedText bytes text
 
+-- the text is that of the generated trace of so many rounds and this key
+pub record IsGeneratedText (rounds key : ℕ) (text : List ℕ) : Type 0 where
+  pub trace : Trace
+  pub generated : IsGenerated rounds key trace
+  pub printed : IsTraceText trace text
+
 -- the output of each command, by what the source tells before it and after it
 abbrev pub IsOutputOf : Command → Stream → Stream → List ℕ → Type 0
 IsOutputOf Model before after text = IsModelOutput before after text
 IsOutputOf (Layout size) before after text = IsLayoutText size text
+IsOutputOf (commands.Trace rounds key) before after text = IsGeneratedText rounds key text
 IsOutputOf Help before after text = text ≡ help_text
 IsOutputOf Version before after text = text ≡ version_text
 

@@ -1,4 +1,5 @@
-ghost use Rattle.std.specs.Prelude.{◌≡◌, ◌++◌, decimal, IfOk, OnOk};
+ghost use Rattle.std.specs.Prelude.{◌≡◌, ◌≤◌, ◌++◌, decimal, IfOk, OnOk};
+ghost use Rattle.pa_cli.specs.Output.{IsGeneratedText};
 ghost use Rattle.pa_cli.specs.LayoutText.{IsLayoutText, class_line, direct_line};
 ghost use Rattle.pa_cli.specs.HelpText.{help_text, version_text};
 
@@ -6,6 +7,7 @@ use pa_buckets::{Class, class_of, raw_of, slot_size, span_of};
 use pa_direct::{GREATEST_SIZE, Shape, shape};
 use pa_machine::OutOfMemory;
 use pa_text::{push_bytes, push_number};
+use pa_trace::{generate, write_trace};
 use std::alloc::Global;
 
 // The most bytes of a line of `layout`, for the room that is made ahead.
@@ -15,10 +17,11 @@ const LINE_BYTES: usize = 80;
 const HELP: &[u8] = b"usage: partalloc COMMAND
 
 commands
-  model        read a trace from standard input, play its lines in their order, print every answer and the slots
-  layout SIZE  print the size class or the direct map of a request of SIZE bytes, 0 to 4294967295
-  --help       print this text
-  --version    print the name and the version
+  model             read a trace from standard input, play its lines in their order, print every answer and the slots
+  layout SIZE       print the size class or the direct map of a request of SIZE bytes, 0 to 4294967295
+  trace ROUNDS KEY  print a trace of ROUNDS rounds, 1 to 800, with random numbers by KEY, 0 to 18446744073709551615
+  --help            print this text
+  --version         print the name and the version
 
 status, and what it prints on standard error
   0            done
@@ -67,6 +70,16 @@ pub fn write_layout(alloc: Global, size: u32) -> Result<Vec<u8>, OutOfMemory>
         push_direct(&mut out, shape)?;
     }
     Ok(out)
+}
+
+// The text of the generated trace of so many rounds and this key.
+pub fn write_generated(alloc: Global, rounds: u32, key: u64) -> Result<Vec<u8>, OutOfMemory>
+    requires some { 1 ≤ rounds }
+    requires few { rounds ≤ 800 }
+    ensures { IfOk result (λ text. IsGeneratedText rounds key text.items) }
+{
+    let trace = generate(alloc, rounds, key)?;
+    write_trace(alloc, &trace)
 }
 
 // Appends the line of a class.

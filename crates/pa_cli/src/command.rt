@@ -4,6 +4,9 @@ ghost use Rattle.pa_cli.specs.Command.{AsksFor, IsCommand};
 
 use pa_text::number_at;
 
+// The most rounds of a generated trace.
+const MOST_ROUNDS: u32 = 800;
+
 /// What the program is asked to do.
 #[derive(Clone, Copy, Debug, PartialEq, Eq)]
 pub enum Command {
@@ -11,6 +14,8 @@ pub enum Command {
     Model,
     /// Prints where a request of so many bytes is placed: its size class or its direct map.
     Layout(u32),
+    /// Prints the generated trace of so many rounds, 1 to 800, by the random numbers of this key.
+    Trace { rounds: u32, key: u64 },
     /// Prints the commands and what they answer.
     Help,
     /// Prints the program's name and version.
@@ -26,6 +31,7 @@ impl Command {
         match words {
             [word] => Command::of_one(word),
             [word, size] => Command::of_two(word, size),
+            [word, rounds, key] => Command::of_three(word, rounds, key),
             _ => None,
         }
     }
@@ -53,6 +59,43 @@ impl Command {
         } else {
             None
         }
+    }
+
+    // The command that three words ask for: `trace`, the rounds and a key.
+    fn of_three(word: &String, rounds: &String, key: &String) -> Option<Command>
+        ensures asked { IfSome result (λ command. AsksFor command (string_bytes word.now ∷ string_bytes rounds.now ∷ string_bytes key.now ∷ [])) }
+        ensures none { IfNone result (IsCommand (string_bytes word.now ∷ string_bytes rounds.now ∷ string_bytes key.now ∷ []) → ⊥) }
+    {
+        if word.as_str() == "trace" {
+            Some(Command::Trace {
+                rounds: rounds_in(rounds)?,
+                key: whole_key(key)?,
+            })
+        } else {
+            None
+        }
+    }
+}
+
+// The rounds that the word spells. `None` exactly where it spells no number from 1 to 800.
+fn rounds_in(word: &String) -> Option<u32>
+    ensures found { IfSome result (λ n. IsNumeral n (string_bytes word.now) × (1 ≤ n) × (n ≤ 800)) }
+    ensures none { IfNone result ((n : ℕ) → IsNumeral n (string_bytes word.now) → 1 ≤ n → n ≤ 800 → ⊥) }
+{
+    match whole_number(word) {
+        Some(rounds) if 1 <= rounds && rounds <= MOST_ROUNDS => Some(rounds),
+        _ => None,
+    }
+}
+
+// The number that the word spells. `None` exactly where it spells none of 64 bits.
+fn whole_key(word: &String) -> Option<u64>
+    ensures found { IfSome result (λ n. IsNumeral n (string_bytes word.now)) }
+    ensures none { IfNone result ((n : ℕ) → IsNumeral n (string_bytes word.now) → n ≤ 18446744073709551615 → ⊥) }
+{
+    match number_at(word.as_bytes()) {
+        Some((_, rest)) if rest.is_empty() => word.as_str().parse::<u64>().ok(),
+        _ => None,
     }
 }
 

@@ -104,7 +104,7 @@ fn a_third_write_that_fails_leaves_the_first_two(rt: HostRuntime) -> Result<(), 
 
 #[test]
 fn other_words_leave_the_source_unread(rt: HostRuntime) -> Result<(), Fail> {
-    let lines: [&[&str]; 14] = [
+    let lines: [&[&str]; 26] = [
         &[],
         &["layout"],
         &["layout", ""],
@@ -117,6 +117,18 @@ fn other_words_leave_the_source_unread(rt: HostRuntime) -> Result<(), Fail> {
         &["help"],
         &["replay"],
         &["models"],
+        &["trace"],
+        &["trace", "1"],
+        &["trace", "0", "7"],
+        &["trace", "801", "7"],
+        &["trace", "01", "7"],
+        &["trace", "+1", "7"],
+        &["trace", "1", "07"],
+        &["trace", "1", "+7"],
+        &["trace", "1", ""],
+        &["trace", "1", "18446744073709551616"],
+        &["trace", "1", "7", "7"],
+        &["gen", "1", "7"],
         &["model", "x"],
         &["", "model"],
     ];
@@ -191,6 +203,30 @@ fn layout_tells_where_a_request_is_placed(rt: HostRuntime) -> Result<(), Fail> {
     ];
     for (size, text) in lines {
         assert_eq!(rt; told(rt.alloc(), &["layout", size])?.as_slice(), text);
+    }
+    Ok(())
+}
+
+// Rounds and keys at their limits: the lines of the trace, and the last line of them, which is `3 F r3`.
+#[test]
+fn trace_tells_a_generated_trace(rt: HostRuntime) -> Result<(), Fail> {
+    let lines: [(&str, &str, usize); 4] = [
+        ("1", "0", 81),
+        ("1", "7", 81),
+        ("2", "18446744073709551615", 162),
+        ("3", "0", 243),
+    ];
+    for (rounds, key, many) in lines {
+        let text = told(rt.alloc(), &["trace", rounds, key])?;
+        assert!(rt; text.starts_with(b"trace 1 region 8 partitions 4 threads 4\n0 A r0 p0 "));
+        assert!(rt; text.ends_with(b"\n3 F r3\n"));
+        let mut ends = 0usize;
+        for byte in text.as_slice() {
+            if *byte == b'\n' {
+                ends = ends.saturating_add(1);
+            }
+        }
+        assert_eq!(rt; ends, many);
     }
     Ok(())
 }

@@ -1,13 +1,13 @@
 ghost use Rattle.std.specs.Prelude.{◌≡◌, ◌↔◌, map, string_bytes, IfOk, IfErr};
 ghost use Rattle.pa_cli.specs.Call.{call_of, stream_of};
-ghost use Rattle.pa_cli.specs.Command.{IsCommand};
+ghost use Rattle.pa_cli.specs.Command.{IsCommand, IsAsked};
 ghost use Rattle.pa_cli.specs.Cause.{Caused, ReadsForModel, IsRightCall, IsRefusal};
 ghost use Rattle.pa_cli.specs.Output.{IsOutputOf, IsModelOutput, IsPlayedText, IsRunText};
 ghost use Rattle.pa_cli.specs.declared.command.Command.TheVariants as Command;
 ghost use Rattle.pa_trace.specs.Faults.{IsFault};
 ghost use Rattle.pa_trace.specs.Limits.{IsWithinLimits};
 
-use crate::answers::{write_help, write_layout, write_version};
+use crate::answers::{write_generated, write_help, write_layout, write_version};
 use crate::command::Command;
 use crate::input::read_input;
 use crate::output::write_output;
@@ -20,7 +20,8 @@ use std::alloc::Global;
 
 /// Does what the words ask for. `model` reads a trace from the source, plays it, and writes the answers to the sink; the
 /// input is read to its end, or to one byte past the 4,194,304 bytes that it may have. `layout SIZE` writes where a request
-/// of so many bytes is placed, and `--help` and `--version` write their texts; these three read nothing.
+/// of so many bytes is placed, `trace ROUNDS KEY` writes a generated trace, and `--help` and `--version` write their texts;
+/// these four read nothing.
 pub fn run<S: Source, K: Sink>(
     alloc: Global,
     words: &[String],
@@ -66,8 +67,9 @@ fn answer<S: Source, K: Sink>(
     }
 }
 
-// The output of a command.
+// The output of a command for which some words ask.
 fn output_of<S: Source>(alloc: Global, command: Command, source: &mut S) -> Result<Vec<u8>, Status>
+    requires asked { IsAsked command }
     ensures text { IfOk result (λ text. IsOutputOf command
         (stream_of (S.left source.old) (S.faults source.old))
         (stream_of (S.left source.new) (S.faults source.new)) text.items) }
@@ -79,6 +81,7 @@ fn output_of<S: Source>(alloc: Global, command: Command, source: &mut S) -> Resu
     match command {
         Command::Model => model(alloc, source),
         Command::Layout(size) => Ok(write_layout(alloc, size)?),
+        Command::Trace { rounds, key } => Ok(write_generated(alloc, rounds, key)?),
         Command::Help => Ok(write_help(alloc)?),
         Command::Version => Ok(write_version(alloc)?),
     }

@@ -19,4 +19,6 @@ pub use script::{Line, Lines, Op, Trace};
 pub use writing::write_trace;
 
 #[cfg(test)]
+mod generator_tests;
+#[cfg(test)]
 mod tests;
