@@ -32,9 +32,9 @@ pub fn short_text()
 /// A generated trace has 81 lines a round, the head included, and is within the limits, and no cell is touched by two threads
 /// in one phase, whatever words were drawn.
 pub fn generated_lines_fit()
-    ensures lines { (words : List ℕ) (rounds : ℕ) (t : Trace) → 1 ≤ rounds → IsGeneratedOf words rounds t → length t.lines + 1 ≡ 81 * rounds }
-    ensures limits { (words : List ℕ) (rounds : ℕ) (t : Trace) → 1 ≤ rounds → rounds ≤ 800 → IsGeneratedOf words rounds t → IsWithinLimits t }
-    ensures cells { (words : List ℕ) (rounds : ℕ) (t : Trace) → 1 ≤ rounds → IsGeneratedOf words rounds t → KeepsCellsApart t.lines }
+    ensures lines { (words : List ℕ) (n : ℕ) (t : Trace) → 1 ≤ n → IsGeneratedOf words n t → length t.lines + 1 ≡ 81 * n }
+    ensures limits { (words : List ℕ) (n : ℕ) (t : Trace) → 1 ≤ n → n ≤ 800 → IsGeneratedOf words n t → IsWithinLimits t }
+    ensures cells { (words : List ℕ) (n : ℕ) (t : Trace) → 1 ≤ n → IsGeneratedOf words n t → KeepsCellsApart t.lines }
 {}
 
 /// The first three words of key 7.

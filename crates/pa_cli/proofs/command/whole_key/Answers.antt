@@ -1,4 +1,4 @@
-use Rattle.std.proofs.Common.{rules, ◌≡◌, ◌∙◌, ℕ, List, [], sym, subst, string_bytes, Option, IfSome, IfNone, ◌≤◌}
+use Rattle.std.proofs.Common.{rules, ◌≡◌, ℕ, List, [], sym, subst, string_bytes, Option, IfSome, IfNone, ◌≤◌}
 use Rattle.pa_text.specs.Numeral.{IsNumeral}
 use Rattle.pa_text.specs.Reading.{BeginsWith}
 use Rattle.pa_cli.proofs.Words.{no_numeral, never_numeral}
