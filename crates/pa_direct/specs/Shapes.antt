@@ -1,5 +1,6 @@
 -- The shape of a direct map.
 use Rattle.std.specs.Prelude.{◌≡◌, ℕ, ◌+◌, ◌-◌, ◌*◌, ◌/◌, ◌%◌, ◌<◌, ◌≤◌}
+use Rattle.pa_layout.specs.Pages.{supers_for}
 use Rattle.pa_direct.specs.declared.maps.Shape.{Shape}
 
 -- a / b, rounded up
@@ -9,10 +10,6 @@ quotient_up a b = (a + (b - 1)) / b
 -- the slot of a raw size: rounded up to a multiple of 4,096
 abbrev pub slot_for : ℕ → ℕ
 slot_for raw = 4096 * quotient_up raw 4096
-
--- the super pages of a slot: with 16,384 bytes before it and at least as many after it
-abbrev pub supers_for : ℕ → ℕ
-supers_for slot = quotient_up (slot + 32768) 2097152
 
 -- the direct map of a request of that many bytes, with 8 more for the count word
 abbrev pub shape_of : ℕ → Shape

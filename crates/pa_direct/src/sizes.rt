@@ -2,7 +2,7 @@ ghost use Rattle.std.specs.Prelude.{◌≡◌, ◌↔◌, ◌<◌, IsNone, IfSom
 ghost use Rattle.pa_direct.specs.Shapes.{shape_of};
 
 use crate::maps::Shape;
-use pa_layout::{PARTITION_PAGE, SUPER_PAGE, SYSTEM_PAGE};
+use pa_layout::{SYSTEM_PAGE, supers_for};
 
 /// The greatest request that is served, in bytes: with it the slot and its guards fill 16 super pages.
 pub const GREATEST_SIZE: u32 = 33_521_656;
@@ -22,7 +22,7 @@ pub fn shape(size: u32) -> Option<Shape>
         return None;
     }
     let slot = (size + COUNT_WORD).div_ceil(SYSTEM_PAGE) * SYSTEM_PAGE;
-    let supers = (slot + 2 * PARTITION_PAGE).div_ceil(SUPER_PAGE);
+    let supers = supers_for(slot);
     Some(Shape { slot, supers })
 }
 

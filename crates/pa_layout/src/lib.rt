@@ -14,4 +14,5 @@ pub use bytes::{Kind, kind_of};
 pub use laws::{bytes_have_one_kind, pages_lie_apart, payload_is_whole_pages, records_lie_apart};
 pub use pages::{
     PARTITION_PAGE, SUPER_PAGE, SYSTEM_PAGE, meta_start, page_of, page_start, super_page_of,
+    supers_for,
 };

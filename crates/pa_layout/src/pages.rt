@@ -1,5 +1,5 @@
-ghost use Rattle.std.specs.Prelude.{◌≡◌, ◌<◌};
-ghost use Rattle.pa_layout.specs.Pages.{super_page_at, page_at, page_place, record_place};
+ghost use Rattle.std.specs.Prelude.{◌≡◌, ◌<◌, ◌≤◌};
+ghost use Rattle.pa_layout.specs.Pages.{super_page_at, page_at, page_place, record_place, supers_for};
 
 /// Bytes of a system page. PartitionAlloc takes the system's; 4,096 is this project's profile.
 pub const SYSTEM_PAGE: u32 = 4096;
@@ -50,6 +50,16 @@ pub fn meta_start(super_page: u32, page: u32) -> u32
     SUPER_PAGE * super_page + SYSTEM_PAGE + RECORD * page
 }
 
+/// The super pages that a direct map takes for a slot of so many bytes: the slot, a partition page before it and another
+/// behind it.
+pub fn supers_for(slot: u32) -> u32
+    ensures supers { result ≡ supers_for slot }
+    ensures bound { result ≤ 2049 }
+{
+    let bytes = u64::from(slot) + u64::from(2 * PARTITION_PAGE);
+    bytes.div_ceil(u64::from(SUPER_PAGE)) as u32
+}
+
 #[cfg(test)]
 mod tests {
     use super::*;
@@ -65,5 +75,8 @@ mod tests {
         assert_eq!(rt; super_page_of(2097152), 1);
         assert_eq!(rt; page_of(2097151), 127);
         assert_eq!(rt; page_of(2097152), 0);
+        assert_eq!(rt; supers_for(2064384), 1);
+        assert_eq!(rt; supers_for(2064385), 2);
+        assert_eq!(rt; supers_for(4294967295), 2049);
     }
 }

@@ -6,7 +6,7 @@ use Rattle.std.proofs.lemmas.Bool.{cases_Bool, true≢false, le-leb}
 use Rattle.std.proofs.lemmas.List.Sums.{length-filter, sum_by-cons}
 use Rattle.pa_machine.specs.declared.title.Title.{Title}
 use Rattle.pa_machine.specs.declared.word.SlotName.{SlotName}
-use Rattle.pa_layout.specs.Pages.{page_place}
+use Rattle.pa_layout.specs.Pages.{page_place, supers_for}
 use Rattle.pa_buckets.specs.Table.{pages_of, slots_of}
 use Rattle.pa_buckets.proofs.Facts.{IsRow-of}
 use Rattle.pa_record.specs.declared.numbered.Numbered.{Numbered}
@@ -17,7 +17,7 @@ use Rattle.pa_record.specs.declared.pool.PoolAct.TheVariants as pool
 use Rattle.pa_record.specs.declared.root.RootAct.TheVariants.{Fill}
 use Rattle.pa_record.specs.Pool.{act_at}
 use Rattle.pa_record.specs.Spans.{Span, title_at, name_of, numbers, listed}
-use Rattle.pa_record.specs.Root.{Root, new_root, current, opened, found_or_new, empties, RootActFits, IsOut, IsOutOf, IsTitleOut, supers_for, super_of, MapFits}
+use Rattle.pa_record.specs.Root.{Root, new_root, current, opened, found_or_new, empties, RootActFits, IsOut, IsOutOf, IsTitleOut, super_of, MapFits}
 use Rattle.pa_record.specs.Sound.{IsSound, IsCounted}
 use Rattle.pa_record.specs.Laws.{TurnsChoose, out_of, CanReturn, OutIsOut, FillKeeps, ReturnKeeps, EntryKeeps, JournalLeaves, JournalGrows, EntryIsOne}
 use Rattle.pa_record.proofs.Tested.{name_is}

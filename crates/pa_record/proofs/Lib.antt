@@ -33,3 +33,5 @@ pub mod Calling
 pub mod Used
 pub mod Joined
 pub mod AddingUp
+pub mod Chosen
+pub mod Owned

@@ -6,7 +6,7 @@ use Rattle.std.proofs.lemmas.List.Elements.{All-nil, All-cons}
 use Rattle.std.proofs.lemmas.Bool.{and_parts, or_cases, eqb-true, ltb-true, leb-true, cases_lt, not-true, both_ways, eq-eqb, le-leb, or_left, or_right, and_from, agree_below, agree_below_at, false≢true, true≢false}
 use Rattle.pa_machine.specs.declared.title.Title.{Title}
 use Rattle.pa_machine.specs.declared.word.SlotName.{SlotName}
-use Rattle.pa_layout.specs.Pages.{page_place}
+use Rattle.pa_layout.specs.Pages.{page_place, supers_for}
 use Rattle.pa_record.specs.declared.taken.Taken.{Taken}
 use Rattle.pa_record.specs.declared.pool.PoolEntry.{PoolEntry}
 use Rattle.pa_record.specs.declared.pool.PoolAct.{PoolAct}
@@ -17,7 +17,7 @@ use Rattle.pa_record.specs.declared.root.RootAct.TheVariants.{Fill, Map, Full, G
 use Rattle.pa_buckets.specs.Bands.{fill_of}
 use Rattle.pa_record.specs.Pool.{PoolState, IsApart, IsFreeRun, IsLowest, IsOneTake, IsPartitions, PoolActFits, PoolReplays, pool_next, act_at}
 use Rattle.pa_record.specs.Spans.{Span, title_at, name_of, holds, number_in}
-use Rattle.pa_record.specs.Root.{Root, span_for, takes, opened_by, names, map_title, supers_for, root_next, IsOut, Asked, FullFits, MapFits, UnmapFits, RootActFits, RootReplays, RiseFrom}
+use Rattle.pa_record.specs.Root.{Root, span_for, takes, opened_by, names, map_title, root_next, IsOut, Asked, FullFits, MapFits, UnmapFits, RootActFits, RootReplays, RiseFrom}
 use Rattle.pa_record.proofs.Members.{first_in, later_in, in_cases, not_in_none, find_is, has, has_not}
 
 -- names that are one

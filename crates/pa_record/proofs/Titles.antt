@@ -6,7 +6,7 @@ use Rattle.std.proofs.lemmas.List.{append-nil, append_assoc}
 use Rattle.std.proofs.lemmas.List.Elements.{Contains-append_cases}
 use Rattle.pa_machine.specs.declared.title.Title.{Title}
 use Rattle.pa_machine.specs.declared.word.SlotName.{SlotName}
-use Rattle.pa_layout.specs.Pages.{page_place}
+use Rattle.pa_layout.specs.Pages.{page_place, supers_for}
 use Rattle.pa_buckets.specs.Bands.{fill_of}
 use Rattle.pa_buckets.specs.Table.{slots_of}
 use Rattle.pa_record.specs.declared.taken.SuperPage.{SuperPage}
@@ -16,7 +16,7 @@ use Rattle.pa_record.specs.declared.root.RootAct.{RootAct}
 use Rattle.pa_record.specs.declared.root.RootAct.TheVariants.{Fill, Map, Full, Give, Unmap, Purge}
 use Rattle.pa_record.specs.Pool.{act_at, FoundRun}
 use Rattle.pa_record.specs.Spans.{Span, title_at, same_place}
-use Rattle.pa_record.specs.Root.{Root, new_root, takes, opened, opened_by, super_of, map_title, mapped, supers_for, root_next, root_replayed, RootActFits, RootReplays, RiseFrom, all_asked, asked_by}
+use Rattle.pa_record.specs.Root.{Root, new_root, takes, opened, opened_by, super_of, map_title, mapped, root_next, root_replayed, RootActFits, RootReplays, RiseFrom, all_asked, asked_by}
 use Rattle.pa_record.specs.Sound.{IsSound, IsSettled, IsBornBelow, IsMade, AsksFrom, least_after, least_after_all, IsNext, TitlesApart, IsInPayload, IsMapped, AreTitles}
 use Rattle.pa_record.proofs.Members.{not_in_none, in_cases, not_some}
 use Rattle.pa_record.proofs.Pairs.{pairs_none}

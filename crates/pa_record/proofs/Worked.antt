@@ -2,7 +2,7 @@
 use Rattle.std.proofs.Common.{◌≡◌, true, refl}
 use Rattle.pa_buckets.specs.Table.{rows, row_of, slot_of, pages_of, slots_of}
 use Rattle.pa_buckets.specs.Bands.{fill_of}
-use Rattle.pa_record.specs.Worked.{IsWorked, short_fill_pool, short_fill_journal, short_fill_census, full_region_pool, full_region_journal, full_region_census, direct_map_again_pool, direct_map_again_journal, direct_map_again_census, cache_overflow_pool, cache_overflow_journal, cache_overflow_census, empty_ring_pool, empty_ring_journal, empty_ring_census, purge_pool, purge_journal, purge_census}
+use Rattle.pa_record.specs.Worked.{IsWorked, short_fill_pool, short_fill_journal, short_fill_census, full_region_pool, full_region_journal, full_region_census, direct_map_again_pool, direct_map_again_journal, direct_map_again_census, cache_overflow_pool, cache_overflow_journal, cache_overflow_census, empty_ring_pool, empty_ring_journal, empty_ring_census, purge_pool, purge_journal, purge_census, span_lists_pool, span_lists_journal, span_lists_census}
 use Rattle.pa_record.specs.Pool.{new_pool}
 use Rattle.pa_record.specs.Root.{new_root, root_replayed, all_asked}
 use Rattle.pa_record.specs.Census.{census}
@@ -114,4 +114,22 @@ purge = record {
   is_pool = pool_all_fit-true purge_pool purge_pool (new_pool 1) purge_pool_fits;
   is_journal = record { replays = all_fit-true purge_pool purge_journal new_root purge_fits; rise = rise-true 0 (all_asked purge_journal) refl };
   counted = purge_counted;
+}
+
+span_lists_pool_fits : pool_all_fit span_lists_pool span_lists_pool (new_pool 4) ≡ true
+span_lists_pool_fits = refl
+
+span_lists_fits : all_fit span_lists_pool span_lists_journal new_root ≡ true
+unfolding rows row_of slot_of pages_of slots_of fill_of
+span_lists_fits = refl
+
+span_lists_counted : census (root_replayed span_lists_pool span_lists_journal new_root) ≡ span_lists_census
+unfolding rows row_of slot_of pages_of slots_of fill_of
+span_lists_counted = refl
+
+pub span_lists : IsWorked 4 span_lists_pool span_lists_journal span_lists_census
+span_lists = record {
+  is_pool = pool_all_fit-true span_lists_pool span_lists_pool (new_pool 4) span_lists_pool_fits;
+  is_journal = record { replays = all_fit-true span_lists_pool span_lists_journal new_root span_lists_fits; rise = rise-true 0 (all_asked span_lists_journal) refl };
+  counted = span_lists_counted;
 }

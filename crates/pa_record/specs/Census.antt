@@ -1,12 +1,13 @@
 -- What a root has: its free slots, its bytes, and its spans by their states.
 use Rattle.std.specs.Prelude.{ℕ, ◌+◌, ◌-◌, ◌*◌, length, sum_by, count_by}
+use Rattle.pa_layout.specs.Pages.{supers_for}
 use Rattle.pa_buckets.specs.declared.spans.State.{State}
 use Rattle.pa_buckets.specs.declared.spans.State.TheVariants as state
 use Rattle.pa_buckets.specs.Table.{slot_of}
 use Rattle.pa_record.specs.declared.report.Tally.{Tally}
 use Rattle.pa_record.specs.declared.census.Census.{Census}
 use Rattle.pa_record.specs.Spans.{Span, is_in}
-use Rattle.pa_record.specs.Root.{Root, supers_for}
+use Rattle.pa_record.specs.Root.{Root}
 
 -- the slots of a span that were made and are with the root, listed or in decommitted pages
 abbrev pub kept_of : Span → ℕ

@@ -4,7 +4,7 @@ use Rattle.std.specs.List.{list_any, flat_map}
 use Rattle.pa_machine.specs.declared.title.Title.{Title}
 use Rattle.pa_machine.specs.declared.word.SlotName.{SlotName}
 use Rattle.pa_machine.specs.Run.{same_slot}
-use Rattle.pa_layout.specs.Pages.{page_place}
+use Rattle.pa_layout.specs.Pages.{page_place, supers_for}
 use Rattle.pa_buckets.specs.Bands.{fill_of}
 use Rattle.pa_record.specs.declared.numbered.Numbered.{Numbered}
 use Rattle.pa_record.specs.declared.pool.PoolEntry.{PoolEntry}
@@ -14,7 +14,7 @@ use Rattle.pa_record.specs.declared.root.RootAct.{RootAct}
 use Rattle.pa_record.specs.declared.root.RootAct.TheVariants.{Fill, Map, Full, Give, Unmap, Purge}
 use Rattle.pa_buckets.specs.declared.spans.State.TheVariants as state
 use Rattle.pa_record.specs.Spans.{Span, is_in, numbers, holds, number_in, latest, earliest, title_at, name_of}
-use Rattle.pa_record.specs.Root.{Root, new_root, opened, span_for, takes, all_returned, purged, empties, map_title, supers_for, mapped, unmapped, names, root_next, root_replayed, RootActFits, IsJournal, asked_by, IsOut, IsOutOf, IsTitleOut}
+use Rattle.pa_record.specs.Root.{Root, new_root, opened, span_for, takes, all_returned, purged, empties, map_title, mapped, unmapped, names, root_next, root_replayed, RootActFits, IsJournal, asked_by, IsOut, IsOutOf, IsTitleOut}
 use Rattle.pa_record.specs.Census.{count_in, census}
 use Rattle.pa_record.specs.Sound.{IsSound, IsSettled, IsBornBelow, AsksFrom, least_after_all, IsNext, IsMadeBy, AreTitles}
 use Rattle.pa_record.specs.Steps.{IsLatest, IsEarliest, IsFilled, IsReturned, IsDecommittedTimes}

@@ -11,3 +11,5 @@ pub mod Sound
 pub mod PoolLaws
 pub mod Steps
 pub mod Laws
+pub mod Chosen
+pub mod Owned

@@ -1,8 +1,8 @@
 -- The root of a partition: what a list of its journal's entries replays to, and which entry fits.
-use Rattle.std.specs.Prelude.{◌≡◌, ℕ, zero, suc, ◌+◌, ◌-◌, ◌/◌, ◌<◌, ◌≤◌, ◌==◌, ◌&&◌, nat_lt, nat_le, if◌then◌else◌, ◌⊎◌, List, [], ◌∷◌, ◌++◌, map, length, Option, Some, None, IsSome, IsNone, All, AllPairs, Contains, find, count_by, slice_get, filter_map, ◌≢◌}
+use Rattle.std.specs.Prelude.{◌≡◌, ℕ, zero, suc, ◌+◌, ◌-◌, ◌<◌, ◌≤◌, ◌==◌, ◌&&◌, nat_lt, nat_le, if◌then◌else◌, ◌⊎◌, List, [], ◌∷◌, ◌++◌, map, length, Option, Some, None, IsSome, IsNone, All, AllPairs, Contains, find, count_by, slice_get, filter_map, ◌≢◌}
 use Rattle.pa_machine.specs.declared.title.Title.{Title}
 use Rattle.pa_machine.specs.declared.word.SlotName.{SlotName}
-use Rattle.pa_layout.specs.Pages.{page_place}
+use Rattle.pa_layout.specs.Pages.{page_place, supers_for}
 use Rattle.pa_buckets.specs.declared.spans.State.{State}
 use Rattle.pa_buckets.specs.declared.spans.State.TheVariants as state
 use Rattle.pa_buckets.specs.Table.{pages_of}
@@ -150,13 +150,9 @@ decommitted_times (suc n) r = decommitted_times n (oldest_decommitted r)
 abbrev pub purged : Root → Root
 purged r = decommitted_times (empties r) r
 
--- a direct map: its slot starts 16,384 bytes after the first of its super pages, of which there are as many as the slot
--- and 32,768 bytes need
+-- a direct map: its slot starts 16,384 bytes after the first of its super pages
 abbrev pub map_title : SlotName → ℕ → Title
 map_title name len = record { start = name.start; len = len; born = name.born }
-
-abbrev pub supers_for : ℕ → ℕ
-supers_for len = (len + 32768 + 2097151) / 2097152
 
 abbrev pub without_map : SlotName → List Title → List Title
 without_map name [] = []

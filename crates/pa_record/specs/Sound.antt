@@ -2,7 +2,7 @@
 use Rattle.std.specs.Prelude.{◌≡◌, ◌≢◌, ℕ, ◌+◌, ◌*◌, ◌/◌, ◌<◌, ◌≤◌, ◌⊎◌, min, false, List, [], ◌∷◌, length, Option, Some, None, Contains, AllPairs}
 use Rattle.pa_machine.specs.declared.title.Title.{Title}
 use Rattle.pa_machine.specs.declared.word.SlotName.{SlotName}
-use Rattle.pa_layout.specs.Pages.{page_place}
+use Rattle.pa_layout.specs.Pages.{page_place, supers_for}
 use Rattle.pa_buckets.specs.declared.spans.State.{State}
 use Rattle.pa_buckets.specs.declared.spans.State.TheVariants as state
 use Rattle.pa_buckets.specs.Table.{slot_of, pages_of, system_of, slots_of}
@@ -13,7 +13,7 @@ use Rattle.pa_record.specs.declared.root.RootEntry.{RootEntry}
 use Rattle.pa_record.specs.declared.root.RootAct.{RootAct}
 use Rattle.pa_record.specs.declared.root.RootAct.TheVariants.{Fill, Map, Full, Give, Unmap, Purge}
 use Rattle.pa_record.specs.Pool.{FoundRun}
-use Rattle.pa_record.specs.Root.{Root, new_root, current, empties, supers_for, map_title, root_replayed, names, asked_by, IsOut}
+use Rattle.pa_record.specs.Root.{Root, new_root, current, empties, map_title, root_replayed, names, asked_by, IsOut}
 
 -- what a state says of the slots that are out; a span that is in none yet has none out
 abbrev pub StateSays : State → Span → Type 0

@@ -210,3 +210,46 @@ purge_journal =
 
 abbrev pub purge_census : Census
 purge_census = census_of 248 3968 4096 2097152 0 1 0 0
+
+-- The spans of a class by their states: of two active spans, and of two decommitted ones, the one that became so last
+-- serves; an active span serves before an empty one, and keeps its turn while it stays active; the slot that came back last
+-- is taken first. A new super page has pages of its own; a direct map reserves two super pages, and goes and comes again.
+abbrev pub span_lists_pool : List PoolEntry
+span_lists_pool =
+    pool_take 2 0 1 (Some 0)
+    ∷ pool_take 19 0 2 (Some 1)
+    ∷ pool_take 22 0 1 (Some 3)
+    ∷ pool_give 24 0 2 1
+    ∷ pool_take 25 0 2 (Some 1)
+    ∷ []
+
+abbrev pub span_lists_journal : List RootEntry
+span_lists_journal =
+    fill 2 27 (Some 0) (slots 0 0 (16384 ∷ 20480 ∷ []))
+    ∷ fill 3 27 None (slots 0 0 (24576 ∷ 28672 ∷ []))
+    ∷ fill 4 27 None (slots 0 0 (32768 ∷ 36864 ∷ []))
+    ∷ fill 5 27 None (slots 0 0 (40960 ∷ 45056 ∷ []))
+    ∷ give 6 (slots 0 0 (16384 ∷ 20480 ∷ []))
+    ∷ give 7 (slots 0 0 (40960 ∷ []))
+    ∷ give 8 (slots 0 0 (24576 ∷ []))
+    ∷ fill 9 27 None (slots 0 0 (40960 ∷ 24576 ∷ []))
+    ∷ fill 10 27 None (slots 0 0 (20480 ∷ 16384 ∷ []))
+    ∷ give 11 (slots 0 0 (16384 ∷ 20480 ∷ 24576 ∷ 28672 ∷ []))
+    ∷ give 12 (slots 0 0 (32768 ∷ 36864 ∷ []))
+    ∷ fill 13 27 None (slots 0 0 (36864 ∷ 32768 ∷ []))
+    ∷ give 14 (slots 0 0 (32768 ∷ 36864 ∷ 40960 ∷ 45056 ∷ []))
+    ∷ fill 15 31 None (slots 0 0 (49152 ∷ 57344 ∷ []))
+    ∷ give 16 (slots 0 0 (49152 ∷ 57344 ∷ []))
+    ∷ purge 17
+    ∷ fill 18 27 None (slots 0 0 (32768 ∷ 36864 ∷ []))
+    ∷ map_made 19 1 2113536 4001792
+    ∷ fill 20 58 None (slots 0 0 (65536 ∷ []))
+    ∷ fill 21 58 None (slots 0 0 (983040 ∷ []))
+    ∷ fill 22 58 (Some 2) (slots 2 0 (6307840 ∷ []))
+    ∷ fill 23 0 None (slots 2 0 (7225344 ∷ 7225360 ∷ 7225376 ∷ 7225392 ∷ 7225408 ∷ 7225424 ∷ 7225440 ∷ 7225456 ∷ []))
+    ∷ map_gone 24 3 2113536 1 0
+    ∷ map_made 25 4 2113536 2068480
+    ∷ []
+
+abbrev pub span_lists_census : Census
+span_lists_census = census_of 256 44928 4833280 8388608 3 2 0 2

@@ -1,6 +1,8 @@
 ghost use Rattle.pa_record.specs.Laws.{TurnsChoose, OutIsOut, FillKeeps, ReturnKeeps, EntryKeeps, JournalLeaves, JournalGrows, EntryIsOne, TitlesAreAsked, OutIsLeft, CallsFit, SpansAreUsed, RootAddsUp};
+ghost use Rattle.pa_record.specs.Chosen.{OneIsChosen};
+ghost use Rattle.pa_record.specs.Owned.{RootsAreTaken};
 ghost use Rattle.pa_record.specs.PoolLaws.{PoolIsSound, PoolGrows, PoolAnswers};
-ghost use Rattle.pa_record.specs.Worked.{IsWorked, short_fill_pool, short_fill_journal, short_fill_census, full_region_pool, full_region_journal, full_region_census, direct_map_again_pool, direct_map_again_journal, direct_map_again_census, cache_overflow_pool, cache_overflow_journal, cache_overflow_census, empty_ring_pool, empty_ring_journal, empty_ring_census, purge_pool, purge_journal, purge_census};
+ghost use Rattle.pa_record.specs.Worked.{IsWorked, short_fill_pool, short_fill_journal, short_fill_census, full_region_pool, full_region_journal, full_region_census, direct_map_again_pool, direct_map_again_journal, direct_map_again_census, cache_overflow_pool, cache_overflow_journal, cache_overflow_census, empty_ring_pool, empty_ring_journal, empty_ring_census, purge_pool, purge_journal, purge_census, span_lists_pool, span_lists_journal, span_lists_census};
 
 /// The runs that were worked out by hand are those that the definitions give: each entry of the pool and of the
 /// journal fits, and the root has the census of the report at the end.
@@ -11,6 +13,7 @@ pub fn worked_runs_fit()
     ensures cache_overflow { IsWorked 1 cache_overflow_pool cache_overflow_journal cache_overflow_census }
     ensures empty_ring { IsWorked 1 empty_ring_pool empty_ring_journal empty_ring_census }
     ensures purge { IsWorked 1 purge_pool purge_journal purge_census }
+    ensures span_lists { IsWorked 4 span_lists_pool span_lists_journal span_lists_census }
 {}
 
 /// The law that a list of entries that fit leaves a pool in which the runs that are taken lie in the region and share no
@@ -98,4 +101,16 @@ pub fn spans_are_used()
 /// slots that were made and the direct maps that are mapped.
 pub fn root_adds_up()
     ensures { RootAddsUp }
+{}
+
+/// The law that in a sound root the span which passes a test and has the greatest turn, or the least, is the one that is
+/// chosen.
+pub fn one_is_chosen()
+    ensures { OneIsChosen }
+{}
+
+/// The law that the super pages and direct maps of a root are the runs that the entries of the pool took which they name,
+/// and that a slot lies in the payload of the super page of its own entry.
+pub fn roots_are_taken()
+    ensures { RootsAreTaken }
 {}

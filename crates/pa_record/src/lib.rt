@@ -33,9 +33,9 @@ pub use fits::run_fits;
 pub use history::{CellEntry, Held, History};
 pub use journal::Journal;
 pub use laws::{
-    calls_fit, entry_is_one, entry_keeps, fill_keeps, journal_grows, journal_leaves, out_is_left,
-    out_is_out, pool_answers, pool_grows, pool_is_sound, return_keeps, root_adds_up,
-    spans_are_used, titles_are_asked, turns_choose, worked_runs_fit,
+    calls_fit, entry_is_one, entry_keeps, fill_keeps, journal_grows, journal_leaves, one_is_chosen,
+    out_is_left, out_is_out, pool_answers, pool_grows, pool_is_sound, return_keeps, root_adds_up,
+    roots_are_taken, spans_are_used, titles_are_asked, turns_choose, worked_runs_fit,
 };
 pub use numbered::Numbered;
 pub use numbers::{cell_numbers, one_entry_for_its_numbers, pool_numbers, root_numbers};

@@ -4,7 +4,7 @@ use Rattle.std.specs.Prelude.{Contains}
 use Rattle.std.proofs.lemmas.Bool.{cases_eq, true≢false}
 use Rattle.pa_machine.specs.declared.title.Title.{Title}
 use Rattle.pa_machine.specs.declared.word.SlotName.{SlotName}
-use Rattle.pa_layout.specs.Pages.{page_place}
+use Rattle.pa_layout.specs.Pages.{page_place, supers_for}
 use Rattle.pa_buckets.specs.Bands.{fill_of}
 use Rattle.pa_direct.specs.Shapes.{shape_of}
 use Rattle.pa_trace.specs.declared.script.Op.{Op}
@@ -17,7 +17,7 @@ use Rattle.pa_record.specs.declared.root.RootAct.{RootAct}
 use Rattle.pa_record.specs.declared.root.RootAct.TheVariants.{Fill, Map, Full, Unmap}
 use Rattle.pa_record.specs.Pool.{new_pool, pool_replayed, PoolActFits, IsLowest, act_at, FoundNone}
 use Rattle.pa_record.specs.Spans.{name_of}
-use Rattle.pa_record.specs.Root.{Root, RootActFits, RootReplays, takes, opened, super_of, supers_for, names, map_title, asked_by}
+use Rattle.pa_record.specs.Root.{Root, RootActFits, RootReplays, takes, opened, super_of, names, map_title, asked_by}
 use Rattle.pa_record.proofs.Members.{not_in_none, first_in, of_some, not_some}
 use Rattle.pa_record.proofs.Tested.{name_is}
 use Rattle.pa_record.proofs.Same.{same_numbered}

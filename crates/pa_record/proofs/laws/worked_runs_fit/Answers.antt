@@ -18,3 +18,6 @@ returns-clause-empty_ring c = Worked.empty_ring
 
 pub returns-clause-purge : goal.returns-clause-purge
 returns-clause-purge c = Worked.purge
+
+pub returns-clause-span_lists : goal.returns-clause-span_lists
+returns-clause-span_lists c = Worked.span_lists
