@@ -14,7 +14,7 @@ use Rattle.pa_record.proofs.Filling.{takes_filled, takes_none, opened_sound, ope
 use Rattle.pa_record.proofs.Returning.{all_returned_is, times_is}
 use Rattle.pa_record.proofs.Mapping.{mapped_sound, mapped_born, unmapped_sound, unmapped_born, born_more, born_same}
 use Rattle.pa_place.specs.declared.store.Store.{Store}
-use Rattle.pa_place.specs.Placed.{filled_by, Fills, map_in, mapped_by}
+use Rattle.pa_place.specs.Placed.{filled_by, Fills, map_in, mapped_by, IsStep}
 use Rattle.pa_place.specs.Store.{root_of, HasLowSupers, IsReady, IsKept, opened_where, AsksWhere}
 use Rattle.pa_place.proofs.Filling.{filled_with}
 use Rattle.pa_place.proofs.Removing.{is_named}
@@ -35,15 +35,15 @@ pub good_of : (s : Store) → IsKept s → IsGood (root_of s)
 good_of s k = record { ready = k.ready; settled = k.settled; supers = k.supers; maps = k.maps }
 
 -- a step that leaves super pages and direct maps as they are
-pub record IsStep (most : ℕ) (r next : Root) : Type 0 where
+pub record IsInPlace (r next : Root) : Type 0 where
   pub good : IsGood next
-  pub turn : next.turn ≤ r.turn + most
+  pub turn : next.turn ≤ r.turn + 32
   pub rises : r.turn ≤ next.turn
   pub born : (n : ℕ) → IsBornBelow n r → IsBornBelow n next
   pub maps : next.maps ≡ r.maps
 
-step_by : (most : ℕ) (r next : Root) → IsGood r → IsSound next → IsSettled next → next.supers ≡ r.supers → next.maps ≡ r.maps → next.turn ≤ r.turn + most → r.turn ≤ next.turn → IsStep most r next
-step_by most r next good sound settled supers maps turn rises = record {
+step_by : (r next : Root) → IsGood r → IsSound next → IsSettled next → next.supers ≡ r.supers → next.maps ≡ r.maps → next.turn ≤ r.turn + 32 → r.turn ≤ next.turn → IsInPlace r next
+step_by r next good sound settled supers maps turn rises = record {
   good = record {
     ready = record { sound = sound; low = λ at among. good.ready.low at (subst (λ xs. Contains xs at) supers among) };
     settled = settled;
@@ -57,38 +57,47 @@ step_by most r next good sound settled supers maps turn rises = record {
 }
 
 pub gives : (r next : Root) (titles : List Title) → IsGood r → length titles ≤ 16 → All (IsOut r) (map name_of titles) → AllPairs ◌≢◌ (map name_of titles) →
-    next ≡ all_returned (map name_of titles) r → IsStep 32 r next
+    next ≡ all_returned (map name_of titles) r → IsInPlace r next
 gives r next titles good few out once e =
     let a = all_returned_is (map name_of titles) r good.ready.sound out once in
     let many = length_map titles in
-    subst (IsStep 32 r) (sym e)
-    (step_by 32 r (all_returned (map name_of titles) r) good a.kept.sound (a.settled good.settled) a.kept.supers a.kept.maps (let p = a.turn in omega arith) a.kept.rises)
+    subst (IsInPlace r) (sym e)
+    (step_by r (all_returned (map name_of titles) r) good a.kept.sound (a.settled good.settled) a.kept.supers a.kept.maps (let p = a.turn in omega arith) a.kept.rises)
   where
     length_map : (ts : List Title) → length (map name_of ts) ≡ length ts
     length_map [] = refl
     length_map (t ∷ ts) = ap (λ n. suc n) (length_map ts)
 
-pub purges : (r next : Root) → IsGood r → next ≡ purged r → IsStep 32 r next
+pub purges : (r next : Root) → IsGood r → next ≡ purged r → IsInPlace r next
 purges r next good e =
     let a = times_is (empties r) r good.ready.sound in
     let few = good.settled in
-    subst (IsStep 32 r) (sym e)
-    (step_by 32 r (purged r) good a.kept.sound (let p = a.fewer in omega arith) a.kept.supers a.kept.maps (let p = a.turn in omega arith) a.kept.rises)
+    subst (IsInPlace r) (sym e)
+    (step_by r (purged r) good a.kept.sound (let p = a.fewer in omega arith) a.kept.supers a.kept.maps (let p = a.turn in omega arith) a.kept.rises)
 
-pub filled_step : (class want : ℕ) (r next : Root) (titles : List Title) → IsGood r → class < 59 → want ≤ 8 → takes class want r ≡ filled_with next titles → IsStep 32 r next
+pub filled_step : (class want : ℕ) (r next : Root) (titles : List Title) → IsGood r → class < 59 → want ≤ 8 → takes class want r ≡ filled_with next titles → IsInPlace r next
 filled_step class want r next titles good real few e =
     let a = takes_filled class want r good.ready.sound real in
     let same : (takes class want r).root ≡ next = ap (λ (f : Filled). f.root) e in
     let settled = good.settled in
-    subst (IsStep 32 r) same
-    (step_by 32 r (takes class want r).root good a.sound (let p = a.settled in omega arith) a.supers a.maps (let p = a.turn in omega arith) a.rises)
+    subst (IsInPlace r) same
+    (step_by r (takes class want r).root good a.sound (let p = a.settled in omega arith) a.supers a.maps (let p = a.turn in omega arith) a.rises)
+
+-- so where the pool stays as it is, it is a step
+pub in_place : (n : ℕ) (r next : Root) → IsInPlace r next → IsStep n n r next
+in_place n r next a = record { turn = a.turn; rises = a.rises; entries = omega arith; one = omega arith; born = a.born n }
+
+-- nothing changed
+pub no_step : (n m : ℕ) (r next : Root) → m ≡ n → next ≡ r → IsStep n m r next
+no_step n m r next e f = rw (e, f) (record { turn = omega arith; rises = omega arith; entries = omega arith; one = omega arith; born = λ old. old })
 
 -- the pool may be asked for a super page
 pub record IsAfterAsk (pool next : PoolState) (r after : Root) : Type 0 where
   pub good : IsGood after
   pub turn : after.turn ≡ r.turn
   pub born : IsBornBelow next.entries after
-  pub entries : next.entries ≤ pool.entries + 1
+  pub entries : pool.entries ≤ next.entries
+  pub one : next.entries ≤ pool.entries + 1
   pub maps : after.maps ≡ r.maps
 
 pub entries_after : (count : ℕ) (found : Option ℕ) (pool : PoolState) → (took count found pool).entries ≡ pool.entries + 1
@@ -123,6 +132,7 @@ asked_step class pool next r after None good few old low (some, same, e) = recor
   turn = ap (λ (z : Root). z.turn) e;
   born = subst (λ z. IsBornBelow z.entries after) (sym same) (subst (λ z. IsBornBelow pool.entries z) (sym e) old);
   entries = let p = ap (λ (z : PoolState). z.entries) same in omega arith;
+  one = let p = ap (λ (z : PoolState). z.entries) same in omega arith;
   maps = ap (λ (z : Root). z.maps) e;
 }
 asked_step class pool next r after (Some entry) good few old low (none, found, is, e) =
@@ -135,6 +145,7 @@ asked_step class pool next r after (Some entry) good few old low (none, found, i
       turn = ap (λ (z : Root). z.turn) e ∙ t;
       born = subst (λ z. IsBornBelow z after) m (subst (λ z. IsBornBelow (entry + 1) z) (sym e) b);
       entries = omega arith;
+      one = omega arith;
       maps = ap (λ (z : Root). z.maps) e ∙ opened_maps found entry r;
     }
 
@@ -152,8 +163,7 @@ fills_by class want pool next r after last titles (Some entry) (none, found, is,
 -- a direct map
 pub record IsAfterMap (pool next : PoolState) (r after : Root) : Type 0 where
   pub good : IsGood after
-  pub turn : after.turn ≡ r.turn
-  pub born : IsBornBelow next.entries after
+  pub step : IsStep pool.entries next.entries r after
 
 mapped_good : (len entry : ℕ) (found : Option ℕ) (r : Root) → IsGood r → length r.maps < 65536 → IsBornBelow entry r →
     IsGood (mapped_by len entry found r).root × IsBornBelow (entry + 1) (mapped_by len entry found r).root × ((mapped_by len entry found r).root.turn ≡ r.turn)
@@ -176,10 +186,16 @@ mapped_step len entry found pool next r after titles good few old is more e =
     let (a, b, t) = mapped_good len entry found r good few (subst (λ n. IsBornBelow n r) (sym is) old) in
     let same : (mapped_by len entry found r).root ≡ after = ap (λ (f : Filled). f.root) e in
     let m : entry + 1 ≡ next.entries = omega arith in
+    let turn : after.turn ≡ r.turn = sym (ap (λ (z : Root). z.turn) same) ∙ t in
     record {
       good = subst IsGood same a;
-      turn = sym (ap (λ (z : Root). z.turn) same) ∙ t;
-      born = subst (λ z. IsBornBelow z after) m (subst (λ z. IsBornBelow (entry + 1) z) same b);
+      step = record {
+        turn = let e = turn in omega arith;
+        rises = let e = turn in omega arith;
+        entries = omega arith;
+        one = omega arith;
+        born = λ _. subst (λ z. IsBornBelow z after) m (subst (λ z. IsBornBelow (entry + 1) z) same b);
+      };
     }
 
 -- a direct map goes
@@ -192,7 +208,7 @@ length-without_map name (t ∷ ts) = elim (cases_Bool (is_named name t)) [
 
 pub record IsAfterUnmap (r after : Root) : Type 0 where
   pub good : IsGood after
-  pub born : (n : ℕ) → IsBornBelow n r → IsBornBelow n after
+  pub step : (n : ℕ) → IsStep n (n + 1) r after
 
 pub unmapped_step : (name : SlotName) (r after : Root) → IsGood r → after ≡ unmapped name r → IsAfterUnmap r after
 unmapped_step name r after good e =
@@ -204,5 +220,11 @@ unmapped_step name r after good e =
         supers = good.supers;
         maps = let p = length-without_map name r.maps in let q = good.maps in omega arith;
       };
-      born = λ n old. unmapped_born name n n r (omega arith) old;
+      step = λ n. record {
+        turn = omega arith;
+        rises = omega arith;
+        entries = omega arith;
+        one = omega arith;
+        born = λ old. unmapped_born name n (n + 1) r (omega arith) old;
+      };
     })

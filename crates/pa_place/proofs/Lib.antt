@@ -7,3 +7,6 @@ pub mod Placing
 pub mod Removing
 pub mod Runs
 pub mod Scanning
+pub mod Refused
+pub mod Searching
+pub mod Ordering

@@ -39,10 +39,10 @@ not_out r s name ready e h (v, among, n, out) =
     let same : v ≡ s = of_some v s (sym (find_out r v name n ready.sound among out) ∙ e) in
     h n (subst (λ z. IsOutOf z name n) same out)
 
-pub slot_is_out : (r : Root) (s : Span) (t : Title) (name : SlotName) (n : ℕ) → Contains r.spans s → t ≡ title_at s n → IsOutOf s name n → IsTitleOut r t × (name_of t ≡ name)
+pub slot_is_out : (r : Root) (s : Span) (t : Title) (name : SlotName) (n : ℕ) → Contains r.spans s → t ≡ title_at s n → IsOutOf s name n → IsOut r name × IsTitleOut r t × (name_of t ≡ name)
 slot_is_out r s t name n among e out =
     let same : name_of t ≡ name = ap name_of e ∙ sym out.named in
-    (inl (s, among, n, subst (λ x. IsOutOf s x n) (sym same) out, e), same)
+    ((s, among, n, out), inl (s, among, n, subst (λ x. IsOutOf s x n) (sym same) out, e), same)
 
 -- the name of a slot that is out is out
 pub name_out : (r : Root) (t : Title) (name : SlotName) → IsTitleOut r t → name_of t ≡ name → (IsOut r name → ⊥) → Contains r.maps t

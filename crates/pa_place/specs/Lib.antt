@@ -1,3 +1,5 @@
+pub mod Order
+pub mod Out
 pub mod Placed
 pub mod Pool
 pub mod Scans

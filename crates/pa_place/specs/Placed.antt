@@ -1,9 +1,11 @@
 -- What a fill and a direct map do to a placement and its pool.
-use Rattle.std.specs.Prelude.{◌≡◌, ℕ, [], ◌∷◌, Option, Some, None, IsSome, IsNone}
+use Rattle.std.specs.Prelude.{◌≡◌, ℕ, ◌+◌, ◌≤◌, ◌↔◌, [], ◌∷◌, Option, Some, None, IsSome, IsNone}
 use Rattle.pa_machine.specs.declared.title.Title.{Title}
-use Rattle.pa_layout.specs.Pages.{page_place}
+use Rattle.pa_layout.specs.Pages.{page_place, supers_for}
 use Rattle.pa_record.specs.Pool.{PoolState, IsLowest, took}
-use Rattle.pa_record.specs.Root.{Root, Filled, span_for, takes, opened, map_title, mapped, supers_for}
+use Rattle.pa_record.specs.Root.{Root, Filled, span_for, takes, opened, map_title, mapped}
+use Rattle.pa_record.specs.Sound.{IsBornBelow}
+use Rattle.pa_place.specs.declared.placed.Placed.{Placed}
 
 -- The pool was asked for `count` super pages: by its next entry it found the lowest that are free, or none.
 pub record IsAsked (count asked : ℕ) (found : Option ℕ) (pool next : PoolState) : Type 0 where
@@ -36,3 +38,30 @@ abbrev pub Maps : ℕ → PoolState → PoolState → Root → Filled → Option
 Maps len pool next r filled None = ⊥
 Maps len pool next r filled (Some entry) =
     (found : Option ℕ) × IsAsked (supers_for len) entry found pool next × (filled ≡ mapped_by len entry found r)
+
+-- the root after a call, with the slots that it took
+abbrev pub with_slots : Root → Placed → Filled
+with_slots after p = record { root = after; titles = p.titles.items }
+
+-- what a fill did, and a direct map
+abbrev pub FillDid : ℕ → ℕ → PoolState → PoolState → Root → Root → Placed → Type 0
+FillDid class want pool next r after p = Fills class want pool next r (with_slots after p) p.pool
+
+abbrev pub MapDid : ℕ → PoolState → PoolState → Root → Root → Placed → Type 0
+MapDid len pool next r after p = Maps len pool next r (with_slots after p) p.pool
+
+-- the pool was asked for `count` super pages, and there were none
+abbrev pub IsRefused : ℕ → PoolState → Option ℕ → Type 0
+IsRefused count pool asked = (asked ≡ Some pool.entries) × IsLowest pool count None
+
+-- the call took no slot exactly where the pool was asked for `count` super pages and had none
+abbrev pub IsEmptyIfRefused : ℕ → PoolState → Placed → Type 0
+IsEmptyIfRefused count pool p = (p.titles.items ≡ []) ↔ IsRefused count pool p.pool
+
+-- What each call leaves, for who makes many: the pool had n entries before it, and has m after it.
+pub record IsStep (n m : ℕ) (r after : Root) : Type 0 where
+  pub turn : after.turn ≤ r.turn + 32
+  pub rises : r.turn ≤ after.turn
+  pub entries : n ≤ m
+  pub one : m ≤ n + 1
+  pub born : IsBornBelow n r → IsBornBelow m after

@@ -14,6 +14,6 @@ mod takes;
 #[cfg(test)]
 mod tests;
 
-pub use placed::Placed;
+pub use placed::{Out, Placed};
 pub use placement::Placement;
 pub use pool_plan::PoolPlan;

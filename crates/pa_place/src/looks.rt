@@ -1,38 +1,40 @@
 ghost use Rattle.std.specs.Prelude.{◌≡◌, ◌*◌, ◌<◌, ◌≤◌, ◌^◌, IfSome, IfNone, length, sum_by};
 ghost use Rattle.pa_machine.specs.declared.title.Title.{Title as Slot};
+ghost use Rattle.pa_layout.specs.Pages.{supers_for};
 ghost use Rattle.pa_buckets.specs.Table.{slot_of};
 ghost use Rattle.pa_record.specs.Spans.{Span, name_of};
-ghost use Rattle.pa_record.specs.Root.{supers_for, IsOut, IsTitleOut};
+ghost use Rattle.pa_record.specs.Root.{IsOut, IsTitleOut};
 ghost use Rattle.pa_record.specs.Census.{kept_of, census, count_in as count_of};
+ghost use Rattle.pa_place.specs.Out.{IsOutAs, IsNotOut};
 ghost use Rattle.pa_place.specs.Store.{root_of, IsReady, IsKept};
 
+use crate::placed::Out;
 use crate::plain_span::PlainSpan;
 use crate::scans::{count_in, place_holding};
 use crate::store::{Store, place_named};
 use pa_buckets::{State, slot_size};
-use pa_layout::{PARTITION_PAGE, SUPER_PAGE, SYSTEM_PAGE};
+use pa_layout::{SUPER_PAGE, SYSTEM_PAGE, supers_for};
 use pa_machine::{SlotName, Title};
 use pa_record::{Census, Tally};
 
 impl Store {
     // The slot or direct map of that name, if it is out.
-    pub(crate) fn out(&self, name: SlotName) -> Option<Title>
+    pub(crate) fn out(&self, name: SlotName) -> Option<Out>
         requires { IsReady (root_of self.now) }
-        ensures some { IfSome result (λ t. IsTitleOut (root_of self.now) t × (name_of t ≡ name)) }
-        ensures none { IfNone result ((t : Slot) → IsTitleOut (root_of self.now) t → name_of t ≡ name → ⊥) }
+        ensures some { IfSome result (IsOutAs (root_of self.now) name) }
+        ensures none { IfNone result (IsNotOut (root_of self.now) name) }
     {
-        let slot = self.slot_out(name);
-        if slot.is_some() {
-            return slot;
+        if let Some(slot) = self.slot_out(name) {
+            return Some(Out::Slot(slot));
         }
         let at = place_named(&self.maps, name)?;
-        Some(self.maps[at])
+        Some(Out::Map(self.maps[at]))
     }
 
     // The slot of that name, if it is a span's and out.
     fn slot_out(&self, name: SlotName) -> Option<Title>
         requires { IsReady (root_of self.now) }
-        ensures some { IfSome result (λ t. IsTitleOut (root_of self.now) t × (name_of t ≡ name)) }
+        ensures some { IfSome result (λ t. IsOut (root_of self.now) name × IsTitleOut (root_of self.now) t × (name_of t ≡ name)) }
         ensures none { IfNone result (IsOut (root_of self.now) name → ⊥) }
     {
         let at = place_holding(&self.spans, name)?;
@@ -115,16 +117,7 @@ fn supers_mapped(maps: &[Title]) -> u64
 {
     let mut supers = 0;
     for map in maps {
-        supers += supers_of(map.len);
+        supers += u64::from(supers_for(map.len));
     }
     supers
-}
-
-// The super pages that a direct map of a slot of so many bytes takes: the slot, 16,384 bytes before it and as many behind.
-pub(crate) fn supers_of(slot: u32) -> u64
-    ensures supers { result ≡ supers_for slot }
-    ensures bound { result < 2 ^ 12 }
-{
-    (u64::from(slot) + u64::from(2 * PARTITION_PAGE) + u64::from(SUPER_PAGE - 1))
-        / u64::from(SUPER_PAGE)
 }

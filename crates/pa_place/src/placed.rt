@@ -8,3 +8,12 @@ pub struct Placed {
     pub pool: Option<u32>,
     pub titles: ArrayVec<Title, 16>,
 }
+
+/// What is out of a root under a name.
+#[derive(Clone, Copy, Debug, PartialEq, Eq)]
+pub enum Out {
+    /// A slot of a span, which may be given back.
+    Slot(Title),
+    /// A direct map, which may be unmapped.
+    Map(Title),
+}

@@ -1,20 +1,19 @@
 ghost use Rattle.std.specs.Prelude.{◌≡◌, ◌≢◌, ℕ, ◌+◌, ◌-◌, ◌%◌, ◌<◌, ◌≤◌, ◌^◌, IfOk, IfSome, IfNone, OnErr, All, AllPairs, Contains, length, map};
-ghost use Rattle.pa_machine.specs.declared.title.Title.{Title as Slot};
-ghost use Rattle.pa_layout.specs.Pages.{super_page_at};
+ghost use Rattle.pa_layout.specs.Pages.{super_page_at, supers_for};
 ghost use Rattle.pa_record.specs.declared.taken.Taken.{Taken};
 ghost use Rattle.pa_record.specs.Pool.{IsOneTake, gave};
 ghost use Rattle.pa_record.specs.Spans.{name_of};
-ghost use Rattle.pa_record.specs.Root.{new_root, all_returned, purged, unmapped, supers_for, IsOut, IsTitleOut};
+ghost use Rattle.pa_record.specs.Root.{new_root, all_returned, purged, unmapped, IsOut};
 ghost use Rattle.pa_record.specs.Census.{census};
-ghost use Rattle.pa_record.specs.Sound.{IsBornBelow};
-ghost use Rattle.pa_place.specs.Placed.{Fills, Maps};
+ghost use Rattle.pa_record.specs.Sound.{IsSound, IsSettled, IsBornBelow};
+ghost use Rattle.pa_place.specs.Out.{IsOutAs, IsNotOut};
+ghost use Rattle.pa_place.specs.Placed.{FillDid, MapDid, IsEmptyIfRefused, IsStep};
 
-use crate::looks::supers_of;
-use crate::placed::Placed;
+use crate::placed::{Out, Placed};
 use crate::pool_plan::PoolPlan;
 use crate::store::{Store, blank_spans};
 use pa_buckets::Class;
-use pa_layout::super_page_of;
+use pa_layout::{super_page_of, supers_for};
 use pa_machine::{OutOfMemory, SlotName, Title};
 use pa_record::Census;
 use std::alloc::Global;
@@ -49,6 +48,14 @@ impl Placement {
         Ok(Placement { store, alloc })
     }
 
+    /// What is known of every placement: its root is sound, and at most 16 of its spans are empty.
+    pub fn is_sound(&self)
+        ensures sound { IsSound self.now }
+        ensures settled { IsSettled self.now }
+    {
+        let _page = self.store.page;
+    }
+
     /// Takes `want` slots of the class, 1 to 8, or as many as there are. Only the first take may ask the pool, for one super
     /// page. After want of memory the placement and the pool are unchanged.
     pub fn fill(
@@ -62,15 +69,11 @@ impl Placement {
         requires turn { self.old.turn < 2 ^ 62 }
         requires entries { pool.old.entries < 2 ^ 32 - 1 }
         requires born { IsBornBelow pool.old.entries self.old }
-        ensures filled { IfOk result (λ p. Fills class want pool.old pool.new self.old (record { root = self.new; titles = p.titles.items }) p.pool) }
+        ensures filled { IfOk result (FillDid class want pool.old pool.new self.old self.new) }
+        ensures empty { IfOk result (IsEmptyIfRefused 1 pool.old) }
         ensures pool { OnErr result (pool.new ≡ pool.old) }
         ensures root { OnErr result (self.new ≡ self.old) }
-
-        // What callers need over many calls.
-        ensures turn { self.new.turn ≤ self.old.turn + 32 }
-        ensures rises { self.old.turn ≤ self.new.turn }
-        ensures entries { pool.new.entries ≤ pool.old.entries + 1 }
-        ensures born { IsBornBelow pool.new.entries self.new }
+        ensures step { IsStep pool.old.entries pool.new.entries self.old self.new }
         ensures maps { self.new.maps ≡ self.old.maps }
     {
         let blanks = blank_spans(self.alloc, class, want)?;
@@ -97,14 +100,12 @@ impl Placement {
         requires few { supers ≤ 16 }
         requires entries { pool.old.entries < 2 ^ 32 - 1 }
         requires born { IsBornBelow pool.old.entries self.old }
-        ensures mapped { IfOk result (λ p. Maps slot pool.old pool.new self.old (record { root = self.new; titles = p.titles.items }) p.pool) }
+        ensures mapped { IfOk result (MapDid slot pool.old pool.new self.old self.new) }
+        ensures empty { IfOk result (IsEmptyIfRefused supers pool.old) }
         ensures pool { OnErr result (pool.new ≡ pool.old) }
         ensures root { OnErr result (self.new ≡ self.old) }
-
-        // What callers need over many calls.
         ensures turn { self.new.turn ≡ self.old.turn }
-        ensures entries { pool.new.entries ≤ pool.old.entries + 1 }
-        ensures born { IsBornBelow pool.new.entries self.new }
+        ensures step { IsStep pool.old.entries pool.new.entries self.old self.new }
     {
         self.store.make_map_room()?;
         let entry = pool.entries();
@@ -123,11 +124,7 @@ impl Placement {
         requires once { AllPairs ◌≢◌ (map name_of titles.now) }
         requires turn { self.old.turn < 2 ^ 62 }
         ensures returned { self.new ≡ all_returned (map name_of titles.now) self.old }
-
-        // What callers need over many calls.
-        ensures turn { self.new.turn ≤ self.old.turn + 32 }
-        ensures rises { self.old.turn ≤ self.new.turn }
-        ensures born { (n : ℕ) → IsBornBelow n self.old → IsBornBelow n self.new }
+        ensures step { (n : ℕ) → IsStep n n self.old self.new }
         ensures maps { self.new.maps ≡ self.old.maps }
     {
         self.store.give_all(titles);
@@ -142,12 +139,10 @@ impl Placement {
         ensures entry { result ≡ pool.old.entries }
         ensures unmapped { self.new ≡ unmapped (name_of title) self.old }
         ensures pool { pool.new ≡ gave (super_page_at title.start) pool.old }
-
-        // What callers need over many calls.
-        ensures born { (n : ℕ) → IsBornBelow n self.old → IsBornBelow n self.new }
+        ensures step { IsStep pool.old.entries pool.new.entries self.old self.new }
     {
         let entry = pool.entries();
-        pool.give(super_page_of(title.start), supers_of(title.len) as u32);
+        pool.give(super_page_of(title.start), supers_for(title.len));
         self.store.unmap(title);
         entry
     }
@@ -156,20 +151,16 @@ impl Placement {
     pub fn purge(&mut self)
         requires turn { self.old.turn < 2 ^ 62 }
         ensures purged { self.new ≡ purged self.old }
-
-        // What callers need over many calls.
-        ensures turn { self.new.turn ≤ self.old.turn + 32 }
-        ensures rises { self.old.turn ≤ self.new.turn }
-        ensures born { (n : ℕ) → IsBornBelow n self.old → IsBornBelow n self.new }
+        ensures step { (n : ℕ) → IsStep n n self.old self.new }
         ensures maps { self.new.maps ≡ self.old.maps }
     {
         self.store.purge();
     }
 
     /// The slot of a span, or the direct map, that has that name and is out of this root. `None` exactly where none is.
-    pub fn out(&self, slot: SlotName) -> Option<Title>
-        ensures some { IfSome result (λ t. IsTitleOut self.now t × (name_of t ≡ slot)) }
-        ensures none { IfNone result ((t : Slot) → IsTitleOut self.now t → name_of t ≡ slot → ⊥) }
+    pub fn out(&self, slot: SlotName) -> Option<Out>
+        ensures some { IfSome result (IsOutAs self.now slot) }
+        ensures none { IfNone result (IsNotOut self.now slot) }
     {
         self.store.out(slot)
     }

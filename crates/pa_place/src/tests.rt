@@ -1,7 +1,7 @@
 ghost use Rattle.std.specs.Prelude.{◌≡◌, ℕ, ◌+◌, ◌*◌, ◌<◌, ◌≤◌, [], OnOk};
 ghost use Rattle.pa_place.specs.Tests.{IsYoung, HasOnlyMaps};
 
-use crate::{Placement, PoolPlan};
+use crate::{Out, Placement, PoolPlan};
 use pa_buckets::Class;
 use pa_machine::SlotName;
 use pa_record::{Census, Tally};
@@ -51,7 +51,9 @@ fn give(rt: &impl Abort, placement: &mut Placement, steps: u32, start: u32) -> R
     ensures young { OnOk result ((n : ℕ) → IsYoung steps n placement.old → IsYoung (steps + 1) n placement.new) }
 {
     let name = SlotName { start, born: 0 };
-    let title = placement.out(name).ok_or("the slot isn't out")?;
+    let Some(Out::Slot(title)) = placement.out(name) else {
+        return Err(Fail::new("the slot isn't out"));
+    };
     placement.give(&[title]);
     assert!(rt; placement.out(name) == None);
     Ok(())
@@ -98,7 +100,9 @@ fn unmap(
     ensures maps { OnOk result (HasOnlyMaps (steps + 1) pool.new placement.new) }
 {
     let name = SlotName { start: 16384, born };
-    let title = placement.out(name).ok_or("the map isn't out")?;
+    let Some(Out::Map(title)) = placement.out(name) else {
+        return Err(Fail::new("the map isn't out"));
+    };
     assert_eq!(rt; title.len, 2002944);
     assert!(rt; pool.taken(0, 1));
     let went = placement.unmap(pool, title);

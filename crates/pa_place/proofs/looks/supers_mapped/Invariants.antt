@@ -1,7 +1,7 @@
 use Rattle.std.proofs.Common.{◌≡◌, ◌*◌, ◌^◌, ◌≤◌, take}
 use Rattle.std.specs.Prelude.{sum_by}
 use Rattle.pa_machine.specs.declared.title.Title.{Title}
-use Rattle.pa_record.specs.Root.{supers_for}
+use Rattle.pa_layout.specs.Pages.{supers_for}
 use Rattle.pa_place.proofs.looks.supers_mapped.Given as goal
 
 abbrev pub invariant-loop-map : goal.invariant-loop-map

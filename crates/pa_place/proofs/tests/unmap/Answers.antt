@@ -1,7 +1,6 @@
 use Rattle.std.proofs.Common.{ap, ◌∙◌, arith}
 use Rattle.pa_record.specs.Pool.{PoolState}
 use Rattle.pa_record.specs.Root.{Root}
-use Rattle.pa_record.proofs.Mapping.{born_more}
 use Rattle.pa_place.proofs.tests.unmap.Goals as goal
 
 pub returns : goal.returns
@@ -12,7 +11,7 @@ returns g c =
     record {
       maps = record {
         entries = omega arith;
-        born = born_more c.args.pool.now.entries c.unmap-went.new.pool.entries c.unmap-went.new.self (omega arith) (c.unmap-went.ensures.born c.args.pool.now.entries old.born);
+        born = c.unmap-went.ensures.step.born old.born;
         spans = ap (λ (r : Root). r.spans) c.unmap-went.ensures.unmapped ∙ old.spans;
       };
     }

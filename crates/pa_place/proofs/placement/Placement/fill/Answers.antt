@@ -1,11 +1,13 @@
-use Rattle.std.proofs.Common.{◌≡◌, ◌+◌, ◌<◌, ◌≤◌, ℕ, List, length, refl, ◌∙◌, subst, arith, rules, Option}
+use Rattle.std.proofs.Common.{◌≡◌, ◌<◌, ◌≤◌, ℕ, List, length, refl, ◌∙◌, subst, arith, rules, Option}
 use Rattle.pa_machine.specs.declared.title.Title.{Title}
 use Rattle.pa_record.specs.Pool.{PoolState}
 use Rattle.pa_record.specs.Root.{Root, takes}
-use Rattle.pa_record.specs.Sound.{IsBornBelow}
+use Rattle.pa_record.specs.Sound.{IsSound, IsBornBelow}
 use Rattle.pa_place.specs.declared.store.Store.{Store}
 use Rattle.pa_place.specs.Store.{root_of, HasLowSupers, IsKept, AsksWhere}
+use Rattle.pa_place.specs.Placed.{IsStep}
 use Rattle.pa_place.proofs.Filling.{filled_with}
+use Rattle.pa_place.proofs.Refused.{fill_refused}
 use Rattle.pa_place.proofs.Keeping.{IsGood, IsAfterAsk, good_of, kept_by, asked_step, filled_step, fills_by}
 use Rattle.pa_place.proofs.placement.Placement.fill.Goals as goal
 
@@ -20,9 +22,7 @@ asked before room after r class pool next o kept e same few old low asks =
 -- and then the takes were made
 record IsFilledFrom (pool next : PoolState) (r after : Root) : Type 0 where
   good : IsGood after
-  turn : after.turn ≤ r.turn + 32
-  rises : r.turn ≤ after.turn
-  born : IsBornBelow next.entries after
+  step : IsStep pool.entries next.entries r after
   maps : after.maps ≡ r.maps
 
 filled : (class want : ℕ) (pool next : PoolState) (r between after : Root) (titles : List Title) → IsAfterAsk pool next r between → class < 59 → want ≤ 8 →
@@ -31,9 +31,13 @@ filled class want pool next r between after titles a real few e =
     let b = filled_step class want between after titles a.good real few e in
     record {
       good = b.good;
-      turn = let p = a.turn in let q = b.turn in omega arith;
-      rises = let p = a.turn in let q = b.rises in omega arith;
-      born = b.born next.entries a.born;
+      step = record {
+        turn = let p = a.turn in let q = b.turn in omega arith;
+        rises = let p = a.turn in let q = b.rises in omega arith;
+        entries = a.entries;
+        one = a.one;
+        born = λ _. b.born next.entries a.born;
+      };
       maps = b.maps ∙ a.maps;
     }
 
@@ -60,26 +64,12 @@ returns-clause-filled c =
     (subst (λ z. AsksWhere c.args.class c.args.pool.now c.ask-entry.new.pool z (root_of c.ask-entry.new.self) c.ask-entry.result) f c.ask-entry.ensures.asks)
     c.takes-titles.ensures.filled
 
-pub returns-clause-turn : goal.returns-clause-turn
-returns-clause-turn c =
+pub returns-clause-step : goal.returns-clause-step
+returns-clause-step c =
     let a = asked c.self.inside.store c.make_room.new.self c.ask-entry.new.self c.args.self.now c.args.class c.args.pool.now c.ask-entry.new.pool c.ask-entry.result c.self.invariant c.self.view_is
     c.make_room.ensures.same c.in_ok-make_room.ensures.room.few_supers c.requires.born c.ask-entry.ensures.low c.ask-entry.ensures.asks in
     let real : c.args.class < 59 = search rules in
-    (filled c.args.class c.args.want c.args.pool.now c.ask-entry.new.pool c.args.self.now (root_of c.ask-entry.new.self) (root_of c.takes-titles.new.self) c.takes-titles.result.items a real c.requires.few c.takes-titles.ensures.filled).turn
-
-pub returns-clause-rises : goal.returns-clause-rises
-returns-clause-rises c =
-    let a = asked c.self.inside.store c.make_room.new.self c.ask-entry.new.self c.args.self.now c.args.class c.args.pool.now c.ask-entry.new.pool c.ask-entry.result c.self.invariant c.self.view_is
-    c.make_room.ensures.same c.in_ok-make_room.ensures.room.few_supers c.requires.born c.ask-entry.ensures.low c.ask-entry.ensures.asks in
-    let real : c.args.class < 59 = search rules in
-    (filled c.args.class c.args.want c.args.pool.now c.ask-entry.new.pool c.args.self.now (root_of c.ask-entry.new.self) (root_of c.takes-titles.new.self) c.takes-titles.result.items a real c.requires.few c.takes-titles.ensures.filled).rises
-
-pub returns-clause-born : goal.returns-clause-born
-returns-clause-born c =
-    let a = asked c.self.inside.store c.make_room.new.self c.ask-entry.new.self c.args.self.now c.args.class c.args.pool.now c.ask-entry.new.pool c.ask-entry.result c.self.invariant c.self.view_is
-    c.make_room.ensures.same c.in_ok-make_room.ensures.room.few_supers c.requires.born c.ask-entry.ensures.low c.ask-entry.ensures.asks in
-    let real : c.args.class < 59 = search rules in
-    (filled c.args.class c.args.want c.args.pool.now c.ask-entry.new.pool c.args.self.now (root_of c.ask-entry.new.self) (root_of c.takes-titles.new.self) c.takes-titles.result.items a real c.requires.few c.takes-titles.ensures.filled).born
+    (filled c.args.class c.args.want c.args.pool.now c.ask-entry.new.pool c.args.self.now (root_of c.ask-entry.new.self) (root_of c.takes-titles.new.self) c.takes-titles.result.items a real c.requires.few c.takes-titles.ensures.filled).step
 
 pub returns-clause-maps : goal.returns-clause-maps
 returns-clause-maps c =
@@ -87,3 +77,13 @@ returns-clause-maps c =
     c.make_room.ensures.same c.in_ok-make_room.ensures.room.few_supers c.requires.born c.ask-entry.ensures.low c.ask-entry.ensures.asks in
     let real : c.args.class < 59 = search rules in
     (filled c.args.class c.args.want c.args.pool.now c.ask-entry.new.pool c.args.self.now (root_of c.ask-entry.new.self) (root_of c.takes-titles.new.self) c.takes-titles.result.items a real c.requires.few c.takes-titles.ensures.filled).maps
+
+pub returns-clause-empty : goal.returns-clause-empty
+returns-clause-empty c =
+    let f = c.make_room.ensures.same ∙ c.self.view_is in
+    let real : c.args.class < 59 = search rules in
+    let sound = subst (λ r. IsSound r) c.self.view_is c.self.invariant.ready.sound in
+    fill_refused c.args.class c.args.want c.args.pool.now c.ask-entry.new.pool c.args.self.now (root_of c.takes-titles.new.self) c.takes-titles.result.items c.ask-entry.result sound c.requires.born real c.requires.some
+    (fills_by c.args.class c.args.want c.args.pool.now c.ask-entry.new.pool c.args.self.now (root_of c.ask-entry.new.self) (root_of c.takes-titles.new.self) c.takes-titles.result.items c.ask-entry.result
+    (subst (λ z. AsksWhere c.args.class c.args.pool.now c.ask-entry.new.pool z (root_of c.ask-entry.new.self) c.ask-entry.result) f c.ask-entry.ensures.asks)
+    c.takes-titles.ensures.filled)

@@ -5,11 +5,11 @@ use Rattle.pa_record.specs.Spans.{name_of}
 use Rattle.pa_record.specs.Root.{Root, IsOut, all_returned}
 use Rattle.pa_place.specs.declared.store.Store.{Store}
 use Rattle.pa_place.specs.Store.{root_of, IsKept}
-use Rattle.pa_place.proofs.Keeping.{IsGood, IsStep, good_of, kept_by, gives}
+use Rattle.pa_place.proofs.Keeping.{IsGood, IsInPlace, in_place, good_of, kept_by, gives}
 use Rattle.pa_place.proofs.placement.Placement.give.Goals as goal
 
 step : (before after : Store) (r : Root) (titles : List Title) → IsKept before → root_of before ≡ r → length titles ≤ 16 → All (IsOut r) (map name_of titles) → AllPairs ◌≢◌ (map name_of titles) →
-    root_of after ≡ all_returned (map name_of titles) (root_of before) → IsStep 32 r (root_of after)
+    root_of after ≡ all_returned (map name_of titles) (root_of before) → IsInPlace r (root_of after)
 step before after r titles kept e few out once is =
     gives r (root_of after) titles (subst IsGood e (good_of before kept)) few out once (is ∙ ap (all_returned (map name_of titles)) e)
 
@@ -23,17 +23,10 @@ invariant_of-self c =
     let few = c.self.invariant.spans in
     kept_by c.give_all.new.self (root_of c.give_all.new.self) refl a.good (omega arith)
 
-pub returns-clause-turn : goal.returns-clause-turn
-returns-clause-turn c =
-    (step c.self.inside.store c.give_all.new.self c.args.self.now c.args.titles.now c.self.invariant c.self.view_is c.requires.few c.requires.out c.requires.once c.give_all.ensures.returned).turn
-
-pub returns-clause-rises : goal.returns-clause-rises
-returns-clause-rises c =
-    (step c.self.inside.store c.give_all.new.self c.args.self.now c.args.titles.now c.self.invariant c.self.view_is c.requires.few c.requires.out c.requires.once c.give_all.ensures.returned).rises
-
-pub returns-clause-born : goal.returns-clause-born
-returns-clause-born c =
-    (step c.self.inside.store c.give_all.new.self c.args.self.now c.args.titles.now c.self.invariant c.self.view_is c.requires.few c.requires.out c.requires.once c.give_all.ensures.returned).born
+pub returns-clause-step : goal.returns-clause-step
+returns-clause-step c = λ n.
+    in_place n c.args.self.now (root_of c.give_all.new.self)
+    (step c.self.inside.store c.give_all.new.self c.args.self.now c.args.titles.now c.self.invariant c.self.view_is c.requires.few c.requires.out c.requires.once c.give_all.ensures.returned)
 
 pub returns-clause-maps : goal.returns-clause-maps
 returns-clause-maps c =

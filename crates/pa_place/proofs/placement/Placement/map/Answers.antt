@@ -8,6 +8,7 @@ use Rattle.pa_place.specs.Placed.{mapped_by}
 use Rattle.pa_place.specs.Store.{root_of, IsKept}
 use Rattle.pa_place.proofs.Filling.{filled_with}
 use Rattle.pa_place.proofs.Keeping.{IsGood, IsAfterMap, good_of, kept_by, mapped_step, entries_after}
+use Rattle.pa_place.proofs.Refused.{map_refused}
 use Rattle.pa_place.proofs.placement.Placement.map.Goals as goal
 
 step : (before room after : Store) (r : Root) (len entry count : ℕ) (found : Option ℕ) (pool next : PoolState) (titles : List Title) → IsKept before → root_of before ≡ r → root_of room ≡ root_of before →
@@ -28,7 +29,13 @@ invariant_of-self-2 c =
     let few = c.self.invariant.spans in
     kept_by c.map-titles.new.self (root_of c.map-titles.new.self) refl a.good (omega arith)
 
-pub returns-clause-born : goal.returns-clause-born
-returns-clause-born c =
+pub returns-clause-step : goal.returns-clause-step
+returns-clause-step c =
     (step c.self.inside.store c.make_map_room.new.self c.map-titles.new.self c.args.self.now c.args.slot c.entries-entry.result c.args.supers c.take-found.result c.args.pool.now c.take-found.new.self
-    c.map-titles.result.items c.self.invariant c.self.view_is c.make_map_room.ensures.same c.in_ok-make_map_room.ensures.few c.requires.born c.entries-entry.ensures c.take-found.ensures.after c.map-titles.ensures.mapped).born
+    c.map-titles.result.items c.self.invariant c.self.view_is c.make_map_room.ensures.same c.in_ok-make_map_room.ensures.few c.requires.born c.entries-entry.ensures c.take-found.ensures.after c.map-titles.ensures.mapped).step
+
+pub returns-clause-empty : goal.returns-clause-empty
+returns-clause-empty c =
+    let f = c.make_map_room.ensures.same ∙ c.self.view_is in
+    map_refused c.args.slot c.args.supers c.entries-entry.result c.take-found.result c.args.pool.now c.args.self.now (root_of c.map-titles.new.self) c.map-titles.result.items
+    c.entries-entry.ensures c.take-found.ensures.lowest (sym (ap (mapped_by c.args.slot c.entries-entry.result c.take-found.result) f) ∙ c.map-titles.ensures.mapped)

@@ -2,10 +2,10 @@ use Rattle.std.proofs.Common.{◌≡◌, refl, ◌∙◌, ap, subst, arith}
 use Rattle.pa_record.specs.Root.{Root, purged}
 use Rattle.pa_place.specs.declared.store.Store.{Store}
 use Rattle.pa_place.specs.Store.{root_of, IsKept}
-use Rattle.pa_place.proofs.Keeping.{IsGood, IsStep, good_of, kept_by, purges}
+use Rattle.pa_place.proofs.Keeping.{IsGood, IsInPlace, in_place, good_of, kept_by, purges}
 use Rattle.pa_place.proofs.placement.Placement.purge.Goals as goal
 
-step : (before after : Store) (r : Root) → IsKept before → root_of before ≡ r → root_of after ≡ purged (root_of before) → IsStep 32 r (root_of after)
+step : (before after : Store) (r : Root) → IsKept before → root_of before ≡ r → root_of after ≡ purged (root_of before) → IsInPlace r (root_of after)
 step before after r kept e is = purges r (root_of after) (subst IsGood e (good_of before kept)) (is ∙ ap purged e)
 
 pub invariant_of-self : goal.invariant_of-self
@@ -15,14 +15,10 @@ invariant_of-self c =
     let few = c.self.invariant.spans in
     kept_by c.purge.new.self (root_of c.purge.new.self) refl a.good (omega arith)
 
-pub returns-clause-turn : goal.returns-clause-turn
-returns-clause-turn c = (step c.self.inside.store c.purge.new.self c.args.self.now c.self.invariant c.self.view_is c.purge.ensures.purged).turn
-
-pub returns-clause-rises : goal.returns-clause-rises
-returns-clause-rises c = (step c.self.inside.store c.purge.new.self c.args.self.now c.self.invariant c.self.view_is c.purge.ensures.purged).rises
-
-pub returns-clause-born : goal.returns-clause-born
-returns-clause-born c = (step c.self.inside.store c.purge.new.self c.args.self.now c.self.invariant c.self.view_is c.purge.ensures.purged).born
+pub returns-clause-step : goal.returns-clause-step
+returns-clause-step c = λ n.
+    in_place n c.args.self.now (root_of c.purge.new.self)
+    (step c.self.inside.store c.purge.new.self c.args.self.now c.self.invariant c.self.view_is c.purge.ensures.purged)
 
 pub returns-clause-maps : goal.returns-clause-maps
 returns-clause-maps c = (step c.self.inside.store c.purge.new.self c.args.self.now c.self.invariant c.self.view_is c.purge.ensures.purged).maps

@@ -1,8 +1,10 @@
-use Rattle.std.proofs.Common.{◌≡◌, refl, ◌∙◌, ap, subst, arith}
+use Rattle.std.proofs.Common.{◌≡◌, refl, sym, ◌∙◌, ap, subst, arith}
 use Rattle.pa_machine.specs.declared.title.Title.{Title}
+use Rattle.pa_record.specs.Pool.{PoolState}
 use Rattle.pa_record.specs.Spans.{name_of}
 use Rattle.pa_record.specs.Root.{Root, unmapped}
 use Rattle.pa_place.specs.declared.store.Store.{Store}
+use Rattle.pa_place.specs.Placed.{IsStep}
 use Rattle.pa_place.specs.Store.{root_of, IsKept}
 use Rattle.pa_place.proofs.Keeping.{IsGood, IsAfterUnmap, good_of, kept_by, unmapped_step}
 use Rattle.pa_place.proofs.placement.Placement.unmap.Goals as goal
@@ -17,5 +19,8 @@ invariant_of-self c =
     let few = c.self.invariant.spans in
     kept_by c.unmap.new.self (root_of c.unmap.new.self) refl a.good (omega arith)
 
-pub returns-clause-born : goal.returns-clause-born
-returns-clause-born c = (step c.self.inside.store c.unmap.new.self c.args.self.now c.args.title c.self.invariant c.self.view_is c.unmap.ensures.unmapped).born
+pub returns-clause-step : goal.returns-clause-step
+returns-clause-step c =
+    let more = ap (λ (p : PoolState). p.entries) c.give.ensures in
+    subst (λ n. IsStep c.args.pool.now.entries n c.args.self.now (root_of c.unmap.new.self)) (sym more)
+    ((step c.self.inside.store c.unmap.new.self c.args.self.now c.args.title c.self.invariant c.self.view_is c.unmap.ensures.unmapped).step c.args.pool.now.entries)
