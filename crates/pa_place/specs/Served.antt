@@ -1,5 +1,6 @@
 -- A span before it stands anywhere, and what a take leaves of one.
-use Rattle.std.specs.Prelude.{◌≡◌, ℕ, ◌+◌, ◌≤◌, ◌^◌, List, [], ◌∷◌}
+use Rattle.std.specs.Prelude.{◌≡◌, ℕ, ◌+◌, ◌<◌, ◌≤◌, ◌^◌, List, [], ◌∷◌, All, slice_index_or, Vec, vec_len}
+use Rattle.std.specs.declared.alloc.Global.{Global}
 use Rattle.pa_machine.specs.declared.title.Title.{Title}
 use Rattle.pa_buckets.specs.declared.spans.State.TheVariants as state
 use Rattle.pa_record.specs.Spans.{Span, bytes_of, title_at, with_free, without_front}
@@ -8,6 +9,11 @@ use Rattle.pa_record.specs.Spans.{Span, bytes_of, title_at, with_free, without_f
 abbrev pub blank_span : ℕ → Span
 blank_span class =
     record { place = 0; born = 0; class = class; state = state.None; turn = 0; allocated = 0; provisioned = 0; committed = 0; made = 0; free = [] }
+
+-- there is a list for each class, in which all are blank spans of it
+pub record AreBlank (lists : Vec (Vec Span Global) Global) : Type 0 where
+  pub classes : vec_len lists ≡ 59
+  pub blank : (class : ℕ) (d : Vec Span Global) → class < 59 → All (λ s. s ≡ blank_span class) (slice_index_or lists.items class d).items
 
 -- the same span there
 abbrev pub stands_at : ℕ → ℕ → Span → Span

@@ -2,6 +2,7 @@
 //! allocator's root has to answer, in the words of the definitions of what such a call is.
 #![tactic(auto)]
 
+mod blanks;
 mod looks;
 mod placed;
 mod placement;

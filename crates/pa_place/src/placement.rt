@@ -9,9 +9,10 @@ ghost use Rattle.pa_record.specs.Sound.{IsSound, IsSettled, IsBornBelow};
 ghost use Rattle.pa_place.specs.Out.{IsOutAs, IsNotOut};
 ghost use Rattle.pa_place.specs.Placed.{FillDid, MapDid, IsEmptyIfRefused, IsStep};
 
+use crate::blanks::Blanks;
 use crate::placed::{Out, Placed};
 use crate::pool_plan::PoolPlan;
-use crate::store::{Store, blank_spans};
+use crate::store::Store;
 use pa_buckets::Class;
 use pa_layout::{super_page_of, supers_for};
 use pa_machine::{OutOfMemory, SlotName, Title};
@@ -24,6 +25,7 @@ use std::marker::Model;
 #[derive(Drop)]
 pub struct Placement {
     store: Store,
+    blanks: Blanks,
     alloc: Global,
 }
 
@@ -45,7 +47,12 @@ impl Placement {
         ensures start { IfOk result (λ p. p ≡ new_root) }
     {
         let store = Store::new(alloc)?;
-        Ok(Placement { store, alloc })
+        let blanks = Blanks::new(alloc)?;
+        Ok(Placement {
+            store,
+            blanks,
+            alloc,
+        })
     }
 
     /// What is known of every placement: its root is sound, and at most 16 of its spans are empty.
@@ -76,10 +83,11 @@ impl Placement {
         ensures step { IsStep pool.old.entries pool.new.entries self.old self.new }
         ensures maps { self.new.maps ≡ self.old.maps }
     {
-        let blanks = blank_spans(self.alloc, class, want)?;
+        let mut blanks = self.blanks.take(self.alloc, class, want)?;
         self.store.make_room(want)?;
         let entry = self.store.ask(pool, class);
-        let titles = self.store.takes(class, want, blanks);
+        let titles = self.store.takes(class, want, &mut blanks);
+        self.blanks.put(class, blanks);
         Ok(Placed {
             pool: entry,
             titles,

@@ -166,18 +166,3 @@ pub(crate) fn place_named(maps: &[Title], name: SlotName) -> Option<usize>
     maps.iter()
         .position(|map| map.start == name.start && map.born == name.born)
 }
-
-// Blank spans of the class, so many.
-pub(crate) fn blank_spans(
-    alloc: Global,
-    class: Class,
-    count: u32,
-) -> Result<Vec<PlainSpan>, OutOfMemory>
-    ensures { IfOk result (λ blanks. HasBlanks class count blanks.items) }
-{
-    let mut blanks = Vec::with_capacity(alloc, count as usize)?;
-    for _blank in 0..count {
-        blanks.push_reserved(PlainSpan::blank(alloc, class)?);
-    }
-    Ok(blanks)
-}

@@ -25,20 +25,21 @@ impl Store {
         &mut self,
         class: Class,
         want: u32,
-        mut blanks: Vec<PlainSpan>,
+        blanks: &mut Vec<PlainSpan>,
     ) -> ArrayVec<Title, 16>
         requires real { class < 59 }
         requires few { want ≤ 8 }
         requires ready { IsReady (root_of self.old) }
         requires turn { self.old.turn < 2 ^ 62 }
-        requires blanks { HasBlanks class want blanks.items }
+        requires blanks { HasBlanks class want blanks.old.items }
         requires room { vec_len self.old.spans + want ≤ vec_capacity self.old.spans }
         ensures filled { takes class want (root_of self.old) ≡ record { root = root_of self.new; titles = result.items } }
         ensures many { vec_len self.new.spans ≤ vec_len self.old.spans + want }
+        ensures blanks { HasBlanks class 0 blanks.new.items }
     {
         let mut titles = ArrayVec::new();
         for _taken in 0..want {
-            match self.take(class, &mut blanks) {
+            match self.take(class, blanks) {
                 Some(title) => titles.push(title),
                 None => break,
             }
