@@ -23,10 +23,10 @@ use Rattle.pa_place.proofs.Removing.{is_named}
 pub record IsGood (r : Root) : Type 0 where
   pub ready : IsReady r
   pub settled : IsSettled r
-  pub supers : length r.supers ≤ 65536
-  pub maps : length r.maps ≤ 65536
+  pub supers : length r.supers ≤ 2147483647
+  pub maps : length r.maps ≤ 2147483647
 
-pub kept_by : (s : Store) (r : Root) → root_of s ≡ r → IsGood r → vec_len s.spans ≤ 65536 → IsKept s
+pub kept_by : (s : Store) (r : Root) → root_of s ≡ r → IsGood r → vec_len s.spans ≤ 2147483647 → IsKept s
 kept_by s r e good many =
     let g = subst IsGood (sym e) good in
     record { ready = g.ready; settled = g.settled; supers = g.supers; maps = g.maps; spans = many }
@@ -104,7 +104,7 @@ pub entries_after : (count : ℕ) (found : Option ℕ) (pool : PoolState) → (t
 entries_after count None pool = refl
 entries_after count (Some first) pool = refl
 
-opened_good : (found : Option ℕ) (entry : ℕ) (r : Root) → IsGood r → length r.supers < 65536 → IsBornBelow entry r → HasLowSupers (opened_where found entry r) →
+opened_good : (found : Option ℕ) (entry : ℕ) (r : Root) → IsGood r → length r.supers < 2147483647 → IsBornBelow entry r → HasLowSupers (opened_where found entry r) →
     IsGood (opened_where found entry r) × IsBornBelow (entry + 1) (opened_where found entry r) × ((opened_where found entry r).turn ≡ r.turn)
 opened_good None entry r good few old low = (good, born_more entry (entry + 1) r (omega arith) old, refl)
 opened_good (Some first) entry r good few old low = (
@@ -125,7 +125,7 @@ opened_maps : (found : Option ℕ) (entry : ℕ) (r : Root) → (opened_where fo
 opened_maps None entry r = refl
 opened_maps (Some first) entry r = refl
 
-pub asked_step : (class : ℕ) (pool next : PoolState) (r after : Root) (asked : Option ℕ) → IsGood r → length r.supers < 65536 → IsBornBelow pool.entries r → HasLowSupers after →
+pub asked_step : (class : ℕ) (pool next : PoolState) (r after : Root) (asked : Option ℕ) → IsGood r → length r.supers < 2147483647 → IsBornBelow pool.entries r → HasLowSupers after →
     AsksWhere class pool next r after asked → IsAfterAsk pool next r after
 asked_step class pool next r after None good few old low (some, same, e) = record {
   good = subst IsGood (sym e) good;
@@ -165,7 +165,7 @@ pub record IsAfterMap (pool next : PoolState) (r after : Root) : Type 0 where
   pub good : IsGood after
   pub step : IsStep pool.entries next.entries r after
 
-mapped_good : (len entry : ℕ) (found : Option ℕ) (r : Root) → IsGood r → length r.maps < 65536 → IsBornBelow entry r →
+mapped_good : (len entry : ℕ) (found : Option ℕ) (r : Root) → IsGood r → length r.maps < 2147483647 → IsBornBelow entry r →
     IsGood (mapped_by len entry found r).root × IsBornBelow (entry + 1) (mapped_by len entry found r).root × ((mapped_by len entry found r).root.turn ≡ r.turn)
 mapped_good len entry None r good few old = (good, born_more entry (entry + 1) r (omega arith) old, refl)
 mapped_good len entry (Some first) r good few old =
@@ -180,7 +180,7 @@ mapped_good len entry (Some first) r good few old =
       refl,
     )
 
-pub mapped_step : (len entry : ℕ) (found : Option ℕ) (pool next : PoolState) (r after : Root) (titles : List Title) → IsGood r → length r.maps < 65536 → IsBornBelow pool.entries r →
+pub mapped_step : (len entry : ℕ) (found : Option ℕ) (pool next : PoolState) (r after : Root) (titles : List Title) → IsGood r → length r.maps < 2147483647 → IsBornBelow pool.entries r →
     entry ≡ pool.entries → next.entries ≡ pool.entries + 1 → mapped_by len entry found r ≡ filled_with after titles → IsAfterMap pool next r after
 mapped_step len entry found pool next r after titles good few old is more e =
     let (a, b, t) = mapped_good len entry found r good few (subst (λ n. IsBornBelow n r) (sym is) old) in

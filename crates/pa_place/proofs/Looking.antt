@@ -74,27 +74,27 @@ kept_bytes s h =
 committed_few : (s : Span) → IsCounted s → s.committed ≤ 224
 committed_few s h = let b = IsRow-of s.class h.class in let p = h.committed in let q = b.used in let k = b.few_pages in omega arith
 
-low_product : (m n : ℕ) → m ≤ 917504 → n ≤ 65536 → m * n ≤ 917504 * 65536
+low_product : (m n : ℕ) → m ≤ 917504 → n ≤ 2147483647 → m * n ≤ 917504 * 2147483647
 low_product m n a b =
-    let p : m * n ≤ m * 65536 = mul-le-mul_left m b in
+    let p : m * n ≤ m * 2147483647 = mul-le-mul_left m b in
     omega arith
 
 pub counted_all : (r : Root) → IsReady r → (s : Span) → Contains r.spans s → IsCounted s
 counted_all r ready s among = (ready.sound.spans s among).counted
 
-pub slots_low : (r : Root) → IsReady r → length r.spans ≤ 65536 → sum_by kept_of r.spans < 2 ^ 64
+pub slots_low : (r : Root) → IsReady r → length r.spans ≤ 2147483647 → sum_by kept_of r.spans < 2 ^ 64
 slots_low r ready few =
     let p = sum_most kept_of 1024 r.spans (λ s among. kept_few s (counted_all r ready s among)) in
     let q = low_product 1024 (length r.spans) (omega arith) few in
     omega arith
 
-pub bytes_low : (r : Root) → IsReady r → length r.spans ≤ 65536 → sum_by (λ (s : Span). slot_of s.class * kept_of s) r.spans < 2 ^ 64
+pub bytes_low : (r : Root) → IsReady r → length r.spans ≤ 2147483647 → sum_by (λ (s : Span). slot_of s.class * kept_of s) r.spans < 2 ^ 64
 bytes_low r ready few =
     let p = sum_most (λ (s : Span). slot_of s.class * kept_of s) 917504 r.spans (λ s among. kept_bytes s (counted_all r ready s among)) in
     let q = low_product 917504 (length r.spans) (omega arith) few in
     omega arith
 
-pub pages_low : (r : Root) → IsReady r → length r.spans ≤ 65536 → sum_by (λ (s : Span). s.committed) r.spans ≤ 2 ^ 36
+pub pages_low : (r : Root) → IsReady r → length r.spans ≤ 2147483647 → sum_by (λ (s : Span). s.committed) r.spans ≤ 2 ^ 40
 pages_low r ready few =
     let p = sum_most (λ (s : Span). s.committed) 224 r.spans (λ s among. committed_few s (counted_all r ready s among)) in
     let q = low_product 224 (length r.spans) (omega arith) few in

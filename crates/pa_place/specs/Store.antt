@@ -46,16 +46,16 @@ room_for class r (Some at) = if nat_le (r.page + pages_of class) 127 then Some a
 pub record IsKept (s : Store) : Type 0 where
   pub ready : IsReady (root_of s)
   pub settled : IsSettled (root_of s)
-  pub supers : length s.supers.items ≤ 65536
-  pub maps : length s.maps.items ≤ 65536
-  pub spans : vec_len s.spans ≤ 65536
+  pub supers : length s.supers.items ≤ 2147483647
+  pub maps : length s.maps.items ≤ 2147483647
+  pub spans : vec_len s.spans ≤ 2147483647
 
 -- there is room for so many spans more, and for one super page
 pub record HasRoomFor (s : Store) (spans : ℕ) : Type 0 where
   pub room : vec_len s.spans + spans ≤ vec_capacity s.spans
-  pub few_spans : vec_len s.spans + spans ≤ 65536
+  pub few_spans : vec_len s.spans + spans ≤ 2147483647
   pub supers : vec_len s.supers < vec_capacity s.supers
-  pub few_supers : length s.supers.items < 65536
+  pub few_supers : length s.supers.items < 2147483647
 
 -- the super pages that the pool found become the current ones
 abbrev pub opened_where : Option ℕ → ℕ → Root → Root

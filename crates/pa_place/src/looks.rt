@@ -99,9 +99,9 @@ fn pages_committed(spans: &[PlainSpan]) -> u64
 
 // The bytes of the direct maps' slots, and the super pages of the direct maps.
 fn bytes_mapped(maps: &[Title]) -> u64
-    requires { length maps.now ≤ 65536 }
+    requires { length maps.now ≤ 2147483647 }
     ensures bytes { result ≡ sum_by (λ (t : Slot). t.len) maps.now }
-    ensures bound { result ≤ 2 ^ 48 }
+    ensures bound { result ≤ 2 ^ 63 }
 {
     let mut bytes = 0;
     for map in maps {
@@ -111,9 +111,9 @@ fn bytes_mapped(maps: &[Title]) -> u64
 }
 
 fn supers_mapped(maps: &[Title]) -> u64
-    requires { length maps.now ≤ 65536 }
+    requires { length maps.now ≤ 2147483647 }
     ensures supers { result ≡ sum_by (λ (t : Slot). supers_for t.len) maps.now }
-    ensures bound { result ≤ 2 ^ 28 }
+    ensures bound { result ≤ 2049 * 2147483647 }
 {
     let mut supers = 0;
     for map in maps {

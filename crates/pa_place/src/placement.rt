@@ -21,7 +21,7 @@ use std::alloc::Global;
 use std::marker::Model;
 
 /// The root of one partition, as lists. It is seen as that root, which is sound, and of which at most 16 spans are empty.
-/// A list that would have more than 65,536 members is refused as want of memory; 64 super pages have 8,064 spans at most.
+/// A list that would have more than 2,147,483,647 members is refused as want of memory.
 #[derive(Drop)]
 pub struct Placement {
     store: Store,

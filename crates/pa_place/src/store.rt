@@ -15,8 +15,8 @@ use pa_machine::{OutOfMemory, SlotName, Title};
 use pa_record::SuperPage;
 use std::alloc::Global;
 
-// The most members of a list of the store, so that what a census counts fits. 64 super pages have 8,064 spans at most.
-const MOST_LISTED: usize = 65_536;
+// The most members of a list of the store.
+const MOST_MEMBERS: usize = 2_147_483_647;
 
 // The root of a partition as lists: the super pages that fills took, of which the last is the current one; the next free
 // partition page of the current one; the next turn; the direct maps; and the spans in the order in which they were made.
@@ -51,8 +51,8 @@ impl Store {
         ensures room { OnOk result (HasRoomFor self.new spans) }
     {
         let spans = spans as usize;
-        if self.supers.len() >= MOST_LISTED
-            || self.spans.len().saturating_add(spans) > MOST_LISTED
+        if self.supers.len() >= MOST_MEMBERS
+            || self.spans.len().saturating_add(spans) > MOST_MEMBERS
         {
             return Err(OutOfMemory);
         }
@@ -66,9 +66,9 @@ impl Store {
         ensures same { root_of self.new ≡ root_of self.old }
         ensures many { vec_len self.new.spans ≡ vec_len self.old.spans }
         ensures room { OnOk result (vec_len self.new.maps < vec_capacity self.new.maps) }
-        ensures few { OnOk result (length self.new.maps.items < 65536) }
+        ensures few { OnOk result (length self.new.maps.items < 2147483647) }
     {
-        if self.maps.len() >= MOST_LISTED {
+        if self.maps.len() >= MOST_MEMBERS {
             return Err(OutOfMemory);
         }
         self.maps.reserve(1)?;

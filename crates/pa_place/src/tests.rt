@@ -26,7 +26,7 @@ fn fill(
     expected: Expected<'_>,
 ) -> Result<(), Fail>
     requires young { IsYoung steps pool.old.entries placement.old }
-    requires few { steps < 1000 }
+    requires few { steps < 10000 }
     requires some { 1 ≤ want }
     requires most { want ≤ 8 }
     ensures young { OnOk result (IsYoung (steps + 1) pool.new.entries placement.new) }
@@ -47,7 +47,7 @@ fn fill(
 fn give(rt: &impl Abort, placement: &mut Placement, steps: u32, start: u32) -> Result<(), Fail>
     requires turn { placement.old.turn ≤ 32 * steps }
     requires maps { placement.old.maps ≡ [] }
-    requires few { steps < 1000 }
+    requires few { steps < 10000 }
     ensures young { OnOk result ((n : ℕ) → IsYoung steps n placement.old → IsYoung (steps + 1) n placement.new) }
 {
     let name = SlotName { start, born: 0 };
@@ -68,7 +68,7 @@ fn map(
     entry: u32,
     room: bool,
 ) -> Result<(), Fail>
-    requires few { steps < 1000 }
+    requires few { steps < 10000 }
     requires maps { HasOnlyMaps steps pool.old placement.old }
     ensures maps { OnOk result (HasOnlyMaps (steps + 1) pool.new placement.new) }
 {
@@ -95,7 +95,7 @@ fn unmap(
     born: u32,
     entry: u32,
 ) -> Result<(), Fail>
-    requires few { steps < 1000 }
+    requires few { steps < 10000 }
     requires maps { HasOnlyMaps steps pool.old placement.old }
     ensures maps { OnOk result (HasOnlyMaps (steps + 1) pool.new placement.new) }
 {
@@ -220,5 +220,72 @@ fn a_direct_map_again(rt: HostRuntime) -> Result<(), Fail> {
     map(&rt, &mut placement, &mut pool, 5, 5, true)?;
     assert!(rt; placement.census() == census(0, 0, 2002944, [0, 0, 0, 0]));
     assert_eq!(rt; pool.entries(), 6);
+    Ok(())
+}
+
+// A fill of seven slots of 16,384 bytes, which has so many to give. At most so many steps were made before.
+fn fill_pages(
+    rt: &impl Abort,
+    placement: &mut Placement,
+    pool: &mut PoolPlan,
+    steps: u32,
+    slots: usize,
+) -> Result<Option<u32>, Fail>
+    requires young { IsYoung steps pool.old.entries placement.old }
+    requires few { steps < 10000 }
+    ensures young { OnOk result (IsYoung (steps + 1) pool.new.entries placement.new) }
+{
+    let class = Class::of(35).ok_or("no such class")?;
+    let placed = placement.fill(pool, class, 7)?;
+    assert_eq!(rt; placed.titles.as_slice().len(), slots);
+    Ok(placed.pool)
+}
+
+// 64 super pages of spans of one page, and no room for one more.
+#[test]
+fn as_many_spans_as_there_are(rt: HostRuntime) -> Result<(), Fail> {
+    let mut pool = PoolPlan::new(rt.alloc(), 64)?;
+    let mut placement = Placement::new(rt.alloc())?;
+    'fills: for at in 0..1152 {
+        fill_pages(&rt, &mut placement, &mut pool, at, 7)?;
+    }
+    let asked = fill_pages(&rt, &mut placement, &mut pool, 1152, 0)?;
+    assert!(rt; asked == Some(64));
+    let census = placement.census();
+    assert_eq!(rt; census.full, 8064);
+    assert_eq!(rt; census.committed, 132120576);
+    assert_eq!(rt; census.reserved, 134217728);
+    Ok(())
+}
+
+// A direct map in a super page of its own, or none where there is no room.
+fn map_one(
+    rt: &impl Abort,
+    placement: &mut Placement,
+    pool: &mut PoolPlan,
+    steps: u32,
+    slots: usize,
+) -> Result<(), Fail>
+    requires few { steps < 10000 }
+    requires maps { HasOnlyMaps steps pool.old placement.old }
+    ensures maps { OnOk result (HasOnlyMaps (steps + 1) pool.new placement.new) }
+{
+    let placed = placement.map(pool, 2002944, 1)?;
+    assert_eq!(rt; placed.titles.as_slice().len(), slots);
+    Ok(())
+}
+
+// 64 direct maps, and no room for one more.
+#[test]
+fn as_many_direct_maps_as_there_are(rt: HostRuntime) -> Result<(), Fail> {
+    let mut pool = PoolPlan::new(rt.alloc(), 64)?;
+    let mut placement = Placement::new(rt.alloc())?;
+    'maps: for at in 0..64 {
+        map_one(&rt, &mut placement, &mut pool, at, 1)?;
+    }
+    map_one(&rt, &mut placement, &mut pool, 64, 0)?;
+    let census = placement.census();
+    assert_eq!(rt; census.committed, 128188416);
+    assert_eq!(rt; census.reserved, 134217728);
     Ok(())
 }

@@ -1,4 +1,4 @@
-use Rattle.std.proofs.Common.{◌≡◌, ◌*◌, ◌^◌, ◌≤◌, take}
+use Rattle.std.proofs.Common.{◌≡◌, ◌*◌, ◌≤◌, take}
 use Rattle.std.specs.Prelude.{sum_by}
 use Rattle.pa_machine.specs.declared.title.Title.{Title}
 use Rattle.pa_layout.specs.Pages.{supers_for}
@@ -7,5 +7,5 @@ use Rattle.pa_place.proofs.looks.supers_mapped.Given as goal
 abbrev pub invariant-loop-map : goal.invariant-loop-map
 invariant-loop-map l = record {
   supers : l.supers ≡ sum_by (λ (t : Title). supers_for t.len) (take l.map-index l.maps);
-  bound : l.supers ≤ 2 ^ 12 * l.map-index;
+  bound : l.supers ≤ 2049 * l.map-index;
 }

@@ -13,10 +13,10 @@ use Rattle.pa_place.proofs.placement.Placement.fill.Goals as goal
 
 -- the pool was asked
 asked : (before room after : Store) (r : Root) (class : ℕ) (pool next : PoolState) (o : Option ℕ) → IsKept before → root_of before ≡ r → root_of room ≡ root_of before →
-    length room.supers.items < 65536 → IsBornBelow pool.entries r → HasLowSupers (root_of after) → AsksWhere class pool next (root_of room) (root_of after) o → IsAfterAsk pool next r (root_of after)
+    length room.supers.items < 2147483647 → IsBornBelow pool.entries r → HasLowSupers (root_of after) → AsksWhere class pool next (root_of room) (root_of after) o → IsAfterAsk pool next r (root_of after)
 asked before room after r class pool next o kept e same few old low asks =
     let f = same ∙ e in
-    asked_step class pool next r (root_of after) o (subst IsGood e (good_of before kept)) (subst (λ (z : Root). length z.supers < 65536) f few) old low
+    asked_step class pool next r (root_of after) o (subst IsGood e (good_of before kept)) (subst (λ (z : Root). length z.supers < 2147483647) f few) old low
     (subst (λ z. AsksWhere class pool next z (root_of after) o) f asks)
 
 -- and then the takes were made

@@ -12,11 +12,11 @@ use Rattle.pa_place.proofs.Refused.{map_refused}
 use Rattle.pa_place.proofs.placement.Placement.map.Goals as goal
 
 step : (before room after : Store) (r : Root) (len entry count : ℕ) (found : Option ℕ) (pool next : PoolState) (titles : List Title) → IsKept before → root_of before ≡ r → root_of room ≡ root_of before →
-    length room.maps.items < 65536 → IsBornBelow pool.entries r → entry ≡ pool.entries → next ≡ took count found pool → mapped_by len entry found (root_of room) ≡ filled_with (root_of after) titles →
+    length room.maps.items < 2147483647 → IsBornBelow pool.entries r → entry ≡ pool.entries → next ≡ took count found pool → mapped_by len entry found (root_of room) ≡ filled_with (root_of after) titles →
     IsAfterMap pool next r (root_of after)
 step before room after r len entry count found pool next titles kept e same few old is more mapped =
     let f = same ∙ e in
-    mapped_step len entry found pool next r (root_of after) titles (subst IsGood e (good_of before kept)) (subst (λ (z : Root). length z.maps < 65536) f few) old is
+    mapped_step len entry found pool next r (root_of after) titles (subst IsGood e (good_of before kept)) (subst (λ (z : Root). length z.maps < 2147483647) f few) old is
     (ap (λ (z : PoolState). z.entries) more ∙ entries_after count found pool)
     (sym (ap (mapped_by len entry found) f) ∙ mapped)
 
