@@ -15,24 +15,27 @@ use Rattle.pa_record.proofs.Returning.{all_returned_is, times_is}
 use Rattle.pa_record.proofs.Mapping.{mapped_sound, mapped_born, unmapped_sound, unmapped_born, born_more, born_same}
 use Rattle.pa_place.specs.declared.store.Store.{Store}
 use Rattle.pa_place.specs.Placed.{filled_by, Fills, map_in, mapped_by, IsStep}
+use Rattle.pa_place.specs.Order.{IsOrdered}
 use Rattle.pa_place.specs.Store.{root_of, HasLowSupers, IsReady, IsKept, opened_where, AsksWhere}
 use Rattle.pa_place.proofs.Filling.{filled_with}
+use Rattle.pa_place.proofs.Ordering.{order_opened}
 use Rattle.pa_place.proofs.Removing.{is_named}
 
 -- a store is kept where its root is this one
 pub record IsGood (r : Root) : Type 0 where
   pub ready : IsReady r
   pub settled : IsSettled r
+  pub ordered : IsOrdered r
   pub supers : length r.supers ≤ 2147483647
   pub maps : length r.maps ≤ 2147483647
 
 pub kept_by : (s : Store) (r : Root) → root_of s ≡ r → IsGood r → vec_len s.spans ≤ 2147483647 → IsKept s
 kept_by s r e good many =
     let g = subst IsGood (sym e) good in
-    record { ready = g.ready; settled = g.settled; supers = g.supers; maps = g.maps; spans = many }
+    record { ready = g.ready; settled = g.settled; ordered = g.ordered; supers = g.supers; maps = g.maps; spans = many }
 
 pub good_of : (s : Store) → IsKept s → IsGood (root_of s)
-good_of s k = record { ready = k.ready; settled = k.settled; supers = k.supers; maps = k.maps }
+good_of s k = record { ready = k.ready; settled = k.settled; ordered = k.ordered; supers = k.supers; maps = k.maps }
 
 -- a step that leaves super pages and direct maps as they are
 pub record IsInPlace (r next : Root) : Type 0 where
@@ -42,11 +45,12 @@ pub record IsInPlace (r next : Root) : Type 0 where
   pub born : (n : ℕ) → IsBornBelow n r → IsBornBelow n next
   pub maps : next.maps ≡ r.maps
 
-step_by : (r next : Root) → IsGood r → IsSound next → IsSettled next → next.supers ≡ r.supers → next.maps ≡ r.maps → next.turn ≤ r.turn + 32 → r.turn ≤ next.turn → IsInPlace r next
-step_by r next good sound settled supers maps turn rises = record {
+step_by : (r next : Root) → IsGood r → IsSound next → IsSettled next → IsOrdered next → next.supers ≡ r.supers → next.maps ≡ r.maps → next.turn ≤ r.turn + 32 → r.turn ≤ next.turn → IsInPlace r next
+step_by r next good sound settled ordered supers maps turn rises = record {
   good = record {
     ready = record { sound = sound; low = λ at among. good.ready.low at (subst (λ xs. Contains xs at) supers among) };
     settled = settled;
+    ordered = ordered;
     supers = let p = ap length supers in let q = good.supers in omega arith;
     maps = let p = ap length maps in let q = good.maps in omega arith;
   };
@@ -57,31 +61,31 @@ step_by r next good sound settled supers maps turn rises = record {
 }
 
 pub gives : (r next : Root) (titles : List Title) → IsGood r → length titles ≤ 16 → All (IsOut r) (map name_of titles) → AllPairs ◌≢◌ (map name_of titles) →
-    next ≡ all_returned (map name_of titles) r → IsInPlace r next
-gives r next titles good few out once e =
+    next ≡ all_returned (map name_of titles) r → IsOrdered next → IsInPlace r next
+gives r next titles good few out once e ordered =
     let a = all_returned_is (map name_of titles) r good.ready.sound out once in
     let many = length_map titles in
     subst (IsInPlace r) (sym e)
-    (step_by r (all_returned (map name_of titles) r) good a.kept.sound (a.settled good.settled) a.kept.supers a.kept.maps (let p = a.turn in omega arith) a.kept.rises)
+    (step_by r (all_returned (map name_of titles) r) good a.kept.sound (a.settled good.settled) (subst IsOrdered e ordered) a.kept.supers a.kept.maps (let p = a.turn in omega arith) a.kept.rises)
   where
     length_map : (ts : List Title) → length (map name_of ts) ≡ length ts
     length_map [] = refl
     length_map (t ∷ ts) = ap (λ n. suc n) (length_map ts)
 
-pub purges : (r next : Root) → IsGood r → next ≡ purged r → IsInPlace r next
-purges r next good e =
+pub purges : (r next : Root) → IsGood r → next ≡ purged r → IsOrdered next → IsInPlace r next
+purges r next good e ordered =
     let a = times_is (empties r) r good.ready.sound in
     let few = good.settled in
     subst (IsInPlace r) (sym e)
-    (step_by r (purged r) good a.kept.sound (let p = a.fewer in omega arith) a.kept.supers a.kept.maps (let p = a.turn in omega arith) a.kept.rises)
+    (step_by r (purged r) good a.kept.sound (let p = a.fewer in omega arith) (subst IsOrdered e ordered) a.kept.supers a.kept.maps (let p = a.turn in omega arith) a.kept.rises)
 
-pub filled_step : (class want : ℕ) (r next : Root) (titles : List Title) → IsGood r → class < 59 → want ≤ 8 → takes class want r ≡ filled_with next titles → IsInPlace r next
-filled_step class want r next titles good real few e =
+pub filled_step : (class want : ℕ) (r next : Root) (titles : List Title) → IsGood r → class < 59 → want ≤ 8 → takes class want r ≡ filled_with next titles → IsOrdered next → IsInPlace r next
+filled_step class want r next titles good real few e ordered =
     let a = takes_filled class want r good.ready.sound real in
     let same : (takes class want r).root ≡ next = ap (λ (f : Filled). f.root) e in
     let settled = good.settled in
     subst (IsInPlace r) same
-    (step_by r (takes class want r).root good a.sound (let p = a.settled in omega arith) a.supers a.maps (let p = a.turn in omega arith) a.rises)
+    (step_by r (takes class want r).root good a.sound (let p = a.settled in omega arith) (subst IsOrdered (sym same) ordered) a.supers a.maps (let p = a.turn in omega arith) a.rises)
 
 -- so where the pool stays as it is, it is a step
 pub in_place : (n : ℕ) (r next : Root) → IsInPlace r next → IsStep n n r next
@@ -111,6 +115,7 @@ opened_good (Some first) entry r good few old low = (
   record {
     ready = record { sound = opened_sound first entry r good.ready.sound old; low = low };
     settled = good.settled;
+    ordered = order_opened first entry r old good.ordered;
     supers = let p = length_push r.supers (super_at first entry) in omega arith;
     maps = good.maps;
   },
@@ -173,6 +178,7 @@ mapped_good len entry (Some first) r good few old =
       record {
         ready = record { sound = mapped_sound t r good.ready.sound old; low = good.ready.low };
         settled = good.settled;
+        ordered = record { spans = good.ordered.spans; supers = good.ordered.supers };
         supers = good.supers;
         maps = let p = length_push r.maps t in omega arith;
       },
@@ -217,6 +223,7 @@ unmapped_step name r after good e =
       good = record {
         ready = record { sound = unmapped_sound name r good.ready.sound; low = good.ready.low };
         settled = good.settled;
+        ordered = record { spans = good.ordered.spans; supers = good.ordered.supers };
         supers = good.supers;
         maps = let p = length-without_map name r.maps in let q = good.maps in omega arith;
       };

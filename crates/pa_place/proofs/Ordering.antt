@@ -3,13 +3,17 @@ use Rattle.std.proofs.Common.{◌≡◌, ℕ, zero, suc, ◌-◌, ◌≤◌, Lis
 use Rattle.std.specs.Prelude.{Contains, AllPairs, slice_get}
 use Rattle.std.proofs.lemmas.Bool.{cases_lt}
 use Rattle.std.proofs.lemmas.Option.{slice_get_within, get_or_from_slice_get}
+use Rattle.pa_machine.specs.declared.title.Title.{Title}
+use Rattle.pa_buckets.specs.declared.spans.State.{State}
 use Rattle.pa_record.specs.declared.taken.SuperPage.{SuperPage}
 use Rattle.pa_record.specs.Spans.{Span}
-use Rattle.pa_record.specs.Root.{Root, current, new_span, with_span, opened}
+use Rattle.pa_record.specs.Root.{Root, in_state, current, new_span, with_span, opened}
 use Rattle.pa_record.specs.Sound.{IsSound, IsBornBelow}
 use Rattle.pa_record.proofs.Members.{of_some, not_some, first_in, later_in, in_cases}
 use Rattle.pa_record.proofs.Pairs.{pairs_cons, pairs_head, pairs_tail, pairs_push}
-use Rattle.pa_record.proofs.Entering.{IsLike, like_bytes}
+use Rattle.pa_record.proofs.Entering.{IsLike, like_bytes, like_trans, in_state_like}
+use Rattle.pa_record.proofs.Taking.{front_from}
+use Rattle.pa_place.specs.Served.{IsServed}
 use Rattle.pa_place.specs.Order.{IsBefore, IsOlder, IsOrdered}
 
 -- who is in a list after one member was set
@@ -88,3 +92,14 @@ pub order_opened : (number born : ℕ) (r : Root) → IsBornBelow born r → IsO
 order_opened number born r old h =
     let at : SuperPage = record { number = number; born = born } in
     record { spans = h.spans; supers = pairs_push IsOlder r.supers at h.supers (λ x among. old.supers x among) }
+
+-- a span that was changed and entered a state, in place of the one that stood there
+pub order_changed : (r : Root) (i : ℕ) (s t next : Span) (turn : ℕ) (to : State) → IsOrdered r → slice_get r.spans i ≡ Some s → IsLike t s → next ≡ in_state to r.turn t →
+    IsOrdered (record r { spans = set r.spans i next; turn = turn })
+order_changed r i s t next turn to h e like is =
+    let near : IsLike next s = subst (λ z. IsLike z s) (sym is) (like_trans (in_state to r.turn t) t s (in_state_like to r.turn t) like) in
+    record { spans = order_set r.spans i s next h.spans e near; supers = h.supers }
+
+-- a span from which a slot was taken is like it was
+pub served_like : (s u : Span) (title : Title) → IsServed s u title → IsLike u s
+served_like s u title served = subst (λ z. IsLike z s) (sym served.after) (front_from s served.rest).like

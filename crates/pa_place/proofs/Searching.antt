@@ -118,3 +118,21 @@ not_after_stays name s t before h = elim (cases_Bool (starts_after name s)) [
   | inl after ↦ absurd (both_ways _ h (after_stays name s t before after))
   | inr not_after ↦ not_after
 ]
+
+pub cut_from : (name : SlotName) (ss : List Span) (m : ℕ) (v : Span) → AllPairs IsBefore ss → slice_get ss m ≡ Some v → starts_after name v ≡ true →
+    (i : ℕ) (s : Span) → m ≤ i → slice_get ss i ≡ Some s → starts_after name s ≡ true
+cut_from name ss m v order e hit i s more f = elim (cases_lt m i) [
+  | inl less ↦ after_stays name v s (pairs_at IsBefore ss m i v s order less e f) hit
+  | inr no_less ↦
+      let same : m ≡ i = omega arith in
+      subst (λ z. starts_after name z ≡ true) (of_some v s (sym e ∙ ap (slice_get ss) same ∙ f)) hit
+]
+
+pub cut_to : (name : SlotName) (ss : List Span) (m : ℕ) (v : Span) → AllPairs IsBefore ss → slice_get ss m ≡ Some v → starts_after name v ≡ false →
+    (i : ℕ) (s : Span) → i < m + 1 → slice_get ss i ≡ Some s → starts_after name s ≡ false
+cut_to name ss m v order e miss i s less f = elim (cases_lt i m) [
+  | inl below ↦ not_after_stays name s v (pairs_at IsBefore ss i m s v order below f e) miss
+  | inr no_below ↦
+      let same : m ≡ i = omega arith in
+      subst (λ z. starts_after name z ≡ false) (of_some v s (sym e ∙ ap (slice_get ss) same ∙ f)) miss
+]

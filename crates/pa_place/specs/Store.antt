@@ -8,6 +8,7 @@ use Rattle.pa_record.specs.Spans.{Span}
 use Rattle.pa_record.specs.Root.{Root, Found, opened, span_for}
 use Rattle.pa_record.specs.Sound.{IsSound, IsSettled}
 use Rattle.pa_place.specs.declared.store.Store.{Store}
+use Rattle.pa_place.specs.Order.{IsOrdered}
 use Rattle.pa_place.specs.Placed.{IsAsked}
 use Rattle.pa_place.specs.Served.{blank_span}
 
@@ -42,10 +43,12 @@ abbrev pub room_for : ℕ → Root → Option SuperPage → Option SuperPage
 room_for class r None = None
 room_for class r (Some at) = if nat_le (r.page + pages_of class) 127 then Some at else None
 
--- What a store keeps between calls: a sound root of which at most 16 spans are empty, and lists that aren't too long.
+-- What a store keeps between calls: a sound root of which at most 16 spans are empty, whose spans are in order, and lists
+-- that aren't too long.
 pub record IsKept (s : Store) : Type 0 where
   pub ready : IsReady (root_of s)
   pub settled : IsSettled (root_of s)
+  pub ordered : IsOrdered (root_of s)
   pub supers : length s.supers.items ≤ 2147483647
   pub maps : length s.maps.items ≤ 2147483647
   pub spans : vec_len s.spans ≤ 2147483647

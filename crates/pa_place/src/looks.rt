@@ -5,12 +5,13 @@ ghost use Rattle.pa_buckets.specs.Table.{slot_of};
 ghost use Rattle.pa_record.specs.Spans.{Span, name_of};
 ghost use Rattle.pa_record.specs.Root.{IsOut, IsTitleOut};
 ghost use Rattle.pa_record.specs.Census.{kept_of, census, count_in as count_of};
+ghost use Rattle.pa_place.specs.Order.{IsOrdered};
 ghost use Rattle.pa_place.specs.Out.{IsOutAs, IsNotOut};
 ghost use Rattle.pa_place.specs.Store.{root_of, IsReady, IsKept};
 
 use crate::placed::Out;
 use crate::plain_span::PlainSpan;
-use crate::scans::{count_in, place_holding};
+use crate::scans::{count_in, index_holding};
 use crate::store::{Store, place_named};
 use pa_buckets::{State, slot_size};
 use pa_layout::{SUPER_PAGE, SYSTEM_PAGE, supers_for};
@@ -20,7 +21,8 @@ use pa_record::{Census, Tally};
 impl Store {
     // The slot or direct map of that name, if it is out.
     pub(crate) fn out(&self, name: SlotName) -> Option<Out>
-        requires { IsReady (root_of self.now) }
+        requires ready { IsReady (root_of self.now) }
+        requires ordered { IsOrdered (root_of self.now) }
         ensures some { IfSome result (IsOutAs (root_of self.now) name) }
         ensures none { IfNone result (IsNotOut (root_of self.now) name) }
     {
@@ -33,11 +35,12 @@ impl Store {
 
     // The slot of that name, if it is a span's and out.
     fn slot_out(&self, name: SlotName) -> Option<Title>
-        requires { IsReady (root_of self.now) }
+        requires ready { IsReady (root_of self.now) }
+        requires ordered { IsOrdered (root_of self.now) }
         ensures some { IfSome result (λ t. IsOut (root_of self.now) name × IsTitleOut (root_of self.now) t × (name_of t ≡ name)) }
         ensures none { IfNone result (IsOut (root_of self.now) name → ⊥) }
     {
-        let at = place_holding(&self.spans, name)?;
+        let at = index_holding(&self.spans, name)?;
         self.spans[at].out(name)
     }
 

@@ -4,6 +4,7 @@ ghost use Rattle.pa_buckets.specs.Table.{slot_of, slots_of};
 ghost use Rattle.pa_record.specs.Spans.{bytes_of, title_at, holds, number_in, numbers, provisioned_more, with_free, with_front, without_front, without_pages, state_in_use, state_back, is_in, is_of};
 ghost use Rattle.pa_record.specs.Root.{in_state, turn_after, IsOutOf};
 ghost use Rattle.pa_record.specs.Sound.{IsCounted};
+ghost use Rattle.pa_place.specs.Order.{starts_after};
 ghost use Rattle.pa_place.specs.Served.{blank_span, stands_at, IsServed, IsLow};
 
 use pa_buckets::{Class, State, slot_size, span_of};
@@ -117,6 +118,13 @@ impl PlainSpan {
     {
         let end = u64::from(self.place) + u64::from(self.bytes());
         self.born == name.born && (self.place <= name.start && u64::from(name.start) < end)
+    }
+
+    // Whether it starts behind the slot of that name, or its super page was taken later.
+    pub(crate) fn starts_after(&self, name: SlotName) -> bool
+        ensures { result ≡ starts_after name self.now }
+    {
+        name.born < self.born || (name.born == self.born && name.start < self.place)
     }
 
     // The bytes of its partition pages.

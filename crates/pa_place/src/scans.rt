@@ -1,5 +1,6 @@
-ghost use Rattle.std.specs.Prelude.{◌≡◌, ◌<◌, Some, IfSome, length, slice_get, position, count_by};
+ghost use Rattle.std.specs.Prelude.{◌≡◌, ◌<◌, ◌≤◌, Some, IfSome, AllPairs, length, slice_get, find, count_by};
 ghost use Rattle.pa_record.specs.Spans.{Span, holds, is_in, is_of, latest, earliest, listed, later, earlier};
+ghost use Rattle.pa_place.specs.Order.{IsBefore, IsCut};
 ghost use Rattle.pa_place.specs.Scans.{span_at};
 
 use crate::plain_span::PlainSpan;
@@ -76,12 +77,37 @@ fn earlier_of(spans: &[PlainSpan], at: usize, best: Option<usize>) -> usize
     }
 }
 
-// Where the span stands in which the slot of that name lies.
-pub(crate) fn place_holding(spans: &[PlainSpan], name: SlotName) -> Option<usize>
-    ensures holding { result ≡ position (holds name) spans.now }
+// Where the span stands in which the slot of that name lies. The spans are in order.
+pub(crate) fn index_holding(spans: &[PlainSpan], name: SlotName) -> Option<usize>
+    requires order { AllPairs IsBefore spans.now }
+    ensures holding { span_at spans.now result ≡ find (holds name) spans.now }
     ensures within { IfSome result (λ at. at < length spans.now) }
 {
-    spans.iter().position(|span| span.holds(name))
+    let count = count_up_to(spans, name);
+    if count > 0 && spans[count - 1].holds(name) {
+        Some(count - 1)
+    } else {
+        None
+    }
+}
+
+// How many spans don't start after the slot of that name. The spans are in order.
+fn count_up_to(spans: &[PlainSpan], name: SlotName) -> usize
+    requires order { AllPairs IsBefore spans.now }
+    ensures within { result ≤ length spans.now }
+    ensures cut { IsCut name spans.now result }
+{
+    let mut low = 0;
+    let mut high = spans.len();
+    'search: while low < high {
+        let middle = low + (high - low) / 2;
+        if spans[middle].starts_after(name) {
+            high = middle;
+        } else {
+            low = middle + 1;
+        }
+    }
+    low
 }
 
 // How many of them are in the state.

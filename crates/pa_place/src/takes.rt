@@ -4,6 +4,7 @@ ghost use Rattle.pa_buckets.specs.Table.{pages_of};
 ghost use Rattle.pa_record.specs.Spans.{Span};
 ghost use Rattle.pa_record.specs.Root.{Took, current, new_span, with_span, front_taken, one_take, takes};
 ghost use Rattle.pa_record.specs.Spans.{with_free};
+ghost use Rattle.pa_place.specs.Order.{IsOrdered};
 ghost use Rattle.pa_place.specs.Served.{blank_span};
 ghost use Rattle.pa_place.specs.Store.{root_of, IsReady, IsUsableAt, FindsPlace, HasBlanks, room_for};
 
@@ -30,12 +31,14 @@ impl Store {
         requires real { class < 59 }
         requires few { want ≤ 8 }
         requires ready { IsReady (root_of self.old) }
+        requires ordered { IsOrdered (root_of self.old) }
         requires turn { self.old.turn < 2 ^ 62 }
         requires blanks { HasBlanks class want blanks.old.items }
         requires room { vec_len self.old.spans + want ≤ vec_capacity self.old.spans }
         ensures filled { takes class want (root_of self.old) ≡ record { root = root_of self.new; titles = result.items } }
         ensures many { vec_len self.new.spans ≤ vec_len self.old.spans + want }
         ensures blanks { HasBlanks class 0 blanks.new.items }
+        ensures ordered { IsOrdered (root_of self.new) }
     {
         let mut titles = ArrayVec::new();
         for _taken in 0..want {
@@ -52,10 +55,12 @@ impl Store {
     fn take(&mut self, class: Class, blanks: &mut Vec<PlainSpan>) -> Option<Title>
         requires real { class < 59 }
         requires ready { IsReady (root_of self.old) }
+        requires ordered { IsOrdered (root_of self.old) }
         requires turn { self.old.turn < 2 ^ 63 }
         requires blanks { HasBlanks class 1 blanks.old.items }
         requires room { vec_len self.old.spans < vec_capacity self.old.spans }
         ensures took { one_take class (root_of self.old) ≡ record { root = root_of self.new; title = result } }
+        ensures ordered { IsOrdered (root_of self.new) }
         ensures blanks { (n : ℕ) → HasBlanks class (n + 1) blanks.old.items → HasBlanks class n blanks.new.items }
         ensures many { vec_len self.new.spans ≤ vec_len self.old.spans + 1 }
         ensures room { vec_capacity self.new.spans ≡ vec_capacity self.old.spans }
@@ -68,9 +73,11 @@ impl Store {
     // page has room for it.
     fn place_for(&mut self, class: Class, blanks: &mut Vec<PlainSpan>) -> Option<usize>
         requires ready { IsReady (root_of self.old) }
+        requires ordered { IsOrdered (root_of self.old) }
         requires blanks { HasBlanks class 1 blanks.old.items }
         requires room { vec_len self.old.spans < vec_capacity self.old.spans }
         ensures place { FindsPlace class (root_of self.old) (root_of self.new) result }
+        ensures ordered { IsOrdered (root_of self.new) }
         ensures blanks { (n : ℕ) → HasBlanks class (n + 1) blanks.old.items → HasBlanks class n blanks.new.items }
         ensures many { vec_len self.new.spans ≤ vec_len self.old.spans + 1 }
         ensures room { vec_capacity self.new.spans ≡ vec_capacity self.old.spans }
@@ -117,9 +124,11 @@ impl Store {
     // Takes a slot from the span there, which has one that isn't out.
     fn take_at(&mut self, at: usize) -> Title
         requires ready { IsReady (root_of self.old) }
+        requires ordered { IsOrdered (root_of self.old) }
         requires usable { IsUsableAt (root_of self.old) at }
         requires turn { self.old.turn < 2 ^ 63 }
         ensures took { (s : Span) → slice_get self.old.spans.items at ≡ Some s → front_taken (with_free s).free (with_free s) (root_of self.old) ≡ record { root = root_of self.new; title = Some result } }
+        ensures ordered { IsOrdered (root_of self.new) }
         ensures many { vec_len self.new.spans ≡ vec_len self.old.spans }
         ensures room { vec_capacity self.new.spans ≡ vec_capacity self.old.spans }
     {

@@ -4,6 +4,7 @@ use Rattle.pa_record.specs.Pool.{PoolState}
 use Rattle.pa_record.specs.Root.{Root, takes}
 use Rattle.pa_record.specs.Sound.{IsSound, IsBornBelow}
 use Rattle.pa_place.specs.declared.store.Store.{Store}
+use Rattle.pa_place.specs.Order.{IsOrdered}
 use Rattle.pa_place.specs.Store.{root_of, HasLowSupers, IsKept, AsksWhere}
 use Rattle.pa_place.specs.Placed.{IsStep}
 use Rattle.pa_place.proofs.Filling.{filled_with}
@@ -26,9 +27,9 @@ record IsFilledFrom (pool next : PoolState) (r after : Root) : Type 0 where
   maps : after.maps ≡ r.maps
 
 filled : (class want : ℕ) (pool next : PoolState) (r between after : Root) (titles : List Title) → IsAfterAsk pool next r between → class < 59 → want ≤ 8 →
-    takes class want between ≡ filled_with after titles → IsFilledFrom pool next r after
-filled class want pool next r between after titles a real few e =
-    let b = filled_step class want between after titles a.good real few e in
+    takes class want between ≡ filled_with after titles → IsOrdered after → IsFilledFrom pool next r after
+filled class want pool next r between after titles a real few e ordered =
+    let b = filled_step class want between after titles a.good real few e ordered in
     record {
       good = b.good;
       step = record {
@@ -46,12 +47,17 @@ takes-titles-requires-clause-ready c =
     (asked c.self.inside.store c.make_room.new.self c.ask-entry.new.self c.args.self.now c.args.class c.args.pool.now c.ask-entry.new.pool c.ask-entry.result c.self.invariant c.self.view_is
     c.make_room.ensures.same c.in_ok-make_room.ensures.room.few_supers c.requires.born c.ask-entry.ensures.low c.ask-entry.ensures.asks).good.ready
 
+pub takes-titles-requires-clause-ordered : goal.takes-titles-requires-clause-ordered
+takes-titles-requires-clause-ordered c =
+    (asked c.self.inside.store c.make_room.new.self c.ask-entry.new.self c.args.self.now c.args.class c.args.pool.now c.ask-entry.new.pool c.ask-entry.result c.self.invariant c.self.view_is
+    c.make_room.ensures.same c.in_ok-make_room.ensures.room.few_supers c.requires.born c.ask-entry.ensures.low c.ask-entry.ensures.asks).good.ordered
+
 pub invariant_of-self-2 : goal.invariant_of-self-2
 invariant_of-self-2 c =
     let a = asked c.self.inside.store c.make_room.new.self c.ask-entry.new.self c.args.self.now c.args.class c.args.pool.now c.ask-entry.new.pool c.ask-entry.result c.self.invariant c.self.view_is
     c.make_room.ensures.same c.in_ok-make_room.ensures.room.few_supers c.requires.born c.ask-entry.ensures.low c.ask-entry.ensures.asks in
     let real : c.args.class < 59 = search rules in
-    let b = filled c.args.class c.args.want c.args.pool.now c.ask-entry.new.pool c.args.self.now (root_of c.ask-entry.new.self) (root_of c.takes-titles.new.self) c.takes-titles.result.items a real c.requires.few c.takes-titles.ensures.filled in
+    let b = filled c.args.class c.args.want c.args.pool.now c.ask-entry.new.pool c.args.self.now (root_of c.ask-entry.new.self) (root_of c.takes-titles.new.self) c.takes-titles.result.items a real c.requires.few c.takes-titles.ensures.filled c.takes-titles.ensures.ordered in
     let many = c.takes-titles.ensures.many in
     let same = c.ask-entry.ensures.spans in
     let few = c.in_ok-make_room.ensures.room.few_spans in
@@ -69,14 +75,14 @@ returns-clause-step c =
     let a = asked c.self.inside.store c.make_room.new.self c.ask-entry.new.self c.args.self.now c.args.class c.args.pool.now c.ask-entry.new.pool c.ask-entry.result c.self.invariant c.self.view_is
     c.make_room.ensures.same c.in_ok-make_room.ensures.room.few_supers c.requires.born c.ask-entry.ensures.low c.ask-entry.ensures.asks in
     let real : c.args.class < 59 = search rules in
-    (filled c.args.class c.args.want c.args.pool.now c.ask-entry.new.pool c.args.self.now (root_of c.ask-entry.new.self) (root_of c.takes-titles.new.self) c.takes-titles.result.items a real c.requires.few c.takes-titles.ensures.filled).step
+    (filled c.args.class c.args.want c.args.pool.now c.ask-entry.new.pool c.args.self.now (root_of c.ask-entry.new.self) (root_of c.takes-titles.new.self) c.takes-titles.result.items a real c.requires.few c.takes-titles.ensures.filled c.takes-titles.ensures.ordered).step
 
 pub returns-clause-maps : goal.returns-clause-maps
 returns-clause-maps c =
     let a = asked c.self.inside.store c.make_room.new.self c.ask-entry.new.self c.args.self.now c.args.class c.args.pool.now c.ask-entry.new.pool c.ask-entry.result c.self.invariant c.self.view_is
     c.make_room.ensures.same c.in_ok-make_room.ensures.room.few_supers c.requires.born c.ask-entry.ensures.low c.ask-entry.ensures.asks in
     let real : c.args.class < 59 = search rules in
-    (filled c.args.class c.args.want c.args.pool.now c.ask-entry.new.pool c.args.self.now (root_of c.ask-entry.new.self) (root_of c.takes-titles.new.self) c.takes-titles.result.items a real c.requires.few c.takes-titles.ensures.filled).maps
+    (filled c.args.class c.args.want c.args.pool.now c.ask-entry.new.pool c.args.self.now (root_of c.ask-entry.new.self) (root_of c.takes-titles.new.self) c.takes-titles.result.items a real c.requires.few c.takes-titles.ensures.filled c.takes-titles.ensures.ordered).maps
 
 pub returns-clause-empty : goal.returns-clause-empty
 returns-clause-empty c =

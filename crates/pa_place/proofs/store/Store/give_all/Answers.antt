@@ -25,6 +25,7 @@ loop-title-preserved c =
     record {
       left = sym a.left ∙ inv.left;
       sound = a.rest.sound;
+      ordered = c.give.ensures.ordered;
       out = a.rest.out;
       once = a.rest.once;
       turn = let p = a.turn in let q = inv.turn in omega arith;

@@ -3,6 +3,7 @@ use Rattle.std.specs.Prelude.{All, AllPairs}
 use Rattle.pa_record.specs.Spans.{name_of}
 use Rattle.pa_record.specs.Root.{IsOut, all_returned}
 use Rattle.pa_record.specs.Sound.{IsSound}
+use Rattle.pa_place.specs.Order.{IsOrdered}
 use Rattle.pa_place.specs.Store.{root_of}
 use Rattle.pa_place.proofs.store.Store.give_all.Given as goal
 
@@ -10,6 +11,7 @@ abbrev pub invariant-loop-title : goal.invariant-loop-title
 invariant-loop-title l = record {
   left : all_returned (map name_of (drop l.title-index l.titles)) (root_of l.self) ≡ all_returned (map name_of l.titles) (root_of l.initial.self);
   sound : IsSound (root_of l.self);
+  ordered : IsOrdered (root_of l.self);
   out : All (IsOut (root_of l.self)) (map name_of (drop l.title-index l.titles));
   once : AllPairs ◌≢◌ (map name_of (drop l.title-index l.titles));
   turn : l.self.turn ≤ l.initial.self.turn + 2 * l.title-index;

@@ -1,5 +1,7 @@
-use Rattle.std.proofs.Common.{sym, ◌∙◌}
+use Rattle.std.proofs.Common.{sym, ◌∙◌, subst}
+use Rattle.pa_place.specs.Order.{IsOrdered}
 use Rattle.pa_place.specs.Store.{root_of}
+use Rattle.pa_place.proofs.Ordering.{order_push}
 use Rattle.pa_place.proofs.Placing.{is_room, current_in, listed_place, unlisted, new_place, blanks_popped}
 use Rattle.pa_place.proofs.store.Store.place_for.Goals as goal
 
@@ -24,3 +26,9 @@ returns-clause-place c =
 
 pub returns-clause-blanks : goal.returns-clause-blanks
 returns-clause-blanks c = λ n h. blanks_popped c.args.class n c.args.blanks.now.items c.pop.new.self.items c.unwrap-span.result (rw c.unwrap-span.ensures at c.pop.ensures.items) h
+
+pub returns-clause-ordered : goal.returns-clause-ordered
+returns-clause-ordered c =
+    let r = root_of c.args.self.now in
+    let room = is_room c.args.class r c.in_ok-at.at (sym c.in_ok-at.ensures) in
+    subst IsOrdered (sym c.add_span.ensures.after) (order_push c.args.class r c.in_ok-at.at c.requires.ready.sound c.requires.ordered room.now)

@@ -16,6 +16,7 @@ loop-empty-preserved c =
     record {
       left = sym a.left ∙ sym (ap (λ i. decommitted_times i r) step) ∙ inv.left;
       sound = a.sound;
+      ordered = c.decommit_oldest.ensures.ordered;
       turn = let p = a.turn in let q = inv.turn in omega arith;
       few = omega arith;
       many = c.decommit_oldest.ensures.many ∙ inv.many;

@@ -4,9 +4,7 @@ use Rattle.std.proofs.lemmas.Option.{slice_get_read}
 use Rattle.pa_machine.specs.declared.title.Title.{Title}
 use Rattle.pa_record.specs.Spans.{holds, number_in}
 use Rattle.pa_record.specs.Root.{IsOutOf}
-use Rattle.pa_place.specs.Scans.{span_at}
 use Rattle.pa_place.specs.Store.{root_of}
-use Rattle.pa_place.proofs.Scanning.{position_find}
 use Rattle.pa_place.proofs.Looking.{holder_is, none_holds, not_out, slot_is_out}
 use Rattle.pa_place.proofs.store.Store.slot_out.Goals as goal
 
@@ -14,8 +12,8 @@ pub returns-in_err-at-clause-none : goal.returns-in_err-at-clause-none
 returns-in_err-at-clause-none c =
     let ss = c.args.self.now.spans.items in
     let found = rw c.deref.ensures.value at c.in_err-at.ensures in
-    let none : find (holds c.args.name) ss ≡ None = sym (ap (span_at ss) found.holding ∙ position_find (holds c.args.name) ss) in
-    rw c.from_residual.ensures (none_holds (root_of c.args.self.now) c.args.name c.requires none)
+    let none : find (holds c.args.name) ss ≡ None = sym found.holding in
+    rw c.from_residual.ensures (none_holds (root_of c.args.self.now) c.args.name c.requires.ready none)
 
 pub out-requires-clause-counted : goal.out-requires-clause-counted
 out-requires-clause-counted c =
@@ -23,8 +21,8 @@ out-requires-clause-counted c =
     let s = c.index.result.now in
     let found = rw c.deref.ensures.value at c.in_ok-at.ensures in
     let here = slice_get_read ss (length ss) c.in_ok-at.at s refl found.within c.index.ensures in
-    let held : find (holds c.args.name) ss ≡ Some s = sym (ap (span_at ss) found.holding ∙ position_find (holds c.args.name) ss) ∙ here in
-    (holder_is (root_of c.args.self.now) s c.args.name c.requires held).counted
+    let held : find (holds c.args.name) ss ≡ Some s = sym found.holding ∙ here in
+    (holder_is (root_of c.args.self.now) s c.args.name c.requires.ready held).counted
 
 pub out-requires-clause-low : goal.out-requires-clause-low
 out-requires-clause-low c =
@@ -32,8 +30,8 @@ out-requires-clause-low c =
     let s = c.index.result.now in
     let found = rw c.deref.ensures.value at c.in_ok-at.ensures in
     let here = slice_get_read ss (length ss) c.in_ok-at.at s refl found.within c.index.ensures in
-    let held : find (holds c.args.name) ss ≡ Some s = sym (ap (span_at ss) found.holding ∙ position_find (holds c.args.name) ss) ∙ here in
-    (holder_is (root_of c.args.self.now) s c.args.name c.requires held).low
+    let held : find (holds c.args.name) ss ≡ Some s = sym found.holding ∙ here in
+    (holder_is (root_of c.args.self.now) s c.args.name c.requires.ready held).low
 
 pub out-requires-clause-held : goal.out-requires-clause-held
 out-requires-clause-held c =
@@ -41,8 +39,8 @@ out-requires-clause-held c =
     let s = c.index.result.now in
     let found = rw c.deref.ensures.value at c.in_ok-at.ensures in
     let here = slice_get_read ss (length ss) c.in_ok-at.at s refl found.within c.index.ensures in
-    let held : find (holds c.args.name) ss ≡ Some s = sym (ap (span_at ss) found.holding ∙ position_find (holds c.args.name) ss) ∙ here in
-    (holder_is (root_of c.args.self.now) s c.args.name c.requires held).held
+    let held : find (holds c.args.name) ss ≡ Some s = sym found.holding ∙ here in
+    (holder_is (root_of c.args.self.now) s c.args.name c.requires.ready held).held
 
 pub returns-clause-none : goal.returns-clause-none
 returns-clause-none c =
@@ -50,8 +48,8 @@ returns-clause-none c =
     let s = c.index.result.now in
     let found = rw c.deref.ensures.value at c.in_ok-at.ensures in
     let here = slice_get_read ss (length ss) c.in_ok-at.at s refl found.within c.index.ensures in
-    let held : find (holds c.args.name) ss ≡ Some s = sym (ap (span_at ss) found.holding ∙ position_find (holds c.args.name) ss) ∙ here in
-    by_cases c.out.result (λ e. not_out (root_of c.args.self.now) s c.args.name c.requires held (subst (λ o. IfNone o ((n : ℕ) → IsOutOf s c.args.name n → ⊥)) e c.out.ensures.none))
+    let held : find (holds c.args.name) ss ≡ Some s = sym found.holding ∙ here in
+    by_cases c.out.result (λ e. not_out (root_of c.args.self.now) s c.args.name c.requires.ready held (subst (λ o. IfNone o ((n : ℕ) → IsOutOf s c.args.name n → ⊥)) e c.out.ensures.none))
   where
     by_cases : {P : Type 0} (o : Option Title) → (o ≡ None → P) → IfNone o P
     by_cases None h = h refl
@@ -63,10 +61,13 @@ returns-clause-some c =
     let s = c.index.result.now in
     let found = rw c.deref.ensures.value at c.in_ok-at.ensures in
     let here = slice_get_read ss (length ss) c.in_ok-at.at s refl found.within c.index.ensures in
-    let held : find (holds c.args.name) ss ≡ Some s = sym (ap (span_at ss) found.holding ∙ position_find (holds c.args.name) ss) ∙ here in
-    let among = (holder_is (root_of c.args.self.now) s c.args.name c.requires held).among in
+    let held : find (holds c.args.name) ss ≡ Some s = sym found.holding ∙ here in
+    let among = (holder_is (root_of c.args.self.now) s c.args.name c.requires.ready held).among in
     by_title c.out.result c.out.ensures.some (λ t h. slot_is_out (root_of c.args.self.now) s t c.args.name (number_in s c.args.name) among h.0 h.1)
   where
     by_title : {P Q : Title → Type 0} (o : Option Title) → IfSome o P → ((t : Title) → P t → Q t) → IfSome o Q
     by_title None p f = tt
     by_title (Some t) p f = f t p
+
+pub index_holding-requires : goal.index_holding-requires
+index_holding-requires c = rw c.deref.ensures.value (record { order = c.requires.ordered.spans })

@@ -1,6 +1,7 @@
 use Rattle.std.proofs.Common.{◌≡◌, ◌+◌, ◌-◌, ◌≤◌, length, vec_len}
 use Rattle.std.specs.Vec.{vec_capacity}
 use Rattle.pa_record.specs.Root.{takes}
+use Rattle.pa_place.specs.Order.{IsOrdered}
 use Rattle.pa_place.specs.Store.{root_of, IsReady, HasBlanks}
 use Rattle.pa_place.proofs.Filling.{with_taken}
 use Rattle.pa_place.proofs.store.Store.takes.Given as goal
@@ -9,6 +10,7 @@ abbrev pub invariant-loop-taken : goal.invariant-loop-taken
 invariant-loop-taken l = record {
   filled : takes l.class l.want (root_of l.initial.self) ≡ with_taken l.titles.items (takes l.class (l.want - l._taken) (root_of l.self));
   ready : IsReady (root_of l.self);
+  ordered : IsOrdered (root_of l.self);
   some : length l.titles.items ≤ l._taken;
   few : l._taken ≤ l.want;
   turn : l.self.turn ≤ l.initial.self.turn + l._taken;
