@@ -1,4 +1,4 @@
-use Rattle.std.proofs.Common.{◌≡◌, ℕ, length, refl, sym, ◌∙◌, ap, subst, Option, Some, None}
+use Rattle.std.proofs.Common.{◌≡◌, ℕ, length, refl, sym, ◌∙◌, subst, Option, Some, None}
 use Rattle.std.specs.Prelude.{find, IfNone, IfSome}
 use Rattle.std.proofs.lemmas.Option.{slice_get_read}
 use Rattle.pa_machine.specs.declared.title.Title.{Title}
