@@ -114,7 +114,8 @@ mod tests {
     use std::thread;
 
     #[test]
-    fn a_quarantined_slot_comes_back_by_its_last_reset(rt: HostRuntime) -> Result<(), Fail> {
+    #[tactic(auto, using(pa_region::proofs::Opens::blank_at))]
+    fn a_slot_is_issued_and_pointed_to(rt: HostRuntime) -> Result<(), Fail> {
         let first = Title {
             start: 0x4000,
             len: 16,
@@ -128,17 +129,13 @@ mod tests {
         let (region, mut seat) = Region::with_titles(rt.alloc(), 1, 16, &[first, second])?;
         assert_eq!(rt; issue(&region, &mut seat, first).0, 0);
         assert_eq!(rt; copy(&region, &mut seat, first).0, 0x1000001);
-        let (found, fate) = free(&region, &mut seat, first);
+        assert_eq!(rt; look(&region, &mut seat, first).0, 0x2000003);
+        let (found, fate) = reset(&region, &mut seat, first);
         assert_eq!(rt; found.0, 0x2000003);
         assert_eq!(rt; fate, Fate::Kept);
-        assert_eq!(rt; look(&region, &mut seat, first).0, 0x3000002);
         assert_eq!(rt; issue(&region, &mut seat, second).0, 0);
-        let (found, fate) = reset(&region, &mut seat, first);
-        assert_eq!(rt; found.0, 0x3000002);
-        assert_eq!(rt; fate, Fate::Last);
-        assert_eq!(rt; issue(&region, &mut seat, first).0, 0x4000000);
         let closed = region.close(seat);
-        assert_eq!(rt; closed.word(0x4008), 0x5000001);
+        assert_eq!(rt; closed.word(0x4008), 0x3000001);
         assert_eq!(rt; closed.word(0x4018), 0x1000001);
         Ok(())
     }
@@ -156,7 +153,8 @@ mod tests {
 
     // A region has one seat until seats can be split, so the two threads have it one after the other.
     #[test]
-    fn two_threads_reset_a_freed_slot(rt: HostRuntime) -> Result<(), Fail> {
+    #[tactic(auto, using(pa_region::proofs::Opens::blank_at))]
+    fn two_threads_reset_a_slot(rt: HostRuntime) -> Result<(), Fail> {
         let title = Title {
             start: 0x4000,
             len: 16,
@@ -166,12 +164,11 @@ mod tests {
         issue(&region, &mut seat, title);
         copy(&region, &mut seat, title);
         copy(&region, &mut seat, title);
-        assert_eq!(rt; free(&region, &mut seat, title).1, Fate::Kept);
         let shared = &region;
         let ((seat, first), ()) = thread::join(&rt, move || reset_by(shared, seat, title), || ());
         let ((), (_, second)) = thread::join(&rt, || (), move || reset_by(shared, seat, title));
-        assert_eq!(rt; first, (Word(0x4000004), Fate::Kept));
-        assert_eq!(rt; second, (Word(0x5000002), Fate::Last));
+        assert_eq!(rt; first, (Word(0x3000005), Fate::Kept));
+        assert_eq!(rt; second, (Word(0x4000003), Fate::Kept));
         Ok(())
     }
 

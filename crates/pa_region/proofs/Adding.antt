@@ -30,6 +30,25 @@ module _ {A : Type 0} where
       let again = sum_part f zs i x e in
       omega (arith, sum_by-cons f z zs)
 
+  -- two members are within the sum
+  pub sum_pair : (f : A → ℕ) (xs : List A) (i j : ℕ) (v x : A) → get_elem? xs i ≡ some v → get_elem? xs j ≡ some x → (j ≡ i → ⊥) → f v + f x ≤ sum_by f xs
+  sum_pair f [] i j v x e g ne = absurd (some-ne-none v (sym e))
+  sum_pair f (y ∷ ys) zero zero v x e g ne = absurd (ne refl)
+  sum_pair f (y ∷ ys) zero (suc j) v x e g ne =
+      let c = sum_by-cons f y ys in
+      let here : f y ≡ f v = ap f (some-injective y v e) in
+      let rest = sum_part f ys j x g in
+      omega arith
+  sum_pair f (y ∷ ys) (suc i) zero v x e g ne =
+      let c = sum_by-cons f y ys in
+      let here : f y ≡ f x = ap f (some-injective y x g) in
+      let rest = sum_part f ys i v e in
+      omega arith
+  sum_pair f (y ∷ ys) (suc i) (suc j) v x e g ne =
+      let c = sum_by-cons f y ys in
+      let again = sum_pair f ys i j v x e g (λ q. ne (ap suc q)) in
+      omega arith
+
   pub sum_map : {B : Type 0} (f : B → ℕ) (g : A → B) (xs : List A) → sum_by f (map g xs) ≡ sum_by (λ x. f (g x)) xs
   sum_map f g [] = refl
   sum_map f g (x ∷ xs) =

@@ -9,7 +9,7 @@ use Rattle.pa_machine.specs.declared.word.Step.TheVariants.{Issue, Copy, Reset, 
 use Rattle.pa_machine.specs.Count.{CanStep, stepped}
 use Rattle.pa_machine.specs.Run.{IsFree}
 use Rattle.pa_machine.specs.Titles.{Covers, IsWellFormed, count_place, count_word}
-use Rattle.pa_machine.specs.Holdings.{FreeTitle, OwnOf, RefOf, IsTitleHeld}
+use Rattle.pa_machine.specs.Holdings.{RawByte, FreeTitle, OwnOf, RefOf, IsTitleHeld}
 use Rattle.pa_machine.specs.Events.{total_of}
 use Rattle.pa_machine.proofs.Same.{title_tells}
 use Rattle.pa_region.specs.declared.view.Entry.TheVariants.{Counted, Looked}
@@ -18,8 +18,8 @@ use Rattle.pa_machine.proofs.Parts.{free_or}
 use Rattle.pa_region.specs.Views.{held_of_view, free_of, HasTitle, byte_words, shown}
 use Rattle.pa_region.specs.Rule.{IsKept}
 use Rattle.pa_region.specs.Moves.{CanCount, IsFound, moved, value_of, after_count, after_look}
-use Rattle.pa_region.proofs.Pieces.{held_within, moved_changes, frees_have, title_held, held_title}
-use Rattle.pa_region.proofs.HolderPart.{gained_here}
+use Rattle.pa_region.proofs.Pieces.{handle_piece, held_within, moved_changes, frees_have, title_held, held_title}
+use Rattle.pa_region.proofs.HolderPart.{gained_here, lost_raw, gained_raw}
 use Rattle.std.proofs.Common.{◌^◌}
 use Rattle.std.proofs.lemmas.List.{set-get_or}
 use Rattle.atomic_table.specs.Table.{Me, Allows, keeps}
@@ -30,7 +30,11 @@ use Rattle.pa_machine.proofs.Parts.{word_covered}
 use Rattle.pa_region.specs.Views.{least_stake}
 use Rattle.pa_region.specs.Shares.{IsSound, byte_word_count, adds, CountTells, IsUser, count_offset, CanLoad, LoadTells}
 use Rattle.pa_region.proofs.Entering.{least_noted}
-use Rattle.pa_region.proofs.Counting.{bytes_word, held_in_all, handle_held, place_below, count_can, count_found, count_keeps, look_keeps, look_holds, moved_stakes}
+use Rattle.pa_region.proofs.Bytes.{bytes_word, held_in_all, place_below}
+use Rattle.pa_region.proofs.Found.{handle_held, count_can, count_found}
+use Rattle.pa_region.proofs.CountStep.{count_keeps, moved_stakes}
+use Rattle.pa_region.proofs.CountValues.{moved_long}
+use Rattle.pa_region.proofs.LookStep.{look_keeps, look_holds}
 
 -- the sum is the next word
 adds_stepped : (step : Step) (word : ℕ) → CanStep step word → (word + adds step) % 2 ^ 64 ≡ stepped step word
@@ -66,13 +70,13 @@ count_allowed step t slots id place me at_place can s k homes at_id small =
     )
 
 -- two held titles with one count word are one
-same_by_word : (words : List ℕ) (views : List View) (t u : Title) → IsKept words views → IsTitleHeld (total_of (shown words views)) t →
+pub same_by_word : (words : List ℕ) (views : List View) (t u : Title) → IsKept words views → IsTitleHeld (total_of (shown words views)) t →
     IsTitleHeld (total_of (shown words views)) u → count_place t ≡ count_place u → t ≡ u
 same_by_word words views t u k held other e =
-    k.holders.divided.apart t u (8 * count_place t) held other
-    (word_covered (length (byte_words words)) t (count_place t) (k.holders.divided.well t held) (omega arith, omega arith))
+    k.holders.good.divided.apart t u (8 * count_place t) held other
+    (word_covered (length (byte_words words)) t (count_place t) (k.holders.good.divided.well t held) (omega arith, omega arith))
     (subst (λ (p : ℕ). Covers u (8 * p)) (sym e)
-    (word_covered (length (byte_words words)) u (count_place u) (k.holders.divided.well u other) (omega arith, omega arith)))
+    (word_covered (length (byte_words words)) u (count_place u) (k.holders.good.divided.well u other) (omega arith, omega arith)))
 
 -- a title that a view uses or holds free is held
 user_held : (t : Title) (v : View) → IsUser t v → IsTitleHeld (held_of_view v) t
@@ -88,7 +92,7 @@ free_word : (t : Title) (words : List ℕ) (views : List View) (i : ℕ) (v : Vi
 free_word t words views i v k at_i mine =
     let held = held_in_all words views i v t at_i (free_held t v mine) in
     let fn = frees_have v t in
-    let word = k.holders.word t held in
+    let word = k.holders.good.counted t held in
     let f = held_within words views i v at_i (FreeTitle t) in
     elim (free_or (count_word (byte_words words) t)) [ inl y ↦ y | inr n ↦ let z = word.taken n in absurd (omega arith) ]
 
@@ -164,7 +168,17 @@ load_allowed at_byte slots id place me at_place can s k homes at_id small =
 
 -- what a seat's type keeps goes on: the view's titles lie in the region, and its least stake is the same
 pub count_sound : (region : TableId) (step : Step) (t : Title) (word : ℕ) (v : View) → CanCount step t v → IsSound region v → IsSound region (after_count step t word v)
-count_sound region step t word v can sound = record { small = sound.small; well = λ u held. well u held }
+count_sound region step t word v can sound = record {
+  small = sound.small;
+  well = λ u held. well u held;
+  raw = λ b held.
+      let m = (moved_changes step t word v (handle_piece step t v can.0)).1 (RawByte b) in
+      let lost = lost_raw step t (moved_changes step t word v (handle_piece step t v can.0)).0 b in
+      let gained = gained_raw step t (stepped step word) b in
+      let now : 0 < held_of_view (moved step t word v) (RawByte b) = held in
+      sound.raw b (omega arith);
+  long = moved_long step t word v ∙ sound.long;
+}
   where
     well : (u : Title) → HasTitle (after_count step t word v) u → IsWellFormed (byte_word_count region) u
     well u has =
@@ -172,7 +186,7 @@ count_sound region step t word v can sound = record { small = sound.small; well 
         elim (title_tells t u) [
           | inl y ↦ subst (λ (z : Title). IsWellFormed (byte_word_count region) z) y.1 (sound.well t (held_title v t (handle_held step t v can.0)))
           | inr n ↦
-              let moves = (moved_changes step t word v can.0).1 in
+              let moves = (moved_changes step t word v (handle_piece step t v can.0)).1 in
               let a = moves (FreeTitle u) in let b = moves (OwnOf u) in let c = moves (RefOf u) in
               let p = gained_here step t (stepped step word) u n.1 in
               let f = p.free in let o = p.own in let r = p.ref in
@@ -182,7 +196,12 @@ count_sound region step t word v can sound = record { small = sound.small; well 
 
 -- so it is after a look
 pub look_sound : (region : TableId) (t : Title) (word : ℕ) (v : View) → IsSound region v → IsSound region (after_look t word v)
-look_sound region t word v sound = record { small = sound.small; well = λ u held. well u held }
+look_sound region t word v sound = record {
+  small = sound.small;
+  well = λ u held. well u held;
+  raw = λ b held. let e = look_holds t word v (RawByte b) in sound.raw b (omega arith);
+  long = sound.long;
+}
   where
     well : (u : Title) → HasTitle (after_look t word v) u → IsWellFormed (byte_word_count region) u
     well u has =

@@ -1,5 +1,5 @@
 -- At the end: a view with every stake has every log.
-use Rattle.std.proofs.Common.{◌≡◌, ℕ, zero, suc, ◌+◌, ◌-◌, ◌<◌, ◌≤◌, List, [], ◌∷◌, length, get_or, refl, sym, ◌∙◌, ap, subst, arith, inl, inr, eqb}
+use Rattle.std.proofs.Common.{◌≡◌, ℕ, zero, suc, ◌-◌, ◌<◌, List, [], ◌∷◌, length, get_or, refl, sym, ◌∙◌, ap, subst, arith, inl, inr, eqb}
 use Rattle.std.specs.Prelude.{slice_index}
 use Rattle.std.specs.List.{sum_by}
 use Rattle.std.proofs.lemmas.List.Sums.{sum_by-cons}
@@ -16,14 +16,14 @@ use Rattle.std.proofs.lemmas.List.{get_or-take, length-take-le}
 use Rattle.pa_region.specs.Views.{byte_words, shown, stake_of, stakes_in, logged_of, logged_in}
 use Rattle.pa_region.specs.History.{Done}
 use Rattle.pa_region.specs.Rule.{Logs, IsKept}
-use Rattle.pa_region.proofs.Adding.{sum_part, one_lt, one_eq}
+use Rattle.pa_region.proofs.Adding.{sum_pair, one_lt, one_eq}
 use Rattle.pa_region.proofs.Pieces.{title_held}
 use Rattle.atomic_table.specs.Table.{Final}
 use Rattle.atomic_table.specs.Table.{Seen as SeenAt, State as TableState}
 use Rattle.pa_region.specs.Views.{HasEveryStake}
 use Rattle.pa_region.specs.History.{IsChained, reached}
 use Rattle.pa_region.specs.Start.{IsEnd}
-use Rattle.pa_region.proofs.Counting.{held_in_all}
+use Rattle.pa_region.proofs.Bytes.{held_in_all}
 
 module _ {A : Type 0} where
   -- a sum in which one member counts alone
@@ -47,25 +47,6 @@ module _ {A : Type 0} where
       let c = sum_by-cons f x xs in
       let here = h 0 x refl (λ q. omega arith) in
       let again = sum_alone f xs i v e (λ j y at_j ne. h (suc j) y at_j (λ q. ne (omega arith))) in
-      omega arith
-
-  -- two members are within the sum
-  sum_pair : (f : A → ℕ) (xs : List A) (i j : ℕ) (v x : A) → get_elem? xs i ≡ some v → get_elem? xs j ≡ some x → (j ≡ i → ⊥) → f v + f x ≤ sum_by f xs
-  sum_pair f [] i j v x e g ne = absurd (some-ne-none v (sym e))
-  sum_pair f (y ∷ ys) zero zero v x e g ne = absurd (ne refl)
-  sum_pair f (y ∷ ys) zero (suc j) v x e g ne =
-      let c = sum_by-cons f y ys in
-      let here : f y ≡ f v = ap f (some-injective y v e) in
-      let rest = sum_part f ys j x g in
-      omega arith
-  sum_pair f (y ∷ ys) (suc i) zero v x e g ne =
-      let c = sum_by-cons f y ys in
-      let here : f y ≡ f x = ap f (some-injective y x g) in
-      let rest = sum_part f ys i v e in
-      omega arith
-  sum_pair f (y ∷ ys) (suc i) (suc j) v x e g ne =
-      let c = sum_by-cons f y ys in
-      let again = sum_pair f ys i j v x e g (λ q. ne (ap suc q)) in
       omega arith
 
 -- a view that has no stake has no log

@@ -32,7 +32,7 @@ least_from n (s ∷ ss) e h =
     ]
 
 -- so it has one with the least number
-least_there : (ss : List Stake) → least_stake ss < 16 → 0 < sum_by (λ (s : Stake). one (eqb s.number (least_stake ss))) ss
+pub least_there : (ss : List Stake) → least_stake ss < 16 → 0 < sum_by (λ (s : Stake). one (eqb s.number (least_stake ss))) ss
 least_there ss h = least_from (least_stake ss) ss refl h
 
 -- the logs with the entry

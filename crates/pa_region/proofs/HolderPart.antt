@@ -1,5 +1,5 @@
--- The first part after a step: the core that is shown stays divided and counted well.
-use Rattle.std.proofs.Common.{◌≡◌, ℕ, ◌+◌, ◌<◌, ◌≤◌, List, length, set, refl, subst, arith, ◌⊎◌, inl, inr}
+-- The first part after a step: what counts of titles and budgets.
+use Rattle.std.proofs.Common.{◌≡◌, ℕ, ◌+◌, ◌<◌, ◌≤◌, List, set, refl, subst, arith, ◌⊎◌, inl, inr}
 use Rattle.std.proofs.lemmas.Bool.{cases_lt}
 use Rattle.pa_machine.specs.declared.title.Title.{Title}
 use Rattle.pa_machine.specs.declared.title.OwnState.{OwnState}
@@ -10,15 +10,14 @@ use Rattle.pa_machine.specs.Count.{CanStep, stepped, number_of, refs_of}
 use Rattle.pa_machine.specs.Run.{IsFree}
 use Rattle.pa_machine.specs.Titles.{count_place, count_word}
 use Rattle.pa_machine.specs.Holdings.{Thing, RawByte, FreeTitle, OwnOf, RefOf, held_in, IsTitleHeld}
-use Rattle.pa_machine.specs.Good.{IsCounted}
+use Rattle.pa_machine.specs.Good.{IsCounted, IsGood}
 use Rattle.pa_machine.specs.Events.{returned_at}
 use Rattle.pa_machine.proofs.Same.{title_tells}
-use Rattle.pa_machine.proofs.Parts.{Changes, IsChangeAt, IsNoneOf, nil_none, free_none, own_none, ref_none, divided_same, change_untouched, change_held, IsUntouched}
+use Rattle.pa_machine.proofs.Parts.{Changes, IsChangeAt, IsNoneOf, nil_none, free_none, own_none, ref_none, change_untouched, change_held, IsUntouched}
 use Rattle.pa_machine.proofs.Arith.{stepped_is}
 use Rattle.pa_machine.proofs.Amounts.{returned_cases}
-use Rattle.pa_machine.proofs.Keeps.{returned_here, returned_raw}
+use Rattle.pa_machine.proofs.Keeps.{returned_here, returned_raw, same_keeps}
 use Rattle.pa_machine.proofs.Amounts.{free_self, own_self, ref_self, word_written}
-use Rattle.std.proofs.lemmas.List.{length-set}
 use Rattle.pa_region.specs.Rule.{Holders}
 use Rattle.pa_region.proofs.Pieces.{lost_by, gained_by}
 
@@ -130,16 +129,6 @@ counted_after Write word total later t a g can c =
       taken = λ _. omega arith;
     }
 
--- a title stays counted well where its word and its handles stay
-pub counted_same : (word now : ℕ) (total later : Thing → ℕ) (t : Title) → IsCounted word total t → now ≡ word →
-    later (FreeTitle t) ≡ total (FreeTitle t) → later (OwnOf t) ≡ total (OwnOf t) → later (RefOf t) ≡ total (RefOf t) → IsCounted now later t
-counted_same word now total later t c e f o r = record {
-  owns = rw (e, o) c.owns;
-  refs = rw (e, r) c.refs;
-  free = λ is_free. rw f (c.free (rw e at is_free));
-  taken = λ not_free. rw f (c.taken (λ is_free. not_free (rw e is_free)));
-}
-
 -- the number rises by one, and the count isn't above it
 number_after : (step : Step) (word : ℕ) → CanStep step word →
     (number_of (stepped step word) ≡ number_of word + 1) × (refs_of (stepped step word) ≤ refs_of word + 1)
@@ -154,7 +143,7 @@ pub number_grows : (step : Step) (word : ℕ) → CanStep step word → number_o
 number_grows step word can = (number_after step word can).0
 
 -- what is lost and gained is the title's alone, and no raw byte
-lost_here : (step : Step) (t : Title) (a : OwnState) (u : Title) → (t ≡ u → ⊥) → IsNoneOf (lost_by step t a) u
+pub lost_here : (step : Step) (t : Title) (a : OwnState) (u : Title) → (t ≡ u → ⊥) → IsNoneOf (lost_by step t a) u
 lost_here Issue t a u ne = free_none t u ne
 lost_here Copy t a u ne = nil_none u
 lost_here Reset t a u ne = ref_none t u ne
@@ -170,7 +159,7 @@ gained_here Free t left u ne = returned_here left t u ne
 gained_here Write t left u ne = own_none t u Clean ne
 
 -- what is lost is no raw byte
-lost_raw : (step : Step) (t : Title) (a : OwnState) (b : ℕ) → held_in (lost_by step t a) (RawByte b) ≡ 0
+pub lost_raw : (step : Step) (t : Title) (a : OwnState) (b : ℕ) → held_in (lost_by step t a) (RawByte b) ≡ 0
 lost_raw Issue t a b = refl
 lost_raw Copy t a b = refl
 lost_raw Reset t a b = refl
@@ -178,7 +167,7 @@ lost_raw Free t a b = refl
 lost_raw Write t a b = refl
 
 -- what is gained is no raw byte
-gained_raw : (step : Step) (t : Title) (left b : ℕ) → held_in (gained_by step t left) (RawByte b) ≡ 0
+pub gained_raw : (step : Step) (t : Title) (left b : ℕ) → held_in (gained_by step t left) (RawByte b) ≡ 0
 gained_raw Issue t left b = refl
 gained_raw Copy t left b = refl
 gained_raw Reset t left b = returned_raw left t b
@@ -227,7 +216,7 @@ held_after step t a words total later idle budget steps h x u =
     elim (title_tells t u) [
       | inl y ↦
           let here : IsTitleHeld later t = counted_held (stepped step (count_word words t)) later t
-          (counted_after step (count_word words t) total later t a (h.word t x.held) x.can x.changes) in
+          (counted_after step (count_word words t) total later t a (h.good.counted t x.held) x.can x.changes) in
           ((λ _. subst (λ (z : Title). IsTitleHeld later z) y.1 here), (λ _. subst (λ (z : Title). IsTitleHeld total z) y.1 x.held))
       | inr n ↦
           let e = change_held words total later t _ _ (count_place t) (change_of step t a words total later x) u n.1 in
@@ -239,7 +228,7 @@ pub other_stays : (step : Step) (t : Title) (a : OwnState) (words : List ℕ) (t
     Holders words total idle budget steps → IsCountStep step t a words total later →
     (u : Title) → (t ≡ u → ⊥) → IsTitleHeld total u → IsUntouched words total (words_by step t words) later u
 other_stays step t a words total later idle budget steps h x u ne held =
-    change_untouched words total later t _ _ (count_place t) (stepped step (count_word words t)) h.divided x.held
+    change_untouched words total later t _ _ (count_place t) (stepped step (count_word words t)) h.good.divided x.held
     (change_of step t a words total later x) u ne held
 
 -- the title's word after the step
@@ -247,35 +236,24 @@ pub word_here : (step : Step) (t : Title) (a : OwnState) (words : List ℕ) (tot
     Holders words total idle budget steps → IsCountStep step t a words total later →
     count_word (words_by step t words) t ≡ stepped step (count_word words t)
 word_here step t a words total later idle budget steps h x =
-    word_written words t (stepped step (count_word words t)) (h.divided.well t x.held)
+    word_written words t (stepped step (count_word words t)) (h.good.divided.well t x.held)
 
--- a counted step keeps the part: it takes 1 of the budget, and the knowledge that a count is 0 is true after it
+-- a counted step keeps the part, where the core stays good: it takes 1 of the budget, and the knowledge that a count is 0
+-- is true after it
 pub holders_count : (step : Step) (t : Title) (a : OwnState) (words : List ℕ) (total later : Thing → ℕ) (idle idle_after : Title → ℕ) (budget left steps : ℕ) →
-    Holders words total idle budget steps → IsCountStep step t a words total later → left + 1 ≡ budget →
+    Holders words total idle budget steps → IsCountStep step t a words total later → IsGood (words_by step t words) later → left + 1 ≡ budget →
     ((u : Title) → (t ≡ u → ⊥) → idle_after u ≡ idle u) →
     (0 < idle_after t → refs_of (stepped step (count_word words t)) ≡ 0) →
     ((u : Title) → 0 < idle u → IsTitleHeld total u) →
     Holders (words_by step t words) later idle_after left (steps + 1)
-holders_count step t a words total later idle idle_after budget left steps h x takes others here idle_held =
+holders_count step t a words total later idle idle_after budget left steps h x good takes others here idle_held =
     let word = word_here step t a words total later idle budget steps h x in
     let at_last = h.few t x.held in
     let few_here = h.few_refs t x.held in
     let n = number_after step (count_word words t) x.can in
     let n0 = n.0 in let n1 = n.1 in
     record {
-      divided = rw (length-set words (count_place t) (stepped step (count_word words t)))
-          (divided_same (length words) total later h.divided
-          (λ b. let c = x.changes (RawByte b) in let l = lost_raw step t a b in let g = gained_raw step t (stepped step (count_word words t)) b in omega arith)
-          (λ u held. (held_after step t a words total later idle budget steps h x u).0 held)
-          (λ u held. (held_after step t a words total later idle budget steps h x u).1 held));
-      word = λ u held. elim (title_tells t u) [
-        | inl y ↦ subst (λ (z : Title). IsCounted (count_word (words_by step t words) z) later z) y.1
-            (rw word (counted_after step (count_word words t) total later t a (h.word t x.held) x.can x.changes))
-        | inr m ↦
-            let before = (held_after step t a words total later idle budget steps h x u).1 held in
-            let same = other_stays step t a words total later idle budget steps h x u m.1 before in
-            counted_same (count_word words u) (count_word (words_by step t words) u) total later u (h.word u before) same.word same.free same.own same.ref
-      ];
+      good = good;
       known = λ u some_idle. elim (title_tells t u) [
         | inl y ↦ subst (λ (z : Title). 0 < idle_after z → refs_of (count_word (words_by step t words) z) ≡ 0) y.1 (λ i. rw word (here i)) some_idle
         | inr m ↦
@@ -311,9 +289,7 @@ holders_same words total later idle idle_after budget left steps more h same kno
     let held : (u : Title) → IsTitleHeld later u → IsTitleHeld total u =
     λ u y. let p = same (FreeTitle u) in let q = same (OwnOf u) in let r = same (RefOf u) in omega arith in
     record {
-      divided = divided_same (length words) total later h.divided (λ i. same (RawByte i))
-          (λ u y. let p = same (FreeTitle u) in let q = same (OwnOf u) in let r = same (RefOf u) in omega arith) held;
-      word = λ u y. counted_same (count_word words u) (count_word words u) total later u (h.word u (held u y)) refl (same (FreeTitle u)) (same (OwnOf u)) (same (RefOf u));
+      good = same_keeps words total later h.good same;
       known = known;
       affords = let e = h.affords in omega arith;
       few = λ u y. let e = h.few u (held u y) in omega arith;

@@ -19,9 +19,9 @@ use Rattle.pa_machine.proofs.Same.{title_tells}
 use Rattle.pa_region.specs.declared.view.OwnTitle.{OwnTitle}
 use Rattle.pa_region.specs.declared.view.View.{View}
 use Rattle.pa_region.specs.Views.{idle_of, idle_in, held_of_view, shown}
-use Rattle.pa_region.specs.Moves.{changed, is_own_of, HasHandle, moved, words_of_free, busy, written, idle_if}
+use Rattle.pa_region.specs.Moves.{changed, is_own_of, moved, busy, written, idle_if}
 use Rattle.pa_region.proofs.Adding.{one_and, one_split, sum_set, sum_part, sum_split, first_of, none_changed}
-use Rattle.pa_region.proofs.Pieces.{owns_have, found_title, total_sum}
+use Rattle.pa_region.proofs.Pieces.{HasPiece, owns_have, found_title, total_sum}
 
 -- an Own counts as idle, or as busy
 abbrev idle_own : Title → OwnTitle → ℕ
@@ -55,13 +55,13 @@ idle_other t u change (o ∷ os) ne keeps = go (is_own_of t o) refl (idle_other 
         omega (arith, sum_by-cons (idle_own u) o (changed (is_own_of t) change os), sum_by-cons (idle_own u) o os)
 
 -- a counted step changes nothing of what its view knows of another title
-pub moved_idle_other : (step : Step) (t u : Title) (word : ℕ) (v : View) → (t ≡ u → ⊥) → HasHandle step t v →
+pub moved_idle_other : (step : Step) (t u : Title) (word : ℕ) (v : View) → (t ≡ u → ⊥) → HasPiece step t v →
     idle_of (moved step t word v) u ≡ idle_of v u
 moved_idle_other Issue t u word v ne has =
     elim (title_tells t u) [
       | inl y ↦ absurd (ne y.1)
       | inr n ↦
-          let new : OwnTitle = record { title = t; state = Clean; idle = true; words = words_of_free t v.frees } in
+          let new : OwnTitle = record { title = t; state = Clean; idle = true } in
           let z : idle_own u new ≡ 0 = rw n.0 refl in
           omega (arith, sum_by-cons (idle_own u) new v.owns)
     ]

@@ -44,9 +44,9 @@ as_at t step word value (Counted u p found written) =
     inner_number (same_title u t) (eqb (step_number p) (step_number step)) (eqb found word) (eqb written value) (eqb (number_of found) (number_of word))
     (λ same. eq-eqb (number_of found) (number_of word) (ap number_of (eqb-true found word same)))
 as_at t step word value (Looked u found) = omega arith
-as_at t step word value (Read u place read since unclean) = omega arith
+as_at t step word value (Read u place read since owned unclean) = omega arith
 as_at t step word value (Added word_number bytes) = omega arith
-as_at t step word value (Entered keeper numbers) = omega arith
+as_at t step word value (Entered keeper made) = omega arith
 
 -- the number of the last word is the number of steps
 pub reached_number : (history : List Done) → IsLegal history → number_of (reached history) ≡ length history

@@ -7,13 +7,14 @@ use Rattle.std.proofs.lemmas.Bool.{cases_lt}
 use mathlib.Core.Option.{some, some-injective, some-ne-none}
 use lib.ListN.{get_elem?}
 use Rattle.pa_machine.specs.declared.title.Title.{Title}
+use Rattle.pa_machine.specs.declared.title.OwnState.TheVariants.{Clean, Poisoned}
+use Rattle.pa_machine.proofs.Totals.{tally_of}
 use Rattle.pa_machine.specs.Titles.{same_title, Covers, count_place, count_word}
-use Rattle.pa_machine.specs.Holdings.{Thing, RawByte, FreeTitle, OwnOf, RefOf, one, amount, IsTitleHeld}
+use Rattle.pa_machine.specs.Holdings.{FreePiece, Thing, RawByte, FreeTitle, OwnOf, RefOf, one, amount, IsTitleHeld}
 use Rattle.pa_machine.specs.Good.{IsByteGood}
 use Rattle.pa_machine.specs.Events.{total_of}
 use Rattle.pa_machine.proofs.Same.{title_one}
 use Rattle.pa_region.specs.declared.view.RawRange.{RawRange}
-use Rattle.pa_region.specs.declared.view.FreeTitle.{FreeTitle as FreeHeld}
 use Rattle.pa_region.specs.declared.view.Stake.{Stake}
 use Rattle.pa_region.specs.declared.view.View.{View}
 use Rattle.std.proofs.Common.{replicate}
@@ -22,11 +23,11 @@ use Rattle.std.proofs.lemmas.Bool.{lt-ltb, le-ltb, le-leb, lt-leb}
 use Rattle.std.proofs.lemmas.List.{length-take-le, length-replicate}
 use Rattle.atomic_table.specs.Seated.{TableId}
 use Rattle.atomic_table.specs.Table.{Me}
-use Rattle.pa_region.specs.Views.{raw_piece, free_piece, held_of_view, byte_words, shown, least_stake}
+use Rattle.pa_region.specs.Views.{raw_piece, held_of_view, byte_words, shown, least_stake}
 use Rattle.pa_region.specs.Rule.{IsKept}
 use Rattle.pa_region.specs.Shares.{IsSound, byte_word_count}
-use Rattle.pa_region.specs.Start.{AreApart, AreWellFormed, is_covered, raw_word, rest_from, free_new, stakes_from, first_view}
-use Rattle.pa_region.proofs.Adding.{sum_map, sum_none, one_lt, one_eq}
+use Rattle.pa_region.specs.Start.{AreApart, AreWellFormed, is_covered, blank, raw_word, rest_from, stakes_from, first_view}
+use Rattle.pa_region.proofs.Adding.{sum_none, one_lt, one_eq}
 use Rattle.pa_region.proofs.Pieces.{held_split, frees_have, title_held}
 
 -- whether a word's range has the byte
@@ -167,9 +168,7 @@ count_once (u ∷ us) t same =
 -- what the first view holds
 first_frees : (words budget : ℕ) (titles : List Title) (t : Title) → held_of_view (first_view words budget titles) (FreeTitle t) ≡ count_of titles t
 first_frees words budget titles t =
-    let f = frees_have (first_view words budget titles) t in
-    let m = sum_map (λ (f : FreeHeld). one (same_title f.title t)) free_new titles in
-    omega arith
+    frees_have (first_view words budget titles) t
 
 -- the first view has no Own
 first_owns : (words budget : ℕ) (titles : List Title) (t : Title) → held_of_view (first_view words budget titles) (OwnOf t) ≡ 0
@@ -177,7 +176,7 @@ first_owns words budget titles t =
     let v = first_view words budget titles in
     let s = held_split v (OwnOf t) in
     let a = sum_none (λ (r : RawRange). amount (OwnOf t) (raw_piece r)) v.raws (λ r. refl) in
-    let b = sum_none (λ (f : FreeHeld). amount (OwnOf t) (free_piece f)) v.frees (λ f. refl) in
+    let b = sum_none (λ (f : Title). amount (OwnOf t) (FreePiece f)) v.frees (λ f. refl) in
     omega arith
 
 -- and no Ref
@@ -186,7 +185,7 @@ first_refs words budget titles t =
     let v = first_view words budget titles in
     let s = held_split v (RefOf t) in
     let a = sum_none (λ (r : RawRange). amount (RefOf t) (raw_piece r)) v.raws (λ r. refl) in
-    let b = sum_none (λ (f : FreeHeld). amount (RefOf t) (free_piece f)) v.frees (λ f. refl) in
+    let b = sum_none (λ (f : Title). amount (RefOf t) (FreePiece f)) v.frees (λ f. refl) in
     omega arith
 
 -- and as raw the words that no title covers
@@ -194,7 +193,7 @@ first_raw : (words budget : ℕ) (titles : List Title) (b : ℕ) → held_of_vie
 first_raw words budget titles b =
     let v = first_view words budget titles in
     let s = held_split v (RawByte b) in
-    let f = sum_none (λ (f : FreeHeld). amount (RawByte b) (free_piece f)) v.frees (λ f. refl) in
+    let f = sum_none (λ (f : Title). amount (RawByte b) (FreePiece f)) v.frees (λ f. refl) in
     omega arith
 
 -- what it holds stands in the list
@@ -215,6 +214,19 @@ zero_at zero m i = refl
 zero_at (suc n) zero i = refl
 zero_at (suc n) (suc m) zero = refl
 zero_at (suc n) (suc m) (suc i) = zero_at n m i
+
+-- the first view's words
+pub blank_at : (n i : ℕ) → slice_index (blank n) i ≡ 0
+unfolding blank
+blank_at zero i = refl
+blank_at (suc n) zero = refl
+blank_at (suc n) (suc i) = blank_at n i
+
+-- as many as the region has
+blank_long : (n : ℕ) → length (blank n) ≡ n
+unfolding blank
+blank_long zero = refl
+blank_long (suc n) = ap suc (blank_long n)
 
 -- a byte and the first byte of its word lie in the same titles
 aligned_covered : (words : ℕ) (titles : List Title) (b : ℕ) → AreWellFormed words titles → is_covered titles (8 * (b / 8)) ≡ is_covered titles b
@@ -259,34 +271,50 @@ pub opens : (words budget : ℕ) (titles : List Title) → budget ≤ 65536 → 
     IsKept (replicate (words + 16) 0) (first_view words budget titles ∷ [])
 opens words budget titles few well apart = record {
   history = λ t. [];
+  list = λ k. [];
   holders = record {
-    divided = record {
-      bytes = λ b below. go b (rw long at below) (covered_cases titles b);
-      outside = λ b past. raw_total b ∙ rest_out 0 words titles b (inr (let far : 8 * words ≤ b = rw long at past in omega arith));
-      well = λ t held. let s = stands t held in rw long (well s.0 t s.1);
-      apart = λ t u b held other covers inside.
+    good = record {
+      divided = record {
+        bytes = λ b below. go b (rw long at below) (covered_cases titles b);
+        outside = λ b past. raw_total b ∙ rest_out 0 words titles b (inr (let far : 8 * words ≤ b = rw long at past in omega arith));
+        well = λ t held. let s = stands t held in rw long (well s.0 t s.1);
+        apart = λ t u b held other covers inside.
+            let s = stands t held in
+            let z = stands u other in
+            let e = apart s.0 z.0 b t u s.1 z.1 covers inside in
+            some-injective t u (sym s.1 ∙ (ap (λ i. get_elem? titles i) e ∙ z.1));
+      };
+      counted = λ t held.
           let s = stands t held in
-          let z = stands u other in
-          let e = apart s.0 z.0 b t u s.1 z.1 covers inside in
-          some-injective t u (sym s.1 ∙ (ap (λ i. get_elem? titles i) e ∙ z.1));
+          let w = well s.0 t s.1 in
+          let l = w.long in
+          let once = count_once titles t (λ i k p q. apart i k t.start t t p q (omega arith, omega arith) (omega arith, omega arith)) in
+          let there = count_of_stands titles t s.0 s.1 in
+          let f = frees_total t in
+          rw (zero_word t) (record {
+            owns = sym (owns_total t);
+            refs = sym (refs_total t);
+            free = λ is_free. omega arith;
+            taken = λ not_free. absurd (not_free (refl, refl));
+          });
+      poison_kept = λ t held. record {
+        progress = λ j has. let p = (tally_of (shown all_words views).holdings).part t (Poisoned j) in let z = owns_total t in absurd (omega arith);
+        quarantine = λ q. let z = rw (zero_word t) at q.1 in absurd (omega arith);
+      };
+      content_kept = λ t held. record {
+        clean = λ has. let p = (tally_of (shown all_words views).holdings).part t Clean in let z = owns_total t in absurd (omega arith);
+        shared = λ state many has. let z = rw (zero_word t) at many in absurd (omega arith);
+      };
     };
-    word = λ t held.
-        let s = stands t held in
-        let w = well s.0 t s.1 in
-        let l = w.long in
-        let once = count_once titles t (λ i k p q. apart i k t.start t t p q (omega arith, omega arith) (omega arith, omega arith)) in
-        let there = count_of_stands titles t s.0 s.1 in
-        let f = frees_total t in
-        rw (zero_word t) (record {
-          owns = sym (owns_total t);
-          refs = sym (refs_total t);
-          free = λ is_free. omega arith;
-          taken = λ not_free. absurd (not_free (refl, refl));
-        });
     known = λ t some_idle. absurd (omega arith);
     affords = omega arith;
     few = λ t held. rw (zero_word t) (omega arith);
     few_refs = λ t held. rw (zero_word t) (omega arith);
+  };
+  values = record {
+    long = λ i v at_i. subst (λ (w : View). length w.words ≡ length (byte_words all_words)) (only i v at_i) (blank_long words ∙ sym long);
+    known = λ i q v at_i knows. subst (λ (w : View). slice_index w.words q ≡ slice_index (byte_words all_words) q) (only i v at_i)
+        (blank_at words q ∙ sym (zero_at (length all_words - 16) (words + 16) q));
   };
   reservations = record {
     floors = λ t b some_name covers. absurd (omega arith);
@@ -306,6 +334,10 @@ opens words budget titles few well apart = record {
       | inl y ↦ elim (one_lt k 16) [ inl z ↦ let a = y.2 in let b = z.0 in omega arith | inr n ↦ let a = y.1 in let b = n.1 in absurd (omega arith) ]
       | inr m ↦ elim (one_lt k 16) [ inl z ↦ let a = z.1 in absurd (m.0 (omega arith, omega arith)) | inr n ↦ let a = m.1 in let b = n.0 in omega arith ]
     ];
+  };
+  content = record {
+    clean = λ t has. let p = (tally_of (shown all_words views).holdings).part t Clean in let z = owns_total t in absurd (omega arith);
+    beyond = λ t j many has. let z = refs_total t in absurd (omega arith);
   };
   seen = record {
     numbers = λ t. refl;
@@ -342,6 +374,10 @@ opens words budget titles few well apart = record {
     raw_total : (b : ℕ) → total_of (shown all_words views) (RawByte b) ≡ rest_sum 0 words titles b
     raw_total b = total_is (RawByte b) ∙ first_raw words budget titles b
 
+    only : (i : ℕ) (v : View) → get_elem? views i ≡ some v → first_view words budget titles ≡ v
+    only zero v at_i = some-injective (first_view words budget titles) v at_i
+    only (suc i) v at_i = absurd (some-ne-none v (sym at_i))
+
     stands : (t : Title) → IsTitleHeld (total_of (shown all_words views)) t → Stands titles t
     stands t held =
         let f = frees_total t in let o = owns_total t in let r = refs_total t in
@@ -370,6 +406,13 @@ pub first_sound : (region : TableId) (words budget : ℕ) (titles : List Title) 
 first_sound region words budget titles e small well = record {
   small = rw e small;
   well = λ t has. let s = first_held words budget titles t (title_held (first_view words budget titles) t has) in rw e (well s.0 t s.1);
+  raw = λ b held.
+      let r = first_raw words budget titles b in
+      elim (cases_lt b (8 * words)) [
+        | inl y ↦ rw e y
+        | inr n ↦ let z = rest_out 0 words titles b (inr (omega arith)) in absurd (omega arith)
+      ];
+  long = blank_long words ∙ sym e;
 }
 
 -- the same, with the lists as the code makes them

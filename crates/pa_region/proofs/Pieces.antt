@@ -1,6 +1,6 @@
 -- What a view holds, kind by kind, and what all views hold when one of them changes.
 use Rattle.std.proofs.Common.{◌≡◌, ℕ, ◌+◌, ◌<◌, ◌≤◌, Bool, true, false, ◌&&◌, List, [], ◌∷◌, ◌++◌, map, set, refl, sym, ◌∙◌, ap, arith, inl, inr}
-use Rattle.std.specs.Prelude.{◌==◌, if◌then◌else◌}
+use Rattle.std.specs.Prelude.{if◌then◌else◌}
 use Rattle.std.specs.List.{sum_by}
 use Rattle.std.proofs.lemmas.List.Sums.{sum_by-cons, sum_by-append, sum_by-le-sum_by}
 use Rattle.std.proofs.lemmas.Bool.{true≢false}
@@ -8,30 +8,29 @@ use mathlib.Core.Option.{some}
 use lib.ListN.{get_elem?}
 use Rattle.pa_machine.specs.declared.title.Title.{Title}
 use Rattle.pa_machine.specs.declared.title.OwnState.{OwnState}
-use Rattle.pa_machine.specs.declared.title.OwnState.TheVariants.{Clean}
+use Rattle.pa_machine.specs.declared.title.OwnState.TheVariants.{Clean, Poisoned}
 use Rattle.pa_machine.specs.declared.word.Step.{Step}
 use Rattle.pa_machine.specs.declared.word.Step.TheVariants.{Issue, Copy, Reset, Free, Write}
-use Rattle.pa_machine.specs.Count.{stepped, refs_of, held_of}
-use Rattle.pa_machine.specs.Titles.{same_title}
-use Rattle.pa_machine.specs.Holdings.{Piece, FreePiece, OwnPiece, RefPiece, Thing, FreeTitle, OwnOf, RefOf, one, amount, held_in, IsTitleHeld}
+use Rattle.pa_machine.specs.Count.{stepped}
+use Rattle.pa_machine.specs.Titles.{same_title, same_state, content_count}
+use Rattle.pa_machine.specs.Holdings.{Piece, FreePiece, OwnPiece, RefPiece, Thing, FreeTitle, OwnOf, OwnAs, RefOf, one, amount, held_in, IsTitleHeld}
 use Rattle.pa_machine.specs.Events.{returned_at, total_of}
-use Rattle.pa_machine.proofs.Same.{title_tells}
+use Rattle.pa_machine.proofs.Same.{title_tells, state_self}
 use Rattle.pa_machine.proofs.Parts.{Changes}
 use Rattle.pa_region.specs.declared.view.RawRange.{RawRange}
-use Rattle.pa_region.specs.declared.view.FreeTitle.{FreeTitle as FreeHeld}
 use Rattle.pa_region.specs.declared.view.OwnTitle.{OwnTitle}
 use Rattle.pa_region.specs.declared.view.View.{View}
-use Rattle.pa_region.specs.Views.{raw_piece, free_piece, own_piece, pieces_of, held_of_view, free_of, own_of, ref_of, HasTitle, shown, idle_of}
-use Rattle.pa_region.specs.Moves.{changed, returned, is_free_of, is_own_of, is_ref_of, HasHandle, moved, words_of_free, words_of_own, busy, written}
-use Rattle.pa_region.proofs.Adding.{sum_set, sum_part, sum_map, sum_none, first_of, one_and}
+use Rattle.pa_region.specs.Views.{raw_piece, own_piece, pieces_of, held_of_view, free_of, own_of, own_as, ref_of, HasTitle, shown, idle_of}
+use Rattle.pa_region.specs.Moves.{changed, is_title_of, is_own_of, is_back, HasHandle, moved, busy, written}
+use Rattle.pa_region.proofs.Adding.{IsFirst, sum_set, sum_part, sum_map, sum_none, first_of, one_and}
 
 -- how often a view holds a thing, by the four lists of its holdings
 abbrev pub raw_sum : View → Thing → ℕ
 raw_sum v x = sum_by (λ r. amount x (raw_piece r)) v.raws
 
 -- by its free titles
-abbrev pub frees_sum : List FreeHeld → Thing → ℕ
-frees_sum fs x = sum_by (λ f. amount x (free_piece f)) fs
+abbrev pub frees_sum : List Title → Thing → ℕ
+frees_sum fs x = sum_by (λ t. amount x (FreePiece t)) fs
 
 -- by its Owns
 abbrev pub owns_sum : List OwnTitle → Thing → ℕ
@@ -45,12 +44,12 @@ refs_sum ts x = sum_by (λ t. amount x (RefPiece t)) ts
 pub held_split : (v : View) (x : Thing) → held_of_view v x ≡ raw_sum v x + frees_sum v.frees x + owns_sum v.owns x + refs_sum v.refs x
 held_split v x =
     let rest1 = map own_piece v.owns ++ map RefPiece v.refs in
-    let rest2 = map free_piece v.frees ++ rest1 in
+    let rest2 = map FreePiece v.frees ++ rest1 in
     let a = sum_by-append (amount x) (map raw_piece v.raws) rest2 in
-    let b = sum_by-append (amount x) (map free_piece v.frees) rest1 in
+    let b = sum_by-append (amount x) (map FreePiece v.frees) rest1 in
     let c = sum_by-append (amount x) (map own_piece v.owns) (map RefPiece v.refs) in
     let d = sum_map (amount x) raw_piece v.raws in
-    let e = sum_map (amount x) free_piece v.frees in
+    let e = sum_map (amount x) FreePiece v.frees in
     let f = sum_map (amount x) own_piece v.owns in
     let g = sum_map (amount x) RefPiece v.refs in
     omega arith
@@ -69,7 +68,7 @@ pub owns_have : (v : View) (t : Title) → held_of_view v (OwnOf t) ≡ own_of v
 owns_have v t =
     let s = held_split v (OwnOf t) in
     let a = sum_none (λ (r : RawRange). amount (OwnOf t) (raw_piece r)) v.raws (λ r. refl) in
-    let b = sum_none (λ (f : FreeHeld). amount (OwnOf t) (free_piece f)) v.frees (λ o. refl) in
+    let b = sum_none (λ (u : Title). amount (OwnOf t) (FreePiece u)) v.frees (λ o. refl) in
     let c = sum_none (λ (u : Title). amount (OwnOf t) (RefPiece u)) v.refs (λ u. refl) in
     omega arith
 
@@ -78,7 +77,7 @@ pub refs_have : (v : View) (t : Title) → held_of_view v (RefOf t) ≡ ref_of v
 refs_have v t =
     let s = held_split v (RefOf t) in
     let a = sum_none (λ (r : RawRange). amount (RefOf t) (raw_piece r)) v.raws (λ r. refl) in
-    let b = sum_none (λ (f : FreeHeld). amount (RefOf t) (free_piece f)) v.frees (λ o. refl) in
+    let b = sum_none (λ (u : Title). amount (RefOf t) (FreePiece u)) v.frees (λ o. refl) in
     let c = sum_none (λ (o : OwnTitle). amount (RefOf t) (own_piece o)) v.owns (λ u. refl) in
     omega arith
 
@@ -136,12 +135,12 @@ gained_by Free t left = returned_at left t
 gained_by Write t left = OwnPiece t Clean ∷ []
 
 -- the free titles after a return
-returned_sum : (left : ℕ) (t : Title) (words : List ℕ) (frees : List FreeHeld) (x : Thing) →
-    frees_sum (returned left t words frees) x ≡ frees_sum frees x + held_in (returned_at left t) x
-returned_sum left t words frees x = go ((held_of left == 0) && (refs_of left == 0))
+returned_sum : (left : ℕ) (t : Title) (frees : List Title) (x : Thing) →
+    frees_sum (if is_back left then t ∷ frees else frees) x ≡ frees_sum frees x + held_in (returned_at left t) x
+returned_sum left t frees x = go (is_back left)
   where
-    go : (b : Bool) → frees_sum (if b then record { title = t; words = words } ∷ frees else frees) x ≡ frees_sum frees x + held_in (if b then FreePiece t ∷ [] else []) x
-    go true = omega (arith, sum_by-cons (λ f. amount x (free_piece f)) (record { title = t; words = words }) frees)
+    go : (b : Bool) → frees_sum (if b then t ∷ frees else frees) x ≡ frees_sum frees x + held_in (if b then FreePiece t ∷ [] else []) x
+    go true = omega (arith, sum_by-cons (λ u. amount x (FreePiece u)) t frees)
     go false = omega arith
 
 -- a view's Own with any idle mark
@@ -165,20 +164,68 @@ unchanged_sum t change (o ∷ os) same x = go (is_own_of t o) (unchanged_sum t c
     go false again =
         omega (arith, sum_by-cons (λ p. amount x (own_piece p)) o (changed (is_own_of t) change os), sum_by-cons (λ p. amount x (own_piece p)) o os)
 
+-- the handle that a step needs, in any state
+abbrev pub HasPiece : Step → Title → View → Type 0
+HasPiece Issue t v = 0 < free_of v t
+HasPiece Copy t v = 0 < own_of v t + ref_of v t
+HasPiece Reset t v = 0 < ref_of v t
+HasPiece Free t v = 0 < own_of v t
+HasPiece Write t v = 0 < idle_of v t
+
+-- the Owns in a state
+pub owns_as_have : (v : View) (t : Title) (a : OwnState) → held_of_view v (OwnAs t a) ≡ own_as v t a
+owns_as_have v t a =
+    let s = held_split v (OwnAs t a) in
+    let b = sum_none (λ (r : RawRange). amount (OwnAs t a) (raw_piece r)) v.raws (λ r. refl) in
+    let c = sum_none (λ (u : Title). amount (OwnAs t a) (FreePiece u)) v.frees (λ o. refl) in
+    let d = sum_none (λ (u : Title). amount (OwnAs t a) (RefPiece u)) v.refs (λ u. refl) in
+    omega arith
+
+-- an Own in some state is an Own
+pub own_as_own : (v : View) (t : Title) (a : OwnState) → own_as v t a ≤ own_of v t
+own_as_own v t a =
+    sum_by-le-sum_by (λ (o : OwnTitle). one (same_title o.title t && same_state o.state a)) (λ (o : OwnTitle). one (is_own_of t o)) v.owns
+    (λ o. one_and (same_title o.title t) (same_state o.state a))
+
+-- who has the handle has the piece
+pub handle_piece : (step : Step) (t : Title) (v : View) → HasHandle step t v → HasPiece step t v
+handle_piece Issue t v has = has
+handle_piece Copy t v has = let l = own_as_own v t Clean in omega arith
+handle_piece Reset t v has = has
+handle_piece Free t v has = let l = own_as_own v t (Poisoned (content_count t)) in omega arith
+handle_piece Write t v has = has.0
+
+-- the step takes an Own of its title, which is in this state
+abbrev pub TakesOwn : Step → Title → OwnState → View → Type 0
+TakesOwn Issue t a v = Unit {0}
+TakesOwn Copy t a v = Unit {0}
+TakesOwn Reset t a v = Unit {0}
+TakesOwn Free t a v = 0 < held_of_view v (OwnAs t a)
+TakesOwn Write t a v = 0 < held_of_view v (OwnAs t a)
+
+-- the first Own of the title is one in its state
+pub first_own : (t : Title) (v : View) (o : OwnTitle) → IsFirst (is_own_of t) v.owns o → 0 < held_of_view v (OwnAs t o.state)
+first_own t v o first =
+    let c = first.left_out (λ p. amount (OwnAs t o.state) (own_piece p)) in
+    let same : amount (OwnAs t o.state) (own_piece o) ≡ 1 = rw (first.passes, state_self o.state) refl in
+    let s = held_split v (OwnAs t o.state) in
+    omega arith
+
 -- what a counted step changes of what the view holds
-pub moved_changes : (step : Step) (t : Title) (word : ℕ) (v : View) → HasHandle step t v →
-    (a : OwnState) × Changes (held_of_view v) (lost_by step t a) (gained_by step t (stepped step word)) (held_of_view (moved step t word v))
+pub moved_changes : (step : Step) (t : Title) (word : ℕ) (v : View) → HasPiece step t v →
+    (a : OwnState) × Changes (held_of_view v) (lost_by step t a) (gained_by step t (stepped step word)) (held_of_view (moved step t word v)) × TakesOwn step t a v
 moved_changes Issue t word v has =
     let e = frees_have v t in
-    let first = first_of (is_free_of t) v.frees (omega arith) in (
+    let first = first_of (is_title_of t) v.frees (omega arith) in (
       Clean,
       λ x.
-          let own : OwnTitle = record { title = t; state = Clean; idle = true; words = words_of_free t v.frees } in
-          let f = first.1.left_out (λ f. amount x (free_piece f)) in
-          let same : amount x (free_piece first.0) ≡ amount x (FreePiece t) = ap (λ u. amount x (FreePiece u)) (found_title t first.0.title first.1.passes) in
+          let own : OwnTitle = record { title = t; state = Clean; idle = true } in
+          let f = first.1.left_out (λ u. amount x (FreePiece u)) in
+          let same : amount x (FreePiece first.0) ≡ amount x (FreePiece t) = ap (λ u. amount x (FreePiece u)) (found_title t first.0 first.1.passes) in
           let before = held_split v x in
           let after = held_split (moved Issue t word v) x in
           omega (arith, sum_by-cons (λ o. amount x (own_piece o)) own v.owns),
+      tt,
     )
 moved_changes Copy t word v has = (
   Clean,
@@ -187,18 +234,20 @@ moved_changes Copy t word v has = (
       let after = held_split (moved Copy t word v) x in
       let same = unchanged_sum t busy v.owns (λ o. refl) x in
       omega (arith, sum_by-cons (λ u. amount x (RefPiece u)) t v.refs),
+  tt,
 )
 moved_changes Reset t word v has =
     let e = refs_have v t in
-    let first = first_of (is_ref_of t) v.refs (omega arith) in (
+    let first = first_of (is_title_of t) v.refs (omega arith) in (
       Clean,
       λ x.
           let f = first.1.left_out (λ u. amount x (RefPiece u)) in
           let same : amount x (RefPiece first.0) ≡ amount x (RefPiece t) = ap (λ u. amount x (RefPiece u)) (found_title t first.0 first.1.passes) in
-          let back = returned_sum (stepped Reset word) t [] v.frees x in
+          let back = returned_sum (stepped Reset word) t v.frees x in
           let before = held_split v x in
           let after = held_split (moved Reset t word v) x in
           omega arith,
+      tt,
     )
 moved_changes Free t word v has =
     let e = owns_have v t in
@@ -207,10 +256,11 @@ moved_changes Free t word v has =
       λ x.
           let f = first.1.left_out (λ o. amount x (own_piece o)) in
           let same : amount x (own_piece first.0) ≡ amount x (OwnPiece t first.0.state) = ap (λ u. amount x (OwnPiece u first.0.state)) (found_title t first.0.title first.1.passes) in
-          let back = returned_sum (stepped Free word) t (words_of_own t v.owns) v.frees x in
+          let back = returned_sum (stepped Free word) t v.frees x in
           let before = held_split v x in
           let after = held_split (moved Free t word v) x in
           omega arith,
+      first_own t v first.0 first.1,
     )
 moved_changes Write t word v has =
     let e = owns_have v t in
@@ -225,4 +275,5 @@ moved_changes Write t word v has =
           let before = held_split v x in
           let after = held_split (moved Write t word v) x in
           omega arith,
+      first_own t v first.0 first.1,
     )

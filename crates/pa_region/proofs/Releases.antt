@@ -12,8 +12,8 @@ use Rattle.pa_machine.proofs.Arith.{stepped_is}
 use Rattle.pa_machine.proofs.Amounts.{returned_cases}
 use Rattle.pa_region.specs.declared.view.View.{View}
 use Rattle.pa_region.specs.Views.{held_of_view, free_of}
-use Rattle.pa_region.specs.Moves.{HasHandle, moved, after_count}
-use Rattle.pa_region.proofs.Pieces.{lost_by, gained_by, moved_changes, frees_have}
+use Rattle.pa_region.specs.Moves.{moved, after_count}
+use Rattle.pa_region.proofs.Pieces.{HasPiece, lost_by, gained_by, moved_changes, frees_have}
 use Rattle.pa_machine.specs.Run.{IsReturning}
 use Rattle.pa_machine.proofs.Amounts.{free_self}
 use Rattle.pa_region.specs.Shares.{Share, IsMade}
@@ -47,7 +47,7 @@ free_returns step word (inr e) can f = subst (λ (s : Step). IsReturning s word)
     go can f = let s = stepped_is Free word can in let a = s.0 in let b = s.1 in let c = s.2 in let p = f.0 in let q = f.1 in (omega arith, omega arith)
 
 -- how often the seat holds the title free after a release
-frees_after : (step : Step) (t : Title) (word : ℕ) (v : View) → IsRelease step → HasHandle step t v →
+frees_after : (step : Step) (t : Title) (word : ℕ) (v : View) → IsRelease step → HasPiece step t v →
     free_of (after_count step t word v) t ≡ free_of v t + held_in (returned_at (stepped step word) t) (FreeTitle t)
 frees_after step t word v release has =
     let moves = moved_changes step t word v has in
@@ -72,7 +72,7 @@ busy_word step word (inl e) can f = let c : CanStep Reset word = subst (λ (s : 
 busy_word step word (inr e) can f = let c : CanStep Free word = subst (λ (s : Step). CanStep s word) e can in let p = f.0 in let q = c.0 in absurd (omega arith)
 
 -- after a returning step the seat holds the title free, once
-pub returned_holds : (step : Step) (t : Title) (word : ℕ) (before after : Share) → IsRelease step → HasHandle step t before.view → IsMade step t word before after →
+pub returned_holds : (step : Step) (t : Title) (word : ℕ) (before after : Share) → IsRelease step → HasPiece step t before.view → IsMade step t word before after →
     IsReturning step word → free_of after.view t ≡ 1
 returned_holds step t word before after release has made r =
     let f = frees_after step t word before.view release has in
@@ -85,7 +85,7 @@ returned_holds step t word before after release has made r =
     ]
 
 -- after any other release it doesn't
-pub kept_holds : (step : Step) (t : Title) (word : ℕ) (before after : Share) → IsRelease step → HasHandle step t before.view → IsMade step t word before after →
+pub kept_holds : (step : Step) (t : Title) (word : ℕ) (before after : Share) → IsRelease step → HasPiece step t before.view → IsMade step t word before after →
     (IsReturning step word → ⊥) → free_of after.view t ≡ 0
 kept_holds step t word before after release has made other =
     let f = frees_after step t word before.view release has in

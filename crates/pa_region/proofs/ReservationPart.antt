@@ -27,7 +27,7 @@ reservations_count t words total later idle budget steps low low_after named nam
         r.floors u b (omega arith) covers
   ];
   later = λ u k b known other ne covers inside. elim (title_one t u) [
-    | inl y ↦ absurd (ne (sym y.1 ∙ h.divided.apart t k b held (back k other) (subst (λ (z : Title). Covers z b) (sym y.1) covers) inside))
+    | inl y ↦ absurd (ne (sym y.1 ∙ h.good.divided.apart t k b held (back k other) (subst (λ (z : Title). Covers z b) (sym y.1) covers) inside))
     | inr n ↦
         let e = names u in let f = same_uncut u in let z = n.0 in
         r.later u k b (omega arith) (back k other) ne covers inside
@@ -37,6 +37,6 @@ reservations_count t words total later idle budget steps low low_after named nam
   where
     none_raw : (b : ℕ) → Covers t b → total (RawByte b) ≡ 0
     none_raw b covers = elim (cases_lt b (8 * length words)) [
-      | inl below ↦ elim (h.divided.bytes b below) [ inl x ↦ absurd (x.1 t held covers) | inr x ↦ x.0 ]
-      | inr past ↦ h.divided.outside b past
+      | inl below ↦ elim (h.good.divided.bytes b below) [ inl x ↦ absurd (x.1 t held covers) | inr x ↦ x.0 ]
+      | inr past ↦ h.good.divided.outside b past
     ]

@@ -89,9 +89,9 @@ unseen_less t number notes (Counted u step found value) =
     lt_antitone (seen_among u notes) (seen_among u (note t number ∷ notes)) (number_of found + 1) (note_grows t number notes u)
 unseen_less t number notes (Looked u found) =
     lt_antitone (seen_among u notes) (seen_among u (note t number ∷ notes)) (number_of found) (note_grows t number notes u)
-unseen_less t number notes (Read u place read since unclean) = omega arith
+unseen_less t number notes (Read u place read since owned unclean) = omega arith
 unseen_less t number notes (Added word_number bytes) = omega arith
-unseen_less t number notes (Entered keeper numbers) = omega arith
+unseen_less t number notes (Entered keeper made) = omega arith
 
 -- greater weights give greater sums
 pub logged_mono : (v : View) (f g : Entry → ℕ) → ((e : Entry) → f e ≤ g e) → logged_of v f ≤ logged_of v g

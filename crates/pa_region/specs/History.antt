@@ -2,6 +2,7 @@
 use Rattle.std.specs.Prelude.{◌≡◌, ℕ, ◌<◌, ◌⊎◌, List, [], ◌∷◌, nat_lt, length}
 use Rattle.pa_machine.specs.declared.title.Title.{Title}
 use Rattle.pa_machine.specs.declared.word.Step.{Step}
+use Rattle.pa_machine.specs.declared.word.Step.TheVariants.{Issue, Copy, Reset, Free, Write}
 use Rattle.pa_machine.specs.Count.{CanStep, stepped}
 use Rattle.pa_machine.specs.Holdings.{one}
 use Rattle.pa_region.specs.declared.view.Entry.{Entry}
@@ -16,6 +17,19 @@ pub record Done : Type 0 where
 abbrev pub reached : List Done → ℕ
 reached [] = 0
 reached (d ∷ older) = stepped d.step (reached older)
+
+-- the content after a step that wrote this value, where it was `before` until then: an issue makes it 0, a write its value
+abbrev pub content_by : Step → ℕ → ℕ → ℕ
+content_by Issue value before = 0
+content_by Copy value before = before
+content_by Reset value before = before
+content_by Free value before = before
+content_by Write value before = value
+
+-- the content after these steps: that of the last issue or write
+abbrev pub content_of : List Done → ℕ
+content_of [] = 0
+content_of (d ∷ older) = content_by d.step d.value (content_of older)
 
 -- each step was enabled at the word that it found, and had room there
 abbrev pub IsLegal : List Done → Type 0

@@ -1,20 +1,19 @@
 -- What each kind of step makes of the stepping seat's view.
-use Rattle.std.specs.Prelude.{◌≡◌, ℕ, ◌+◌, ◌-◌, ◌<◌, ◌≤◌, List, [], ◌∷◌, ◌++◌, Bool, true, false, ◌==◌, ◌&&◌, slice_index, if◌then◌else◌}
+use Rattle.std.specs.Prelude.{◌≡◌, ℕ, zero, suc, ◌+◌, ◌-◌, ◌<◌, ◌≤◌, List, [], ◌∷◌, ◌++◌, Bool, true, false, ◌==◌, ◌&&◌, slice_set, if◌then◌else◌}
 use Rattle.pa_machine.specs.declared.title.Title.{Title}
-use Rattle.pa_machine.specs.declared.title.OwnState.TheVariants.{Clean}
+use Rattle.pa_machine.specs.declared.title.OwnState.TheVariants.{Clean, Dirty, Poisoned}
 use Rattle.pa_machine.specs.declared.word.Step.{Step}
 use Rattle.pa_machine.specs.declared.word.Step.TheVariants.{Issue, Copy, Reset, Free, Write}
 use Rattle.pa_machine.specs.Count.{stepped, number_of, refs_of, held_of}
 use Rattle.pa_machine.specs.Run.{IsFree}
-use Rattle.pa_machine.specs.Titles.{same_title}
-use Rattle.pa_region.specs.declared.view.FreeTitle.{FreeTitle as FreeHeld}
+use Rattle.pa_machine.specs.Titles.{same_title, content_count, content_place, content_at, count_place, count_word, HasContentFrom, IsUniform, poison}
 use Rattle.pa_region.specs.declared.view.OwnTitle.{OwnTitle}
 use Rattle.pa_region.specs.declared.view.Deeds.{Deeds}
 use Rattle.pa_region.specs.declared.view.Entry.{Entry}
 use Rattle.pa_region.specs.declared.view.Entry.TheVariants.{Counted, Looked}
 use Rattle.pa_region.specs.declared.view.Stake.{Stake}
 use Rattle.pa_region.specs.declared.view.View.{View}
-use Rattle.pa_region.specs.Views.{free_of, own_of, ref_of, idle_of, seen_of, least_stake, HasStake}
+use Rattle.pa_region.specs.Views.{free_of, own_of, own_as, ref_of, idle_of, seen_of, least_stake, HasStake}
 
 module _ {A : Type 0} where
   -- the list without the first member that passes the test
@@ -27,27 +26,13 @@ module _ {A : Type 0} where
   changed test change [] = []
   changed test change (x ∷ xs) = if test x then change x ∷ xs else x ∷ changed test change xs
 
--- a free title that is this one
-abbrev pub is_free_of : Title → FreeHeld → Bool
-is_free_of t f = same_title f.title t
+-- a free title, or a Ref, that is of this title
+abbrev pub is_title_of : Title → Title → Bool
+is_title_of t u = same_title u t
 
 -- an Own of the title
 abbrev pub is_own_of : Title → OwnTitle → Bool
 is_own_of t o = same_title o.title t
-
--- a Ref of it
-abbrev pub is_ref_of : Title → Title → Bool
-is_ref_of t u = same_title u t
-
--- the words known of the first free title that is this one
-abbrev pub words_of_free : Title → List FreeHeld → List ℕ
-words_of_free t [] = []
-words_of_free t (f ∷ fs) = if same_title f.title t then f.words else words_of_free t fs
-
--- the words known of the first Own of the title
-abbrev pub words_of_own : Title → List OwnTitle → List ℕ
-words_of_own t [] = []
-words_of_own t (o ∷ os) = if same_title o.title t then o.words else words_of_own t os
 
 -- an Own after a copy
 abbrev pub busy : OwnTitle → OwnTitle
@@ -61,25 +46,35 @@ written o = record o { state = Clean; idle = true }
 abbrev pub idle_if : ℕ → OwnTitle → OwnTitle
 idle_if word o = if refs_of word == 0 then record o { idle = true } else o
 
--- the free titles after a step that leaves this word: with the title, where bit and count are 0
-abbrev pub returned : ℕ → Title → List ℕ → List FreeHeld → List FreeHeld
-returned left t words frees =
-    if (held_of left == 0) && (refs_of left == 0) then record { title = t; words = words } ∷ frees else frees
+-- the words with the first n content words of the title set to this value
+unfoldable pub filled_with : ℕ → Title → ℕ → List ℕ → List ℕ
+filled_with value t zero words = words
+filled_with value t (suc n) words = slice_set (filled_with value t n words) (content_place t n) value
 
--- what the view holds after a counted step on the title that found this word
+-- a step that leaves this word has given the title back
+abbrev pub is_back : ℕ → Bool
+is_back left = (held_of left == 0) && (refs_of left == 0)
+
+-- what the view holds and knows after a counted step on the title that found this word. Who gets the title back knows
+-- its count word; and after a reset its content, which is poison, since the slot was quarantined.
 abbrev pub moved : Step → Title → ℕ → View → View
 moved Issue t word v = record v {
-  frees = without (is_free_of t) v.frees;
-  owns = record { title = t; state = Clean; idle = true; words = words_of_free t v.frees } ∷ v.owns;
+  frees = without (is_title_of t) v.frees;
+  owns = record { title = t; state = Clean; idle = true } ∷ v.owns;
 }
 moved Copy t word v = record v { owns = changed (is_own_of t) busy v.owns; refs = t ∷ v.refs }
 moved Reset t word v = record v {
-  frees = returned (stepped Reset word) t [] v.frees;
-  refs = without (is_ref_of t) v.refs;
+  frees = if is_back (stepped Reset word) then t ∷ v.frees else v.frees;
+  refs = without (is_title_of t) v.refs;
+  words =
+      if is_back (stepped Reset word)
+      then slice_set (filled_with poison t (content_count t) v.words) (count_place t) (stepped Reset word)
+      else v.words;
 }
 moved Free t word v = record v {
-  frees = returned (stepped Free word) t (words_of_own t v.owns) v.frees;
+  frees = if is_back (stepped Free word) then t ∷ v.frees else v.frees;
   owns = without (is_own_of t) v.owns;
+  words = if is_back (stepped Free word) then slice_set v.words (count_place t) (stepped Free word) else v.words;
 }
 moved Write t word v = record v { owns = changed (is_own_of t) written v.owns }
 
@@ -89,7 +84,7 @@ value_of Issue t v = 0
 value_of Copy t v = 0
 value_of Reset t v = 0
 value_of Free t v = 0
-value_of Write t v = slice_index (words_of_own t v.owns) 0
+value_of Write t v = content_at v.words t 0
 
 -- the log of the least stake gets the entry, at its end
 abbrev pub noted : Entry → List Stake → List Stake
@@ -120,26 +115,37 @@ abbrev pub after_look : Title → ℕ → View → View
 after_look t word v =
     entered (Looked t word) t (number_of word) (record v { owns = changed (is_own_of t) (idle_if word) v.owns })
 
--- the view has the handle that the step needs; a write also needs that no Ref is known to be left
+-- The view has the handle that the step needs: of a copy a clean Own or a Ref, of a free the Own with poison in all its
+-- content words, of a write a clean or dirty Own of which no Ref is known to be left.
 abbrev pub HasHandle : Step → Title → View → Type 0
 HasHandle Issue t v = 0 < free_of v t
-HasHandle Copy t v = 0 < own_of v t + ref_of v t
+HasHandle Copy t v = 0 < own_as v t Clean + ref_of v t
 HasHandle Reset t v = 0 < ref_of v t
-HasHandle Free t v = 0 < own_of v t
-HasHandle Write t v = 0 < idle_of v t
+HasHandle Free t v = 0 < own_as v t (Poisoned (content_count t))
+HasHandle Write t v = (0 < idle_of v t) × (0 < own_as v t Clean + own_as v t Dirty)
+
+-- the content that the step needs is known to be there: of an issue 0, of a write one value in all words
+abbrev pub HasContent : Step → Title → View → Type 0
+HasContent Issue t v = HasContentFrom v.words t 0 0
+HasContent Copy t v = Unit {0}
+HasContent Reset t v = Unit {0}
+HasContent Free t v = Unit {0}
+HasContent Write t v = IsUniform v.words t
 
 -- a seat with this view may make the step
 abbrev pub CanCount : Step → Title → View → Type 0
-CanCount step t v = HasHandle step t v × HasStake v × (0 < v.budget)
+CanCount step t v = HasHandle step t v × HasStake v × (0 < v.budget) × HasContent step t v
 
 -- What a word that was found on a title tells: its number isn't below one that was seen before; the view's handles are
--- among those that it counts; a title that isn't free is nobody's free title; and its number and count are small.
+-- among those that it counts; a title that isn't free is nobody's free title; of a free title it is the word that the
+-- view knows; and its number and count are small.
 pub record IsFound (t : Title) (word : ℕ) (v : View) : Type 0 where
   pub not_older : seen_of v t ≤ number_of word
   pub owns : own_of v t ≤ held_of word
   pub refs : ref_of v t ≤ refs_of word
   pub frees : free_of v t ≤ 1
   pub taken : (IsFree word → ⊥) → free_of v t ≡ 0
+  pub known : 0 < free_of v t → word ≡ count_word v.words t
   pub idle : 0 < idle_of v t → refs_of word ≡ 0
   pub few : v.budget + number_of word ≤ 65536
   pub few_refs : refs_of word ≤ number_of word

@@ -1,26 +1,35 @@
 -- The region's rule: what holds between any two steps, of the words and the views of all seats.
-use Rattle.std.specs.Prelude.{◌≡◌, ℕ, ◌+◌, ◌<◌, ◌≤◌, List, length, nat_lt}
+use Rattle.std.specs.Prelude.{◌≡◌, ℕ, ◌+◌, ◌<◌, ◌≤◌, List, length, nat_lt, slice_index}
+use mathlib.Core.Option.{some}
+use lib.ListN.{get_elem?}
 use Rattle.pa_machine.specs.declared.title.Title.{Title}
 use Rattle.pa_machine.specs.Count.{number_of, refs_of}
 use Rattle.pa_machine.specs.Titles.{Covers, count_word}
 use Rattle.pa_machine.specs.Holdings.{Thing, one, IsTitleHeld}
-use Rattle.pa_machine.specs.Good.{IsDivided, IsCounted}
+use Rattle.pa_machine.specs.Good.{IsGood}
 use Rattle.pa_machine.specs.Events.{total_of}
+use Rattle.pa_machine.specs.Trail.{KeepsContent}
 use Rattle.pa_region.specs.declared.view.Entry.{Entry}
+use Rattle.pa_region.specs.declared.view.Made.{Made}
 use Rattle.pa_region.specs.declared.view.View.{View}
-use Rattle.pa_region.specs.Views.{byte_words, shown, idle_in, budget_in, low_in, uncut_in, stakes_in, logged_in, ahead_in, unseen_in, counted, counted_on, names}
-use Rattle.pa_region.specs.History.{Done, reached, IsChained}
+use Rattle.pa_region.specs.Views.{byte_words, shown, Knows, idle_in, budget_in, low_in, uncut_in, stakes_in, logged_in, ahead_in, unseen_in, counted, counted_on, names}
+use Rattle.pa_region.specs.History.{Done, reached, content_of, IsChained}
 
--- The first part: the core that is shown is divided and counted well. Where a view knows of a title that no Ref of it
+-- The first part: the core that is shown is good. Where a view knows of a title that no Ref of it
 -- is left, the count is 0. The steps that may still be made and those that were made are at most 65,536, also with
 -- the number of any one held title; and a count isn't above its number.
 pub record Holders (words : List ℕ) (total : Thing → ℕ) (idle : Title → ℕ) (budget steps : ℕ) : Type 0 where
-  pub divided : IsDivided (length words) total
-  pub word : (t : Title) → IsTitleHeld total t → IsCounted (count_word words t) total t
+  pub good : IsGood words total
   pub known : (t : Title) → 0 < idle t → refs_of (count_word words t) ≡ 0
   pub affords : budget + steps ≤ 65536
   pub few : (t : Title) → IsTitleHeld total t → budget + number_of (count_word words t) ≤ 65536
   pub few_refs : (t : Title) → IsTitleHeld total t → refs_of (count_word words t) ≤ number_of (count_word words t)
+
+-- The first part, of what each view knows: its list is as long as the region's, and has the value of each word that the
+-- view knows.
+pub record Values (words : List ℕ) (views : List View) : Type 0 where
+  pub long : (i : ℕ) (v : View) → get_elem? views i ≡ some v → length v.words ≡ length words
+  pub known : (i word : ℕ) (v : View) → get_elem? views i ≡ some v → Knows v word → slice_index v.words word ≡ slice_index words word
 
 -- The second part, of each title that some log names or some view has uncut: the raw bytes that it covers have floors
 -- above its `born`, and each other held title that shares a byte with it has a greater `born`. What was uncut isn't
@@ -43,10 +52,15 @@ pub record Seen (logs : (Entry → ℕ) → ℕ) (ahead : Title → ℕ → ℕ)
   pub numbers : (t : Title) → ahead t (logs (counted_on t)) ≡ 0
   pub own_logs : unseen ≡ 0
 
--- the rule: the four parts, each of what it reads
+-- The rule, in four parts, each of what it reads. Each title has a history, and each keeper a list. The third part also
+-- says that the content of each clean Own is that of its title's history, and the rest of an Own that is being poisoned
+-- while there are Refs.
 pub record IsKept (words : List ℕ) (views : List View) : Type 0 where
   pub history : Title → List Done
+  pub list : ℕ → List Made
   pub holders : Holders (byte_words words) (total_of (shown words views)) (idle_in views) (budget_in views) (logged_in views counted)
+  pub values : Values (byte_words words) views
   pub reservations : Reservations (total_of (shown words views)) (low_in views) (λ t. logged_in views (names t)) (uncut_in views)
   pub logs : Logs history (byte_words words) (total_of (shown words views)) (logged_in views) (stakes_in views)
+  pub content : KeepsContent (shown words views) (λ t. content_of (history t))
   pub seen : Seen (logged_in views) (ahead_in views) (unseen_in views)

@@ -1,5 +1,5 @@
 -- What the rule says, of any number of seats.
-use Rattle.std.specs.Prelude.{◌≡◌, ℕ, ◌+◌, ◌<◌, ◌≤◌, List, [], ◌∷◌, length, slice_set, replicate}
+use Rattle.std.specs.Prelude.{◌≡◌, ℕ, ◌+◌, ◌<◌, ◌≤◌, List, [], ◌∷◌, slice_set, replicate}
 use mathlib.Core.Option.{some}
 use lib.ListN.{get_elem?}
 use Rattle.pa_machine.specs.declared.title.Title.{Title}
@@ -7,12 +7,15 @@ use Rattle.pa_machine.specs.declared.word.Step.{Step}
 use Rattle.pa_machine.specs.Count.{CanStep, stepped, number_of}
 use Rattle.pa_machine.specs.Titles.{count_place, count_word}
 use Rattle.pa_machine.specs.Holdings.{IsTitleHeld}
-use Rattle.pa_machine.specs.Good.{IsDivided, IsCounted}
-use Rattle.pa_machine.specs.Events.{total_of}
+use Rattle.pa_machine.specs.declared.event.Event.{Event}
+use Rattle.pa_machine.specs.declared.event.Event.TheVariants.{Count, Load}
+use Rattle.pa_machine.specs.Events.{total_of, IsEnabled, Happens}
+use Rattle.pa_machine.specs.Trail.{IsGoodState}
 use Rattle.pa_region.specs.declared.view.View.{View}
 use Rattle.pa_region.specs.Views.{byte_words, shown, logged_in, counted_on, counted_at, HasTitle, HasStake}
 use Rattle.pa_region.specs.Rule.{IsKept}
 use Rattle.pa_region.specs.Moves.{CanCount, IsFound, after_count, after_look}
+use Rattle.pa_region.specs.Shares.{count_offset}
 use Rattle.pa_region.specs.Start.{AreApart, AreWellFormed, first_view}
 
 -- the word that is shown for a title
@@ -28,6 +31,19 @@ CountKeeps =
     CanStep step (word_shown words t) × IsFound t (word_shown words t) v ×
     IsKept (slice_set words (count_place t) (stepped step (word_shown words t))) (slice_set views i (after_count step t (word_shown words t) v))
 
+-- from one list of words and one list of views to the next, this event was enabled in the core that is shown, and happened
+abbrev pub IsEventOf : Event → List ℕ → List View → List ℕ → List View → Type 0
+IsEventOf e words views words_after views_after =
+    IsEnabled e (shown words views) × Happens e (shown words views) (shown words_after views_after)
+
+-- a counted step of view number i is the event of the core's actor i
+abbrev pub CountIsEvent : Type 0
+CountIsEvent =
+    (step : Step) (t : Title) (words : List ℕ) (views : List View) (i : ℕ) (v : View) →
+    IsKept words views → get_elem? views i ≡ some v → CanCount step t v →
+    IsEventOf (Count i t step) words views
+    (slice_set words (count_place t) (stepped step (word_shown words t))) (slice_set views i (after_count step t (word_shown words t) v))
+
 -- so does a look, which changes this view alone
 abbrev pub LookKeeps : Type 0
 LookKeeps =
@@ -35,18 +51,22 @@ LookKeeps =
     IsKept words views → get_elem? views i ≡ some v → HasTitle v t → HasStake v →
     IsFound t (word_shown words t) v × IsKept words (slice_set views i (after_look t (word_shown words t) v))
 
+-- a look is a load of the count word
+abbrev pub LookIsLoad : Type 0
+LookIsLoad =
+    (t : Title) (words : List ℕ) (views : List View) (i : ℕ) (v : View) →
+    IsKept words views → get_elem? views i ≡ some v → HasTitle v t →
+    IsEventOf (Load i (count_offset t)) words views words (slice_set views i (after_look t (word_shown words t) v))
+
 -- the rule holds of a new region's words, which are 0, and of the first seat's view
 abbrev pub StartKeeps : Type 0
 StartKeeps =
     (words budget : ℕ) (titles : List Title) → budget ≤ 65536 → AreWellFormed words titles → AreApart titles →
     IsKept (replicate (words + 16) 0) (first_view words budget titles ∷ [])
 
--- under the rule the core that is shown is divided well, and each held title's word counts the handles of all seats
+-- under the rule the core that is shown is good
 abbrev pub ShowsGood : Type 0
-ShowsGood =
-    (words : List ℕ) (views : List View) → IsKept words views →
-    IsDivided (length (shown words views).words) (total_of (shown words views)) ×
-    ((t : Title) → IsTitleHeld (total_of (shown words views)) t → IsCounted (word_shown words t) (total_of (shown words views)) t)
+ShowsGood = (words : List ℕ) (views : List View) → IsKept words views → IsGoodState (shown words views)
 
 -- Under the rule each number below a held title's was found by exactly one counted step in all logs, and no log has a
 -- step that found another number.

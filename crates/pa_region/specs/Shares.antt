@@ -1,5 +1,5 @@
 -- What contracts see of a region and of a seat, and what a step tells its seat.
-use Rattle.std.specs.Prelude.{◌≡◌, ℕ, ◌+◌, ◌-◌, ◌*◌, ◌<◌, ◌≤◌, ◌⊎◌}
+use Rattle.std.specs.Prelude.{◌≡◌, ℕ, ◌+◌, ◌-◌, ◌*◌, ◌<◌, ◌≤◌, ◌⊎◌, length}
 use Rattle.atomic_table.specs.Table.{Me}
 use Rattle.atomic_table.specs.Seated.{TableId}
 use Rattle.pa_machine.specs.declared.title.Title.{Title}
@@ -8,8 +8,9 @@ use Rattle.pa_machine.specs.declared.word.Step.TheVariants.{Issue, Copy, Reset, 
 use Rattle.pa_machine.specs.Count.{CanStep}
 use Rattle.pa_machine.specs.Run.{IsFree}
 use Rattle.pa_machine.specs.Titles.{IsWellFormed, count_place}
+use Rattle.pa_machine.specs.Holdings.{RawByte}
 use Rattle.pa_region.specs.declared.view.View.{View}
-use Rattle.pa_region.specs.Views.{free_of, own_of, ref_of, HasTitle, HasStake}
+use Rattle.pa_region.specs.Views.{held_of_view, free_of, own_of, ref_of, HasTitle, HasStake}
 use Rattle.pa_region.specs.Moves.{IsFound, after_count, after_look}
 
 -- a seat: the region that it is of, and its view
@@ -21,10 +22,13 @@ pub record Share : Type 0 where
 abbrev pub byte_word_count : TableId → ℕ
 byte_word_count region = region.words - 16
 
--- What a seat's type keeps: the region has at most 16 super pages, and each title that the view holds lies in it.
+-- What a seat's type keeps: the region has at most 16 super pages; each title and each raw byte that the view holds lies
+-- in it; and the view's list of words is as long as the region's.
 pub record IsSound (region : TableId) (v : View) : Type 0 where
   pub small : byte_word_count region ≤ 4194304
   pub well : (t : Title) → HasTitle v t → IsWellFormed (byte_word_count region) t
+  pub raw : (b : ℕ) → 0 < held_of_view v (RawByte b) → b < 8 * byte_word_count region
+  pub long : length v.words ≡ byte_word_count region
 
 -- what each step adds to the word
 abbrev pub adds : Step → ℕ

@@ -1,11 +1,10 @@
 -- The first seat's view, and what the last one knows at the end.
-use Rattle.std.specs.Prelude.{◌≡◌, ℕ, zero, suc, ◌+◌, ◌*◌, List, [], ◌∷◌, map, Bool, false, ◌&&◌, ◌||◌, nat_lt, nat_le, replicate, if◌then◌else◌}
+use Rattle.std.specs.Prelude.{◌≡◌, ℕ, zero, suc, ◌+◌, ◌*◌, List, [], ◌∷◌, Bool, false, ◌&&◌, ◌||◌, nat_lt, nat_le, if◌then◌else◌}
 use mathlib.Core.Option.{some}
 use lib.ListN.{get_elem?}
 use Rattle.pa_machine.specs.declared.title.Title.{Title}
-use Rattle.pa_machine.specs.Titles.{Covers, IsWellFormed, content_count, count_word}
+use Rattle.pa_machine.specs.Titles.{Covers, IsWellFormed, count_word}
 use Rattle.pa_region.specs.declared.view.RawRange.{RawRange}
-use Rattle.pa_region.specs.declared.view.FreeTitle.{FreeTitle as FreeHeld}
 use Rattle.pa_region.specs.declared.view.Stake.{Stake}
 use Rattle.pa_region.specs.declared.view.View.{View}
 use Rattle.pa_region.specs.Views.{HasTitle, logged_of}
@@ -26,9 +25,14 @@ abbrev pub is_covered : List Title → ℕ → Bool
 is_covered [] b = false
 is_covered (t ∷ ts) b = (nat_le t.start b && nat_lt b (t.start + t.len)) || is_covered ts b
 
--- one word as a raw range, whose value is 0
+-- so many words, all 0
+unfoldable pub blank : ℕ → List ℕ
+blank zero = []
+blank (suc count) = 0 ∷ blank count
+
+-- one word as a raw range
 abbrev pub raw_word : ℕ → RawRange
-raw_word k = record { start = 8 * k; len = 8; floor = 0; words = 0 ∷ [] }
+raw_word k = record { start = 8 * k; len = 8; floor = 0 }
 
 -- of `count` words from number `from` on, those that no title covers, each as a raw range
 unfoldable pub rest_from : ℕ → ℕ → List Title → List RawRange
@@ -36,22 +40,20 @@ rest_from from zero titles = []
 rest_from from (suc count) titles =
     if is_covered titles (8 * from) then rest_from (suc from) count titles else raw_word from ∷ rest_from (suc from) count titles
 
--- a title as a free one whose content words are 0
-abbrev pub free_new : Title → FreeHeld
-free_new t = record { title = t; words = replicate (content_count t) 0 }
-
 -- `count` stakes from number `from` on, with empty logs
 abbrev pub stakes_from : ℕ → ℕ → List Stake
 stakes_from from zero = []
 stakes_from from (suc count) = record { number = from; log = [] } ∷ stakes_from (suc from) count
 
--- the view of the first seat, in a region of so many words: the titles free, the rest raw, the whole budget and every stake
+-- the view of the first seat, in a region of so many words, which are 0: the titles free, the rest raw, the whole budget
+-- and every stake
 abbrev pub first_view : ℕ → ℕ → List Title → View
 first_view words budget titles = record {
   raws = rest_from 0 words titles;
-  frees = map free_new titles;
+  frees = titles;
   owns = [];
   refs = [];
+  words = blank words;
   budget = budget;
   stakes = stakes_from 0 16;
   since = no_deeds;

@@ -1,15 +1,15 @@
 -- What a view holds and knows, counted so that the amounts of several views can be added up.
-use Rattle.std.specs.Prelude.{ℕ, ◌+◌, ◌-◌, ◌<◌, List, [], ◌∷◌, ◌++◌, ◌==◌, ◌&&◌, nat_lt, nat_le, length, take, map, min, max, if◌then◌else◌}
+use Rattle.std.specs.Prelude.{ℕ, ◌+◌, ◌-◌, ◌*◌, ◌<◌, ◌⊎◌, List, [], ◌∷◌, ◌++◌, ◌==◌, ◌&&◌, nat_lt, nat_le, length, take, map, min, max, if◌then◌else◌}
 use Rattle.std.specs.List.{sum_by}
 use Rattle.pa_machine.specs.declared.title.Title.{Title}
+use Rattle.pa_machine.specs.declared.title.OwnState.{OwnState}
 use Rattle.pa_machine.specs.declared.word.Step.{Step}
 use Rattle.pa_machine.specs.declared.word.Step.TheVariants.{Issue, Copy, Reset, Free, Write}
 use Rattle.pa_machine.specs.Count.{number_of}
-use Rattle.pa_machine.specs.Titles.{same_title}
-use Rattle.pa_machine.specs.Holdings.{Piece, RawPiece, FreePiece, OwnPiece, RefPiece, Thing, one, held_in}
+use Rattle.pa_machine.specs.Titles.{same_title, same_state, Covers, IsContentOf}
+use Rattle.pa_machine.specs.Holdings.{Piece, RawPiece, FreePiece, OwnPiece, RefPiece, Thing, RawByte, one, held_in}
 use Rattle.pa_machine.specs.Events.{State}
 use Rattle.pa_region.specs.declared.view.RawRange.{RawRange}
-use Rattle.pa_region.specs.declared.view.FreeTitle.{FreeTitle as FreeHeld}
 use Rattle.pa_region.specs.declared.view.OwnTitle.{OwnTitle}
 use Rattle.pa_region.specs.declared.view.Entry.{Entry}
 use Rattle.pa_region.specs.declared.view.Entry.TheVariants.{Counted, Looked, Read}
@@ -21,17 +21,13 @@ use Rattle.pa_region.specs.declared.view.View.{View}
 abbrev pub raw_piece : RawRange → Piece
 raw_piece r = RawPiece r.start r.len
 
--- a free title as a piece
-abbrev pub free_piece : FreeHeld → Piece
-free_piece f = FreePiece f.title
-
 -- an Own as a piece
 abbrev pub own_piece : OwnTitle → Piece
 own_piece o = OwnPiece o.title o.state
 
 -- all that a view holds
 abbrev pub pieces_of : View → List Piece
-pieces_of v = map raw_piece v.raws ++ (map free_piece v.frees ++ (map own_piece v.owns ++ map RefPiece v.refs))
+pieces_of v = map raw_piece v.raws ++ (map FreePiece v.frees ++ (map own_piece v.owns ++ map RefPiece v.refs))
 
 -- how often a view holds a thing
 abbrev pub held_of_view : View → Thing → ℕ
@@ -39,11 +35,15 @@ held_of_view v x = held_in (pieces_of v) x
 
 -- how often a title stands among a view's free titles, its Owns and its Refs
 abbrev pub free_of : View → Title → ℕ
-free_of v t = sum_by (λ (f : FreeHeld). one (same_title f.title t)) v.frees
+free_of v t = sum_by (λ u. one (same_title u t)) v.frees
 
 -- among its Owns
 abbrev pub own_of : View → Title → ℕ
 own_of v t = sum_by (λ (o : OwnTitle). one (same_title o.title t)) v.owns
+
+-- among its Owns in this state
+abbrev pub own_as : View → Title → OwnState → ℕ
+own_as v t state = sum_by (λ (o : OwnTitle). one (same_title o.title t && same_state o.state state)) v.owns
 
 -- among its Refs
 abbrev pub ref_of : View → Title → ℕ
@@ -60,6 +60,13 @@ byte_words words = take (length words - 16) words
 -- the core that words and views show: the words of the bytes, and for each view an actor that holds its pieces
 abbrev pub shown : List ℕ → List View → State
 shown words views = record { words = byte_words words; holdings = map pieces_of views }
+
+-- The view knows the word with this number: it is raw there, or a word of a title that it holds free, or a content word
+-- of its Own.
+abbrev pub Knows : View → ℕ → Type 0
+Knows v word =
+    (0 < held_of_view v (RawByte (8 * word)))
+    ⊎ (((t : Title) × (0 < free_of v t) × Covers t (8 * word)) ⊎ ((t : Title) × (0 < own_of v t) × IsContentOf t (8 * word)))
 
 -- how often a view has the title's Own with the knowledge that no Ref of it is left
 abbrev pub idle_of : View → Title → ℕ
@@ -143,7 +150,7 @@ looked_at t word other = 0
 abbrev pub names : Title → Entry → ℕ
 names t (Counted u step found value) = one (same_title u t)
 names t (Looked u found) = one (same_title u t)
-names t (Read u place value since unclean) = one (same_title u t)
+names t (Read u place value since owned unclean) = one (same_title u t)
 names t other = 0
 
 -- the greatest number of the title that these notes say was seen, 0 where they say none

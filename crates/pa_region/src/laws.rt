@@ -1,9 +1,14 @@
 //! What the region's rule says of any number of seats, as laws: calls that do nothing, and whose clauses are proved.
-ghost use Rattle.pa_region.specs.Says.{CountKeeps, LookKeeps, StartKeeps, ShowsGood, FindsEachNumberOnce, UnnamedIsNew};
+ghost use Rattle.pa_region.specs.Says.{CountKeeps, CountIsEvent, LookKeeps, LookIsLoad, StartKeeps, ShowsGood, FindsEachNumberOnce, UnnamedIsNew};
 
 /// Each counted step keeps the rule.
 pub fn counted_steps_keep_the_rule()
     ensures { CountKeeps }
+{}
+
+/// Each counted step is an enabled event of the core that is shown.
+pub fn each_counted_step_is_its_event()
+    ensures { CountIsEvent }
 {}
 
 /// Each look keeps the rule.
@@ -11,12 +16,17 @@ pub fn looks_keep_the_rule()
     ensures { LookKeeps }
 {}
 
+/// Each look is a load of the count word in the core that is shown.
+pub fn each_look_is_a_load()
+    ensures { LookIsLoad }
+{}
+
 /// A new region meets the rule.
 pub fn a_new_region_meets_the_rule()
     ensures { StartKeeps }
 {}
 
-/// Under the rule the core that words and views show is good, as far as its bytes and its count words go.
+/// Under the rule the core that words and views show is good.
 pub fn the_shown_core_is_good()
     ensures { ShowsGood }
 {}

@@ -14,9 +14,10 @@ mod view;
 pub use closed::Closed;
 pub use laws::{
     a_new_region_meets_the_rule, an_unnamed_title_is_new, counted_steps_keep_the_rule,
-    each_number_is_found_once, looks_keep_the_rule, the_shown_core_is_good,
+    each_counted_step_is_its_event, each_look_is_a_load, each_number_is_found_once,
+    looks_keep_the_rule, the_shown_core_is_good,
 };
 pub use region::{Region, Seat};
 pub use view::{
-    Deeds, Entry, FreeTitle, Keeper, Leases, OwnTitle, RawRange, SeenList, SeenNumber, Stake, View,
+    Deeds, Entry, Keeper, Leases, Made, OwnTitle, RawRange, SeenList, SeenNumber, Stake, View,
 };

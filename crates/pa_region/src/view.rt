@@ -7,15 +7,6 @@ pub struct RawRange {
     pub len: u32,
     /// A title that is cut out of these bytes has at least this `born`.
     pub floor: u32,
-    /// The values of the range's words, from the first on, as far as the seat knows them.
-    pub words: LinkedList<u64>,
-}
-
-/// A title that a seat holds free.
-pub struct FreeTitle {
-    pub title: Title,
-    /// The values of the title's content words, from the first on, as far as the seat knows them.
-    pub words: LinkedList<u64>,
 }
 
 /// An Own handle that a seat holds.
@@ -24,8 +15,6 @@ pub struct OwnTitle {
     pub state: OwnState,
     /// It is known that no Ref of the title is left.
     pub idle: bool,
-    /// The values of the title's content words, from the first on, as far as the seat knows them.
-    pub words: LinkedList<u64>,
 }
 
 /// What a seat did since the last entry of its least stake's log: whether it handed something over, stored, or
@@ -51,12 +40,13 @@ pub enum Entry {
         found: u64,
     },
     /// A load of the title's content word number `place`, with the value that it gave; what the seat did since the
-    /// entry before it; and whether the seat held the title's Own in another state than clean.
+    /// entry before it; whether the seat held the title's Own; and whether it held it in another state than clean.
     Read {
         title: Title,
         place: u32,
         value: u64,
         since: Deeds,
+        owned: bool,
         unclean: bool,
     },
     /// An addition of so many bytes to a totals word, numbered from 0.
@@ -67,8 +57,15 @@ pub enum Entry {
     /// An entry in a keeper's list.
     Entered {
         keeper: u32,
-        numbers: LinkedList<u64>,
+        made: Made,
     },
+}
+
+/// An entry of a keeper's list: the stake with which it was made, its numbers, and what its maker had seen then.
+pub struct Made {
+    pub stake: u32,
+    pub numbers: LinkedList<u64>,
+    pub seen: LinkedList<SeenNumber>,
 }
 
 /// The right to make steps, one for each thread number from 0 to 15, with the log of what was done with it, in order.
@@ -81,7 +78,7 @@ pub struct Stake {
 /// for the cells.
 pub struct Keeper {
     pub number: u32,
-    pub entries: LinkedList<LinkedList<u64>>,
+    pub entries: LinkedList<Made>,
 }
 
 /// The leases that a seat has: these, and all from some number on. A lease is the number of a pool entry.
@@ -99,16 +96,20 @@ pub struct SeenNumber {
 /// A beginning of a keeper's list that a seat has seen.
 pub struct SeenList {
     pub keeper: u32,
-    pub entries: LinkedList<LinkedList<u64>>,
+    pub entries: LinkedList<Made>,
 }
 
 /// What a seat holds and knows. No value of it is ever made: it exists in proofs alone.
 pub struct View {
     pub raws: LinkedList<RawRange>,
-    pub frees: LinkedList<FreeTitle>,
+    /// The titles that the seat holds free.
+    pub frees: LinkedList<Title>,
     pub owns: LinkedList<OwnTitle>,
     /// Each Ref handle that the seat holds, as often as it holds it.
     pub refs: LinkedList<Title>,
+    /// The region's words as the seat knows them: those that are raw here, those of its free titles, and the content
+    /// words of its Owns. What the list has at any other place says nothing.
+    pub words: LinkedList<u64>,
     /// How many counted steps the seat may still make.
     pub budget: u32,
     pub stakes: LinkedList<Stake>,

@@ -1,4 +1,5 @@
-use Rattle.pa_region.proofs.Counting.{count_can, count_found, count_keeps, handle_held}
+use Rattle.pa_region.proofs.Found.{count_can, count_found, handle_held}
+use Rattle.pa_region.proofs.CountStep.{count_keeps}
 use Rattle.pa_region.proofs.laws.counted_steps_keep_the_rule.Goals as goal
 
 pub returns : goal.returns

@@ -1,5 +1,6 @@
 use Rattle.pa_region.proofs.Pieces.{title_held}
-use Rattle.pa_region.proofs.Counting.{count_found, look_keeps}
+use Rattle.pa_region.proofs.Found.{count_found}
+use Rattle.pa_region.proofs.LookStep.{look_keeps}
 use Rattle.pa_region.proofs.laws.looks_keep_the_rule.Goals as goal
 
 pub returns : goal.returns

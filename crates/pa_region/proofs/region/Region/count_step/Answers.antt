@@ -4,7 +4,7 @@ use Rattle.pa_region.specs.declared.view.View.{View}
 use Rattle.pa_region.specs.Views.{least_stake}
 use Rattle.pa_region.specs.Moves.{CanCount, IsFound, after_count}
 use Rattle.pa_region.specs.Shares.{Share, IsSound, byte_word_count}
-use Rattle.pa_region.proofs.Counting.{handle_held}
+use Rattle.pa_region.proofs.Found.{handle_held}
 use Rattle.pa_region.proofs.Pieces.{held_title}
 use Rattle.pa_region.proofs.Allowed.{count_allowed_by, count_sound, count_least, place_inside}
 use Rattle.pa_region.proofs.region.Region.count_step.Goals as goal

@@ -1,0 +1,217 @@
+-- A counted step keeps the rule.
+use Rattle.std.proofs.Common.{◌≡◌, ℕ, ◌+◌, ◌<◌, ◌≤◌, ◌&&◌, List, ◌∷◌, set, refl, ◌∙◌, ap, subst, arith, ◌⊎◌, inl, inr, ltb}
+use Rattle.std.specs.List.{sum_by}
+use Rattle.std.proofs.lemmas.Bool.{cases_lt}
+use mathlib.Core.Option.{some}
+use lib.ListN.{get_elem?}
+use Rattle.pa_machine.specs.declared.title.Title.{Title}
+use Rattle.pa_machine.specs.declared.title.OwnState.{OwnState}
+use Rattle.pa_machine.specs.declared.title.OwnState.TheVariants.{Clean}
+use Rattle.pa_machine.specs.declared.word.Step.{Step}
+use Rattle.pa_machine.specs.declared.word.Step.TheVariants.{Issue, Copy, Reset, Free, Write}
+use Rattle.pa_machine.specs.declared.event.Event.TheVariants.{Count as CountEvent}
+use Rattle.pa_machine.specs.Count.{CanStep, stepped, number_of, refs_of}
+use Rattle.pa_machine.specs.Titles.{same_title, count_place, count_word}
+use Rattle.pa_machine.specs.Holdings.{Thing, OwnOf, RefOf, one, held_in, IsTitleHeld}
+use Rattle.pa_machine.specs.Good.{IsGood}
+use Rattle.pa_machine.specs.Events.{returned_at, total_of}
+use Rattle.pa_machine.proofs.Same.{title_self}
+use Rattle.pa_machine.proofs.Arith.{stepped_is, held_small}
+use Rattle.pa_machine.proofs.Amounts.{returned_cases, own_self}
+use Rattle.pa_machine.proofs.Happening.{happens_good}
+use Rattle.pa_region.specs.declared.view.OwnTitle.{OwnTitle}
+use Rattle.pa_region.specs.declared.view.Entry.{Entry}
+use Rattle.pa_region.specs.declared.view.Entry.TheVariants.{Counted}
+use Rattle.pa_region.specs.declared.view.View.{View}
+use Rattle.pa_region.specs.Views.{held_of_view, byte_words, shown, idle_of, idle_in, budget_in, low_in, uncut_in, stake_of, stakes_in, logged_of, logged_in, counted, counted_on, names, seen_among, HasStake}
+use Rattle.pa_region.specs.History.{reached}
+use Rattle.pa_region.specs.Rule.{IsKept}
+use Rattle.pa_region.specs.Moves.{without, is_own_of, CanCount, moved, value_of, after_count}
+use Rattle.pa_region.proofs.Adding.{sum_set, one_lt, first_of}
+use Rattle.pa_region.proofs.Pieces.{HasPiece, handle_piece, total_set, held_within, lost_by, gained_by, moved_changes, owns_have, refs_have}
+use Rattle.pa_region.proofs.HolderPart.{IsCountStep, holders_count, held_after}
+use Rattle.pa_region.proofs.ReservationPart.{reservations_count}
+use Rattle.pa_region.proofs.LogPart.{history_by, logs_count, reached_number}
+use Rattle.pa_region.proofs.SeenPart.{seen_entered, note, note_here}
+use Rattle.pa_region.proofs.Entering.{noted_logs, noted_stakes, logged_set, logged_grows}
+use Rattle.pa_region.proofs.Idle.{moved_idle_other, idle_within, copy_idle}
+use Rattle.pa_region.proofs.Bytes.{bytes_set, held_in_all, place_below}
+use Rattle.pa_region.proofs.Stays.{low_set, uncut_set, stakes_set, low_raw}
+use Rattle.pa_region.proofs.Found.{handle_held, count_can}
+use Rattle.pa_region.proofs.CountEvent.{count_event, count_content}
+use Rattle.pa_region.proofs.CountValues.{count_values}
+
+-- the step over all views
+count_step_of : (step : Step) (t : Title) (words : List ℕ) (views : List View) (i : ℕ) (v : View) → IsKept words views → get_elem? views i ≡ some v → CanCount step t v →
+    (a : OwnState) × IsCountStep step t a (byte_words words) (total_of (shown words views))
+    (total_of (shown (set words (count_place t) (stepped step (count_word (byte_words words) t))) (set views i (after_count step t (count_word (byte_words words) t) v))))
+count_step_of step t words views i v k at_i can =
+    let word = count_word (byte_words words) t in
+    let moves = moved_changes step t word v (handle_piece step t v can.0) in (
+      moves.0,
+      record {
+        held = held_in_all words views i v t at_i (handle_held step t v can.0);
+        can = count_can step t words views i v k at_i can;
+        changes = λ x.
+            let s = total_set words (set words (count_place t) (stepped step word)) views i v (after_count step t word v) at_i x in
+            let m = moves.1 x in
+            let same : held_of_view (after_count step t word v) x ≡ held_of_view (moved step t word v) x = refl in
+            omega arith;
+      },
+    )
+
+-- a counted step leaves the rest of its view to the entry
+moved_raws : (step : Step) (t : Title) (word : ℕ) (v : View) → (moved step t word v).raws ≡ v.raws
+moved_raws Issue t word v = refl
+moved_raws Copy t word v = refl
+moved_raws Reset t word v = refl
+moved_raws Free t word v = refl
+moved_raws Write t word v = refl
+
+-- its stakes
+pub moved_stakes : (step : Step) (t : Title) (word : ℕ) (v : View) → (moved step t word v).stakes ≡ v.stakes
+moved_stakes Issue t word v = refl
+moved_stakes Copy t word v = refl
+moved_stakes Reset t word v = refl
+moved_stakes Free t word v = refl
+moved_stakes Write t word v = refl
+
+-- its uncut titles
+moved_uncut : (step : Step) (t : Title) (word : ℕ) (v : View) → (moved step t word v).uncut ≡ v.uncut
+moved_uncut Issue t word v = refl
+moved_uncut Copy t word v = refl
+moved_uncut Reset t word v = refl
+moved_uncut Free t word v = refl
+moved_uncut Write t word v = refl
+
+-- what it has seen
+moved_seen : (step : Step) (t : Title) (word : ℕ) (v : View) → (moved step t word v).seen ≡ v.seen
+moved_seen Issue t word v = refl
+moved_seen Copy t word v = refl
+moved_seen Reset t word v = refl
+moved_seen Free t word v = refl
+moved_seen Write t word v = refl
+
+-- where a count is known to be 0 after the step on its title, it is
+idle_here : (step : Step) (t : Title) (words after : List ℕ) (views : List View) (i : ℕ) (v w : View) → IsKept words views → get_elem? views i ≡ some v →
+    HasPiece step t v → CanStep step (count_word (byte_words words) t) → w.owns ≡ (moved step t (count_word (byte_words words) t) v).owns →
+    total_of (shown after (set views i w)) (OwnOf t) ≤ total_of (shown words views) (OwnOf t) ⊎ (step ≡ Issue) →
+    IsTitleHeld (total_of (shown words views)) t →
+    0 < idle_in (set views i w) t → refs_of (stepped step (count_word (byte_words words) t)) ≡ 0
+idle_here Issue t words after views i v w k at_i has can owns few held some_idle = (stepped_is Issue (count_word (byte_words words) t) can).0
+idle_here Write t words after views i v w k at_i has can owns few held some_idle =
+    let s = stepped_is Write (count_word (byte_words words) t) can in s.0 ∙ s.3
+idle_here Reset t words after views i v w k at_i has can owns few held some_idle =
+    let word = count_word (byte_words words) t in
+    let s = stepped_is Reset word can in
+    let c = sum_set (λ u. idle_of u t) views i v w at_i in
+    let same : idle_of w t ≡ idle_of v t = rw owns refl in
+    let z = k.holders.known t (omega arith) in
+    let p = s.0 in
+    absurd (omega arith)
+idle_here Free t words after views i v w k at_i has can owns few held some_idle =
+    let word = count_word (byte_words words) t in
+    let s = stepped_is Free word can in
+    let c = sum_set (λ u. idle_of u t) views i v w at_i in
+    let e = owns_have v t in
+    let first = first_of (is_own_of t) v.owns (omega arith) in
+    let less = first.1.left_out (λ (o : OwnTitle). one (same_title o.title t && o.idle)) in
+    let same : idle_of w t ≡ sum_by (λ (o : OwnTitle). one (same_title o.title t && o.idle)) (without (is_own_of t) v.owns) = rw owns refl in
+    let z = k.holders.known t (omega arith) in
+    s.0 ∙ z
+idle_here Copy t words after views i v w k at_i has can owns few held some_idle =
+    let word = k.holders.good.counted t held in
+    let p = word.owns in
+    let q = word.refs in
+    let small = held_small (count_word (byte_words words) t) in
+    let within = held_within words views i v at_i (RefOf t) in
+    let z = copy_idle after views i t (count_word (byte_words words) t) v w at_i owns (elim few [ inl y ↦ omega arith | inr n ↦ absurd (cc) ])
+    (λ no_own. elim (cases_lt 0 (idle_in views t)) [
+      | inl y ↦
+          let known = k.holders.known t y in
+          let rn = refs_have v t in let on = owns_have v t in
+          absurd (omega arith)
+      | inr n ↦ omega arith
+    ]) in
+    absurd (omega arith)
+
+-- the entry of a counted step
+abbrev pub entry_of : Step → Title → ℕ → View → Entry
+entry_of step t word v = Counted t step word (value_of step t v)
+
+-- the logs of the view after a counted step have its entry more
+count_logged : (step : Step) (t : Title) (word : ℕ) (v : View) → HasStake v → (weight : Entry → ℕ) →
+    logged_of (after_count step t word v) weight ≡ logged_of v weight + weight (entry_of step t word v)
+count_logged step t word v has weight =
+    rw (moved_stakes step t word v) (noted_logs (entry_of step t word v) v.stakes weight has)
+
+-- and its stakes are the same
+count_stakes : (step : Step) (t : Title) (word : ℕ) (v : View) → HasStake v → (k : ℕ) → stake_of (after_count step t word v) k ≡ stake_of v k
+count_stakes step t word v has k = rw (moved_stakes step t word v) (noted_stakes (entry_of step t word v) v.stakes k has)
+
+-- a counted step keeps the rule
+pub count_keeps : (step : Step) (t : Title) (words : List ℕ) (views : List View) (i : ℕ) (v : View) → IsKept words views → get_elem? views i ≡ some v → CanCount step t v →
+    IsKept (set words (count_place t) (stepped step (count_word (byte_words words) t))) (set views i (after_count step t (count_word (byte_words words) t) v))
+count_keeps step t words views i v k at_i can =
+    let word = count_word (byte_words words) t in
+    let w = after_count step t word v in
+    let piece = handle_piece step t v can.0 in
+    let event = count_event step t words views i v k at_i can in
+    let x = count_step_of step t words views i v k at_i can in
+    let held = held_in_all words views i v t at_i (handle_held step t v can.0) in
+    let more = logged_set views i v w (entry_of step t word v) at_i (count_logged step t word v can.1) in
+    let at_place = bytes_set words (count_place t) (stepped step word) (place_below words views t k held) in
+    let back = held_after step t x.0 (byte_words words) (total_of (shown words views)) _ (idle_in views) (budget_in views) (logged_in views counted) k.holders x.1 in
+    record {
+      history = history_by step t (value_of step t v) k.history;
+      list = k.list;
+      holders = rw (at_place, more counted) (
+          holders_count step t x.0 (byte_words words) (total_of (shown words views)) _ (idle_in views) (idle_in (set views i w)) (budget_in views) (budget_in (set views i w)) (logged_in views counted)
+          k.holders x.1
+          (subst (λ (ws : List ℕ). IsGood ws (total_of (shown (set words (count_place t) (stepped step word)) (set views i w)))) at_place
+          (happens_good (CountEvent i t step) (shown words views) (shown (set words (count_place t) (stepped step word)) (set views i w)) k.holders.good event.0 event.1))
+          (let b = sum_set (λ (u : View). u.budget) views i v w at_i in let c = can.2 in omega arith)
+          (λ u ne.
+          let b = sum_set (λ (z : View). idle_of z u) views i v w at_i in
+          let same = moved_idle_other step t u word v ne piece in
+          let now : idle_of w u ≡ idle_of (moved step t word v) u = refl in
+          omega arith)
+          (idle_here step t words (set words (count_place t) (stepped step word)) views i v w k at_i piece x.1.can refl (own_grows step x.0 (total_of (shown words views)) (total_of (shown (set words (count_place t) (stepped step word)) (set views i w))) (stepped step word) (x.1.changes (OwnOf t))) held)
+          (λ u some_idle. let z = idle_within words views u in omega arith));
+      values = rw at_place (count_values step t words views i v k at_i can);
+      reservations = reservations_count t (byte_words words) (total_of (shown words views)) _ (idle_in views) (budget_in views) (logged_in views counted)
+          (low_in views) (low_in (set views i w)) _ _ (uncut_in views) (uncut_in (set views i w))
+          k.reservations k.holders held (λ u y. (back u).1 y) (low_set views i v w at_i (moved_raws step t word v)) (low_raw words views)
+          (λ u. more (names u)) (uncut_set views i v w at_i (moved_uncut step t word v));
+      logs = rw at_place (
+          logs_count step t x.0 (value_of step t v) (byte_words words) (total_of (shown words views)) _ (idle_in views) (budget_in views) (logged_in views counted)
+          k.history (logged_in views) (logged_in (set views i w)) (stakes_in views) (stakes_in (set views i w)) k.logs k.holders x.1
+          (logged_grows views) more (stakes_set views i v w at_i (count_stakes step t word v can.1)));
+      content = count_content step t words views i v k at_i can;
+      seen = seen_entered views i v w (logged_in views) (logged_in (set views i w)) (entry_of step t word v) t (number_of word + 1) at_i
+          (ap (λ ss. note t (number_of word + 1) ∷ ss) (moved_seen step t word v))
+          (count_logged step t word v can.1) more
+          (let m = more (counted_on t) in
+          let one_more : one (same_title t t) ≡ 1 = ap one (title_self t) in
+          let l = (k.logs.chain t).all in
+          let n = reached_number (k.history t) (k.logs.chain t).legal in
+          let e : number_of word ≡ number_of (reached (k.history t)) = ap number_of (k.logs.last t held) in
+          omega arith)
+          (fresh (number_of word + 1) (seen_among t (note t (number_of word + 1) ∷ v.seen)) (note_here t (number_of word + 1) v.seen))
+          k.seen;
+    }
+  where
+    fresh : (n a : ℕ) → n ≤ a → one (ltb a n) ≡ 0
+    fresh n a h = elim (one_lt a n) [ inl y ↦ let z = y.1 in absurd (omega arith) | inr m ↦ m.0 ]
+
+    none_given : (left : ℕ) → held_in (returned_at left t) (OwnOf t) ≡ 0
+    none_given left = elim (returned_cases left t) [ inl y ↦ rw y.1 refl | inr n ↦ rw n.1 refl ]
+
+    own_grows : (step : Step) (a : OwnState) (before now : Thing → ℕ) (left : ℕ) →
+        now (OwnOf t) + held_in (lost_by step t a) (OwnOf t) ≡ before (OwnOf t) + held_in (gained_by step t left) (OwnOf t) →
+        (now (OwnOf t) ≤ before (OwnOf t)) ⊎ (step ≡ Issue)
+    own_grows Issue a before now left e = inr refl
+    own_grows Copy a before now left e = inl (omega arith)
+    own_grows Reset a before now left e = inl (let z = none_given left in omega arith)
+    own_grows Free a before now left e = inl (let z = none_given left in omega arith)
+    own_grows Write a before now left e = inl (let p = own_self t a in let q = own_self t Clean in omega arith)
