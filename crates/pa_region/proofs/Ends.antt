@@ -36,7 +36,7 @@ module _ {A : Type 0} where
       omega arith
 
   -- a sum in which all others count nothing
-  sum_alone : (f : A → ℕ) (xs : List A) (i : ℕ) (v : A) → get_elem? xs i ≡ some v → ((j : ℕ) (x : A) → get_elem? xs j ≡ some x → (j ≡ i → ⊥) → f x ≡ 0) → sum_by f xs ≡ f v
+  pub sum_alone : (f : A → ℕ) (xs : List A) (i : ℕ) (v : A) → get_elem? xs i ≡ some v → ((j : ℕ) (x : A) → get_elem? xs j ≡ some x → (j ≡ i → ⊥) → f x ≡ 0) → sum_by f xs ≡ f v
   sum_alone f [] i v e h = absurd (some-ne-none v (sym e))
   sum_alone f (x ∷ xs) zero v e h =
       let c = sum_by-cons f x xs in

@@ -1,7 +1,13 @@
+pub mod AllReads
+pub mod Contents
+pub mod Frees
 pub mod History
 pub mod Moves
+pub mod Pairs
 pub mod Rule
 pub mod Says
 pub mod Shares
 pub mod Start
+pub mod Tells
 pub mod Views
+pub mod Waiting

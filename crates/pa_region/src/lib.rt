@@ -7,6 +7,7 @@
 
 mod closed;
 mod laws;
+mod read_laws;
 mod region;
 mod rule;
 mod view;
@@ -16,6 +17,10 @@ pub use laws::{
     a_new_region_meets_the_rule, an_unnamed_title_is_new, counted_steps_keep_the_rule,
     each_counted_step_is_its_event, each_look_is_a_load, each_number_is_found_once,
     looks_keep_the_rule, the_shown_core_is_good,
+};
+pub use read_laws::{
+    a_longer_history_is_the_same, a_look_finds_its_word, a_step_stands_at_its_number,
+    all_reads_are_known, reads_have_places, the_first_free_stays,
 };
 pub use region::{Region, Seat};
 pub use view::{
