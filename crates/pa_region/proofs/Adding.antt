@@ -114,6 +114,26 @@ module _ {A : Type 0} where
             (again.0, first_later test x xs n again.0 again.1)
       ]
 
+  -- a change that leaves each member's amount leaves the sum
+  pub changed_sum : (test : A → Bool) (change : A → A) (f : A → ℕ) (xs : List A) → ((x : A) → f (change x) ≡ f x) → sum_by f (changed test change xs) ≡ sum_by f xs
+  changed_sum test change f [] same = refl
+  changed_sum test change f (x ∷ xs) same =
+      let again = changed_sum test change f xs same in
+      let here = same x in
+      elim (cases_Bool (test x)) [
+        | inl y ↦ rw y (omega (arith, sum_by-cons f (change x) xs, sum_by-cons f x xs))
+        | inr n ↦ rw n (omega (arith, sum_by-cons f x (changed test change xs), sum_by-cons f x xs))
+      ]
+
+  -- a sum in which each member counts nothing
+  pub sum_zero : (f : A → ℕ) (xs : List A) → ((j : ℕ) (x : A) → get_elem? xs j ≡ some x → f x ≡ 0) → sum_by f xs ≡ 0
+  sum_zero f [] h = refl
+  sum_zero f (x ∷ xs) h =
+      let c = sum_by-cons f x xs in
+      let here = h 0 x refl in
+      let again = sum_zero f xs (λ j y e. h (suc j) y e) in
+      omega arith
+
   -- where none passes, a change changes nothing
   pub none_changed : (test : A → Bool) (change : A → A) (xs : List A) → sum_by (λ x. one (test x)) xs ≡ 0 → changed test change xs ≡ xs
   none_changed test change [] h = refl

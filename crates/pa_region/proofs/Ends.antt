@@ -16,7 +16,7 @@ use Rattle.std.proofs.lemmas.List.{get_or-take, length-take-le}
 use Rattle.pa_region.specs.Views.{byte_words, shown, stake_of, stakes_in, logged_of, logged_in}
 use Rattle.pa_region.specs.History.{Done}
 use Rattle.pa_region.specs.Rule.{Logs, IsKept}
-use Rattle.pa_region.proofs.Adding.{sum_pair, one_lt, one_eq}
+use Rattle.pa_region.proofs.Adding.{sum_pair, sum_zero, one_lt, one_eq}
 use Rattle.pa_region.proofs.Pieces.{title_held}
 use Rattle.atomic_table.specs.Table.{Final}
 use Rattle.atomic_table.specs.Table.{Seen as SeenAt, State as TableState}
@@ -26,15 +26,6 @@ use Rattle.pa_region.specs.Start.{IsEnd}
 use Rattle.pa_region.proofs.Bytes.{held_in_all}
 
 module _ {A : Type 0} where
-  -- a sum in which one member counts alone
-  sum_zero : (f : A → ℕ) (xs : List A) → ((j : ℕ) (x : A) → get_elem? xs j ≡ some x → f x ≡ 0) → sum_by f xs ≡ 0
-  sum_zero f [] h = refl
-  sum_zero f (x ∷ xs) h =
-      let c = sum_by-cons f x xs in
-      let here = h 0 x refl in
-      let again = sum_zero f xs (λ j y e. h (suc j) y e) in
-      omega arith
-
   -- a sum in which all others count nothing
   pub sum_alone : (f : A → ℕ) (xs : List A) (i : ℕ) (v : A) → get_elem? xs i ≡ some v → ((j : ℕ) (x : A) → get_elem? xs j ≡ some x → (j ≡ i → ⊥) → f x ≡ 0) → sum_by f xs ≡ f v
   sum_alone f [] i v e h = absurd (some-ne-none v (sym e))

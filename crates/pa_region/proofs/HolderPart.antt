@@ -295,3 +295,16 @@ holders_same words total later idle idle_after budget left steps more h same kno
       few = λ u y. let e = h.few u (held u y) in omega arith;
       few_refs = λ u y. h.few_refs u (held u y);
     }
+
+-- a step that changes no held title's count word keeps the part, where the core stays good
+pub holders_written : (words after : List ℕ) (total later : Thing → ℕ) (idle idle_after : Title → ℕ) (budget left steps more : ℕ) →
+    Holders words total idle budget steps → IsGood after later → ((u : Title) → IsTitleHeld later u → IsTitleHeld total u) →
+    ((u : Title) → IsTitleHeld total u → count_word after u ≡ count_word words u) → ((u : Title) → idle_after u ≡ idle u) →
+    ((u : Title) → 0 < idle u → IsTitleHeld total u) → left ≡ budget → more ≡ steps → Holders after later idle_after left more
+holders_written words after total later idle idle_after budget left steps more h good back same idle_same idle_held b s = record {
+  good = good;
+  known = λ u some_idle. let e = idle_same u in let was : 0 < idle u = omega arith in rw (same u (idle_held u was)) (h.known u was);
+  affords = let e = h.affords in omega arith;
+  few = λ u y. let e = h.few u (back u y) in rw (same u (back u y)) (omega arith);
+  few_refs = λ u y. rw (same u (back u y)) (h.few_refs u (back u y));
+}

@@ -20,6 +20,7 @@ pub mod OneTitle
 pub mod Opens
 pub mod PairSums
 pub mod Pieces
+pub mod PoisonStep
 pub mod Readings
 pub mod Releases
 pub mod ReservationPart
@@ -27,6 +28,9 @@ pub mod SeenPart
 pub mod Shown
 pub mod Standing
 pub mod Stays
+pub mod StoreStep
 pub mod ValuePart
 pub mod Waitings
 pub mod WholeReads
+pub mod WriteStep
+pub mod Writing

@@ -209,3 +209,14 @@ logs_look t words total later history logs after stakes stakes_after l held back
     and_false : (b : Bool) → one (b && false) ≡ 0
     and_false true = refl
     and_false false = refl
+
+-- a step that changes no log, and no held title's count word, keeps the part
+pub logs_same : (history : Title → List Done) (words now : List ℕ) (total later : Thing → ℕ) (logs after : (Entry → ℕ) → ℕ) (stakes stakes_after : ℕ → ℕ) →
+    Logs history words total logs stakes → ((u : Title) → IsTitleHeld later u → IsTitleHeld total u) →
+    ((u : Title) → IsTitleHeld total u → count_word now u ≡ count_word words u) → ((weight : Entry → ℕ) → after weight ≡ logs weight) →
+    ((k : ℕ) → stakes_after k ≡ stakes k) → Logs history now later after stakes_after
+logs_same history words now total later logs after stakes stakes_after l back same same_logs same_stakes = record {
+  chain = λ t. subst (λ (f : (Entry → ℕ) → ℕ). IsChained f t (history t)) (λ i weight. sym (same_logs weight) i) (l.chain t);
+  last = λ u held. same u (back u held) ∙ l.last u (back u held);
+  each_stake = λ k. same_stakes k ∙ l.each_stake k;
+}

@@ -8,6 +8,7 @@ pub mod Rule
 pub mod Says
 pub mod Shares
 pub mod Start
+pub mod Stores
 pub mod Tells
 pub mod Views
 pub mod Waiting

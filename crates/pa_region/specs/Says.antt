@@ -1,20 +1,21 @@
 -- What the rule says, of any number of seats.
-use Rattle.std.specs.Prelude.{◌≡◌, ℕ, ◌+◌, ◌<◌, ◌≤◌, List, [], ◌∷◌, slice_set, replicate}
+use Rattle.std.specs.Prelude.{◌≡◌, ℕ, ◌+◌, ◌/◌, ◌<◌, ◌≤◌, List, [], ◌∷◌, slice_set, replicate}
 use mathlib.Core.Option.{some}
 use lib.ListN.{get_elem?}
 use Rattle.pa_machine.specs.declared.title.Title.{Title}
 use Rattle.pa_machine.specs.declared.word.Step.{Step}
 use Rattle.pa_machine.specs.Count.{CanStep, stepped, number_of}
-use Rattle.pa_machine.specs.Titles.{count_place, count_word}
+use Rattle.pa_machine.specs.Titles.{count_place, count_word, content_place, poison}
 use Rattle.pa_machine.specs.Holdings.{IsTitleHeld}
 use Rattle.pa_machine.specs.declared.event.Event.{Event}
-use Rattle.pa_machine.specs.declared.event.Event.TheVariants.{Count, Load}
+use Rattle.pa_machine.specs.declared.event.Event.TheVariants.{Count, Store, Poison, Load}
 use Rattle.pa_machine.specs.Events.{total_of, IsEnabled, Happens}
 use Rattle.pa_machine.specs.Trail.{IsGoodState}
 use Rattle.pa_region.specs.declared.view.View.{View}
 use Rattle.pa_region.specs.Views.{byte_words, shown, logged_in, counted_on, counted_at, HasTitle, HasStake}
 use Rattle.pa_region.specs.Rule.{IsKept}
 use Rattle.pa_region.specs.Moves.{CanCount, IsFound, after_count, after_look}
+use Rattle.pa_region.specs.Stores.{after_store, CanStore, after_poison, CanPoison}
 use Rattle.pa_region.specs.Shares.{count_offset}
 use Rattle.pa_region.specs.Start.{AreApart, AreWellFormed, first_view}
 
@@ -57,6 +58,22 @@ LookIsLoad =
     (t : Title) (words : List ℕ) (views : List View) (i : ℕ) (v : View) →
     IsKept words views → get_elem? views i ≡ some v → HasTitle v t →
     IsEventOf (Load i (count_offset t)) words views words (slice_set views i (after_look t (word_shown words t) v))
+
+-- a store by view number i is a store by the core's actor i, and keeps the rule
+abbrev pub StoreKeeps : Type 0
+StoreKeeps =
+    (at_byte value : ℕ) (words : List ℕ) (views : List View) (i : ℕ) (v : View) →
+    IsKept words views → get_elem? views i ≡ some v → CanStore at_byte v →
+    IsEventOf (Store i at_byte value) words views (slice_set words (at_byte / 8) value) (slice_set views i (after_store at_byte value v)) ×
+    IsKept (slice_set words (at_byte / 8) value) (slice_set views i (after_store at_byte value v))
+
+-- so does the poisoning of the next content word
+abbrev pub PoisonKeeps : Type 0
+PoisonKeeps =
+    (t : Title) (j : ℕ) (words : List ℕ) (views : List View) (i : ℕ) (v : View) →
+    IsKept words views → get_elem? views i ≡ some v → CanPoison t j v →
+    IsEventOf (Poison i t) words views (slice_set words (content_place t j) poison) (slice_set views i (after_poison t j v)) ×
+    IsKept (slice_set words (content_place t j) poison) (slice_set views i (after_poison t j v))
 
 -- the rule holds of a new region's words, which are 0, and of the first seat's view
 abbrev pub StartKeeps : Type 0

@@ -1,5 +1,5 @@
 //! What the region's rule says of any number of seats, as laws: calls that do nothing, and whose clauses are proved.
-ghost use Rattle.pa_region.specs.Says.{CountKeeps, CountIsEvent, LookKeeps, LookIsLoad, StartKeeps, ShowsGood, FindsEachNumberOnce, UnnamedIsNew};
+ghost use Rattle.pa_region.specs.Says.{CountKeeps, CountIsEvent, LookKeeps, LookIsLoad, StoreKeeps, PoisonKeeps, StartKeeps, ShowsGood, FindsEachNumberOnce, UnnamedIsNew};
 
 /// Each counted step keeps the rule.
 pub fn counted_steps_keep_the_rule()
@@ -19,6 +19,16 @@ pub fn looks_keep_the_rule()
 /// Each look is a load of the count word in the core that is shown.
 pub fn each_look_is_a_load()
     ensures { LookIsLoad }
+{}
+
+/// Each store is an enabled event of the core that is shown, and keeps the rule.
+pub fn stores_keep_the_rule()
+    ensures { StoreKeeps }
+{}
+
+/// Each poisoning of a word is an enabled event of the core that is shown, and keeps the rule.
+pub fn poisonings_keep_the_rule()
+    ensures { PoisonKeeps }
 {}
 
 /// A new region meets the rule.

@@ -1,13 +1,14 @@
 ghost use Rattle.std.specs.Prelude.{◌≡◌, ℕ, ◌-◌, ◌*◌, ◌<◌, ◌≤◌, [], length, IfOk};
 ghost use Rattle.atomic_table.specs.Seated.{TableId};
-ghost use Rattle.pa_machine.specs.Titles.{IsWellFormed, count_place};
+ghost use Rattle.pa_machine.specs.Titles.{IsWellFormed, count_place, content_count, content_place};
 ghost use Rattle.pa_region.specs.Views.{HasTitle, HasStake, HasEveryStake, least_stake};
 ghost use Rattle.pa_region.specs.Moves.{CanCount};
 ghost use Rattle.pa_region.specs.Shares.{Share, IsSound, IsMade, byte_word_count, adds, CanLoad, LoadTells};
+ghost use Rattle.pa_region.specs.Stores.{CanStore, after_store, CanPoison, after_poison};
 ghost use Rattle.pa_region.specs.Start.{AreApart, AreWellFormed, first_view, IsEnd};
 
 use crate::closed::Closed;
-use crate::rule::{Opening, Words, add_as, load_as};
+use crate::rule::{Opening, Words, add_as, load_as, poison_as, store_as};
 use crate::view::View;
 use atomic_table::Table;
 use pa_machine::{OutOfMemory, Step, Title, Word};
@@ -119,6 +120,30 @@ impl Region {
         load_as::<Brand>(&self.table, &mut seat.seat, (at / 8) as usize, at)
     }
 
+    /// Stores the value in the word at the offset `at`, in bytes: a raw word, a content word of a title that the seat
+    /// holds free, or one of its Own to which no Ref points.
+    pub fn store(&self, seat: &mut Seat, at: u32, value: u64)
+        requires region { seat.old.region ≡ self.now }
+        requires able { CanStore at seat.old.view }
+        ensures region { seat.new.region ≡ seat.old.region }
+        ensures view { seat.new.view ≡ after_store at value seat.old.view }
+    {
+        let _ = &seat.seat;
+        store_as::<Brand>(&self.table, &mut seat.seat, (at / 8) as usize, value, at)
+    }
+
+    /// Poisons the content word of this number, from 0, of the seat's Own: the next one.
+    pub fn poison_next(&self, seat: &mut Seat, title: Title, word: u32)
+        requires region { seat.old.region ≡ self.now }
+        requires able { CanPoison title word seat.old.view }
+        ensures region { seat.new.region ≡ seat.old.region }
+        ensures view { seat.new.view ≡ after_poison title word seat.old.view }
+    {
+        let _ = &seat.seat;
+        let place = content_index(title, word);
+        poison_as::<Brand>(&self.table, &mut seat.seat, place, title, word)
+    }
+
     /// The region's words at the end, once all stakes are back in one seat.
     pub fn close(self, seat: Seat) -> Closed
         requires region { seat.region ≡ self }
@@ -138,6 +163,14 @@ fn count_index(title: Title) -> usize
     ensures { result ≡ count_place title }
 {
     (title.start / 8 + (title.len / 8 - 1)) as usize
+}
+
+// Which word of the region is the title's content word of this number.
+fn content_index(title: Title, word: u32) -> usize
+    requires { word < content_count title }
+    ensures { result ≡ content_place title word }
+{
+    title.start as usize / 8 + word as usize
 }
 
 // What a step adds to the count word.

@@ -1,6 +1,7 @@
 ghost use Rattle.std.specs.Prelude.{◌≡◌, ◌+◌, ◌%◌, ◌^◌, ◌<◌};
 ghost use Rattle.atomic_table.specs.Table.{Allows};
 ghost use Rattle.atomic_table.specs.Table.{State as TableState};
+ghost use Rattle.pa_machine.specs.Titles.{poison};
 ghost use Rattle.pa_region.specs.declared.view.View.{View};
 ghost use Rattle.pa_region.specs.Rule.{IsKept};
 
@@ -80,4 +81,38 @@ pub fn load_as<T: Telling>(table: &Words, seat: &mut Seat<(), View>, word: usize
     ensures told { T.then seat.old.me result seat.new.me }
 {
     table.shared.load::<Told<T>>(seat, word)
+}
+
+// One store to a word, which is the word at that offset in bytes.
+pub fn store_as<T: Telling>(
+    table: &Words,
+    seat: &mut Seat<(), View>,
+    word: usize,
+    value: u64,
+    _at: u32,
+)
+    requires region { (seat.old.table_id ≡ table.now.shared.table_id) × (word < table.now.shared.table_id.words) }
+    requires allowed { Allows (λ (s : TableState (Unit {0}) View). IsKept s.words s.views) table.now.shared.table_id.slots seat.old.id seat.old.me word (λ _. value) (λ _. T.then seat.old.me value) }
+    ensures seat { (seat.new.table_id ≡ seat.old.table_id) × (seat.new.id ≡ seat.old.id) }
+    ensures told { T.then seat.old.me value seat.new.me }
+{
+    table.shared.store::<Told<T>>(seat, word, value)
+}
+
+// The same, of poison to a title's content word of this number.
+pub fn poison_as<T: Telling>(
+    table: &Words,
+    seat: &mut Seat<(), View>,
+    word: usize,
+    _title: Title,
+    _place: u32,
+)
+    requires region { (seat.old.table_id ≡ table.now.shared.table_id) × (word < table.now.shared.table_id.words) }
+    requires allowed { Allows (λ (s : TableState (Unit {0}) View). IsKept s.words s.views) table.now.shared.table_id.slots seat.old.id seat.old.me word (λ _. poison) (λ _. T.then seat.old.me poison) }
+    ensures seat { (seat.new.table_id ≡ seat.old.table_id) × (seat.new.id ≡ seat.old.id) }
+    ensures told { T.then seat.old.me poison seat.new.me }
+{
+    table
+        .shared
+        .store::<Told<T>>(seat, word, 0xefef_efef_efef_efef)
 }

@@ -1,0 +1,165 @@
+-- The poisoning of a content word is an enabled event of the core that is shown, and keeps the rule.
+use Rattle.std.proofs.Common.{◌≡◌, ℕ, ◌+◌, ◌-◌, ◌*◌, ◌/◌, ◌%◌, ◌<◌, ◌≤◌, Bool, true, false, ◌&&◌, List, [], ◌∷◌, length, set, refl, sym, ◌∙◌, ap, subst, arith, inl, inr}
+use Rattle.std.specs.Prelude.{◌==◌}
+use Rattle.std.proofs.lemmas.List.Sums.{sum_by-le-sum_by}
+use Rattle.std.proofs.lemmas.Bool.{true≢false}
+use Rattle.std.proofs.lemmas.Bool.Decides.{eqb_tells}
+use mathlib.Core.Option.{some}
+use lib.ListN.{get_elem?}
+use Rattle.pa_machine.specs.declared.title.Title.{Title}
+use Rattle.pa_machine.specs.declared.title.OwnState.{OwnState}
+use Rattle.pa_machine.specs.declared.title.OwnState.TheVariants.{Poisoned}
+use Rattle.pa_machine.specs.declared.event.Event.TheVariants.{Poison}
+use Rattle.pa_machine.specs.Titles.{same_title, content_place, poison, progress}
+use Rattle.pa_machine.specs.Holdings.{Thing, OwnPiece, RawByte, FreeTitle, OwnOf, OwnAs, RefOf, one, amount, IsTitleHeld}
+use Rattle.pa_machine.specs.Events.{Holds, IsEnabled, Happens, IsAfter, total_of}
+use Rattle.pa_machine.proofs.Same.{state_self}
+use Rattle.pa_machine.proofs.Parts.{Changes}
+use Rattle.pa_machine.proofs.Happening.{own_state_is, happens_good}
+use Rattle.pa_machine.proofs.Noting.{keeps_content}
+use Rattle.pa_region.specs.declared.view.OwnTitle.{OwnTitle}
+use Rattle.pa_region.specs.declared.view.View.{View}
+use Rattle.pa_region.specs.Views.{own_piece, held_of_view, byte_words, shown, own_of}
+use Rattle.pa_region.specs.History.{content_of}
+use Rattle.pa_region.specs.Rule.{IsKept}
+use Rattle.pa_region.specs.Moves.{is_own_of}
+use Rattle.pa_region.specs.Stores.{poisoned_to, after_poison, own_to, CanPoison}
+use Rattle.pa_region.proofs.Adding.{IsFirst, one_and, first_of, changed_sum}
+use Rattle.pa_region.proofs.Pieces.{held_split, owns_have, found_title, first_own}
+use Rattle.pa_region.proofs.Bytes.{bytes_set, held_in_all}
+use Rattle.pa_region.proofs.Shown.{shown_actor, shown_held, is_after}
+use Rattle.pa_region.proofs.CountEvent.{content_covered}
+use Rattle.pa_region.proofs.WriteStep.{IsWrite, write_keeps}
+use Rattle.pa_region.proofs.StoreStep.{content_no_count, title_below}
+
+-- an Own with so many words poisoned is an Own
+pub own_to_own : (v : View) (t : Title) (j : ℕ) → own_to v t j ≤ own_of v t
+own_to_own v t j =
+    sum_by-le-sum_by (λ (o : OwnTitle). one (same_title o.title t && (progress o.state == j))) (λ (o : OwnTitle). one (is_own_of t o)) v.owns
+    (λ o. one_and (same_title o.title t) (progress o.state == j))
+
+-- two tests that are passed together
+both_pass : (a b : Bool) → (a && b) ≡ true → (a ≡ true) × (b ≡ true)
+both_pass true true e = (refl, refl)
+both_pass true false e = absurd (true≢false (sym e))
+both_pass false b e = absurd (true≢false (sym e))
+
+-- the state of an Own with so many words poisoned
+pub state_to : (v : View) (t : Title) (j : ℕ) → 0 < own_to v t j → (b : OwnState) × (progress b ≡ j) × (0 < held_of_view v (OwnAs t b))
+state_to v t j has = (first.0.state, so_many, holds)
+  where
+    first : (o : OwnTitle) × IsFirst (λ (o : OwnTitle). same_title o.title t && (progress o.state == j)) v.owns o
+    first = first_of (λ (o : OwnTitle). same_title o.title t && (progress o.state == j)) v.owns has
+
+    both : (same_title first.0.title t ≡ true) × ((progress first.0.state == j) ≡ true)
+    both = both_pass (same_title first.0.title t) (progress first.0.state == j) first.1.passes
+
+    so_many : progress first.0.state ≡ j
+    so_many = elim (eqb_tells (progress first.0.state) j) [ inl y ↦ y.1 | inr n ↦ absurd (true≢false (sym both.1 ∙ n.0)) ]
+
+    holds : 0 < held_of_view v (OwnAs t first.0.state)
+    holds =
+        let c = first.1.left_out (λ o. amount (OwnAs t first.0.state) (own_piece o)) in
+        let here : amount (OwnAs t first.0.state) (own_piece first.0) ≡ 1 = rw (both.0, state_self first.0.state) refl in
+        let s = held_split v (OwnAs t first.0.state) in
+        omega arith
+
+-- what a poisoning changes of the view besides the word: nothing but a state
+pub poison_holds : (t : Title) (j : ℕ) (v : View) (x : Thing) → ((o : OwnTitle) → amount x (own_piece (poisoned_to (j + 1) o)) ≡ amount x (own_piece o)) →
+    held_of_view (after_poison t j v) x ≡ held_of_view v x
+poison_holds t j v x same =
+    let before = held_split v x in
+    let after = held_split (after_poison t j v) x in
+    let c = changed_sum (is_own_of t) (poisoned_to (j + 1)) (λ o. amount x (own_piece o)) v.owns same in
+    omega arith
+
+-- the title is held
+own_held : (t : Title) (j : ℕ) (words : List ℕ) (views : List View) (i : ℕ) (v : View) → get_elem? views i ≡ some v → CanPoison t j v → IsTitleHeld (total_of (shown words views)) t
+own_held t j words views i v at_i can =
+    let o = owns_have v t in
+    let l = own_to_own v t j in
+    let h = can.0 in
+    held_in_all words views i v t at_i (omega arith)
+
+-- a poisoning is a write of a known word
+poison_write : (t : Title) (j : ℕ) (words : List ℕ) (views : List View) (i : ℕ) (v : View) → IsKept words views → get_elem? views i ≡ some v →
+    CanPoison t j v → IsWrite words views v (after_poison t j v) (content_place t j) poison
+poison_write t j words views i v k at_i can =
+    let held = own_held t j words views i v at_i can in
+    let covered = content_covered (length (byte_words words)) t j (k.holders.good.divided.well t held) can.1 in
+    let l = own_to_own v t j in
+    let h = can.0 in
+    let place : (8 * content_place t j) / 8 ≡ content_place t j = omega arith in
+    record {
+      knows = inr (inr (t, omega arith, covered.1));
+      below = subst (λ (p : ℕ). p < length words - 16) place (title_below words views t (8 * content_place t j) k held covered.0);
+      content = λ u other e. content_no_count words views t u (8 * content_place t j) k held covered.1 (let z : (8 * content_place t j) % 8 ≡ 0 = omega arith in z) other (place ∙ e);
+      known = refl;
+      raws = refl;
+      raw = λ b. poison_holds t j v (RawByte b) (λ o. refl);
+      free = λ u. poison_holds t j v (FreeTitle u) (λ o. refl);
+      own = λ u. poison_holds t j v (OwnOf u) (λ o. refl);
+      ref = λ u. poison_holds t j v (RefOf u) (λ o. refl);
+      idle = λ u. changed_sum (is_own_of t) (poisoned_to (j + 1)) (λ (o : OwnTitle). one (same_title o.title u && o.idle)) v.owns (λ o. refl);
+      budget = refl;
+      stakes = refl;
+      uncut = refl;
+      seen = refl;
+    }
+
+-- what it changes of the view's holdings
+poison_changes : (t : Title) (j : ℕ) (v : View) → 0 < own_of v t →
+    (a : OwnState) × (0 < held_of_view v (OwnAs t a)) × Changes (held_of_view v) (OwnPiece t a ∷ []) (OwnPiece t (Poisoned (j + 1)) ∷ []) (held_of_view (after_poison t j v))
+poison_changes t j v has =
+    let first = first_of (is_own_of t) v.owns has in (
+      first.0.state,
+      first_own t v first.0 first.1,
+      λ x.
+          let f = first.1.replaced (poisoned_to (j + 1)) (λ o. amount x (own_piece o)) in
+          let title = found_title t first.0.title first.1.passes in
+          let same : amount x (own_piece first.0) ≡ amount x (OwnPiece t first.0.state) = ap (λ u. amount x (OwnPiece u first.0.state)) title in
+          let now : amount x (own_piece (poisoned_to (j + 1) first.0)) ≡ amount x (OwnPiece t (Poisoned (j + 1))) = ap (λ u. amount x (OwnPiece u (Poisoned (j + 1)))) title in
+          let before = held_split v x in
+          let after = held_split (after_poison t j v) x in
+          omega arith,
+    )
+
+-- a poisoning is an enabled event of the core that is shown
+pub poison_event : (t : Title) (j : ℕ) (words : List ℕ) (views : List View) (i : ℕ) (v : View) → IsKept words views → get_elem? views i ≡ some v →
+    CanPoison t j v →
+    IsEnabled (Poison i t) (shown words views) ×
+    Happens (Poison i t) (shown words views) (shown (set words (content_place t j) poison) (set views i (after_poison t j v)))
+poison_event t j words views i v k at_i can =
+    let l = own_to_own v t j in
+    let h = can.0 in
+    let below = can.1 in
+    let b = state_to v t j can.0 in
+    let b1 = b.1 in
+    let b2 = b.2 in
+    let sb = shown_held words views i v at_i (OwnAs t b.0) in
+    let holds : Holds (shown words views) i (OwnAs t b.0) = omega arith in
+    let m = poison_changes t j v (omega arith) in
+    let m1 = m.1 in
+    let sm = shown_held words views i v at_i (OwnAs t m.0) in
+    let same = own_state_is (shown words views) i i t m.0 b.0 k.holders.good (omega arith) holds in
+    let at_place = bytes_set words (content_place t j) poison (poison_write t j words views i v k at_i can).below in
+    let after = is_after words (set words (content_place t j) poison) views i v (after_poison t j v) (OwnPiece t m.0 ∷ []) (OwnPiece t (Poisoned (j + 1)) ∷ []) at_i m.2 in
+    let lost = subst (λ (z : OwnState). IsAfter (shown words views) i (OwnPiece t z ∷ []) (OwnPiece t (Poisoned (j + 1)) ∷ []) (byte_words (set words (content_place t j) poison)) (shown (set words (content_place t j) poison) (set views i (after_poison t j v)))) same after in
+    let placed = subst (λ (ws : List ℕ). IsAfter (shown words views) i (OwnPiece t b.0 ∷ []) (OwnPiece t (Poisoned (j + 1)) ∷ []) ws (shown (set words (content_place t j) poison) (set views i (after_poison t j v)))) at_place lost in (
+      (shown_actor words views i v at_i, (b.0, holds, omega arith)),
+      (
+        b.0,
+        holds,
+        subst (λ (n : ℕ). IsAfter (shown words views) i (OwnPiece t b.0 ∷ []) (OwnPiece t (Poisoned (n + 1)) ∷ []) (set (byte_words words) (content_place t n) poison) (shown (set words (content_place t j) poison) (set views i (after_poison t j v)))) (sym b.1) placed,
+      ),
+    )
+
+-- a poisoning keeps the rule
+pub poison_keeps : (t : Title) (j : ℕ) (words : List ℕ) (views : List View) (i : ℕ) (v : View) → IsKept words views → get_elem? views i ≡ some v →
+    CanPoison t j v → IsKept (set words (content_place t j) poison) (set views i (after_poison t j v))
+poison_keeps t j words views i v k at_i can =
+    let event = poison_event t j words views i v k at_i can in
+    let after = shown (set words (content_place t j) poison) (set views i (after_poison t j v)) in
+    write_keeps words views i v (after_poison t j v) (content_place t j) poison k at_i (poison_write t j words views i v k at_i can)
+    (happens_good (Poison i t) (shown words views) after k.holders.good event.0 event.1)
+    (keeps_content (Poison i t) (shown words views) after (λ u. content_of (k.history u)) k.holders.good event.0 event.1 k.content)

@@ -1,0 +1,316 @@
+-- A store is an enabled event of the core that is shown, and keeps the rule.
+use Rattle.std.proofs.Common.{◌≡◌, ℕ, ◌+◌, ◌-◌, ◌*◌, ◌/◌, ◌%◌, ◌<◌, true, false, ◌&&◌, List, [], ◌∷◌, length, set, refl, sym, ◌∙◌, ap, subst, arith, ◌⊎◌, inl, inr}
+use Rattle.std.specs.List.{sum_by}
+use Rattle.std.proofs.lemmas.List.Sums.{sum_by-le-sum_by}
+use Rattle.std.proofs.lemmas.Bool.{cases_lt, lt-ltb, le-ltb, le-leb, lt-leb, true≢false}
+use mathlib.Core.Option.{some}
+use lib.ListN.{get_elem?}
+use Rattle.pa_machine.specs.declared.title.Title.{Title}
+use Rattle.pa_machine.specs.declared.title.OwnState.{OwnState}
+use Rattle.pa_machine.specs.declared.title.OwnState.TheVariants.{Dirty}
+use Rattle.pa_machine.specs.declared.event.Event.TheVariants.{Store}
+use Rattle.pa_machine.specs.Count.{refs_of}
+use Rattle.pa_machine.specs.Titles.{same_title, Covers, IsContentOf, count_place, count_word}
+use Rattle.pa_machine.specs.Holdings.{Thing, OwnPiece, RawByte, FreeTitle, OwnOf, OwnAs, RefOf, one, amount, IsTitleHeld}
+use Rattle.pa_machine.specs.Events.{IsEnabled, Happens, IsAfter, IsRawWord, IsFreeWord, IsOwnWord, total_of}
+use Rattle.pa_machine.proofs.Same.{title_tells, title_self, state_self}
+use Rattle.pa_machine.proofs.Parts.{Changes, free_or, word_covered}
+use Rattle.pa_machine.proofs.Happening.{own_state_is, happens_good}
+use Rattle.pa_machine.proofs.Noting.{keeps_content}
+use Rattle.pa_region.specs.declared.view.OwnTitle.{OwnTitle}
+use Rattle.pa_region.specs.declared.view.View.{View}
+use Rattle.pa_region.specs.Views.{own_piece, held_of_view, byte_words, shown, free_of, own_of, idle_of, Knows}
+use Rattle.pa_region.specs.History.{content_of}
+use Rattle.pa_region.specs.Rule.{IsKept}
+use Rattle.pa_region.specs.Moves.{changed}
+use Rattle.pa_region.specs.Stores.{has_content_at, dirty, after_store, HasRawWord, HasFreeContent, HasIdleContent, CanStore}
+use Rattle.pa_region.proofs.Adding.{IsFirst, sum_part, sum_zero, first_of, changed_sum, none_changed}
+use Rattle.pa_region.proofs.Pieces.{held_split, held_within, frees_have, owns_have, idle_owns}
+use Rattle.pa_region.proofs.Bytes.{bytes_set, bytes_length, held_in_all}
+use Rattle.pa_region.proofs.Shown.{shown_actor, shown_held, is_after}
+use Rattle.pa_region.proofs.ValuePart.{raw_outside}
+use Rattle.pa_region.proofs.CountEvent.{open_state}
+use Rattle.pa_region.proofs.WriteStep.{IsWrite, write_keeps}
+
+-- the test tells whether the word is a content word of the Own
+content_test : (at_byte : ℕ) (o : OwnTitle) → ((has_content_at at_byte o ≡ true) × IsContentOf o.title at_byte) ⊎ ((has_content_at at_byte o ≡ false) × (IsContentOf o.title at_byte → ⊥))
+content_test at_byte o = elim (cases_lt at_byte o.title.start) [
+  | inl y ↦ inr (rw (lt-leb o.title.start at_byte y) refl, (λ h. let z = h.0 in omega arith))
+  | inr n ↦ elim (cases_lt (at_byte + 8) (o.title.start + o.title.len)) [
+    | inl y ↦ inl (rw (le-leb o.title.start at_byte n, lt-ltb (at_byte + 8) (o.title.start + o.title.len) y) refl, (n, y))
+    | inr m ↦ inr (rw (le-leb o.title.start at_byte n, le-ltb (at_byte + 8) (o.title.start + o.title.len) m) refl, (λ h. let z = h.1 in omega arith))
+  ]
+]
+
+-- a member of a view's Owns is an Own that it has
+own_member : (v : View) (j : ℕ) (o : OwnTitle) → get_elem? v.owns j ≡ some o → 0 < own_of v o.title
+own_member v j o at_j =
+    let p = sum_part (λ (q : OwnTitle). one (same_title q.title o.title)) v.owns j o at_j in
+    let z : one (same_title o.title o.title) ≡ 1 = ap one (title_self o.title) in
+    omega arith
+
+-- an Own of a view is held
+own_in_all : (words : List ℕ) (views : List View) (i : ℕ) (v : View) (t : Title) → get_elem? views i ≡ some v → 0 < own_of v t → IsTitleHeld (total_of (shown words views)) t
+own_in_all words views i v t at_i has = let o = owns_have v t in held_in_all words views i v t at_i (omega arith)
+
+-- so is a free title
+free_in_all : (words : List ℕ) (views : List View) (i : ℕ) (v : View) (t : Title) → get_elem? views i ≡ some v → 0 < free_of v t → IsTitleHeld (total_of (shown words views)) t
+free_in_all words views i v t at_i has = let o = frees_have v t in held_in_all words views i v t at_i (omega arith)
+
+-- a content word's first byte lies in its title
+content_covers : (t : Title) (at_byte : ℕ) → IsContentOf t at_byte → Covers t at_byte
+content_covers t at_byte inside = let high = inside.1 in (inside.0, omega arith)
+
+-- a content word of a held title is no count word of one
+pub content_no_count : (words : List ℕ) (views : List View) (t u : Title) (at_byte : ℕ) → IsKept words views → IsTitleHeld (total_of (shown words views)) t →
+    IsContentOf t at_byte → at_byte % 8 ≡ 0 → IsTitleHeld (total_of (shown words views)) u → at_byte / 8 ≡ count_place u → ⊥
+content_no_count words views t u at_byte k held inside aligned other e =
+    let well = k.holders.good.divided.well u other in
+    let here : at_byte ≡ 8 * count_place u = omega arith in
+    let same = k.holders.good.divided.apart t u at_byte held other (content_covers t at_byte inside)
+    (subst (λ (b : ℕ). Covers u b) (sym here) (word_covered (length (byte_words words)) u (count_place u) well (omega arith, omega arith))) in
+    let high = (subst (λ (z : Title). IsContentOf z at_byte) same inside).1 in
+    let a = well.start_aligned in let b = well.len_aligned in let c = well.long in
+    absurd (omega arith)
+
+-- a raw word is none either
+pub raw_no_count : (words : List ℕ) (views : List View) (i : ℕ) (v : View) (u : Title) (at_byte : ℕ) → IsKept words views → get_elem? views i ≡ some v →
+    0 < held_of_view v (RawByte at_byte) → at_byte % 8 ≡ 0 → IsTitleHeld (total_of (shown words views)) u → at_byte / 8 ≡ count_place u → ⊥
+raw_no_count words views i v u at_byte k at_i raw aligned other e =
+    let well = k.holders.good.divided.well u other in
+    let here : at_byte ≡ 8 * count_place u = omega arith in
+    let none = raw_outside (byte_words words) (total_of (shown words views)) at_byte u k.holders.good other
+    (subst (λ (b : ℕ). Covers u b) (sym here) (word_covered (length (byte_words words)) u (count_place u) well (omega arith, omega arith))) in
+    let w = held_within words views i v at_i (RawByte at_byte) in
+    absurd (omega arith)
+
+-- a raw word lies in the region
+pub raw_below : (words : List ℕ) (views : List View) (i : ℕ) (v : View) (at_byte : ℕ) → IsKept words views → get_elem? views i ≡ some v →
+    0 < held_of_view v (RawByte at_byte) → at_byte / 8 < length words - 16
+raw_below words views i v at_byte k at_i raw = elim (cases_lt at_byte (8 * length (byte_words words))) [
+  | inl y ↦ let l = bytes_length words in omega arith
+  | inr n ↦
+      let z = k.holders.good.divided.outside at_byte n in
+      let w = held_within words views i v at_i (RawByte at_byte) in
+      absurd (omega arith)
+]
+
+-- so does a word of a held title
+pub title_below : (words : List ℕ) (views : List View) (t : Title) (at_byte : ℕ) → IsKept words views → IsTitleHeld (total_of (shown words views)) t →
+    Covers t at_byte → at_byte / 8 < length words - 16
+title_below words views t at_byte k held covers =
+    let well = k.holders.good.divided.well t held in
+    let inside = well.inside in let high = covers.1 in
+    let l = bytes_length words in
+    omega arith
+
+-- what a store changes of the view besides the word: nothing but a state
+pub store_holds : (at_byte value : ℕ) (v : View) (x : Thing) → ((o : OwnTitle) → amount x (own_piece (dirty o)) ≡ amount x (own_piece o)) →
+    held_of_view (after_store at_byte value v) x ≡ held_of_view v x
+store_holds at_byte value v x same =
+    let before = held_split v x in
+    let after = held_split (after_store at_byte value v) x in
+    let c = changed_sum (has_content_at at_byte) dirty (λ o. amount x (own_piece o)) v.owns same in
+    omega arith
+
+-- a store is a write of a known word
+store_write : (at_byte value : ℕ) (words : List ℕ) (views : List View) (i : ℕ) (v : View) → IsKept words views → get_elem? views i ≡ some v →
+    CanStore at_byte v → IsWrite words views v (after_store at_byte value v) (at_byte / 8) value
+store_write at_byte value words views i v k at_i can = record {
+  knows = knows can.1;
+  below = below can.1;
+  content = λ t held e. no_count can.1 t held e;
+  known = refl;
+  raws = refl;
+  raw = λ b. store_holds at_byte value v (RawByte b) (λ o. refl);
+  free = λ t. store_holds at_byte value v (FreeTitle t) (λ o. refl);
+  own = λ t. store_holds at_byte value v (OwnOf t) (λ o. refl);
+  ref = λ t. store_holds at_byte value v (RefOf t) (λ o. refl);
+  idle = λ t. changed_sum (has_content_at at_byte) dirty (λ (o : OwnTitle). one (same_title o.title t && o.idle)) v.owns (λ o. refl);
+  budget = refl;
+  stakes = refl;
+  uncut = refl;
+  seen = refl;
+}
+  where
+    here : 8 * (at_byte / 8) ≡ at_byte
+    here = let a = can.0 in omega arith
+
+    owned : (t : Title) → 0 < idle_of v t → 0 < own_of v t
+    owned t some_idle = let h = idle_owns v t some_idle in let o = owns_have v t in omega arith
+
+    knows : HasRawWord v at_byte ⊎ (HasFreeContent v at_byte ⊎ HasIdleContent v at_byte) → Knows v (at_byte / 8)
+    knows (inl raw) = inl (subst (λ (b : ℕ). 0 < held_of_view v (RawByte b)) (sym here) (raw at_byte (omega arith) (omega arith)))
+    knows (inr (inl free)) = inr (inl (free.0, free.1, subst (λ (b : ℕ). Covers free.0 b) (sym here) (content_covers free.0 at_byte free.2)))
+    knows (inr (inr own)) = inr (inr (own.0, owned own.0 own.1, subst (λ (b : ℕ). IsContentOf own.0 b) (sym here) own.3))
+
+    below : HasRawWord v at_byte ⊎ (HasFreeContent v at_byte ⊎ HasIdleContent v at_byte) → at_byte / 8 < length words - 16
+    below (inl raw) = raw_below words views i v at_byte k at_i (raw at_byte (omega arith) (omega arith))
+    below (inr (inl free)) = title_below words views free.0 at_byte k (free_in_all words views i v free.0 at_i free.1) (content_covers free.0 at_byte free.2)
+    below (inr (inr own)) = title_below words views own.0 at_byte k (own_in_all words views i v own.0 at_i (owned own.0 own.1)) (content_covers own.0 at_byte own.3)
+
+    no_count : HasRawWord v at_byte ⊎ (HasFreeContent v at_byte ⊎ HasIdleContent v at_byte) → (t : Title) → IsTitleHeld (total_of (shown words views)) t → at_byte / 8 ≡ count_place t → ⊥
+    no_count (inl raw) t held e = raw_no_count words views i v t at_byte k at_i (raw at_byte (omega arith) (omega arith)) can.0 held e
+    no_count (inr (inl free)) t held e = content_no_count words views free.0 t at_byte k (free_in_all words views i v free.0 at_i free.1) free.2 can.0 held e
+    no_count (inr (inr own)) t held e = content_no_count words views own.0 t at_byte k (own_in_all words views i v own.0 at_i (owned own.0 own.1)) own.3 can.0 held e
+
+-- no Own of the view has the word, where it is raw, or in a free title
+plain_owns : (at_byte : ℕ) (words : List ℕ) (views : List View) (i : ℕ) (v : View) → IsKept words views → get_elem? views i ≡ some v →
+    HasRawWord v at_byte ⊎ HasFreeContent v at_byte → changed (has_content_at at_byte) dirty v.owns ≡ v.owns
+plain_owns at_byte words views i v k at_i plain =
+    none_changed (has_content_at at_byte) dirty v.owns (sum_zero (λ o. one (has_content_at at_byte o)) v.owns (λ j o at_j. elim (content_test at_byte o) [
+      | inl y ↦ absurd (never plain o (own_member v j o at_j) y.1)
+      | inr n ↦ ap one n.0
+    ]))
+  where
+    never : HasRawWord v at_byte ⊎ HasFreeContent v at_byte → (o : OwnTitle) → 0 < own_of v o.title → IsContentOf o.title at_byte → ⊥
+    never (inl raw) o has inside =
+        let none = raw_outside (byte_words words) (total_of (shown words views)) at_byte o.title k.holders.good (own_in_all words views i v o.title at_i has) (content_covers o.title at_byte inside) in
+        let w = held_within words views i v at_i (RawByte at_byte) in
+        let r = raw at_byte (omega arith) (omega arith) in
+        absurd (omega arith)
+    never (inr free) o has inside =
+        let t = free.0 in
+        let held = free_in_all words views i v t at_i free.1 in
+        let same = k.holders.good.divided.apart o.title t at_byte (own_in_all words views i v o.title at_i has) held (content_covers o.title at_byte inside) (content_covers t at_byte free.2) in
+        let own : 0 < own_of v t = subst (λ (z : Title). 0 < own_of v z) same has in
+        let f = frees_have v t in let g = owns_have v t in
+        let a = held_within words views i v at_i (FreeTitle t) in
+        let b = held_within words views i v at_i (OwnOf t) in
+        let c = k.holders.good.counted t held in
+        let owns = c.owns in
+        let some_free = free.1 in
+        elim (free_or (count_word (byte_words words) t)) [
+          | inl y ↦ let z = y.0 in absurd (omega arith)
+          | inr n ↦ let z = c.taken n in absurd (omega arith)
+        ]
+
+-- what a store changes of the view's holdings
+plain_changes : (at_byte value : ℕ) (words : List ℕ) (views : List View) (i : ℕ) (v : View) → IsKept words views → get_elem? views i ≡ some v →
+    HasRawWord v at_byte ⊎ HasFreeContent v at_byte → Changes (held_of_view v) [] [] (held_of_view (after_store at_byte value v))
+plain_changes at_byte value words views i v k at_i plain x =
+    let before = held_split v x in
+    let after = held_split (after_store at_byte value v) x in
+    let same : sum_by (λ o. amount x (own_piece o)) (changed (has_content_at at_byte) dirty v.owns) ≡ sum_by (λ o. amount x (own_piece o)) v.owns =
+    ap (λ (os : List OwnTitle). sum_by (λ o. amount x (own_piece o)) os) (plain_owns at_byte words views i v k at_i plain) in
+    omega arith
+
+-- the state in which the store finds the Own whose content it changes
+own_changes : (at_byte value : ℕ) (words : List ℕ) (views : List View) (i : ℕ) (v : View) (t : Title) → IsKept words views → get_elem? views i ≡ some v →
+    0 < own_of v t → IsContentOf t at_byte →
+    (a : OwnState) × (0 < held_of_view v (OwnAs t a)) × Changes (held_of_view v) (OwnPiece t a ∷ []) (OwnPiece t Dirty ∷ []) (held_of_view (after_store at_byte value v))
+own_changes at_byte value words views i v t k at_i has inside = (first.0.state, holds, changes)
+  where
+    some_passes : 0 < sum_by (λ o. one (has_content_at at_byte o)) v.owns
+    some_passes =
+        let l = sum_by-le-sum_by (λ (o : OwnTitle). one (same_title o.title t)) (λ o. one (has_content_at at_byte o)) v.owns (λ o. elim (title_tells o.title t) [
+          | inl y ↦ elim (content_test at_byte o) [
+            | inl z ↦ rw (y.0, z.0) (omega arith)
+            | inr z ↦ absurd (z.1 (subst (λ (u : Title). IsContentOf u at_byte) (sym y.1) inside))
+          ]
+          | inr n ↦ rw n.0 (omega arith)
+        ]) in
+        omega arith
+
+    first : (o : OwnTitle) × IsFirst (has_content_at at_byte) v.owns o
+    first = first_of (has_content_at at_byte) v.owns some_passes
+
+    title : first.0.title ≡ t
+    title = elim (content_test at_byte first.0) [
+      | inl y ↦
+          let c = first.1.left_out (λ (o : OwnTitle). one (same_title o.title first.0.title)) in
+          let z : one (same_title first.0.title first.0.title) ≡ 1 = ap one (title_self first.0.title) in
+          k.holders.good.divided.apart first.0.title t at_byte (own_in_all words views i v first.0.title at_i (omega arith)) (own_in_all words views i v t at_i has)
+          (content_covers first.0.title at_byte y.1) (content_covers t at_byte inside)
+      | inr n ↦ absurd (true≢false (sym first.1.passes ∙ n.0))
+    ]
+
+    holds : 0 < held_of_view v (OwnAs t first.0.state)
+    holds =
+        let c = first.1.left_out (λ o. amount (OwnAs t first.0.state) (own_piece o)) in
+        let here : amount (OwnAs t first.0.state) (OwnPiece first.0.title first.0.state) ≡ 1 = rw (title, title_self t, state_self first.0.state) refl in
+        let s = held_split v (OwnAs t first.0.state) in
+        omega arith
+
+    changes : Changes (held_of_view v) (OwnPiece t first.0.state ∷ []) (OwnPiece t Dirty ∷ []) (held_of_view (after_store at_byte value v))
+    changes x =
+        let f = first.1.replaced dirty (λ o. amount x (own_piece o)) in
+        let same : amount x (own_piece first.0) ≡ amount x (OwnPiece t first.0.state) = ap (λ u. amount x (OwnPiece u first.0.state)) title in
+        let now : amount x (own_piece (dirty first.0)) ≡ amount x (OwnPiece t Dirty) = ap (λ u. amount x (OwnPiece u Dirty)) title in
+        let before = held_split v x in
+        let after = held_split (after_store at_byte value v) x in
+        omega arith
+
+-- a store is an enabled event of the core that is shown
+pub store_event : (at_byte value : ℕ) (words : List ℕ) (views : List View) (i : ℕ) (v : View) → IsKept words views → get_elem? views i ≡ some v →
+    CanStore at_byte v →
+    IsEnabled (Store i at_byte value) (shown words views) ×
+    Happens (Store i at_byte value) (shown words views) (shown (set words (at_byte / 8) value) (set views i (after_store at_byte value v)))
+store_event at_byte value words views i v k at_i can = go can.1
+  where
+    at_place : byte_words (set words (at_byte / 8) value) ≡ set (byte_words words) (at_byte / 8) value
+    at_place = bytes_set words (at_byte / 8) value (store_write at_byte value words views i v k at_i can).below
+
+    raw_word : HasRawWord v at_byte → IsRawWord (shown words views) i at_byte
+    raw_word raw b low high = let s = shown_held words views i v at_i (RawByte b) in let h = raw b low high in omega arith
+
+    free_word : (free : HasFreeContent v at_byte) → IsFreeWord (shown words views) i at_byte
+    free_word free =
+        let s = shown_held words views i v at_i (FreeTitle free.0) in
+        let f = frees_have v free.0 in
+        let has = free.1 in
+        (free.0, omega arith, free.2)
+
+    owned : (t : Title) → 0 < idle_of v t → 0 < own_of v t
+    owned t some_idle = let h = idle_owns v t some_idle in let o = owns_have v t in omega arith
+
+    idle : (t : Title) → 0 < idle_of v t → refs_of (count_word (byte_words words) t) ≡ 0
+    idle t some_idle = let p = sum_part (λ u. idle_of u t) views i v at_i in k.holders.known t (omega arith)
+
+    go : HasRawWord v at_byte ⊎ (HasFreeContent v at_byte ⊎ HasIdleContent v at_byte) →
+        IsEnabled (Store i at_byte value) (shown words views) ×
+        Happens (Store i at_byte value) (shown words views) (shown (set words (at_byte / 8) value) (set views i (after_store at_byte value v)))
+    go (inl raw) = (
+      (shown_actor words views i v at_i, can.0, inl (raw_word raw)),
+      inl (
+        inl (raw_word raw),
+        subst (λ (ws : List ℕ). IsAfter (shown words views) i [] [] ws (shown (set words (at_byte / 8) value) (set views i (after_store at_byte value v)))) at_place
+            (is_after words (set words (at_byte / 8) value) views i v (after_store at_byte value v) [] [] at_i (plain_changes at_byte value words views i v k at_i (inl raw))),
+      ),
+    )
+    go (inr (inl free)) = (
+      (shown_actor words views i v at_i, can.0, inr (inl (free_word free))),
+      inl (
+        inr (free_word free),
+        subst (λ (ws : List ℕ). IsAfter (shown words views) i [] [] ws (shown (set words (at_byte / 8) value) (set views i (after_store at_byte value v)))) at_place
+            (is_after words (set words (at_byte / 8) value) views i v (after_store at_byte value v) [] [] at_i (plain_changes at_byte value words views i v k at_i (inr free))),
+      ),
+    )
+    go (inr (inr own)) =
+        let t = own.0 in
+        let unfrozen = open_state words views i v t at_i own.2 in
+        let m = own_changes at_byte value words views i v t k at_i (owned t own.1) own.3 in
+        let s = shown_held words views i v at_i (OwnAs t m.0) in
+        let mine = m.1 in
+        let same = own_state_is (shown words views) i i t m.0 unfrozen.0 k.holders.good (omega arith) unfrozen.1.1 in
+        let own_word : IsOwnWord (shown words views) i at_byte t unfrozen.0 = (unfrozen.1, own.3, idle t own.1) in (
+          (shown_actor words views i v at_i, can.0, inr (inr (t, unfrozen.0, own_word))),
+          inr (
+            t,
+            unfrozen.0,
+            own_word,
+            subst (λ (z : OwnState). IsAfter (shown words views) i (OwnPiece t z ∷ []) (OwnPiece t Dirty ∷ []) (set (byte_words words) (at_byte / 8) value) (shown (set words (at_byte / 8) value) (set views i (after_store at_byte value v)))) same
+                (subst (λ (ws : List ℕ). IsAfter (shown words views) i (OwnPiece t m.0 ∷ []) (OwnPiece t Dirty ∷ []) ws (shown (set words (at_byte / 8) value) (set views i (after_store at_byte value v)))) at_place
+                (is_after words (set words (at_byte / 8) value) views i v (after_store at_byte value v) (OwnPiece t m.0 ∷ []) (OwnPiece t Dirty ∷ []) at_i m.2)),
+          ),
+        )
+
+-- a store keeps the rule
+pub store_keeps : (at_byte value : ℕ) (words : List ℕ) (views : List View) (i : ℕ) (v : View) → IsKept words views → get_elem? views i ≡ some v →
+    CanStore at_byte v → IsKept (set words (at_byte / 8) value) (set views i (after_store at_byte value v))
+store_keeps at_byte value words views i v k at_i can =
+    let event = store_event at_byte value words views i v k at_i can in
+    let after = shown (set words (at_byte / 8) value) (set views i (after_store at_byte value v)) in
+    write_keeps words views i v (after_store at_byte value v) (at_byte / 8) value k at_i (store_write at_byte value words views i v k at_i can)
+    (happens_good (Store i at_byte value) (shown words views) after k.holders.good event.0 event.1)
+    (keeps_content (Store i at_byte value) (shown words views) after (λ t. content_of (k.history t)) k.holders.good event.0 event.1 k.content)

@@ -1,0 +1,62 @@
+-- What a store and a poisoning make of the stepping seat's view, and what they ask of it.
+use Rattle.std.specs.Prelude.{◌≡◌, ℕ, ◌+◌, ◌/◌, ◌%◌, ◌<◌, ◌≤◌, ◌⊎◌, Bool, ◌==◌, ◌&&◌, nat_lt, nat_le, true, slice_set}
+use Rattle.std.specs.List.{sum_by}
+use Rattle.pa_machine.specs.declared.title.Title.{Title}
+use Rattle.pa_machine.specs.declared.title.OwnState.TheVariants.{Clean, Dirty, Poisoned}
+use Rattle.pa_machine.specs.Titles.{same_title, content_count, content_place, IsContentOf, poison, progress}
+use Rattle.pa_machine.specs.Holdings.{RawByte, one}
+use Rattle.pa_region.specs.declared.view.OwnTitle.{OwnTitle}
+use Rattle.pa_region.specs.declared.view.View.{View}
+use Rattle.pa_region.specs.Views.{held_of_view, free_of, own_as, idle_of, HasStake}
+use Rattle.pa_region.specs.Moves.{changed, is_own_of}
+
+-- the word at the byte offset is a content word of the Own
+abbrev pub has_content_at : ℕ → OwnTitle → Bool
+has_content_at at_byte o = nat_le o.title.start at_byte && nat_lt (at_byte + 8) (o.title.start + o.title.len)
+
+-- an Own after a store to its content
+abbrev pub dirty : OwnTitle → OwnTitle
+dirty o = record o { state = Dirty }
+
+-- the view after a store of the value at the byte offset: it knows the word, and an Own whose content it is is dirty
+abbrev pub after_store : ℕ → ℕ → View → View
+after_store at_byte value v = record v {
+  words = slice_set v.words (at_byte / 8) value;
+  owns = changed (has_content_at at_byte) dirty v.owns;
+  since = record v.since { stored = true };
+}
+
+-- the view holds the eight bytes as raw; the word is a content word of a title that it holds free; it is one of its
+-- clean or dirty Own of which no Ref is known to be left, and it has a stake
+abbrev pub HasRawWord : View → ℕ → Type 0
+HasRawWord v at_byte = (b : ℕ) → at_byte ≤ b → b < at_byte + 8 → 0 < held_of_view v (RawByte b)
+
+abbrev pub HasFreeContent : View → ℕ → Type 0
+HasFreeContent v at_byte = (t : Title) × (0 < free_of v t) × IsContentOf t at_byte
+
+abbrev pub HasIdleContent : View → ℕ → Type 0
+HasIdleContent v at_byte = (t : Title) × (0 < idle_of v t) × (0 < own_as v t Clean + own_as v t Dirty) × IsContentOf t at_byte × HasStake v
+
+-- a seat with this view may store at the byte offset
+abbrev pub CanStore : ℕ → View → Type 0
+CanStore at_byte v = (at_byte % 8 ≡ 0) × (HasRawWord v at_byte ⊎ (HasFreeContent v at_byte ⊎ HasIdleContent v at_byte))
+
+-- an Own with so many words poisoned
+abbrev pub poisoned_to : ℕ → OwnTitle → OwnTitle
+poisoned_to n o = record o { state = Poisoned n }
+
+-- the view after the poisoning of the title's content word number j
+abbrev pub after_poison : Title → ℕ → View → View
+after_poison t j v = record v {
+  words = slice_set v.words (content_place t j) poison;
+  owns = changed (is_own_of t) (poisoned_to (j + 1)) v.owns;
+  since = record v.since { poisoned = true };
+}
+
+-- how often a view has the title's Own with so many words poisoned, where a clean or a dirty one has 0
+abbrev pub own_to : View → Title → ℕ → ℕ
+own_to v t j = sum_by (λ (o : OwnTitle). one (same_title o.title t && (progress o.state == j))) v.owns
+
+-- a seat with this view may poison the title's content word number j: it is the next one
+abbrev pub CanPoison : Title → ℕ → View → Type 0
+CanPoison t j v = (0 < own_to v t j) × (j < content_count t) × HasStake v
