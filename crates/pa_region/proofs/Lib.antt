@@ -21,7 +21,10 @@ pub mod Opens
 pub mod PairSums
 pub mod Pieces
 pub mod PoisonStep
+pub mod PoisonedOwns
 pub mod Readings
+pub mod ReadsCount
+pub mod ReadsSame
 pub mod Releases
 pub mod ReservationPart
 pub mod SeenPart

@@ -14,7 +14,7 @@ use Rattle.pa_region.specs.Views.{counted_at}
 use Rattle.pa_region.specs.Says.{word_shown}
 
 -- the number of a held title's word is the length of its history
-number_length : (words : List ℕ) (views : List View) (t : Title) (k : IsKept words views) → IsTitleHeld (total_of (shown words views)) t →
+pub number_length : (words : List ℕ) (views : List View) (t : Title) (k : IsKept words views) → IsTitleHeld (total_of (shown words views)) t →
     number_of (word_shown words t) ≡ length (k.history t)
 number_length words views t k held = ap number_of (k.logs.last t held) ∙ reached_number (k.history t) (k.logs.chain t).legal
 

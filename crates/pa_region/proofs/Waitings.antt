@@ -59,6 +59,17 @@ log_within k weight (s ∷ ss) =
 pub least_log_within : (v : View) (weight : Entry → ℕ) → sum_by weight (least_log v.stakes) ≤ logged_of v weight
 least_log_within v weight = log_within (least_stake v.stakes) weight v.stakes
 
+-- the last entry counts among those of its log
+pub last_counts : (weight : Entry → ℕ) (log : List Entry) (e : Entry) → last_entry log ≡ Some e → weight e ≤ sum_by weight log
+last_counts weight [] e is = absurd (cc)
+last_counts weight (a ∷ []) e is =
+    let same : weight a ≡ weight e = ap weight (some_is a e is) in
+    omega (arith, sum_by-cons weight a [])
+  where
+    some_is : (a b : Entry) → Some a ≡ Some b → a ≡ b
+    some_is a b same = cc
+last_counts weight (a ∷ b ∷ log) e is = let again = last_counts weight (b ∷ log) e is in omega (arith, sum_by-cons weight a (b ∷ log))
+
 -- a look goes on waiting where its view has title and logs as before, and the word has the same bit
 pub waits_same : (history : Title → List Done) (words after : List ℕ) (v w : View) (t : Title) (found : ℕ) → Waits history words v t found →
     HasTitle w t → w.stakes ≡ v.stakes → held_of (count_word after t) ≡ held_of (count_word words t) → Waits history after w t found
