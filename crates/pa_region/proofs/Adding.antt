@@ -134,6 +134,20 @@ module _ {A : Type 0} where
       let again = sum_zero f xs (λ j y e. h (suc j) y e) in
       omega arith
 
+  -- a sum in which all others count nothing
+  pub sum_alone : (f : A → ℕ) (xs : List A) (i : ℕ) (v : A) → get_elem? xs i ≡ some v → ((j : ℕ) (x : A) → get_elem? xs j ≡ some x → (j ≡ i → ⊥) → f x ≡ 0) → sum_by f xs ≡ f v
+  sum_alone f [] i v e h = absurd (some-ne-none v (sym e))
+  sum_alone f (x ∷ xs) zero v e h =
+      let c = sum_by-cons f x xs in
+      let here : f x ≡ f v = ap f (some-injective x v e) in
+      let rest = sum_zero f xs (λ j y at_j. h (suc j) y at_j (λ q. omega arith)) in
+      omega arith
+  sum_alone f (x ∷ xs) (suc i) v e h =
+      let c = sum_by-cons f x xs in
+      let here = h 0 x refl (λ q. omega arith) in
+      let again = sum_alone f xs i v e (λ j y at_j ne. h (suc j) y at_j (λ q. ne (omega arith))) in
+      omega arith
+
   -- where none passes, a change changes nothing
   pub none_changed : (test : A → Bool) (change : A → A) (xs : List A) → sum_by (λ x. one (test x)) xs ≡ 0 → changed test change xs ≡ xs
   none_changed test change [] h = refl

@@ -32,7 +32,8 @@ use Rattle.pa_region.specs.Shares.{IsSound, byte_word_count, adds, CountTells, I
 use Rattle.pa_region.proofs.Entering.{least_noted}
 use Rattle.pa_region.proofs.Bytes.{bytes_word, held_in_all, place_below}
 use Rattle.pa_region.proofs.Found.{handle_held, count_can, count_found}
-use Rattle.pa_region.proofs.CountStep.{count_keeps, moved_stakes}
+use Rattle.pa_region.proofs.CountStep.{count_keeps}
+use Rattle.pa_region.proofs.MovedRest.{moved_stakes}
 use Rattle.pa_region.proofs.CountValues.{moved_long}
 use Rattle.pa_region.proofs.LookStep.{look_keeps, look_holds}
 

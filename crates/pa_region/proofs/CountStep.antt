@@ -21,7 +21,6 @@ use Rattle.pa_machine.proofs.Amounts.{returned_cases, own_self}
 use Rattle.pa_machine.proofs.Happening.{happens_good}
 use Rattle.pa_region.specs.declared.view.OwnTitle.{OwnTitle}
 use Rattle.pa_region.specs.declared.view.Entry.{Entry}
-use Rattle.pa_region.specs.declared.view.Entry.TheVariants.{Counted}
 use Rattle.pa_region.specs.declared.view.View.{View}
 use Rattle.pa_region.specs.Views.{held_of_view, byte_words, shown, idle_of, idle_in, budget_in, low_in, uncut_in, stake_of, stakes_in, logged_of, logged_in, counted, counted_on, names, seen_among, HasStake}
 use Rattle.pa_region.specs.History.{reached}
@@ -38,6 +37,8 @@ use Rattle.pa_region.proofs.Idle.{moved_idle_other, idle_within, copy_idle}
 use Rattle.pa_region.proofs.Bytes.{bytes_set, held_in_all, place_below}
 use Rattle.pa_region.proofs.Stays.{low_set, uncut_set, stakes_set, low_raw}
 use Rattle.pa_region.proofs.Found.{handle_held, count_can}
+use Rattle.pa_region.proofs.MovedRest.{moved_raws, moved_stakes, moved_uncut, moved_seen, entry_of}
+use Rattle.pa_region.proofs.ReadsCount.{reads_count}
 use Rattle.pa_region.proofs.CountEvent.{count_event, count_content}
 use Rattle.pa_region.proofs.CountValues.{count_values}
 
@@ -59,38 +60,6 @@ count_step_of step t words views i v k at_i can =
             omega arith;
       },
     )
-
--- a counted step leaves the rest of its view to the entry
-moved_raws : (step : Step) (t : Title) (word : ℕ) (v : View) → (moved step t word v).raws ≡ v.raws
-moved_raws Issue t word v = refl
-moved_raws Copy t word v = refl
-moved_raws Reset t word v = refl
-moved_raws Free t word v = refl
-moved_raws Write t word v = refl
-
--- its stakes
-pub moved_stakes : (step : Step) (t : Title) (word : ℕ) (v : View) → (moved step t word v).stakes ≡ v.stakes
-moved_stakes Issue t word v = refl
-moved_stakes Copy t word v = refl
-moved_stakes Reset t word v = refl
-moved_stakes Free t word v = refl
-moved_stakes Write t word v = refl
-
--- its uncut titles
-moved_uncut : (step : Step) (t : Title) (word : ℕ) (v : View) → (moved step t word v).uncut ≡ v.uncut
-moved_uncut Issue t word v = refl
-moved_uncut Copy t word v = refl
-moved_uncut Reset t word v = refl
-moved_uncut Free t word v = refl
-moved_uncut Write t word v = refl
-
--- what it has seen
-moved_seen : (step : Step) (t : Title) (word : ℕ) (v : View) → (moved step t word v).seen ≡ v.seen
-moved_seen Issue t word v = refl
-moved_seen Copy t word v = refl
-moved_seen Reset t word v = refl
-moved_seen Free t word v = refl
-moved_seen Write t word v = refl
 
 -- where a count is known to be 0 after the step on its title, it is
 idle_here : (step : Step) (t : Title) (words after : List ℕ) (views : List View) (i : ℕ) (v w : View) → IsKept words views → get_elem? views i ≡ some v →
@@ -134,10 +103,6 @@ idle_here Copy t words after views i v w k at_i has can owns few held some_idle 
       | inr n ↦ omega arith
     ]) in
     absurd (omega arith)
-
--- the entry of a counted step
-abbrev pub entry_of : Step → Title → ℕ → View → Entry
-entry_of step t word v = Counted t step word (value_of step t v)
 
 -- the logs of the view after a counted step have its entry more
 count_logged : (step : Step) (t : Title) (word : ℕ) (v : View) → HasStake v → (weight : Entry → ℕ) →
@@ -188,6 +153,7 @@ count_keeps step t words views i v k at_i can =
           k.history (logged_in views) (logged_in (set views i w)) (stakes_in views) (stakes_in (set views i w)) k.logs k.holders x.1
           (logged_grows views) more (stakes_set views i v w at_i (count_stakes step t word v can.1)));
       content = count_content step t words views i v k at_i can;
+      reads = reads_count step t words views i v k at_i can k.reads;
       seen = seen_entered views i v w (logged_in views) (logged_in (set views i w)) (entry_of step t word v) t (number_of word + 1) at_i
           (ap (λ ss. note t (number_of word + 1) ∷ ss) (moved_seen step t word v))
           (count_logged step t word v can.1) more

@@ -15,6 +15,7 @@ pub mod HolderPart
 pub mod Idle
 pub mod LogPart
 pub mod LookStep
+pub mod MovedRest
 pub mod OneRead
 pub mod OneTitle
 pub mod Opens
@@ -24,6 +25,7 @@ pub mod PoisonStep
 pub mod PoisonedOwns
 pub mod Readings
 pub mod ReadsCount
+pub mod ReadsFirst
 pub mod ReadsSame
 pub mod Releases
 pub mod ReservationPart

@@ -23,7 +23,7 @@ use Rattle.pa_region.specs.Rule.{IsKept}
 use Rattle.pa_region.specs.Moves.{changed, is_own_of, idle_if, after_look}
 use Rattle.pa_region.specs.Shares.{count_offset}
 use Rattle.pa_region.proofs.Adding.{sum_set, one_lt}
-use Rattle.pa_region.proofs.Pieces.{title_held, held_split, total_set, unchanged_sum, owns_have}
+use Rattle.pa_region.proofs.Pieces.{title_held, held_title, held_split, total_set, unchanged_sum, owns_have}
 use Rattle.pa_region.proofs.HolderPart.{holders_same}
 use Rattle.pa_region.proofs.ReservationPart.{reservations_count}
 use Rattle.pa_region.proofs.LogPart.{logs_look, reached_number}
@@ -34,6 +34,7 @@ use Rattle.pa_region.proofs.Bytes.{held_in_all}
 use Rattle.pa_region.proofs.Shown.{shown_actor, map_same}
 use Rattle.pa_region.proofs.CountEvent.{title_in_core}
 use Rattle.pa_region.proofs.Stays.{low_set, uncut_set, stakes_set, low_raw}
+use Rattle.pa_region.proofs.ReadsSame.{reads_look}
 use Rattle.pa_region.proofs.ValuePart.{values_same}
 
 -- a look changes nothing of what its view holds
@@ -146,6 +147,7 @@ look_keeps t words views i v k at_i mine has =
       logs = logs_look t (byte_words words) (total_of (shown words views)) _ k.history (logged_in views) (logged_in (set views i w)) (stakes_in views) (stakes_in (set views i w))
           k.logs held back more (stakes_set views i v w at_i (λ n. noted_stakes (Looked t word) v.stakes n has));
       content = rw (look_shown t words views i v at_i) k.content;
+      reads = reads_look t words views i v k at_i (held_title v t mine) has k.reads;
       seen = seen_entered views i v w (logged_in views) (logged_in (set views i w)) (Looked t word) t (number_of word) at_i refl
           (look_logged t word v has) more
           (let m = more (counted_on t) in

@@ -1,4 +1,11 @@
 -- What the rule says of one title.
+use Rattle.std.specs.List.{sum_by}
+use Rattle.pa_machine.specs.Holdings.{OwnOf}
+use Rattle.pa_machine.specs.Titles.{count_word}
+use Rattle.pa_machine.proofs.Arith.{held_small}
+use Rattle.pa_region.specs.Views.{byte_words, held_of_view, own_of}
+use Rattle.pa_region.proofs.Adding.{sum_same}
+use Rattle.pa_region.proofs.Pieces.{total_sum, owns_have}
 use Rattle.std.proofs.Common.{◌≡◌, ℕ, ◌<◌, ◌≤◌, List, [], ◌∷◌, length, refl, sym, ◌∙◌, ap, arith, inl, inr}
 use Rattle.pa_machine.specs.declared.title.Title.{Title}
 use Rattle.pa_machine.specs.Count.{number_of}
@@ -40,3 +47,12 @@ unnamed_new words views t k held none = k.logs.last t held ∙ go (k.history t) 
     go : (hs : List Done) → length hs ≡ 0 → reached hs ≡ 0
     go [] e = refl
     go (d ∷ older) e = absurd (omega arith)
+
+-- it has at most one Own
+pub few_owns : (words : List ℕ) (views : List View) (t : Title) → IsKept words views → IsTitleHeld (total_of (shown words views)) t → sum_by (λ u. own_of u t) views ≤ 1
+few_owns words views t k held =
+    let a = total_sum words views (OwnOf t) in
+    let s = sum_same (λ u. held_of_view u (OwnOf t)) (λ u. own_of u t) views (λ u. owns_have u t) in
+    let p = (k.holders.good.counted t held).owns in
+    let small = held_small (count_word (byte_words words) t) in
+    omega arith

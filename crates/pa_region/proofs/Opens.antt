@@ -27,6 +27,7 @@ use Rattle.pa_region.specs.Views.{raw_piece, held_of_view, byte_words, shown, le
 use Rattle.pa_region.specs.Rule.{IsKept}
 use Rattle.pa_region.specs.Shares.{IsSound, byte_word_count}
 use Rattle.pa_region.specs.Start.{AreApart, AreWellFormed, is_covered, blank, raw_word, rest_from, stakes_from, first_view}
+use Rattle.pa_region.proofs.ReadsFirst.{reads_first}
 use Rattle.pa_region.proofs.Adding.{sum_none, one_lt, one_eq}
 use Rattle.pa_region.proofs.Pieces.{held_split, frees_have, title_held}
 
@@ -339,6 +340,7 @@ opens words budget titles few well apart = record {
     clean = λ t has. let p = (tally_of (shown all_words views).holdings).part t Clean in let z = owns_total t in absurd (omega arith);
     beyond = λ t j many has. let z = refs_total t in absurd (omega arith);
   };
+  reads = reads_first words budget titles (byte_words all_words);
   seen = record {
     numbers = λ t. refl;
     own_logs = refl;

@@ -23,12 +23,14 @@ use Rattle.pa_region.specs.Views.{own_piece, held_of_view, byte_words, shown, ow
 use Rattle.pa_region.specs.History.{content_of}
 use Rattle.pa_region.specs.Rule.{IsKept}
 use Rattle.pa_region.specs.Moves.{is_own_of}
+use Rattle.pa_region.specs.Waiting.{is_poisoned}
 use Rattle.pa_region.specs.Stores.{poisoned_to, after_poison, own_to, CanPoison}
-use Rattle.pa_region.proofs.Adding.{IsFirst, one_and, first_of, changed_sum}
+use Rattle.pa_region.proofs.Adding.{IsFirst, one_and, one_small, first_of, changed_sum}
 use Rattle.pa_region.proofs.Pieces.{held_split, owns_have, found_title, first_own}
 use Rattle.pa_region.proofs.Bytes.{bytes_set, held_in_all}
 use Rattle.pa_region.proofs.Shown.{shown_actor, shown_held, is_after}
 use Rattle.pa_region.proofs.CountEvent.{content_covered}
+use Rattle.pa_region.proofs.PoisonedOwns.{sum_grows}
 use Rattle.pa_region.proofs.WriteStep.{IsWrite, write_keeps}
 use Rattle.pa_region.proofs.StoreStep.{content_no_count, title_below}
 
@@ -105,7 +107,15 @@ poison_write t j words views i v k at_i can =
       stakes = refl;
       uncut = refl;
       seen = refl;
+      handed = refl;
+      poisoned = λ u. sum_grows (λ (o : OwnTitle). one (same_title o.title u && is_poisoned o.state)) (is_own_of t) (poisoned_to (j + 1)) v.owns
+          (λ place_in_list o at_place here. poisoned_more (same_title o.title u) o.state);
+      unclean = λ some_own. can.2;
     }
+  where
+    poisoned_more : (b : Bool) (a : OwnState) → one (b && is_poisoned a) ≤ one (b && true)
+    poisoned_more true a = one_small (is_poisoned a)
+    poisoned_more false a = omega arith
 
 -- what it changes of the view's holdings
 poison_changes : (t : Title) (j : ℕ) (v : View) → 0 < own_of v t →

@@ -17,7 +17,7 @@ use Rattle.pa_machine.specs.Holdings.{one}
 use Rattle.pa_machine.proofs.Same.{title_tells}
 use Rattle.pa_region.specs.declared.view.OwnTitle.{OwnTitle}
 use Rattle.pa_region.specs.declared.view.View.{View}
-use Rattle.pa_region.specs.Views.{own_of, stake_of}
+use Rattle.pa_region.specs.Views.{own_of, own_as, stake_of}
 use Rattle.pa_region.specs.Moves.{changed, without, is_own_of, busy, written, idle_if, HasHandle, moved}
 use Rattle.pa_region.specs.Frees.{is_free}
 use Rattle.pa_region.specs.Waiting.{is_poisoned, poisoned_of, poisoned_apart}
@@ -32,6 +32,15 @@ module _ {A : Type 0} where
   sum_changed f test change (x ∷ xs) same = elim (cases_Bool (test x)) [
     | inl y ↦ let e = same x y in rw y (omega (arith, sum_by-cons f x xs, sum_by-cons f (change x) xs))
     | inr n ↦ let again = sum_changed f test change xs same in rw n (omega (arith, sum_by-cons f x xs, sum_by-cons f x (changed test change xs)))
+  ]
+
+  -- and one in which it weighs no less
+  pub sum_grows : (f : A → ℕ) (test : A → Bool) (change : A → A) (xs : List A) → ((j : ℕ) (x : A) → get_elem? xs j ≡ some x → test x ≡ true → f x ≤ f (change x)) →
+      sum_by f xs ≤ sum_by f (changed test change xs)
+  sum_grows f test change [] more = omega arith
+  sum_grows f test change (x ∷ xs) more = elim (cases_Bool (test x)) [
+    | inl y ↦ let e = more 0 x refl y in rw y (omega (arith, sum_by-cons f x xs, sum_by-cons f (change x) xs))
+    | inr n ↦ let again = sum_grows f test change xs (λ j y at_j. more (suc j) y at_j) in rw n (omega (arith, sum_by-cons f x xs, sum_by-cons f x (changed test change xs)))
   ]
 
   -- and one in which a member that passes it, and weighs nothing, is left out
@@ -83,6 +92,10 @@ unpoisoned t (o ∷ os) =
     go true (Poisoned j) = omega arith
     go false a = omega arith
 
+-- so the one Own of a title, where it is clean or dirty, isn't poisoned
+pub none_poisoned : (v : View) (t : Title) → 0 < own_as v t Clean + own_as v t Dirty → own_of v t ≤ 1 → poisoned_of v t ≡ 0
+none_poisoned v t unfrozen few = let all = unpoisoned t v.owns in omega arith
+
 -- a poisoned Own stays one over a counted step of its view, but for a Free of its title
 pub poisoned_moved : (step : Step) (t u : Title) (word : ℕ) (v : View) → HasHandle step t v → own_of v t ≤ 1 → (t ≡ u → is_free step ≡ false) →
     poisoned_of v u ≤ poisoned_of (moved step t word v) u
@@ -98,9 +111,7 @@ poisoned_moved Free t u word v has few other =
     omega arith
 poisoned_moved Write t u word v has few other = elim (title_tells t u) [
   | inl y ↦
-      let all = unpoisoned t v.owns in
-      let opened = has.1 in
-      let none : poisoned_of v t ≡ 0 = omega arith in
+      let none = none_poisoned v t has.1 few in
       let here : poisoned_of v u ≡ 0 = ap (poisoned_of v) (sym y.1) ∙ none in
       omega arith
   | inr n ↦

@@ -1,6 +1,5 @@
 -- A counted step keeps what the rule says of reads.
 use Rattle.std.proofs.Common.{◌≡◌, ℕ, ◌+◌, ◌<◌, ◌≤◌, true, false, List, Some, length, set, refl, sym, ◌∙◌, ap, subst, arith, inl, inr, eqb}
-use Rattle.std.specs.List.{sum_by}
 use Rattle.std.proofs.lemmas.Bool.{cases_Bool, eq-eqb, true≢false}
 use Rattle.std.proofs.lemmas.List.{get_or-set_other, get_or-set_same}
 use mathlib.Core.Option.{some}
@@ -13,7 +12,6 @@ use Rattle.pa_machine.specs.declared.title.OwnState.TheVariants.{Poisoned}
 use Rattle.pa_machine.specs.Titles.{content_count, count_place, count_word}
 use Rattle.pa_machine.specs.Holdings.{FreeTitle, OwnOf, RefOf, IsTitleHeld}
 use Rattle.pa_machine.specs.Events.{total_of}
-use Rattle.pa_machine.proofs.Arith.{held_small}
 use Rattle.pa_machine.proofs.Parts.{free_or, apart_words}
 use Rattle.pa_machine.proofs.Same.{title_tells, title_self}
 use Rattle.pa_region.specs.declared.view.Entry.TheVariants.{Looked}
@@ -24,14 +22,14 @@ use Rattle.pa_region.specs.Moves.{HasHandle, CanCount, noted, value_of, after_co
 use Rattle.pa_region.specs.Frees.{is_free}
 use Rattle.pa_region.specs.Pairs.{last_entry, weight_after, least_log, paired_in, paired_by, logged_by}
 use Rattle.pa_region.specs.Waiting.{gave_no_poison, quiet_read, poisoned_apart, IsReader, Reads}
-use Rattle.pa_region.proofs.Adding.{sum_part, sum_pair, sum_same}
+use Rattle.pa_region.proofs.Adding.{sum_part, sum_pair}
 use Rattle.pa_region.proofs.Pieces.{total_sum, held_within, frees_have, owns_have, refs_have, title_held, idle_owns, own_as_own}
 use Rattle.pa_region.proofs.Entering.{least_there, noted_stakes}
 use Rattle.pa_region.proofs.LogPart.{history_by}
 use Rattle.pa_region.proofs.Bytes.{bytes_set, bytes_length, held_in_all, place_below}
 use Rattle.pa_region.proofs.Found.{handle_held, count_can}
-use Rattle.pa_region.proofs.CountStep.{moved_stakes, entry_of}
-use Rattle.pa_region.proofs.OneTitle.{number_length}
+use Rattle.pa_region.proofs.MovedRest.{moved_stakes, entry_of}
+use Rattle.pa_region.proofs.OneTitle.{number_length, few_owns}
 use Rattle.pa_region.proofs.PairSums.{paired_set, paired_by_set, logged_by_set, logged_by_within, paired_by_within}
 use Rattle.pa_region.proofs.Readings.{gave_none_after, quiet_none_after, paired_looked}
 use Rattle.pa_region.proofs.Freeing.{IsCountedBy, look_within, right_counted}
@@ -85,15 +83,6 @@ others_keep Write t words views i j v u k at_i at_j ne can title =
 others_keep Copy t words views i j v u k at_i at_j ne can title = (λ e. absurd (cc), λ e. absurd (cc))
 others_keep Reset t words views i j v u k at_i at_j ne can title = (λ e. absurd (cc), λ e. absurd (cc))
 others_keep Free t words views i j v u k at_i at_j ne can title = (λ e. absurd (cc), λ e. absurd (cc))
-
--- the one Own of a title
-few_owns : (words : List ℕ) (views : List View) (t : Title) → IsKept words views → IsTitleHeld (total_of (shown words views)) t → sum_by (λ u. own_of u t) views ≤ 1
-few_owns words views t k held =
-    let a = total_sum words views (OwnOf t) in
-    let s = sum_same (λ u. held_of_view u (OwnOf t)) (λ u. own_of u t) views (λ u. owns_have u t) in
-    let p = (k.holders.good.counted t held).owns in
-    let small = held_small (count_word (byte_words words) t) in
-    omega arith
 
 -- a look that a view's log ends with is within its title's history
 pub last_within : (words : List ℕ) (views : List View) (j : ℕ) (u : View) (k : IsKept words views) → get_elem? views j ≡ some u → (t : Title) (found : ℕ) →

@@ -1,5 +1,5 @@
 -- A store is an enabled event of the core that is shown, and keeps the rule.
-use Rattle.std.proofs.Common.{◌≡◌, ℕ, ◌+◌, ◌-◌, ◌*◌, ◌/◌, ◌%◌, ◌<◌, true, false, ◌&&◌, List, [], ◌∷◌, length, set, refl, sym, ◌∙◌, ap, subst, arith, ◌⊎◌, inl, inr}
+use Rattle.std.proofs.Common.{◌≡◌, ℕ, ◌+◌, ◌-◌, ◌*◌, ◌/◌, ◌%◌, ◌<◌, ◌≤◌, true, false, ◌&&◌, List, [], ◌∷◌, length, set, refl, sym, ◌∙◌, ap, subst, arith, ◌⊎◌, inl, inr}
 use Rattle.std.specs.List.{sum_by}
 use Rattle.std.proofs.lemmas.List.Sums.{sum_by-le-sum_by}
 use Rattle.std.proofs.lemmas.Bool.{cases_lt, lt-ltb, le-ltb, le-leb, lt-leb, true≢false}
@@ -19,10 +19,11 @@ use Rattle.pa_machine.proofs.Happening.{own_state_is, happens_good}
 use Rattle.pa_machine.proofs.Noting.{keeps_content}
 use Rattle.pa_region.specs.declared.view.OwnTitle.{OwnTitle}
 use Rattle.pa_region.specs.declared.view.View.{View}
-use Rattle.pa_region.specs.Views.{own_piece, held_of_view, byte_words, shown, free_of, own_of, idle_of, Knows}
+use Rattle.pa_region.specs.Views.{own_piece, held_of_view, byte_words, shown, free_of, own_of, idle_of, HasStake, Knows}
 use Rattle.pa_region.specs.History.{content_of}
 use Rattle.pa_region.specs.Rule.{IsKept}
 use Rattle.pa_region.specs.Moves.{changed}
+use Rattle.pa_region.specs.Waiting.{is_poisoned, poisoned_of, unclean_of}
 use Rattle.pa_region.specs.Stores.{has_content_at, dirty, after_store, HasRawWord, HasFreeContent, HasIdleContent, CanStore}
 use Rattle.pa_region.proofs.Adding.{IsFirst, sum_part, sum_zero, first_of, changed_sum, none_changed}
 use Rattle.pa_region.proofs.Pieces.{held_split, held_within, frees_have, owns_have, idle_owns}
@@ -30,6 +31,8 @@ use Rattle.pa_region.proofs.Bytes.{bytes_set, bytes_length, held_in_all}
 use Rattle.pa_region.proofs.Shown.{shown_actor, shown_held, is_after}
 use Rattle.pa_region.proofs.ValuePart.{raw_outside}
 use Rattle.pa_region.proofs.CountEvent.{open_state}
+use Rattle.pa_region.proofs.OneTitle.{few_owns}
+use Rattle.pa_region.proofs.PoisonedOwns.{sum_grows, none_poisoned}
 use Rattle.pa_region.proofs.WriteStep.{IsWrite, write_keeps}
 
 -- the test tells whether the word is a content word of the Own
@@ -113,47 +116,6 @@ store_holds at_byte value v x same =
     let c = changed_sum (has_content_at at_byte) dirty (λ o. amount x (own_piece o)) v.owns same in
     omega arith
 
--- a store is a write of a known word
-store_write : (at_byte value : ℕ) (words : List ℕ) (views : List View) (i : ℕ) (v : View) → IsKept words views → get_elem? views i ≡ some v →
-    CanStore at_byte v → IsWrite words views v (after_store at_byte value v) (at_byte / 8) value
-store_write at_byte value words views i v k at_i can = record {
-  knows = knows can.1;
-  below = below can.1;
-  content = λ t held e. no_count can.1 t held e;
-  known = refl;
-  raws = refl;
-  raw = λ b. store_holds at_byte value v (RawByte b) (λ o. refl);
-  free = λ t. store_holds at_byte value v (FreeTitle t) (λ o. refl);
-  own = λ t. store_holds at_byte value v (OwnOf t) (λ o. refl);
-  ref = λ t. store_holds at_byte value v (RefOf t) (λ o. refl);
-  idle = λ t. changed_sum (has_content_at at_byte) dirty (λ (o : OwnTitle). one (same_title o.title t && o.idle)) v.owns (λ o. refl);
-  budget = refl;
-  stakes = refl;
-  uncut = refl;
-  seen = refl;
-}
-  where
-    here : 8 * (at_byte / 8) ≡ at_byte
-    here = let a = can.0 in omega arith
-
-    owned : (t : Title) → 0 < idle_of v t → 0 < own_of v t
-    owned t some_idle = let h = idle_owns v t some_idle in let o = owns_have v t in omega arith
-
-    knows : HasRawWord v at_byte ⊎ (HasFreeContent v at_byte ⊎ HasIdleContent v at_byte) → Knows v (at_byte / 8)
-    knows (inl raw) = inl (subst (λ (b : ℕ). 0 < held_of_view v (RawByte b)) (sym here) (raw at_byte (omega arith) (omega arith)))
-    knows (inr (inl free)) = inr (inl (free.0, free.1, subst (λ (b : ℕ). Covers free.0 b) (sym here) (content_covers free.0 at_byte free.2)))
-    knows (inr (inr own)) = inr (inr (own.0, owned own.0 own.1, subst (λ (b : ℕ). IsContentOf own.0 b) (sym here) own.3))
-
-    below : HasRawWord v at_byte ⊎ (HasFreeContent v at_byte ⊎ HasIdleContent v at_byte) → at_byte / 8 < length words - 16
-    below (inl raw) = raw_below words views i v at_byte k at_i (raw at_byte (omega arith) (omega arith))
-    below (inr (inl free)) = title_below words views free.0 at_byte k (free_in_all words views i v free.0 at_i free.1) (content_covers free.0 at_byte free.2)
-    below (inr (inr own)) = title_below words views own.0 at_byte k (own_in_all words views i v own.0 at_i (owned own.0 own.1)) (content_covers own.0 at_byte own.3)
-
-    no_count : HasRawWord v at_byte ⊎ (HasFreeContent v at_byte ⊎ HasIdleContent v at_byte) → (t : Title) → IsTitleHeld (total_of (shown words views)) t → at_byte / 8 ≡ count_place t → ⊥
-    no_count (inl raw) t held e = raw_no_count words views i v t at_byte k at_i (raw at_byte (omega arith) (omega arith)) can.0 held e
-    no_count (inr (inl free)) t held e = content_no_count words views free.0 t at_byte k (free_in_all words views i v free.0 at_i free.1) free.2 can.0 held e
-    no_count (inr (inr own)) t held e = content_no_count words views own.0 t at_byte k (own_in_all words views i v own.0 at_i (owned own.0 own.1)) own.3 can.0 held e
-
 -- no Own of the view has the word, where it is raw, or in a free title
 plain_owns : (at_byte : ℕ) (words : List ℕ) (views : List View) (i : ℕ) (v : View) → IsKept words views → get_elem? views i ≡ some v →
     HasRawWord v at_byte ⊎ HasFreeContent v at_byte → changed (has_content_at at_byte) dirty v.owns ≡ v.owns
@@ -184,6 +146,83 @@ plain_owns at_byte words views i v k at_i plain =
           | inl y ↦ let z = y.0 in absurd (omega arith)
           | inr n ↦ let z = c.taken n in absurd (omega arith)
         ]
+
+-- a store is a write of a known word
+store_write : (at_byte value : ℕ) (words : List ℕ) (views : List View) (i : ℕ) (v : View) → IsKept words views → get_elem? views i ≡ some v →
+    CanStore at_byte v → IsWrite words views v (after_store at_byte value v) (at_byte / 8) value
+store_write at_byte value words views i v k at_i can = record {
+  knows = knows can.1;
+  below = below can.1;
+  content = λ t held e. no_count can.1 t held e;
+  known = refl;
+  raws = refl;
+  raw = λ b. store_holds at_byte value v (RawByte b) (λ o. refl);
+  free = λ t. store_holds at_byte value v (FreeTitle t) (λ o. refl);
+  own = λ t. store_holds at_byte value v (OwnOf t) (λ o. refl);
+  ref = λ t. store_holds at_byte value v (RefOf t) (λ o. refl);
+  idle = λ t. changed_sum (has_content_at at_byte) dirty (λ (o : OwnTitle). one (same_title o.title t && o.idle)) v.owns (λ o. refl);
+  budget = refl;
+  stakes = refl;
+  uncut = refl;
+  seen = refl;
+  handed = refl;
+  poisoned = λ u. poisoned_stay u can.1;
+  unclean = λ some_own. has_stake some_own can.1;
+}
+  where
+    here : 8 * (at_byte / 8) ≡ at_byte
+    here = let a = can.0 in omega arith
+
+    owned : (t : Title) → 0 < idle_of v t → 0 < own_of v t
+    owned t some_idle = let h = idle_owns v t some_idle in let o = owns_have v t in omega arith
+
+    knows : HasRawWord v at_byte ⊎ (HasFreeContent v at_byte ⊎ HasIdleContent v at_byte) → Knows v (at_byte / 8)
+    knows (inl raw) = inl (subst (λ (b : ℕ). 0 < held_of_view v (RawByte b)) (sym here) (raw at_byte (omega arith) (omega arith)))
+    knows (inr (inl free)) = inr (inl (free.0, free.1, subst (λ (b : ℕ). Covers free.0 b) (sym here) (content_covers free.0 at_byte free.2)))
+    knows (inr (inr own)) = inr (inr (own.0, owned own.0 own.1, subst (λ (b : ℕ). IsContentOf own.0 b) (sym here) own.3))
+
+    below : HasRawWord v at_byte ⊎ (HasFreeContent v at_byte ⊎ HasIdleContent v at_byte) → at_byte / 8 < length words - 16
+    below (inl raw) = raw_below words views i v at_byte k at_i (raw at_byte (omega arith) (omega arith))
+    below (inr (inl free)) = title_below words views free.0 at_byte k (free_in_all words views i v free.0 at_i free.1) (content_covers free.0 at_byte free.2)
+    below (inr (inr own)) = title_below words views own.0 at_byte k (own_in_all words views i v own.0 at_i (owned own.0 own.1)) (content_covers own.0 at_byte own.3)
+
+    no_count : HasRawWord v at_byte ⊎ (HasFreeContent v at_byte ⊎ HasIdleContent v at_byte) → (t : Title) → IsTitleHeld (total_of (shown words views)) t → at_byte / 8 ≡ count_place t → ⊥
+    no_count (inl raw) t held e = raw_no_count words views i v t at_byte k at_i (raw at_byte (omega arith) (omega arith)) can.0 held e
+    no_count (inr (inl free)) t held e = content_no_count words views free.0 t at_byte k (free_in_all words views i v free.0 at_i free.1) free.2 can.0 held e
+    no_count (inr (inr own)) t held e = content_no_count words views own.0 t at_byte k (own_in_all words views i v own.0 at_i (owned own.0 own.1)) own.3 can.0 held e
+
+    -- of the Own whose content it is, no state is a poisoned one
+    unpoisoned : (own : HasIdleContent v at_byte) → (u : Title) (j : ℕ) (o : OwnTitle) → get_elem? v.owns j ≡ some o → has_content_at at_byte o ≡ true →
+        one (same_title o.title u && is_poisoned o.state) ≡ 0
+    unpoisoned own u j o at_j here = elim (content_test at_byte o) [
+      | inl y ↦
+          let t = own.0 in
+          let mine = owned t own.1 in
+          let held = own_in_all words views i v t at_i mine in
+          let same = k.holders.good.divided.apart o.title t at_byte (own_in_all words views i v o.title at_i (own_member v j o at_j)) held
+          (content_covers o.title at_byte y.1) (content_covers t at_byte own.3) in
+          let few = few_owns words views t k held in
+          let few_here : own_of v t ≤ 1 = let p = sum_part (λ x. own_of x t) views i v at_i in omega arith in
+          let none = none_poisoned v t own.2 few_here in
+          let p = sum_part (λ (x : OwnTitle). one (same_title x.title t && is_poisoned x.state)) v.owns j o at_j in
+          elim (title_tells o.title u) [
+            | inl z ↦ subst (λ (x : Title). one (same_title o.title x && is_poisoned o.state) ≡ 0) (sym same ∙ z.1) (omega arith)
+            | inr n ↦ rw n.0 refl
+          ]
+      | inr n ↦ absurd (true≢false (sym here ∙ n.0))
+    ]
+
+    poisoned_stay : (u : Title) → HasRawWord v at_byte ⊎ (HasFreeContent v at_byte ⊎ HasIdleContent v at_byte) → poisoned_of v u ≤ poisoned_of (after_store at_byte value v) u
+    poisoned_stay u (inl raw) = rw (plain_owns at_byte words views i v k at_i (inl raw)) (omega arith)
+    poisoned_stay u (inr (inl free)) = rw (plain_owns at_byte words views i v k at_i (inr free)) (omega arith)
+    poisoned_stay u (inr (inr own)) =
+        sum_grows (λ (o : OwnTitle). one (same_title o.title u && is_poisoned o.state)) (has_content_at at_byte) dirty v.owns
+        (λ j o at_j here. let z = unpoisoned own u j o at_j here in omega arith)
+
+    has_stake : 0 < unclean_of (after_store at_byte value v) → HasRawWord v at_byte ⊎ (HasFreeContent v at_byte ⊎ HasIdleContent v at_byte) → HasStake v
+    has_stake some_own (inl raw) = (k.reads.each_view i v at_i).stake (rw (plain_owns at_byte words views i v k at_i (inl raw)) at some_own)
+    has_stake some_own (inr (inl free)) = (k.reads.each_view i v at_i).stake (rw (plain_owns at_byte words views i v k at_i (inr free)) at some_own)
+    has_stake some_own (inr (inr own)) = own.4
 
 -- what a store changes of the view's holdings
 plain_changes : (at_byte value : ℕ) (words : List ℕ) (views : List View) (i : ℕ) (v : View) → IsKept words views → get_elem? views i ≡ some v →

@@ -25,13 +25,12 @@ use Rattle.pa_region.specs.History.{Done}
 use Rattle.pa_region.specs.Pairs.{pairs, amount_by, paired_of, paired_in, paired_of_by}
 use Rattle.pa_region.specs.Waiting.{is_quiet, is_poisoned, is_unclean, poisoned_of, unclean_of, poisoned_apart, gave_no_poison, quiet_read, Reads}
 use Rattle.pa_region.specs.AllReads.{HasReads, AreReadsRight}
-use Rattle.pa_region.proofs.Adding.{sum_part, one_lt, one_eq, sum_pair}
-use Rattle.pa_region.proofs.Ends.{sum_alone}
+use Rattle.pa_region.proofs.Adding.{sum_alone, sum_part, one_lt, one_eq, sum_pair}
 use Rattle.pa_region.proofs.Entering.{least_there}
 use Rattle.pa_region.proofs.PairSums.{pair_at, by_none}
 
 -- no stake of any number has an amount
-any_none : (amount : List Entry → ℕ) (ss : List Stake) → ((k : ℕ) → sum_by (λ (s : Stake). one (eqb s.number k)) ss ≡ 0) → sum_by (λ (s : Stake). amount s.log) ss ≡ 0
+pub any_none : (amount : List Entry → ℕ) (ss : List Stake) → ((k : ℕ) → sum_by (λ (s : Stake). one (eqb s.number k)) ss ≡ 0) → sum_by (λ (s : Stake). amount s.log) ss ≡ 0
 any_none amount [] none = refl
 any_none amount (s ∷ ss) none =
     let c = sum_by-cons (λ (x : Stake). one (eqb x.number s.number)) s ss in

@@ -1,5 +1,5 @@
 -- A step that writes one known word, which is no count word, keeps the rule where it keeps the core good and its contents.
-use Rattle.std.proofs.Common.{◌≡◌, ℕ, ◌-◌, ◌*◌, ◌<◌, List, length, set, refl, sym, ◌∙◌, ap, subst, arith, inl, inr}
+use Rattle.std.proofs.Common.{◌≡◌, ℕ, ◌-◌, ◌*◌, ◌<◌, ◌≤◌, List, length, set, refl, sym, ◌∙◌, ap, subst, arith, inl, inr}
 use Rattle.std.specs.Prelude.{slice_index, ◌==◌}
 use Rattle.std.specs.List.{sum_by}
 use Rattle.std.proofs.lemmas.List.{length-set, get_or-set_same, get_or-set_other}
@@ -14,11 +14,13 @@ use Rattle.pa_machine.specs.Trail.{KeepsContent}
 use Rattle.pa_region.specs.declared.view.Entry.{Entry}
 use Rattle.pa_region.specs.declared.view.Stake.{Stake}
 use Rattle.pa_region.specs.declared.view.View.{View}
-use Rattle.pa_region.specs.Views.{held_of_view, byte_words, shown, Knows, idle_of, idle_in, budget_in, low_in, uncut_in, stakes_in, logged_of, logged_in, ahead_of, ahead_in, unseen_of, unseen_in, counted, counted_on, names}
+use Rattle.pa_region.specs.Views.{held_of_view, byte_words, shown, Knows, idle_of, idle_in, budget_in, low_in, uncut_in, stakes_in, logged_of, logged_in, HasStake, ahead_of, ahead_in, unseen_of, unseen_in, counted, counted_on, names}
 use Rattle.pa_region.specs.History.{content_of}
+use Rattle.pa_region.specs.Waiting.{poisoned_of, unclean_of}
 use Rattle.pa_region.specs.Rule.{IsKept, Values}
 use Rattle.pa_region.proofs.Adding.{sum_set}
-use Rattle.pa_region.proofs.Pieces.{total_set, frees_have, owns_have}
+use Rattle.pa_region.proofs.Pieces.{title_held, held_title, total_set, frees_have, owns_have}
+use Rattle.pa_region.proofs.ReadsSame.{reads_other}
 use Rattle.pa_region.proofs.HolderPart.{holders_written}
 use Rattle.pa_region.proofs.ReservationPart.{reservations_same}
 use Rattle.pa_region.proofs.LogPart.{logs_same}
@@ -29,7 +31,7 @@ use Rattle.pa_region.proofs.Stays.{low_set, uncut_set, stakes_set}
 use Rattle.pa_region.proofs.ValuePart.{ShownGood, knows_apart, values_step}
 
 -- The view v knows the word p, which is no held title's count word, and becomes w: it knows the value x there, and holds
--- the same but for the states of its Owns.
+-- the same but for the states of its Owns: what was poisoned stays so, and only with a stake is one unclean.
 pub record IsWrite (words : List ℕ) (views : List View) (v w : View) (p x : ℕ) : Type 0 where
   pub knows : Knows v p
   pub below : p < length words - 16
@@ -45,6 +47,9 @@ pub record IsWrite (words : List ℕ) (views : List View) (v w : View) (p x : �
   pub stakes : w.stakes ≡ v.stakes
   pub uncut : w.uncut ≡ v.uncut
   pub seen : w.seen ≡ v.seen
+  pub handed : w.since.handed ≡ v.since.handed
+  pub poisoned : (t : Title) → poisoned_of v t ≤ poisoned_of w t
+  pub unclean : 0 < unclean_of w → HasStake w
 
 -- what it knows after the step it knew before
 knows_back : (words : List ℕ) (views : List View) (v w : View) (p x q : ℕ) → IsWrite words views v w p x → Knows w q → Knows v q
@@ -96,6 +101,13 @@ write_keeps words views i v w p x k at_i h good content =
           (logged_in views) (logged_in (set views i w)) (stakes_in views) (stakes_in (set views i w)) k.logs back word logs
           (stakes_set views i v w at_i (λ n. ap (λ (ss : List Stake). sum_by (λ (s : Stake). one (s.number == n)) ss) h.stakes)));
       content = content;
+      reads = reads_other k.history words (set words p x) views i v w at_i k.reads h.stakes
+          (λ t has.
+          let a = h.free t in let b = h.own t in let c = h.ref t in
+          let held = title_held v t has in
+          held_title w t (omega arith))
+          (λ quiet. sym h.handed ∙ quiet) h.unclean h.poisoned
+          (λ t held. rw at_place (word t held));
       seen = seen_same (logged_in views) (logged_in (set views i w)) (ahead_in views) (ahead_in (set views i w)) (unseen_in views) (unseen_in (set views i w)) k.seen
           (λ t. logs (counted_on t))
           (λ t n. let c = sum_set (λ u. ahead_of u t n) views i v w at_i in let e : ahead_of w t n ≡ ahead_of v t n = rw h.seen refl in omega arith)
