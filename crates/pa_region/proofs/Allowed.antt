@@ -28,7 +28,7 @@ use Rattle.atomic_table.specs.Seated.{TableId}
 use Rattle.atomic_table.proofs.Lists.{set_again}
 use Rattle.pa_machine.proofs.Parts.{word_covered}
 use Rattle.pa_region.specs.Views.{least_stake}
-use Rattle.pa_region.specs.Shares.{IsSound, byte_word_count, adds, CountTells, IsUser, count_offset, CanLoad, LoadTells}
+use Rattle.pa_region.specs.Shares.{IsSound, byte_word_count, adds, CountTells, IsUser}
 use Rattle.pa_region.proofs.Entering.{least_noted}
 use Rattle.pa_region.proofs.Bytes.{bytes_word, held_in_all, place_below}
 use Rattle.pa_region.proofs.Found.{handle_held, count_can, count_found}
@@ -80,15 +80,15 @@ same_by_word words views t u k held other e =
     (word_covered (length (byte_words words)) u (count_place u) (k.holders.good.divided.well u other) (omega arith, omega arith)))
 
 -- a title that a view uses or holds free is held
-user_held : (t : Title) (v : View) → IsUser t v → IsTitleHeld (held_of_view v) t
+pub user_held : (t : Title) (v : View) → IsUser t v → IsTitleHeld (held_of_view v) t
 user_held t v has = title_held v t (omega arith)
 
 -- so is a title that it holds free
-free_held : (t : Title) (v : View) → 0 < free_of v t → IsTitleHeld (held_of_view v) t
+pub free_held : (t : Title) (v : View) → 0 < free_of v t → IsTitleHeld (held_of_view v) t
 free_held t v has = title_held v t (omega arith)
 
 -- a title that a view holds free has a free word, so that nobody has a handle of it
-free_word : (t : Title) (words : List ℕ) (views : List View) (i : ℕ) (v : View) → IsKept words views → get_elem? views i ≡ some v →
+pub free_word : (t : Title) (words : List ℕ) (views : List View) (i : ℕ) (v : View) → IsKept words views → get_elem? views i ≡ some v →
     0 < free_of v t → IsFree (count_word (byte_words words) t)
 free_word t words views i v k at_i mine =
     let held = held_in_all words views i v t at_i (free_held t v mine) in
@@ -98,7 +98,7 @@ free_word t words views i v k at_i mine =
     elim (free_or (count_word (byte_words words) t)) [ inl y ↦ y | inr n ↦ let z = word.taken n in absurd (omega arith) ]
 
 -- who holds a title free has no handle of it
-free_alone : (t : Title) (words : List ℕ) (views : List View) (i : ℕ) (v : View) → IsKept words views → get_elem? views i ≡ some v →
+pub free_alone : (t : Title) (words : List ℕ) (views : List View) (i : ℕ) (v : View) → IsKept words views → get_elem? views i ≡ some v →
     0 < free_of v t → IsUser t v → ⊥
 free_alone t words views i v k at_i mine has =
     let z = free_word t words views i v k at_i mine in
@@ -106,66 +106,6 @@ free_alone t words views i v k at_i mine has =
     let a = z.0 in let b = z.1 in
     let o = found.owns in let r = found.refs in
     absurd (omega arith)
-
--- what the load of a count word tells, of the one title whose word it is
-load_free : (at_byte : ℕ) (t : Title) (words : List ℕ) (views : List View) (i : ℕ) (v : View) → IsKept words views → get_elem? views i ≡ some v →
-    at_byte ≡ count_offset t → 0 < free_of v t → LoadTells at_byte v (count_word (byte_words words) t) v
-load_free at_byte t words views i v k at_i at_word mine u at_other =
-    let place : count_place t ≡ count_place u = omega arith in (
-      (λ free.
-          let same = same_by_word words views t u k (held_in_all words views i v t at_i (free_held t v mine)) (held_in_all words views i v u at_i (free_held u v free)) place in (
-            refl,
-            free_word t words views i v k at_i mine,
-            subst (λ (z : Title). IsFound z (count_word (byte_words words) t) v) same (count_found t words views i v k at_i (free_held t v mine)),
-          )),
-      (λ has.
-          let same = same_by_word words views t u k (held_in_all words views i v t at_i (free_held t v mine)) (held_in_all words views i v u at_i (user_held u v has)) place in
-          absurd (free_alone t words views i v k at_i mine (subst (λ (z : Title). IsUser z v) (sym same) has))),
-    )
-
--- what a load tells of a title of which the view has a handle
-load_look : (at_byte : ℕ) (t : Title) (words : List ℕ) (views : List View) (i : ℕ) (v : View) → IsKept words views → get_elem? views i ≡ some v →
-    at_byte ≡ count_offset t → IsUser t v → LoadTells at_byte v (count_word (byte_words words) t) (after_look t (count_word (byte_words words) t) v)
-load_look at_byte t words views i v k at_i at_word mine u at_other =
-    let place : count_place t ≡ count_place u = omega arith in (
-      (λ free.
-          let same = same_by_word words views t u k (held_in_all words views i v t at_i (user_held t v mine)) (held_in_all words views i v u at_i (free_held u v free)) place in
-          absurd (free_alone u words views i v k at_i free (subst (λ (z : Title). IsUser z v) same mine))),
-      (λ has.
-          let same = same_by_word words views t u k (held_in_all words views i v t at_i (user_held t v mine)) (held_in_all words views i v u at_i (user_held u v has)) place in
-          subst (λ (z : Title). (after_look t (count_word (byte_words words) t) v ≡ after_look z (count_word (byte_words words) t) v) × IsFound z (count_word (byte_words words) t) v) same
-          (refl, count_found t words views i v k at_i (user_held t v mine))),
-    )
-
--- whatever the table is, a seat that may load the word may load it
-pub load_allowed : (at_byte slots id place : ℕ) (me : Me (Unit {0}) View) → place ≡ at_byte / 8 → CanLoad at_byte me.0 →
-    Allows (λ (s : TableState (Unit {0}) View). IsKept s.words s.views) slots id me place (λ n. n) (λ word after. LoadTells at_byte me.0 word after.0 × (after.1 ≡ me.1))
-load_allowed at_byte slots id place me at_place can s k homes at_id small =
-    let t = can.0 in
-    let at_word = can.1 in
-    let at_count : place ≡ count_place t = omega arith in
-    let mine : IsTitleHeld (held_of_view me.0) t = elim can.2 [ inl f ↦ free_held t me.0 f | inr h ↦ user_held t me.0 h.0 ] in
-    let held = held_in_all s.words s.views id me.0 t at_id mine in
-    let word = count_word (byte_words s.words) t in
-    let found : slice_index s.words place ≡ word = ap (λ p. get_or s.words p 0) at_count ∙ bytes_word s.words (count_place t) (place_below s.words s.views t k held) in
-    let unwritten : set s.words place (slice_index s.words place) ≡ s.words = set-get_or s.words place 0 in
-    elim can.2 [
-      | inl free ↦ (
-        me.0,
-        keeps,
-        tt,
-        subst (λ (ws : List ℕ). IsKept ws (set s.views id me.0)) (sym unwritten) (subst (λ (vs : List View). IsKept s.words vs) (sym (set_again s.views id me.0 at_id)) k),
-        (subst (λ (n : ℕ). LoadTells at_byte me.0 n me.0) (sym found) (load_free at_byte t s.words s.views id me.0 k at_id at_word free), refl),
-      )
-      | inr has ↦ (
-        after_look t (slice_index s.words place) me.0,
-        keeps,
-        tt,
-        subst (λ (ws : List ℕ). IsKept ws (set s.views id (after_look t (slice_index s.words place) me.0))) (sym unwritten)
-            (subst (λ (n : ℕ). IsKept s.words (set s.views id (after_look t n me.0))) (sym found) (look_keeps t s.words s.views id me.0 k at_id mine has.1)),
-        (subst (λ (n : ℕ). LoadTells at_byte me.0 n (after_look t n me.0)) (sym found) (load_look at_byte t s.words s.views id me.0 k at_id at_word has.0), refl),
-      )
-    ]
 
 -- what a seat's type keeps goes on: the view's titles lie in the region, and its least stake is the same
 pub count_sound : (region : TableId) (step : Step) (t : Title) (word : ℕ) (v : View) → CanCount step t v → IsSound region v → IsSound region (after_count step t word v)
@@ -231,18 +171,3 @@ place_inside region table t place same well e =
     let a = well.start_aligned in let b = well.len_aligned in let c = well.long in let d = well.inside in
     let f : region.words ≡ table.words = ap (λ (z : TableId). z.words) same in
     omega arith
-
--- a load of a count word leaves what a seat's type keeps
-pub load_keeps : (at_byte : ℕ) (region : TableId) (v after : View) (word : ℕ) → CanLoad at_byte v → LoadTells at_byte v word after → IsSound region v →
-    IsSound region after × (least_stake after.stakes ≡ least_stake v.stakes)
-load_keeps at_byte region v after word can told sound =
-    elim can.2 [
-      | inl free ↦
-          let same = ((told can.0 can.1).0 free).0 in
-          (subst (λ (w : View). IsSound region w) (sym same) sound, ap (λ (w : View). least_stake w.stakes) same)
-      | inr has ↦
-          let same = ((told can.0 can.1).1 has.0).0 in (
-            subst (λ (w : View). IsSound region w) (sym same) (look_sound region can.0 word v sound),
-            ap (λ (w : View). least_stake w.stakes) same ∙ look_least can.0 word v,
-          )
-    ]

@@ -82,7 +82,7 @@ moved_beside Free t word v q out = go (is_back (stepped Free word))
 moved_beside Write t word v q out = refl
 
 -- a word of a title is its count word, or one of its content
-word_cases : (n : ℕ) (t : Title) (q : ℕ) → IsWellFormed n t → IsWordOf t q → (q ≡ count_place t) ⊎ ((i : ℕ) × (i < content_count t) × (q ≡ content_place t i))
+pub word_cases : (n : ℕ) (t : Title) (q : ℕ) → IsWellFormed n t → IsWordOf t q → (q ≡ count_place t) ⊎ ((i : ℕ) × (i < content_count t) × (q ≡ content_place t i))
 word_cases n t q well within =
     let low = within.0 in let high = within.1 in
     elim (cases_eq q (count_place t)) [

@@ -13,9 +13,11 @@ pub mod Found
 pub mod Freeing
 pub mod HolderPart
 pub mod Idle
+pub mod Loading
 pub mod LogPart
 pub mod LookStep
 pub mod MovedRest
+pub mod OneLog
 pub mod OneRead
 pub mod OneTitle
 pub mod Opens
@@ -23,6 +25,8 @@ pub mod PairSums
 pub mod Pieces
 pub mod PoisonStep
 pub mod PoisonedOwns
+pub mod ReadKeeps
+pub mod ReadStep
 pub mod Readings
 pub mod ReadsCount
 pub mod ReadsFirst

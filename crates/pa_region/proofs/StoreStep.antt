@@ -117,7 +117,7 @@ store_holds at_byte value v x same =
     omega arith
 
 -- no Own of the view has the word, where it is raw, or in a free title
-plain_owns : (at_byte : ℕ) (words : List ℕ) (views : List View) (i : ℕ) (v : View) → IsKept words views → get_elem? views i ≡ some v →
+pub plain_owns : (at_byte : ℕ) (words : List ℕ) (views : List View) (i : ℕ) (v : View) → IsKept words views → get_elem? views i ≡ some v →
     HasRawWord v at_byte ⊎ HasFreeContent v at_byte → changed (has_content_at at_byte) dirty v.owns ≡ v.owns
 plain_owns at_byte words views i v k at_i plain =
     none_changed (has_content_at at_byte) dirty v.owns (sum_zero (λ o. one (has_content_at at_byte o)) v.owns (λ j o at_j. elim (content_test at_byte o) [

@@ -13,6 +13,7 @@ use Rattle.pa_region.specs.declared.view.Entry.{Entry}
 use Rattle.pa_region.specs.declared.view.Made.{Made}
 use Rattle.pa_region.specs.declared.view.View.{View}
 use Rattle.pa_region.specs.Views.{byte_words, shown, Knows, idle_in, budget_in, low_in, uncut_in, stakes_in, logged_in, ahead_in, unseen_in, counted, counted_on, names}
+use Rattle.pa_region.specs.Waiting.{Reads}
 use Rattle.pa_region.specs.History.{Done, reached, content_of, IsChained}
 use Rattle.pa_region.specs.Waiting.{Reads}
 

@@ -51,19 +51,6 @@ IsUser t v = 0 < own_of v t + ref_of v t
 abbrev pub count_offset : Title → ℕ
 count_offset t = 8 * count_place t
 
--- a seat with this view may load the word at the offset: it is the count word of a title that it holds free; or the
--- count word of a title of which it has a handle, and it has a stake
-abbrev pub CanLoad : ℕ → View → Type 0
-CanLoad at_byte v = (t : Title) × (at_byte ≡ count_offset t) × ((0 < free_of v t) ⊎ (IsUser t v × HasStake v))
-
--- What such a load tells, of the title whose count word it is. Of a free title it finds a free word, and the view
--- stays; of another it is a look.
-abbrev pub LoadTells : ℕ → View → ℕ → View → Type 0
-LoadTells at_byte v word after =
-    (t : Title) → at_byte ≡ count_offset t →
-    (0 < free_of v t → (after ≡ v) × IsFree word × IsFound t word v) ×
-    (IsUser t v → (after ≡ after_look t word v) × IsFound t word v)
-
 -- A counted step was made that found this word: the seat is of the same region, its view is the one after the step,
 -- the step was enabled at the word, and the word is one that the view could find.
 pub record IsMade (step : Step) (t : Title) (word : ℕ) (before after : Share) : Type 0 where

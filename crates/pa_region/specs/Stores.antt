@@ -41,6 +41,10 @@ HasIdleContent v at_byte = (t : Title) × (0 < idle_of v t) × (0 < own_as v t C
 abbrev pub CanStore : ℕ → View → Type 0
 CanStore at_byte v = (at_byte % 8 ≡ 0) × (HasRawWord v at_byte ⊎ (HasFreeContent v at_byte ⊎ HasIdleContent v at_byte))
 
+-- what a store tells: of a raw word, or of the content of a free title, it leaves the view's Owns
+abbrev pub LeavesOwns : ℕ → View → View → Type 0
+LeavesOwns at_byte v after = HasRawWord v at_byte ⊎ HasFreeContent v at_byte → after.owns ≡ v.owns
+
 -- an Own with so many words poisoned
 abbrev pub poisoned_to : ℕ → OwnTitle → OwnTitle
 poisoned_to n o = record o { state = Poisoned n }

@@ -3,8 +3,9 @@ ghost use Rattle.atomic_table.specs.Seated.{TableId};
 ghost use Rattle.pa_machine.specs.Titles.{IsWellFormed, count_place, content_count, content_place};
 ghost use Rattle.pa_region.specs.Views.{HasTitle, HasStake, HasEveryStake, least_stake};
 ghost use Rattle.pa_region.specs.Moves.{CanCount};
-ghost use Rattle.pa_region.specs.Shares.{Share, IsSound, IsMade, byte_word_count, adds, CanLoad, LoadTells};
-ghost use Rattle.pa_region.specs.Stores.{CanStore, after_store, CanPoison, after_poison};
+ghost use Rattle.pa_region.specs.Shares.{Share, IsSound, IsMade, byte_word_count, adds};
+ghost use Rattle.pa_region.specs.Loads.{CanLoad, LoadTells};
+ghost use Rattle.pa_region.specs.Stores.{CanStore, after_store, LeavesOwns, CanPoison, after_poison};
 ghost use Rattle.pa_region.specs.Start.{AreApart, AreWellFormed, first_view, IsEnd};
 
 use crate::closed::Closed;
@@ -109,7 +110,8 @@ impl Region {
         Word(add_as::<Brand>(&self.table, &mut seat.seat, word, added(step), title, step))
     }
 
-    /// The word at the offset `at`, in bytes: a title's count word.
+    /// The word at the offset `at`, in bytes: a raw word, a word of a title that the seat holds free, or with a stake one
+    /// of a title of which it has a handle.
     pub fn load(&self, seat: &mut Seat, at: u32) -> u64
         requires region { seat.old.region ≡ self.now }
         requires able { CanLoad at seat.old.view }
@@ -127,6 +129,7 @@ impl Region {
         requires able { CanStore at seat.old.view }
         ensures region { seat.new.region ≡ seat.old.region }
         ensures view { seat.new.view ≡ after_store at value seat.old.view }
+        ensures owns { LeavesOwns at seat.old.view seat.new.view }
     {
         let _ = &seat.seat;
         store_as::<Brand>(&self.table, &mut seat.seat, (at / 8) as usize, value, at)

@@ -1,8 +1,15 @@
-use Rattle.std.proofs.Common.{◌/◌, ◌∙◌, refl, sym, subst}
+use Rattle.std.proofs.Common.{◌/◌, ◌∙◌, refl, sym, ap, subst}
 use Rattle.atomic_table.specs.Seated.{TableId}
-use Rattle.pa_region.specs.Shares.{Share, IsSound, CanLoad, LoadTells}
-use Rattle.pa_region.proofs.Allowed.{load_allowed, load_keeps}
+use Rattle.pa_region.specs.Shares.{Share, IsSound}
+use Rattle.pa_region.specs.Loads.{CanLoad, LoadTells}
+use Rattle.pa_region.proofs.Loading.{load_allowed, load_keeps, load_inside}
 use Rattle.pa_region.proofs.region.Region.load.Goals as goal
+
+pub load_as-requires-clause-region : goal.load_as-requires-clause-region
+load_as-requires-clause-region c =
+    let can = subst (λ (h : Share). CanLoad c.args.at h.view) (sym c.seat.view_is) c.requires.able in
+    let same = ap (λ (h : Share). h.region) c.seat.view_is ∙ (c.requires.region ∙ sym c.self.view_is) in
+    (same, load_inside c.seat.inside.seat.table_id c.self.inside.table.shared.table_id c.args.at (c.args.at / 8) c.seat.inside.seat.me.0 same c.seat.invariant.1 can refl)
 
 pub load_as-requires-clause-allowed : goal.load_as-requires-clause-allowed
 load_as-requires-clause-allowed c =

@@ -1,5 +1,5 @@
 use Rattle.std.specs.Prelude.{◌≡◌}
-use Rattle.pa_region.specs.Shares.{LoadTells}
+use Rattle.pa_region.specs.Loads.{LoadTells}
 use Rattle.pa_region.proofs.region.Region.load.Given as goal
 
 abbrev pub ghosts-load_as : goal.ghosts-load_as

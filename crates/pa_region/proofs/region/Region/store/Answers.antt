@@ -2,7 +2,7 @@ use Rattle.std.proofs.Common.{◌/◌, ◌∙◌, refl, sym, ap, subst}
 use Rattle.atomic_table.specs.Seated.{TableId}
 use Rattle.pa_region.specs.declared.view.View.{View}
 use Rattle.pa_region.specs.Views.{least_stake}
-use Rattle.pa_region.specs.Stores.{after_store, CanStore}
+use Rattle.pa_region.specs.Stores.{after_store, CanStore, LeavesOwns}
 use Rattle.pa_region.specs.Shares.{Share, IsSound}
 use Rattle.pa_region.proofs.Writing.{store_allowed, store_inside, store_sound}
 use Rattle.pa_region.proofs.region.Region.store.Goals as goal
@@ -20,7 +20,7 @@ store_as-requires-clause-allowed c =
 
 pub invariant_of-seat : goal.invariant_of-seat
 invariant_of-seat c =
-    let told = c.store_as.ensures.told in (
+    let told = c.store_as.ensures.told.0 in (
       told.1 ∙ c.seat.invariant.0,
       subst (λ (z : TableId). IsSound z c.store_as.new.seat.me.0) (sym c.store_as.ensures.seat.0)
           (subst (λ (w : View). IsSound c.seat.inside.seat.table_id w) (sym told.0) (store_sound c.seat.inside.seat.table_id c.args.at c.args.value c.seat.inside.seat.me.0 c.seat.invariant.1)),
@@ -31,4 +31,7 @@ pub returns-clause-region : goal.returns-clause-region
 returns-clause-region c = c.store_as.ensures.seat.0 ∙ ap (λ (h : Share). h.region) c.seat.view_is
 
 pub returns-clause-view : goal.returns-clause-view
-returns-clause-view c = c.store_as.ensures.told.0 ∙ ap (λ (h : Share). after_store c.args.at c.args.value h.view) c.seat.view_is
+returns-clause-view c = c.store_as.ensures.told.0.0 ∙ ap (λ (h : Share). after_store c.args.at c.args.value h.view) c.seat.view_is
+
+pub returns-clause-owns : goal.returns-clause-owns
+returns-clause-owns c = subst (λ (h : Share). LeavesOwns c.args.at h.view c.store_as.new.seat.me.0) c.seat.view_is c.store_as.ensures.told.1
