@@ -1,5 +1,5 @@
 -- The table lets a seat make its steps: the conditions of its calls.
-use Rattle.std.proofs.Common.{◌≡◌, ℕ, ◌+◌, ◌*◌, ◌/◌, ◌%◌, ◌<◌, List, length, set, get_or, refl, sym, ◌∙◌, ap, subst, arith, inl, inr}
+use Rattle.std.proofs.Common.{◌≡◌, ℕ, ◌+◌, ◌*◌, ◌%◌, ◌<◌, List, length, set, get_or, refl, sym, ◌∙◌, ap, subst, arith, inl, inr}
 use Rattle.std.specs.Prelude.{slice_index}
 use mathlib.Core.Option.{some}
 use lib.ListN.{get_elem?}
@@ -21,11 +21,9 @@ use Rattle.pa_region.specs.Moves.{CanCount, IsFound, moved, value_of, after_coun
 use Rattle.pa_region.proofs.Pieces.{handle_piece, held_within, moved_changes, frees_have, title_held, held_title}
 use Rattle.pa_region.proofs.HolderPart.{gained_here, lost_raw, gained_raw}
 use Rattle.std.proofs.Common.{◌^◌}
-use Rattle.std.proofs.lemmas.List.{set-get_or}
 use Rattle.atomic_table.specs.Table.{Me, Allows, keeps}
 use Rattle.atomic_table.specs.Table.{State as TableState}
 use Rattle.atomic_table.specs.Seated.{TableId}
-use Rattle.atomic_table.proofs.Lists.{set_again}
 use Rattle.pa_machine.proofs.Parts.{word_covered}
 use Rattle.pa_region.specs.Views.{least_stake}
 use Rattle.pa_region.specs.Shares.{IsSound, byte_word_count, adds, CountTells, IsUser}
@@ -35,7 +33,7 @@ use Rattle.pa_region.proofs.Found.{handle_held, count_can, count_found}
 use Rattle.pa_region.proofs.CountStep.{count_keeps}
 use Rattle.pa_region.proofs.MovedRest.{moved_stakes}
 use Rattle.pa_region.proofs.CountValues.{moved_long}
-use Rattle.pa_region.proofs.LookStep.{look_keeps, look_holds}
+use Rattle.pa_region.proofs.LookStep.{look_holds}
 
 -- the sum is the next word
 adds_stepped : (step : Step) (word : ℕ) → CanStep step word → (word + adds step) % 2 ^ 64 ≡ stepped step word

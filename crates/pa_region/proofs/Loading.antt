@@ -1,5 +1,5 @@
 -- The table lets a seat load, and what a load tells.
-use Rattle.std.proofs.Common.{◌≡◌, ℕ, ◌+◌, ◌-◌, ◌*◌, ◌/◌, ◌%◌, ◌<◌, ◌≤◌, List, Some, length, set, get_or, refl, sym, ◌∙◌, ap, subst, arith, ◌⊎◌, inl, inr}
+use Rattle.std.proofs.Common.{◌≡◌, ℕ, ◌-◌, ◌*◌, ◌/◌, ◌%◌, ◌<◌, List, length, set, get_or, refl, sym, ◌∙◌, ap, subst, arith, ◌⊎◌, inl, inr}
 use Rattle.std.specs.Prelude.{slice_index}
 use Rattle.std.proofs.lemmas.List.{set-get_or}
 use mathlib.Core.Option.{some}
@@ -9,33 +9,31 @@ use Rattle.atomic_table.specs.Table.{State as TableState}
 use Rattle.atomic_table.specs.Seated.{TableId}
 use Rattle.atomic_table.proofs.Lists.{set_again}
 use Rattle.pa_machine.specs.declared.title.Title.{Title}
-use Rattle.pa_machine.specs.Count.{held_of}
 use Rattle.pa_machine.specs.Run.{IsFree}
-use Rattle.pa_machine.specs.Titles.{Covers, IsWellFormed, content_count, content_place, content_at, count_place, count_word, poison}
+use Rattle.pa_machine.specs.Titles.{Covers, IsWellFormed, content_count, count_place, count_word}
 use Rattle.pa_machine.specs.Holdings.{RawByte, IsTitleHeld}
-use Rattle.pa_machine.specs.Events.{total_of}
-use Rattle.pa_machine.proofs.Parts.{IsWordOf, word_covered}
-use Rattle.pa_region.specs.declared.view.Entry.TheVariants.{Looked}
+use Rattle.pa_machine.specs.declared.event.Event.TheVariants.{Load}
+use Rattle.pa_machine.specs.Events.{IsEnabled, Happens, IsRawWord, IsTitleWord, total_of}
+use Rattle.pa_machine.proofs.Parts.{word_covered}
 use Rattle.pa_region.specs.declared.view.View.{View}
-use Rattle.pa_region.specs.Views.{held_of_view, byte_words, shown, free_of, own_of, least_stake, Knows, HasTitle, HasStake}
+use Rattle.pa_region.specs.Views.{held_of_view, byte_words, shown, free_of, least_stake, Knows, HasTitle, HasStake}
 use Rattle.pa_region.specs.Rule.{IsKept}
 use Rattle.pa_region.specs.Moves.{IsFound, after_look}
-use Rattle.pa_region.specs.Stores.{HasRawWord}
-use Rattle.pa_region.specs.Pairs.{last_entry, least_log}
 use Rattle.pa_region.specs.Shares.{IsSound, byte_word_count, IsUser, count_offset}
 use Rattle.pa_region.specs.Loads.{after_read, content_offset, IsPlain, CanLoad, ReadTells, LoadTells}
 use Rattle.pa_region.proofs.Pieces.{held_within, title_held}
 use Rattle.pa_region.proofs.Entering.{least_noted}
-use Rattle.pa_region.proofs.Bytes.{bytes_word, bytes_length, held_in_all}
+use Rattle.pa_region.proofs.Bytes.{bytes_word, held_in_all}
 use Rattle.pa_region.proofs.ValuePart.{raw_outside}
 use Rattle.pa_region.proofs.Found.{count_found}
-use Rattle.pa_region.proofs.LookStep.{look_keeps, look_holds}
-use Rattle.pa_region.proofs.CountEvent.{content_covered, own_known}
+use Rattle.pa_region.proofs.LookStep.{look_keeps}
+use Rattle.pa_region.proofs.CountEvent.{content_covered, own_known, title_in_core}
+use Rattle.pa_region.proofs.Shown.{shown_actor, shown_held}
 use Rattle.pa_region.proofs.CountValues.{word_cases}
 use Rattle.pa_region.proofs.StoreStep.{raw_below, title_below}
 use Rattle.pa_region.proofs.Allowed.{free_held, free_word, free_alone, look_sound, look_least, user_held}
 use Rattle.pa_region.proofs.ReadStep.{user_in_all, word_read}
-use Rattle.pa_region.proofs.ReadKeeps.{views_read, value_read, read_keeps}
+use Rattle.pa_region.proofs.ReadKeeps.{value_read, read_keeps}
 
 -- two titles of a view that cover one byte are one
 same_cover : (words : List ℕ) (views : List View) (i : ℕ) (v : View) (t u : Title) (b : ℕ) → IsKept words views → get_elem? views i ≡ some v →
@@ -97,6 +95,16 @@ tells_plain at_byte words views i v k at_i aligned plain = record {
   read = λ t place at_word below has.
       absurd (plain_unused at_byte words views i v t k at_i plain (subst (λ (b : ℕ). Covers t b) (sym at_word) (place_covered words views t place k (user_in_all words views i v t at_i has) below)) has);
 }
+
+-- which is a load in the core that is shown
+pub plain_event : (at_byte : ℕ) (words : List ℕ) (views : List View) (i : ℕ) (v : View) → IsKept words views → get_elem? views i ≡ some v →
+    at_byte % 8 ≡ 0 → IsPlain v at_byte →
+    IsEnabled (Load i at_byte) (shown words views) × Happens (Load i at_byte) (shown words views) (shown words views)
+plain_event at_byte words views i v k at_i aligned plain = ((shown_actor words views i v at_i, aligned, core plain), refl)
+  where
+    core : IsPlain v at_byte → IsRawWord (shown words views) i at_byte ⊎ IsTitleWord (shown words views) i at_byte
+    core (inl raw) = inl (λ b low high. let s = shown_held words views i v at_i (RawByte b) in let h = raw b low high in omega arith)
+    core (inr free) = let has = free.1 in inr (free.0, free.2, title_in_core words views i v free.0 at_i (omega arith))
 
 -- a look
 tells_look : (at_byte : ℕ) (t : Title) (words : List ℕ) (views : List View) (i : ℕ) (v : View) → IsKept words views → get_elem? views i ≡ some v →

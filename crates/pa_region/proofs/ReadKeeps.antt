@@ -1,18 +1,17 @@
 -- A read keeps the rule.
-use Rattle.std.proofs.Common.{◌≡◌, ℕ, ◌+◌, ◌*◌, ◌%◌, ◌<◌, ◌≤◌, List, [], ◌∷◌, Some, length, map, set, refl, sym, ◌∙◌, ap, subst, arith, inl, inr, eqb}
+use Rattle.std.proofs.Common.{◌≡◌, ℕ, ◌+◌, ◌%◌, ◌<◌, List, Some, length, set, refl, sym, ◌∙◌, ap, arith, inl, inr, eqb}
 use Rattle.std.specs.Prelude.{if◌then◌else◌}
-use Rattle.std.specs.List.{sum_by}
 use mathlib.Core.Option.{some}
 use lib.ListN.{get_elem?}
 use Rattle.pa_machine.specs.declared.title.Title.{Title}
 use Rattle.pa_machine.specs.declared.event.Event.TheVariants.{Load}
-use Rattle.pa_machine.specs.Titles.{content_count, content_at, count_word}
+use Rattle.pa_machine.specs.Titles.{content_count, content_at}
 use Rattle.pa_machine.specs.Holdings.{Piece, Thing, FreeTitle, OwnOf, RefOf, IsTitleHeld}
 use Rattle.pa_machine.specs.Events.{IsEnabled, Happens, total_of}
 use Rattle.pa_region.specs.declared.view.Entry.{Entry}
 use Rattle.pa_region.specs.declared.view.Entry.TheVariants.{Looked, Read}
 use Rattle.pa_region.specs.declared.view.View.{View}
-use Rattle.pa_region.specs.Views.{pieces_of, held_of_view, byte_words, shown, idle_of, idle_in, budget_in, low_in, uncut_in, stakes_in, least_stake, logged_of, logged_in, ahead_of, ahead_in, unseen_by, unseen_of, unseen_in, counted, counted_on, counted_at, names, HasStake}
+use Rattle.pa_region.specs.Views.{pieces_of, byte_words, shown, idle_of, idle_in, budget_in, low_in, uncut_in, stakes_in, least_stake, logged_of, logged_in, ahead_of, ahead_in, unseen_by, unseen_of, unseen_in, counted, counted_on, counted_at, names, HasStake}
 use Rattle.pa_region.specs.Rule.{IsKept}
 use Rattle.pa_region.specs.Pairs.{last_entry, least_log, weight_after, paired_in, paired_by, logged_by}
 use Rattle.pa_region.specs.Waiting.{poisoned_apart, IsReader, Reads}
@@ -31,7 +30,7 @@ use Rattle.pa_region.proofs.ValuePart.{values_same}
 use Rattle.pa_region.proofs.CountEvent.{content_covered, title_in_core}
 use Rattle.pa_region.proofs.PairSums.{paired_set, paired_by_set, logged_by_set}
 use Rattle.pa_region.proofs.Readings.{right_both, right_same}
-use Rattle.pa_region.proofs.OneRead.{IsWordRead, HasLast, right_read}
+use Rattle.pa_region.proofs.OneRead.{HasLast, right_read}
 use Rattle.pa_region.proofs.PoisonedOwns.{apart_set}
 use Rattle.pa_region.proofs.Waitings.{last_noted}
 use Rattle.pa_region.proofs.ReadsSame.{each_set, none_more, stake_noted}

@@ -1,32 +1,28 @@
 -- A read keeps the rule, and what its value is.
-use Rattle.std.proofs.Common.{◌≡◌, ℕ, ◌+◌, ◌*◌, ◌%◌, ◌<◌, ◌≤◌, Bool, true, false, ◌&&◌, List, [], ◌∷◌, Some, length, set, refl, sym, ◌∙◌, ap, subst, arith, ◌⊎◌, inl, inr, eqb, ltb}
+use Rattle.std.proofs.Common.{◌≡◌, ℕ, ◌+◌, ◌<◌, ◌≤◌, Bool, true, false, ◌&&◌, List, [], ◌∷◌, refl, sym, ◌∙◌, subst, arith, ◌⊎◌, inl, inr, ltb}
 use Rattle.std.specs.Prelude.{if◌then◌else◌}
 use Rattle.std.specs.List.{sum_by}
 use Rattle.std.proofs.lemmas.List.Sums.{sum_by-le-sum_by, sum_by-cons}
-use Rattle.std.proofs.lemmas.Bool.{cases_lt, cases_Bool, lt-ltb, le-ltb, true≢false}
+use Rattle.std.proofs.lemmas.Bool.{cases_lt, lt-ltb, le-ltb, true≢false}
 use mathlib.Core.Option.{some, some-injective}
 use lib.ListN.{get_elem?}
 use Rattle.pa_machine.specs.declared.title.Title.{Title}
 use Rattle.pa_machine.specs.declared.title.OwnState.{OwnState}
 use Rattle.pa_machine.specs.declared.title.OwnState.TheVariants.{Clean, Dirty, Poisoned}
-use Rattle.pa_machine.specs.Count.{held_of, refs_of}
 use Rattle.pa_machine.specs.Titles.{same_title, same_state, content_count, content_at, count_word, poison}
-use Rattle.pa_machine.specs.Holdings.{FreeTitle, OwnOf, OwnAs, RefOf, one, IsTitleHeld}
+use Rattle.pa_machine.specs.Holdings.{OwnOf, OwnAs, RefOf, one, IsTitleHeld}
 use Rattle.pa_machine.specs.Good.{IsCounted}
 use Rattle.pa_machine.specs.Events.{total_of}
-use Rattle.pa_machine.proofs.Arith.{held_small}
 use Rattle.pa_region.specs.declared.view.OwnTitle.{OwnTitle}
-use Rattle.pa_region.specs.declared.view.Entry.{Entry}
-use Rattle.pa_region.specs.declared.view.Entry.TheVariants.{Read}
 use Rattle.pa_region.specs.declared.view.View.{View}
-use Rattle.pa_region.specs.Views.{held_of_view, byte_words, shown, own_of, own_as, ref_of, stake_of, stakes_in, least_stake, HasStake}
+use Rattle.pa_region.specs.Views.{held_of_view, byte_words, shown, own_of, own_as, stake_of, stakes_in, least_stake, HasStake}
 use Rattle.pa_region.specs.History.{content_of}
 use Rattle.pa_region.specs.Rule.{IsKept}
 use Rattle.pa_region.specs.Moves.{is_own_of}
 use Rattle.pa_region.specs.Waiting.{is_poisoned, is_unclean, poisoned_of, poisoned_apart}
 use Rattle.pa_region.specs.Shares.{IsUser}
 use Rattle.pa_region.specs.Loads.{has_own, has_unclean}
-use Rattle.pa_region.proofs.Adding.{sum_part, first_of, one_and, one_lt}
+use Rattle.pa_region.proofs.Adding.{sum_part, first_of, one_lt}
 use Rattle.pa_region.proofs.Pieces.{total_sum, held_within, title_held, owns_have, owns_as_have, refs_have, first_own, own_as_own}
 use Rattle.pa_region.proofs.Bytes.{held_in_all}
 use Rattle.pa_region.proofs.OneRead.{IsWordRead}
@@ -45,10 +41,10 @@ clean_or t (o ∷ os) =
     let again = clean_or t os in
     let here = go (same_title o.title t) o.state in
     omega (
-        arith,
-        sum_by-cons (λ (x : OwnTitle). one (same_title x.title t)) o os,
-        sum_by-cons (λ (x : OwnTitle). one (same_title x.title t && same_state x.state Clean)) o os,
-        sum_by-cons (λ (x : OwnTitle). one (same_title x.title t && is_unclean x.state)) o os,
+      arith,
+      sum_by-cons (λ (x : OwnTitle). one (same_title x.title t)) o os,
+      sum_by-cons (λ (x : OwnTitle). one (same_title x.title t && same_state x.state Clean)) o os,
+      sum_by-cons (λ (x : OwnTitle). one (same_title x.title t && is_unclean x.state)) o os,
     )
   where
     go : (b : Bool) (a : OwnState) → one b ≤ one (b && same_state a Clean) + one (b && is_unclean a)

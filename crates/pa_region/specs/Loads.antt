@@ -1,5 +1,5 @@
 -- What a load makes of the stepping seat's view, what it asks of it, and what it tells.
-use Rattle.std.specs.Prelude.{◌≡◌, ℕ, ◌+◌, ◌*◌, ◌/◌, ◌%◌, ◌<◌, ◌⊎◌, Bool, false, ◌&&◌, nat_lt, Some, slice_index}
+use Rattle.std.specs.Prelude.{◌≡◌, ℕ, ◌*◌, ◌/◌, ◌%◌, ◌<◌, ◌⊎◌, Bool, false, ◌&&◌, nat_lt, Some, slice_index}
 use Rattle.std.specs.List.{sum_by}
 use Rattle.pa_machine.specs.declared.title.Title.{Title}
 use Rattle.pa_machine.specs.Count.{held_of}

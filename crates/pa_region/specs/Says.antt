@@ -1,11 +1,11 @@
 -- What the rule says, of any number of seats.
-use Rattle.std.specs.Prelude.{◌≡◌, ℕ, ◌+◌, ◌/◌, ◌<◌, ◌≤◌, List, [], ◌∷◌, slice_set, replicate}
+use Rattle.std.specs.Prelude.{◌≡◌, ℕ, ◌+◌, ◌/◌, ◌%◌, ◌<◌, ◌≤◌, List, [], ◌∷◌, slice_set, replicate}
 use mathlib.Core.Option.{some}
 use lib.ListN.{get_elem?}
 use Rattle.pa_machine.specs.declared.title.Title.{Title}
 use Rattle.pa_machine.specs.declared.word.Step.{Step}
 use Rattle.pa_machine.specs.Count.{CanStep, stepped, number_of}
-use Rattle.pa_machine.specs.Titles.{count_place, count_word, content_place, poison}
+use Rattle.pa_machine.specs.Titles.{count_place, count_word, content_count, content_place, content_at, poison}
 use Rattle.pa_machine.specs.Holdings.{IsTitleHeld}
 use Rattle.pa_machine.specs.declared.event.Event.{Event}
 use Rattle.pa_machine.specs.declared.event.Event.TheVariants.{Count, Store, Poison, Load}
@@ -16,7 +16,8 @@ use Rattle.pa_region.specs.Views.{byte_words, shown, logged_in, counted_on, coun
 use Rattle.pa_region.specs.Rule.{IsKept}
 use Rattle.pa_region.specs.Moves.{CanCount, IsFound, after_count, after_look}
 use Rattle.pa_region.specs.Stores.{after_store, CanStore, after_poison, CanPoison}
-use Rattle.pa_region.specs.Shares.{count_offset}
+use Rattle.pa_region.specs.Shares.{IsUser, count_offset}
+use Rattle.pa_region.specs.Loads.{after_read, content_offset, IsPlain}
 use Rattle.pa_region.specs.Start.{AreApart, AreWellFormed, first_view}
 
 -- the word that is shown for a title
@@ -74,6 +75,21 @@ PoisonKeeps =
     IsKept words views → get_elem? views i ≡ some v → CanPoison t j v →
     IsEventOf (Poison i t) words views (slice_set words (content_place t j) poison) (slice_set views i (after_poison t j v)) ×
     IsKept (slice_set words (content_place t j) poison) (slice_set views i (after_poison t j v))
+
+-- a load of a plain word is a load by the core's actor, which changes nothing
+abbrev pub PlainIsLoad : Type 0
+PlainIsLoad =
+    (at_byte : ℕ) (words : List ℕ) (views : List View) (i : ℕ) (v : View) →
+    IsKept words views → get_elem? views i ≡ some v → at_byte % 8 ≡ 0 → IsPlain v at_byte →
+    IsEventOf (Load i at_byte) words views words views
+
+-- a read of view number i, which gives the word that is there, is a load by the core's actor i, and keeps the rule
+abbrev pub ReadKeeps : Type 0
+ReadKeeps =
+    (t : Title) (place : ℕ) (words : List ℕ) (views : List View) (i : ℕ) (v : View) →
+    IsKept words views → get_elem? views i ≡ some v → IsUser t v → HasStake v → place < content_count t →
+    IsEventOf (Load i (content_offset t place)) words views words (slice_set views i (after_read t place (content_at (byte_words words) t place) v)) ×
+    IsKept words (slice_set views i (after_read t place (content_at (byte_words words) t place) v))
 
 -- the rule holds of a new region's words, which are 0, and of the first seat's view
 abbrev pub StartKeeps : Type 0

@@ -1,16 +1,15 @@
 -- What contracts see of a region and of a seat, and what a step tells its seat.
-use Rattle.std.specs.Prelude.{◌≡◌, ℕ, ◌+◌, ◌-◌, ◌*◌, ◌<◌, ◌≤◌, ◌⊎◌, length}
+use Rattle.std.specs.Prelude.{◌≡◌, ℕ, ◌+◌, ◌-◌, ◌*◌, ◌<◌, ◌≤◌, length}
 use Rattle.atomic_table.specs.Table.{Me}
 use Rattle.atomic_table.specs.Seated.{TableId}
 use Rattle.pa_machine.specs.declared.title.Title.{Title}
 use Rattle.pa_machine.specs.declared.word.Step.{Step}
 use Rattle.pa_machine.specs.declared.word.Step.TheVariants.{Issue, Copy, Reset, Free, Write}
 use Rattle.pa_machine.specs.Count.{CanStep}
-use Rattle.pa_machine.specs.Run.{IsFree}
 use Rattle.pa_machine.specs.Titles.{IsWellFormed, count_place}
 use Rattle.pa_machine.specs.Holdings.{RawByte}
 use Rattle.pa_region.specs.declared.view.View.{View}
-use Rattle.pa_region.specs.Views.{held_of_view, free_of, own_of, ref_of, HasTitle, HasStake}
+use Rattle.pa_region.specs.Views.{held_of_view, own_of, ref_of, HasTitle}
 use Rattle.pa_region.specs.Moves.{IsFound, after_count, after_look}
 
 -- a seat: the region that it is of, and its view

@@ -1,5 +1,5 @@
 //! What the region's rule says of any number of seats, as laws: calls that do nothing, and whose clauses are proved.
-ghost use Rattle.pa_region.specs.Says.{CountKeeps, CountIsEvent, LookKeeps, LookIsLoad, StoreKeeps, PoisonKeeps, StartKeeps, ShowsGood, FindsEachNumberOnce, UnnamedIsNew};
+ghost use Rattle.pa_region.specs.Says.{CountKeeps, CountIsEvent, LookKeeps, LookIsLoad, StoreKeeps, PoisonKeeps, PlainIsLoad, ReadKeeps, StartKeeps, ShowsGood, FindsEachNumberOnce, UnnamedIsNew};
 
 /// Each counted step keeps the rule.
 pub fn counted_steps_keep_the_rule()
@@ -29,6 +29,16 @@ pub fn stores_keep_the_rule()
 /// Each poisoning of a word is an enabled event of the core that is shown, and keeps the rule.
 pub fn poisonings_keep_the_rule()
     ensures { PoisonKeeps }
+{}
+
+/// The load of a word that its view knows without a handle is a load in the core that is shown.
+pub fn each_plain_load_is_a_load()
+    ensures { PlainIsLoad }
+{}
+
+/// Each read is a load in the core that is shown, and keeps the rule.
+pub fn reads_keep_the_rule()
+    ensures { ReadKeeps }
 {}
 
 /// A new region meets the rule.
