@@ -15,6 +15,7 @@ use Rattle.std.proofs.lemmas.List.{get_or-take, length-take-le}
 use Rattle.pa_region.specs.Views.{byte_words, shown, stakes_in, logged_of, logged_in}
 use Rattle.pa_region.specs.History.{Done}
 use Rattle.pa_region.specs.Rule.{Logs, IsKept}
+use Rattle.pa_region.specs.AllReads.{HasAllLogs}
 use Rattle.pa_region.proofs.WholeReads.{any_none, all_of, whole_reads}
 use Rattle.pa_region.proofs.Pieces.{title_held}
 use Rattle.atomic_table.specs.Table.{Final}
@@ -30,19 +31,27 @@ all_logs : (views : List View) (i : ℕ) (v : View) (history : Title → List Do
 all_logs views i v history words total at_i l every weight =
     all_of (λ (s : Stake). sum_by weight s.log) views i v at_i every l.each_stake (λ u none. any_none (sum_by weight) u.stakes none)
 
+-- so it knows all logs
+pub knows_logs : (words : List ℕ) (views : List View) (i : ℕ) (v : View) → IsKept words views → get_elem? views i ≡ some v → HasEveryStake v → HasAllLogs v
+knows_logs words views i v k at_i every =
+    let same : logged_in views ≡ logged_of v = λ n weight. all_logs views i v k.history (byte_words words) (total_of (shown words views)) at_i k.logs every weight n in
+    record {
+      history = k.history;
+      chain = λ t. subst (λ (logs : (Entry → ℕ) → ℕ). IsChained logs t (k.history t)) same (k.logs.chain t);
+      reads = whole_reads k.history (byte_words words) views i v k.reads at_i every k.logs.each_stake;
+    }
+
 -- what the words of the end say to that view
 pub ends : (id : ℕ) (v : View) (words : List ℕ) (slots : List (Unit {0})) → HasEveryStake v →
     Final (SeenAt (λ (s : TableState (Unit {0}) View). IsKept s.words s.views) id v) words slots → IsEnd (byte_words words) v
+unfolding knows_logs
 ends id v words slots every f =
     let s = f.0 in
     let k = f.1.0 in
     let at_id = f.1.1 in
-    let same : logged_in s.views ≡ logged_of v = λ i weight. all_logs s.views id v k.history (byte_words s.words) (total_of (shown s.words s.views)) at_id k.logs every weight i in
     record {
-      history = k.history;
-      chain = λ t. subst (λ (logs : (Entry → ℕ) → ℕ). IsChained logs t (k.history t)) same (k.logs.chain t);
+      logs = knows_logs s.words s.views id v k at_id every;
       last = λ t held. subst (λ (ws : List ℕ). count_word (byte_words ws) t ≡ reached (k.history t)) f.2 (k.logs.last t (held_in_all s.words s.views id v t at_id (title_held v t held)));
-      reads = whole_reads k.history (byte_words s.words) s.views id v k.reads at_id every k.logs.each_stake;
     }
 
 -- a word that the table's list has, among those of the bytes

@@ -17,6 +17,7 @@ pub mod Loading
 pub mod LogPart
 pub mod LookStep
 pub mod MovedRest
+pub mod NextFree
 pub mod OneLog
 pub mod OneRead
 pub mod OneTitle

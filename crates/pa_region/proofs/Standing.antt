@@ -101,11 +101,11 @@ logged_two v f g h each =
     sum_two (λ (s : Stake). sum_by f s.log) (λ (s : Stake). sum_by g s.log) (λ (s : Stake). sum_by h s.log) v.stakes (λ s. sum_two f g h s.log each)
 
 -- what stands in a history at a number
-record IsAtNumber (logs : (Entry → ℕ) → ℕ) (t : Title) (history : List Done) (k : ℕ) (d : Done) : Type 0 where
+pub record IsAtNumber (logs : (Entry → ℕ) → ℕ) (t : Title) (history : List Done) (k : ℕ) (d : Done) : Type 0 where
   pub stands : up_to (k + 1) history ≡ d ∷ up_to k history
   pub logged : logs (counted_as t d.step (word_at_number k history) d.value) ≡ 1
 
-at_number : (logs : (Entry → ℕ) → ℕ) (t : Title) (history : List Done) (k : ℕ) → IsLogged logs t history → k < length history → (d : Done) × IsAtNumber logs t history k d
+pub at_number : (logs : (Entry → ℕ) → ℕ) (t : Title) (history : List Done) (k : ℕ) → IsLogged logs t history → k < length history → (d : Done) × IsAtNumber logs t history k d
 at_number logs t [] k logged below = absurd (omega arith)
 at_number logs t (d ∷ older) k logged below = elim (cases_lt k (length older)) [
   | inl y ↦

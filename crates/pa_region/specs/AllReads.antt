@@ -1,4 +1,4 @@
--- What a view with every stake knows of the reads in its logs.
+-- What a view with every stake knows of its logs, and of the reads in them.
 use Rattle.std.specs.Prelude.{◌≡◌, ℕ, ◌<◌, ◌⊎◌, List, ◌∷◌, ◌++◌, Bool, true, false}
 use mathlib.Core.Option.{some}
 use lib.ListN.{get_elem?}
@@ -10,7 +10,8 @@ use Rattle.pa_region.specs.declared.view.Entry.{Entry}
 use Rattle.pa_region.specs.declared.view.Entry.TheVariants.{Looked, Read}
 use Rattle.pa_region.specs.declared.view.Stake.{Stake}
 use Rattle.pa_region.specs.declared.view.View.{View}
-use Rattle.pa_region.specs.History.{Done}
+use Rattle.pa_region.specs.Views.{logged_of}
+use Rattle.pa_region.specs.History.{Done, IsChained}
 use Rattle.pa_region.specs.Contents.{content_at_number}
 use Rattle.pa_region.specs.Pairs.{paired_of, paired_of_by, logged_of_by}
 use Rattle.pa_region.specs.Waiting.{is_quiet, gave_no_poison, quiet_read, IsFreedElsewhere}
@@ -26,7 +27,14 @@ pub record HasReads (history : Title → List Done) (v : View) : Type 0 where
       (value ≡ content_at_number (number_of found) (history t))
       ⊎ ((value ≡ poison) × IsFreedElsewhere (logged_of_by v) (history t) t r (number_of found))
 
--- the same of one read, with stake r, of a title with this history
+-- What a view with every stake knows of all logs: each title has a history that its logs chain, and each read in them gave
+-- what it should.
+pub record HasAllLogs (v : View) : Type 0 where
+  pub history : Title → List Done
+  pub chain : (t : Title) → IsChained (logged_of v) t (history t)
+  pub reads : HasReads history v
+
+-- what one read gave, with stake r, of a title with this history
 pub record IsReadRight (history : List Done) (v : View) (r : ℕ) (t : Title) (found value : ℕ) (since : Deeds) (owned unclean : Bool) : Type 0 where
   pub freed : held_of found ≡ 0 → since.handed ≡ false → value ≡ poison
   pub own : held_of found ≡ 1 → is_quiet since ≡ true → unclean ≡ false → owned ≡ true → value ≡ content_at_number (number_of found) history

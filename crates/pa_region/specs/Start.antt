@@ -7,10 +7,10 @@ use Rattle.pa_machine.specs.Titles.{Covers, IsWellFormed, count_word}
 use Rattle.pa_region.specs.declared.view.RawRange.{RawRange}
 use Rattle.pa_region.specs.declared.view.Stake.{Stake}
 use Rattle.pa_region.specs.declared.view.View.{View}
-use Rattle.pa_region.specs.Views.{HasTitle, logged_of}
-use Rattle.pa_region.specs.History.{Done, reached, IsChained}
+use Rattle.pa_region.specs.Views.{HasTitle}
+use Rattle.pa_region.specs.History.{reached}
 use Rattle.pa_region.specs.Moves.{no_deeds}
-use Rattle.pa_region.specs.AllReads.{HasReads}
+use Rattle.pa_region.specs.AllReads.{HasAllLogs}
 
 -- the titles don't overlap: two that stand at different places of the list share no byte
 abbrev pub AreApart : List Title → Type 0
@@ -65,10 +65,8 @@ first_view words budget titles = record {
   seen_lists = [];
 }
 
--- What the words say at the end, to a view that has every stake: each title has a history that its logs chain, and a
--- title that it holds has the last word of its history; and each read in its logs gave what it should.
+-- What the words say at the end, to a view that has every stake: it knows all logs; and a title that it holds has the
+-- last word of its history.
 pub record IsEnd (words : List ℕ) (v : View) : Type 0 where
-  pub history : Title → List Done
-  pub chain : (t : Title) → IsChained (logged_of v) t (history t)
-  pub last : (t : Title) → HasTitle v t → count_word words t ≡ reached (history t)
-  pub reads : HasReads history v
+  pub logs : HasAllLogs v
+  pub last : (t : Title) → HasTitle v t → count_word words t ≡ reached (logs.history t)

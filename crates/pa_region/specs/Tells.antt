@@ -1,20 +1,24 @@
 -- What histories and logs say to callers, as laws: of a word that a look found, of a step in a log, of a longer history,
 -- and of reads.
-use Rattle.std.specs.Prelude.{◌≡◌, ℕ, ◌+◌, ◌<◌, ◌≤◌, List, ◌∷◌, ◌++◌, length, nat_lt}
+use Rattle.std.specs.Prelude.{◌≡◌, ℕ, ◌+◌, ◌<◌, ◌≤◌, List, ◌∷◌, ◌++◌, length}
+use Rattle.std.specs.List.{sum_by}
 use mathlib.Core.Option.{some}
 use lib.ListN.{get_elem?}
 use Rattle.pa_machine.specs.declared.title.Title.{Title}
 use Rattle.pa_machine.specs.declared.word.Step.{Step}
+use Rattle.pa_machine.specs.declared.word.Step.TheVariants.{Free}
 use Rattle.pa_machine.specs.Count.{number_of}
-use Rattle.pa_machine.specs.Holdings.{one}
 use Rattle.pa_region.specs.declared.view.Entry.{Entry}
+use Rattle.pa_region.specs.declared.view.Stake.{Stake}
 use Rattle.pa_region.specs.declared.view.View.{View}
-use Rattle.pa_region.specs.Views.{looked_at, counted_as, logged_of, stakes_in, HasEveryStake}
+use Rattle.pa_region.specs.Views.{looked_at, counted_as, logged_of, HasEveryStake}
 use Rattle.pa_region.specs.History.{Done, IsChained}
 use Rattle.pa_region.specs.Contents.{up_to, word_at_number}
 use Rattle.pa_region.specs.Frees.{IsFirstFree}
-use Rattle.pa_region.specs.Waiting.{Reads}
-use Rattle.pa_region.specs.AllReads.{HasReads, AreReadsRight}
+use Rattle.pa_region.specs.Pairs.{logged_of_by}
+use Rattle.pa_region.specs.Rule.{IsKept}
+use Rattle.pa_region.specs.Waiting.{IsFreedElsewhere}
+use Rattle.pa_region.specs.AllReads.{HasAllLogs, HasReads, AreReadsRight}
 
 -- a look that some log has found the history's word with its number
 abbrev pub LookFindsItsWord : Type 0
@@ -39,12 +43,23 @@ FirstFreeStays =
     ((history : List Done) (k n m : ℕ) → IsFirstFree history k n → IsFirstFree history k m → n ≡ m) ×
     ((later history : List Done) (k n : ℕ) → IsFirstFree history k n → IsFirstFree (later ++ history) k n)
 
--- where the rule's sentences on reads hold of the views, one that has every stake knows all reads
-abbrev pub AllReadsAreKnown : Type 0
-AllReadsAreKnown =
-    (history : Title → List Done) (words : List ℕ) (views : List View) (i : ℕ) (v : View) → Reads history words views → get_elem? views i ≡ some v →
-    ((k : ℕ) → stakes_in views k ≡ one (nat_lt k 16)) → HasEveryStake v → HasReads history v
+-- under the rule a view that has every stake knows all logs, with the reads in them
+abbrev pub AllLogsAreKnown : Type 0
+AllLogsAreKnown = (words : List ℕ) (views : List View) (i : ℕ) (v : View) → IsKept words views → get_elem? views i ≡ some v → HasEveryStake v → HasAllLogs v
 
--- and by their places in its logs
+-- it knows the reads by their places
 abbrev pub ReadsHavePlaces : Type 0
 ReadsHavePlaces = (history : Title → List Done) (v : View) → HasReads history v → AreReadsRight history v
+
+-- of the Frees of a title in a view's logs that found a number of at least k, one that found this word is the first, and
+-- stands in the log of s
+pub record IsNextFree (v : View) (t : Title) (k : ℕ) (s : Stake) (word : ℕ) : Type 0 where
+  pub behind : k ≤ number_of word
+  pub logged : (value : ℕ) × (0 < sum_by (counted_as t Free word value) s.log)
+  pub first : (other value : ℕ) → 0 < logged_of v (counted_as t Free other value) → k ≤ number_of other → number_of word ≤ number_of other
+
+-- where a read gave poison since its slot was freed elsewhere, the log of another stake has the next Free
+abbrev pub OthersHaveTheFree : Type 0
+OthersHaveTheFree =
+    (v : View) (t : Title) (history : List Done) (r k : ℕ) → IsChained (logged_of v) t history → IsFreedElsewhere (logged_of_by v) history t r k →
+    (j : ℕ) × (s : Stake) × (word : ℕ) × (get_elem? v.stakes j ≡ some s) × (s.number ≡ r → ⊥) × IsNextFree v t k s word

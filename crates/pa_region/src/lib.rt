@@ -21,7 +21,7 @@ pub use laws::{
 };
 pub use read_laws::{
     a_longer_history_is_the_same, a_look_finds_its_word, a_step_stands_at_its_number,
-    all_reads_are_known, reads_have_places, the_first_free_stays,
+    all_logs_are_known, others_have_the_free, reads_have_places, the_first_free_stays,
 };
 pub use region::{Region, Seat};
 pub use view::{

@@ -1,5 +1,5 @@
 //! What histories and logs say to callers, as laws: calls that do nothing, and whose clauses are proved.
-ghost use Rattle.pa_region.specs.Tells.{LookFindsItsWord, StepStandsAtItsNumber, LongerIsTheSame, FirstFreeStays, AllReadsAreKnown, ReadsHavePlaces};
+ghost use Rattle.pa_region.specs.Tells.{LookFindsItsWord, StepStandsAtItsNumber, LongerIsTheSame, FirstFreeStays, AllLogsAreKnown, ReadsHavePlaces, OthersHaveTheFree};
 
 /// A look that some log has found the word of the title's history with its number.
 pub fn a_look_finds_its_word()
@@ -21,12 +21,17 @@ pub fn the_first_free_stays()
     ensures { FirstFreeStays }
 {}
 
-/// A view that has every stake knows what all reads gave.
-pub fn all_reads_are_known()
-    ensures { AllReadsAreKnown }
+/// Under the rule a view that has every stake knows all logs, and what the reads in them gave.
+pub fn all_logs_are_known()
+    ensures { AllLogsAreKnown }
 {}
 
-/// It knows them by their places in its logs.
+/// It knows the reads by their places in its logs.
 pub fn reads_have_places()
     ensures { ReadsHavePlaces }
+{}
+
+/// Where a read gave poison since its slot was freed elsewhere, the log of another stake has the next Free.
+pub fn others_have_the_free()
+    ensures { OthersHaveTheFree }
 {}
