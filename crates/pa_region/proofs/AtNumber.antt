@@ -1,11 +1,8 @@
 -- A history up to a number: its words, its content, and what the next step leaves of them.
-use Rattle.std.proofs.Common.{◌≡◌, ℕ, ◌+◌, ◌<◌, ◌≤◌, List, [], ◌∷◌, length, refl, sym, ◌∙◌, ap, arith, inl, inr}
+use Rattle.std.proofs.Common.{◌≡◌, ℕ, ◌≤◌, List, [], ◌∷◌, length, refl, sym, ◌∙◌, ap, arith, inl, inr}
 use Rattle.std.proofs.lemmas.Bool.{cases_lt, lt-ltb, le-ltb}
-use Rattle.pa_machine.specs.declared.word.Step.{Step}
-use Rattle.pa_machine.specs.declared.word.Step.TheVariants.{Issue, Copy, Reset, Free, Write}
-use Rattle.pa_machine.specs.Count.{CanStep, stepped, number_of, refs_of, held_of}
-use Rattle.pa_machine.proofs.Arith.{stepped_is}
-use Rattle.pa_region.specs.History.{Done, reached, IsLegal, IsWordIn, content_by, content_of}
+use Rattle.pa_machine.specs.Count.{number_of}
+use Rattle.pa_region.specs.History.{Done, reached, IsLegal, IsWordIn, content_of}
 use Rattle.pa_region.specs.Contents.{up_to, content_at_number, word_at_number}
 use Rattle.pa_region.proofs.LogPart.{reached_number}
 
@@ -60,32 +57,3 @@ word_found word (d ∷ older) legal (inr is) =
     let again = word_found word older legal.1 is in
     let n = again.0 in
     (omega arith, word_within (number_of word) d older again.0 ∙ again.1)
-
--- no Issue comes where the bit or the count is set
-pub no_issue : (word : ℕ) → CanStep Issue word → 0 < held_of word + refs_of word → ⊥
-no_issue word can used = let a = can.0.0 in let b = can.0.1 in absurd (omega arith)
-
--- there a step that is no Write leaves the content
-pub content_stays : (step : Step) (value before word : ℕ) → CanStep step word → 0 < held_of word + refs_of word → (step ≡ Write → ⊥) →
-    content_by step value before ≡ before
-content_stays Issue value before word can used no_write = absurd (no_issue word can used)
-content_stays Copy value before word can used no_write = refl
-content_stays Reset value before word can used no_write = refl
-content_stays Free value before word can used no_write = refl
-content_stays Write value before word can used no_write = absurd (no_write refl)
-
--- and no step changes the content where the count is set
-pub content_shared : (step : Step) (value before word : ℕ) → CanStep step word → 0 < refs_of word → content_by step value before ≡ before
-content_shared Issue value before word can used = absurd (no_issue word can (omega arith))
-content_shared Copy value before word can used = refl
-content_shared Reset value before word can used = refl
-content_shared Free value before word can used = refl
-content_shared Write value before word can used = let a = can.0.1 in absurd (omega arith)
-
--- nor sets the bit there
-pub bit_shared : (step : Step) (word : ℕ) → CanStep step word → 0 < refs_of word → held_of word ≡ 0 → held_of (stepped step word) ≡ 0
-bit_shared Issue word can used low = absurd (no_issue word can (omega arith))
-bit_shared Copy word can used low = let s = stepped_is Copy word can in s.1 ∙ low
-bit_shared Reset word can used low = let s = stepped_is Reset word can in s.1 ∙ low
-bit_shared Free word can used low = (stepped_is Free word can).1
-bit_shared Write word can used low = let s = stepped_is Write word can in s.1 ∙ low

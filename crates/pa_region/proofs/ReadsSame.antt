@@ -2,6 +2,7 @@
 use Rattle.std.proofs.Common.{◌≡◌, ℕ, ◌+◌, ◌<◌, ◌≤◌, Bool, true, false, ◌&&◌, List, Some, length, set, refl, sym, ◌∙◌, ap, subst, arith, inl, inr, eqb}
 use Rattle.std.specs.Prelude.{if◌then◌else◌}
 use Rattle.std.specs.List.{sum_by}
+use Rattle.std.proofs.lemmas.Bool.{true≢false}
 use Rattle.std.proofs.lemmas.Bool.Decides.{eqb_tells}
 use mathlib.Core.Option.{some, some-injective}
 use lib.ListN.{get_elem?}
@@ -53,6 +54,26 @@ pub none_more : (b : Bool) (more was now : ℕ) → now ≡ was + (if b then mor
 none_more true more was now e z = omega arith
 none_more false more was now e z = omega arith
 
+-- A view that handed something over since its last entry waits with nothing.
+pub reader_handed : (history : Title → List Done) (words : List ℕ) (v : View) → v.since.handed ≡ true → (0 < unclean_of v → HasStake v) → IsReader history words v
+reader_handed history words v handed stake = record {
+  waits = λ t found is quiet. absurd (true≢false (sym handed ∙ quiet));
+  stake = stake;
+}
+
+-- Other views, of which each is a reader: what the rule says of reads goes over where they have the logs of each stake as
+-- before, and no poisoned Own is clean, freed, or in a view with a stake that it was apart from.
+pub reads_over : (history : Title → List Done) (words after : List ℕ) (views later : List View) → Reads history words views →
+    ((weight : Entry → Entry → ℕ) → paired_in later weight ≡ paired_in views weight) → ((r : ℕ) (weight : Entry → Entry → ℕ) → paired_by later r weight ≡ paired_by views r weight) →
+    ((r : ℕ) (weight : Entry → ℕ) → logged_by later r weight ≡ logged_by views r weight) → ((t : Title) (r : ℕ) → 0 < poisoned_apart views t r → 0 < poisoned_apart later t r) →
+    ((i : ℕ) (v : View) → get_elem? later i ≡ some v → IsReader history after v) → Reads history after later
+reads_over history words after views later reads paired by_number logged poisoned each = record {
+  right = right_same history (paired_in views) (paired_in later) (paired_by views) (paired_by later) (logged_by views) (logged_by later)
+      (poisoned_apart views) (poisoned_apart later) reads.right (paired gave_no_poison) (λ own t found value. paired (quiet_read own t found value))
+      (λ r own t found value. by_number r (quiet_read own t found value)) (λ r t n. logged r (counted_at t n)) poisoned;
+  each_view = each;
+}
+
 -- A step that logs nothing keeps what the rule says of reads: where its view has its stakes and titles as before, each
 -- poisoned Own stays one, an Own is unclean only with a stake, and the words of held titles stay.
 pub reads_other : (history : Title → List Done) (words after : List ℕ) (views : List View) (i : ℕ) (v w : View) → get_elem? views i ≡ some v →
@@ -60,30 +81,27 @@ pub reads_other : (history : Title → List Done) (words after : List ℕ) (view
     (w.since.handed ≡ false → v.since.handed ≡ false) → (0 < unclean_of w → HasStake w) → ((t : Title) → poisoned_of v t ≤ poisoned_of w t) →
     ((t : Title) → IsTitleHeld (total_of (shown words views)) t → count_word (byte_words after) t ≡ count_word (byte_words words) t) →
     Reads history (byte_words after) (set views i w)
-reads_other history words after views i v w at_i reads stakes titles handed unclean poisoned same = record {
-  right = right_same history (paired_in views) (paired_in (set views i w)) (paired_by views) (paired_by (set views i w)) (logged_by views) (logged_by (set views i w))
-      (poisoned_apart views) (poisoned_apart (set views i w)) reads.right
-      (by_same (λ (s : Stake). pairs gave_no_poison s.log) views i v w at_i stakes)
-      (λ own t found value. by_same (λ (s : Stake). pairs (quiet_read own t found value) s.log) views i v w at_i stakes)
-      (λ r own t found value. by_same (amount_by r (pairs (quiet_read own t found value))) views i v w at_i stakes)
-      (λ r t n. by_same (amount_by r (sum_by (counted_at t n))) views i v w at_i stakes)
-      (λ t r some_own. let l = apart_set views i v w at_i (λ k. ap (λ ss. sum_by (λ (s : Stake). one (eqb s.number k)) ss) stakes) t r (poisoned t) in omega arith);
-  each_view = each_set (IsReader history (byte_words words)) (IsReader history (byte_words after)) views i v w at_i reads.each_view
-      (record {
-        waits = λ t found is quiet.
-            let old = (reads.each_view i v at_i).waits t found (ap (λ ss. last_entry (least_log ss)) (sym stakes) ∙ is) (handed quiet) in
-            waits_same history (byte_words words) (byte_words after) v w t found old (titles t old.has) stakes
-            (ap held_of (same t (held_in_all words views i v t at_i (title_held v t old.has))));
-        stake = unclean;
-      })
-      (λ j u ne at_j reader. record {
-        waits = λ t found is quiet.
-            let old = reader.waits t found is quiet in
-            waits_same history (byte_words words) (byte_words after) u u t found old old.has refl
-            (ap held_of (same t (held_in_all words views j u t at_j (title_held u t old.has))));
-        stake = reader.stake;
-      });
-}
+reads_other history words after views i v w at_i reads stakes titles handed unclean poisoned same =
+    reads_over history (byte_words words) (byte_words after) views (set views i w) reads
+    (λ weight. by_same (λ (s : Stake). pairs weight s.log) views i v w at_i stakes)
+    (λ r weight. by_same (amount_by r (pairs weight)) views i v w at_i stakes)
+    (λ r weight. by_same (amount_by r (sum_by weight)) views i v w at_i stakes)
+    (λ t r some_own. let l = apart_set views i v w at_i (λ k. ap (λ ss. sum_by (λ (s : Stake). one (eqb s.number k)) ss) stakes) t r (poisoned t) in omega arith)
+    (each_set (IsReader history (byte_words words)) (IsReader history (byte_words after)) views i v w at_i reads.each_view
+    (record {
+      waits = λ t found is quiet.
+          let old = (reads.each_view i v at_i).waits t found (ap (λ ss. last_entry (least_log ss)) (sym stakes) ∙ is) (handed quiet) in
+          waits_same history (byte_words words) (byte_words after) v w t found old (titles t old.has) stakes
+          (ap held_of (same t (held_in_all words views i v t at_i (title_held v t old.has))));
+      stake = unclean;
+    })
+    (λ j u ne at_j reader. record {
+      waits = λ t found is quiet.
+          let old = reader.waits t found is quiet in
+          waits_same history (byte_words words) (byte_words after) u u t found old old.has refl
+          (ap held_of (same t (held_in_all words views j u t at_j (title_held u t old.has))));
+      stake = reader.stake;
+    }))
 
 -- two looks that are one
 look_is : (t u : Title) (word found : ℕ) → Some (Looked t word) ≡ Some (Looked u found) → (t ≡ u) × (word ≡ found)
