@@ -25,7 +25,7 @@ use Rattle.pa_region.specs.Tells.{IsNextFree}
 use Rattle.pa_region.proofs.LogPart.{as_at, reached_number}
 use Rattle.pa_region.proofs.AtNumber.{up_to_all, up_to_more, up_to_length, up_to_legal}
 use Rattle.pa_region.proofs.FirstFrees.{frees_more, frees_past, frees_fewer, first_within}
-use Rattle.pa_region.proofs.Standing.{at_number, step_stands}
+use Rattle.pa_region.proofs.Standing.{logged_two, at_number, step_stands}
 
 -- the Frees from a number on are one more than those after it exactly where the step there is a Free
 frees_at : (d : Done) (history : List Done) (n : ℕ) → n < length history → up_to (n + 1) history ≡ d ∷ up_to n history →
@@ -111,7 +111,7 @@ others_free v t history r k chain freed =
         behind = omega arith;
         logged = (d.value, other.4);
         first = λ found value some_free low.
-            let stands = step_stands v t history Free found value chain some_free in
+            let stands = step_stands (logged_of v) t history Free found value (logged_two v) chain some_free in
             let one_there = frees_at (record { step = Free; value = value }) history (number_of found) stands.0 stands.2 in
             elim (cases_lt (number_of found) n) [
               | inl sooner ↦

@@ -1,5 +1,5 @@
--- A step that a view's logs have stands in the title's history at the number that it found.
-use Rattle.std.proofs.Common.{◌≡◌, ℕ, ◌+◌, ◌<◌, ◌≤◌, ◌&&◌, List, [], ◌∷◌, ◌++◌, length, refl, sym, ◌∙◌, ap, arith, inl, inr, eqb}
+-- A step that logs have stands in the title's history at the number that it found.
+use Rattle.std.proofs.Common.{◌≡◌, ℕ, zero, suc, ◌+◌, ◌<◌, ◌≤◌, ◌&&◌, List, [], ◌∷◌, ◌++◌, length, refl, sym, ◌∙◌, ap, arith, inl, inr, eqb}
 use Rattle.std.specs.Prelude.{if◌then◌else◌}
 use Rattle.std.specs.List.{sum_by}
 use Rattle.std.proofs.lemmas.List.Sums.{sum_by-cons}
@@ -15,14 +15,14 @@ use Rattle.pa_region.specs.declared.view.Entry.{Entry}
 use Rattle.pa_region.specs.declared.view.Entry.TheVariants.{Counted, Looked, Read, Added, Entered}
 use Rattle.pa_region.specs.declared.view.Stake.{Stake}
 use Rattle.pa_region.specs.declared.view.View.{View}
-use Rattle.pa_region.specs.Views.{counted_at, counted_as, step_number, logged_of}
+use Rattle.pa_region.specs.Views.{counted_on, counted_at, counted_as, step_number, logged_of}
 use Rattle.pa_region.specs.History.{Done, reached, IsLogged, IsChained}
 use Rattle.pa_region.specs.Contents.{up_to, word_at_number}
 use Rattle.pa_region.specs.Frees.{IsFirstFree}
+use Rattle.pa_region.specs.Tells.{AddsUp}
 use Rattle.pa_region.proofs.Adding.{one_lt, one_small}
-use Rattle.pa_region.proofs.SeenPart.{logged_mono}
 use Rattle.pa_region.proofs.LogPart.{as_at, reached_number}
-use Rattle.pa_region.proofs.AtNumber.{up_to_all, up_to_more, up_to_length, up_to_legal}
+use Rattle.pa_region.proofs.AtNumber.{up_to_all, up_to_none, up_to_more, up_to_length, up_to_legal}
 use Rattle.pa_region.proofs.FirstFrees.{first_stays}
 use Rattle.pa_region.proofs.OneRead.{one_true}
 
@@ -96,7 +96,8 @@ sum_two f g h (x ∷ xs) each =
     let here = each x in
     omega (arith, sum_by-cons f x xs, sum_by-cons g x xs, sum_by-cons h x xs)
 
-logged_two : (v : View) (f g h : Entry → ℕ) → ((e : Entry) → f e + g e ≤ h e) → logged_of v f + logged_of v g ≤ logged_of v h
+-- so the logs of a view add up
+pub logged_two : (v : View) → AddsUp (logged_of v)
 logged_two v f g h each =
     sum_two (λ (s : Stake). sum_by f s.log) (λ (s : Stake). sum_by g s.log) (λ (s : Stake). sum_by h s.log) v.stakes (λ s. sum_two f g h s.log each)
 
@@ -127,30 +128,33 @@ at_number logs t (d ∷ older) k logged below = elim (cases_lt k (length older))
       )
 ]
 
-pub step_stands : (v : View) (t : Title) (history : List Done) (step : Step) (word value : ℕ) → IsChained (logged_of v) t history → 0 < logged_of v (counted_as t step word value) →
+-- they have no more of less
+adds_less : (logs : (Entry → ℕ) → ℕ) → AddsUp logs → (f g : Entry → ℕ) → ((e : Entry) → f e ≤ g e) → logs f ≤ logs g
+adds_less logs adds f g less = let two = adds f (λ e. 0) g (λ e. let l = less e in omega arith) in omega arith
+
+pub step_stands : (logs : (Entry → ℕ) → ℕ) (t : Title) (history : List Done) (step : Step) (word value : ℕ) → AddsUp logs → IsChained logs t history → 0 < logs (counted_as t step word value) →
     (number_of word < length history) × (word_at_number (number_of word) history ≡ word) ×
     (up_to (number_of word + 1) history ≡ record { step = step; value = value } ∷ up_to (number_of word) history)
-step_stands v t history step word value chain logged =
+step_stands logs t history step word value adds chain logged =
     let k = number_of word in
-    let less = logged_mono v (counted_as t step word value) (counted_at t k) (as_at t step word value) in
+    let less = adds_less logs adds (counted_as t step word value) (counted_at t k) (as_at t step word value) in
     let n = chain.numbers k in
     let below : k < length history = elim (one_lt k (length history)) [ inl y ↦ y.1 | inr z ↦ let a = z.0 in absurd (omega arith) ] in
-    let there = at_number (logged_of v) t history k chain.steps below in
+    let there = at_number logs t history k chain.steps below in
     let d = there.0 in
     let same : number_of (word_at_number k history) ≡ k =
     reached_number (up_to k history) (up_to_legal k history chain.legal) ∙ up_to_length k history (omega arith) in
     let one_there = there.1.logged in
-    let few = one_lt k (length history) in
-    let is = is_as v t step d.step word value (word_at_number k history) d.value (sym same) logged one_there (n ∙ ap one (lt-ltb k (length history) below)) in
+    let is = is_as logs adds t step d.step word value (word_at_number k history) d.value (sym same) logged one_there (n ∙ ap one (lt-ltb k (length history) below)) in
     (below, is.word_same, there.1.stands ∙ ap (λ x. x ∷ up_to k history) (done_is d step value is.step_same is.value_same))
   where
     done_is : (d : Done) (p : Step) (x : ℕ) → d.step ≡ p → d.value ≡ x → d ≡ record { step = p; value = x }
     done_is d p x e f = let g : Step → ℕ → Done = λ q y. record { step = q; value = y } in ap (λ q. g q d.value) e ∙ ap (g p) f
 
-    is_as : (v : View) (t : Title) (step other : Step) (word value found written : ℕ) → number_of word ≡ number_of found →
-        0 < logged_of v (counted_as t step word value) → logged_of v (counted_as t other found written) ≡ 1 → logged_of v (counted_at t (number_of word)) ≡ 1 →
+    is_as : (logs : (Entry → ℕ) → ℕ) → AddsUp logs → (t : Title) (step other : Step) (word value found written : ℕ) → number_of word ≡ number_of found →
+        0 < logs (counted_as t step word value) → logs (counted_as t other found written) ≡ 1 → logs (counted_at t (number_of word)) ≡ 1 →
         IsAs step word value other found written
-    is_as v t step other word value found written same some_log one_log only =
+    is_as logs adds t step other word value found written same some_log one_log only =
         elim (eqb_tells (step_number other) (step_number step)) [
           | inl a ↦ elim (eqb_tells found word) [
             | inl b ↦ elim (eqb_tells written value) [
@@ -164,7 +168,7 @@ step_stands v t history step word value chain logged =
       where
         apart : (IsAs step word value other found written → ⊥) → ⊥
         apart differ =
-            let two = logged_two v (counted_as t step word value) (counted_as t other found written) (counted_at t (number_of word)) (one_of_two t step other word value found written same differ) in
+            let two = adds (counted_as t step word value) (counted_as t other found written) (counted_at t (number_of word)) (one_of_two t step other word value found written same differ) in
             absurd (omega arith)
 
 -- a longer history
@@ -179,3 +183,39 @@ longer_same (d ∷ later) history k within = up_to_more k d (later ++ history) (
 pub first_longer : (later history : List Done) (k n : ℕ) → IsFirstFree history k n → IsFirstFree (later ++ history) k n
 first_longer [] history k n first = first
 first_longer (d ∷ later) history k n first = first_stays d (later ++ history) k n (first_longer later history k n first)
+
+-- the histories of logs that grew: what stood at a number still does
+same_below : (logs after : (Entry → ℕ) → ℕ) (t : Title) (older newer : List Done) → AddsUp after → ((weight : Entry → ℕ) → logs weight ≤ after weight) →
+    IsChained logs t older → IsChained after t newer → (k : ℕ) → k ≤ length older → up_to k newer ≡ up_to k older
+same_below logs after t older newer adds grows old new zero within = up_to_none newer ∙ sym (up_to_none older)
+same_below logs after t older newer adds grows old new (suc k) within =
+    let again = same_below logs after t older newer adds grows old new k (omega arith) in
+    let there = at_number logs t older k old.steps (omega arith) in
+    let d = there.0 in
+    let word = word_at_number k older in
+    let number : number_of word ≡ k = reached_number (up_to k older) (up_to_legal k older old.legal) ∙ up_to_length k older (omega arith) in
+    let logged = there.1.logged in
+    let more = grows (counted_as t d.step word d.value) in
+    let stands = step_stands after t newer d.step word d.value adds new (omega arith) in
+    let next : up_to (k + 1) newer ≡ d ∷ up_to k newer = ap (λ n. up_to (n + 1) newer) (sym number) ∙ (stands.2 ∙ ap (λ n. d ∷ up_to n newer) number) in
+    let plus : suc k ≡ k + 1 = omega arith in
+    rw plus (next ∙ (ap (λ hs. d ∷ hs) again ∙ sym there.1.stands))
+
+-- a history is what came after a number, and what it was up to there
+split_at_number : (k : ℕ) (history : List Done) → k ≤ length history → (later : List Done) × (history ≡ later ++ up_to k history)
+split_at_number k [] within = ([], refl)
+split_at_number k (d ∷ older) within = elim (cases_lt (length older) k) [
+  | inl y ↦ ([], sym (up_to_all k (d ∷ older) (omega arith)))
+  | inr n ↦
+      let again = split_at_number k older n in
+      (d ∷ again.0, ap (λ hs. d ∷ hs) again.1 ∙ ap (λ hs. d ∷ (again.0 ++ hs)) (sym (up_to_more k d older n)))
+]
+
+-- so a history of logs that grew goes on from what it was
+pub history_grows : (logs after : (Entry → ℕ) → ℕ) (t : Title) (older newer : List Done) → AddsUp after → ((weight : Entry → ℕ) → logs weight ≤ after weight) →
+    IsChained logs t older → IsChained after t newer → (later : List Done) × (newer ≡ later ++ older)
+history_grows logs after t older newer adds grows old new =
+    let a = old.all in let b = new.all in let c = grows (counted_on t) in
+    let same = same_below logs after t older newer adds grows old new (length older) (omega arith) in
+    let parts = split_at_number (length older) newer (omega arith) in
+    (parts.0, parts.1 ∙ ap (λ hs. parts.0 ++ hs) (same ∙ up_to_all (length older) older (omega arith)))

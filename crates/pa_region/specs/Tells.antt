@@ -26,12 +26,27 @@ LookFindsItsWord =
     (logs : (Entry → ℕ) → ℕ) (t : Title) (history : List Done) (word : ℕ) → IsChained logs t history → 0 < logs (looked_at t word) →
     (number_of word ≤ length history) × (word_at_number (number_of word) history ≡ word)
 
--- a counted step that a view's logs have stands in the history at the number that it found, and found the word there
+-- these logs add up: where two weights of each entry are together within a third, so are they of all entries
+abbrev pub AddsUp : ((Entry → ℕ) → ℕ) → Type 0
+AddsUp logs = (f g h : Entry → ℕ) → ((e : Entry) → f e + g e ≤ h e) → logs f + logs g ≤ logs h
+
+-- the logs of a view do
+abbrev pub LogsAddUp : Type 0
+LogsAddUp = (v : View) → AddsUp (logged_of v)
+
+-- a counted step that such logs have stands in the history at the number that it found, and found the word there
 abbrev pub StepStandsAtItsNumber : Type 0
 StepStandsAtItsNumber =
-    (v : View) (t : Title) (history : List Done) (step : Step) (word value : ℕ) → IsChained (logged_of v) t history → 0 < logged_of v (counted_as t step word value) →
+    (logs : (Entry → ℕ) → ℕ) (t : Title) (history : List Done) (step : Step) (word value : ℕ) → AddsUp logs → IsChained logs t history →
+    0 < logs (counted_as t step word value) →
     (number_of word < length history) × (word_at_number (number_of word) history ≡ word) ×
     (up_to (number_of word + 1) history ≡ record { step = step; value = value } ∷ up_to (number_of word) history)
+
+-- where logs grew, the history goes on from what it was; so logs have one history
+abbrev pub HistoryGoesOn : Type 0
+HistoryGoesOn =
+    (logs after : (Entry → ℕ) → ℕ) (t : Title) (older newer : List Done) → AddsUp after → ((weight : Entry → ℕ) → logs weight ≤ after weight) →
+    IsChained logs t older → IsChained after t newer → (later : List Done) × (newer ≡ later ++ older)
 
 -- up to a number that it had passed, a longer history is what it was
 abbrev pub LongerIsTheSame : Type 0

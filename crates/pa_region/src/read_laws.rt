@@ -1,12 +1,22 @@
 //! What histories and logs say to callers, as laws: calls that do nothing, and whose clauses are proved.
-ghost use Rattle.pa_region.specs.Tells.{LookFindsItsWord, StepStandsAtItsNumber, LongerIsTheSame, FirstFreeStays, AllLogsAreKnown, ReadsHavePlaces, OthersHaveTheFree};
+ghost use Rattle.pa_region.specs.Tells.{LookFindsItsWord, LogsAddUp, StepStandsAtItsNumber, HistoryGoesOn, LongerIsTheSame, FirstFreeStays, AllLogsAreKnown, ReadsHavePlaces, OthersHaveTheFree};
 
 /// A look that some log has found the word of the title's history with its number.
 pub fn a_look_finds_its_word()
     ensures { LookFindsItsWord }
 {}
 
-/// A counted step that a view's logs have stands in the title's history at the number that it found.
+/// The logs of a view add up.
+pub fn logs_add_up()
+    ensures { LogsAddUp }
+{}
+
+/// Where logs grew, a title's history goes on from what it was.
+pub fn a_history_goes_on()
+    ensures { HistoryGoesOn }
+{}
+
+/// A counted step that logs have stands in the title's history at the number that it found.
 pub fn a_step_stands_at_its_number()
     ensures { StepStandsAtItsNumber }
 {}
