@@ -58,11 +58,12 @@ impl Seat {
     }
 
     /// A title that the seat holds free, or has a handle of, lies in the seat's region, which has at most 16 super
-    /// pages. It costs nothing: it hands on what the seat's type keeps.
+    /// pages; and the seat's list of words is as long. It costs nothing: it hands on what the seat's type keeps.
     pub fn placed(&self, title: Title)
         requires { HasTitle self.now.view title }
         ensures small { byte_word_count self.now.region ≤ 4194304 }
         ensures well { IsWellFormed (byte_word_count self.now.region) title }
+        ensures long { length self.now.view.words ≡ byte_word_count self.now.region }
     {
         let _ = &self.seat;
         let _ = title;

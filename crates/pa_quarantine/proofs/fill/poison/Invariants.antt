@@ -1,0 +1,10 @@
+use Rattle.std.proofs.Common.{◌≡◌}
+use Rattle.pa_quarantine.specs.Filling.{poisons_to}
+use Rattle.pa_quarantine.proofs.fill.poison.Given as goal
+
+-- the words before this one are poison
+abbrev pub invariant-loop-word : goal.invariant-loop-word
+invariant-loop-word l = record {
+  region : l.seat.region ≡ l.initial.seat.region;
+  view : l.seat.view ≡ poisons_to l.title l.word l.initial.seat.view;
+}

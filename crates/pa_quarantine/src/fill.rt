@@ -1,0 +1,38 @@
+ghost use Rattle.std.specs.Prelude.{◌≡◌, ℕ, ◌+◌, ◌<◌};
+ghost use Rattle.pa_machine.specs.declared.title.OwnState.TheVariants.{Clean, Dirty};
+ghost use Rattle.pa_machine.specs.declared.word.Step.TheVariants.{Free};
+ghost use Rattle.pa_machine.specs.Titles.{HasContentFrom};
+ghost use Rattle.pa_region.specs.Views.{HasStake, free_of, own_as};
+ghost use Rattle.pa_region.specs.Moves.{HasHandle};
+ghost use Rattle.pa_quarantine.specs.Filling.{zeroed, poisoned};
+
+use pa_machine::Title;
+use pa_region::{Region, Seat};
+
+/// Makes every content word of a free slot 0, in address order: so it can be issued.
+pub fn zero_fill(region: &Region, seat: &mut Seat, title: Title)
+    requires region { seat.old.region ≡ region.now }
+    requires able { 0 < free_of seat.old.view title }
+    ensures region { seat.new.region ≡ seat.old.region }
+    ensures view { seat.new.view ≡ zeroed title seat.old.view }
+    ensures content { HasContentFrom seat.new.view.words title 0 0 }
+{
+    seat.placed(title);
+    for word in 0..title.len / 8 - 1 {
+        region.store(seat, title.start + 8 * word, 0);
+    }
+}
+
+/// Poisons every content word of the seat's Own, in address order: so it can be freed.
+pub fn poison(region: &Region, seat: &mut Seat, title: Title)
+    requires region { seat.old.region ≡ region.now }
+    requires able { (0 < own_as seat.old.view title Clean + own_as seat.old.view title Dirty) × HasStake seat.old.view }
+    ensures region { seat.new.region ≡ seat.old.region }
+    ensures view { seat.new.view ≡ poisoned title seat.old.view }
+    ensures ready { HasHandle Free title seat.new.view }
+{
+    seat.placed(title);
+    for word in 0..title.len / 8 - 1 {
+        region.poison_next(seat, title, word);
+    }
+}
