@@ -59,3 +59,73 @@ pub fn read(region: &Region, seat: &mut Seat, title: Title, place: u32) -> (Word
     seat.placed(title);
     (found, region.load(seat, title.start + 8 * place))
 }
+
+#[cfg(test)]
+mod tests {
+    use super::*;
+    use crate::fill::zero_fill;
+    use pa_count::{copy, issue, wrote};
+    use std::test::Fail;
+
+    const POISON: u64 = 0xefef_efef_efef_efef;
+
+    #[test]
+    fn a_dangling_pointer_reads_poison(rt: HostRuntime) -> Result<(), Fail> {
+        let title = Title {
+            start: 0x4000,
+            len: 32,
+            born: 0,
+        };
+        let (region, mut seat) = Region::with_titles(rt.alloc(), 1, 16, &[title])?;
+        zero_fill(&region, &mut seat, title);
+        assert_eq!(rt; issue(&region, &mut seat, title).0, 0);
+        assert_eq!(rt; copy(&region, &mut seat, title).0, 0x1000001);
+        let (found, fate) = free_owned(&region, &mut seat, title);
+        assert_eq!(rt; found.0, 0x2000003);
+        assert_eq!(rt; fate, Fate::Kept);
+        let (found, value) = read(&region, &mut seat, title, 0);
+        assert_eq!(rt; found.0, 0x3000002);
+        assert_eq!(rt; value, POISON);
+        assert_eq!(rt; read(&region, &mut seat, title, 1).1, POISON);
+        assert_eq!(rt; read(&region, &mut seat, title, 2).1, POISON);
+        let (found, fate) = release(&region, &mut seat, title);
+        assert_eq!(rt; found.0, 0x3000002);
+        assert_eq!(rt; fate, Fate::Last);
+        let closed = region.close(seat);
+        assert_eq!(rt; closed.word(0x4018), 0x4000000);
+        assert_eq!(rt; closed.word(0x4010), POISON);
+        Ok(())
+    }
+
+    #[test]
+    fn a_written_slot_reads_as_written(rt: HostRuntime) -> Result<(), Fail> {
+        let title = Title {
+            start: 0x4000,
+            len: 16,
+            born: 0,
+        };
+        let (region, mut seat) = Region::with_titles(rt.alloc(), 1, 16, &[title])?;
+        zero_fill(&region, &mut seat, title);
+        assert_eq!(rt; issue(&region, &mut seat, title).0, 0);
+        region.store(&mut seat, 0x4000, 7);
+        assert_eq!(rt; wrote(&region, &mut seat, title).0, 0x1000001);
+        let (found, value) = read(&region, &mut seat, title, 0);
+        assert_eq!(rt; found.0, 0x2000001);
+        assert_eq!(rt; value, 7);
+        assert_eq!(rt; copy(&region, &mut seat, title).0, 0x2000001);
+        let (found, value) = read(&region, &mut seat, title, 0);
+        assert_eq!(rt; found.0, 0x3000003);
+        assert_eq!(rt; value, 7);
+        let (found, fate) = free_owned(&region, &mut seat, title);
+        assert_eq!(rt; found.0, 0x3000003);
+        assert_eq!(rt; fate, Fate::Kept);
+        assert_eq!(rt; read(&region, &mut seat, title, 0).1, POISON);
+        assert_eq!(rt; release(&region, &mut seat, title).1, Fate::Last);
+        zero_fill(&region, &mut seat, title);
+        assert_eq!(rt; issue(&region, &mut seat, title).0, 0x5000000);
+        let closed = region.close(seat);
+        assert_eq!(rt; closed.word(0x4000), 0);
+        assert_eq!(rt; closed.word(0x4008), 0x6000001);
+        Ok(())
+    }
+}
