@@ -35,11 +35,13 @@ pub record HasAllLogs (v : View) : Type 0 where
   pub reads : HasReads history v
 
 -- what one read gave, with stake r, of a title with this history
-pub record IsReadRight (history : List Done) (v : View) (r : ℕ) (t : Title) (found value : ℕ) (since : Deeds) (owned unclean : Bool) : Type 0 where
+pub record IsReadRight (history : List Done) (v : View) (r : ℕ) (t : Title) (found value : ℕ) (since : Deeds) (owned unclean : Bool)
+    : Type 0 where
   pub freed : held_of found ≡ 0 → since.handed ≡ false → value ≡ poison
   pub own : held_of found ≡ 1 → is_quiet since ≡ true → unclean ≡ false → owned ≡ true → value ≡ content_at_number (number_of found) history
   pub ref : held_of found ≡ 1 → is_quiet since ≡ true → unclean ≡ false →
-      (value ≡ content_at_number (number_of found) history) ⊎ ((value ≡ poison) × IsFreedElsewhere (logged_of_by v) history t r (number_of found))
+      (value ≡ content_at_number (number_of found) history)
+      ⊎ ((value ≡ poison) × IsFreedElsewhere (logged_of_by v) history t r (number_of found))
 
 -- it holds of each read that stands right after a look at its title, in each log of the view
 abbrev pub AreReadsRight : (Title → List Done) → View → Type 0

@@ -45,8 +45,8 @@ StepStandsAtItsNumber =
 -- where logs grew, the history goes on from what it was; so logs have one history
 abbrev pub HistoryGoesOn : Type 0
 HistoryGoesOn =
-    (logs after : (Entry → ℕ) → ℕ) (t : Title) (older newer : List Done) → AddsUp after → ((weight : Entry → ℕ) → logs weight ≤ after weight) →
-    IsChained logs t older → IsChained after t newer → (later : List Done) × (newer ≡ later ++ older)
+    (logs after : (Entry → ℕ) → ℕ) (t : Title) (older newer : List Done) → AddsUp after →
+    ((weight : Entry → ℕ) → logs weight ≤ after weight) → IsChained logs t older → IsChained after t newer → (later : List Done) × (newer ≡ later ++ older)
 
 -- up to a number that it had passed, a longer history is what it was
 abbrev pub LongerIsTheSame : Type 0
@@ -60,7 +60,9 @@ FirstFreeStays =
 
 -- under the rule a view that has every stake knows all logs, with the reads in them
 abbrev pub AllLogsAreKnown : Type 0
-AllLogsAreKnown = (words : List ℕ) (views : List View) (i : ℕ) (v : View) → IsKept words views → get_elem? views i ≡ some v → HasEveryStake v → HasAllLogs v
+AllLogsAreKnown =
+    (words : List ℕ) (views : List View) (i : ℕ) (v : View) → IsKept words views → get_elem? views i ≡ some v → HasEveryStake v →
+    HasAllLogs v
 
 -- it knows the reads by their places
 abbrev pub ReadsHavePlaces : Type 0
@@ -76,5 +78,6 @@ pub record IsNextFree (v : View) (t : Title) (k : ℕ) (s : Stake) (word : ℕ) 
 -- where a read gave poison since its slot was freed elsewhere, the log of another stake has the next Free
 abbrev pub OthersHaveTheFree : Type 0
 OthersHaveTheFree =
-    (v : View) (t : Title) (history : List Done) (r k : ℕ) → IsChained (logged_of v) t history → IsFreedElsewhere (logged_of_by v) history t r k →
+    (v : View) (t : Title) (history : List Done) (r k : ℕ) → IsChained (logged_of v) t history →
+    IsFreedElsewhere (logged_of_by v) history t r k →
     (j : ℕ) × (s : Stake) × (word : ℕ) × (get_elem? v.stakes j ≡ some s) × (s.number ≡ r → ⊥) × IsNextFree v t k s word

@@ -36,7 +36,10 @@ gave_no_poison before e = 0
 -- all.
 abbrev pub quiet_read : Bool → Title → ℕ → ℕ → Entry → Entry → ℕ
 quiet_read own t found value (Looked u word) (Read x place given since owned unclean) =
-    one ((same_title u t && same_title x t) && (((word == found) && (given == value)) && ((is_quiet since && not unclean) && (if own then owned else not owned))))
+    one (
+    (same_title u t && same_title x t)
+    && (((word == found) && (given == value)) && ((is_quiet since && not unclean) && (if own then owned else not owned)))
+    )
 quiet_read own t found value before e = 0
 
 -- the state is one of those of an Own that is being poisoned, or is filled with poison
@@ -75,7 +78,8 @@ IsFreeing logs_by poisoned history t r k = IsFreedElsewhere logs_by history t r 
 -- Each read right after a look gave what it should. Where the look found the bit 0, it gave poison. Where it found the
 -- bit set, a quiet read through a clean Own gave the content at the look's number; and one through a Ref gave that, or
 -- poison while somebody else freed.
-pub record AreRight (history : Title → List Done) (pairs : (Entry → Entry → ℕ) → ℕ) (pairs_by : ℕ → (Entry → Entry → ℕ) → ℕ) (logs_by : ℕ → (Entry → ℕ) → ℕ) (poisoned : Title → ℕ → ℕ) : Type 0 where
+pub record AreRight (history : Title → List Done) (pairs : (Entry → Entry → ℕ) → ℕ) (pairs_by : ℕ → (Entry → Entry → ℕ) → ℕ)
+    (logs_by : ℕ → (Entry → ℕ) → ℕ) (poisoned : Title → ℕ → ℕ) : Type 0 where
   pub freed : pairs gave_no_poison ≡ 0
   pub own : (t : Title) (found value : ℕ) → held_of found ≡ 1 → 0 < pairs (quiet_read true t found value) →
       value ≡ content_at_number (number_of found) (history t)
@@ -94,7 +98,8 @@ pub record Waits (history : Title → List Done) (words : List ℕ) (v : View) (
 
 -- what holds of each view: a look waits with what the next read needs, and only with a stake has it an unclean Own
 pub record IsReader (history : Title → List Done) (words : List ℕ) (v : View) : Type 0 where
-  pub waits : (t : Title) (found : ℕ) → last_entry (least_log v.stakes) ≡ Some (Looked t found) → v.since.handed ≡ false → Waits history words v t found
+  pub waits : (t : Title) (found : ℕ) → last_entry (least_log v.stakes) ≡ Some (Looked t found) → v.since.handed ≡ false →
+      Waits history words v t found
   pub stake : 0 < unclean_of v → HasStake v
 
 -- of reads, by what all views' logs say and what each view waits with
