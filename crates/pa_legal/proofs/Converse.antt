@@ -1,47 +1,44 @@
 -- What is asked of a run's numbers holds of each legal run.
-use Rattle.std.proofs.Common.{◌≡◌, ℕ, ◌+◌, ◌<◌, ◌≤◌, ◌⊎◌, Bool, true, false, not, ◌&&◌, cond, List, [], ◌∷◌, ◌++◌, map, filter, flat_map, Option, Some, None, refl, sym, ◌∙◌, ap, subst, arith, inl, inr, append_assoc}
-use Rattle.std.specs.Prelude.{Contains, AllPairs, count_by, slice_get, ◌==◌}
+use Rattle.std.proofs.Common.{◌≡◌, ℕ, ◌+◌, ◌<◌, ◌≤◌, ◌⊎◌, Bool, false, not, cond, List, [], ◌∷◌, ◌++◌, filter, Option, Some, None, refl, sym, ◌∙◌, ap, subst, arith, inl, inr, append_assoc}
+use Rattle.std.specs.Prelude.{Contains, AllPairs, slice_get, ◌==◌}
 use Rattle.std.proofs.lemmas.Option.{slice_get-get_or}
-use Rattle.std.proofs.lemmas.Bool.{cases_Bool, cases_eq, cases_lt, eq-eqb, ne_eqb, true≢false}
+use Rattle.std.proofs.lemmas.Bool.{cases_Bool, cases_eq, eq-eqb, ne_eqb, true≢false}
 use Rattle.std.proofs.lemmas.List.Elements.{filter-append}
-use Rattle.std.proofs.lemmas.List.Sums.{sum_by-cons, sum_by-append}
+use Rattle.std.proofs.lemmas.List.Sums.{sum_by-cons}
 use Rattle.pa_machine.specs.declared.word.SlotName.{SlotName}
 use Rattle.pa_machine.specs.Count.{number_of}
-use Rattle.pa_machine.specs.Run.{Mark, Slots, same_slot}
+use Rattle.pa_machine.specs.Run.{Slots, same_slot}
 use Rattle.pa_machine.proofs.Runs.{same_slot_yes}
-use Rattle.pa_trace.specs.declared.script.Trace.{Trace}
 use Rattle.pa_record.specs.declared.entry.Seen.{Seen}
 use Rattle.pa_record.specs.declared.entry.Answer.TheVariants.{Done}
-use Rattle.pa_record.specs.declared.numbered.Numbered.{Numbered}
 use Rattle.pa_record.specs.declared.pool.PoolEntry.{PoolEntry}
 use Rattle.pa_record.specs.declared.root.RootEntry.{RootEntry}
 use Rattle.pa_record.specs.declared.root.RootAct.{RootAct}
 use Rattle.pa_record.specs.declared.root.RootAct.TheVariants.{Fill, Map, Full, Give, Unmap, Purge}
 use Rattle.pa_record.specs.Root.{IsJournal}
 use Rattle.pa_record.specs.Laws.{leaves_by, comes_by, times, times_left, times_back}
-use Rattle.pa_record.proofs.Members.{not_in_none, first_in, later_in, in_cases}
-use Rattle.pa_record.proofs.Joined.{map_cases, flat_in, filter_in, filter_cases}
+use Rattle.pa_record.proofs.Members.{not_in_none, first_in}
+use Rattle.pa_record.proofs.Joined.{flat_in, filter_in}
 use Rattle.pa_record.proofs.Leaving.{out_is_left}
 use Rattle.pa_rules.specs.declared.played.Played.{Played}
-use Rattle.pa_rules.specs.Played.{mark_at, mark_of, marks_of}
+use Rattle.pa_rules.specs.Played.{mark_at, marks_of}
 use Rattle.pa_rules.specs.Roots.{Journals, AreRoots, IsPoolOf}
 use Rattle.pa_rules.specs.Caches.{AreCaches}
-use Rattle.pa_rules.specs.Holders.{Holder, InRoot, WithThread, Way, Out, Back, Move, move_of, moves_by, is_move_of, moves_at, IsFirstHolder, IsOfSlot, made_by, needed_by, MovesFit, HasHolders, AreHolders}
-use Rattle.pa_rules.specs.Told.{Told, records_of}
-use Rattle.pa_rules.specs.Legal.{IsLegalTold}
+use Rattle.pa_rules.specs.Holders.{Holder, Way, Out, Back, Move, move_of, moves_by, is_move_of, moves_at, IsFirstHolder, IsOfSlot, made_by, needed_by, MovesFit, HasHolders, AreHolders}
+use Rattle.pa_rules.specs.Told.{records_of}
 use Rattle.pa_rules.proofs.Numbering.{lines_rise, rising_differ}
 use Rattle.pa_rules.proofs.Owned.{journal_front}
 use Rattle.pa_rules.proofs.Recorded.{records_are_lines}
 use Rattle.pa_rules.proofs.Running.{OtherRecord}
 use Rattle.pa_legal.specs.Turns.{is_out, is_with}
 use Rattle.pa_legal.specs.Numbers.{all_moves, is_of, moves_of, HasAt, at_after, IsNumbered, AreNumbered}
-use Rattle.pa_legal.specs.Known.{UnmapsNext, FindsInUse, IsKnown, LegalIsKnown}
+use Rattle.pa_legal.specs.Known.{UnmapsNext, FindsInUse, LegalIsKnown}
 use Rattle.pa_legal.proofs.flow.Counts.{is_back}
 use Rattle.pa_legal.proofs.holders.Alternating.{away_at, hit_after, miss_same}
 use Rattle.pa_legal.proofs.holders.Held.{first_away}
-use Rattle.pa_legal.proofs.holders.Records.{ReturnsMap, unmap_returns}
+use Rattle.pa_legal.proofs.holders.Records.{unmap_returns}
 use Rattle.pa_legal.proofs.holders.Gone.{below, marked, gone_from}
-use Rattle.pa_legal.proofs.Standing.{counted, had, acts_out, acts_back, journal_out, journal_back}
+use Rattle.pa_legal.proofs.Standing.{counted, had, acts_out, acts_back}
 
 -- ---- ways that fit
 

@@ -4,14 +4,13 @@ use Rattle.std.specs.Prelude.{Contains}
 use Rattle.std.proofs.lemmas.Bool.{eq-eqb}
 use Rattle.pa_machine.specs.declared.word.SlotName.{SlotName}
 use Rattle.pa_machine.specs.Count.{number_of}
-use Rattle.pa_machine.specs.declared.word.Step.TheVariants.{Issue}
 use Rattle.pa_machine.proofs.Runs.{same_slot_yes}
 use Rattle.pa_record.specs.declared.entry.Seen.{Seen}
 use Rattle.pa_record.specs.declared.entry.Answer.TheVariants.{Made}
 use Rattle.pa_record.specs.declared.pool.PoolEntry.{PoolEntry}
 use Rattle.pa_record.proofs.Members.{first_in}
 use Rattle.pa_rules.specs.declared.played.Played.{Played}
-use Rattle.pa_rules.specs.Played.{mark_of_answer, mark_at}
+use Rattle.pa_rules.specs.Played.{mark_of_answer}
 use Rattle.pa_rules.specs.Roots.{Journals}
 use Rattle.pa_rules.specs.Holders.{WithThread, Move, moves_at, IsHeld}
 use Rattle.pa_rules.proofs.FourPlaces.{HasLeft}

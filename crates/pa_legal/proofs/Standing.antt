@@ -1,31 +1,26 @@
 -- Where a slot is by its root's numbers and by the threads' lists.
-use Rattle.std.proofs.Common.{◌≡◌, ◌≢◌, ℕ, ◌+◌, ◌<◌, ◌≤◌, ◌⊎◌, Bool, true, false, not, ◌&&◌, cond, List, [], ◌∷◌, ◌++◌, map, filter, flat_map, Option, Some, None, refl, sym, ◌∙◌, ap, subst, arith, inl, inr}
-use Rattle.std.specs.Prelude.{Contains, All, AllPairs, count_by, ◌==◌}
+use Rattle.std.proofs.Common.{◌≡◌, ℕ, ◌+◌, ◌⊎◌, Bool, true, false, cond, List, [], ◌∷◌, map, filter, Option, Some, None, refl, sym, ◌∙◌, ap, arith, inl, inr}
+use Rattle.std.specs.Prelude.{Contains, count_by}
 use Rattle.std.proofs.lemmas.Bool.{cases_Bool}
 use Rattle.std.proofs.lemmas.List.{append-nil}
 use Rattle.std.proofs.lemmas.List.Elements.{filter-append}
 use Rattle.std.proofs.lemmas.List.Sums.{sum_by-cons, sum_by-append}
 use Rattle.std.proofs.lemmas.Option.{slice_get-get_or}
 use Rattle.pa_machine.specs.declared.word.SlotName.{SlotName}
-use Rattle.pa_machine.specs.Run.{Slots, same_slot}
+use Rattle.pa_machine.specs.Run.{same_slot}
 use Rattle.pa_machine.proofs.Runs.{same_slot_cases, same_slot_yes, same_slot_no}
 use Rattle.pa_record.specs.declared.numbered.Numbered.{Numbered}
-use Rattle.pa_record.specs.declared.pool.PoolEntry.{PoolEntry}
 use Rattle.pa_record.specs.declared.root.RootEntry.{RootEntry}
 use Rattle.pa_record.specs.declared.root.RootAct.{RootAct}
 use Rattle.pa_record.specs.declared.root.RootAct.TheVariants.{Fill, Map, Full, Give, Unmap, Purge}
-use Rattle.pa_record.specs.Root.{new_root, root_replayed, names}
+use Rattle.pa_record.specs.Root.{names}
 use Rattle.pa_record.specs.Laws.{leaves_by, comes_by, times, times_left, times_back}
-use Rattle.pa_record.proofs.Members.{not_in_none, first_in, later_in}
+use Rattle.pa_record.proofs.Members.{not_in_none}
 use Rattle.pa_record.proofs.Leaving.{out_is_left}
 use Rattle.pa_rules.specs.declared.played.Played.{Played}
-use Rattle.pa_rules.specs.Played.{marks_of}
-use Rattle.pa_rules.specs.Roots.{Journals, AreRoots, IsPoolOf}
-use Rattle.pa_rules.specs.Caches.{Caches, CachesTo, no_caches}
+use Rattle.pa_rules.specs.Caches.{no_caches}
 use Rattle.pa_rules.specs.Holders.{Way, Out, Back, Move, move_of, moves_by}
 use Rattle.pa_rules.proofs.Counted.{once, times_cons}
-use Rattle.pa_rules.proofs.Running.{OtherRecord}
-use Rattle.pa_rules.proofs.ByLines.{IsFront}
 use Rattle.pa_rules.proofs.Known.{all_known}
 use Rattle.pa_rules.proofs.Flowing.{class_leaves}
 use Rattle.pa_rules.proofs.FourPlaces.{slot_once}

@@ -1,6 +1,6 @@
 -- A slot that left a root has one partition, and one class or one length of a direct map.
-use Rattle.std.proofs.Common.{◌≡◌, ℕ, ◌+◌, ◌<◌, ◌≤◌, List, [], Some, sym, ◌∙◌, ap, subst, arith, ◌⊎◌, inl, inr}
-use Rattle.std.specs.Prelude.{Contains, slice_get}
+use Rattle.std.proofs.Common.{◌≡◌, ℕ, ◌<◌, ◌≤◌, List, [], Some, sym, ◌∙◌, ap, subst, arith, inl, inr}
+use Rattle.std.specs.Prelude.{Contains}
 use Rattle.std.proofs.lemmas.Bool.{cases_order}
 use Rattle.std.proofs.lemmas.Option.{slice_get-get_or}
 use Rattle.pa_machine.specs.declared.title.Title.{Title}
@@ -23,7 +23,7 @@ use Rattle.pa_rules.specs.Report.{HasSize}
 use Rattle.pa_rules.proofs.Owned.{only_of, title_of, HasLen}
 use Rattle.pa_rules.proofs.Flowing.{map_leaves, class_leaves}
 use Rattle.pa_rules.proofs.FourPlaces.{HasLeft}
-use Rattle.pa_legal.specs.Kinds.{HasOneKind, OneKind}
+use Rattle.pa_legal.specs.Kinds.{OneKind}
 
 -- titles of one name, which aren't empty, are one
 one_title : (pools : List PoolEntry) (IsOne : Title → Type 0) (t u : Title) → AreTitles pools IsOne → IsOne t → IsOne u → name_of t ≡ name_of u → 1 ≤ t.len → 1 ≤ u.len → t ≡ u

@@ -20,5 +20,5 @@ pub record HasOneKind (roots : Journals) (s : SlotName) : Type 0 where
 
 abbrev pub OneKind : Type 0
 OneKind =
-    (supers partitions : ℕ) (ps : List Played) (pools : List PoolEntry) (roots : Journals) (s : SlotName) → AreRoots partitions ps pools roots → IsPoolOf supers ps pools roots →
-    HasOneKind roots s
+    (supers partitions : ℕ) (ps : List Played) (pools : List PoolEntry) (roots : Journals) (s : SlotName) →
+    AreRoots partitions ps pools roots → IsPoolOf supers ps pools roots → HasOneKind roots s

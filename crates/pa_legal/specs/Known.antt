@@ -31,7 +31,8 @@ IsNewMap roots x = (seen : Seen) (usable p : ℕ) → x.answer ≡ Made seen usa
 -- a direct map that goes back is named at the number that the step which returned it left
 abbrev pub UnmapsNext : Journals → Played → Type 0
 UnmapsNext roots x =
-    (seen : Seen) (p asked : ℕ) (slot : Numbered) (e : RootEntry) → x.answer ≡ Done seen → Contains (roots p) e → e.line ≡ x.line → e.act ≡ Unmap asked slot →
+    (seen : Seen) (p asked : ℕ) (slot : Numbered) (e : RootEntry) →
+    x.answer ≡ Done seen → Contains (roots p) e → e.line ≡ x.line → e.act ≡ Unmap asked slot →
     slot.number ≡ number_of seen.found.0 + 1
 
 -- a look finds a word that is in use
@@ -57,7 +58,8 @@ pub record AreKnown (supers partitions : ℕ) (ps : List Played) (pools : List P
 -- then each free slot has one holder, as a legal run asks
 abbrev pub HoldersFollow : Type 0
 HoldersFollow =
-    (supers partitions : ℕ) (ps : List Played) (pools : List PoolEntry) (roots : Journals) → AreKnown supers partitions ps pools roots → AreHolders ps roots
+    (supers partitions : ℕ) (ps : List Played) (pools : List PoolEntry) (roots : Journals) →
+    AreKnown supers partitions ps pools roots → AreHolders ps roots
 
 -- What is known of a run clause by clause: all that a legal run asks but the titles and the holders, which follow from the
 -- rest; and what is said above of a root's numbers, of direct maps that go back and of looks.
@@ -83,9 +85,12 @@ LegalFollows = (t : Trace) (r : Told) → IsKnown t r (records_of t r) → IsLeg
 -- A direct map is made once, so the issue of its slot finds the number 0.
 abbrev pub NewMaps : Type 0
 NewMaps =
-    (supers partitions : ℕ) (ps : List Played) (pools : List PoolEntry) (roots : Journals) (x : Played) → AreRoots partitions ps pools roots → IsPoolOf supers ps pools roots →
-    AllPairs (λ (x y : Played). x.line ≢ y.line) ps → Slots (marks_of ps) → AreCaches partitions roots ps → Contains ps x → IsNewMap roots x
+    (supers partitions : ℕ) (ps : List Played) (pools : List PoolEntry) (roots : Journals) (x : Played) →
+    AreRoots partitions ps pools roots → IsPoolOf supers ps pools roots → AllPairs (λ (x y : Played). x.line ≢ y.line) ps →
+    Slots (marks_of ps) → AreCaches partitions roots ps → Contains ps x → IsNewMap roots x
 
 -- Nothing is asked in vain: of each legal run whose looks find words in use all this is known.
 abbrev pub LegalIsKnown : Type 0
-LegalIsKnown = (t : Trace) (r : Told) → IsLegalTold t r → ((x : Played) → Contains (records_of t r) x → FindsInUse x) → IsKnown t r (records_of t r)
+LegalIsKnown =
+    (t : Trace) (r : Told) → IsLegalTold t r → ((x : Played) → Contains (records_of t r) x → FindsInUse x) →
+    IsKnown t r (records_of t r)

@@ -53,13 +53,14 @@ AreNumbered roots = (p : ℕ) (s : SlotName) → IsNumbered (Some 0) (moves_of (
 -- after a direct map went back no entry of its journal names it
 abbrev pub Unnamed : Type 0
 Unnamed =
-    (pools : List PoolEntry) (xs ys : List RootEntry) (e f : RootEntry) (asked : ℕ) (slot : Numbered) (m : Move) → IsJournal pools (xs ++ e ∷ ys) →
-    e.act ≡ Unmap asked slot → Contains ys f → Contains (moves_by f.line f.act) m → m.slot ≢ slot.slot
+    (pools : List PoolEntry) (xs ys : List RootEntry) (e f : RootEntry) (asked : ℕ) (slot : Numbered) (m : Move) →
+    IsJournal pools (xs ++ e ∷ ys) → e.act ≡ Unmap asked slot → Contains ys f → Contains (moves_by f.line f.act) m → m.slot ≢ slot.slot
 
 -- a slot that is out of the root is at no number there
 abbrev pub OutNone : Type 0
 OutNone =
-    (pools : List PoolEntry) (journal : List RootEntry) (s : SlotName) → IsJournal pools journal → IsNumbered (Some 0) (moves_of journal s) →
+    (pools : List PoolEntry) (journal : List RootEntry) (s : SlotName) →
+    IsJournal pools journal → IsNumbered (Some 0) (moves_of journal s) →
     IsNameOut (root_replayed pools journal new_root) s → at_end (Some 0) (moves_of journal s) ≡ None
 
 -- what stands on a thread's list is out of the root, free and nowhere else
@@ -71,7 +72,8 @@ pub record IsCachedOut (pools : List PoolEntry) (roots : Journals) (threads p : 
 -- So it is for each slot of a list at the end of a run whose records each have a line of its own.
 abbrev pub CachedOut : Type 0
 CachedOut =
-    (supers partitions threads p t class w : ℕ) (ps : List Played) (pools : List PoolEntry) (roots : Journals) (all : Caches) (m : Numbered) →
-    AreRoots partitions ps pools roots → IsPoolOf supers ps pools roots → AllPairs (λ (x y : Played). x.line ≢ y.line) ps → All (λ (x : Played). x.thread < threads) ps →
-    Slots (marks_of ps) → CachesTo partitions roots no_caches ps all → p < partitions → t < threads → class < 59 → Contains (all t p class) m → HasWord ps m.slot w →
-    IsCachedOut pools roots threads p all m.slot w
+    (supers partitions threads p t class w : ℕ) (ps : List Played) (pools : List PoolEntry) (roots : Journals) (all : Caches)
+    (m : Numbered) → AreRoots partitions ps pools roots → IsPoolOf supers ps pools roots →
+    AllPairs (λ (x y : Played). x.line ≢ y.line) ps → All (λ (x : Played). x.thread < threads) ps → Slots (marks_of ps) →
+    CachesTo partitions roots no_caches ps all → p < partitions → t < threads → class < 59 → Contains (all t p class) m →
+    HasWord ps m.slot w → IsCachedOut pools roots threads p all m.slot w

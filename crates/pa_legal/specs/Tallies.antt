@@ -63,11 +63,19 @@ pub record IsLeft (into out : Step → ℕ → Bool) (home size : SlotName → �
   pub slots : tally.slots + weight_of out (one_of home p) ms ≡ weight_of into (one_of home p) ms
   pub bytes : tally.bytes + weight_of out (bytes_of home size p) ms ≡ weight_of into (bytes_of home size p) ms
 
--- So a tally is that of the live slots of a partition after some records, or of the quarantined ones.
+-- What is given: a run's journals and pool, and some records with a line each and one run for each slot.
+pub record IsTallied (supers partitions : ℕ) (ps xs : List Played) (pools : List PoolEntry) (roots : Journals) : Type 0 where
+  pub journals : AreRoots partitions ps pools roots
+  pub pool : IsPoolOf supers ps pools roots
+  pub lines : AllPairs (λ (x y : Played). x.line ≢ y.line) xs
+  pub slots : Slots (marks_of xs)
+
+-- Then a tally is that of the live slots of a partition after these records, or of the quarantined ones.
 pub record TalliesFollow : Type 0 where
-  pub live : (supers partitions p : ℕ) (ps xs : List Played) (pools : List PoolEntry) (roots : Journals) (home size : SlotName → ℕ) (tally : Tally) →
-      AreRoots partitions ps pools roots → IsPoolOf supers ps pools roots → AllPairs (λ (x y : Played). x.line ≢ y.line) xs → Slots (marks_of xs) →
+  pub live : (supers partitions p : ℕ) (ps xs : List Played) (pools : List PoolEntry) (roots : Journals)
+      (home size : SlotName → ℕ) (tally : Tally) → IsTallied supers partitions ps xs pools roots →
       AreHomes roots home size (marks_of xs) → IsLeft issues frees home size p (marks_of xs) tally → IsTally IsLive roots xs p tally
-  pub quarantined : (supers partitions p : ℕ) (ps xs : List Played) (pools : List PoolEntry) (roots : Journals) (home size : SlotName → ℕ) (tally : Tally) →
-      AreRoots partitions ps pools roots → IsPoolOf supers ps pools roots → AllPairs (λ (x y : Played). x.line ≢ y.line) xs → Slots (marks_of xs) →
-      AreHomes roots home size (marks_of xs) → IsLeft enters leaves home size p (marks_of xs) tally → IsTally IsQuarantined roots xs p tally
+  pub quarantined : (supers partitions p : ℕ) (ps xs : List Played) (pools : List PoolEntry) (roots : Journals)
+      (home size : SlotName → ℕ) (tally : Tally) → IsTallied supers partitions ps xs pools roots →
+      AreHomes roots home size (marks_of xs) → IsLeft enters leaves home size p (marks_of xs) tally →
+      IsTally IsQuarantined roots xs p tally

@@ -53,7 +53,8 @@ backs_of t us = count_by (λ (u : Turn). not (is_out u.way) && (u.thread == t)) 
 -- no thread gives the slot back more often than it had it at first and took it out before
 abbrev pub NoneLoses : Holder → List Turn → Type 0
 NoneLoses h us =
-    (before after : List Turn) (u : Turn) → us ≡ before ++ u ∷ after → u.way ≡ Back → backs_of u.thread before < has u.thread h + takes_of u.thread before
+    (before after : List Turn) (u : Turn) → us ≡ before ++ u ∷ after → u.way ≡ Back →
+    backs_of u.thread before < has u.thread h + takes_of u.thread before
 
 -- Where the slot goes out and back in turn and no thread gives back more than it got, each turn finds the holder that it
 -- needs, and a thread that got the slot more often than it gave it back has it after them.

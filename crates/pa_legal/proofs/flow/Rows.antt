@@ -6,7 +6,7 @@ use Rattle.pa_machine.specs.declared.word.SlotName.{SlotName}
 use Rattle.pa_machine.specs.declared.word.Step.{Step}
 use Rattle.pa_machine.specs.declared.word.Step.TheVariants.{Issue}
 use Rattle.pa_machine.specs.Count.{number_of}
-use Rattle.pa_machine.specs.Run.{Mark, IsReturning, same_slot}
+use Rattle.pa_machine.specs.Run.{Mark, same_slot}
 use Rattle.pa_record.specs.declared.entry.Seen.{Seen}
 use Rattle.pa_record.specs.declared.entry.Answer.{Answer}
 use Rattle.pa_record.specs.declared.entry.Answer.TheVariants as answers
@@ -14,7 +14,7 @@ use Rattle.pa_record.specs.declared.numbered.Numbered.{Numbered}
 use Rattle.pa_record.specs.declared.pool.PoolEntry.{PoolEntry}
 use Rattle.pa_record.specs.declared.root.RootEntry.{RootEntry}
 use Rattle.pa_record.specs.declared.root.RootAct.{RootAct}
-use Rattle.pa_record.specs.declared.root.RootAct.TheVariants.{Fill, Map, Full, Unmap}
+use Rattle.pa_record.specs.declared.root.RootAct.TheVariants.{Map, Full, Unmap}
 use Rattle.pa_record.specs.Root.{IsJournal}
 use Rattle.pa_record.specs.Laws.{leaves_by}
 use Rattle.pa_record.proofs.Members.{first_in}
@@ -22,14 +22,14 @@ use Rattle.pa_record.proofs.Joined.{map_cases, filter_cases}
 use Rattle.pa_rules.specs.declared.played.Played.{Played}
 use Rattle.pa_rules.specs.Played.{mark_of, mark_of_answer, mark_at, look_at, step_of}
 use Rattle.pa_rules.specs.Roots.{Journals}
-use Rattle.pa_rules.specs.Caches.{Cache, with_list, Becomes, acts_of, OnlyActs, NoActs, IsOfClass, IsDirect, FilledFirst, MadeRow, FullRow, ReturnRow, DoneRow, PurgedRow, CacheRow, gives, kept, spilled}
+use Rattle.pa_rules.specs.Caches.{Cache, with_list, Becomes, acts_of, OnlyActs, NoActs, IsDirect, FilledFirst, MadeRow, FullRow, ReturnRow, DoneRow, PurgedRow, CacheRow, gives, kept, spilled}
 use Rattle.pa_rules.specs.Flow.{returns_at, is_issue, is_issue_of, is_return_of, IsOnlyOf}
 use Rattle.pa_rules.proofs.Known.{IsKnown, first_keeps}
 use Rattle.pa_rules.proofs.Counted.{list_of_another}
 use Rattle.pa_rules.proofs.Flowing.{class_leaves, map_leaves, class_real, returns_yes, returns_no, no_issue}
 use Rattle.pa_legal.specs.Turns.{is_out}
 use Rattle.pa_legal.specs.Known.{IsNewMap, UnmapsNext}
-use Rattle.pa_legal.proofs.flow.Counts.{is_back, hits, hit_once, at_in, listed, moved, moved_in, at_cons, hit_none, at_kept, back_gives, out_gives, back_purge, out_purge, listed_agree, listed_none, listed_changed}
+use Rattle.pa_legal.proofs.flow.Counts.{is_back, hit_once, at_in, listed, moved_in, at_cons, hit_none, at_kept, back_gives, out_gives, back_purge, out_purge, listed_agree, listed_none, listed_changed}
 
 -- a mark that issues the slot at the number, and one that returns it and leaves the number
 abbrev pub is_issue_at : SlotName → ℕ → Mark → Bool

@@ -1,13 +1,13 @@
 -- After a direct map went back no entry of its journal names it, and no record found its number or a later one.
-use Rattle.std.proofs.Common.{◌≡◌, ℕ, zero, suc, ◌+◌, ◌<◌, ◌≤◌, List, [], ◌∷◌, ◌++◌, Option, Some, None, refl, sym, ◌∙◌, ap, subst, arith, inl, inr}
+use Rattle.std.proofs.Common.{◌≡◌, ℕ, zero, suc, ◌+◌, ◌<◌, List, [], ◌∷◌, ◌++◌, Option, Some, None, refl, sym, ◌∙◌, ap, subst, arith, inl, inr}
 use Rattle.std.specs.Prelude.{Contains, slice_get, AllPairs}
 use Rattle.std.proofs.lemmas.Bool.{cases_lt, cases_eq}
 use Rattle.std.proofs.lemmas.Option.{slice_get_within, get_or_from_slice_get}
 use Rattle.pa_machine.specs.declared.word.SlotName.{SlotName}
 use Rattle.pa_machine.specs.declared.word.Step.{Step}
 use Rattle.pa_machine.specs.declared.word.Step.TheVariants.{Issue}
-use Rattle.pa_machine.specs.Count.{CanStep, number_of, held_of, refs_of, stepped}
-use Rattle.pa_machine.specs.Run.{Mark, Slots, IsFirstAt}
+use Rattle.pa_machine.specs.Count.{number_of, held_of, refs_of, stepped}
+use Rattle.pa_machine.specs.Run.{Mark, Slots}
 use Rattle.pa_machine.proofs.Runs.{number_stepped}
 use Rattle.pa_record.specs.declared.numbered.Numbered.{Numbered}
 use Rattle.pa_record.specs.declared.pool.PoolEntry.{PoolEntry}
@@ -27,7 +27,7 @@ use Rattle.pa_legal.specs.Known.{AreKnown, FindsInUse}
 use Rattle.pa_legal.proofs.Naming.{unnamed}
 use Rattle.pa_legal.proofs.Words.{same_word, goes_on, goes_past, leaves_free, only_issue}
 use Rattle.pa_legal.proofs.holders.Maps.{new_map}
-use Rattle.pa_legal.proofs.holders.Records.{ReturnsMap, unmap_returns, Makes, issue_makes}
+use Rattle.pa_legal.proofs.holders.Records.{ReturnsMap, unmap_returns, issue_makes}
 
 -- an entry, and those behind it
 behind : {A : Type 0} (xs : List A) (i j : ℕ) (e f : A) → slice_get xs i ≡ Some e → slice_get xs j ≡ Some f → i < j → (before rest : List A) × (xs ≡ before ++ e ∷ rest) × Contains rest f

@@ -1,15 +1,15 @@
 -- The holders of a journal's moves at a number, from the first holder on.
-use Rattle.std.proofs.Common.{◌≡◌, ℕ, ◌+◌, ◌<◌, ◌≤◌, ◌⊎◌, Bool, true, false, not, ◌&&◌, List, [], ◌∷◌, ◌++◌, map, Some, refl, sym, ◌∙◌, ap, subst, arith, inl, inr}
+use Rattle.std.proofs.Common.{◌≡◌, ℕ, ◌+◌, ◌<◌, Bool, true, not, ◌&&◌, List, [], ◌∷◌, ◌++◌, map, Some, refl, sym, ◌∙◌, ap, subst, arith, inl, inr}
 use Rattle.std.specs.Prelude.{Contains, AllPairs, ◌==◌, count_by}
 use Rattle.std.proofs.lemmas.Bool.{eq-eqb, ne_eqb, true≢false}
 use Rattle.std.proofs.lemmas.List.{append-nil}
 use Rattle.std.proofs.lemmas.List.Elements.{Contains-append_left}
 use Rattle.pa_machine.specs.declared.word.SlotName.{SlotName}
 use Rattle.pa_record.specs.declared.pool.PoolEntry.{PoolEntry}
-use Rattle.pa_record.proofs.Members.{not_in_none, first_in, later_in}
+use Rattle.pa_record.proofs.Members.{first_in, later_in}
 use Rattle.pa_rules.specs.declared.played.Played.{Played}
 use Rattle.pa_rules.specs.Roots.{Journals, IsOfLine}
-use Rattle.pa_rules.specs.Holders.{Holder, InRoot, WithThread, Way, Out, Back, Move, moves_at, made_by, needed_by, MovesFit, HolderAfter, HasHolders, IsFirstHolder}
+use Rattle.pa_rules.specs.Holders.{Holder, WithThread, Way, Out, Back, Move, moves_at, made_by, needed_by, MovesFit, HolderAfter, HasHolders, IsFirstHolder}
 use Rattle.pa_rules.proofs.Running.{OtherRecord}
 use Rattle.pa_rules.proofs.FourPlaces.{HasLeft}
 use Rattle.pa_legal.specs.Turns.{Turn, is_out, is_with, needs, makes, Alternate, TurnsFit, holder_after, has, takes_of, backs_of, NoneLoses}
@@ -17,7 +17,7 @@ use Rattle.pa_legal.specs.Numbers.{all_moves}
 use Rattle.pa_legal.specs.Known.{AreKnown}
 use Rattle.pa_legal.proofs.Balance.{holders_balance}
 use Rattle.pa_legal.proofs.flow.Counts.{is_back}
-use Rattle.pa_legal.proofs.flow.Threads.{over, issues_at, returns_at, weigh}
+use Rattle.pa_legal.proofs.flow.Threads.{issues_at, weigh}
 use Rattle.pa_legal.proofs.holders.Order.{move_made}
 use Rattle.pa_legal.proofs.holders.First.{IsFirst, IsNever, first_holder}
 use Rattle.pa_legal.proofs.holders.Alternating.{turn_of, away_at, alternate, moved_left}

@@ -1,38 +1,31 @@
 -- Each move of a journal has the holder that it needs, and who issues a slot holds it.
-use Rattle.std.proofs.Common.{◌≡◌, ℕ, ◌+◌, ◌<◌, ◌≤◌, ◌⊎◌, Bool, true, false, not, ◌&&◌, cond, List, [], ◌∷◌, ◌++◌, map, refl, sym, ◌∙◌, ap, subst, arith, inl, inr, append_assoc}
+use Rattle.std.proofs.Common.{◌≡◌, ℕ, ◌+◌, ◌<◌, ◌≤◌, Bool, true, false, ◌&&◌, cond, List, [], ◌∷◌, ◌++◌, map, refl, sym, ◌∙◌, ap, subst, arith, inl, inr, append_assoc}
 use Rattle.std.specs.Prelude.{Contains, AllPairs, ◌==◌, if◌then◌else◌, count_by}
-use Rattle.std.proofs.lemmas.Bool.{cases_Bool, cases_eq, cases_lt, eq-eqb, ne_eqb, false≢true}
-use Rattle.std.proofs.lemmas.List.{append-nil}
+use Rattle.std.proofs.lemmas.Bool.{cases_lt, eq-eqb, ne_eqb, false≢true}
 use Rattle.std.proofs.lemmas.List.Elements.{Contains-append_left, Contains-append_right, Contains-append_cases}
 use Rattle.std.proofs.lemmas.List.Sums.{sum_by-cons}
 use Rattle.pa_machine.specs.declared.word.SlotName.{SlotName}
 use Rattle.pa_record.specs.declared.pool.PoolEntry.{PoolEntry}
-use Rattle.pa_record.specs.declared.root.RootEntry.{RootEntry}
-use Rattle.pa_record.specs.Laws.{leaves_by}
 use Rattle.pa_record.proofs.Members.{not_in_none, first_in, later_in, in_cases}
 use Rattle.pa_record.proofs.Pairs.{pairs_none, pairs_cons, pairs_head, pairs_tail}
 use Rattle.pa_rules.specs.declared.played.Played.{Played}
-use Rattle.pa_rules.specs.Cells.{StandsBefore}
 use Rattle.pa_rules.specs.Roots.{Journals, IsOfLine}
-use Rattle.pa_rules.specs.Caches.{Caches, CachesTo, no_caches}
-use Rattle.pa_rules.specs.Holders.{Holder, InRoot, WithThread, Way, Out, Back, Move, moves_at, needed_by, made_by, MovesFit, HolderAfter, HasHolders, IsFirstHolder}
+use Rattle.pa_rules.specs.Caches.{CachesTo, no_caches}
+use Rattle.pa_rules.specs.Holders.{Way, Out, Back, Move, moves_at}
 use Rattle.pa_rules.specs.Flow.{IsOnlyOf}
 use Rattle.pa_rules.proofs.Numbering.{rising_differ}
 use Rattle.pa_rules.proofs.Owned.{only_of}
 use Rattle.pa_rules.proofs.Running.{OtherRecord}
 use Rattle.pa_rules.proofs.FourPlaces.{HasLeft}
-use Rattle.pa_rules.proofs.ByLines.{same_record}
-use Rattle.pa_legal.specs.Turns.{Turn, is_out, is_with, needs, makes, Alternate, TurnsFit, holder_after, has, takes_of, backs_of, NoneLoses}
+use Rattle.pa_legal.specs.Turns.{Turn, is_out}
 use Rattle.pa_legal.specs.Known.{AreKnown}
-use Rattle.pa_legal.proofs.Balance.{holders_balance}
-use Rattle.pa_legal.proofs.flow.Counts.{is_back, listed, listed_none}
+use Rattle.pa_legal.proofs.flow.Counts.{is_back, listed_none}
 use Rattle.pa_legal.proofs.flow.Cuts.{caches_cut}
 use Rattle.pa_legal.proofs.flow.Threads.{over, issues_at, returns_at, all_flow, mine, weigh, weigh_cons, weigh_append, weigh_parts, weigh_zero, over_lines, mine_one}
-use Rattle.pa_legal.proofs.Parts.{pairs_across, pairs_after, map_parts, parts_at}
+use Rattle.pa_legal.proofs.Parts.{pairs_across, pairs_after, parts_at}
 use Rattle.pa_legal.proofs.holders.Maps.{new_map}
 use Rattle.pa_legal.proofs.holders.Order.{InOrder, one_way, move_made, moves_order}
-use Rattle.pa_legal.proofs.holders.First.{IsFirst, IsNever, first_holder}
-use Rattle.pa_legal.proofs.holders.Alternating.{turn_of, away_at, alternate, moved_left}
+use Rattle.pa_legal.proofs.holders.Alternating.{turn_of}
 
 -- ---- the thread of a line
 

@@ -1,23 +1,20 @@
 -- A direct map is made once: by the only entry that maps it. So the issue of its slot finds the number 0.
-use Rattle.std.proofs.Common.{◌≡◌, ℕ, ◌+◌, ◌<◌, List, [], ◌∷◌, Option, Some, None, refl, sym, ◌∙◌, ap, subst, arith, inl, inr}
+use Rattle.std.proofs.Common.{◌≡◌, ℕ, List, [], ◌∷◌, Option, Some, None, refl, sym, ◌∙◌, ap, subst, arith, inl, inr}
 use Rattle.std.specs.Prelude.{Contains, AllPairs, slice_get, option_map}
 use Rattle.std.proofs.lemmas.Bool.{cases_eq}
 use Rattle.std.proofs.lemmas.Option.{slice_get-get_or}
 use Rattle.pa_machine.specs.declared.word.SlotName.{SlotName}
-use Rattle.pa_machine.specs.declared.word.Step.{Step}
 use Rattle.pa_machine.specs.declared.word.Step.TheVariants.{Issue}
-use Rattle.pa_machine.specs.Count.{CanStep, number_of, held_of, refs_of}
-use Rattle.pa_machine.specs.Run.{Mark, Slots, IsFirstAt}
+use Rattle.pa_machine.specs.Count.{number_of}
+use Rattle.pa_machine.specs.Run.{Mark, Slots}
 use Rattle.pa_record.specs.declared.entry.Seen.{Seen}
 use Rattle.pa_record.specs.declared.entry.Answer.TheVariants.{Made}
 use Rattle.pa_record.specs.declared.numbered.Numbered.{Numbered}
 use Rattle.pa_record.specs.declared.pool.PoolEntry.{PoolEntry}
 use Rattle.pa_record.specs.declared.pool.PoolAct.{PoolAct}
 use Rattle.pa_record.specs.declared.root.RootEntry.{RootEntry}
-use Rattle.pa_record.specs.declared.root.RootAct.{RootAct}
 use Rattle.pa_record.specs.declared.root.RootAct.TheVariants.{Map}
 use Rattle.pa_record.specs.Root.{Root, new_root, root_next, RootActFits, RootReplays, asked_by}
-use Rattle.pa_record.specs.Pool.{act_at}
 use Rattle.pa_record.proofs.Members.{not_in_none, first_in, in_cases, of_some, not_some}
 use Rattle.pa_rules.specs.declared.played.Played.{Played}
 use Rattle.pa_rules.specs.Played.{mark_of, mark_of_answer, mark_at, marks_of}
@@ -31,7 +28,7 @@ use Rattle.pa_legal.specs.Known.{IsNewMap, NewMaps}
 use Rattle.pa_legal.proofs.Titling.{class_or_direct}
 use Rattle.pa_legal.proofs.Words.{goes_past, only_issue}
 use Rattle.pa_legal.proofs.flow.Rows.{line_entry}
-use Rattle.pa_legal.proofs.holders.Records.{row_of, Makes, issue_makes}
+use Rattle.pa_legal.proofs.holders.Records.{row_of, issue_makes}
 
 -- a map names an entry of the pool that is there, by which its slot is born
 map_asked : (pools : List PoolEntry) (es : List RootEntry) (r : Root) (e : RootEntry) (asked len : ℕ) (s : SlotName) → RootReplays pools es r → Contains es e → e.act ≡ Map asked s len →

@@ -1,6 +1,6 @@
 -- The moves of a journal: which op makes each, and that those of one thread stand in the order of its lines.
-use Rattle.std.proofs.Common.{◌≡◌, ℕ, ◌<◌, Bool, List, [], ◌∷◌, map, flat_map, filter, Some, sym, ◌∙◌, ap, subst, arith, ◌⊎◌, inl, inr, get_or}
-use Rattle.std.specs.Prelude.{Contains, AllPairs, slice_get}
+use Rattle.std.proofs.Common.{◌≡◌, ℕ, List, [], ◌∷◌, map, flat_map, Some, sym, ◌∙◌, ap, subst, arith, ◌⊎◌, inl, inr, get_or}
+use Rattle.std.specs.Prelude.{Contains, AllPairs}
 use Rattle.std.proofs.lemmas.Option.{slice_get-get_or}
 use Rattle.std.proofs.lemmas.List.Elements.{Contains-get_or}
 use Rattle.std.proofs.lemmas.List.Kept.{AllPairs-filter}
@@ -12,7 +12,7 @@ use Rattle.pa_record.specs.declared.pool.PoolEntry.{PoolEntry}
 use Rattle.pa_record.specs.declared.root.RootEntry.{RootEntry}
 use Rattle.pa_record.specs.declared.root.RootAct.{RootAct}
 use Rattle.pa_record.specs.declared.root.RootAct.TheVariants.{Fill, Map, Full, Give, Unmap, Purge}
-use Rattle.pa_record.proofs.Members.{not_in_none, in_cases}
+use Rattle.pa_record.proofs.Members.{not_in_none}
 use Rattle.pa_record.proofs.Joined.{map_cases, filter_cases, flat_cases, pairs_flat}
 use Rattle.pa_rules.specs.declared.played.Played.{Played}
 use Rattle.pa_rules.specs.Cells.{StandsBefore}

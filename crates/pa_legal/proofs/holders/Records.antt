@@ -1,5 +1,5 @@
 -- What the caches say of a record: the slot that it made left a root, and what takes a direct map back is a step that returned it.
-use Rattle.std.proofs.Common.{◌≡◌, ℕ, zero, suc, ◌+◌, ◌<◌, ◌⊎◌, false, List, [], ◌∷◌, ◌++◌, take, drop, length, filter, Option, Some, None, refl, sym, ◌∙◌, ap, subst, arith, inl, inr}
+use Rattle.std.proofs.Common.{◌≡◌, ℕ, zero, suc, ◌+◌, ◌<◌, ◌⊎◌, false, List, [], ◌∷◌, take, drop, length, filter, Option, Some, None, refl, sym, ◌∙◌, ap, subst, inl, inr}
 use Rattle.std.specs.Prelude.{Contains, ◌==◌}
 use Rattle.std.proofs.lemmas.Bool.{cases_eq, eq-eqb, true≢false}
 use Rattle.std.proofs.lemmas.List.Elements.{Contains-append_cases}
@@ -20,7 +20,7 @@ use Rattle.pa_record.proofs.Joined.{map_in, filter_in}
 use Rattle.pa_rules.specs.declared.played.Played.{Played}
 use Rattle.pa_rules.specs.Played.{mark_of, mark_of_answer, mark_at, look_at, step_of}
 use Rattle.pa_rules.specs.Roots.{Journals}
-use Rattle.pa_rules.specs.Caches.{Cache, Caches, acts_of, OnlyActs, NoActs, IsDirect, FilledFirst, MadeRow, FullRow, ReturnRow, DoneRow, PurgedRow, CacheRow, CachesTo, no_caches, AreCaches, batches, gives, purge_acts}
+use Rattle.pa_rules.specs.Caches.{Cache, acts_of, OnlyActs, IsDirect, FilledFirst, MadeRow, FullRow, ReturnRow, DoneRow, PurgedRow, CacheRow, CachesTo, no_caches, AreCaches, batches, gives, purge_acts}
 use Rattle.pa_rules.specs.Flow.{is_issue}
 use Rattle.pa_rules.proofs.Flowing.{class_leaves, map_leaves, no_issue}
 use Rattle.pa_rules.proofs.Known.{IsKnown, first_keeps, entry_of_act, all_known}

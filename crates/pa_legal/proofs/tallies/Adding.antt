@@ -1,9 +1,9 @@
 -- A tally of steps is that of the slots that are live or quarantined after them.
-use Rattle.std.proofs.Common.{◌≡◌, ◌≢◌, ℕ, ◌+◌, ◌*◌, ◌⊎◌, Bool, true, false, ◌&&◌, cond, List, [], ◌∷◌, map, filter, length, refl, sym, ◌∙◌, ap, subst, arith, inl, inr}
-use Rattle.std.specs.Prelude.{Contains, AllPairs, sum, count_by, ◌==◌}
+use Rattle.std.proofs.Common.{◌≡◌, ◌≢◌, ℕ, ◌+◌, ◌*◌, Bool, true, false, ◌&&◌, cond, List, [], ◌∷◌, map, filter, refl, sym, ◌∙◌, ap, subst, arith}
+use Rattle.std.specs.Prelude.{Contains, AllPairs, count_by, ◌==◌}
 use Rattle.std.specs.List.{AllZip}
 use Rattle.std.proofs.Math.Nat.{add-mul}
-use Rattle.std.proofs.lemmas.Bool.{cases_Bool, and_parts, and_from, eqb-true, eq-eqb, false≢true}
+use Rattle.std.proofs.lemmas.Bool.{and_parts, and_from, eqb-true, eq-eqb, false≢true}
 use Rattle.std.proofs.lemmas.List.Kept.{AllPairs-filter}
 use Rattle.pa_machine.specs.declared.word.SlotName.{SlotName}
 use Rattle.pa_machine.specs.declared.word.Step.{Step}
@@ -20,10 +20,10 @@ use Rattle.pa_rules.specs.Flow.{steps_so}
 use Rattle.pa_rules.proofs.Running.{OtherRecord, Balances, one_if, run_levels, marks_differ}
 use Rattle.pa_rules.proofs.FourPlaces.{one_word}
 use Rattle.pa_rules.proofs.Totals.{total, total_add, total_same, total_ones}
-use Rattle.pa_legal.specs.Tallies.{issues, frees, enters, leaves, weight_of, AreHomes, one_of, bytes_of, IsLeft, TalliesFollow}
+use Rattle.pa_legal.specs.Tallies.{issues, frees, enters, leaves, weight_of, AreHomes, IsLeft, TalliesFollow}
 use Rattle.pa_legal.proofs.Titling.{one_size}
 use Rattle.pa_legal.proofs.tallies.Levels.{is_live, live_balances, live_is, is_live_of, is_quarantined, quarantined_balances, quarantined_is, is_quarantined_of}
-use Rattle.pa_legal.proofs.tallies.Sums.{distinct, in_distinct, distinct_in, distinct_once, total_zero, total_sum, total_filter, slot_weight, weight_times, over_names}
+use Rattle.pa_legal.proofs.tallies.Sums.{distinct, in_distinct, distinct_in, distinct_once, total_sum, total_filter, slot_weight, weight_times, over_names}
 
 abbrev slot_at : Mark → SlotName
 slot_at m = m.slot
@@ -147,8 +147,8 @@ quarantined_level = record { balances = quarantined_balances; first = refl; is =
 
 pub tallies_follow : TalliesFollow
 tallies_follow = record {
-  live = λ supers partitions p ps xs pools roots home size tally r h lines slots homes left.
-      tally_is IsLive issues frees is_live live_level xs lines slots supers partitions p ps pools roots home size tally r h homes left;
-  quarantined = λ supers partitions p ps xs pools roots home size tally r h lines slots homes left.
-      tally_is IsQuarantined enters leaves is_quarantined quarantined_level xs lines slots supers partitions p ps pools roots home size tally r h homes left;
+  live = λ supers partitions p ps xs pools roots home size tally given homes left.
+      tally_is IsLive issues frees is_live live_level xs given.lines given.slots supers partitions p ps pools roots home size tally given.journals given.pool homes left;
+  quarantined = λ supers partitions p ps xs pools roots home size tally given homes left.
+      tally_is IsQuarantined enters leaves is_quarantined quarantined_level xs given.lines given.slots supers partitions p ps pools roots home size tally given.journals given.pool homes left;
 }

@@ -1,10 +1,9 @@
 -- What each step does to a slot's being live or quarantined.
-use Rattle.std.proofs.Common.{◌≡◌, ℕ, ◌+◌, ◌<◌, ◌≤◌, Bool, true, false, not, ◌&&◌, cond, refl, sym, ◌∙◌, ap, arith, inl, inr}
+use Rattle.std.proofs.Common.{◌≡◌, ℕ, ◌<◌, Bool, true, not, ◌&&◌, refl, sym, ◌∙◌, ap, arith, inl, inr}
 use Rattle.std.specs.Prelude.{◌==◌}
 use Rattle.std.proofs.lemmas.Bool.{cases_eq, eq-eqb, ne_eqb, eqb-true, and_parts, true≢false}
-use Rattle.pa_machine.specs.declared.word.Step.{Step}
 use Rattle.pa_machine.specs.declared.word.Step.TheVariants.{Issue, Copy, Reset, Free, Write}
-use Rattle.pa_machine.specs.Count.{CanStep, stepped, held_of, refs_of}
+use Rattle.pa_machine.specs.Count.{stepped, held_of, refs_of}
 use Rattle.pa_machine.specs.Run.{IsLive, IsQuarantined}
 use Rattle.pa_machine.proofs.Arith.{stepped_is}
 use Rattle.pa_rules.proofs.Running.{Balances, one_if}

@@ -1,14 +1,13 @@
 -- Sums over the slots of some marks, each once.
-use Rattle.std.proofs.Common.{◌≡◌, ◌≢◌, ℕ, zero, suc, ◌+◌, ◌*◌, ◌<◌, ◌≤◌, Bool, true, false, ◌&&◌, cond, List, [], ◌∷◌, map, filter, length, refl, sym, ◌∙◌, ap, subst, arith, inl, inr}
+use Rattle.std.proofs.Common.{◌≡◌, ◌≢◌, ℕ, ◌+◌, ◌*◌, Bool, true, false, ◌&&◌, cond, List, [], ◌∷◌, map, filter, refl, sym, ◌∙◌, ap, subst, arith, inl, inr}
 use Rattle.std.specs.Prelude.{Contains, AllPairs, sum, sum_by, count_by, if◌then◌else◌, ◌==◌}
-use Rattle.std.specs.List.{AllZip}
 use Rattle.std.proofs.Math.Nat.{add-mul}
 use Rattle.std.proofs.lemmas.Bool.{cases_Bool, cases_eq, eq-eqb, ne_eqb}
 use Rattle.std.proofs.lemmas.List.Sums.{sum_by-cons, sum-map}
 use Rattle.pa_machine.specs.declared.word.SlotName.{SlotName}
 use Rattle.pa_machine.specs.declared.word.Step.{Step}
 use Rattle.pa_machine.specs.Run.{Mark, same_slot}
-use Rattle.pa_machine.proofs.Runs.{same_slot_cases, same_slot_yes, same_slot_no}
+use Rattle.pa_machine.proofs.Runs.{same_slot_yes, same_slot_no}
 use Rattle.pa_record.specs.Laws.{times}
 use Rattle.pa_record.proofs.Members.{not_in_none, first_in, later_in, in_cases}
 use Rattle.pa_record.proofs.Pairs.{pairs_none, pairs_cons, pairs_head, pairs_tail}
