@@ -24,7 +24,7 @@ use Rattle.pa_rules.specs.declared.played.Played.{Played}
 use Rattle.pa_rules.specs.Played.{mark_at, marks_of}
 use Rattle.pa_rules.specs.Roots.{Journals, AreRoots, IsPoolOf}
 use Rattle.pa_rules.specs.Caches.{AreCaches}
-use Rattle.pa_rules.specs.Holders.{Holder, Way, Out, Back, Move, move_of, moves_by, is_move_of, moves_at, IsFirstHolder, IsOfSlot, made_by, needed_by, MovesFit, HasHolders, AreHolders}
+use Rattle.pa_rules.specs.Holders.{Holder, Way, Out, Back, Move, move_of, moves_by, is_move_of, moves_at, IsFirstHolder, IsOfSlot, made_by, MovesFit, HasHolders, AreHolders}
 use Rattle.pa_rules.specs.Told.{records_of}
 use Rattle.pa_rules.proofs.Numbering.{lines_rise, rising_differ}
 use Rattle.pa_rules.proofs.Owned.{journal_front}
@@ -35,7 +35,7 @@ use Rattle.pa_legal.specs.Numbers.{all_moves, is_of, moves_of, HasAt, at_after, 
 use Rattle.pa_legal.specs.Known.{UnmapsNext, FindsInUse, LegalIsKnown}
 use Rattle.pa_legal.proofs.flow.Counts.{is_back}
 use Rattle.pa_legal.proofs.holders.Alternating.{away_at, hit_after, miss_same}
-use Rattle.pa_legal.proofs.holders.Held.{first_away}
+use Rattle.pa_legal.proofs.holders.Held.{first_away, needed_way, made_way}
 use Rattle.pa_legal.proofs.holders.Records.{unmap_returns}
 use Rattle.pa_legal.proofs.holders.Gone.{below, marked, gone_from}
 use Rattle.pa_legal.proofs.Standing.{counted, had, acts_out, acts_back}
@@ -46,14 +46,6 @@ use Rattle.pa_legal.proofs.Standing.{counted, had, acts_out, acts_back}
 abbrev WaysFit : Bool → List Move → Type 0
 WaysFit away [] = Unit {0}
 WaysFit away (m ∷ ms) = (away ≡ not (is_out m.way)) × WaysFit (is_out m.way) ms
-
-needed_way : (w : Way) (x : Played) → is_with (needed_by w x) ≡ not (is_out w)
-needed_way Out x = refl
-needed_way Back x = refl
-
-made_way : (w : Way) (x : Played) → is_with (made_by w x) ≡ is_out w
-made_way Out x = refl
-made_way Back x = refl
 
 moves_fit : (ps : List Played) (h : Holder) (away : Bool) (ms : List Move) → is_with h ≡ away → MovesFit ps h ms → WaysFit away ms
 moves_fit ps h away [] is fit = tt

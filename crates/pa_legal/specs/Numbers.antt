@@ -77,3 +77,10 @@ CachedOut =
     AllPairs (λ (x y : Played). x.line ≢ y.line) ps → All (λ (x : Played). x.thread < threads) ps → Slots (marks_of ps) →
     CachesTo partitions roots no_caches ps all → p < partitions → t < threads → class < 59 → Contains (all t p class) m →
     HasWord ps m.slot w → IsCachedOut pools roots threads p all m.slot w
+
+-- A root's numbers go on where its journal grows: the slot's moves are those before and those after, which begin where the
+-- ones before left it.
+pub record NumbersGrow : Type 0 where
+  pub fits : (at : Option ℕ) (ms ns : List Move) → IsNumbered at ms → IsNumbered (at_end at ms) ns → IsNumbered at (ms ++ ns)
+  pub ends : (at : Option ℕ) (ms ns : List Move) → at_end at (ms ++ ns) ≡ at_end (at_end at ms) ns
+  pub moves : (journal more : List RootEntry) (s : SlotName) → moves_of (journal ++ more) s ≡ moves_of journal s ++ moves_of more s

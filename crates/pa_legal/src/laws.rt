@@ -1,6 +1,6 @@
 ghost use Rattle.pa_legal.specs.Kinds.{OneKind};
 ghost use Rattle.pa_legal.specs.Known.{HoldersFollow, LegalFollows, LegalIsKnown, NewMaps};
-ghost use Rattle.pa_legal.specs.Numbers.{CachedOut, OutNone, Unnamed};
+ghost use Rattle.pa_legal.specs.Numbers.{CachedOut, NumbersGrow, OutNone, Unnamed};
 ghost use Rattle.pa_legal.specs.Tallies.{TalliesFollow};
 ghost use Rattle.pa_legal.specs.Turns.{HoldersBalance};
 
@@ -56,4 +56,9 @@ pub fn new_maps()
 /// The law that what is asked of a run's numbers holds of each legal run whose looks find words in use.
 pub fn legal_is_known()
     ensures { LegalIsKnown }
+{}
+
+/// The law that a root's numbers go on where its journal grows.
+pub fn numbers_grow()
+    ensures { NumbersGrow }
 {}

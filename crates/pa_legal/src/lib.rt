@@ -5,6 +5,6 @@
 mod laws;
 
 pub use laws::{
-    cached_out, holders_balance, holders_follow, legal_follows, legal_is_known, new_maps, one_kind,
-    out_none, tallies_follow, unnamed,
+    cached_out, holders_balance, holders_follow, legal_follows, legal_is_known, new_maps,
+    numbers_grow, one_kind, out_none, tallies_follow, unnamed,
 };

@@ -36,6 +36,15 @@ made_is : (w : Way) (t : ℕ) (x : Played) → t ≡ x.thread → makes w t ≡ 
 made_is Out t x e = ap WithThread e
 made_is Back t x e = refl
 
+-- whether a thread has the slot, as a move needs it and makes it
+pub needed_way : (w : Way) (x : Played) → is_with (needed_by w x) ≡ not (is_out w)
+needed_way Out x = refl
+needed_way Back x = refl
+
+pub made_way : (w : Way) (x : Played) → is_with (made_by w x) ≡ is_out w
+made_way Out x = refl
+made_way Back x = refl
+
 module _ (ps : List Played) (lines : AllPairs OtherRecord ps) where
   at_line : (line : ℕ) (x : Played) → IsOfLine ps line x → thread_at ps line ≡ x.thread
   at_line line x of = ap (thread_at ps) (sym of.1) ∙ thread_is ps x lines of.0

@@ -14,7 +14,9 @@ use Rattle.pa_record.specs.declared.root.RootAct.TheVariants.{Fill, Map, Full, G
 use Rattle.pa_record.proofs.Members.{not_in_none, first_in, later_in, in_cases}
 use Rattle.pa_rules.specs.declared.played.Played.{Played}
 use Rattle.pa_rules.specs.Caches.{batches, gives, purge_acts}
-use Rattle.pa_rules.specs.Holders.{Holder, InRoot, WithThread, Way, Out, Back, Move, move_of, moves_by, is_move_of, moves_at, IsFirstHolder, made_by, needed_by, MovesFit, HasHolders}
+use Rattle.pa_rules.specs.Holders.{Holder, Way, Out, Back, Move, move_of, moves_by, is_move_of, moves_at, IsFirstHolder, made_by, MovesFit, HasHolders}
+pub use Rattle.pa_legal.specs.Turns.{is_out, is_with}
+use Rattle.pa_legal.proofs.holders.Held.{needed_way, made_way}
 use Rattle.pa_one_run.proofs.lines.Lists.{take_in, drop_in}
 
 -- the slot and the number are those of the numbered slot
@@ -36,10 +38,6 @@ ways_by s k Purge = []
 abbrev pub ways_of : SlotName → ℕ → List RootAct → List Way
 ways_of s k [] = []
 ways_of s k (a ∷ acts) = ways_by s k a ++ ways_of s k acts
-
-abbrev pub is_out : Way → Bool
-is_out Out = true
-is_out Back = false
 
 -- whether a slot is away from the root after these ways, where it was so before them
 abbrev pub away_after : Bool → List Way → Bool
@@ -157,18 +155,6 @@ moves_ways (e ∷ es) s k =
     ∙ map-append way_at (filter (is_move_of s k) here) (filter (is_move_of s k) rest)
     ∙ ap (λ vs. vs ++ map way_at (filter (is_move_of s k) rest)) (act_moves e.line s k e.act)
     ∙ ap (λ vs. ways_by s k e.act ++ vs) (moves_ways es s k)
-
-abbrev pub is_with : Holder → Bool
-is_with InRoot = false
-is_with (WithThread t) = true
-
-needed_way : (w : Way) (x : Played) → is_with (needed_by w x) ≡ not (is_out w)
-needed_way Out x = refl
-needed_way Back x = refl
-
-made_way : (w : Way) (x : Played) → is_with (made_by w x) ≡ is_out w
-made_way Out x = refl
-made_way Back x = refl
 
 moves_fit : (ps : List Played) (h : Holder) (b : Bool) (ms : List Move) → is_with h ≡ b → MovesFit ps h ms → WaysFit b (map way_at ms)
 moves_fit ps h b [] is fit = tt

@@ -1,38 +1,27 @@
 -- A slot that was made has one partition, and one class or is a direct map.
-use Rattle.std.proofs.Common.{◌≡◌, ℕ, ◌+◌, ◌<◌, ◌≤◌, max, List, [], sym, ◌∙◌, ap, subst, arith, ◌⊎◌, inl, inr}
+use Rattle.std.proofs.Common.{◌≡◌, ℕ, ◌+◌, max, sym, ◌∙◌, subst, arith, ◌⊎◌, inl, inr}
 use Rattle.std.specs.Prelude.{Contains}
 use Rattle.std.proofs.lemmas.Bool.{cases_order}
-use Rattle.pa_machine.specs.declared.title.Title.{Title}
 use Rattle.pa_machine.specs.declared.word.SlotName.{SlotName}
 use Rattle.pa_machine.specs.Count.{number_of}
 use Rattle.pa_buckets.specs.Classes.{IsClassOf}
-use Rattle.pa_buckets.specs.Table.{slot_of}
-use Rattle.pa_buckets.proofs.Facts.{IsRow-of, slot_of-rises}
+use Rattle.pa_buckets.proofs.Facts.{IsRow-of}
 use Rattle.pa_trace.specs.declared.script.Op.{Op}
 use Rattle.pa_trace.specs.declared.script.Op.TheVariants as ops
 use Rattle.pa_record.specs.declared.entry.Seen.{Seen}
 use Rattle.pa_record.specs.declared.entry.Answer.TheVariants.{Made}
 use Rattle.pa_record.specs.declared.numbered.Numbered.{Numbered}
-use Rattle.pa_record.specs.declared.pool.PoolEntry.{PoolEntry}
-use Rattle.pa_record.specs.declared.root.RootEntry.{RootEntry}
 use Rattle.pa_record.specs.declared.root.RootAct.TheVariants.{Map}
-use Rattle.pa_record.specs.Spans.{name_of}
-use Rattle.pa_record.specs.Sound.{IsMadeBy, AreTitles}
-use Rattle.pa_record.specs.Laws.{leaves_by}
 use Rattle.pa_record.proofs.Members.{not_in_none, first_in}
-use Rattle.pa_record.proofs.Lawful.{journal_leaves}
 use Rattle.pa_rules.specs.declared.played.Played.{Played}
-use Rattle.pa_rules.specs.Roots.{Journals, AsksForClass, AsksForMap, MakesEntry}
+use Rattle.pa_rules.specs.Roots.{Journals, AsksForClass, AsksForMap}
 use Rattle.pa_rules.specs.Caches.{Cache, MadeRow, CacheRow, no_caches, IsOfClass, IsDirect}
 use Rattle.pa_rules.proofs.Known.{IsKnown, entry_of_act, first_keeps, all_known}
-use Rattle.pa_rules.proofs.Owned.{only_of, title_of, HasLen}
-use Rattle.pa_rules.proofs.Flowing.{map_leaves, class_leaves}
-use Rattle.pa_rules.proofs.FourPlaces.{HasLeft}
 use Rattle.pa_legal.specs.Kinds.{HasOneKind}
 use Rattle.pa_legal.proofs.Titling.{one_kind}
 use Rattle.pa_one_run.proofs.Filed.{Parts, IsFiled}
 use Rattle.pa_one_run.proofs.lines.Lists.{parts_at}
-use Rattle.pa_one_run.proofs.lines.Cuts.{record_row, entry_made}
+use Rattle.pa_one_run.proofs.lines.Cuts.{record_row}
 
 -- ---- what an op asks for
 

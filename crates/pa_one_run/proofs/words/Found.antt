@@ -5,10 +5,8 @@ use Rattle.std.proofs.lemmas.List.{append-nil}
 use Rattle.std.proofs.lemmas.List.Elements.{filter_map-append}
 use Rattle.pa_machine.specs.declared.word.SlotName.{SlotName}
 use Rattle.pa_machine.specs.declared.word.Step.{Step}
-use Rattle.pa_machine.specs.declared.word.Step.TheVariants.{Issue, Copy, Reset, Free, Write}
 use Rattle.pa_machine.specs.Count.{CanStep, number_of, held_of, refs_of, stepped}
-use Rattle.pa_machine.specs.Run.{Mark, Slots, IsReturning}
-use Rattle.pa_machine.proofs.Arith.{stepped_is}
+use Rattle.pa_machine.specs.Run.{Mark, Slots}
 use Rattle.pa_machine.proofs.Runs.{IsPath, runs_end, run_of_path, slots_of_runs, number_stepped}
 use Rattle.pa_record.proofs.Members.{first_in}
 use Rattle.pa_rules.specs.declared.played.Played.{Played}

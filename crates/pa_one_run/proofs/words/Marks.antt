@@ -1,19 +1,16 @@
 -- The marks of a run stand in the order of their lines, and a slot's words are told by their numbers.
-use Rattle.std.proofs.Common.{◌≡◌, ℕ, ◌+◌, ◌<◌, List, [], ◌∷◌, sym, ◌∙◌, ap, subst, arith, inl, inr}
+use Rattle.std.proofs.Common.{◌≡◌, ℕ, ◌<◌, List, ◌∷◌, arith}
 use Rattle.std.specs.Prelude.{Contains, AllPairs}
 use Rattle.pa_machine.specs.declared.word.SlotName.{SlotName}
 use Rattle.pa_machine.specs.declared.word.Step.{Step}
-use Rattle.pa_machine.specs.Count.{CanStep, number_of, stepped}
+use Rattle.pa_machine.specs.Count.{CanStep, stepped}
 use Rattle.pa_machine.specs.Run.{Mark, IsFirstAt, IsRunFrom}
-use Rattle.pa_machine.proofs.Runs.{number_stepped}
-use Rattle.pa_record.proofs.Members.{first_in, later_in, in_cases, of_some}
 use Rattle.pa_rules.specs.declared.played.Played.{Played}
 use Rattle.pa_rules.specs.Played.{marks_of}
 use Rattle.pa_rules.proofs.Marking.{mark_line}
-use Rattle.pa_rules.proofs.Running.{run_rises, one_mark, marks_pairs}
+use Rattle.pa_rules.proofs.Running.{one_mark, marks_pairs}
 use Rattle.pa_legal.proofs.Words.{goes_on as goes_on_by_lines}
 use Rattle.pa_one_run.proofs.Filed.{Earlier}
-use Rattle.pa_one_run.proofs.lines.Lists.{in_one}
 
 -- ---- marks in the order of their lines
 
