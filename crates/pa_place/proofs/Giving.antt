@@ -10,7 +10,7 @@ use Rattle.pa_machine.specs.declared.word.SlotName.{SlotName}
 use Rattle.pa_buckets.specs.declared.spans.State.{State}
 use Rattle.pa_buckets.specs.declared.spans.State.TheVariants as state
 use Rattle.pa_record.specs.Spans.{Span, name_of, holds, number_in, with_front, without_pages, state_back, is_in, earliest}
-use Rattle.pa_record.specs.Root.{Root, in_state, turn_after, entered, decommitted_span, oldest_decommitted, decommitted_times, put_back, returned, all_returned, IsOut}
+use Rattle.pa_record.specs.Root.{Root, in_state, turn_after, entered, decommitted_span, oldest_decommitted, decommitted_times, empties, put_back, returned, all_returned, IsOut}
 use Rattle.pa_record.specs.Sound.{IsCounted, IsSound}
 use Rattle.pa_record.proofs.Members.{of_some, find_is}
 use Rattle.pa_record.proofs.Pairs.{pairs_head, pairs_tail}
@@ -78,6 +78,7 @@ next_out r ts i t e out = All-head (IsOut r) (name_of t) (map name_of (drop (i +
 pub record IsAfterGive (r next : Root) (ts : List Title) (i : ℕ) : Type 0 where
   pub left : all_returned (map name_of (drop i ts)) r ≡ all_returned (map name_of (drop (i + 1) ts)) next
   pub rest : IsLeftToGive next (drop (i + 1) ts)
+  pub settled : empties r ≤ 16 → empties next ≤ 16
   pub turn : next.turn ≤ r.turn + 2
 
 pub give_one : (r next : Root) (ts : List Title) (i : ℕ) (t : Title) → slice_get ts i ≡ Some t → IsLeftToGive r (drop i ts) → next ≡ returned (name_of t) r → IsAfterGive r next ts i
@@ -96,6 +97,7 @@ give_one r next ts i t e h is =
         out = still_out r (returned (name_of t) r) (name_of t) names a (All-tail (IsOut r) (name_of t) names out) (λ other among. pairs_head R (name_of t) other names once among);
         once = pairs_tail R (name_of t) names once;
       };
+      settled = a.settled;
       turn = a.turn;
     })
 

@@ -1,13 +1,15 @@
 -- What each call leaves: a sound root, of which at most 16 spans are empty, and lists that aren't too long.
 use Rattle.std.proofs.Common.{◌≡◌, ◌≢◌, ℕ, suc, ◌+◌, ◌<◌, ◌≤◌, List, [], ◌∷◌, length, map, refl, sym, ◌∙◌, ap, subst, arith, inl, inr, Option, Some, None, vec_len}
 use Rattle.std.specs.Prelude.{Contains, AllPairs, All, IsNone}
+use Rattle.std.specs.Vec.{vec_capacity}
 use Rattle.std.proofs.lemmas.Bool.{cases_Bool}
 use Rattle.std.proofs.lemmas.List.{length_push}
 use Rattle.pa_machine.specs.declared.title.Title.{Title}
 use Rattle.pa_machine.specs.declared.word.SlotName.{SlotName}
 use Rattle.pa_record.specs.declared.taken.SuperPage.{SuperPage}
 use Rattle.pa_record.specs.Pool.{PoolState, took}
-use Rattle.pa_record.specs.Spans.{name_of}
+use Rattle.pa_buckets.specs.declared.spans.State.TheVariants as state
+use Rattle.pa_record.specs.Spans.{name_of, is_in}
 use Rattle.pa_record.specs.Root.{Root, Filled, span_for, takes, all_returned, purged, unmapped, without_map, empties, IsOut}
 use Rattle.pa_record.specs.Sound.{IsSound, IsSettled, IsBornBelow}
 use Rattle.pa_record.proofs.Filling.{takes_filled, takes_none, opened_sound, opened_born}
@@ -15,8 +17,9 @@ use Rattle.pa_record.proofs.Returning.{all_returned_is, times_is}
 use Rattle.pa_record.proofs.Mapping.{mapped_sound, mapped_born, unmapped_sound, unmapped_born, born_more, born_same}
 use Rattle.pa_place.specs.declared.store.Store.{Store}
 use Rattle.pa_place.specs.Placed.{filled_by, Fills, map_in, mapped_by, IsStep}
+use Rattle.pa_place.specs.Listing.{IsListing}
 use Rattle.pa_place.specs.Order.{IsOrdered}
-use Rattle.pa_place.specs.Store.{root_of, HasLowSupers, IsReady, IsKept, opened_where, AsksWhere}
+use Rattle.pa_place.specs.Store.{root_of, HasLowSupers, IsReady, IsKept, opened_where, AsksWhere, IsFiled}
 use Rattle.pa_place.proofs.Filling.{filled_with}
 use Rattle.pa_place.proofs.Ordering.{order_opened}
 use Rattle.pa_place.proofs.Removing.{is_named}
@@ -29,10 +32,10 @@ pub record IsGood (r : Root) : Type 0 where
   pub supers : length r.supers ≤ 2147483647
   pub maps : length r.maps ≤ 2147483647
 
-pub kept_by : (s : Store) (r : Root) → root_of s ≡ r → IsGood r → vec_len s.spans ≤ 2147483647 → IsKept s
-kept_by s r e good many =
+pub kept_by : (s : Store) (r : Root) → root_of s ≡ r → IsGood r → vec_len s.spans ≤ 2147483647 → IsFiled (root_of s) s.empty.items → 17 ≤ vec_capacity s.empty → IsKept s
+kept_by s r e good many filed ring =
     let g = subst IsGood (sym e) good in
-    record { ready = g.ready; settled = g.settled; ordered = g.ordered; supers = g.supers; maps = g.maps; spans = many }
+    record { ready = g.ready; settled = g.settled; ordered = g.ordered; filed = filed; ring = ring; supers = g.supers; maps = g.maps; spans = many }
 
 pub good_of : (s : Store) → IsKept s → IsGood (root_of s)
 good_of s k = record { ready = k.ready; settled = k.settled; ordered = k.ordered; supers = k.supers; maps = k.maps }
@@ -235,3 +238,20 @@ unmapped_step name r after good e =
         born = λ old. unmapped_born name n (n + 1) r (omega arith) old;
       };
     })
+
+-- a root with the same spans, and the same list of the empty ones
+pub same_filed : (r after : Root) (xs ys : List ℕ) → after.spans ≡ r.spans → ys ≡ xs → IsFiled r xs → IsFiled after ys
+same_filed r after xs ys e f h =
+    subst (λ zs. IsFiled after zs) (sym f) (subst (λ ss. IsListing (is_in state.Empty) ss xs) (sym e) h)
+
+opened_spans : (found : Option ℕ) (entry : ℕ) (r : Root) → (opened_where found entry r).spans ≡ r.spans
+opened_spans None entry r = refl
+opened_spans (Some first) entry r = refl
+
+pub asked_spans : (class : ℕ) (pool next : PoolState) (r after : Root) (asked : Option ℕ) → AsksWhere class pool next r after asked → after.spans ≡ r.spans
+asked_spans class pool next r after None (some, same, e) = ap (λ (z : Root). z.spans) e
+asked_spans class pool next r after (Some entry) (none, found, is, e) = ap (λ (z : Root). z.spans) e ∙ opened_spans found entry r
+
+pub mapped_spans : (len entry : ℕ) (found : Option ℕ) (r : Root) → (mapped_by len entry found r).root.spans ≡ r.spans
+mapped_spans len entry None r = refl
+mapped_spans len entry (Some first) r = refl

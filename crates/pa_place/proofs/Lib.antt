@@ -10,3 +10,5 @@ pub mod Scanning
 pub mod Refused
 pub mod Searching
 pub mod Ordering
+pub mod Listing
+pub mod Ring

@@ -1,13 +1,15 @@
 -- The plain store as a root, and what it keeps.
 use Rattle.std.specs.Prelude.{◌≡◌, ℕ, ◌+◌, ◌<◌, ◌≤◌, List, length, Option, Some, None, IsSome, IsNone, slice_get, All, Contains, vec_len, nat_le, if◌then◌else◌}
 use Rattle.std.specs.Vec.{vec_capacity}
+use Rattle.pa_buckets.specs.declared.spans.State.TheVariants as state
 use Rattle.pa_buckets.specs.Table.{pages_of, slots_of}
 use Rattle.pa_record.specs.declared.taken.SuperPage.{SuperPage}
 use Rattle.pa_record.specs.Pool.{PoolState}
-use Rattle.pa_record.specs.Spans.{Span}
+use Rattle.pa_record.specs.Spans.{Span, is_in}
 use Rattle.pa_record.specs.Root.{Root, Found, opened, span_for}
 use Rattle.pa_record.specs.Sound.{IsSound, IsSettled}
 use Rattle.pa_place.specs.declared.store.Store.{Store}
+use Rattle.pa_place.specs.Listing.{IsListing}
 use Rattle.pa_place.specs.Order.{IsOrdered}
 use Rattle.pa_place.specs.Placed.{IsAsked}
 use Rattle.pa_place.specs.Served.{blank_span}
@@ -43,12 +45,18 @@ abbrev pub room_for : ℕ → Root → Option SuperPage → Option SuperPage
 room_for class r None = None
 room_for class r (Some at) = if nat_le (r.page + pages_of class) 127 then Some at else None
 
--- What a store keeps between calls: a sound root of which at most 16 spans are empty, whose spans are in order, and lists
--- that aren't too long.
+-- the empty spans are listed, in the order in which they became empty
+abbrev pub IsFiled : Root → List ℕ → Type 0
+IsFiled r empty = IsListing (is_in state.Empty) r.spans empty
+
+-- What a store keeps between calls: a sound root of which at most 16 spans are empty, whose spans are in order, a list
+-- of the empty ones with room for 17, and lists that aren't too long.
 pub record IsKept (s : Store) : Type 0 where
   pub ready : IsReady (root_of s)
   pub settled : IsSettled (root_of s)
   pub ordered : IsOrdered (root_of s)
+  pub filed : IsFiled (root_of s) s.empty.items
+  pub ring : 17 ≤ vec_capacity s.empty
   pub supers : length s.supers.items ≤ 2147483647
   pub maps : length s.maps.items ≤ 2147483647
   pub spans : vec_len s.spans ≤ 2147483647

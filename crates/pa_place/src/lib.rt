@@ -3,6 +3,7 @@
 #![tactic(auto)]
 
 mod blanks;
+mod lists;
 mod looks;
 mod placed;
 mod placement;

@@ -1,30 +1,36 @@
 ghost use Rattle.std.specs.Prelude.{◌≡◌, ◌≢◌, ◌-◌, ◌<◌, ◌≤◌, ◌^◌, All, AllPairs, find, length, map, vec_len};
+ghost use Rattle.std.specs.Vec.{vec_capacity};
 ghost use Rattle.pa_record.specs.Spans.{name_of, holds};
 ghost use Rattle.pa_record.specs.Root.{IsOut, put_back, empties, oldest_decommitted, settled, returned, all_returned, purged};
 ghost use Rattle.pa_record.specs.Sound.{IsSound};
 ghost use Rattle.pa_place.specs.Order.{IsOrdered};
-ghost use Rattle.pa_place.specs.Store.{root_of};
+ghost use Rattle.pa_place.specs.Store.{root_of, IsFiled};
 
-use crate::scans::{count_in, index_holding, place_earliest};
+use crate::lists::{enter_list, take_first};
+use crate::scans::index_holding;
 use crate::store::Store;
 use pa_buckets::State;
 use pa_machine::{SlotName, Title};
 
 // The most spans that stay empty.
-const MOST_EMPTY: usize = 16;
+pub(crate) const MOST_EMPTY: usize = 16;
 
 impl Store {
     // Returns the slots one by one. Each is out, and stands once.
     pub(crate) fn give_all(&mut self, titles: &[Title])
         requires sound { IsSound (root_of self.old) }
         requires ordered { IsOrdered (root_of self.old) }
+        requires filed { IsFiled (root_of self.old) self.old.empty.items }
         requires settled { empties (root_of self.old) ≤ 16 }
+        requires ring { 17 ≤ vec_capacity self.old.empty }
         requires few { length titles.now ≤ 16 }
         requires turn { self.old.turn < 2 ^ 62 }
         requires out { All (IsOut (root_of self.old)) (map name_of titles.now) }
         requires once { AllPairs ◌≢◌ (map name_of titles.now) }
         ensures returned { root_of self.new ≡ all_returned (map name_of titles.now) (root_of self.old) }
         ensures ordered { IsOrdered (root_of self.new) }
+        ensures filed { IsFiled (root_of self.new) self.new.empty.items }
+        ensures ring { vec_capacity self.new.empty ≡ vec_capacity self.old.empty }
         ensures many { vec_len self.new.spans ≡ vec_len self.old.spans }
     {
         for title in titles {
@@ -39,10 +45,15 @@ impl Store {
     fn give(&mut self, name: SlotName)
         requires sound { IsSound (root_of self.old) }
         requires ordered { IsOrdered (root_of self.old) }
+        requires filed { IsFiled (root_of self.old) self.old.empty.items }
+        requires settled { empties (root_of self.old) ≤ 16 }
+        requires ring { 17 ≤ vec_capacity self.old.empty }
         requires out { IsOut (root_of self.old) name }
         requires turn { self.old.turn < 2 ^ 63 - 1 }
         ensures returned { root_of self.new ≡ returned name (root_of self.old) }
         ensures ordered { IsOrdered (root_of self.new) }
+        ensures filed { IsFiled (root_of self.new) self.new.empty.items }
+        ensures ring { vec_capacity self.new.empty ≡ vec_capacity self.old.empty }
         ensures many { vec_len self.new.spans ≡ vec_len self.old.spans }
     {
         self.put_back(name);
@@ -53,10 +64,15 @@ impl Store {
     fn put_back(&mut self, name: SlotName)
         requires sound { IsSound (root_of self.old) }
         requires ordered { IsOrdered (root_of self.old) }
+        requires filed { IsFiled (root_of self.old) self.old.empty.items }
+        requires settled { empties (root_of self.old) ≤ 16 }
+        requires ring { 17 ≤ vec_capacity self.old.empty }
         requires out { IsOut (root_of self.old) name }
         requires turn { self.old.turn < 2 ^ 63 - 1 }
         ensures back { root_of self.new ≡ put_back name (find (holds name) self.old.spans.items) (root_of self.old) }
         ensures ordered { IsOrdered (root_of self.new) }
+        ensures filed { IsFiled (root_of self.new) self.new.empty.items }
+        ensures ring { vec_capacity self.new.empty ≡ vec_capacity self.old.empty }
         ensures many { vec_len self.new.spans ≡ vec_len self.old.spans }
     {
         if let Some(at) = index_holding(&self.spans, name) {
@@ -64,6 +80,8 @@ impl Store {
             span.put_back(name);
             let state = span.state_back();
             self.turn = span.enter(state, self.turn);
+            let now_empty = span.is_in(State::Empty);
+            enter_list(&mut self.empty, now_empty, at);
         }
     }
 
@@ -71,9 +89,12 @@ impl Store {
     fn settle(&mut self)
         requires sound { IsSound (root_of self.old) }
         requires ordered { IsOrdered (root_of self.old) }
+        requires filed { IsFiled (root_of self.old) self.old.empty.items }
         requires turn { self.old.turn < 2 ^ 63 }
         ensures settled { root_of self.new ≡ settled (root_of self.old) }
         ensures ordered { IsOrdered (root_of self.new) }
+        ensures filed { IsFiled (root_of self.new) self.new.empty.items }
+        ensures ring { vec_capacity self.new.empty ≡ vec_capacity self.old.empty }
         ensures many { vec_len self.new.spans ≡ vec_len self.old.spans }
     {
         if self.empties() > MOST_EMPTY {
@@ -83,21 +104,25 @@ impl Store {
 
     // How many spans are empty.
     fn empties(&self) -> usize
+        requires { IsFiled (root_of self.now) self.now.empty.items }
         ensures { result ≡ empties (root_of self.now) }
     {
-        count_in(&self.spans, State::Empty)
+        self.empty.len()
     }
 
     // Decommits the empty span with the least turn, where one is empty.
     fn decommit_oldest(&mut self)
         requires sound { IsSound (root_of self.old) }
         requires ordered { IsOrdered (root_of self.old) }
+        requires filed { IsFiled (root_of self.old) self.old.empty.items }
         requires turn { self.old.turn < 2 ^ 63 }
         ensures oldest { root_of self.new ≡ oldest_decommitted (root_of self.old) }
         ensures ordered { IsOrdered (root_of self.new) }
+        ensures filed { IsFiled (root_of self.new) self.new.empty.items }
+        ensures ring { vec_capacity self.new.empty ≡ vec_capacity self.old.empty }
         ensures many { vec_len self.new.spans ≡ vec_len self.old.spans }
     {
-        if let Some(at) = place_earliest(&self.spans, State::Empty) {
+        if let Some(at) = take_first(&mut self.empty) {
             let span = &mut self.spans[at];
             span.drop_pages();
             self.turn = span.enter(State::Decommitted, self.turn);
@@ -108,10 +133,13 @@ impl Store {
     pub(crate) fn purge(&mut self)
         requires sound { IsSound (root_of self.old) }
         requires ordered { IsOrdered (root_of self.old) }
+        requires filed { IsFiled (root_of self.old) self.old.empty.items }
         requires settled { empties (root_of self.old) ≤ 16 }
         requires turn { self.old.turn < 2 ^ 62 }
         ensures purged { root_of self.new ≡ purged (root_of self.old) }
         ensures ordered { IsOrdered (root_of self.new) }
+        ensures filed { IsFiled (root_of self.new) self.new.empty.items }
+        ensures ring { vec_capacity self.new.empty ≡ vec_capacity self.old.empty }
         ensures many { vec_len self.new.spans ≡ vec_len self.old.spans }
     {
         let empties = self.empties();

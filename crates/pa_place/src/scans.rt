@@ -1,5 +1,5 @@
 ghost use Rattle.std.specs.Prelude.{◌≡◌, ◌<◌, ◌≤◌, Some, IfSome, AllPairs, length, slice_get, find, count_by};
-ghost use Rattle.pa_record.specs.Spans.{Span, holds, is_in, is_of, latest, earliest, listed, later, earlier};
+ghost use Rattle.pa_record.specs.Spans.{Span, holds, is_in, is_of, latest, listed, later};
 ghost use Rattle.pa_place.specs.Order.{IsBefore, IsCut};
 ghost use Rattle.pa_place.specs.Scans.{span_at};
 
@@ -38,21 +38,7 @@ fn place_latest(spans: &[PlainSpan], class: Class, state: State) -> Option<usize
     best
 }
 
-// Where that span in the state stands which has the least turn.
-pub(crate) fn place_earliest(spans: &[PlainSpan], state: State) -> Option<usize>
-    ensures earliest { span_at spans.now result ≡ earliest (is_in state) spans.now }
-    ensures within { IfSome result (λ at. at < length spans.now) }
-{
-    let mut best = None;
-    for at in (0..spans.len()).rev() {
-        if spans[at].is_in(state) {
-            best = Some(earlier_of(spans, at, best));
-        }
-    }
-    best
-}
-
-// Of one span and another, if there is one, the place of that with the greater turn, and of that with the lesser.
+// Of one span and another, if there is one, the place of that with the greater turn.
 fn later_of(spans: &[PlainSpan], at: usize, best: Option<usize>) -> usize
     requires here { at < length spans.now }
     requires there { IfSome best (λ other. other < length spans.now) }
@@ -61,18 +47,6 @@ fn later_of(spans: &[PlainSpan], at: usize, best: Option<usize>) -> usize
 {
     match best {
         Some(other) if spans[at].turn() < spans[other].turn() => other,
-        _ => at,
-    }
-}
-
-fn earlier_of(spans: &[PlainSpan], at: usize, best: Option<usize>) -> usize
-    requires here { at < length spans.now }
-    requires there { IfSome best (λ other. other < length spans.now) }
-    ensures earlier { (s : Span) → slice_get spans.now at ≡ Some s → slice_get spans.now result ≡ Some (earlier s (span_at spans.now best)) }
-    ensures within { result < length spans.now }
-{
-    match best {
-        Some(other) if spans[other].turn() < spans[at].turn() => other,
         _ => at,
     }
 }

@@ -3,10 +3,11 @@ ghost use Rattle.std.specs.Vec.{vec_capacity};
 ghost use Rattle.pa_record.specs.Root.{new_root, span_for, opened, unmapped, without_map};
 ghost use Rattle.pa_record.specs.Spans.{name_of};
 ghost use Rattle.pa_place.specs.Placed.{mapped_by};
-ghost use Rattle.pa_place.specs.Store.{root_of, HasLowSupers, IsReady, HasRoomFor, HasBlanks, AsksWhere};
+ghost use Rattle.pa_place.specs.Store.{root_of, HasLowSupers, IsReady, HasRoomFor, HasBlanks, AsksWhere, IsFiled};
 
 use crate::plain_span::PlainSpan;
 use crate::pool_plan::PoolPlan;
+use crate::returns::MOST_EMPTY;
 use crate::scans::place_listed;
 use arrayvec::ArrayVec;
 use pa_buckets::Class;
@@ -27,26 +28,33 @@ pub(crate) struct Store {
     pub(crate) turn: u64,
     pub(crate) maps: Vec<Title>,
     pub(crate) spans: Vec<PlainSpan>,
+    // where the empty spans stand, in the order in which they became empty
+    pub(crate) empty: Vec<usize>,
 }
 
 impl Store {
     // A root with no super page.
     pub(crate) fn new(alloc: Global) -> Result<Store, OutOfMemory>
         ensures start { IfOk result (λ s. root_of s ≡ new_root) }
+        ensures filed { IfOk result (λ s. IsFiled (root_of s) s.empty.items) }
+        ensures ring { IfOk result (λ s. 17 ≤ vec_capacity s.empty) }
     {
         let supers = Vec::with_capacity(alloc, 1)?;
+        let empty = Vec::with_capacity(alloc, MOST_EMPTY + 1)?;
         Ok(Store {
             supers,
             page: 0,
             turn: 0,
             maps: Vec::new(alloc),
             spans: Vec::new(alloc),
+            empty,
         })
     }
 
     // Makes room for so many spans more and for one super page. There is none in lists that are too long.
     pub(crate) fn make_room(&mut self, spans: u32) -> Result<(), OutOfMemory>
         ensures same { root_of self.new ≡ root_of self.old }
+        ensures empty { self.new.empty ≡ self.old.empty }
         ensures many { vec_len self.new.spans ≡ vec_len self.old.spans }
         ensures room { OnOk result (HasRoomFor self.new spans) }
     {
@@ -64,6 +72,7 @@ impl Store {
     // Makes room for one direct map.
     pub(crate) fn make_map_room(&mut self) -> Result<(), OutOfMemory>
         ensures same { root_of self.new ≡ root_of self.old }
+        ensures empty { self.new.empty ≡ self.old.empty }
         ensures many { vec_len self.new.spans ≡ vec_len self.old.spans }
         ensures room { OnOk result (vec_len self.new.maps < vec_capacity self.new.maps) }
         ensures few { OnOk result (length self.new.maps.items < 2147483647) }
@@ -83,6 +92,7 @@ impl Store {
         requires room { vec_len self.old.supers < vec_capacity self.old.supers }
         ensures asks { AsksWhere class pool.old pool.new (root_of self.old) (root_of self.new) result }
         ensures low { HasLowSupers (root_of self.new) }
+        ensures empty { self.new.empty ≡ self.old.empty }
         ensures spans { vec_len self.new.spans ≡ vec_len self.old.spans }
         ensures room { vec_capacity self.new.spans ≡ vec_capacity self.old.spans }
     {
@@ -109,6 +119,7 @@ impl Store {
         requires room { vec_len self.old.supers < vec_capacity self.old.supers }
         ensures opened { root_of self.new ≡ opened first entry (root_of self.old) }
         ensures spans { self.new.spans ≡ self.old.spans }
+        ensures empty { self.new.empty ≡ self.old.empty }
     {
         self.supers.push_reserved(SuperPage {
             number: first,
@@ -122,6 +133,7 @@ impl Store {
         requires room { vec_len self.old.maps < vec_capacity self.old.maps }
         requires low { IfSome found (λ first. first < 64) }
         ensures mapped { mapped_by slot entry found (root_of self.old) ≡ record { root = root_of self.new; titles = result.items } }
+        ensures empty { self.new.empty ≡ self.old.empty }
         ensures many { vec_len self.new.spans ≡ vec_len self.old.spans }
     {
         let mut titles = ArrayVec::new();
@@ -140,6 +152,7 @@ impl Store {
     // Removes the direct map.
     pub(crate) fn unmap(&mut self, title: Title)
         ensures unmapped { root_of self.new ≡ unmapped (name_of title) (root_of self.old) }
+        ensures empty { self.new.empty ≡ self.old.empty }
         ensures many { vec_len self.new.spans ≡ vec_len self.old.spans }
     {
         let name = SlotName {

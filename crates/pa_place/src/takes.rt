@@ -6,13 +6,14 @@ ghost use Rattle.pa_record.specs.Root.{Took, current, new_span, with_span, front
 ghost use Rattle.pa_record.specs.Spans.{with_free};
 ghost use Rattle.pa_place.specs.Order.{IsOrdered};
 ghost use Rattle.pa_place.specs.Served.{blank_span};
-ghost use Rattle.pa_place.specs.Store.{root_of, IsReady, IsUsableAt, FindsPlace, HasBlanks, room_for};
+ghost use Rattle.pa_place.specs.Store.{root_of, IsReady, IsUsableAt, FindsPlace, HasBlanks, room_for, IsFiled};
 
+use crate::lists::leave_list;
 use crate::plain_span::PlainSpan;
 use crate::scans::place_listed;
 use crate::store::Store;
 use arrayvec::ArrayVec;
-use pa_buckets::{Class, span_of};
+use pa_buckets::{Class, State, span_of};
 use pa_layout::page_start;
 use pa_machine::Title;
 use pa_record::SuperPage;
@@ -32,6 +33,7 @@ impl Store {
         requires few { want ≤ 8 }
         requires ready { IsReady (root_of self.old) }
         requires ordered { IsOrdered (root_of self.old) }
+        requires filed { IsFiled (root_of self.old) self.old.empty.items }
         requires turn { self.old.turn < 2 ^ 62 }
         requires blanks { HasBlanks class want blanks.old.items }
         requires room { vec_len self.old.spans + want ≤ vec_capacity self.old.spans }
@@ -39,6 +41,8 @@ impl Store {
         ensures many { vec_len self.new.spans ≤ vec_len self.old.spans + want }
         ensures blanks { HasBlanks class 0 blanks.new.items }
         ensures ordered { IsOrdered (root_of self.new) }
+        ensures filed { IsFiled (root_of self.new) self.new.empty.items }
+        ensures ring { vec_capacity self.new.empty ≡ vec_capacity self.old.empty }
     {
         let mut titles = ArrayVec::new();
         for _taken in 0..want {
@@ -56,11 +60,14 @@ impl Store {
         requires real { class < 59 }
         requires ready { IsReady (root_of self.old) }
         requires ordered { IsOrdered (root_of self.old) }
+        requires filed { IsFiled (root_of self.old) self.old.empty.items }
         requires turn { self.old.turn < 2 ^ 63 }
         requires blanks { HasBlanks class 1 blanks.old.items }
         requires room { vec_len self.old.spans < vec_capacity self.old.spans }
         ensures took { one_take class (root_of self.old) ≡ record { root = root_of self.new; title = result } }
         ensures ordered { IsOrdered (root_of self.new) }
+        ensures filed { IsFiled (root_of self.new) self.new.empty.items }
+        ensures ring { vec_capacity self.new.empty ≡ vec_capacity self.old.empty }
         ensures blanks { (n : ℕ) → HasBlanks class (n + 1) blanks.old.items → HasBlanks class n blanks.new.items }
         ensures many { vec_len self.new.spans ≤ vec_len self.old.spans + 1 }
         ensures room { vec_capacity self.new.spans ≡ vec_capacity self.old.spans }
@@ -74,10 +81,13 @@ impl Store {
     fn place_for(&mut self, class: Class, blanks: &mut Vec<PlainSpan>) -> Option<usize>
         requires ready { IsReady (root_of self.old) }
         requires ordered { IsOrdered (root_of self.old) }
+        requires filed { IsFiled (root_of self.old) self.old.empty.items }
         requires blanks { HasBlanks class 1 blanks.old.items }
         requires room { vec_len self.old.spans < vec_capacity self.old.spans }
         ensures place { FindsPlace class (root_of self.old) (root_of self.new) result }
         ensures ordered { IsOrdered (root_of self.new) }
+        ensures filed { IsFiled (root_of self.new) self.new.empty.items }
+        ensures ring { vec_capacity self.new.empty ≡ vec_capacity self.old.empty }
         ensures blanks { (n : ℕ) → HasBlanks class (n + 1) blanks.old.items → HasBlanks class n blanks.new.items }
         ensures many { vec_len self.new.spans ≤ vec_len self.old.spans + 1 }
         ensures room { vec_capacity self.new.spans ≡ vec_capacity self.old.spans }
@@ -112,6 +122,7 @@ impl Store {
         requires number { at.number < 64 }
         requires page { self.old.page + pages_of class ≤ 127 }
         requires room { vec_len self.old.spans < vec_capacity self.old.spans }
+        ensures empty { self.new.empty ≡ self.old.empty }
         ensures after { root_of self.new ≡ with_span (new_span class at self.old.page) (root_of self.old) }
         ensures many { vec_len self.new.spans ≡ vec_len self.old.spans + 1 }
         ensures room { vec_capacity self.new.spans ≡ vec_capacity self.old.spans }
@@ -125,17 +136,22 @@ impl Store {
     fn take_at(&mut self, at: usize) -> Title
         requires ready { IsReady (root_of self.old) }
         requires ordered { IsOrdered (root_of self.old) }
+        requires filed { IsFiled (root_of self.old) self.old.empty.items }
         requires usable { IsUsableAt (root_of self.old) at }
         requires turn { self.old.turn < 2 ^ 63 }
         ensures took { (s : Span) → slice_get self.old.spans.items at ≡ Some s → front_taken (with_free s).free (with_free s) (root_of self.old) ≡ record { root = root_of self.new; title = Some result } }
         ensures ordered { IsOrdered (root_of self.new) }
+        ensures filed { IsFiled (root_of self.new) self.new.empty.items }
+        ensures ring { vec_capacity self.new.empty ≡ vec_capacity self.old.empty }
         ensures many { vec_len self.new.spans ≡ vec_len self.old.spans }
         ensures room { vec_capacity self.new.spans ≡ vec_capacity self.old.spans }
     {
         let span = &mut self.spans[at];
+        let was_empty = span.is_in(State::Empty);
         let title = span.take_slot();
         let state = span.state_in_use();
         self.turn = span.enter(state, self.turn);
+        leave_list(&mut self.empty, was_empty, at);
         title
     }
 }

@@ -1,4 +1,5 @@
-use Rattle.std.proofs.Common.{◌≡◌, ◌<◌, ◌≤◌, ℕ, List, length, refl, ◌∙◌, subst, arith, rules, Option}
+use Rattle.std.proofs.Common.{◌≡◌, ◌<◌, ◌≤◌, ℕ, List, length, refl, ◌∙◌, ap, subst, arith, rules, Option}
+use Rattle.std.specs.Vec.{vec_capacity}
 use Rattle.pa_machine.specs.declared.title.Title.{Title}
 use Rattle.pa_record.specs.Pool.{PoolState}
 use Rattle.pa_record.specs.Root.{Root, takes}
@@ -9,7 +10,7 @@ use Rattle.pa_place.specs.Store.{root_of, HasLowSupers, IsKept, AsksWhere}
 use Rattle.pa_place.specs.Placed.{IsStep}
 use Rattle.pa_place.proofs.Filling.{filled_with}
 use Rattle.pa_place.proofs.Refused.{fill_refused}
-use Rattle.pa_place.proofs.Keeping.{IsGood, IsAfterAsk, good_of, kept_by, asked_step, filled_step, fills_by}
+use Rattle.pa_place.proofs.Keeping.{IsGood, IsAfterAsk, good_of, kept_by, same_filed, asked_spans, asked_step, filled_step, fills_by}
 use Rattle.pa_place.proofs.placement.Placement.fill.Goals as goal
 
 -- the pool was asked
@@ -52,6 +53,13 @@ takes-titles-requires-clause-ordered c =
     (asked c.self.inside.store c.make_room.new.self c.ask-entry.new.self c.args.self.now c.args.class c.args.pool.now c.ask-entry.new.pool c.ask-entry.result c.self.invariant c.self.view_is
     c.make_room.ensures.same c.in_ok-make_room.ensures.room.few_supers c.requires.born c.ask-entry.ensures.low c.ask-entry.ensures.asks).good.ordered
 
+pub takes-titles-requires-clause-filed : goal.takes-titles-requires-clause-filed
+takes-titles-requires-clause-filed c =
+    let empty = c.ask-entry.ensures.empty ∙ c.make_room.ensures.empty in
+    let spans = asked_spans c.args.class c.args.pool.now c.ask-entry.new.pool (root_of c.make_room.new.self) (root_of c.ask-entry.new.self) c.ask-entry.result c.ask-entry.ensures.asks
+    ∙ ap (λ (r : Root). r.spans) c.make_room.ensures.same in
+    same_filed (root_of c.self.inside.store) (root_of c.ask-entry.new.self) c.self.inside.store.empty.items c.ask-entry.new.self.empty.items spans (ap (λ v. v.items) empty) c.self.invariant.filed
+
 pub invariant_of-self-2 : goal.invariant_of-self-2
 invariant_of-self-2 c =
     let a = asked c.self.inside.store c.make_room.new.self c.ask-entry.new.self c.args.self.now c.args.class c.args.pool.now c.ask-entry.new.pool c.ask-entry.result c.self.invariant c.self.view_is
@@ -61,7 +69,11 @@ invariant_of-self-2 c =
     let many = c.takes-titles.ensures.many in
     let same = c.ask-entry.ensures.spans in
     let few = c.in_ok-make_room.ensures.room.few_spans in
-    kept_by c.takes-titles.new.self (root_of c.takes-titles.new.self) refl b.good (omega arith)
+    let empty = c.ask-entry.ensures.empty ∙ c.make_room.ensures.empty in
+    let ring = ap vec_capacity empty in
+    let old = c.self.invariant.ring in
+    let kept = c.takes-titles.ensures.ring in
+    kept_by c.takes-titles.new.self (root_of c.takes-titles.new.self) refl b.good (omega arith) c.takes-titles.ensures.filed (omega arith)
 
 pub returns-clause-filled : goal.returns-clause-filled
 returns-clause-filled c =

@@ -22,7 +22,7 @@ invariant_of-self c =
     let a = step c.self.inside.store c.give_all.new.self c.args.self.now c.args.titles.now c.self.invariant c.self.view_is c.requires.few c.requires.out c.requires.once c.give_all.ensures.returned c.give_all.ensures.ordered in
     let many = c.give_all.ensures.many in
     let few = c.self.invariant.spans in
-    kept_by c.give_all.new.self (root_of c.give_all.new.self) refl a.good (omega arith)
+    kept_by c.give_all.new.self (root_of c.give_all.new.self) refl a.good (omega arith) c.give_all.ensures.filed (let k = c.self.invariant.ring in let e = c.give_all.ensures.ring in omega arith)
 
 pub returns-clause-step : goal.returns-clause-step
 returns-clause-step c = λ n.

@@ -1,13 +1,13 @@
 use Rattle.std.proofs.Common.{◌≡◌, ◌<◌, ℕ, List, length, refl, sym, ◌∙◌, ap, subst, arith, Option}
 use Rattle.pa_machine.specs.declared.title.Title.{Title}
 use Rattle.pa_record.specs.Pool.{PoolState, took}
-use Rattle.pa_record.specs.Root.{Root}
+use Rattle.pa_record.specs.Root.{Root, Filled}
 use Rattle.pa_record.specs.Sound.{IsBornBelow}
 use Rattle.pa_place.specs.declared.store.Store.{Store}
 use Rattle.pa_place.specs.Placed.{mapped_by}
 use Rattle.pa_place.specs.Store.{root_of, IsKept}
 use Rattle.pa_place.proofs.Filling.{filled_with}
-use Rattle.pa_place.proofs.Keeping.{IsGood, IsAfterMap, good_of, kept_by, mapped_step, entries_after}
+use Rattle.pa_place.proofs.Keeping.{IsGood, IsAfterMap, good_of, kept_by, same_filed, mapped_spans, mapped_step, entries_after}
 use Rattle.pa_place.proofs.Refused.{map_refused}
 use Rattle.pa_place.proofs.placement.Placement.map.Goals as goal
 
@@ -27,7 +27,12 @@ invariant_of-self-2 c =
     let many = c.map-titles.ensures.many in
     let many' = c.make_map_room.ensures.many in
     let few = c.self.invariant.spans in
+    let empty = c.map-titles.ensures.empty ∙ c.make_map_room.ensures.empty in
+    let same = ap (λ (f : Filled). f.root.spans) c.map-titles.ensures.mapped in
+    let spans = sym same ∙ mapped_spans c.args.slot c.entries-entry.result c.take-found.result (root_of c.make_map_room.new.self) ∙ ap (λ (r : Root). r.spans) c.make_map_room.ensures.same in
     kept_by c.map-titles.new.self (root_of c.map-titles.new.self) refl a.good (omega arith)
+    (same_filed (root_of c.self.inside.store) (root_of c.map-titles.new.self) c.self.inside.store.empty.items c.map-titles.new.self.empty.items spans (ap (λ v. v.items) empty) c.self.invariant.filed)
+    (rw empty c.self.invariant.ring)
 
 pub returns-clause-step : goal.returns-clause-step
 returns-clause-step c =

@@ -14,7 +14,7 @@ invariant_of-self c =
     let a = step c.self.inside.store c.purge.new.self c.args.self.now c.self.invariant c.self.view_is c.purge.ensures.purged c.purge.ensures.ordered in
     let many = c.purge.ensures.many in
     let few = c.self.invariant.spans in
-    kept_by c.purge.new.self (root_of c.purge.new.self) refl a.good (omega arith)
+    kept_by c.purge.new.self (root_of c.purge.new.self) refl a.good (omega arith) c.purge.ensures.filed (let k = c.self.invariant.ring in let e = c.purge.ensures.ring in omega arith)
 
 pub returns-clause-step : goal.returns-clause-step
 returns-clause-step c = λ n.

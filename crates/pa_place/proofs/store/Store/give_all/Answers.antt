@@ -26,6 +26,9 @@ loop-title-preserved c =
       left = sym a.left ∙ inv.left;
       sound = a.rest.sound;
       ordered = c.give.ensures.ordered;
+      filed = c.give.ensures.filed;
+      ring = c.give.ensures.ring ∙ inv.ring;
+      settled = a.settled inv.settled;
       out = a.rest.out;
       once = a.rest.once;
       turn = let p = a.turn in let q = inv.turn in omega arith;

@@ -1,7 +1,10 @@
-use Rattle.std.proofs.Common.{sym, ◌∙◌, subst}
+use Rattle.std.proofs.Common.{refl, sym, ◌∙◌, subst}
+use Rattle.pa_record.specs.Root.{new_span}
 use Rattle.pa_place.specs.Order.{IsOrdered}
-use Rattle.pa_place.specs.Store.{root_of}
+use Rattle.pa_place.specs.Store.{root_of, IsFiled}
 use Rattle.pa_place.proofs.Ordering.{order_push}
+use Rattle.pa_place.proofs.Listing.{stays}
+use Rattle.pa_place.proofs.Ring.{is_empty}
 use Rattle.pa_place.proofs.Placing.{is_room, current_in, listed_place, unlisted, new_place, blanks_popped}
 use Rattle.pa_place.proofs.store.Store.place_for.Goals as goal
 
@@ -32,3 +35,11 @@ returns-clause-ordered c =
     let r = root_of c.args.self.now in
     let room = is_room c.args.class r c.in_ok-at.at (sym c.in_ok-at.ensures) in
     subst IsOrdered (sym c.add_span.ensures.after) (order_push c.args.class r c.in_ok-at.at c.requires.ready.sound c.requires.ordered room.now)
+
+pub returns-clause-filed : goal.returns-clause-filed
+returns-clause-filed c =
+    let r = root_of c.args.self.now in
+    let s = new_span c.args.class c.in_ok-at.at r.page in
+    let new = stays is_empty r.spans c.args.self.now.empty.items s refl c.requires.filed in
+    subst (λ v. IsFiled (root_of c.add_span.new.self) v.items) (sym c.add_span.ensures.empty)
+    (subst (λ z. IsFiled z c.args.self.now.empty.items) (sym c.add_span.ensures.after) new)

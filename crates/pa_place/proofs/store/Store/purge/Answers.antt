@@ -17,6 +17,8 @@ loop-empty-preserved c =
       left = sym a.left ∙ sym (ap (λ i. decommitted_times i r) step) ∙ inv.left;
       sound = a.sound;
       ordered = c.decommit_oldest.ensures.ordered;
+      filed = c.decommit_oldest.ensures.filed;
+      ring = c.decommit_oldest.ensures.ring ∙ inv.ring;
       turn = let p = a.turn in let q = inv.turn in omega arith;
       few = omega arith;
       many = c.decommit_oldest.ensures.many ∙ inv.many;

@@ -1,11 +1,12 @@
-use Rattle.std.proofs.Common.{◌≡◌, length, refl, sym, ◌∙◌, ap}
+use Rattle.std.proofs.Common.{arith, ◌≡◌, length, refl, sym, ◌∙◌, ap}
 use Rattle.std.specs.Prelude.{slice_get, find}
 use Rattle.std.proofs.lemmas.Option.{slice_get_read}
-use Rattle.pa_record.specs.Spans.{holds}
+use Rattle.pa_record.specs.Spans.{Span, holds}
 use Rattle.pa_record.specs.Root.{in_state, turn_after, put_back}
 use Rattle.pa_place.specs.Store.{root_of}
 use Rattle.pa_record.proofs.Entering.{IsLike}
 use Rattle.pa_place.proofs.Ordering.{order_changed}
+use Rattle.pa_place.proofs.Ring.{filed_back}
 use Rattle.pa_place.proofs.Giving.{takes_back, put_back_root}
 use Rattle.pa_place.proofs.store.Store.put_back.Goals as goal
 
@@ -68,3 +69,22 @@ returns-in-Some-clause-ordered c =
 
 pub index_holding-requires : goal.index_holding-requires
 index_holding-requires c = rw c.deref.ensures.value (record { order = c.requires.ordered.spans })
+
+pub enter_list-requires : goal.enter_list-requires
+enter_list-requires c =
+    let many = c.requires.filed.many in
+    let few = c.requires.settled in
+    let ring = c.requires.ring in
+    omega arith
+
+pub returns-in-Some-clause-filed : goal.returns-in-Some-clause-filed
+returns-in-Some-clause-filed c =
+    let ss = c.args.self.now.spans.items in
+    let s = c.index_mut-span.result.now in
+    let found = rw c.deref.ensures.value at c.in-Some.ensures in
+    let here = slice_get_read ss (length ss) c.in-Some.at s refl found.within c.index_mut-span.ensures.value in
+    let some = (takes_back (root_of c.args.self.now) s c.args.name c.requires.sound c.requires.out (sym found.holding ∙ here)).some in
+    let u = c.put_back.new.self in
+    rw c.enter_list.ensures.entered
+    (filed_back (root_of c.args.self.now) c.args.self.now.empty.items c.in-Some.at s u c.enter-self.new.self c.state_back-state.result c.is_in-now_empty.result c.requires.sound c.requires.filed here some
+    (ap (λ (z : Span). z.state) c.put_back.ensures) c.enter-self.ensures.state c.is_in-now_empty.ensures)

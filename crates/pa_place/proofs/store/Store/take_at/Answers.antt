@@ -5,6 +5,7 @@ use Rattle.pa_record.proofs.Members.{of_some}
 use Rattle.pa_place.specs.Served.{IsServed}
 use Rattle.pa_place.specs.Store.{root_of}
 use Rattle.pa_place.proofs.Ordering.{order_changed, served_like}
+use Rattle.pa_place.proofs.Ring.{filed_taken}
 use Rattle.pa_place.proofs.Placing.{member_at, span_low, served_root}
 use Rattle.pa_place.proofs.store.Store.take_at.Goals as goal
 
@@ -39,3 +40,15 @@ returns-clause-ordered c =
     let u = c.take_slot-title.new.self in
     order_changed (root_of c.args.self.now) c.args.at s u c.enter-self.new.self c.enter-self.result c.state_in_use-state.result c.requires.ordered here
     (served_like s u c.take_slot-title.result c.take_slot-title.ensures) c.enter-self.ensures.state
+
+pub returns-clause-filed : goal.returns-clause-filed
+returns-clause-filed c =
+    let ss = c.args.self.now.spans.items in
+    let s = c.index_mut-span.result.now in
+    let within = slice_get_within ss c.args.at c.requires.usable.0 c.requires.usable.1 in
+    let here = slice_get_read ss (length ss) c.args.at s refl within c.index_mut-span.ensures.value in
+    let u = c.take_slot-title.new.self in
+    let turn = c.args.self.now.turn in
+    rw c.leave_list.ensures.left
+    (filed_taken (root_of c.args.self.now) c.args.self.now.empty.items c.args.at s u c.enter-self.new.self c.is_in-was_empty.result c.requires.filed here c.is_in-was_empty.ensures
+    (c.enter-self.ensures.state ∙ ap (λ to. in_state to turn u) c.state_in_use-state.ensures))

@@ -23,6 +23,8 @@ loop-taken-preserved c =
       filled = rw c.push.ensures.items (inv.filled ∙ ap (λ i. with_taken titles (takes class i r)) step ∙ take_more class k r next titles c.in-Some.title took);
       ready = a.ready;
       ordered = c.take.ensures.ordered;
+      filed = c.take.ensures.filed;
+      ring = c.take.ensures.ring ∙ inv.ring;
       some = let p = ap length c.push.ensures.items in let q = length_push titles c.in-Some.title in let s = inv.some in omega arith;
       few = omega arith;
       turn = let p = a.turn in let q = inv.turn in omega arith;

@@ -2,7 +2,7 @@ use Rattle.std.proofs.Common.{◌≡◌, ◌+◌, ◌-◌, ◌≤◌, length, ve
 use Rattle.std.specs.Vec.{vec_capacity}
 use Rattle.pa_record.specs.Root.{takes}
 use Rattle.pa_place.specs.Order.{IsOrdered}
-use Rattle.pa_place.specs.Store.{root_of, IsReady, HasBlanks}
+use Rattle.pa_place.specs.Store.{root_of, IsFiled, IsReady, HasBlanks}
 use Rattle.pa_place.proofs.Filling.{with_taken}
 use Rattle.pa_place.proofs.store.Store.takes.Given as goal
 
@@ -11,6 +11,8 @@ invariant-loop-taken l = record {
   filled : takes l.class l.want (root_of l.initial.self) ≡ with_taken l.titles.items (takes l.class (l.want - l._taken) (root_of l.self));
   ready : IsReady (root_of l.self);
   ordered : IsOrdered (root_of l.self);
+  filed : IsFiled (root_of l.self) l.self.empty.items;
+  ring : vec_capacity l.self.empty ≡ vec_capacity l.initial.self.empty;
   some : length l.titles.items ≤ l._taken;
   few : l._taken ≤ l.want;
   turn : l.self.turn ≤ l.initial.self.turn + l._taken;
