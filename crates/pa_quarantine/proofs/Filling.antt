@@ -35,7 +35,7 @@ plain_after at_byte value v w e owns =
     e ∙ ap (λ (os : List OwnTitle). record v { words = set v.words (at_byte / 8) value; owns = os; since = record v.since { stored = true } }) same
 
 -- a content word's offset, and its number among the region's words
-offset_place : (n : ℕ) (t : Title) (j at_byte : ℕ) → IsWellFormed n t → at_byte ≡ t.start + 8 * j → at_byte / 8 ≡ content_place t j
+pub offset_place : (n : ℕ) (t : Title) (j at_byte : ℕ) → IsWellFormed n t → at_byte ≡ t.start + 8 * j → at_byte / 8 ≡ content_place t j
 offset_place n t j at_byte well e = let a = well.start_aligned in omega arith
 
 -- it is the content of a free title

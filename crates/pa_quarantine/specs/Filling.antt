@@ -5,7 +5,7 @@ use Rattle.pa_machine.specs.Titles.{content_count, poison}
 use Rattle.pa_region.specs.declared.view.View.{View}
 use Rattle.pa_region.specs.Moves.{changed, is_own_of, filled_with}
 use Rattle.pa_region.specs.Shares.{Share}
-use Rattle.pa_region.specs.Stores.{poisoned_to}
+use Rattle.pa_region.specs.Stores.{dirty, poisoned_to}
 
 -- the view after stores of 0 to the title's first n content words
 abbrev pub zeros_to : Title → ℕ → View → View
@@ -36,3 +36,23 @@ poisoned t v = record v {
 -- the same of a seat
 abbrev pub poisoned_share : Title → Share → Share
 poisoned_share t s = record s { view = poisoned t s.view }
+
+-- the view after stores of the value to the first n content words of an Own
+abbrev pub writes_to : Title → ℕ → ℕ → View → View
+writes_to t value zero v = v
+writes_to t value (suc n) v = record v {
+  words = filled_with value t (suc n) v.words;
+  owns = changed (is_own_of t) dirty v.owns;
+  since = record v.since { stored = true };
+}
+
+-- the view after stores of the value to the whole content, and that of a seat
+abbrev pub filled : Title → ℕ → View → View
+filled t value v = record v {
+  words = filled_with value t (content_count t) v.words;
+  owns = changed (is_own_of t) dirty v.owns;
+  since = record v.since { stored = true };
+}
+
+abbrev pub filled_share : Title → ℕ → Share → Share
+filled_share t value s = record s { view = filled t value s.view }

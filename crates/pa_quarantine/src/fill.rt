@@ -1,12 +1,14 @@
 ghost use Rattle.std.specs.Prelude.{◌≡◌, ℕ, ◌+◌, ◌<◌};
 ghost use Rattle.pa_machine.specs.declared.title.OwnState.TheVariants.{Clean, Dirty};
-ghost use Rattle.pa_machine.specs.declared.word.Step.TheVariants.{Free};
+ghost use Rattle.pa_machine.specs.declared.word.Step.TheVariants.{Free, Write};
 ghost use Rattle.pa_machine.specs.Titles.{HasContentFrom};
-ghost use Rattle.pa_region.specs.Views.{HasStake, free_of, own_as};
+ghost use Rattle.pa_region.specs.Views.{HasStake, free_of, idle_of, own_as};
 ghost use Rattle.pa_region.specs.Moves.{HasHandle};
-ghost use Rattle.pa_quarantine.specs.Filling.{zeroed, poisoned};
+ghost use Rattle.pa_region.specs.Shares.{IsMade};
+ghost use Rattle.pa_quarantine.specs.Filling.{zeroed, poisoned, filled_share};
 
-use pa_machine::Title;
+use pa_count::wrote;
+use pa_machine::{Title, Word};
 use pa_region::{Region, Seat};
 
 /// Makes every content word of a free slot 0, in address order: so it can be issued.
@@ -35,4 +37,19 @@ pub fn poison(region: &Region, seat: &mut Seat, title: Title)
     for word in 0..title.len / 8 - 1 {
         region.poison_next(seat, title, word);
     }
+}
+
+/// Writes the value to every content word of the seat's Own, to which no `raw_ptr` points, in address order, and then
+/// tells that it has.
+pub fn write(region: &Region, seat: &mut Seat, title: Title, value: u64) -> Word
+    requires region { seat.old.region ≡ region.now }
+    requires own { (0 < idle_of seat.old.view title) × (0 < own_as seat.old.view title Clean + own_as seat.old.view title Dirty) }
+    requires able { HasStake seat.old.view × (0 < seat.old.view.budget) }
+    ensures { IsMade Write title result.0 (filled_share title value seat.old) seat.new }
+{
+    seat.placed(title);
+    for word in 0..title.len / 8 - 1 {
+        region.store(seat, title.start + 8 * word, value);
+    }
+    wrote(region, seat, title)
 }

@@ -63,8 +63,8 @@ pub fn read(region: &Region, seat: &mut Seat, title: Title, place: u32) -> (Word
 #[cfg(test)]
 mod tests {
     use super::*;
-    use crate::fill::zero_fill;
-    use pa_count::{copy, issue, wrote};
+    use crate::fill::{write, zero_fill};
+    use pa_count::{copy, issue};
     use std::test::Fail;
 
     const POISON: u64 = 0xefef_efef_efef_efef;
@@ -107,8 +107,7 @@ mod tests {
         let (region, mut seat) = Region::with_titles(rt.alloc(), 1, 16, &[title])?;
         zero_fill(&region, &mut seat, title);
         assert_eq!(rt; issue(&region, &mut seat, title).0, 0);
-        region.store(&mut seat, 0x4000, 7);
-        assert_eq!(rt; wrote(&region, &mut seat, title).0, 0x1000001);
+        assert_eq!(rt; write(&region, &mut seat, title, 7).0, 0x1000001);
         let (found, value) = read(&region, &mut seat, title, 0);
         assert_eq!(rt; found.0, 0x2000001);
         assert_eq!(rt; value, 7);

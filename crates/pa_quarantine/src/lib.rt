@@ -1,9 +1,9 @@
-//! The content of a slot on its way out and back: it is zeroed before an issue, and poisoned before a free, so that a
-//! `raw_ptr` that is left reads poison.
+//! The content of a slot on its way out and back: it is zeroed before an issue, written by its owner, and poisoned
+//! before a free, so that a `raw_ptr` that is left reads poison.
 #![tactic(auto)]
 
 mod fill;
 mod leave;
 
-pub use fill::{poison, zero_fill};
+pub use fill::{poison, write, zero_fill};
 pub use leave::{free_owned, read, release};

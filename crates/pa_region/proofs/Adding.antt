@@ -125,6 +125,18 @@ module _ {A : Type 0} where
         | inr n ↦ rw n (omega (arith, sum_by-cons f x (changed test change xs), sum_by-cons f x xs))
       ]
 
+  -- two tests that agree on each member change the same one
+  pub changed_agree : (test other : A → Bool) (change : A → A) (xs : List A) → ((j : ℕ) (x : A) → get_elem? xs j ≡ some x → test x ≡ other x) →
+      changed test change xs ≡ changed other change xs
+  changed_agree test other change [] same = refl
+  changed_agree test other change (x ∷ xs) same =
+      let here = same 0 x refl in
+      let again = changed_agree test other change xs (λ j y e. same (suc j) y e) in
+      elim (cases_Bool (other x)) [
+        | inl y ↦ rw (here, y) refl
+        | inr n ↦ rw (here, n) (ap (λ ys. x ∷ ys) again)
+      ]
+
   -- a sum in which each member counts nothing
   pub sum_zero : (f : A → ℕ) (xs : List A) → ((j : ℕ) (x : A) → get_elem? xs j ≡ some x → f x ≡ 0) → sum_by f xs ≡ 0
   sum_zero f [] h = refl

@@ -22,10 +22,10 @@ use Rattle.pa_region.specs.declared.view.View.{View}
 use Rattle.pa_region.specs.Views.{own_piece, held_of_view, byte_words, shown, free_of, own_of, idle_of, HasStake, Knows}
 use Rattle.pa_region.specs.History.{content_of}
 use Rattle.pa_region.specs.Rule.{IsKept}
-use Rattle.pa_region.specs.Moves.{changed}
+use Rattle.pa_region.specs.Moves.{changed, is_own_of}
 use Rattle.pa_region.specs.Waiting.{is_poisoned, poisoned_of, unclean_of}
 use Rattle.pa_region.specs.Stores.{has_content_at, dirty, after_store, HasRawWord, HasFreeContent, HasIdleContent, CanStore}
-use Rattle.pa_region.proofs.Adding.{IsFirst, sum_part, sum_zero, first_of, changed_sum, none_changed}
+use Rattle.pa_region.proofs.Adding.{IsFirst, sum_part, sum_zero, first_of, changed_sum, changed_agree, none_changed}
 use Rattle.pa_region.proofs.Pieces.{held_split, held_within, frees_have, owns_have, idle_owns}
 use Rattle.pa_region.proofs.Bytes.{bytes_set, bytes_length, held_in_all}
 use Rattle.pa_region.proofs.Shown.{shown_actor, shown_held, is_after}
@@ -223,6 +223,24 @@ store_write at_byte value words views i v k at_i can = record {
     has_stake some_own (inl raw) = (k.reads.each_view i v at_i).stake (rw (plain_owns at_byte words views i v k at_i (inl raw)) at some_own)
     has_stake some_own (inr (inl free)) = (k.reads.each_view i v at_i).stake (rw (plain_owns at_byte words views i v k at_i (inr free)) at some_own)
     has_stake some_own (inr (inr own)) = own.4
+
+-- the one Own that has the word is the title's
+pub own_dirty : (at_byte : ℕ) (t : Title) (words : List ℕ) (views : List View) (i : ℕ) (v : View) → IsKept words views → get_elem? views i ≡ some v →
+    0 < own_of v t → IsContentOf t at_byte → changed (has_content_at at_byte) dirty v.owns ≡ changed (is_own_of t) dirty v.owns
+own_dirty at_byte t words views i v k at_i has inside = changed_agree (has_content_at at_byte) (is_own_of t) dirty v.owns agree
+  where
+    agree : (j : ℕ) (o : OwnTitle) → get_elem? v.owns j ≡ some o → has_content_at at_byte o ≡ is_own_of t o
+    agree j o at_j = elim (title_tells o.title t) [
+      | inl y ↦ elim (content_test at_byte o) [
+        | inl z ↦ z.0 ∙ sym y.0
+        | inr z ↦ absurd (z.1 (subst (λ (u : Title). IsContentOf u at_byte) (sym y.1) inside))
+      ]
+      | inr n ↦ elim (content_test at_byte o) [
+        | inl z ↦ absurd (n.1 (k.holders.good.divided.apart o.title t at_byte (own_in_all words views i v o.title at_i (own_member v j o at_j)) (own_in_all words views i v t at_i has)
+            (content_covers o.title at_byte z.1) (content_covers t at_byte inside)))
+        | inr z ↦ z.0 ∙ sym n.0
+      ]
+    ]
 
 -- what a store changes of the view's holdings
 plain_changes : (at_byte value : ℕ) (words : List ℕ) (views : List View) (i : ℕ) (v : View) → IsKept words views → get_elem? views i ≡ some v →

@@ -11,9 +11,9 @@ use Rattle.pa_region.specs.declared.view.View.{View}
 use Rattle.pa_region.specs.Views.{held_of_view}
 use Rattle.pa_region.specs.Rule.{IsKept}
 use Rattle.pa_region.specs.Shares.{IsSound, byte_word_count}
-use Rattle.pa_region.specs.Stores.{after_store, HasRawWord, HasFreeContent, HasIdleContent, CanStore, LeavesOwns, after_poison, CanPoison}
+use Rattle.pa_region.specs.Stores.{after_store, HasRawWord, HasFreeContent, HasIdleContent, CanStore, StoreTells, after_poison, CanPoison}
 use Rattle.pa_region.proofs.Pieces.{title_held, held_title, owns_have, idle_owns}
-use Rattle.pa_region.proofs.StoreStep.{store_keeps, store_holds, plain_owns}
+use Rattle.pa_region.proofs.StoreStep.{store_keeps, store_holds, plain_owns, own_dirty}
 use Rattle.pa_region.proofs.PoisonStep.{poison_keeps, poison_holds, own_to_own}
 
 -- what a step tells whose seat is left with this view
@@ -22,13 +22,19 @@ Leaves w me after = (after.0 ≡ w) × (after.1 ≡ me.1)
 
 -- whatever the table is, a seat that may store may store
 pub store_allowed : (at_byte value slots id place : ℕ) (me : Me (Unit {0}) View) → place ≡ at_byte / 8 → CanStore at_byte me.0 →
-    Allows (λ (s : TableState (Unit {0}) View). IsKept s.words s.views) slots id me place (λ _. value) (λ _ after. Leaves (after_store at_byte value me.0) me after × LeavesOwns at_byte me.0 after.0)
+    Allows (λ (s : TableState (Unit {0}) View). IsKept s.words s.views) slots id me place (λ _. value) (λ _ after. Leaves (after_store at_byte value me.0) me after × StoreTells at_byte me.0 after.0)
 store_allowed at_byte value slots id place me at_place can s k homes at_id small = (
   after_store at_byte value me.0,
   keeps,
   tt,
   subst (λ (p : ℕ). IsKept (set s.words p value) (set s.views id (after_store at_byte value me.0))) (sym at_place) (store_keeps at_byte value s.words s.views id me.0 k at_id can),
-  ((refl, refl), plain_owns at_byte s.words s.views id me.0 k at_id),
+  (
+    (refl, refl),
+    record {
+      plain = plain_owns at_byte s.words s.views id me.0 k at_id;
+      own = λ t has inside. own_dirty at_byte t s.words s.views id me.0 k at_id has inside;
+    },
+  ),
 )
 
 -- and one that may poison may poison

@@ -7,7 +7,7 @@ use Rattle.pa_machine.specs.Titles.{same_title, content_count, content_place, Is
 use Rattle.pa_machine.specs.Holdings.{RawByte, one}
 use Rattle.pa_region.specs.declared.view.OwnTitle.{OwnTitle}
 use Rattle.pa_region.specs.declared.view.View.{View}
-use Rattle.pa_region.specs.Views.{held_of_view, free_of, own_as, idle_of, HasStake}
+use Rattle.pa_region.specs.Views.{held_of_view, free_of, own_of, own_as, idle_of, HasStake}
 use Rattle.pa_region.specs.Moves.{changed, is_own_of}
 
 -- the word at the byte offset is a content word of the Own
@@ -41,9 +41,11 @@ HasIdleContent v at_byte = (t : Title) × (0 < idle_of v t) × (0 < own_as v t C
 abbrev pub CanStore : ℕ → View → Type 0
 CanStore at_byte v = (at_byte % 8 ≡ 0) × (HasRawWord v at_byte ⊎ (HasFreeContent v at_byte ⊎ HasIdleContent v at_byte))
 
--- what a store tells: of a raw word, or of the content of a free title, it leaves the view's Owns
-abbrev pub LeavesOwns : ℕ → View → View → Type 0
-LeavesOwns at_byte v after = HasRawWord v at_byte ⊎ HasFreeContent v at_byte → after.owns ≡ v.owns
+-- What a store tells of the view's Owns. A raw word, and the content of a free title, are no Own's content; where the word
+-- is a content word of an Own, this one is dirty, and no other changes.
+pub record StoreTells (at_byte : ℕ) (v after : View) : Type 0 where
+  pub plain : HasRawWord v at_byte ⊎ HasFreeContent v at_byte → after.owns ≡ v.owns
+  pub own : (t : Title) → 0 < own_of v t → IsContentOf t at_byte → after.owns ≡ changed (is_own_of t) dirty v.owns
 
 -- an Own with so many words poisoned
 abbrev pub poisoned_to : ℕ → OwnTitle → OwnTitle

@@ -5,7 +5,7 @@ ghost use Rattle.pa_region.specs.Views.{HasTitle, HasStake, HasEveryStake, least
 ghost use Rattle.pa_region.specs.Moves.{CanCount};
 ghost use Rattle.pa_region.specs.Shares.{Share, IsSound, IsMade, byte_word_count, adds};
 ghost use Rattle.pa_region.specs.Loads.{CanLoad, LoadTells};
-ghost use Rattle.pa_region.specs.Stores.{CanStore, after_store, LeavesOwns, CanPoison, after_poison};
+ghost use Rattle.pa_region.specs.Stores.{CanStore, after_store, StoreTells, CanPoison, after_poison};
 ghost use Rattle.pa_region.specs.Start.{AreApart, AreWellFormed, first_view, IsEnd};
 
 use crate::closed::Closed;
@@ -130,7 +130,7 @@ impl Region {
         requires able { CanStore at seat.old.view }
         ensures region { seat.new.region ≡ seat.old.region }
         ensures view { seat.new.view ≡ after_store at value seat.old.view }
-        ensures owns { LeavesOwns at seat.old.view seat.new.view }
+        ensures owns { StoreTells at seat.old.view seat.new.view }
     {
         let _ = &seat.seat;
         store_as::<Brand>(&self.table, &mut seat.seat, (at / 8) as usize, value, at)

@@ -2,7 +2,7 @@ use Rattle.std.proofs.Common.{◌/◌, ◌∙◌, refl, sym, ap, subst}
 use Rattle.atomic_table.specs.Seated.{TableId}
 use Rattle.pa_region.specs.declared.view.View.{View}
 use Rattle.pa_region.specs.Views.{least_stake}
-use Rattle.pa_region.specs.Stores.{after_store, CanStore, LeavesOwns}
+use Rattle.pa_region.specs.Stores.{after_store, CanStore, StoreTells}
 use Rattle.pa_region.specs.Shares.{Share, IsSound}
 use Rattle.pa_region.proofs.Writing.{store_allowed, store_inside, store_sound}
 use Rattle.pa_region.proofs.region.Region.store.Goals as goal
@@ -34,4 +34,4 @@ pub returns-clause-view : goal.returns-clause-view
 returns-clause-view c = c.store_as.ensures.told.0.0 ∙ ap (λ (h : Share). after_store c.args.at c.args.value h.view) c.seat.view_is
 
 pub returns-clause-owns : goal.returns-clause-owns
-returns-clause-owns c = subst (λ (h : Share). LeavesOwns c.args.at h.view c.store_as.new.seat.me.0) c.seat.view_is c.store_as.ensures.told.1
+returns-clause-owns c = subst (λ (h : Share). StoreTells c.args.at h.view c.store_as.new.seat.me.0) c.seat.view_is c.store_as.ensures.told.1
