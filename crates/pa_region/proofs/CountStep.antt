@@ -41,6 +41,7 @@ use Rattle.pa_region.proofs.MovedRest.{moved_raws, moved_stakes, moved_uncut, mo
 use Rattle.pa_region.proofs.ReadsCount.{reads_count}
 use Rattle.pa_region.proofs.CountEvent.{count_event, count_content}
 use Rattle.pa_region.proofs.CountValues.{count_values}
+use Rattle.pa_region.proofs.CountLists.{count_lists}
 
 -- the step over all views
 count_step_of : (step : Step) (t : Title) (words : List ℕ) (views : List View) (i : ℕ) (v : View) → IsKept words views → get_elem? views i ≡ some v → CanCount step t v →
@@ -165,6 +166,9 @@ count_keeps step t words views i v k at_i can =
           omega arith)
           (fresh (number_of word + 1) (seen_among t (note t (number_of word + 1) ∷ v.seen)) (note_here t (number_of word + 1) v.seen))
           k.seen;
+      lists = count_lists step t x.0 words (set words (count_place t) (stepped step word)) views i v k at_i can x.1
+          (happens_good (CountEvent i t step) (shown words views) (shown (set words (count_place t) (stepped step word)) (set views i w)) k.holders.good event.0 event.1)
+          (rw at_place (count_values step t words views i v k at_i can)) at_place;
     }
   where
     fresh : (n a : ℕ) → n ≤ a → one (ltb a n) ≡ 0

@@ -36,6 +36,7 @@ use Rattle.pa_region.proofs.CountEvent.{title_in_core}
 use Rattle.pa_region.proofs.Stays.{low_set, uncut_set, stakes_set, low_raw}
 use Rattle.pa_region.proofs.ReadsSame.{reads_look}
 use Rattle.pa_region.proofs.ValuePart.{values_same}
+use Rattle.pa_region.proofs.CountLists.{look_lists}
 
 -- a look changes nothing of what its view holds
 look_title : (word : ℕ) (o : OwnTitle) → (idle_if word o).title ≡ o.title
@@ -157,6 +158,7 @@ look_keeps t words views i v k at_i mine has =
           omega arith)
           (fresh (number_of word) (seen_among t (note t (number_of word) ∷ v.seen)) (note_here t (number_of word) v.seen))
           k.seen;
+      lists = look_lists t word words views i v k at_i;
     }
   where
     fresh : (n a : ℕ) → n ≤ a → one (ltb a n) ≡ 0

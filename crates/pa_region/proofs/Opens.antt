@@ -30,6 +30,7 @@ use Rattle.pa_region.specs.Start.{AreApart, AreWellFormed, is_covered, blank, ra
 use Rattle.pa_region.proofs.ReadsFirst.{reads_first}
 use Rattle.pa_region.proofs.Adding.{sum_none, one_lt, one_eq}
 use Rattle.pa_region.proofs.Pieces.{held_split, frees_have, title_held}
+use Rattle.pa_region.proofs.FirstLists.{blank_at, stake_count, first_lists}
 
 -- whether a word's range has the byte
 in_word : (from b : ℕ) → (((8 * from ≤ b) × (b < 8 * from + 8)) × (amount (RawByte b) (raw_piece (raw_word from)) ≡ 1))
@@ -216,13 +217,6 @@ zero_at (suc n) zero i = refl
 zero_at (suc n) (suc m) zero = refl
 zero_at (suc n) (suc m) (suc i) = zero_at n m i
 
--- the first view's words
-pub blank_at : (n i : ℕ) → slice_index (blank n) i ≡ 0
-unfolding blank
-blank_at zero i = refl
-blank_at (suc n) zero = refl
-blank_at (suc n) (suc i) = blank_at n i
-
 -- as many as the region has
 blank_long : (n : ℕ) → length (blank n) ≡ n
 unfolding blank
@@ -247,24 +241,6 @@ aligned_covered words titles b well =
             absurd (m.1 z.1.0 z.1.1 (omega arith, omega arith))
         | inr n ↦ m.0 ∙ sym n.0
       ]
-    ]
-
--- the stakes from 0 on, each once
-stake_count : (from count k : ℕ) → ((from ≤ k) × (k < from + count) × (sum_by (λ (s : Stake). one (eqb s.number k)) (stakes_from from count) ≡ 1))
-    ⊎ (((from ≤ k) × (k < from + count) → ⊥) × (sum_by (λ (s : Stake). one (eqb s.number k)) (stakes_from from count) ≡ 0))
-stake_count from zero k = inr ((λ h. let p = h.0 in let q = h.1 in omega arith), refl)
-stake_count from (suc count) k =
-    let c = sum_by-cons (λ (s : Stake). one (eqb s.number k)) (record { number = from; log = [] }) (stakes_from (suc from) count) in
-    elim (one_eq from k) [
-      | inl y ↦
-          let e = y.0 in let f = y.1 in
-          inl (omega arith, omega arith, elim (stake_count (suc from) count k) [ inl z ↦ let p = z.0 in absurd (omega arith) | inr n ↦ let z = n.1 in omega arith ])
-      | inr n ↦
-          let e = n.0 in
-          elim (stake_count (suc from) count k) [
-            | inl z ↦ let p = z.0 in let q = z.1 in let r = z.2 in inl (omega arith, omega arith, omega arith)
-            | inr m ↦ let r = m.1 in inr ((λ h. let p = h.0 in let q = h.1 in m.0 (elim (cases_lt from k) [ inl a ↦ omega arith | inr a ↦ absurd (n.1 (omega arith)) ], omega arith)), omega arith)
-          ]
     ]
 
 -- the rule holds at the start, where the words are 0
@@ -345,6 +321,7 @@ opens words budget titles few well apart = record {
     numbers = λ t. refl;
     own_logs = refl;
   };
+  lists = first_lists words budget titles;
 }
   where
     all_words : List ℕ

@@ -65,7 +65,7 @@ abbrev pub note : Title → ℕ → SeenNumber
 note t number = record { title = t; number = number }
 
 -- a note more never takes back what was seen
-note_grows : (t : Title) (number : ℕ) (notes : List SeenNumber) (u : Title) → seen_among u notes ≤ seen_among u (note t number ∷ notes)
+pub note_grows : (t : Title) (number : ℕ) (notes : List SeenNumber) (u : Title) → seen_among u notes ≤ seen_among u (note t number ∷ notes)
 note_grows t number notes u = elim (title_tells t u) [
   | inl y ↦ rw y.0 (le-max_right number (seen_among u notes))
   | inr n ↦ rw n.0 (omega arith)

@@ -2,6 +2,7 @@ pub mod AllReads
 pub mod Contents
 pub mod Frees
 pub mod History
+pub mod Lists
 pub mod Loads
 pub mod Moves
 pub mod Pairs

@@ -16,6 +16,7 @@ use Rattle.pa_region.specs.Views.{byte_words, shown, Knows, idle_in, budget_in, 
 use Rattle.pa_region.specs.Waiting.{Reads}
 use Rattle.pa_region.specs.History.{Done, reached, content_of, IsChained}
 use Rattle.pa_region.specs.Waiting.{Reads}
+use Rattle.pa_region.specs.Lists.{Lists}
 
 -- The first part: the core that is shown is good. Where a view knows of a title that no Ref of it
 -- is left, the count is 0. The steps that may still be made and those that were made are at most 65,536, also with
@@ -54,7 +55,7 @@ pub record Seen (logs : (Entry → ℕ) → ℕ) (ahead : Title → ℕ → ℕ)
   pub numbers : (t : Title) → ahead t (logs (counted_on t)) ≡ 0
   pub own_logs : unseen ≡ 0
 
--- The rule, in four parts, each of what it reads. Each title has a history, and each keeper a list. The third part also
+-- The rule, in five parts, each of what it reads. Each title has a history, and each keeper a list. The third part also
 -- says that the content of each clean Own is that of its title's history, and the rest of an Own that is being poisoned
 -- while there are Refs; and what reads gave.
 pub record IsKept (words : List ℕ) (views : List View) : Type 0 where
@@ -67,3 +68,4 @@ pub record IsKept (words : List ℕ) (views : List View) : Type 0 where
   pub content : KeepsContent (shown words views) (λ t. content_of (history t))
   pub reads : Reads history (byte_words words) views
   pub seen : Seen (logged_in views) (ahead_in views) (unseen_in views)
+  pub lists : Lists list views

@@ -6,6 +6,7 @@ use Rattle.pa_machine.specs.declared.title.Title.{Title}
 use Rattle.pa_machine.specs.Titles.{Covers, IsWellFormed, count_word}
 use Rattle.pa_region.specs.declared.view.RawRange.{RawRange}
 use Rattle.pa_region.specs.declared.view.Stake.{Stake}
+use Rattle.pa_region.specs.declared.view.Keeper.{Keeper}
 use Rattle.pa_region.specs.declared.view.View.{View}
 use Rattle.pa_region.specs.Views.{HasTitle}
 use Rattle.pa_region.specs.History.{reached}
@@ -46,8 +47,13 @@ abbrev pub stakes_from : ℕ → ℕ → List Stake
 stakes_from from zero = []
 stakes_from from (suc count) = record { number = from; log = [] } ∷ stakes_from (suc from) count
 
--- the view of the first seat, in a region of so many words, which are 0: the titles free, the rest raw, the whole budget
--- and every stake
+-- `count` keepers from number `from` on, with empty lists
+abbrev pub keepers_from : ℕ → ℕ → List Keeper
+keepers_from from zero = []
+keepers_from from (suc count) = record { number = from; entries = [] } ∷ keepers_from (suc from) count
+
+-- the view of the first seat, in a region of so many words, which are 0: the titles free, the rest raw, the whole budget,
+-- every stake, every keeper and every lease
 abbrev pub first_view : ℕ → ℕ → List Title → View
 first_view words budget titles = record {
   raws = rest_from 0 words titles;
@@ -58,8 +64,8 @@ first_view words budget titles = record {
   budget = budget;
   stakes = stakes_from 0 16;
   since = no_deeds;
-  keepers = [];
-  leases = record { single = []; from = [] };
+  keepers = keepers_from 0 6;
+  leases = record { single = []; from = 0 ∷ [] };
   uncut = [];
   seen = [];
   seen_lists = [];
