@@ -1,5 +1,5 @@
 -- The fifth part after a counted step, and after a look.
-use Rattle.std.proofs.Common.{◌≡◌, ℕ, ◌+◌, ◌*◌, ◌<◌, ◌≤◌, List, [], ◌∷◌, length, set, refl, sym, ◌∙◌, ap, subst, arith, inl, inr}
+use Rattle.std.proofs.Common.{◌≡◌, ℕ, ◌+◌, ◌<◌, ◌≤◌, List, ◌∷◌, length, set, refl, sym, ◌∙◌, ap, subst, arith, inl, inr}
 use mathlib.Core.Option.{some}
 use lib.ListN.{get_elem?}
 use Rattle.pa_machine.specs.declared.title.Title.{Title}
@@ -8,7 +8,7 @@ use Rattle.pa_machine.specs.declared.word.Step.{Step}
 use Rattle.pa_machine.specs.declared.word.Step.TheVariants.{Issue, Copy, Reset, Free, Write}
 use Rattle.pa_machine.specs.Count.{stepped, number_of}
 use Rattle.pa_machine.specs.Titles.{count_place, count_word}
-use Rattle.pa_machine.specs.Holdings.{FreeTitle, IsTitleHeld}
+use Rattle.pa_machine.specs.Holdings.{FreeTitle}
 use Rattle.pa_machine.specs.Events.{total_of}
 use Rattle.pa_machine.proofs.Parts.{word_covered}
 use Rattle.pa_machine.proofs.Same.{title_tells}
@@ -18,7 +18,7 @@ use Rattle.pa_region.specs.Views.{held_of_view, byte_words, shown, free_of, seen
 use Rattle.pa_region.specs.Moves.{CanCount, noted, moved, value_of, after_count, after_look}
 use Rattle.pa_region.specs.Rule.{Values, IsKept}
 use Rattle.pa_region.specs.Lists.{HasSeenFree, Lists}
-use Rattle.pa_region.proofs.Pieces.{handle_piece, lost_by, gained_by, moved_changes, frees_have}
+use Rattle.pa_region.proofs.Pieces.{handle_piece, moved_changes, frees_have}
 use Rattle.pa_region.proofs.HolderPart.{IsCountStep, words_by, lost_here, gained_here, other_stays, word_here, number_grows}
 use Rattle.pa_region.proofs.SeenPart.{note, note_grows, note_here}
 use Rattle.pa_region.proofs.Bytes.{held_in_all}

@@ -1,5 +1,5 @@
 -- The fifth part at the start: empty lists, with keepers and leases in the first view.
-use Rattle.std.proofs.Common.{◌≡◌, ℕ, zero, suc, ◌+◌, ◌<◌, ◌≤◌, List, [], ◌∷◌, refl, sym, ◌∙◌, ap, subst, arith, ◌⊎◌, inl, inr, eqb, ltb, leb}
+use Rattle.std.proofs.Common.{◌≡◌, ℕ, zero, suc, ◌+◌, ◌<◌, ◌≤◌, List, [], ◌∷◌, refl, sym, ap, subst, arith, ◌⊎◌, inl, inr, eqb, leb}
 use Rattle.std.specs.Prelude.{slice_index}
 use Rattle.std.specs.List.{sum_by}
 use Rattle.core.specs.List.{AllByRecursion as Each}
@@ -11,13 +11,11 @@ use Rattle.pa_machine.specs.declared.title.Title.{Title}
 use Rattle.pa_machine.specs.Count.{number_of}
 use Rattle.pa_machine.specs.Titles.{count_place, count_word}
 use Rattle.pa_machine.specs.Holdings.{one}
-use Rattle.pa_region.specs.declared.view.Made.{Made}
 use Rattle.pa_region.specs.declared.view.Stake.{Stake}
 use Rattle.pa_region.specs.declared.view.Keeper.{Keeper}
 use Rattle.pa_region.specs.declared.view.View.{View}
-use Rattle.pa_region.specs.Views.{seen_of, free_of}
 use Rattle.pa_region.specs.Start.{blank, stakes_from, keepers_from, first_view}
-use Rattle.pa_region.specs.Lists.{keeper_of, keepers_in, lease_of, leases_in, made_with, entered_in, IsListed, HasSeenFree, Lists}
+use Rattle.pa_region.specs.Lists.{made_with, entered_in, IsListed, HasSeenFree, Lists}
 use Rattle.pa_region.proofs.Adding.{one_lt, one_eq}
 
 -- the first view's words

@@ -13,13 +13,18 @@ pub mod FirstFrees
 pub mod FirstLists
 pub mod Found
 pub mod Freeing
+pub mod HandStep
 pub mod HolderPart
 pub mod Idle
+pub mod JoinLists
+pub mod JoinStep
+pub mod LeasePart
 pub mod ListFacts
 pub mod ListPart
 pub mod Loading
 pub mod LogPart
 pub mod LookStep
+pub mod Merging
 pub mod MovedRest
 pub mod NextFree
 pub mod OneLog
@@ -27,6 +32,7 @@ pub mod OneRead
 pub mod OneTitle
 pub mod Opens
 pub mod PairSums
+pub mod Parting
 pub mod Pieces
 pub mod PoisonStep
 pub mod PoisonedOwns
@@ -36,8 +42,10 @@ pub mod Readings
 pub mod ReadsCount
 pub mod ReadsFirst
 pub mod ReadsSame
+pub mod Regroup
 pub mod Releases
 pub mod ReservationPart
+pub mod SeenJoin
 pub mod SeenPart
 pub mod Shown
 pub mod Standing

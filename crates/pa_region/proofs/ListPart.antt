@@ -1,5 +1,5 @@
 -- The fifth part after a step that enters nothing: the lists stay.
-use Rattle.std.proofs.Common.{◌≡◌, ℕ, ◌+◌, ◌<◌, ◌≤◌, List, [], ◌∷◌, ◌++◌, set, refl, sym, ◌∙◌, ap, subst, arith, ◌⊎◌, inl, inr, eqb}
+use Rattle.std.proofs.Common.{◌≡◌, ℕ, ◌<◌, ◌≤◌, List, [], set, refl, sym, ◌∙◌, ap, subst, arith, ◌⊎◌, inl, inr, eqb}
 use Rattle.core.specs.List.{AllByRecursion as Each}
 use Rattle.std.proofs.lemmas.Bool.Decides.{eqb_tells}
 use mathlib.Core.Option.{some, some-injective}
@@ -10,11 +10,10 @@ use Rattle.pa_region.specs.declared.view.Made.{Made}
 use Rattle.pa_region.specs.declared.view.Stake.{Stake}
 use Rattle.pa_region.specs.declared.view.Keeper.{Keeper}
 use Rattle.pa_region.specs.declared.view.SeenList.{SeenList}
-use Rattle.pa_region.specs.declared.view.Leases.{Leases}
 use Rattle.pa_region.specs.declared.view.View.{View}
 use Rattle.pa_region.specs.Views.{seen_of, least_stake}
 use Rattle.pa_region.specs.Moves.{noted}
-use Rattle.pa_region.specs.Lists.{keeper_of, keepers_in, lease_of, leases_in, list_of, list_among, made_with, entry_in, entered_in, IsBeginning, IsKnownTo, IsListed, HasSeenFree, Lists}
+use Rattle.pa_region.specs.Lists.{keeper_of, lease_of, list_of, list_among, made_with, entry_in, entered_in, IsBeginning, IsKnownTo, IsListed, HasSeenFree, Lists}
 use Rattle.pa_region.proofs.Adding.{sum_set}
 use Rattle.pa_region.proofs.Entering.{with_entry_last}
 use Rattle.pa_region.proofs.Shown.{put_there, put_beside}

@@ -1,5 +1,5 @@
 -- The table that a region is opened with meets the rule.
-use Rattle.std.proofs.Common.{◌≡◌, ℕ, zero, suc, ◌+◌, ◌-◌, ◌*◌, ◌/◌, ◌<◌, ◌≤◌, Bool, true, false, ◌&&◌, List, [], ◌∷◌, length, take, refl, sym, ◌∙◌, ap, subst, arith, ◌⊎◌, inl, inr, eqb, ltb, leb}
+use Rattle.std.proofs.Common.{◌≡◌, ℕ, zero, suc, ◌+◌, ◌-◌, ◌*◌, ◌/◌, ◌<◌, ◌≤◌, Bool, true, false, ◌&&◌, List, [], ◌∷◌, length, take, refl, sym, ◌∙◌, ap, subst, arith, ◌⊎◌, inl, inr, ltb, leb}
 use Rattle.std.specs.Prelude.{if◌then◌else◌, slice_index}
 use Rattle.std.specs.List.{sum_by}
 use Rattle.std.proofs.lemmas.List.Sums.{sum_by-cons}
@@ -15,7 +15,6 @@ use Rattle.pa_machine.specs.Good.{IsByteGood}
 use Rattle.pa_machine.specs.Events.{total_of}
 use Rattle.pa_machine.proofs.Same.{title_one}
 use Rattle.pa_region.specs.declared.view.RawRange.{RawRange}
-use Rattle.pa_region.specs.declared.view.Stake.{Stake}
 use Rattle.pa_region.specs.declared.view.View.{View}
 use Rattle.std.proofs.Common.{replicate}
 use Rattle.std.specs.Prelude.{length}
@@ -26,9 +25,9 @@ use Rattle.atomic_table.specs.Table.{Me}
 use Rattle.pa_region.specs.Views.{raw_piece, held_of_view, byte_words, shown, least_stake}
 use Rattle.pa_region.specs.Rule.{IsKept}
 use Rattle.pa_region.specs.Shares.{IsSound, byte_word_count}
-use Rattle.pa_region.specs.Start.{AreApart, AreWellFormed, is_covered, blank, raw_word, rest_from, stakes_from, first_view}
+use Rattle.pa_region.specs.Start.{AreApart, AreWellFormed, is_covered, blank, raw_word, rest_from, first_view}
 use Rattle.pa_region.proofs.ReadsFirst.{reads_first}
-use Rattle.pa_region.proofs.Adding.{sum_none, one_lt, one_eq}
+use Rattle.pa_region.proofs.Adding.{sum_none, one_lt}
 use Rattle.pa_region.proofs.Pieces.{held_split, frees_have, title_held}
 use Rattle.pa_region.proofs.FirstLists.{blank_at, stake_count, first_lists}
 

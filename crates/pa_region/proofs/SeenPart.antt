@@ -76,7 +76,7 @@ pub note_here : (t : Title) (number : ℕ) (notes : List SeenNumber) → number 
 note_here t number notes = rw (title_self t) (le-max_left number (seen_among t notes))
 
 -- fewer numbers are above a greater one
-lt_antitone : (a b k : ℕ) → a ≤ b → one (ltb b k) ≤ one (ltb a k)
+pub lt_antitone : (a b k : ℕ) → a ≤ b → one (ltb b k) ≤ one (ltb a k)
 lt_antitone a b k h =
     elim (one_lt b k) [
       | inl y ↦ let p = y.1 in let q = y.0 in elim (one_lt a k) [ inl z ↦ let r = z.0 in omega arith | inr z ↦ let r = z.1 in absurd (omega arith) ]

@@ -1,6 +1,7 @@
 pub mod AllReads
 pub mod Contents
 pub mod Frees
+pub mod Hands
 pub mod History
 pub mod Lists
 pub mod Loads

@@ -1,5 +1,5 @@
 -- What the rule says, of any number of seats.
-use Rattle.std.specs.Prelude.{◌≡◌, ℕ, ◌+◌, ◌/◌, ◌%◌, ◌<◌, ◌≤◌, List, [], ◌∷◌, slice_set, replicate}
+use Rattle.std.specs.Prelude.{◌≡◌, ℕ, ◌+◌, ◌/◌, ◌%◌, ◌<◌, ◌≤◌, List, [], ◌∷◌, ◌++◌, slice_set, replicate}
 use mathlib.Core.Option.{some}
 use lib.ListN.{get_elem?}
 use Rattle.pa_machine.specs.declared.title.Title.{Title}
@@ -16,6 +16,7 @@ use Rattle.pa_region.specs.Views.{byte_words, shown, logged_in, counted_on, coun
 use Rattle.pa_region.specs.Rule.{IsKept}
 use Rattle.pa_region.specs.Moves.{CanCount, IsFound, after_count, after_look}
 use Rattle.pa_region.specs.Stores.{after_store, CanStore, after_poison, CanPoison}
+use Rattle.pa_region.specs.Hands.{Parcel, CanHand, IsParted, left_after, given_after, united, spent_of}
 use Rattle.pa_region.specs.Shares.{IsUser, count_offset}
 use Rattle.pa_region.specs.Loads.{after_read, content_offset, IsPlain}
 use Rattle.pa_region.specs.Start.{AreApart, AreWellFormed, first_view}
@@ -114,3 +115,16 @@ abbrev pub UnnamedIsNew : Type 0
 UnnamedIsNew =
     (words : List ℕ) (views : List View) (t : Title) → IsKept words views → IsTitleHeld (total_of (shown words views)) t →
     logged_in views (counted_on t) ≡ 0 → word_shown words t ≡ 0
+
+-- a hand by any one seat keeps the rule: its view is parted in two, and the second is a new one
+abbrev pub HandKeeps : Type 0
+HandKeeps =
+    (p : Parcel) (words : List ℕ) (views : List View) (i : ℕ) (v : View) → IsKept words views → get_elem? views i ≡ some v → CanHand p v →
+    IsParted v (left_after p v) (given_after p v) × IsKept words (slice_set views i (left_after p v) ++ given_after p v ∷ [])
+
+-- a join of any two seats keeps it: the one has all that both had, and the other is left with nothing
+abbrev pub JoinKeeps : Type 0
+JoinKeeps =
+    (words : List ℕ) (views : List View) (i j : ℕ) (v w : View) →
+    IsKept words views → get_elem? views i ≡ some v → get_elem? views j ≡ some w → (j ≡ i → ⊥) →
+    IsParted (united v w) v w × IsKept words (slice_set (slice_set views i (united v w)) j (spent_of w))

@@ -1,5 +1,5 @@
 //! What the region's rule says of any number of seats, as laws: calls that do nothing, and whose clauses are proved.
-ghost use Rattle.pa_region.specs.Says.{CountKeeps, CountIsEvent, LookKeeps, LookIsLoad, StoreKeeps, PoisonKeeps, PlainIsLoad, ReadKeeps, StartKeeps, ShowsGood, FindsEachNumberOnce, UnnamedIsNew};
+ghost use Rattle.pa_region.specs.Says.{CountKeeps, CountIsEvent, LookKeeps, LookIsLoad, StoreKeeps, PoisonKeeps, PlainIsLoad, ReadKeeps, HandKeeps, JoinKeeps, StartKeeps, ShowsGood, FindsEachNumberOnce, UnnamedIsNew};
 
 /// Each counted step keeps the rule.
 pub fn counted_steps_keep_the_rule()
@@ -39,6 +39,16 @@ pub fn each_plain_load_is_a_load()
 /// Each read is a load in the core that is shown, and keeps the rule.
 pub fn reads_keep_the_rule()
     ensures { ReadKeeps }
+{}
+
+/// Each hand keeps the rule.
+pub fn hands_keep_the_rule()
+    ensures { HandKeeps }
+{}
+
+/// Each join keeps the rule.
+pub fn joins_keep_the_rule()
+    ensures { JoinKeeps }
 {}
 
 /// A new region meets the rule.

@@ -1,0 +1,184 @@
+-- Steps that only regroup what the views have: where all sums stay, the rule's parts do.
+use Rattle.std.proofs.Common.{◌≡◌, ℕ, ◌+◌, ◌≤◌, List, [], ◌∷◌, ◌++◌, set, refl, sym, ◌∙◌, ap, subst, arith}
+use Rattle.std.specs.List.{sum_by}
+use Rattle.std.specs.Prelude.{◌&&◌, nat_lt}
+use Rattle.std.proofs.lemmas.List.Sums.{sum_by_push, sum_by-append, sum_by-le-sum_by}
+use mathlib.Core.Option.{some}
+use lib.ListN.{get_elem?}
+use Rattle.pa_machine.specs.declared.title.Title.{Title}
+use Rattle.pa_machine.specs.declared.title.OwnState.TheVariants.{Clean, Poisoned}
+use Rattle.pa_machine.specs.Titles.{same_title}
+use Rattle.pa_machine.specs.Holdings.{Thing, OwnOf, OwnAs, RefOf, one}
+use Rattle.pa_machine.specs.Events.{total_of}
+use Rattle.pa_machine.specs.Trail.{KeepsContent}
+use Rattle.pa_region.specs.declared.view.Entry.{Entry}
+use Rattle.pa_region.specs.declared.view.OwnTitle.{OwnTitle}
+use Rattle.pa_region.specs.declared.view.SeenNumber.{SeenNumber}
+use Rattle.pa_region.specs.declared.view.View.{View}
+use Rattle.pa_region.specs.Views.{held_of_view, byte_words, shown, idle_of, idle_in, budget_in, low_of, low_in, uncut_of, uncut_in, stake_of, stakes_in, logged_of, logged_in, ahead_of, ahead_in, unseen_by, unseen_of, own_of, unseen_in, counted, counted_on, names}
+use Rattle.pa_region.specs.Rule.{Values, Reservations, Logs, IsKept}
+use Rattle.pa_region.specs.Lists.{keeper_of, keepers_in, lease_of, leases_in, IsListed, HasSeenFree}
+use Rattle.pa_region.specs.Hands.{IsParted}
+use Rattle.pa_region.proofs.Adding.{sum_set, sum_part, one_and}
+use Rattle.pa_region.proofs.Pieces.{total_sum, owns_have}
+use Rattle.pa_region.proofs.HolderPart.{holders_same}
+use Rattle.pa_region.proofs.SeenPart.{logged_mono}
+use Rattle.pa_region.proofs.SeenJoin.{seen_left, seen_right, unseen_grown}
+
+-- the same is had, by all views together; that no Ref is left may be forgotten
+pub record IsRegrouped (before after : List View) : Type 0 where
+  pub things : (x : Thing) → sum_by (λ v. held_of_view v x) after ≡ sum_by (λ v. held_of_view v x) before
+  pub floors : (b n : ℕ) → low_in after b n ≡ low_in before b n
+  pub idle : (t : Title) → idle_in after t ≤ idle_in before t
+  pub budget : budget_in after ≡ budget_in before
+  pub logs : (weight : Entry → ℕ) → logged_in after weight ≡ logged_in before weight
+  pub stakes : (k : ℕ) → stakes_in after k ≡ stakes_in before k
+  pub keepers : (k : ℕ) → keepers_in after k ≡ keepers_in before k
+  pub leases : (n : ℕ) → leases_in after n ≡ leases_in before n
+  pub uncut : (t : Title) → uncut_in after t ≡ uncut_in before t
+  pub ahead : (t : Title) (n : ℕ) → ahead_in before t n ≡ 0 → ahead_in after t n ≡ 0
+  pub unseen : unseen_in before ≡ 0 → unseen_in after ≡ 0
+
+-- contents stay where the totals do
+content_regrouped : (words : List ℕ) (before after : List View) (last : Title → ℕ) → ((x : Thing) → total_of (shown words after) x ≡ total_of (shown words before) x) →
+    KeepsContent (shown words before) last → KeepsContent (shown words after) last
+content_regrouped words before after last same k = record {
+  clean = λ t has. let e = same (OwnAs t Clean) in k.clean t (omega arith);
+  beyond = λ t j many has. let e = same (OwnAs t (Poisoned j)) in let f = same (RefOf t) in k.beyond t j (omega arith) (omega arith);
+}
+
+-- the rule's parts after such a step
+pub kept_regrouped : (words : List ℕ) (before after : List View) (k : IsKept words before) → IsRegrouped before after → Values (byte_words words) after →
+    ((i : ℕ) (v : View) → get_elem? after i ≡ some v → IsListed k.list v) → ((i : ℕ) (v : View) → get_elem? after i ≡ some v → HasSeenFree v) → IsKept words after
+kept_regrouped words before after k g values listed free =
+    let same : (x : Thing) → total_of (shown words after) x ≡ total_of (shown words before) x =
+    λ x. let a = total_sum words after x in let b = total_sum words before x in let c = g.things x in omega arith in
+    let total : total_of (shown words before) ≡ total_of (shown words after) = λ i x. sym (same x) i in
+    let logs : logged_in before ≡ logged_in after = λ i weight. sym (g.logs weight) i in
+    let low : low_in before ≡ low_in after = λ i b n. sym (g.floors b n) i in
+    let uncut : uncut_in before ≡ uncut_in after = λ i t. sym (g.uncut t) i in
+    let stakes : stakes_in before ≡ stakes_in after = λ i n. sym (g.stakes n) i in
+    record {
+      history = k.history;
+      list = k.list;
+      holders = holders_same (byte_words words) (total_of (shown words before)) (total_of (shown words after)) (idle_in before) (idle_in after) (budget_in before) (budget_in after)
+          (logged_in before counted) (logged_in after counted) k.holders same
+          (λ u some_idle. let e = g.idle u in k.holders.known u (omega arith)) g.budget (g.logs counted);
+      values = values;
+      reservations =
+          subst (λ total_now. Reservations total_now (low_in after) (λ t. logged_in after (names t)) (uncut_in after)) total
+          (subst (λ low_now. Reservations (total_of (shown words before)) low_now (λ t. logged_in after (names t)) (uncut_in after)) low
+          (subst (λ (ls : (Entry → ℕ) → ℕ). Reservations (total_of (shown words before)) (low_in before) (λ t. ls (names t)) (uncut_in after)) logs
+          (subst (λ uncut_now. Reservations (total_of (shown words before)) (low_in before) (λ t. logged_in before (names t)) uncut_now) uncut k.reservations)));
+      logs =
+          subst (λ total_now. Logs k.history (byte_words words) total_now (logged_in after) (stakes_in after)) total
+          (subst (λ ls. Logs k.history (byte_words words) (total_of (shown words before)) ls (stakes_in after)) logs
+          (subst (λ ss. Logs k.history (byte_words words) (total_of (shown words before)) (logged_in before) ss) stakes k.logs));
+      content = content_regrouped words before after _ same k.content;
+      seen = record {
+        numbers = λ t. g.ahead t (logged_in after (counted_on t)) (ap (ahead_in before t) (g.logs (counted_on t)) ∙ k.seen.numbers t);
+        own_logs = g.unseen k.seen.own_logs;
+      };
+      lists = record {
+        each_keeper = λ n. g.keepers n ∙ k.lists.each_keeper n;
+        each_lease = λ n. g.leases n ∙ k.lists.each_lease n;
+        rises = k.lists.rises;
+        makers = k.lists.makers;
+        each_view = listed;
+        free_seen = free;
+      };
+    }
+
+-- a sum in which one view is parted
+part_sum : (f : View → ℕ) (views : List View) (i : ℕ) (v l r : View) → get_elem? views i ≡ some v → f l + f r ≡ f v → sum_by f (set views i l ++ r ∷ []) ≡ sum_by f views
+part_sum f views i v l r at_i e =
+    let a = sum_by_push f (set views i l) r in
+    let b = sum_set f views i v l at_i in
+    omega arith
+
+part_less : (f : View → ℕ) (views : List View) (i : ℕ) (v l r : View) → get_elem? views i ≡ some v → f l + f r ≤ f v → sum_by f (set views i l ++ r ∷ []) ≤ sum_by f views
+part_less f views i v l r at_i e =
+    let a = sum_by_push f (set views i l) r in
+    let b = sum_set f views i v l at_i in
+    omega arith
+
+-- a view is parted, and both parts have seen what it has seen
+pub parted_regroups : (views : List View) (i : ℕ) (v l r : View) → get_elem? views i ≡ some v → IsParted v l r → l.seen ≡ v.seen → r.seen ≡ v.seen →
+    IsRegrouped views (set views i l ++ r ∷ [])
+parted_regroups views i v l r at_i p left right = record {
+  things = λ x. part_sum (λ u. held_of_view u x) views i v l r at_i (p.things x);
+  floors = λ b n. part_sum (λ u. low_of u b n) views i v l r at_i (p.floors b n);
+  idle = λ t. part_less (λ u. idle_of u t) views i v l r at_i (p.idle t);
+  budget = part_sum (λ (u : View). u.budget) views i v l r at_i p.budget;
+  logs = λ weight. part_sum (λ u. logged_of u weight) views i v l r at_i (p.logs weight);
+  stakes = λ k. part_sum (λ u. stake_of u k) views i v l r at_i (p.stakes k);
+  keepers = λ k. part_sum (λ u. keeper_of u k) views i v l r at_i (p.keepers k);
+  leases = λ n. part_sum (λ u. lease_of u n) views i v l r at_i (p.leases n);
+  uncut = λ t. part_sum (λ u. uncut_of u t) views i v l r at_i (p.uncut t);
+  ahead = λ t n none.
+      let a = sum_by_push (λ u. ahead_of u t n) (set views i l) r in
+      let b = sum_set (λ u. ahead_of u t n) views i v l at_i in
+      let c : ahead_of l t n ≡ ahead_of v t n = rw left refl in
+      let d : ahead_of r t n ≡ ahead_of v t n = rw right refl in
+      let e = sum_part (λ u. ahead_of u t n) views i v at_i in
+      omega arith;
+  unseen = λ none.
+      let same = part_sum unseen_of views i v l r at_i (sums) in
+      same ∙ none;
+}
+  where
+    sums : unseen_of l + unseen_of r ≡ unseen_of v
+    sums = rw (left, right) (p.logs _)
+
+-- a sum in which one view takes over what another has
+join_sum : (f : View → ℕ) (views : List View) (i j : ℕ) (v w both spent : View) → get_elem? views i ≡ some v → get_elem? (set views i both) j ≡ some w →
+    f both ≡ f v + f w → f spent ≡ 0 → sum_by f (set (set views i both) j spent) ≡ sum_by f views
+join_sum f views i j v w both spent at_i at_j e none =
+    let a = sum_set f views i v both at_i in
+    let b = sum_set f (set views i both) j w spent at_j in
+    omega arith
+
+join_less : (f : View → ℕ) (views : List View) (i j : ℕ) (v w both spent : View) → get_elem? views i ≡ some v → get_elem? (set views i both) j ≡ some w →
+    f both ≤ f v + f w → f spent ≡ 0 → sum_by f (set (set views i both) j spent) ≤ sum_by f views
+join_less f views i j v w both spent at_i at_j e none =
+    let a = sum_set f views i v both at_i in
+    let b = sum_set f (set views i both) j w spent at_j in
+    omega arith
+
+-- who has no Own knows of none that no Ref of it is left
+idle_within : (v : View) (t : Title) → idle_of v t ≤ own_of v t
+idle_within v t = sum_by-le-sum_by (λ (o : OwnTitle). one (same_title o.title t && o.idle)) (λ (o : OwnTitle). one (same_title o.title t)) v.owns (λ o. one_and (same_title o.title t) o.idle)
+
+-- Two views are joined: the one has what both had, and has seen what either has seen, and the other is left with
+-- nothing.
+pub joined_regroups : (views : List View) (i j : ℕ) (v w both spent : View) → get_elem? views i ≡ some v → get_elem? (set views i both) j ≡ some w →
+    IsParted both v w → ((t : Title) → idle_of both t ≤ idle_of v t + idle_of w t) → IsParted spent spent spent → both.seen ≡ v.seen ++ w.seen → spent.seen ≡ [] →
+    IsRegrouped views (set (set views i both) j spent)
+joined_regroups views i j v w both spent at_i at_j p idle none seen no_note = record {
+  things = λ x. join_sum (λ u. held_of_view u x) views i j v w both spent at_i at_j (sym (p.things x)) (let z = none.things x in omega arith);
+  floors = λ b n. join_sum (λ u. low_of u b n) views i j v w both spent at_i at_j (sym (p.floors b n)) (let z = none.floors b n in omega arith);
+  idle = λ t. join_less (λ u. idle_of u t) views i j v w both spent at_i at_j (idle t) (no_idle t);
+  budget = join_sum (λ (u : View). u.budget) views i j v w both spent at_i at_j (sym p.budget) (let z = none.budget in omega arith);
+  logs = λ weight. join_sum (λ u. logged_of u weight) views i j v w both spent at_i at_j (sym (p.logs weight)) (let z = none.logs weight in omega arith);
+  stakes = λ k. join_sum (λ u. stake_of u k) views i j v w both spent at_i at_j (sym (p.stakes k)) (let z = none.stakes k in omega arith);
+  keepers = λ k. join_sum (λ u. keeper_of u k) views i j v w both spent at_i at_j (sym (p.keepers k)) (let z = none.keepers k in omega arith);
+  leases = λ n. join_sum (λ u. lease_of u n) views i j v w both spent at_i at_j (sym (p.leases n)) (let z = none.leases n in omega arith);
+  uncut = λ t. join_sum (λ u. uncut_of u t) views i j v w both spent at_i at_j (sym (p.uncut t)) (let z = none.uncut t in omega arith);
+  ahead = λ t n zero.
+      let e : ahead_of both t n ≡ ahead_of v t n + ahead_of w t n = rw seen (sum_by-append (λ (s : SeenNumber). one (same_title s.title t && nat_lt n s.number)) v.seen w.seen) in
+      join_sum (λ u. ahead_of u t n) views i j v w both spent at_i at_j e (rw no_note refl) ∙ zero;
+  unseen = λ zero. let l = join_less unseen_of views i j v w both spent at_i at_j less spent_less in omega arith;
+}
+  where
+    no_idle : (t : Title) → idle_of spent t ≡ 0
+    no_idle t = omega (arith, idle_within spent t, owns_have spent t, none.things (OwnOf t))
+
+    less : unseen_of both ≤ unseen_of v + unseen_of w
+    less =
+        let l = p.logs (unseen_by both.seen) in
+        let a : logged_of v (unseen_by both.seen) ≤ unseen_of v = rw seen (logged_mono v (unseen_by (v.seen ++ w.seen)) (unseen_by v.seen) (unseen_grown v.seen (v.seen ++ w.seen) (λ t. seen_left t v.seen w.seen))) in
+        let b : logged_of w (unseen_by both.seen) ≤ unseen_of w = rw seen (logged_mono w (unseen_by (v.seen ++ w.seen)) (unseen_by w.seen) (unseen_grown w.seen (v.seen ++ w.seen) (λ t. seen_right t v.seen w.seen))) in
+        omega arith
+
+    spent_less : unseen_of spent ≡ 0
+    spent_less = let l = none.logs (unseen_by spent.seen) in omega arith
