@@ -1,26 +1,35 @@
 -- A hand keeps the rule.
-use Rattle.std.proofs.Common.{◌≡◌, ℕ, ◌*◌, ◌≤◌, Bool, true, false, List, [], ◌∷◌, ◌++◌, length, set, refl, subst, arith, inl, inr, eqb}
+use Rattle.std.proofs.Common.{◌≡◌, ℕ, ◌+◌, ◌*◌, ◌<◌, ◌≤◌, Bool, true, false, ◌&&◌, List, [], ◌∷◌, ◌++◌, length, set, refl, sym, ap, subst, arith, inl, inr, eqb}
 use Rattle.std.specs.Prelude.{not, cond, slice_index}
+use Rattle.std.proofs.lemmas.Bool.{cases_Bool}
 use Rattle.std.specs.List.{sum_by, filter}
 use Rattle.core.specs.List.{AllByRecursion as Each}
 use Rattle.std.proofs.lemmas.List.Filters.{sum_by-filter_both}
 use mathlib.Core.Option.{some}
 use lib.ListN.{get_elem?}
 use Rattle.atomic_table.proofs.Lists.{at_snoc}
+use Rattle.pa_machine.specs.Titles.{same_title}
 use Rattle.pa_machine.specs.Holdings.{Thing, RawByte, FreeTitle, OwnOf, one}
 use Rattle.pa_region.specs.declared.view.Made.{Made}
 use Rattle.pa_region.specs.declared.view.Stake.{Stake}
 use Rattle.pa_region.specs.declared.view.Keeper.{Keeper}
 use Rattle.pa_region.specs.declared.view.View.{View}
-use Rattle.pa_region.specs.Views.{held_of_view, byte_words, Knows}
+use Rattle.pa_region.specs.Views.{held_of_view, byte_words, Knows, least_stake, HasStake}
+use Rattle.pa_region.specs.Pairs.{pairs, amount_by}
+use Rattle.pa_region.specs.Waiting.{is_poisoned, is_unclean, unclean_of, IsReader}
+use Rattle.pa_region.proofs.ReadsSame.{reader_handed}
 use Rattle.pa_region.specs.Rule.{IsKept}
 use Rattle.pa_region.specs.Lists.{keeper_of, made_with, entered_in, list_of, IsListed, HasSeenFree}
 use Rattle.pa_region.specs.Hands.{Parcel, empty_of, left_after, given_after, CanHand, IsParted}
 use Rattle.pa_region.proofs.Pieces.{frees_have, owns_have}
-use Rattle.pa_region.proofs.Parting.{items_part, items_floors, items_idle}
+use Rattle.pa_region.proofs.Parting.{items_owns, given_nothing, items_part, items_floors, items_idle}
 use Rattle.pa_region.proofs.LeasePart.{leases_sum}
 use Rattle.pa_region.proofs.ListPart.{each_set}
 use Rattle.pa_region.proofs.Regroup.{parted_regroups, kept_regrouped}
+
+-- the stakes are parted
+stakes_part : (p : Parcel) (v : View) (amount : Stake → ℕ) → sum_by amount (left_after p v).stakes + sum_by amount (given_after p v).stakes ≡ sum_by amount v.stakes
+stakes_part p v amount = let e = sum_by-filter_both (λ (s : Stake). p.stakes s.number) (λ s. not (p.stakes s.number)) (λ s. refl) amount v.stakes in omega arith
 
 -- the two views have what the one had
 pub hand_parts : (p : Parcel) (v : View) → CanHand p v → IsParted v (left_after p v) (given_after p v)
@@ -29,12 +38,39 @@ hand_parts p v can = record {
   floors = λ b n. let e = items_floors p.items v (empty_of v) b n in omega arith;
   idle = λ t. let e = items_idle p.items v (empty_of v) can.items t in omega arith;
   budget = let b = can.budget in omega arith;
-  logs = λ weight. let e = sum_by-filter_both (λ (s : Stake). p.stakes s.number) (λ s. not (p.stakes s.number)) (λ s. refl) (λ s. sum_by weight s.log) v.stakes in omega arith;
-  stakes = λ k. let e = sum_by-filter_both (λ (s : Stake). p.stakes s.number) (λ s. not (p.stakes s.number)) (λ s. refl) (λ s. one (eqb s.number k)) v.stakes in omega arith;
+  logs = λ weight. stakes_part p v (λ s. sum_by weight s.log);
+  stakes = λ k. stakes_part p v (λ s. one (eqb s.number k));
   keepers = λ k. let e = sum_by-filter_both (λ (q : Keeper). p.keepers q.number) (λ q. not (p.keepers q.number)) (λ q. refl) (λ q. one (eqb q.number k)) v.keepers in omega arith;
   leases = λ n. let e = leases_sum p.leases v.leases can.leases n in omega arith;
   uncut = λ t. omega arith;
+  pairs = λ weight. stakes_part p v (λ s. pairs weight s.log);
+  pairs_by = λ k weight. stakes_part p v (amount_by k (pairs weight));
+  logs_by = λ k weight. stakes_part p v (amount_by k (sum_by weight));
+  poisoned = λ t. let e = items_owns (λ u a. one (same_title u t && is_poisoned a)) p.items v (empty_of v) can.items in omega arith;
+  unclean = let e = items_owns (λ u a. one (is_unclean a)) p.items v (empty_of v) can.items in omega arith;
 }
+
+-- only clean Owns are given
+given_clean : (p : Parcel) (v : View) → unclean_of (given_after p v) ≡ 0
+given_clean p v = given_nothing (λ u a. one (is_unclean a)) (λ t. refl) p.items v (empty_of v)
+
+-- where no stake is in the parcel, all stay
+stakes_stay : (p : Parcel) (ss : List Stake) → ((k : ℕ) → p.stakes k ≡ false) → filter (λ (s : Stake). not (p.stakes s.number)) ss ≡ ss
+stakes_stay p [] none = refl
+stakes_stay p (s ∷ ss) none = rw (none s.number) (ap (λ xs. s ∷ xs) (stakes_stay p ss none))
+
+-- who has an unclean Own keeps its stakes
+left_stake : (p : Parcel) (v : View) → CanHand p v → (0 < unclean_of v → HasStake v) → 0 < unclean_of (left_after p v) → HasStake (left_after p v)
+left_stake p v can stake some_own =
+    let u = (hand_parts p v can).unclean in
+    let has = stake (omega arith) in
+    subst (λ (ss : List Stake). least_stake ss < 16) (sym (stakes_stay p v.stakes none)) has
+  where
+    none : (k : ℕ) → p.stakes k ≡ false
+    none k = elim (cases_Bool (p.stakes k)) [
+      | inl y ↦ let z = can.clean k y in let u = (hand_parts p v can).unclean in absurd (omega arith)
+      | inr n ↦ n
+    ]
 
 -- who holds less knows less
 pub knows_less : (v w : View) (q : ℕ) → ((x : Thing) → held_of_view w x ≤ held_of_view v x) → Knows w q → Knows v q
@@ -111,3 +147,6 @@ hand_keeps p words views i v k at_i can =
     (each_parted HasSeenFree views i v l r at_i k.lists.free_seen
     (λ t free. let e = left (FreeTitle t) in let a = frees_have l t in let b = frees_have v t in k.lists.free_seen i v at_i t (omega arith))
     (λ t free. let e = right (FreeTitle t) in let a = frees_have r t in let b = frees_have v t in k.lists.free_seen i v at_i t (omega arith)))
+    (each_parted (IsReader k.history (byte_words words)) views i v l r at_i k.reads.each_view
+    (reader_handed k.history (byte_words words) l refl (left_stake p v can (k.reads.each_view i v at_i).stake))
+    (reader_handed k.history (byte_words words) r refl (λ some_own. let z = given_clean p v in absurd (omega arith))))

@@ -1,5 +1,5 @@
 -- A join keeps the rule.
-use Rattle.std.proofs.Common.{◌≡◌, ℕ, ◌+◌, ◌*◌, ◌<◌, ◌≤◌, ◌&&◌, List, ◌++◌, length, set, refl, sym, ◌∙◌, ap, subst, arith, ◌⊎◌, inl, inr, eqb, ltb, leb}
+use Rattle.std.proofs.Common.{◌≡◌, ℕ, ◌+◌, ◌*◌, ◌<◌, ◌≤◌, ◌&&◌, List, [], ◌∷◌, ◌++◌, length, set, refl, sym, ◌∙◌, ap, subst, arith, ◌⊎◌, inl, inr, eqb, ltb, leb}
 use Rattle.std.specs.Prelude.{slice_index, if◌then◌else◌}
 use Rattle.std.specs.List.{sum_by}
 use Rattle.std.proofs.lemmas.List.Sums.{sum_by-append}
@@ -17,10 +17,13 @@ use Rattle.pa_region.specs.declared.view.Made.{Made}
 use Rattle.pa_region.specs.declared.view.Stake.{Stake}
 use Rattle.pa_region.specs.declared.view.Keeper.{Keeper}
 use Rattle.pa_region.specs.declared.view.View.{View}
-use Rattle.pa_region.specs.Views.{raw_piece, own_piece, held_of_view, byte_words, Knows, free_of, idle_of, seen_of}
+use Rattle.pa_region.specs.Views.{raw_piece, own_piece, held_of_view, byte_words, Knows, free_of, idle_of, seen_of, least_stake}
+use Rattle.pa_region.specs.Pairs.{pairs, amount_by}
+use Rattle.pa_region.specs.Waiting.{is_poisoned, is_unclean, IsReader}
+use Rattle.pa_region.proofs.ReadsSame.{reader_handed}
 use Rattle.pa_region.specs.Rule.{IsKept}
 use Rattle.pa_region.specs.Lists.{keeper_of, list_of, made_with, entered_in, IsBeginning, IsKnownTo, IsListed, HasSeenFree}
-use Rattle.pa_region.specs.Hands.{IsParted, knowing, merged, united, spent_of}
+use Rattle.pa_region.specs.Hands.{CanTake, IsParted, knowing, merged, united, spent_of}
 use Rattle.pa_region.proofs.Pieces.{held_split, frees_have}
 use Rattle.pa_region.proofs.Bytes.{held_in_all}
 use Rattle.pa_region.proofs.ListFacts.{each_map, each_both, each_append}
@@ -58,7 +61,21 @@ united_parts v w = record {
       let b = sum_by-append (λ f. one (leb f n)) v.leases.from w.leases.from in
       omega arith;
   uncut = λ t. sym (sum_by-append (λ u. one (same_title u t)) v.uncut w.uncut);
+  pairs = λ weight. sym (sum_by-append (λ (s : Stake). pairs weight s.log) v.stakes w.stakes);
+  pairs_by = λ k weight. sym (sum_by-append (amount_by k (pairs weight)) v.stakes w.stakes);
+  logs_by = λ k weight. sym (sum_by-append (amount_by k (sum_by weight)) v.stakes w.stakes);
+  poisoned = λ t. sym (sum_by-append (λ (o : OwnTitle). one (same_title o.title t && is_poisoned o.state)) v.owns w.owns);
+  unclean = sym (sum_by-append (λ (o : OwnTitle). one (is_unclean o.state)) v.owns w.owns);
 }
+
+-- the least stake of both isn't above that of one
+least_both : (ss more : List Stake) → least_stake (ss ++ more) ≤ least_stake ss
+least_both [] more = least_small more
+  where
+    least_small : (xs : List Stake) → least_stake xs ≤ 16
+    least_small [] = omega arith
+    least_small (x ∷ xs) = let again = least_small xs in omega arith
+least_both (s ∷ ss) more = let again = least_both ss more in omega arith
 
 -- a view with nothing
 spent_parts : (w : View) → IsParted (spent_of w) (spent_of w) (spent_of w)
@@ -72,6 +89,11 @@ spent_parts w = record {
   keepers = λ k. refl;
   leases = λ n. refl;
   uncut = λ t. refl;
+  pairs = λ weight. refl;
+  pairs_by = λ k weight. refl;
+  logs_by = λ k weight. refl;
+  poisoned = λ t. refl;
+  unclean = refl;
 }
 
 -- who knows a word of the view of both knows it alone
@@ -163,15 +185,15 @@ spent_knows w q (inr (inr own)) = let h = own.1 in absurd (omega arith)
 
 -- a join keeps the rule
 pub join_keeps : (words : List ℕ) (views : List View) (i j : ℕ) (v w : View) → IsKept words views → get_elem? views i ≡ some v → get_elem? views j ≡ some w → (j ≡ i → ⊥) →
-    get_elem? (set views i (united v w)) j ≡ some w → IsKept words (set (set views i (united v w)) j (spent_of w))
-join_keeps words views i j v w k at_i was_j ne at_j =
+    get_elem? (set views i (united v w)) j ≡ some w → CanTake v w → IsKept words (set (set views i (united v w)) j (spent_of w))
+join_keeps words views i j v w k at_i was_j ne at_j can =
     let both = united v w in
     let spent = spent_of w in
     let long : length v.words ≡ length w.words = k.values.long i v at_i ∙ sym (k.values.long j w was_j) in
     let known : (q : ℕ) → Knows both q → slice_index both.words q ≡ slice_index (byte_words words) q =
     united_values (byte_words words) v w long (λ q knows. k.values.known i q v at_i knows) (λ q knows. k.values.known j q w was_j knows) in
     kept_regrouped words views (set (set views i both) j spent) k
-    (joined_regroups views i j v w both spent at_i at_j (united_parts v w) (λ t. let e = united_idle v w t in omega arith) (spent_parts w) refl refl)
+    (joined_regroups views i j v w both spent at_i at_j (united_parts v w) (λ t. let e = united_idle v w t in omega arith) (spent_parts w) refl refl can)
     (record {
       long = each_joined (λ u. length u.words ≡ length (byte_words words)) views i j v w both spent at_i at_j k.values.long (merged_long v 0 v.words w.words long ∙ k.values.long i v at_i) (k.values.long j w was_j);
       known = λ m q u at_m. each_joined (λ u. Knows u q → slice_index u.words q ≡ slice_index (byte_words words) q) views i j v w both spent at_i at_j
@@ -185,6 +207,14 @@ join_keeps words views i j v w k at_i was_j ne at_j =
       | inr n ↦ let e = sum_by-append (λ u. one (same_title u t)) v.frees w.frees in inr (omega arith)
     ]) free)
     (λ t free. absurd (omega arith)))
+    (each_joined (IsReader k.history (byte_words words)) views i j v w both spent at_i at_j k.reads.each_view
+    (reader_handed k.history (byte_words words) both refl
+    (λ some_own.
+    let e = (united_parts v w).unclean in let z = can.clean in
+    let has = (k.reads.each_view i v at_i).stake (omega arith) in
+    let l = least_both v.stakes w.stakes in
+    omega arith))
+    (reader_handed k.history (byte_words words) spent refl (λ some_own. absurd (omega arith))))
   where
     free_place : (m : ℕ) (u : View) (t : Title) → get_elem? views m ≡ some u → 0 < free_of u t → count_word u.words t ≡ count_word (byte_words words) t
     free_place m u t at_m free = free_word_known words views m u t k.holders.good k.values at_m free

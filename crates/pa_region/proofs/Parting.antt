@@ -4,6 +4,7 @@ use Rattle.std.specs.List.{sum_by}
 use Rattle.std.proofs.lemmas.List.Sums.{sum_by-cons, sum_by-append}
 use Rattle.std.proofs.lemmas.Bool.{cases_lt, lt-ltb, le-ltb, le-leb, lt-leb, true≢false}
 use Rattle.pa_machine.specs.declared.title.Title.{Title}
+use Rattle.pa_machine.specs.declared.title.OwnState.{OwnState}
 use Rattle.pa_machine.specs.declared.title.OwnState.TheVariants.{Clean}
 use Rattle.pa_machine.specs.declared.event.Item.{Item}
 use Rattle.pa_machine.specs.declared.event.Item.TheVariants.{Raw, Free, Own, Ref}
@@ -191,6 +192,51 @@ item_idle (Own u) v w has t =
     let z : one (same_title u t && false) ≡ 0 = and_false (same_title u t) in
     omega arith
 item_idle (Ref u) v w has t = omega arith
+
+-- amounts that go by an Own's title and state
+abbrev owns_by : (Title → OwnState → ℕ) → View → ℕ
+owns_by g v = sum_by (λ (o : OwnTitle). g o.title o.state) v.owns
+
+-- a clean Own counts as one
+clean_amount : (g : Title → OwnState → ℕ) (t : Title) (o : OwnTitle) → is_clean_of t o ≡ true → g o.title o.state ≡ g t Clean
+clean_amount g t o e = elim (title_tells o.title t) [
+  | inl y ↦ elim (state_tells o.state Clean) [
+    | inl z ↦ ap (λ u. g u o.state) y.1 ∙ ap (g t) z.1
+    | inr n ↦ absurd (true≢false (sym e ∙ rw (y.0, n.0) refl))
+  ]
+  | inr n ↦ absurd (true≢false (sym e ∙ rw n.0 refl))
+]
+
+item_owns : (g : Title → OwnState → ℕ) (x : Item) (v w : View) → HoldsGiven x v → owns_by g (without_item x v) + owns_by g (with_item x v w) ≡ owns_by g v + owns_by g w
+item_owns g (Raw start len) v w has = refl
+item_owns g (Free t) v w has = refl
+item_owns g (Own t) v w has =
+    let first = first_of (is_clean_of t) v.owns has in
+    let f = first.1.left_out (λ (o : OwnTitle). g o.title o.state) in
+    let same = clean_amount g t first.0 first.1.passes in
+    let given : OwnTitle = record { title = t; state = Clean; idle = false } in
+    let a = sum_by-cons (λ (o : OwnTitle). g o.title o.state) given w.owns in
+    omega arith
+item_owns g (Ref t) v w has = refl
+
+pub items_owns : (g : Title → OwnState → ℕ) (xs : List Item) (v w : View) → CanGive xs v → owns_by g (left_of xs v) + owns_by g (given_of xs v w) ≡ owns_by g v + owns_by g w
+items_owns g [] v w can = refl
+items_owns g (x ∷ xs) v w can = items_owns g xs (without_item x v) (with_item x v w) can.1 ∙ item_owns g x v w can.0
+
+-- what is given counts nothing where a clean Own does
+pub given_nothing : (g : Title → OwnState → ℕ) → ((t : Title) → g t Clean ≡ 0) → (xs : List Item) (v w : View) → owns_by g (given_of xs v w) ≡ owns_by g w
+given_nothing g none [] v w = refl
+given_nothing g none (x ∷ xs) v w = given_nothing g none xs (without_item x v) (with_item x v w) ∙ here x
+  where
+    here : (x : Item) → owns_by g (with_item x v w) ≡ owns_by g w
+    here (Raw start len) = refl
+    here (Free t) = refl
+    here (Own t) =
+        let given : OwnTitle = record { title = t; state = Clean; idle = false } in
+        let a = sum_by-cons (λ (o : OwnTitle). g o.title o.state) given w.owns in
+        let z = none t in
+        omega arith
+    here (Ref t) = refl
 
 -- all items
 pub items_part : (xs : List Item) (v w : View) → CanGive xs v → (th : Thing) → held_of_view (left_of xs v) th + held_of_view (given_of xs v w) th ≡ held_of_view v th + held_of_view w th

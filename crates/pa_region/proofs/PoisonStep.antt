@@ -107,6 +107,13 @@ poison_write t j words views i v k at_i can =
       stakes = refl;
       uncut = refl;
       seen = refl;
+      grown = record {
+        keepers = refl;
+        leases = refl;
+        lists = refl;
+        stakes = inl refl;
+        seen = λ u. omega arith;
+      };
       handed = refl;
       poisoned = λ u. sum_grows (λ (o : OwnTitle). one (same_title o.title u && is_poisoned o.state)) (is_own_of t) (poisoned_to (j + 1)) v.owns
           (λ place_in_list o at_place here. poisoned_more (same_title o.title u) o.state);

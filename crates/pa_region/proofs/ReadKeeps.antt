@@ -13,6 +13,7 @@ use Rattle.pa_region.specs.declared.view.Entry.TheVariants.{Looked, Read}
 use Rattle.pa_region.specs.declared.view.View.{View}
 use Rattle.pa_region.specs.Views.{pieces_of, byte_words, shown, idle_of, idle_in, budget_in, low_in, uncut_in, stakes_in, least_stake, logged_of, logged_in, ahead_of, ahead_in, unseen_by, unseen_of, unseen_in, counted, counted_on, counted_at, names, HasStake}
 use Rattle.pa_region.specs.Rule.{IsKept}
+use Rattle.pa_region.proofs.ListPart.{lists_grown}
 use Rattle.pa_region.specs.Pairs.{last_entry, least_log, weight_after, paired_in, paired_by, logged_by}
 use Rattle.pa_region.specs.Waiting.{poisoned_apart, IsReader, Reads}
 use Rattle.pa_region.specs.Shares.{IsUser}
@@ -160,4 +161,11 @@ read_keeps words views i v t place k at_i has stake below =
           (λ u. let m = more (counted_on u) in omega arith)
           (λ u n. let c = sum_set (λ z. ahead_of z u n) views i v w at_i in omega arith)
           (let c = sum_set unseen_of views i v w at_i in let d = logged (unseen_by v.seen) in omega arith);
+      lists = lists_grown k.list views i v w at_i k.lists (record {
+        keepers = refl;
+        leases = refl;
+        lists = refl;
+        stakes = inr (Read t place value v.since (has_own v t) (has_unclean v t), refl, λ n. refl);
+        seen = λ u. omega arith;
+      }) (k.lists.free_seen i v at_i);
     }

@@ -1,12 +1,14 @@
 -- Steps that only regroup what the views have: where all sums stay, the rule's parts do.
-use Rattle.std.proofs.Common.{◌≡◌, ℕ, ◌+◌, ◌≤◌, List, [], ◌∷◌, ◌++◌, set, refl, sym, ◌∙◌, ap, subst, arith}
+use Rattle.std.proofs.Common.{◌≡◌, ℕ, ◌+◌, ◌<◌, ◌≤◌, Bool, true, false, ◌&&◌, List, [], ◌∷◌, ◌++◌, set, refl, sym, ◌∙◌, ap, subst, arith, ◌⊎◌, inl, inr}
 use Rattle.std.specs.List.{sum_by}
-use Rattle.std.specs.Prelude.{◌&&◌, nat_lt}
+use Rattle.std.specs.Prelude.{nat_lt, if◌then◌else◌}
+use Rattle.std.proofs.lemmas.Bool.{cases_lt, lt-ltb, le-ltb}
 use Rattle.std.proofs.lemmas.List.Sums.{sum_by_push, sum_by-append, sum_by-le-sum_by}
 use mathlib.Core.Option.{some}
 use lib.ListN.{get_elem?}
 use Rattle.pa_machine.specs.declared.title.Title.{Title}
-use Rattle.pa_machine.specs.declared.title.OwnState.TheVariants.{Clean, Poisoned}
+use Rattle.pa_machine.specs.declared.title.OwnState.TheVariants.{Clean, Dirty, Poisoned}
+use Rattle.pa_machine.specs.declared.title.OwnState.{OwnState}
 use Rattle.pa_machine.specs.Titles.{same_title}
 use Rattle.pa_machine.specs.Holdings.{Thing, OwnOf, OwnAs, RefOf, one}
 use Rattle.pa_machine.specs.Events.{total_of}
@@ -18,7 +20,10 @@ use Rattle.pa_region.specs.declared.view.View.{View}
 use Rattle.pa_region.specs.Views.{held_of_view, byte_words, shown, idle_of, idle_in, budget_in, low_of, low_in, uncut_of, uncut_in, stake_of, stakes_in, logged_of, logged_in, ahead_of, ahead_in, unseen_by, unseen_of, own_of, unseen_in, counted, counted_on, names}
 use Rattle.pa_region.specs.Rule.{Values, Reservations, Logs, IsKept}
 use Rattle.pa_region.specs.Lists.{keeper_of, keepers_in, lease_of, leases_in, IsListed, HasSeenFree}
-use Rattle.pa_region.specs.Hands.{IsParted}
+use Rattle.pa_region.specs.Hands.{IsParted, CanTake}
+use Rattle.pa_region.specs.Pairs.{paired_of, paired_in, paired_of_by, paired_by, logged_of_by, logged_by}
+use Rattle.pa_region.specs.Waiting.{is_poisoned, is_unclean, poisoned_of, unclean_of, poisoned_apart, IsReader}
+use Rattle.pa_region.proofs.ReadsSame.{reads_over}
 use Rattle.pa_region.proofs.Adding.{sum_set, sum_part, one_and}
 use Rattle.pa_region.proofs.Pieces.{total_sum, owns_have}
 use Rattle.pa_region.proofs.HolderPart.{holders_same}
@@ -38,6 +43,10 @@ pub record IsRegrouped (before after : List View) : Type 0 where
   pub uncut : (t : Title) → uncut_in after t ≡ uncut_in before t
   pub ahead : (t : Title) (n : ℕ) → ahead_in before t n ≡ 0 → ahead_in after t n ≡ 0
   pub unseen : unseen_in before ≡ 0 → unseen_in after ≡ 0
+  pub pairs : (weight : Entry → Entry → ℕ) → paired_in after weight ≡ paired_in before weight
+  pub pairs_by : (k : ℕ) (weight : Entry → Entry → ℕ) → paired_by after k weight ≡ paired_by before k weight
+  pub logs_by : (k : ℕ) (weight : Entry → ℕ) → logged_by after k weight ≡ logged_by before k weight
+  pub poisoned : (t : Title) (k : ℕ) → poisoned_apart before t k ≤ poisoned_apart after t k
 
 -- contents stay where the totals do
 content_regrouped : (words : List ℕ) (before after : List View) (last : Title → ℕ) → ((x : Thing) → total_of (shown words after) x ≡ total_of (shown words before) x) →
@@ -49,8 +58,9 @@ content_regrouped words before after last same k = record {
 
 -- the rule's parts after such a step
 pub kept_regrouped : (words : List ℕ) (before after : List View) (k : IsKept words before) → IsRegrouped before after → Values (byte_words words) after →
-    ((i : ℕ) (v : View) → get_elem? after i ≡ some v → IsListed k.list v) → ((i : ℕ) (v : View) → get_elem? after i ≡ some v → HasSeenFree v) → IsKept words after
-kept_regrouped words before after k g values listed free =
+    ((i : ℕ) (v : View) → get_elem? after i ≡ some v → IsListed k.list v) → ((i : ℕ) (v : View) → get_elem? after i ≡ some v → HasSeenFree v) →
+    ((i : ℕ) (v : View) → get_elem? after i ≡ some v → IsReader k.history (byte_words words) v) → IsKept words after
+kept_regrouped words before after k g values listed free readers =
     let same : (x : Thing) → total_of (shown words after) x ≡ total_of (shown words before) x =
     λ x. let a = total_sum words after x in let b = total_sum words before x in let c = g.things x in omega arith in
     let total : total_of (shown words before) ≡ total_of (shown words after) = λ i x. sym (same x) i in
@@ -75,6 +85,8 @@ kept_regrouped words before after k g values listed free =
           (subst (λ ls. Logs k.history (byte_words words) (total_of (shown words before)) ls (stakes_in after)) logs
           (subst (λ ss. Logs k.history (byte_words words) (total_of (shown words before)) (logged_in before) ss) stakes k.logs));
       content = content_regrouped words before after _ same k.content;
+      reads = reads_over k.history (byte_words words) (byte_words words) before after k.reads g.pairs g.pairs_by g.logs_by
+          (λ t n some_own. let e = g.poisoned t n in omega arith) readers;
       seen = record {
         numbers = λ t. g.ahead t (logged_in after (counted_on t)) (ap (ahead_in before t) (g.logs (counted_on t)) ∙ k.seen.numbers t);
         own_logs = g.unseen k.seen.own_logs;
@@ -88,6 +100,57 @@ kept_regrouped words before after k g values listed free =
         free_seen = free;
       };
     }
+
+-- how often a view that doesn't have stake k has the title's Own poisoned
+abbrev pub apart_of : View → Title → ℕ → ℕ
+apart_of v t k = if nat_lt 0 (stake_of v k) then 0 else poisoned_of v t
+
+-- with the stake it counts nothing, and without it all
+apart_is : (v : View) (t : Title) (k : ℕ) → ((0 < stake_of v k) × (apart_of v t k ≡ 0)) ⊎ ((stake_of v k ≡ 0) × (apart_of v t k ≡ poisoned_of v t))
+apart_is v t k = elim (cases_lt 0 (stake_of v k)) [
+  | inl y ↦ inl (y, rw (lt-ltb 0 (stake_of v k) y) refl)
+  | inr n ↦ inr (omega arith, rw (le-ltb 0 (stake_of v k) n) refl)
+]
+
+-- parting a view doesn't hide a poisoned Own
+apart_parted : (v l r : View) (t : Title) (k : ℕ) → stake_of l k + stake_of r k ≡ stake_of v k → poisoned_of l t + poisoned_of r t ≡ poisoned_of v t →
+    apart_of v t k ≤ apart_of l t k + apart_of r t k
+apart_parted v l r t k stakes poisoned = elim (apart_is v t k) [
+  | inl y ↦ let z = y.1 in omega arith
+  | inr n ↦
+      let n0 = n.0 in let n1 = n.1 in
+      elim (apart_is l t k) [
+        | inl y ↦ let z = y.0 in absurd (omega arith)
+        | inr m ↦ let m1 = m.1 in elim (apart_is r t k) [ inl y ↦ let z = y.0 in absurd (omega arith) | inr o ↦ let o1 = o.1 in omega arith ]
+      ]
+]
+
+-- nor does a join, where the stakes that come find none
+apart_joined : (v w both : View) (t : Title) (k : ℕ) → stake_of both k ≡ stake_of v k + stake_of w k → poisoned_of both t ≡ poisoned_of v t + poisoned_of w t →
+    CanTake v w → apart_of v t k + apart_of w t k ≤ apart_of both t k
+apart_joined v w both t k stakes poisoned can = elim (apart_is both t k) [
+  | inl y ↦
+      let y0 = y.0 in let none = poisoned_unclean w t in let clean = can.clean in
+      elim (apart_is w t k) [
+        | inl a ↦ let a0 = a.0 in let a1 = a.1 in let z = can.apart k t a0 in elim (apart_is v t k) [ inl b ↦ let b1 = b.1 in omega arith | inr b ↦ let b1 = b.1 in omega arith ]
+        | inr a ↦ let a0 = a.0 in let a1 = a.1 in elim (apart_is v t k) [ inl b ↦ let b1 = b.1 in omega arith | inr b ↦ let b0 = b.0 in absurd (omega arith) ]
+      ]
+  | inr n ↦
+      let n0 = n.0 in let n1 = n.1 in
+      elim (apart_is v t k) [
+        | inl y ↦ let z = y.0 in absurd (omega arith)
+        | inr m ↦ let m1 = m.1 in elim (apart_is w t k) [ inl y ↦ let z = y.0 in absurd (omega arith) | inr o ↦ let o1 = o.1 in omega arith ]
+      ]
+]
+  where
+    poisoned_unclean : (u : View) (t : Title) → poisoned_of u t ≤ unclean_of u
+    poisoned_unclean u t = sum_by-le-sum_by (λ (o : OwnTitle). one (same_title o.title t && is_poisoned o.state)) (λ (o : OwnTitle). one (is_unclean o.state)) u.owns (λ o. each (same_title o.title t) o.state)
+      where
+        each : (b : Bool) (a : OwnState) → one (b && is_poisoned a) ≤ one (is_unclean a)
+        each true Clean = omega arith
+        each true Dirty = omega arith
+        each true (Poisoned j) = omega arith
+        each false a = omega arith
 
 -- a sum in which one view is parted
 part_sum : (f : View → ℕ) (views : List View) (i : ℕ) (v l r : View) → get_elem? views i ≡ some v → f l + f r ≡ f v → sum_by f (set views i l ++ r ∷ []) ≡ sum_by f views
@@ -125,6 +188,14 @@ parted_regroups views i v l r at_i p left right = record {
   unseen = λ none.
       let same = part_sum unseen_of views i v l r at_i (sums) in
       same ∙ none;
+  pairs = λ weight. part_sum (λ u. paired_of u weight) views i v l r at_i (p.pairs weight);
+  pairs_by = λ k weight. part_sum (λ u. paired_of_by u k weight) views i v l r at_i (p.pairs_by k weight);
+  logs_by = λ k weight. part_sum (λ u. logged_of_by u k weight) views i v l r at_i (p.logs_by k weight);
+  poisoned = λ t k.
+      let a = sum_by_push (λ u. apart_of u t k) (set views i l) r in
+      let b = sum_set (λ u. apart_of u t k) views i v l at_i in
+      let c = apart_parted v l r t k (p.stakes k) (p.poisoned t) in
+      omega arith;
 }
   where
     sums : unseen_of l + unseen_of r ≡ unseen_of v
@@ -153,8 +224,8 @@ idle_within v t = sum_by-le-sum_by (λ (o : OwnTitle). one (same_title o.title t
 -- nothing.
 pub joined_regroups : (views : List View) (i j : ℕ) (v w both spent : View) → get_elem? views i ≡ some v → get_elem? (set views i both) j ≡ some w →
     IsParted both v w → ((t : Title) → idle_of both t ≤ idle_of v t + idle_of w t) → IsParted spent spent spent → both.seen ≡ v.seen ++ w.seen → spent.seen ≡ [] →
-    IsRegrouped views (set (set views i both) j spent)
-joined_regroups views i j v w both spent at_i at_j p idle none seen no_note = record {
+    CanTake v w → IsRegrouped views (set (set views i both) j spent)
+joined_regroups views i j v w both spent at_i at_j p idle none seen no_note can = record {
   things = λ x. join_sum (λ u. held_of_view u x) views i j v w both spent at_i at_j (sym (p.things x)) (let z = none.things x in omega arith);
   floors = λ b n. join_sum (λ u. low_of u b n) views i j v w both spent at_i at_j (sym (p.floors b n)) (let z = none.floors b n in omega arith);
   idle = λ t. join_less (λ u. idle_of u t) views i j v w both spent at_i at_j (idle t) (no_idle t);
@@ -168,6 +239,14 @@ joined_regroups views i j v w both spent at_i at_j p idle none seen no_note = re
       let e : ahead_of both t n ≡ ahead_of v t n + ahead_of w t n = rw seen (sum_by-append (λ (s : SeenNumber). one (same_title s.title t && nat_lt n s.number)) v.seen w.seen) in
       join_sum (λ u. ahead_of u t n) views i j v w both spent at_i at_j e (rw no_note refl) ∙ zero;
   unseen = λ zero. let l = join_less unseen_of views i j v w both spent at_i at_j less spent_less in omega arith;
+  pairs = λ weight. join_sum (λ u. paired_of u weight) views i j v w both spent at_i at_j (sym (p.pairs weight)) (let z = none.pairs weight in omega arith);
+  pairs_by = λ k weight. join_sum (λ u. paired_of_by u k weight) views i j v w both spent at_i at_j (sym (p.pairs_by k weight)) (let z = none.pairs_by k weight in omega arith);
+  logs_by = λ k weight. join_sum (λ u. logged_of_by u k weight) views i j v w both spent at_i at_j (sym (p.logs_by k weight)) (let z = none.logs_by k weight in omega arith);
+  poisoned = λ t k.
+      let a = sum_set (λ u. apart_of u t k) views i v both at_i in
+      let b = sum_set (λ u. apart_of u t k) (set views i both) j w spent at_j in
+      let c = apart_joined v w both t k (sym (p.stakes k)) (sym (p.poisoned t)) can in
+      omega arith;
 }
   where
     no_idle : (t : Title) → idle_of spent t ≡ 0

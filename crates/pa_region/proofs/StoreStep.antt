@@ -165,6 +165,13 @@ store_write at_byte value words views i v k at_i can = record {
   stakes = refl;
   uncut = refl;
   seen = refl;
+  grown = record {
+    keepers = refl;
+    leases = refl;
+    lists = refl;
+    stakes = inl refl;
+    seen = λ u. omega arith;
+  };
   handed = refl;
   poisoned = λ u. poisoned_stay u can.1;
   unclean = λ some_own. has_stake some_own can.1;

@@ -7,6 +7,7 @@ use Rattle.std.proofs.lemmas.Bool.{cases_eq}
 use mathlib.Core.Option.{some}
 use lib.ListN.{get_elem?}
 use Rattle.pa_machine.specs.declared.title.Title.{Title}
+use Rattle.pa_machine.specs.Count.{number_of}
 use Rattle.pa_machine.specs.Titles.{count_place, count_word}
 use Rattle.pa_machine.specs.Holdings.{RawByte, FreeTitle, OwnOf, RefOf, one, IsTitleHeld}
 use Rattle.pa_machine.specs.Events.{total_of}
@@ -26,7 +27,8 @@ use Rattle.pa_region.proofs.ReservationPart.{reservations_same}
 use Rattle.pa_region.proofs.LogPart.{logs_same}
 use Rattle.pa_region.proofs.SeenPart.{seen_same}
 use Rattle.pa_region.proofs.Idle.{idle_within}
-use Rattle.pa_region.proofs.Bytes.{bytes_set, bytes_length}
+use Rattle.pa_region.proofs.Bytes.{bytes_set, bytes_length, held_in_all}
+use Rattle.pa_region.proofs.ListPart.{IsGrown, lists_grown}
 use Rattle.pa_region.proofs.Stays.{low_set, uncut_set, stakes_set}
 use Rattle.pa_region.proofs.ValuePart.{ShownGood, knows_apart, values_step}
 
@@ -47,6 +49,7 @@ pub record IsWrite (words : List ℕ) (views : List View) (v w : View) (p x : �
   pub stakes : w.stakes ≡ v.stakes
   pub uncut : w.uncut ≡ v.uncut
   pub seen : w.seen ≡ v.seen
+  pub grown : IsGrown v w
   pub handed : w.since.handed ≡ v.since.handed
   pub poisoned : (t : Title) → poisoned_of v t ≤ poisoned_of w t
   pub unclean : 0 < unclean_of w → HasStake w
@@ -112,6 +115,14 @@ write_keeps words views i v w p x k at_i h good content =
           (λ t. logs (counted_on t))
           (λ t n. let c = sum_set (λ u. ahead_of u t n) views i v w at_i in let e : ahead_of w t n ≡ ahead_of v t n = rw h.seen refl in omega arith)
           (let c = sum_set unseen_of views i v w at_i in let e : unseen_of w ≡ unseen_of v = rw (h.stakes, h.seen) refl in omega arith);
+      lists = lists_grown k.list views i v w at_i k.lists h.grown (λ t free.
+          let a = frees_have v t in let b = frees_have w t in let e = h.free t in
+          let held = held_in_all words views i v t at_i (omega arith) in
+          let s = k.lists.free_seen i v at_i t (omega arith) in
+          let more = h.grown.seen t in
+          let same : count_word w.words t ≡ count_word v.words t = ap (λ ws. count_word ws t) h.known ∙ get_or-set_other v.words p (count_place t) x 0 (λ e. h.content t held (sym e)) in
+          let n : number_of (count_word w.words t) ≡ number_of (count_word v.words t) = ap number_of same in
+          omega arith);
     }
   where
     back : (t : Title) → IsTitleHeld (total_of (shown (set words p x) (set views i w))) t → IsTitleHeld (total_of (shown words views)) t

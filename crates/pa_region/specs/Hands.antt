@@ -18,6 +18,8 @@ use Rattle.pa_region.specs.declared.view.View.{View}
 use Rattle.pa_region.specs.Views.{held_of_view, free_of, own_as, ref_of, idle_of, low_of, uncut_of, stake_of, logged_of}
 use Rattle.pa_region.specs.Moves.{without, is_title_of}
 use Rattle.pa_region.specs.Lists.{keeper_of, lease_of}
+use Rattle.pa_region.specs.Pairs.{paired_of, paired_of_by, logged_of_by}
+use Rattle.pa_region.specs.Waiting.{poisoned_of, unclean_of}
 
 -- the parts of a raw range that lie below byte a, from byte e on, and between the two
 abbrev pub below_part : ℕ → RawRange → RawRange
@@ -150,6 +152,7 @@ empty_of v = record v {
   keepers = [];
   leases = record { single = []; from = [] };
   uncut = [];
+  since = handed v.since;
 }
 
 -- The view of who gets the parcel: a stake goes with its log and a keeper with its list, and what was seen is copied.
@@ -168,14 +171,16 @@ given_after p v = record v {
   since = handed v.since;
 }
 
--- a seat with this view may hand over the parcel
+-- a seat with this view may hand over the parcel: where a stake is in it, each of the seat's Owns is clean
 pub record CanHand (p : Parcel) (v : View) : Type 0 where
   pub items : CanGive p.items v
   pub budget : p.budget ≤ v.budget
   pub leases : HasLeases p.leases v.leases
+  pub clean : (k : ℕ) → p.stakes k ≡ true → unclean_of v ≡ 0
 
 -- What v has is what l and r have together: each thing, floors, the budget, the entries of the logs of any weight,
--- stakes, keepers, leases, and the titles that were made raw again. That no Ref of a title is left may be forgotten.
+-- stakes, keepers, leases, and the titles that were made raw again, and Owns that aren't clean. That no Ref of a title is
+-- left may be forgotten.
 pub record IsParted (v l r : View) : Type 0 where
   pub things : (x : Thing) → held_of_view l x + held_of_view r x ≡ held_of_view v x
   pub floors : (b n : ℕ) → low_of l b n + low_of r b n ≡ low_of v b n
@@ -186,6 +191,11 @@ pub record IsParted (v l r : View) : Type 0 where
   pub keepers : (k : ℕ) → keeper_of l k + keeper_of r k ≡ keeper_of v k
   pub leases : (n : ℕ) → lease_of l n + lease_of r n ≡ lease_of v n
   pub uncut : (t : Title) → uncut_of l t + uncut_of r t ≡ uncut_of v t
+  pub pairs : (weight : Entry → Entry → ℕ) → paired_of l weight + paired_of r weight ≡ paired_of v weight
+  pub pairs_by : (k : ℕ) (weight : Entry → Entry → ℕ) → paired_of_by l k weight + paired_of_by r k weight ≡ paired_of_by v k weight
+  pub logs_by : (k : ℕ) (weight : Entry → ℕ) → logged_of_by l k weight + logged_of_by r k weight ≡ logged_of_by v k weight
+  pub poisoned : (t : Title) → poisoned_of l t + poisoned_of r t ≡ poisoned_of v t
+  pub unclean : unclean_of l + unclean_of r ≡ unclean_of v
 
 -- how often a view knows the word with this number: as raw, in a title that it holds free, or as content of an Own
 abbrev pub knowing : View → ℕ → ℕ
@@ -225,3 +235,8 @@ united v w = record {
 -- what is left of a view that another took in: nothing
 abbrev pub spent_of : View → View
 spent_of w = record (empty_of w) { seen = []; seen_lists = [] }
+
+-- a view may take in another: the other has only clean Owns, and where it has a stake, none of the view's is poisoned
+pub record CanTake (v w : View) : Type 0 where
+  pub clean : unclean_of w ≡ 0
+  pub apart : (k : ℕ) (t : Title) → 0 < stake_of w k → poisoned_of v t ≡ 0
