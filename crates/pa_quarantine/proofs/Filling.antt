@@ -22,7 +22,7 @@ use Rattle.pa_region.specs.declared.view.Entry.TheVariants.{Looked}
 use Rattle.pa_region.specs.Pairs.{last_entry, least_log}
 use Rattle.pa_region.specs.Shares.{IsUser}
 use Rattle.pa_region.specs.Loads.{content_offset}
-use Rattle.pa_region.proofs.Allowed.{look_least}
+use Rattle.pa_region.proofs.Entering.{least_noted}
 use Rattle.pa_region.proofs.LookStep.{look_holds}
 use Rattle.pa_region.proofs.Waitings.{last_noted}
 use Rattle.pa_quarantine.specs.Filling.{zeros_to, poisons_to, zeroed, poisoned}
@@ -187,7 +187,7 @@ look_user t word v u e has =
     subst (λ (x : View). IsUser t x) (sym e) (omega arith)
 
 pub look_stake : (t : Title) (word : ℕ) (v u : View) → u ≡ after_look t word v → HasStake v → HasStake u
-look_stake t word v u e has = let l = look_least t word v in subst (λ (x : View). HasStake x) (sym e) (omega arith)
+look_stake t word v u e has = let l = least_noted (Looked t word) v.stakes in subst (λ (x : View). HasStake x) (sym e) (omega arith)
 
 -- its log ends with the look
 pub look_last : (t : Title) (word : ℕ) (v u : View) → u ≡ after_look t word v → HasStake v → last_entry (least_log u.stakes) ≡ Some (Looked t word)

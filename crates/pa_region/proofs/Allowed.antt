@@ -105,7 +105,7 @@ free_alone t words views i v k at_i mine has =
     let o = found.owns in let r = found.refs in
     absurd (omega arith)
 
--- what a seat's type keeps goes on: the view's titles lie in the region, and its least stake is the same
+-- what a seat's type keeps goes on: the view's titles lie in the region
 pub count_sound : (region : TableId) (step : Step) (t : Title) (word : ℕ) (v : View) → CanCount step t v → IsSound region v → IsSound region (after_count step t word v)
 count_sound region step t word v can sound = record {
   small = sound.small;
@@ -147,14 +147,6 @@ look_sound region t word v sound = record {
         let held = title_held (after_look t word v) u has in
         let a = look_holds t word v (FreeTitle u) in let b = look_holds t word v (OwnOf u) in let c = look_holds t word v (RefOf u) in
         sound.well u (held_title v u (omega arith))
-
--- a counted step leaves the least stake
-pub count_least : (step : Step) (t : Title) (word : ℕ) (v : View) → least_stake (after_count step t word v).stakes ≡ least_stake v.stakes
-count_least step t word v = rw (moved_stakes step t word v) (least_noted (Counted t step word (value_of step t v)) v.stakes)
-
--- so does a look
-pub look_least : (t : Title) (word : ℕ) (v : View) → least_stake (after_look t word v).stakes ≡ least_stake v.stakes
-look_least t word v = least_noted (Looked t word) v.stakes
 
 -- the same, by the number that is added
 pub count_allowed_by : (step : Step) (t : Title) (slots id place added : ℕ) (me : Me (Unit {0}) View) → place ≡ count_place t → added ≡ adds step → CanCount step t me.0 →

@@ -112,7 +112,7 @@ count_logged step t word v has weight =
     rw (moved_stakes step t word v) (noted_logs (entry_of step t word v) v.stakes weight has)
 
 -- and its stakes are the same
-count_stakes : (step : Step) (t : Title) (word : ℕ) (v : View) → HasStake v → (k : ℕ) → stake_of (after_count step t word v) k ≡ stake_of v k
+pub count_stakes : (step : Step) (t : Title) (word : ℕ) (v : View) → HasStake v → (k : ℕ) → stake_of (after_count step t word v) k ≡ stake_of v k
 count_stakes step t word v has k = rw (moved_stakes step t word v) (noted_stakes (entry_of step t word v) v.stakes k has)
 
 -- a counted step keeps the rule

@@ -51,7 +51,7 @@ hand_parts p v can = record {
 }
 
 -- only clean Owns are given
-given_clean : (p : Parcel) (v : View) → unclean_of (given_after p v) ≡ 0
+pub given_clean : (p : Parcel) (v : View) → unclean_of (given_after p v) ≡ 0
 given_clean p v = given_nothing (λ u a. one (is_unclean a)) (λ t. refl) p.items v (empty_of v)
 
 -- where no stake is in the parcel, all stay

@@ -13,6 +13,7 @@ pub mod FirstFrees
 pub mod FirstLists
 pub mod Found
 pub mod Freeing
+pub mod HandSound
 pub mod HandStep
 pub mod HolderPart
 pub mod Idle
@@ -45,6 +46,7 @@ pub mod ReadsSame
 pub mod Regroup
 pub mod Releases
 pub mod ReservationPart
+pub mod SeatStakes
 pub mod SeenJoin
 pub mod SeenPart
 pub mod Shown

@@ -16,13 +16,14 @@ use Rattle.pa_machine.specs.declared.event.Event.TheVariants.{Load}
 use Rattle.pa_machine.specs.Events.{IsEnabled, Happens, IsRawWord, IsTitleWord, total_of}
 use Rattle.pa_machine.proofs.Parts.{word_covered}
 use Rattle.pa_region.specs.declared.view.View.{View}
-use Rattle.pa_region.specs.Views.{held_of_view, byte_words, shown, free_of, least_stake, Knows, HasTitle, HasStake}
+use Rattle.pa_region.specs.Views.{stake_of, held_of_view, byte_words, shown, free_of, least_stake, Knows, HasTitle, HasStake}
 use Rattle.pa_region.specs.Rule.{IsKept}
 use Rattle.pa_region.specs.Moves.{IsFound, after_look}
 use Rattle.pa_region.specs.Shares.{IsSound, byte_word_count, IsUser, count_offset}
 use Rattle.pa_region.specs.Loads.{after_read, content_offset, IsPlain, CanLoad, ReadTells, LoadTells}
 use Rattle.pa_region.proofs.Pieces.{held_within, title_held}
-use Rattle.pa_region.proofs.Entering.{least_noted}
+use Rattle.pa_region.proofs.SeatStakes.{SameStakes, stakes_equal}
+use Rattle.pa_region.proofs.Entering.{noted_stakes}
 use Rattle.pa_region.proofs.Bytes.{bytes_word, held_in_all}
 use Rattle.pa_region.proofs.ValuePart.{raw_outside}
 use Rattle.pa_region.proofs.Found.{count_found}
@@ -31,7 +32,7 @@ use Rattle.pa_region.proofs.CountEvent.{content_covered, own_known, title_in_cor
 use Rattle.pa_region.proofs.Shown.{shown_actor, shown_held}
 use Rattle.pa_region.proofs.CountValues.{word_cases}
 use Rattle.pa_region.proofs.StoreStep.{raw_below, title_below}
-use Rattle.pa_region.proofs.Allowed.{free_held, free_word, free_alone, look_sound, look_least, user_held}
+use Rattle.pa_region.proofs.Allowed.{free_held, free_word, free_alone, look_sound, user_held}
 use Rattle.pa_region.proofs.ReadStep.{user_in_all, word_read}
 use Rattle.pa_region.proofs.ReadKeeps.{value_read, read_keeps}
 
@@ -214,13 +215,13 @@ load_allowed at_byte slots id place me at_place can s k homes at_id small =
 
 -- a load leaves what a seat's type keeps
 pub load_keeps : (at_byte : ℕ) (region : TableId) (v after : View) (word : ℕ) → CanLoad at_byte v → LoadTells at_byte v word after → IsSound region v →
-    IsSound region after × (least_stake after.stakes ≡ least_stake v.stakes)
+    IsSound region after × SameStakes v after
 load_keeps at_byte region v after word can told sound = go can.1
   where
-    go : IsPlain v at_byte ⊎ ((t : Title) × Covers t at_byte × IsUser t v × HasStake v) → IsSound region after × (least_stake after.stakes ≡ least_stake v.stakes)
+    go : IsPlain v at_byte ⊎ ((t : Title) × Covers t at_byte × IsUser t v × HasStake v) → IsSound region after × SameStakes v after
     go (inl plain) =
         let same = (told.plain plain).0 in
-        (subst (λ (w : View). IsSound region w) (sym same) sound, ap (λ (w : View). least_stake w.stakes) same)
+        (subst (λ (w : View). IsSound region w) (sym same) sound, stakes_equal v after (ap (λ (w : View). w.stakes) same))
     go (inr user) =
         let t = user.0 in
         let has = user.2 in
@@ -232,13 +233,13 @@ load_keeps at_byte region v after word can told sound = go can.1
           | inl e ↦
               let same = (told.look t (omega arith) user.2).0 in (
                 subst (λ (w : View). IsSound region w) (sym same) (look_sound region t word v sound),
-                ap (λ (w : View). least_stake w.stakes) same ∙ look_least t word v,
+                λ k. ap (λ (w : View). stake_of w k) same ∙ noted_stakes _ v.stakes k user.3,
               )
           | inr c ↦
               let place_is = c.2 in
               let same = (told.read t c.0 (omega arith) c.1 user.2).0 in (
                 subst (λ (w : View). IsSound region w) (sym same) (record { small = sound.small; well = sound.well; raw = sound.raw; long = sound.long }),
-                ap (λ (w : View). least_stake w.stakes) same ∙ least_noted _ v.stakes,
+                λ k. ap (λ (w : View). stake_of w k) same ∙ noted_stakes _ v.stakes k user.3,
               )
         ]
 

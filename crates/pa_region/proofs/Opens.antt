@@ -29,6 +29,8 @@ use Rattle.pa_region.specs.Start.{AreApart, AreWellFormed, is_covered, blank, ra
 use Rattle.pa_region.proofs.ReadsFirst.{reads_first}
 use Rattle.pa_region.proofs.Adding.{sum_none, one_lt}
 use Rattle.pa_region.proofs.Pieces.{held_split, frees_have, title_held}
+use Rattle.pa_region.specs.Marks.{AreStakes}
+use Rattle.pa_region.proofs.SeatStakes.{first_stakes}
 use Rattle.pa_region.proofs.FirstLists.{blank_at, stake_count, first_lists}
 
 -- whether a word's range has the byte
@@ -378,7 +380,7 @@ opens words budget titles few well apart = record {
           λ t held covers. n.1 t (stands t held) covers,
         )
 
--- the first view is sound, and its least stake is 0
+-- the first view is sound, and its seat has every stake
 pub first_sound : (region : TableId) (words budget : ℕ) (titles : List Title) → byte_word_count region ≡ words → words ≤ 4194304 → AreWellFormed words titles →
     IsSound region (first_view words budget titles)
 first_sound region words budget titles e small well = record {
@@ -405,7 +407,7 @@ opens_with supers budget titles copied words few good e z =
 pub first_keeps : (supers budget : ℕ) (titles copied : List Title) (words : List ℕ) (table region : TableId) (me : Me (Unit {0}) View) → supers ≤ 16 →
     AreWellFormed (262144 * supers) titles × AreApart titles → copied ≡ titles → words ≡ replicate (supers * 262144 + 16) 0 →
     table.words ≡ length words → region ≡ table → me ≡ (first_view (supers * 262144) budget copied, []) →
-    (me.1 ≡ []) × IsSound region me.0 × (0 ≡ least_stake me.0.stakes)
+    (me.1 ≡ []) × IsSound region me.0 × AreStakes (replicate 16 true) me.0
 first_keeps supers budget titles copied words table region me few good e z long same is_first =
     let scaled : supers * 262144 ≡ 262144 * supers = omega arith in
     let count : length words ≡ supers * 262144 + 16 = ap (λ (ws : List ℕ). length ws) z ∙ length-replicate (supers * 262144 + 16) 0 in
@@ -414,5 +416,5 @@ first_keeps supers budget titles copied words table region me few good e z long 
     ap (λ (m : Me (Unit {0}) View). m.0) is_first ∙ (ap (λ (k : ℕ). first_view k budget copied) scaled ∙ ap (λ (ts : List Title). first_view (262144 * supers) budget ts) e) in (
       ap (λ (m : Me (Unit {0}) View). m.1) is_first,
       subst (λ (v : View). IsSound region v) (sym view) (first_sound region (262144 * supers) budget titles (omega arith) (omega arith) good.0),
-      sym (ap (λ (v : View). least_stake v.stakes) view),
+      subst (λ (v : View). AreStakes (replicate 16 true) v) (sym view) (first_stakes (262144 * supers) budget titles),
     )

@@ -5,6 +5,7 @@ pub mod Hands
 pub mod History
 pub mod Lists
 pub mod Loads
+pub mod Marks
 pub mod Moves
 pub mod Pairs
 pub mod Rule

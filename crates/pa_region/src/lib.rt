@@ -7,6 +7,8 @@
 
 mod closed;
 mod laws;
+mod marks;
+mod note;
 mod read_laws;
 mod region;
 mod rule;
@@ -19,6 +21,8 @@ pub use laws::{
     each_plain_load_is_a_load, hands_keep_the_rule, joins_keep_the_rule, looks_keep_the_rule,
     poisonings_keep_the_rule, reads_keep_the_rule, stores_keep_the_rule, the_shown_core_is_good,
 };
+pub use marks::Mark;
+pub use note::Note;
 pub use read_laws::{
     a_history_goes_on, a_longer_history_is_the_same, a_look_finds_its_word,
     a_step_stands_at_its_number, all_logs_are_known, logs_add_up, others_have_the_free,

@@ -3,12 +3,14 @@ ghost use Rattle.atomic_table.specs.Seated.{TableId};
 ghost use Rattle.pa_machine.specs.Titles.{IsWellFormed, count_place, content_count, content_place};
 ghost use Rattle.pa_region.specs.Views.{HasTitle, HasStake, HasEveryStake, least_stake};
 ghost use Rattle.pa_region.specs.Moves.{CanCount};
+ghost use Rattle.pa_region.specs.Marks.{AreStakes};
 ghost use Rattle.pa_region.specs.Shares.{Share, IsSound, IsMade, byte_word_count, adds};
 ghost use Rattle.pa_region.specs.Loads.{CanLoad, LoadTells};
 ghost use Rattle.pa_region.specs.Stores.{CanStore, after_store, StoreTells, CanPoison, after_poison};
 ghost use Rattle.pa_region.specs.Start.{AreApart, AreWellFormed, first_view, IsEnd};
 
 use crate::closed::Closed;
+use crate::marks::{Stakes, least};
 use crate::rule::{Opening, Words, add_as, load_as, poison_as, store_as};
 use crate::view::View;
 use atomic_table::Table;
@@ -20,7 +22,7 @@ use std::marker::{Brand, Model};
 /// changes it by single atomic steps with a seat of its own. Contracts see which region it is.
 #[derive(Drop)]
 pub struct Region {
-    table: Words,
+    pub(crate) table: Words,
 }
 
 impl Model for Region {
@@ -28,16 +30,16 @@ impl Model for Region {
 
     ghost view = { λ r. r.table.shared.table_id };
 
-    ghost invariant = { λ r. r.table.shared.table_id.slots ≡ 0 };
+    ghost invariant = { λ r. (r.table.shared.table_id.slots ≡ 0) × (0 < r.table.shared.table_id.words) };
 }
 
 /// A share of a region: what its holder has of it and knows of it. It has no bytes of the region. Contracts see
 /// which region it is of, and its view.
 #[derive(Drop)]
 pub struct Seat {
-    seat: atomic_table::Seat<(), View>,
-    // The least stake, and 16 where there is none.
-    least: u32,
+    pub(crate) seat: atomic_table::Seat<(), View>,
+    // Which of the 16 stakes it has.
+    pub(crate) stakes: Stakes,
 }
 
 impl Model for Seat {
@@ -45,7 +47,7 @@ impl Model for Seat {
 
     ghost view = { λ s. record { region = s.seat.table_id; view = s.seat.me.0 } };
 
-    ghost invariant = { λ s. (s.seat.me.1 ≡ []) × IsSound s.seat.table_id s.seat.me.0 × (s.least ≡ least_stake s.seat.me.0.stakes) };
+    ghost invariant = { λ s. (s.seat.me.1 ≡ []) × IsSound s.seat.table_id s.seat.me.0 × AreStakes s.stakes s.seat.me.0 };
 }
 
 impl Seat {
@@ -54,7 +56,7 @@ impl Seat {
         requires { HasStake self.now.view }
         ensures { result ≡ least_stake self.now.view.stakes }
     {
-        self.least
+        least(&self.stakes)
     }
 
     /// A title that the seat holds free, or has a handle of, lies in the seat's region, which has at most 16 super
@@ -96,7 +98,13 @@ impl Region {
             titles: kept,
         };
         let (table, seat) = Table::of_words(alloc, zeros.as_slice(), &opening)?;
-        Ok((Region { table }, Seat { seat, least: 0 }))
+        Ok((
+            Region { table },
+            Seat {
+                seat,
+                stakes: [true; 16],
+            },
+        ))
     }
 
     /// One step on the title's count word, which changes number, count and bit at once. It answers the word that it
@@ -156,7 +164,7 @@ impl Region {
         ensures end { IsEnd result seat.view }
     {
         let Region { table } = self;
-        let Seat { seat, least: _ } = seat;
+        let Seat { seat, stakes: _ } = seat;
         Closed::of(table.close_with(seat))
     }
 }

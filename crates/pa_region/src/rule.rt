@@ -1,13 +1,15 @@
-ghost use Rattle.std.specs.Prelude.{◌≡◌, ◌+◌, ◌%◌, ◌^◌, ◌<◌};
-ghost use Rattle.atomic_table.specs.Table.{Allows};
+ghost use Rattle.std.specs.Prelude.{◌≡◌, ◌+◌, ◌%◌, ◌^◌, ◌<◌, []};
+ghost use Rattle.atomic_table.specs.Table.{Allows, Splits, Joins};
 ghost use Rattle.atomic_table.specs.Table.{State as TableState};
 ghost use Rattle.pa_machine.specs.Titles.{poison};
 ghost use Rattle.pa_region.specs.declared.view.View.{View};
 ghost use Rattle.pa_region.specs.Rule.{IsKept};
+ghost use Rattle.pa_region.specs.Start.{first_view};
 
+use crate::marks::Mark;
 use crate::view::View;
-use atomic_table::{Play, Seat, Table, TableRule};
-use pa_machine::{Step, Title};
+use atomic_table::{Join, Play, Seat, Split, Table, TableRule};
+use pa_machine::{Item, Step, Title};
 use std::alloc::Global;
 use std::marker::{Brand, PhantomData};
 
@@ -115,4 +117,81 @@ pub fn poison_as<T: Telling>(
     table
         .shared
         .store::<Told<T>>(seat, word, 0xefef_efef_efef_efef)
+}
+
+/// The two views that a hand makes of one. The call that hands over picks them.
+pub trait Handing {
+    ghost use Rattle.pa_region.specs.declared.view.View.{View};
+
+    ghost left: { View → View };
+
+    ghost right: { View → View };
+}
+
+impl Handing for Brand {
+    ghost left = { λ v. v };
+
+    ghost right = { λ v. v };
+}
+
+/// A split into the views that were picked.
+pub struct Handed<T> {
+    handing: PhantomData<T>,
+}
+
+impl<T: Handing> Split<View> for Handed<T> {
+    ghost left = { T.left };
+
+    ghost right = { T.right };
+}
+
+// One load of word 0, at which a new seat gets items, so many counted steps and what is marked.
+pub fn hand_as<T: Handing>(
+    table: &Words,
+    seat: &mut Seat<(), View>,
+    _items: &[Item],
+    _budget: u32,
+    _marks: &[Mark],
+) -> Seat<(), View>
+    requires region { (seat.old.table_id ≡ table.now.shared.table_id) × (0 < table.now.shared.table_id.words) }
+    requires allowed { Splits (λ (s : TableState (Unit {0}) View). IsKept s.words s.views) seat.old.id seat.old.me.0 (T.left seat.old.me.0) (T.right seat.old.me.0) }
+    ensures seat { (seat.new.table_id ≡ seat.old.table_id) × (seat.new.id ≡ seat.old.id) × (seat.new.me ≡ (T.left seat.old.me.0, seat.old.me.1)) }
+    ensures other { (result.table_id ≡ seat.old.table_id) × (result.me ≡ (T.right seat.old.me.0, [])) }
+{
+    table.shared.split_seat::<Handed<T>>(seat)
+}
+
+/// The view that a join makes of two, and the one that is left. The call that joins picks them.
+pub trait Taking {
+    ghost use Rattle.pa_region.specs.declared.view.View.{View};
+
+    ghost both: { View → View → View };
+
+    ghost spent: { View };
+}
+
+impl Taking for Brand {
+    ghost both = { λ v w. v };
+
+    ghost spent = { first_view 0 0 [] };
+}
+
+/// A join into the view that was picked.
+pub struct Taken<T> {
+    taking: PhantomData<T>,
+}
+
+impl<T: Taking> Join<View> for Taken<T> {
+    ghost both = { T.both };
+
+    ghost spent = { T.spent };
+}
+
+// One load of word 0, at which a seat gets all that another has.
+pub fn take_as<T: Taking>(table: &Words, seat: &mut Seat<(), View>, other: Seat<(), View>)
+    requires region { (seat.old.table_id ≡ table.now.shared.table_id) × (other.table_id ≡ table.now.shared.table_id) × (other.me.1 ≡ []) × (0 < table.now.shared.table_id.words) }
+    requires allowed { Joins (λ (s : TableState (Unit {0}) View). IsKept s.words s.views) seat.old.id seat.old.me.0 other.id other.me.0 (T.both seat.old.me.0 other.me.0) T.spent }
+    ensures seat { (seat.new.table_id ≡ seat.old.table_id) × (seat.new.id ≡ seat.old.id) × (seat.new.me ≡ (T.both seat.old.me.0 other.me.0, seat.old.me.1)) }
+{
+    table.shared.join_seat::<Taken<T>>(seat, other)
 }

@@ -1,12 +1,14 @@
 use Rattle.std.proofs.Common.{◌∙◌, sym, ap, subst}
 use Rattle.atomic_table.specs.Seated.{TableId}
 use Rattle.pa_region.specs.declared.view.View.{View}
-use Rattle.pa_region.specs.Views.{least_stake}
+use Rattle.pa_region.specs.Views.{stake_of}
 use Rattle.pa_region.specs.Moves.{CanCount, IsFound, after_count}
 use Rattle.pa_region.specs.Shares.{Share, IsSound, byte_word_count}
 use Rattle.pa_region.proofs.Found.{handle_held}
 use Rattle.pa_region.proofs.Pieces.{held_title}
-use Rattle.pa_region.proofs.Allowed.{count_allowed_by, count_sound, count_least, place_inside}
+use Rattle.pa_region.proofs.SeatStakes.{stakes_kept}
+use Rattle.pa_region.proofs.CountStep.{count_stakes}
+use Rattle.pa_region.proofs.Allowed.{count_allowed_by, count_sound, place_inside}
 use Rattle.pa_region.proofs.region.Region.count_step.Goals as goal
 
 pub count_index-word-requires : goal.count_index-word-requires
@@ -35,7 +37,7 @@ invariant_of-seat c =
       told.1 ∙ c.seat.invariant.0,
       subst (λ (z : TableId). IsSound z c.add_as.new.seat.me.0) (sym region)
           (subst (λ (w : View). IsSound c.seat.inside.seat.table_id w) (sym told.0) (count_sound c.seat.inside.seat.table_id c.args.step c.args.title c.add_as.result before can c.seat.invariant.1)),
-      c.seat.invariant.2 ∙ (sym (count_least c.args.step c.args.title c.add_as.result before) ∙ sym (ap (λ (w : View). least_stake w.stakes) told.0)),
+      stakes_kept c.seat.inside.stakes before c.add_as.new.seat.me.0 (λ k. ap (λ (w : View). stake_of w k) told.0 ∙ count_stakes c.args.step c.args.title c.add_as.result before can.1 k) c.seat.invariant.2,
     )
 
 pub returns : goal.returns

@@ -1,0 +1,5 @@
+use Rattle.pa_region.specs.Hands.{united, spent_of}
+use Rattle.pa_region.proofs.region.Region.take.Given as goal
+
+abbrev pub ghosts-take_as : goal.ghosts-take_as
+ghosts-take_as a = record { both = united; spent = spent_of a.other.me.0 }

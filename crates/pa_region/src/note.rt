@@ -1,0 +1,92 @@
+ghost use Rattle.std.specs.Prelude.{◌≡◌, ℕ, ◌<◌};
+ghost use Rattle.pa_machine.specs.declared.title.Title.{Title};
+ghost use Rattle.pa_region.specs.Views.{stake_of};
+ghost use Rattle.pa_region.specs.Waiting.{poisoned_of, unclean_of};
+ghost use Rattle.pa_region.specs.Hands.{CanHand, IsParted, left_after, given_after, united};
+ghost use Rattle.pa_region.specs.Marks.{parcel_of};
+ghost use Rattle.pa_region.specs.Shares.{Share};
+
+use crate::marks::{Mark, both, marked, unmarked};
+use crate::region::{Region, Seat};
+use crate::rule::{hand_as, take_as};
+use pa_machine::Item;
+use std::marker::{Brand, Model};
+
+/// A share of a region that was split off to be handed over. Each Own of it is clean. Contracts see which region it
+/// is of, and its view.
+#[derive(Drop)]
+pub struct Note {
+    seat: Seat,
+}
+
+impl Model for Note {
+    ghost Value = { Share };
+
+    ghost view = { λ n. n.seat };
+
+    ghost invariant = { λ n. unclean_of n.seat.view ≡ 0 };
+}
+
+impl Note {
+    /// The same share as a seat, which can make steps.
+    pub fn seat(self) -> Seat
+        ensures same { result ≡ self }
+        ensures clean { unclean_of result.view ≡ 0 }
+    {
+        let Note { seat } = self;
+        seat
+    }
+}
+
+impl Seat {
+    /// The same share as a note, which can be taken: each Own of it is clean.
+    pub fn note(self) -> Note
+        requires { unclean_of self.view ≡ 0 }
+        ensures { result ≡ self }
+    {
+        Note { seat: self }
+    }
+}
+
+impl Region {
+    /// Hands over these items, so many counted steps, and what is marked: a stake goes with its log and a keeper with
+    /// its list. The note has seen what the seat has seen.
+    pub fn hand(&self, seat: &mut Seat, items: &[Item], budget: u32, marks: &[Mark]) -> Note
+        requires region { seat.old.region ≡ self.now }
+        requires able { CanHand (parcel_of items.now budget marks.now) seat.old.view }
+        ensures regions { (seat.new.region ≡ seat.old.region) × (result.region ≡ seat.old.region) }
+        ensures left { seat.new.view ≡ left_after (parcel_of items.now budget marks.now) seat.old.view }
+        ensures given { result.view ≡ given_after (parcel_of items.now budget marks.now) seat.old.view }
+        ensures parted { IsParted seat.old.view seat.new.view result.view }
+    {
+        let _ = &seat.seat;
+        let other = hand_as::<Brand>(&self.table, &mut seat.seat, items, budget, marks);
+        let given = marked(&seat.stakes, marks);
+        seat.stakes = unmarked(&seat.stakes, marks);
+        Note {
+            seat: Seat {
+                seat: other,
+                stakes: given,
+            },
+        }
+    }
+
+    /// Takes in a note: the seat has then all that both had, and has seen what either has seen. Where the note has a
+    /// stake, the seat has no poisoned Own.
+    pub fn take(&self, seat: &mut Seat, note: Note)
+        requires region { (seat.old.region ≡ self.now) × (note.region ≡ self.now) }
+        requires able { (k : ℕ) (t : Title) → 0 < stake_of note.view k → poisoned_of seat.old.view t ≡ 0 }
+        ensures region { seat.new.region ≡ seat.old.region }
+        ensures view { seat.new.view ≡ united seat.old.view note.view }
+        ensures parted { IsParted seat.new.view seat.old.view note.view }
+    {
+        let Note { seat: other } = note;
+        let Seat {
+            seat: other,
+            stakes,
+        } = other;
+        let _ = &seat.seat;
+        take_as::<Brand>(&self.table, &mut seat.seat, other);
+        seat.stakes = both(&seat.stakes, &stakes);
+    }
+}
