@@ -1,11 +1,11 @@
 -- The list of the empty spans, while one of them changes.
-use Rattle.std.proofs.Common.{◌≡◌, ℕ, ◌<◌, ◌≤◌, Bool, true, false, eqb, List, [], ◌∷◌, set, refl, sym, ◌∙◌, ap, subst, arith, inl, inr, Some}
+use Rattle.std.proofs.Common.{◌≡◌, ℕ, ◌<◌, ◌≤◌, Bool, true, false, eqb, List, ◌∷◌, set, refl, sym, ◌∙◌, ap, subst, arith, inl, inr, Some}
 use Rattle.std.specs.Prelude.{Contains, slice_get}
-use Rattle.std.proofs.lemmas.Bool.{cases_Bool, both_ways, eq-eqb}
+use Rattle.std.proofs.lemmas.Bool.{cases_Bool, eq-eqb}
 use Rattle.pa_buckets.specs.declared.spans.State.{State}
 use Rattle.pa_buckets.specs.declared.spans.State.TheVariants as state
 use Rattle.pa_buckets.specs.Table.{slots_of}
-use Rattle.pa_record.specs.Spans.{Span, is_in, earliest, same_state, state_in_use}
+use Rattle.pa_record.specs.Spans.{Span, is_in, same_state, state_in_use}
 use Rattle.pa_record.specs.Root.{Root, in_state}
 use Rattle.pa_record.specs.Sound.{IsSound, IsSoundSpan, StateSays}
 use Rattle.pa_record.specs.Chosen.{TestsUsed}

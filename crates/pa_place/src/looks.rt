@@ -1,17 +1,18 @@
-ghost use Rattle.std.specs.Prelude.{◌≡◌, ◌*◌, ◌<◌, ◌≤◌, ◌^◌, IfSome, IfNone, length, sum_by};
+ghost use Rattle.std.specs.Prelude.{◌≡◌, ◌*◌, ◌<◌, ◌≤◌, ◌^◌, IfSome, IfNone, length, sum_by, count_by};
 ghost use Rattle.pa_machine.specs.declared.title.Title.{Title as Slot};
 ghost use Rattle.pa_layout.specs.Pages.{supers_for};
+ghost use Rattle.pa_buckets.specs.declared.spans.State.TheVariants as state;
 ghost use Rattle.pa_buckets.specs.Table.{slot_of};
-ghost use Rattle.pa_record.specs.Spans.{Span, name_of};
+ghost use Rattle.pa_record.specs.Spans.{Span, is_in, name_of};
 ghost use Rattle.pa_record.specs.Root.{IsOut, IsTitleOut};
-ghost use Rattle.pa_record.specs.Census.{kept_of, census, count_in as count_of};
+ghost use Rattle.pa_record.specs.Census.{kept_of, census};
 ghost use Rattle.pa_place.specs.Order.{IsOrdered};
 ghost use Rattle.pa_place.specs.Out.{IsOutAs, IsNotOut};
 ghost use Rattle.pa_place.specs.Store.{root_of, IsReady, IsKept};
 
 use crate::placed::Out;
 use crate::plain_span::PlainSpan;
-use crate::scans::{count_in, index_holding};
+use crate::scans::index_holding;
 use crate::store::{Store, place_named};
 use pa_buckets::{State, slot_size};
 use pa_layout::{SUPER_PAGE, SYSTEM_PAGE, supers_for};
@@ -49,39 +50,69 @@ impl Store {
         requires { IsKept self.now }
         ensures { result ≡ census (root_of self.now) }
     {
+        let sums = sums_of(&self.spans);
         Census {
             root: Tally {
-                slots: slots_kept(&self.spans),
+                slots: sums.slots,
                 bytes: bytes_kept(&self.spans),
             },
-            committed: u64::from(SYSTEM_PAGE) * pages_committed(&self.spans)
-                + bytes_mapped(&self.maps),
+            committed: u64::from(SYSTEM_PAGE) * sums.pages + bytes_mapped(&self.maps),
             reserved: u64::from(SUPER_PAGE)
                 * (self.supers.len() as u64 + supers_mapped(&self.maps)),
-            full: self.count(State::Full),
-            active: self.count(State::Active),
-            empty: self.count(State::Empty),
-            decommitted: self.count(State::Decommitted),
+            full: sums.full,
+            active: sums.active,
+            empty: sums.empty,
+            decommitted: sums.decommitted,
         }
     }
+}
 
-    // How many spans are in the state.
-    fn count(&self, state: State) -> u32
-        requires { IsKept self.now }
-        ensures { result ≡ count_of state (root_of self.now) }
-    {
-        count_in(&self.spans, state) as u32
+// The slots of spans that were made and aren't out, their committed system pages, and how many are in each state.
+#[derive(Clone, Copy)]
+struct Sums {
+    slots: u64,
+    pages: u64,
+    full: u32,
+    active: u32,
+    empty: u32,
+    decommitted: u32,
+}
+
+// They are counted in one pass.
+fn sums_of(spans: &[PlainSpan]) -> Sums
+    requires { length spans.now ≤ 2147483647 }
+    ensures slots { result.slots ≡ sum_by kept_of spans.now }
+    ensures pages { result.pages ≡ sum_by (λ (s : Span). s.committed) spans.now }
+    ensures full { result.full ≡ count_by (is_in state.Full) spans.now }
+    ensures active { result.active ≡ count_by (is_in state.Active) spans.now }
+    ensures empty { result.empty ≡ count_by (is_in state.Empty) spans.now }
+    ensures decommitted { result.decommitted ≡ count_by (is_in state.Decommitted) spans.now }
+{
+    let mut slots = 0;
+    let mut pages = 0;
+    let mut full = 0;
+    let mut active = 0;
+    let mut empty = 0;
+    let mut decommitted = 0;
+    for span in spans {
+        slots += u64::from(span.kept());
+        pages += u64::from(span.committed());
+        full += u32::from(span.is_in(State::Full));
+        active += u32::from(span.is_in(State::Active));
+        empty += u32::from(span.is_in(State::Empty));
+        decommitted += u32::from(span.is_in(State::Decommitted));
+    }
+    Sums {
+        slots,
+        pages,
+        full,
+        active,
+        empty,
+        decommitted,
     }
 }
 
-// The slots of the spans that were made and aren't out, and their bytes.
-fn slots_kept(spans: &[PlainSpan]) -> u64
-    requires { sum_by kept_of spans.now < 2 ^ 64 }
-    ensures { result ≡ sum_by kept_of spans.now }
-{
-    spans.iter().map(|span| u64::from(span.kept())).sum()
-}
-
+// The bytes of the slots of the spans that were made and aren't out.
 fn bytes_kept(spans: &[PlainSpan]) -> u64
     requires { sum_by (λ s. slot_of s.class * kept_of s) spans.now < 2 ^ 64 }
     ensures { result ≡ sum_by (λ s. slot_of s.class * kept_of s) spans.now }
@@ -90,14 +121,6 @@ fn bytes_kept(spans: &[PlainSpan]) -> u64
         .iter()
         .map(|span| u64::from(slot_size(span.class())) * u64::from(span.kept()))
         .sum()
-}
-
-// The committed system pages of the spans.
-fn pages_committed(spans: &[PlainSpan]) -> u64
-    requires { sum_by (λ (s : Span). s.committed) spans.now < 2 ^ 64 }
-    ensures { result ≡ sum_by (λ (s : Span). s.committed) spans.now }
-{
-    spans.iter().map(|span| u64::from(span.committed())).sum()
 }
 
 // The bytes of the direct maps' slots, and the super pages of the direct maps.

@@ -1,5 +1,5 @@
-ghost use Rattle.std.specs.Prelude.{◌≡◌, ◌<◌, ◌≤◌, Some, IfSome, AllPairs, length, slice_get, find, count_by};
-ghost use Rattle.pa_record.specs.Spans.{Span, holds, is_in, is_of, latest, listed, later};
+ghost use Rattle.std.specs.Prelude.{◌≡◌, ◌<◌, ◌≤◌, Some, IfSome, AllPairs, length, slice_get, find};
+ghost use Rattle.pa_record.specs.Spans.{Span, holds, is_of, latest, listed, later};
 ghost use Rattle.pa_place.specs.Order.{IsBefore, IsCut};
 ghost use Rattle.pa_place.specs.Scans.{span_at};
 
@@ -82,11 +82,4 @@ fn count_up_to(spans: &[PlainSpan], name: SlotName) -> usize
         }
     }
     low
-}
-
-// How many of them are in the state.
-pub(crate) fn count_in(spans: &[PlainSpan], state: State) -> usize
-    ensures { result ≡ count_by (is_in state) spans.now }
-{
-    spans.iter().filter(|span| span.is_in(state)).count()
 }

@@ -1,32 +1,20 @@
-use Rattle.std.proofs.Common.{arith}
+use Rattle.std.proofs.Common.{◌≡◌, length, arith, rules}
 use Rattle.pa_place.specs.Store.{root_of}
-use Rattle.pa_place.proofs.Looking.{slots_low, bytes_low, pages_low}
+use Rattle.pa_place.proofs.Looking.{bytes_low, pages_low, census_by}
 use Rattle.pa_place.proofs.store.Store.census.Goals as goal
-
-pub slots_kept-requires : goal.slots_kept-requires
-slots_kept-requires c =
-    let same = rw c.deref.ensures.value at c.deref.ensures.len in
-    let few = c.requires.spans in
-    rw c.deref.ensures.value (slots_low (root_of c.args.self.now) c.requires.ready (omega arith))
 
 pub bytes_kept-requires : goal.bytes_kept-requires
 bytes_kept-requires c =
-    let same = rw c.deref.ensures.value at c.deref.ensures.len in
+    let same = rw c.deref-2.ensures.value at c.deref-2.ensures.len in
     let few = c.requires.spans in
     rw c.deref-2.ensures.value (bytes_low (root_of c.args.self.now) c.requires.ready (omega arith))
-
-pub pages_committed-requires : goal.pages_committed-requires
-pages_committed-requires c =
-    let same = rw c.deref.ensures.value at c.deref.ensures.len in
-    let few = c.requires.spans in
-    rw c.deref-3.ensures.value (let low = pages_low (root_of c.args.self.now) c.requires.ready (omega arith) in omega arith)
 
 pub overflow_mul-result : goal.overflow_mul-result
 overflow_mul-result c =
     let same = rw c.deref.ensures.value at c.deref.ensures.len in
     let few = c.requires.spans in
     let low = pages_low (root_of c.args.self.now) c.requires.ready (omega arith) in
-    let pages = rw c.deref-3.ensures.value at c.pages_committed.ensures in
+    let pages = rw c.deref.ensures.value at c.sums_of-sums.ensures.pages in
     rw (c.from.ensures, pages) (omega arith)
 
 pub overflow_add-result : goal.overflow_add-result
@@ -34,6 +22,20 @@ overflow_add-result c =
     let same = rw c.deref.ensures.value at c.deref.ensures.len in
     let few = c.requires.spans in
     let low = pages_low (root_of c.args.self.now) c.requires.ready (omega arith) in
-    let pages = rw c.deref-3.ensures.value at c.pages_committed.ensures in
+    let pages = rw c.deref.ensures.value at c.sums_of-sums.ensures.pages in
     let bytes = c.bytes_mapped.ensures.bound in
     rw (c.from.ensures, pages) (omega arith)
+
+pub returns : goal.returns
+returns c =
+    let slots = rw c.deref.ensures.value at c.sums_of-sums.ensures.slots in
+    let pages = rw c.deref.ensures.value at c.sums_of-sums.ensures.pages in
+    let full = rw c.deref.ensures.value at c.sums_of-sums.ensures.full in
+    let active = rw c.deref.ensures.value at c.sums_of-sums.ensures.active in
+    let empty = rw c.deref.ensures.value at c.sums_of-sums.ensures.empty in
+    let decommitted = rw c.deref.ensures.value at c.sums_of-sums.ensures.decommitted in
+    let bytes = rw c.deref-2.ensures.value at c.bytes_kept.ensures in
+    let mapped = rw c.deref-3.ensures.value at c.bytes_mapped.ensures.bytes in
+    let supers = rw c.deref-4.ensures.value at c.supers_mapped.ensures.supers in
+    let many : c.len.result ≡ length c.args.self.now.supers.items = search rules in
+    census_by (root_of c.args.self.now) _ _ _ _ _ _ _ _ _ _ _ _ slots bytes pages mapped many supers full active empty decommitted c.from.ensures c.from-2.ensures

@@ -1,9 +1,8 @@
-use Rattle.std.proofs.Common.{◌≡◌, ◌<◌, true, ◌∷◌, length, refl, sym, ◌∙◌, ap, subst, arith}
-use Rattle.std.specs.Prelude.{slice_get}
+use Rattle.std.proofs.Common.{◌≡◌, true, length, refl, sym, ◌∙◌, ap, subst, arith}
 use Rattle.std.proofs.lemmas.Option.{slice_get_read, slice_get_within}
 use Rattle.pa_buckets.specs.declared.spans.State.TheVariants as state
 use Rattle.pa_record.specs.Root.{decommitted_span}
-use Rattle.pa_record.proofs.Members.{of_some, first_in}
+use Rattle.pa_record.proofs.Members.{of_some}
 use Rattle.pa_record.proofs.Entering.{IsLike}
 use Rattle.pa_place.specs.Store.{root_of, IsFiled}
 use Rattle.pa_place.proofs.Giving.{decommitted_root}
