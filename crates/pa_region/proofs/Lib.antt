@@ -6,6 +6,7 @@ pub mod CountEvent
 pub mod CountLists
 pub mod CountStep
 pub mod CountValues
+pub mod Covering
 pub mod Ends
 pub mod Entering
 pub mod Filled

@@ -1,7 +1,7 @@
-use Rattle.std.proofs.Common.{◌≡◌, ◌+◌, ◌*◌, ◌∙◌, refl, sym, ap, subst, arith}
+use Rattle.std.proofs.Common.{◌≡◌, ◌+◌, ◌*◌, ◌∙◌, refl, ap, subst, arith}
 use Rattle.pa_machine.specs.declared.word.Step.TheVariants.{Write}
 use Rattle.pa_region.specs.Shares.{Share, IsMade, byte_word_count}
-use Rattle.pa_quarantine.specs.Filling.{filled, filled_share}
+use Rattle.pa_quarantine.specs.Filling.{filled_share}
 use Rattle.pa_quarantine.proofs.Filling.{open_own}
 use Rattle.pa_quarantine.proofs.Writing.{write_can, write_own, write_next, write_end, write_told}
 use Rattle.pa_quarantine.proofs.fill.write.Goals as goal
