@@ -10,7 +10,7 @@ use Rattle.pa_region.specs.Lists.{longer, list_among, made_with, IsBeginning}
 use Rattle.pa_region.proofs.ListFacts.{made_append}
 
 -- the longer one of two
-longer_is : (a b : List Made) → ((longer a b ≡ b) × (length a < length b)) ⊎ ((longer a b ≡ a) × (length b ≤ length a))
+pub longer_is : (a b : List Made) → ((longer a b ≡ b) × (length a < length b)) ⊎ ((longer a b ≡ a) × (length b ≤ length a))
 longer_is a b = elim (cases_lt (length a) (length b)) [
   | inl y ↦ inl (rw (lt-ltb (length a) (length b) y) refl, y)
   | inr n ↦ inr (rw (le-ltb (length a) (length b) n) refl, n)

@@ -8,6 +8,8 @@ pub mod CountStep
 pub mod CountValues
 pub mod Covering
 pub mod Ends
+pub mod EnterLists
+pub mod EnterStep
 pub mod Entering
 pub mod Filled
 pub mod FirstFrees

@@ -1,5 +1,6 @@
 pub mod AllReads
 pub mod Contents
+pub mod Entries
 pub mod Frees
 pub mod Hands
 pub mod History

@@ -16,6 +16,7 @@ use Rattle.pa_region.specs.Views.{byte_words, shown, logged_in, counted_on, coun
 use Rattle.pa_region.specs.Rule.{IsKept}
 use Rattle.pa_region.specs.Moves.{CanCount, IsFound, after_count, after_look}
 use Rattle.pa_region.specs.Stores.{after_store, CanStore, after_poison, CanPoison}
+use Rattle.pa_region.specs.Entries.{CanEnter, after_enter}
 use Rattle.pa_region.specs.Hands.{Parcel, CanHand, CanTake, IsParted, left_after, given_after, united, spent_of}
 use Rattle.pa_region.specs.Shares.{IsUser, count_offset}
 use Rattle.pa_region.specs.Loads.{after_read, content_offset, IsPlain}
@@ -128,3 +129,9 @@ JoinKeeps =
     (words : List ℕ) (views : List View) (i j : ℕ) (v w : View) →
     IsKept words views → get_elem? views i ≡ some v → get_elem? views j ≡ some w → (j ≡ i → ⊥) → CanTake v w →
     IsParted (united v w) v w × IsKept words (slice_set (slice_set views i (united v w)) j (spent_of w))
+
+-- an entry in a keeper's list by any one seat that has the keeper and a stake keeps it
+abbrev pub EnterKeeps : Type 0
+EnterKeeps =
+    (k : ℕ) (numbers : List ℕ) (words : List ℕ) (views : List View) (i : ℕ) (v : View) → IsKept words views → get_elem? views i ≡ some v → CanEnter k v →
+    IsKept words (slice_set views i (after_enter k numbers v))

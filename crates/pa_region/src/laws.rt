@@ -1,5 +1,5 @@
 //! What the region's rule says of any number of seats, as laws: calls that do nothing, and whose clauses are proved.
-ghost use Rattle.pa_region.specs.Says.{CountKeeps, CountIsEvent, LookKeeps, LookIsLoad, StoreKeeps, PoisonKeeps, PlainIsLoad, ReadKeeps, HandKeeps, JoinKeeps, StartKeeps, ShowsGood, FindsEachNumberOnce, UnnamedIsNew};
+ghost use Rattle.pa_region.specs.Says.{CountKeeps, CountIsEvent, LookKeeps, LookIsLoad, StoreKeeps, PoisonKeeps, PlainIsLoad, ReadKeeps, HandKeeps, JoinKeeps, EnterKeeps, StartKeeps, ShowsGood, FindsEachNumberOnce, UnnamedIsNew};
 
 /// Each counted step keeps the rule.
 pub fn counted_steps_keep_the_rule()
@@ -44,6 +44,11 @@ pub fn reads_keep_the_rule()
 /// Each hand keeps the rule.
 pub fn hands_keep_the_rule()
     ensures { HandKeeps }
+{}
+
+/// Each entry in a keeper's list keeps the rule.
+pub fn entries_keep_the_rule()
+    ensures { EnterKeeps }
 {}
 
 /// Each join keeps the rule.

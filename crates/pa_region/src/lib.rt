@@ -18,8 +18,9 @@ pub use closed::Closed;
 pub use laws::{
     a_new_region_meets_the_rule, an_unnamed_title_is_new, counted_steps_keep_the_rule,
     each_counted_step_is_its_event, each_look_is_a_load, each_number_is_found_once,
-    each_plain_load_is_a_load, hands_keep_the_rule, joins_keep_the_rule, looks_keep_the_rule,
-    poisonings_keep_the_rule, reads_keep_the_rule, stores_keep_the_rule, the_shown_core_is_good,
+    each_plain_load_is_a_load, entries_keep_the_rule, hands_keep_the_rule, joins_keep_the_rule,
+    looks_keep_the_rule, poisonings_keep_the_rule, reads_keep_the_rule, stores_keep_the_rule,
+    the_shown_core_is_good,
 };
 pub use marks::Mark;
 pub use note::Note;

@@ -3,12 +3,13 @@ ghost use Rattle.pa_machine.specs.declared.title.Title.{Title};
 ghost use Rattle.pa_region.specs.Views.{stake_of};
 ghost use Rattle.pa_region.specs.Waiting.{poisoned_of, unclean_of};
 ghost use Rattle.pa_region.specs.Hands.{CanHand, IsParted, left_after, given_after, united};
+ghost use Rattle.pa_region.specs.Entries.{CanEnter, after_enter};
 ghost use Rattle.pa_region.specs.Marks.{parcel_of};
 ghost use Rattle.pa_region.specs.Shares.{Share};
 
 use crate::marks::{Mark, both, marked, unmarked};
 use crate::region::{Region, Seat};
-use crate::rule::{hand_as, take_as};
+use crate::rule::{enter_as, hand_as, take_as};
 use pa_machine::Item;
 use std::marker::{Brand, Model};
 
@@ -88,5 +89,17 @@ impl Region {
         let _ = &seat.seat;
         take_as::<Brand>(&self.table, &mut seat.seat, other);
         seat.stakes = both(&seat.stakes, &stakes);
+    }
+
+    /// Makes an entry in the list of this keeper, which the seat has, with its least stake: the numbers, and in proofs
+    /// alone what the seat has seen. The list, the stake's log and what the seat has seen get it at once.
+    pub fn enter(&self, seat: &mut Seat, keeper: u32, entry: &[u64])
+        requires region { seat.old.region ≡ self.now }
+        requires able { CanEnter keeper seat.old.view }
+        ensures region { seat.new.region ≡ seat.old.region }
+        ensures view { seat.new.view ≡ after_enter keeper entry.now seat.old.view }
+    {
+        let _ = &seat.seat;
+        enter_as::<Brand>(&self.table, &mut seat.seat, keeper, entry)
     }
 }

@@ -1,4 +1,4 @@
-ghost use Rattle.std.specs.Prelude.{◌≡◌, ◌+◌, ◌%◌, ◌^◌, ◌<◌, []};
+ghost use Rattle.std.specs.Prelude.{◌≡◌, ℕ, ◌+◌, ◌%◌, ◌^◌, ◌<◌, []};
 ghost use Rattle.atomic_table.specs.Table.{Allows, Splits, Joins};
 ghost use Rattle.atomic_table.specs.Table.{State as TableState};
 ghost use Rattle.pa_machine.specs.Titles.{poison};
@@ -83,6 +83,16 @@ pub fn load_as<T: Telling>(table: &Words, seat: &mut Seat<(), View>, word: usize
     ensures told { T.then seat.old.me result seat.new.me }
 {
     table.shared.load::<Told<T>>(seat, word)
+}
+
+// One load of word 0, at which a seat makes an entry in a keeper's list.
+pub fn enter_as<T: Telling>(table: &Words, seat: &mut Seat<(), View>, _keeper: u32, _entry: &[u64])
+    requires region { (seat.old.table_id ≡ table.now.shared.table_id) × (0 < table.now.shared.table_id.words) }
+    requires allowed { Allows (λ (s : TableState (Unit {0}) View). IsKept s.words s.views) table.now.shared.table_id.slots seat.old.id seat.old.me 0 (λ n. n) (T.then seat.old.me) }
+    ensures seat { (seat.new.table_id ≡ seat.old.table_id) × (seat.new.id ≡ seat.old.id) }
+    ensures told { (word : ℕ) × T.then seat.old.me word seat.new.me }
+{
+    table.shared.load::<Told<T>>(seat, 0);
 }
 
 // One store to a word, which is the word at that offset in bytes.
