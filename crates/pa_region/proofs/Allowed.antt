@@ -12,12 +12,11 @@ use Rattle.pa_machine.specs.Titles.{Covers, IsWellFormed, count_place, count_wor
 use Rattle.pa_machine.specs.Holdings.{RawByte, FreeTitle, OwnOf, RefOf, IsTitleHeld}
 use Rattle.pa_machine.specs.Events.{total_of}
 use Rattle.pa_machine.proofs.Same.{title_tells}
-use Rattle.pa_region.specs.declared.view.Entry.TheVariants.{Counted, Looked}
 use Rattle.pa_region.specs.declared.view.View.{View}
 use Rattle.pa_machine.proofs.Parts.{free_or}
 use Rattle.pa_region.specs.Views.{held_of_view, free_of, HasTitle, byte_words, shown}
 use Rattle.pa_region.specs.Rule.{IsKept}
-use Rattle.pa_region.specs.Moves.{CanCount, IsFound, moved, value_of, after_count, after_look}
+use Rattle.pa_region.specs.Moves.{CanCount, IsFound, moved, after_count, after_look}
 use Rattle.pa_region.proofs.Pieces.{handle_piece, held_within, moved_changes, frees_have, title_held, held_title}
 use Rattle.pa_region.proofs.HolderPart.{gained_here, lost_raw, gained_raw}
 use Rattle.std.proofs.Common.{◌^◌}
@@ -25,13 +24,10 @@ use Rattle.atomic_table.specs.Table.{Me, Allows, keeps}
 use Rattle.atomic_table.specs.Table.{State as TableState}
 use Rattle.atomic_table.specs.Seated.{TableId}
 use Rattle.pa_machine.proofs.Parts.{word_covered}
-use Rattle.pa_region.specs.Views.{least_stake}
 use Rattle.pa_region.specs.Shares.{IsSound, byte_word_count, adds, CountTells, IsUser}
-use Rattle.pa_region.proofs.Entering.{least_noted}
 use Rattle.pa_region.proofs.Bytes.{bytes_word, held_in_all, place_below}
 use Rattle.pa_region.proofs.Found.{handle_held, count_can, count_found}
 use Rattle.pa_region.proofs.CountStep.{count_keeps}
-use Rattle.pa_region.proofs.MovedRest.{moved_stakes}
 use Rattle.pa_region.proofs.CountValues.{moved_long}
 use Rattle.pa_region.proofs.LookStep.{look_holds}
 

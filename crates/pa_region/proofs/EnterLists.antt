@@ -1,5 +1,5 @@
 -- The fifth part after an entry in a keeper's list.
-use Rattle.std.proofs.Common.{◌≡◌, ℕ, ◌+◌, ◌<◌, ◌≤◌, Bool, true, false, List, [], ◌∷◌, ◌++◌, length, set, refl, sym, ◌∙◌, ap, subst, arith, ◌⊎◌, inl, inr, eqb, append_assoc, length-append}
+use Rattle.std.proofs.Common.{◌≡◌, ℕ, ◌<◌, ◌≤◌, Bool, true, false, List, [], ◌∷◌, ◌++◌, set, refl, sym, ◌∙◌, ap, subst, arith, inl, inr, eqb, append_assoc, length-append}
 use Rattle.std.specs.Prelude.{if◌then◌else◌}
 use Rattle.std.specs.List.{sum_by}
 use Rattle.core.specs.List.{AllByRecursion as Each}
@@ -14,13 +14,12 @@ use Rattle.pa_region.specs.declared.view.Entry.TheVariants.{Entered}
 use Rattle.pa_region.specs.declared.view.Made.{Made}
 use Rattle.pa_region.specs.declared.view.Stake.{Stake}
 use Rattle.pa_region.specs.declared.view.Keeper.{Keeper}
-use Rattle.pa_region.specs.declared.view.SeenList.{SeenList}
 use Rattle.pa_region.specs.declared.view.View.{View}
-use Rattle.pa_region.specs.Views.{stake_of, stakes_in, least_stake, HasStake}
+use Rattle.pa_region.specs.Views.{stake_of, stakes_in, least_stake}
 use Rattle.pa_region.specs.Moves.{changed, noted}
-use Rattle.pa_region.specs.Lists.{keeper_of, keepers_in, lease_of, list_of, list_among, longer, made_with, entry_in, entered_in, IsBeginning, IsKnownTo, Rises, IsListed, HasSeenFree, Lists}
+use Rattle.pa_region.specs.Lists.{keeper_of, keepers_in, lease_of, list_of, made_with, entry_in, entered_in, IsBeginning, IsKnownTo, Rises, IsListed, HasSeenFree, Lists}
 use Rattle.pa_region.specs.Entries.{new_entry, with_made, is_keeper, after_enter, CanEnter}
-use Rattle.pa_region.proofs.Adding.{changed_sum, sum_set, sum_pair, sum_part, one_lt, one_small}
+use Rattle.pa_region.proofs.Adding.{changed_sum, sum_set, sum_pair, sum_part, one_lt}
 use Rattle.pa_region.proofs.Entering.{with_entry_last, least_there}
 use Rattle.pa_region.proofs.ListFacts.{each_map, each_append, made_append, entered_more, entered_nothing}
 use Rattle.pa_region.proofs.ListPart.{each_set}

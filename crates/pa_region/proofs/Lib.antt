@@ -1,6 +1,7 @@
 pub mod Adding
 pub mod Allowed
 pub mod AtNumber
+pub mod Awareness
 pub mod Bytes
 pub mod CountEvent
 pub mod CountLists

@@ -16,7 +16,7 @@ use Rattle.pa_machine.specs.declared.event.Event.TheVariants.{Load}
 use Rattle.pa_machine.specs.Events.{IsEnabled, Happens, IsRawWord, IsTitleWord, total_of}
 use Rattle.pa_machine.proofs.Parts.{word_covered}
 use Rattle.pa_region.specs.declared.view.View.{View}
-use Rattle.pa_region.specs.Views.{stake_of, held_of_view, byte_words, shown, free_of, least_stake, Knows, HasTitle, HasStake}
+use Rattle.pa_region.specs.Views.{stake_of, held_of_view, byte_words, shown, free_of, Knows, HasTitle, HasStake}
 use Rattle.pa_region.specs.Rule.{IsKept}
 use Rattle.pa_region.specs.Moves.{IsFound, after_look}
 use Rattle.pa_region.specs.Shares.{IsSound, byte_word_count, IsUser, count_offset}

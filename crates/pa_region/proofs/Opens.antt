@@ -21,7 +21,7 @@ use Rattle.std.specs.Prelude.{length}
 use Rattle.std.proofs.lemmas.List.{length-take-le, length-replicate}
 use Rattle.atomic_table.specs.Seated.{TableId}
 use Rattle.atomic_table.specs.Table.{Me}
-use Rattle.pa_region.specs.Views.{raw_piece, held_of_view, byte_words, shown, least_stake}
+use Rattle.pa_region.specs.Views.{raw_piece, held_of_view, byte_words, shown}
 use Rattle.pa_region.specs.Rule.{IsKept}
 use Rattle.pa_region.specs.Shares.{IsSound, byte_word_count}
 use Rattle.pa_region.specs.Start.{AreApart, AreWellFormed, is_covered, blank, raw_word, rest_from, first_view}

@@ -1,10 +1,10 @@
 -- Which stakes a seat has, at run time and in its view.
-use Rattle.std.proofs.Common.{◌≡◌, ℕ, zero, suc, ◌+◌, ◌<◌, ◌≤◌, Bool, true, false, ◌&&◌, ◌||◌, List, [], ◌∷◌, ◌++◌, replicate, refl, sym, ◌∙◌, ap, subst, arith, ◌⊎◌, inl, inr, eqb, ltb, min}
+use Rattle.std.proofs.Common.{◌≡◌, ℕ, ◌+◌, ◌<◌, ◌≤◌, Bool, true, false, ◌&&◌, ◌||◌, List, [], ◌∷◌, replicate, refl, sym, ◌∙◌, ap, arith, inl, inr, eqb, ltb}
 use Rattle.std.specs.Prelude.{not, cond, slice_index_or, if◌then◌else◌}
 use Rattle.std.specs.List.{sum_by, filter}
 use Rattle.std.proofs.lemmas.List.{get_or-replicate}
 use Rattle.std.proofs.lemmas.List.Sums.{sum_by-cons, sum_by-append}
-use Rattle.std.proofs.lemmas.Bool.{cases_Bool, cases_lt, lt-ltb, le-ltb, true≢false}
+use Rattle.std.proofs.lemmas.Bool.{cases_lt, lt-ltb, le-ltb, true≢false}
 use Rattle.pa_machine.specs.declared.title.Title.{Title}
 use Rattle.pa_machine.specs.Holdings.{one}
 use Rattle.pa_region.specs.declared.view.Stake.{Stake}

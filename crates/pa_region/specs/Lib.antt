@@ -1,4 +1,5 @@
 pub mod AllReads
+pub mod Aware
 pub mod Contents
 pub mod Entries
 pub mod Frees

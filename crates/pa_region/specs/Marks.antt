@@ -1,5 +1,5 @@
 -- What marks and items make a parcel, and which stakes a seat has.
-use Rattle.std.specs.Prelude.{◌≡◌, ℕ, ◌<◌, List, [], ◌∷◌, ◌++◌, Bool, true, false, ◌==◌, nat_lt, slice_index_or}
+use Rattle.std.specs.Prelude.{◌≡◌, ℕ, ◌<◌, List, [], ◌∷◌, ◌++◌, Bool, false, ◌==◌, nat_lt, slice_index_or}
 use Rattle.std.specs.List.{list_any}
 use Rattle.pa_machine.specs.declared.event.Item.{Item}
 use Rattle.pa_region.specs.declared.marks.Mark.{Mark}

@@ -3,13 +3,14 @@ ghost use Rattle.pa_machine.specs.declared.title.Title.{Title};
 ghost use Rattle.pa_region.specs.Views.{stake_of};
 ghost use Rattle.pa_region.specs.Waiting.{poisoned_of, unclean_of};
 ghost use Rattle.pa_region.specs.Hands.{CanHand, IsParted, left_after, given_after, united};
+ghost use Rattle.pa_region.specs.Aware.{IsAware};
 ghost use Rattle.pa_region.specs.Entries.{CanEnter, after_enter};
 ghost use Rattle.pa_region.specs.Marks.{parcel_of};
 ghost use Rattle.pa_region.specs.Shares.{Share};
 
 use crate::marks::{Mark, both, marked, unmarked};
 use crate::region::{Region, Seat};
-use crate::rule::{enter_as, hand_as, take_as};
+use crate::rule::{enter_as, hand_as, take_as, tell_as};
 use pa_machine::Item;
 use std::marker::{Brand, Model};
 
@@ -73,13 +74,14 @@ impl Region {
     }
 
     /// Takes in a note: the seat has then all that both had, and has seen what either has seen. Where the note has a
-    /// stake, the seat has no poisoned Own.
+    /// stake, the seat has no poisoned Own. A second load, which changes nothing, tells what the rule says of the view.
     pub fn take(&self, seat: &mut Seat, note: Note)
         requires region { (seat.old.region ≡ self.now) × (note.region ≡ self.now) }
         requires able { (k : ℕ) (t : Title) → 0 < stake_of note.view k → poisoned_of seat.old.view t ≡ 0 }
         ensures region { seat.new.region ≡ seat.old.region }
         ensures view { seat.new.view ≡ united seat.old.view note.view }
         ensures parted { IsParted seat.new.view seat.old.view note.view }
+        ensures aware { IsAware seat.new.view }
     {
         let Note { seat: other } = note;
         let Seat {
@@ -88,6 +90,7 @@ impl Region {
         } = other;
         let _ = &seat.seat;
         take_as::<Brand>(&self.table, &mut seat.seat, other);
+        tell_as::<Brand>(&self.table, &mut seat.seat);
         seat.stakes = both(&seat.stakes, &stakes);
     }
 

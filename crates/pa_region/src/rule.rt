@@ -205,3 +205,13 @@ pub fn take_as<T: Taking>(table: &Words, seat: &mut Seat<(), View>, other: Seat<
 {
     table.shared.join_seat::<Taken<T>>(seat, other)
 }
+
+// One load of word 0, which changes no view and tells what the rule says of one.
+pub fn tell_as<T: Telling>(table: &Words, seat: &mut Seat<(), View>)
+    requires region { (seat.old.table_id ≡ table.now.shared.table_id) × (0 < table.now.shared.table_id.words) }
+    requires allowed { Allows (λ (s : TableState (Unit {0}) View). IsKept s.words s.views) table.now.shared.table_id.slots seat.old.id seat.old.me 0 (λ n. n) (T.then seat.old.me) }
+    ensures seat { (seat.new.table_id ≡ seat.old.table_id) × (seat.new.id ≡ seat.old.id) }
+    ensures told { (word : ℕ) × T.then seat.old.me word seat.new.me }
+{
+    table.shared.load::<Told<T>>(seat, 0);
+}

@@ -1,6 +1,5 @@
-use Rattle.std.proofs.Common.{◌≡◌, ℕ, ◌<◌, false, not, ◌&&◌, ◌||◌, length}
+use Rattle.std.proofs.Common.{◌≡◌, ℕ, ◌<◌, false, ◌||◌, length}
 use Rattle.std.specs.Prelude.{slice_index_or}
-use Rattle.pa_region.specs.Marks.{marked_stake}
 use Rattle.pa_region.proofs.marks.both.Given as goal
 
 abbrev pub invariant-loop-k : goal.invariant-loop-k

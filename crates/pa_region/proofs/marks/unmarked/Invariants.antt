@@ -1,4 +1,4 @@
-use Rattle.std.proofs.Common.{◌≡◌, ℕ, ◌<◌, false, not, ◌&&◌, ◌||◌, length}
+use Rattle.std.proofs.Common.{◌≡◌, ℕ, ◌<◌, false, not, ◌&&◌, length}
 use Rattle.std.specs.Prelude.{slice_index_or}
 use Rattle.pa_region.specs.Marks.{marked_stake}
 use Rattle.pa_region.proofs.marks.unmarked.Given as goal

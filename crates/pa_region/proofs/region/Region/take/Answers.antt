@@ -7,6 +7,8 @@ use Rattle.pa_region.specs.Waiting.{poisoned_of, unclean_of}
 use Rattle.pa_region.specs.Hands.{CanTake, IsParted, united}
 use Rattle.pa_region.specs.Marks.{AreStakes}
 use Rattle.pa_region.specs.Shares.{Share, IsSound}
+use Rattle.pa_region.specs.Aware.{IsAware}
+use Rattle.pa_region.proofs.Awareness.{aware_allowed}
 use Rattle.pa_region.proofs.JoinStep.{united_parts}
 use Rattle.pa_region.proofs.HandSound.{united_sound, take_allowed}
 use Rattle.pa_region.proofs.SeatStakes.{both_stakes}
@@ -31,11 +33,12 @@ invariant_of-seat c =
     let v = c.seat.inside.seat.me.0 in
     let w = c.other.inside.seat.me.0 in
     let mine = c.take_as.ensures.seat in
-    let view = ap (λ m. m.0) mine.2 in
+    let told = c.tell_as.ensures.told.1 in
+    let view = told.0 ∙ ap (λ m. m.0) mine.2 in
     let same : c.other.inside.seat.table_id ≡ c.seat.inside.seat.table_id =
     ap (λ (h : Share). h.region) (c.other.view_is ∙ c.note.view_is) ∙ (c.requires.region.1 ∙ (sym c.requires.region.0 ∙ sym (ap (λ (h : Share). h.region) c.seat.view_is))) in (
-      ap (λ m. m.1) mine.2 ∙ c.seat.invariant.0,
-      subst (λ (z : TableId). IsSound z c.take_as.new.seat.me.0) (sym mine.0)
+      told.1 ∙ (ap (λ m. m.1) mine.2 ∙ c.seat.invariant.0),
+      subst (λ (z : TableId). IsSound z c.tell_as.new.seat.me.0) (sym (c.tell_as.ensures.seat.0 ∙ mine.0))
           (subst (λ (u : View). IsSound c.seat.inside.seat.table_id u) (sym view)
           (united_sound c.seat.inside.seat.table_id v w c.seat.invariant.1 (subst (λ (z : TableId). IsSound z w) same c.other.invariant.1))),
       subst (λ (u : View). AreStakes c.both-seat-inside.result u) (sym view)
@@ -44,12 +47,26 @@ invariant_of-seat c =
 
 pub returns-clause-view : goal.returns-clause-view
 returns-clause-view c =
-    ap (λ m. m.0) c.take_as.ensures.seat.2
-    ∙ (ap (λ (h : Share). united h.view c.other.inside.seat.me.0) c.seat.view_is ∙ ap (λ (h : Share). united c.args.seat.now.view h.view) (c.other.view_is ∙ c.note.view_is))
+    c.tell_as.ensures.told.1.0
+    ∙ (ap (λ m. m.0) c.take_as.ensures.seat.2
+    ∙ (ap (λ (h : Share). united h.view c.other.inside.seat.me.0) c.seat.view_is ∙ ap (λ (h : Share). united c.args.seat.now.view h.view) (c.other.view_is ∙ c.note.view_is)))
 
 pub returns-clause-parted : goal.returns-clause-parted
 returns-clause-parted c =
-    let view : c.take_as.new.seat.me.0 ≡ united c.args.seat.now.view c.args.note.view =
-    ap (λ m. m.0) c.take_as.ensures.seat.2
-    ∙ (ap (λ (h : Share). united h.view c.other.inside.seat.me.0) c.seat.view_is ∙ ap (λ (h : Share). united c.args.seat.now.view h.view) (c.other.view_is ∙ c.note.view_is)) in
+    let view : c.tell_as.new.seat.me.0 ≡ united c.args.seat.now.view c.args.note.view =
+    c.tell_as.ensures.told.1.0
+    ∙ (ap (λ m. m.0) c.take_as.ensures.seat.2
+    ∙ (ap (λ (h : Share). united h.view c.other.inside.seat.me.0) c.seat.view_is ∙ ap (λ (h : Share). united c.args.seat.now.view h.view) (c.other.view_is ∙ c.note.view_is))) in
     subst (λ (u : View). IsParted u c.args.seat.now.view c.args.note.view) (sym view) (united_parts c.args.seat.now.view c.args.note.view)
+
+pub tell_as-requires-clause-region : goal.tell_as-requires-clause-region
+tell_as-requires-clause-region c = (
+  c.take_as.ensures.seat.0 ∙ (ap (λ (h : Share). h.region) c.seat.view_is ∙ (c.requires.region.0 ∙ sym c.self.view_is)),
+  c.self.invariant.1,
+)
+
+pub tell_as-requires-clause-allowed : goal.tell_as-requires-clause-allowed
+tell_as-requires-clause-allowed c = aware_allowed c.self.inside.table.shared.table_id.slots c.take_as.new.seat.id 0 c.take_as.new.seat.me
+
+pub returns-clause-aware : goal.returns-clause-aware
+returns-clause-aware c = subst (λ (u : View). IsAware u) (sym c.tell_as.ensures.told.1.0) c.tell_as.ensures.told.1.2
