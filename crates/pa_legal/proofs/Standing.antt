@@ -40,7 +40,7 @@ had None = 0
 had (Some n) = 1
 
 -- it goes out and back as its numbers say
-walk : (at : Option ℕ) (ms : List Move) → IsNumbered at ms → had at + counted is_back ms ≡ had (at_end at ms) + counted is_out ms
+pub walk : (at : Option ℕ) (ms : List Move) → IsNumbered at ms → had at + counted is_back ms ≡ had (at_end at ms) + counted is_out ms
 walk at [] h = refl
 walk at (m ∷ ms) (has, rest) =
     let ih = walk (at_after m.way m.number) ms rest in
@@ -121,7 +121,7 @@ journal_back s (e ∷ es) =
     let ih = journal_back s es in
     omega arith
 
-none_had : (at : Option ℕ) → had at ≡ 0 → at ≡ None
+pub none_had : (at : Option ℕ) → had at ≡ 0 → at ≡ None
 none_had None e = refl
 none_had (Some n) e = absurd (omega arith)
 

@@ -1,0 +1,5 @@
+pub mod Deeds
+pub mod Pooled
+pub mod Laws
+pub mod Ops
+pub mod Onward

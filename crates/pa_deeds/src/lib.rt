@@ -1,0 +1,12 @@
+//! What a line more of a trace does to the pool, the roots and the caches: an op owes one deed, and all else is one law.
+//! Laws alone; nothing here runs.
+#![tactic(auto)]
+
+mod laws;
+
+pub use laws::{
+    caches_stay, fill_is_done, front_leaves, full_is_done, full_map_is_done, line_extends,
+    line_passes, line_replays, lists_are_out, map_is_done, maps_are_taken, nothing_moves,
+    parts_are_out, phase_ends, placed_are_roots, pool_extends, purge_is_done, return_is_done,
+    run_goes_on, same_is_placed, starts_empty, unmap_is_done,
+};

@@ -1,0 +1,15 @@
+mod Marking
+mod Histories
+mod Lines
+mod Numbers
+mod Handles
+mod Contents
+mod Rows
+mod Words
+mod Turn
+mod Balance
+mod Starting
+mod Ops
+mod Looking
+mod Swapping
+mod Ending
