@@ -1,0 +1,12 @@
+pub mod Lists
+pub mod Simple
+pub mod Walks
+pub mod Ordering
+pub mod Exchanges
+pub mod Runs
+pub mod Pool
+pub mod Journals
+pub mod Titles
+pub mod Moves
+pub mod Holding
+pub mod Verdict

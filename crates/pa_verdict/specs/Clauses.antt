@@ -1,0 +1,75 @@
+-- For each clause of a legal run, that it holds exactly where each place of the run meets what the clause asks of it.
+use Rattle.std.specs.Prelude.{◌↔◌}
+use Rattle.pa_trace.specs.declared.script.Trace.{Trace}
+use Rattle.pa_machine.specs.Run.{Slots}
+use Rattle.pa_rules.specs.declared.verdict.Clause.{Clause}
+use Rattle.pa_rules.specs.declared.verdict.Clause.TheVariants as clauses
+use Rattle.pa_rules.specs.declared.verdict.Place.{Place}
+use Rattle.pa_rules.specs.Told.{Told, records_of}
+use Rattle.pa_rules.specs.Played.{AreDue, marks_of}
+use Rattle.pa_rules.specs.Cells.{AreCells}
+use Rattle.pa_rules.specs.Registers.{AreRegisters}
+use Rattle.pa_rules.specs.Contents.{AreContents}
+use Rattle.pa_rules.specs.Roots.{IsPoolOf, AreRoots, AreAllTitles}
+use Rattle.pa_rules.specs.Holders.{AreHolders}
+use Rattle.pa_rules.specs.Caches.{AreCaches}
+use Rattle.pa_rules.specs.Seen.{IsSeenInOrder}
+use Rattle.pa_rules.specs.Report.{IsReport}
+use Rattle.pa_rules.specs.Sizes.{usable_of}
+use Rattle.pa_rules.specs.Legal.{phases_in}
+use Rattle.pa_rules.specs.Verdicts.{Demand}
+
+-- each place meets what the clause asks of it
+abbrev pub IsMet : Clause → Trace → Told → Type 0
+IsMet c t r = (place : Place) → Demand c t r place
+
+-- the clauses that ask for nothing of those before them
+abbrev pub LinesArePlaces : Type 0
+LinesArePlaces = (t : Trace) (r : Told) → AreDue t.lines r.entries ↔ IsMet clauses.Lines t r
+
+abbrev pub RegistersArePlaces : Type 0
+RegistersArePlaces = (t : Trace) (r : Told) → AreRegisters usable_of r.cells (records_of t r) ↔ IsMet clauses.Registers t r
+
+abbrev pub ContentsArePlaces : Type 0
+ContentsArePlaces = (t : Trace) (r : Told) → AreContents usable_of r.cells (records_of t r) ↔ IsMet clauses.Contents t r
+
+abbrev pub CachesArePlaces : Type 0
+CachesArePlaces = (t : Trace) (r : Told) → AreCaches t.partitions r.roots (records_of t r) ↔ IsMet clauses.Caches t r
+
+abbrev pub SeenIsPlaces : Type 0
+SeenIsPlaces = (t : Trace) (r : Told) → IsSeenInOrder r.cells (records_of t r) ↔ IsMet clauses.Seen t r
+
+abbrev pub ReportIsPlaces : Type 0
+ReportIsPlaces =
+    (t : Trace) (r : Told) →
+    IsReport (phases_in t.lines) t.partitions t.threads (records_of t r) r.pools r.roots r.report ↔ IsMet clauses.Report t r
+
+-- the clauses that ask for the lines alone
+abbrev pub CellsArePlaces : Type 0
+CellsArePlaces = (t : Trace) (r : Told) → AreDue t.lines r.entries → AreCells r.cells (records_of t r) ↔ IsMet clauses.Cells t r
+
+abbrev pub SlotsArePlaces : Type 0
+SlotsArePlaces = (t : Trace) (r : Told) → AreDue t.lines r.entries → Slots (marks_of (records_of t r)) ↔ IsMet clauses.Slots t r
+
+abbrev pub PoolIsPlaces : Type 0
+PoolIsPlaces =
+    (t : Trace) (r : Told) → AreDue t.lines r.entries →
+    IsPoolOf t.region (records_of t r) r.pools r.roots ↔ IsMet clauses.Pool t r
+
+abbrev pub RootsArePlaces : Type 0
+RootsArePlaces =
+    (t : Trace) (r : Told) → AreDue t.lines r.entries →
+    AreRoots t.partitions (records_of t r) r.pools r.roots ↔ IsMet clauses.Roots t r
+
+-- Titles of the journals up to each line are those of the whole journals. Where the journals and the pool's entries are
+-- right, so are they at each place: the clause is never the first that fails.
+pub record TitlesArePlaces : Type 0 where
+  pub whole : (t : Trace) (r : Told) → IsMet clauses.Titles t r → AreAllTitles r.pools r.roots
+  pub met : (t : Trace) (r : Told) → AreRoots t.partitions (records_of t r) r.pools r.roots
+      → IsPoolOf t.region (records_of t r) r.pools r.roots → IsMet clauses.Titles t r
+
+-- the clause that asks for the lines and the slots, by which a free slot has one first holder
+abbrev pub HoldersArePlaces : Type 0
+HoldersArePlaces =
+    (t : Trace) (r : Told) → AreDue t.lines r.entries → Slots (marks_of (records_of t r)) →
+    AreHolders (records_of t r) r.roots ↔ IsMet clauses.Holders t r
