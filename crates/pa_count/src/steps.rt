@@ -114,7 +114,7 @@ mod tests {
     use std::thread;
 
     #[test]
-    #[tactic(auto, using(pa_region::proofs::Opens::blank_at))]
+    #[tactic(auto, using(pa_region::proofs::FirstLists::blank_at))]
     fn a_slot_is_issued_and_pointed_to(rt: HostRuntime) -> Result<(), Fail> {
         let first = Title {
             start: 0x4000,
@@ -153,7 +153,7 @@ mod tests {
 
     // A region has one seat until seats can be split, so the two threads have it one after the other.
     #[test]
-    #[tactic(auto, using(pa_region::proofs::Opens::blank_at))]
+    #[tactic(auto, using(pa_region::proofs::FirstLists::blank_at))]
     fn two_threads_reset_a_slot(rt: HostRuntime) -> Result<(), Fail> {
         let title = Title {
             start: 0x4000,
