@@ -13,3 +13,4 @@ mod Ops
 mod Looking
 mod Swapping
 mod Ending
+mod Worked

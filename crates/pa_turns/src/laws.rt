@@ -1,4 +1,5 @@
 ghost use Rattle.pa_turns.specs.Laws.{CopyGoesOn, EndsRight, FreeGoesOn, HandleLets, LikeIsTold, LookGoesOn, MadeGoesOn, NoneGoesOn, PhaseGoesOn, ResetGoesOn, StartsTold, SwapGoesOn, WriteGoesOn};
+ghost use Rattle.pa_turns.specs.Worked.{WorkedTurns};
 
 /// The law that before the first line nothing is told.
 pub fn starts_told()
@@ -63,4 +64,9 @@ pub fn handle_lets()
 /// The law that what was told so far is as the rules ask.
 pub fn ends_right()
     ensures { EndsRight }
+{}
+
+/// The law that the turns of a slot which is made, pointed to, freed and left go on one after the other.
+pub fn worked_turns()
+    ensures { WorkedTurns }
 {}

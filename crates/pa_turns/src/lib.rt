@@ -6,5 +6,6 @@ mod laws;
 
 pub use laws::{
     copy_goes_on, ends_right, free_goes_on, handle_lets, like_is_told, look_goes_on, made_goes_on,
-    none_goes_on, phase_goes_on, reset_goes_on, starts_told, swap_goes_on, write_goes_on,
+    none_goes_on, phase_goes_on, reset_goes_on, starts_told, swap_goes_on, worked_turns,
+    write_goes_on,
 };
