@@ -10,3 +10,6 @@ pub mod Titles
 pub mod Moves
 pub mod Holding
 pub mod Verdict
+pub mod WrongRuns
+pub mod Refused
+pub mod Astray

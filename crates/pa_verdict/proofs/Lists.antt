@@ -40,6 +40,10 @@ at_map f xs i x at = slice_get-map f xs i ∙ ap (option_map f) at
 pub one_at : {A : Type 0} (xs : List A) (i : ℕ) (x y : A) → slice_get xs i ≡ Some x → slice_get xs i ≡ Some y → x ≡ y
 one_at xs i x y at at' = of_some x y (sym at ∙ at')
 
+-- what holds of one element holds of what has its place
+pub shown : {A : Type 0} (P : A → Type 0) (x y : A) → P x → Some x ≡ Some y → P y
+shown P x y h e = subst P (of_some x y e) h
+
 -- the last place of a list that isn't empty
 pub record IsEnd {A : Type 0} (xs : List A) : Type 0 where
   pub place : ℕ
