@@ -11,6 +11,10 @@ pub mod Threads
 pub mod ThreadsRead
 pub mod ThreadsHeld
 pub mod ThreadsReport
+pub mod Early
+pub mod EarlyRead
+pub mod EarlyHeld
+pub mod EarlyLegal
 pub mod Runs
 pub mod Told
 pub mod Moves

@@ -5,3 +5,4 @@ pub mod WorkedPurge
 pub mod WorkedOnly
 pub mod WorkedHeld
 pub mod WorkedKnown
+pub mod WorkedEarly

@@ -1,5 +1,6 @@
 ghost use Rattle.pa_one_run.specs.Laws.{AtMostOneFileRun, OneThreadInFileOrder};
 ghost use Rattle.pa_one_run.specs.Worked.{DirectMapIsFiled, DirectMapIsTold, TwoThreadsAreLegal, TwoThreadsAreTold};
+ghost use Rattle.pa_one_run.specs.WorkedEarly.{EarlyReadIsLegal, EarlyReadIsTold};
 ghost use Rattle.pa_one_run.specs.WorkedHeld.{MapIsHeld, WordsAreHeld};
 ghost use Rattle.pa_one_run.specs.WorkedKnown.{DirectMapIsKnown, TwoThreadsAreKnown};
 ghost use Rattle.pa_one_run.specs.WorkedOnly.{OnlyDirectMaps, OnlyPurge, OnlyWrites};
@@ -29,6 +30,14 @@ pub fn worked_direct_maps_are_legal()
 pub fn worked_threads_are_legal()
     ensures told { TwoThreadsAreTold }
     ensures legal { TwoThreadsAreLegal }
+{}
+
+/// A run of two threads, which was worked out by hand, is legal: one reads a slot and hands its raw_ptr back before the
+/// other frees the slot, and yet finds poison. So the clause of contents lets poison through that no free can have left
+/// there by then. There is such a run, and its trace is within the limits.
+pub fn worked_early_read_is_legal()
+    ensures told { EarlyReadIsTold }
+    ensures legal { EarlyReadIsLegal }
 {}
 
 /// A run of one thread with writes and reads, which was worked out by hand, is the run of its trace in the order of its

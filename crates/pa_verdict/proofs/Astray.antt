@@ -1,7 +1,9 @@
 -- The run in which an allocation got a slot of another partition fails where it asks for the slot.
-use Rattle.std.proofs.Common.{◌≡◌, ℕ, zero, suc, ◌+◌, ◌<◌, ◌≤◌, max, List, [], ◌∷◌, Option, Some, None, refl, sym, ◌∙◌, ap, subst, arith, inl, inr, lit<, lit≤}
-use Rattle.std.specs.Prelude.{Contains, slice_get}
+use Rattle.std.proofs.Common.{◌≡◌, ℕ, zero, suc, ◌<◌, List, [], ◌∷◌, Option, Some, refl, sym, ◌∙◌, ap, subst, arith, inl, inr, lit<, lit≤}
+use Rattle.std.specs.Prelude.{slice_get}
+use Rattle.std.specs.List.{AllByRecursion}
 use Rattle.pa_machine.specs.Count.{number_of}
+use Rattle.pa_machine.specs.Run.{Slots}
 use Rattle.pa_machine.specs.declared.word.SlotName.{SlotName}
 use Rattle.pa_buckets.specs.Table.{rows, row_of, slot_of}
 use Rattle.pa_buckets.specs.Classes.{IsClassOf}
@@ -11,8 +13,7 @@ use Rattle.pa_record.specs.declared.entry.Seen.{Seen}
 use Rattle.pa_record.specs.declared.entry.Answer.TheVariants as answers
 use Rattle.pa_record.specs.declared.numbered.Numbered.{Numbered}
 use Rattle.pa_record.specs.declared.root.RootEntry.{RootEntry}
-use Rattle.pa_record.specs.declared.root.RootAct.{RootAct}
-use Rattle.pa_record.specs.declared.root.RootAct.TheVariants.{Fill, Map, Unmap}
+use Rattle.pa_record.specs.declared.root.RootAct.TheVariants.{Fill, Unmap}
 use Rattle.pa_record.specs.declared.run.Run.{Run}
 use Rattle.pa_record.specs.Worked.{slots, fill}
 use Rattle.pa_record.proofs.Members.{of_some, not_some}
@@ -20,14 +21,20 @@ use Rattle.pa_rules.specs.declared.played.Played.{Played}
 use Rattle.pa_rules.specs.declared.verdict.Clause.TheVariants as clauses
 use Rattle.pa_rules.specs.declared.verdict.Place.{Place}
 use Rattle.pa_rules.specs.declared.verdict.Place.TheVariants as places
-use Rattle.pa_rules.specs.Told.{Told, told_by, records_of}
+use Rattle.pa_rules.specs.Told.{records_of}
 use Rattle.pa_rules.specs.Places.{line_at}
 use Rattle.pa_rules.specs.Roots.{Journals, IsEntry}
-use Rattle.pa_rules.specs.Holders.{Holder, InRoot, WithThread, moves_at, IsHeld, IsOfSlot}
-use Rattle.pa_rules.specs.HeapDemands.{RecordHolds}
+use Rattle.pa_rules.specs.Played.{AreDue, marks_of}
+use Rattle.pa_rules.specs.Holders.{InRoot, Move, moves_at, HasHolders, AreHolders}
 use Rattle.pa_rules.specs.Caches.{Cache, Caches, CacheRow, CachesTo, FilledFirst, FrontIs, acts_of, no_caches, with_list}
-use Rattle.pa_rules.specs.Verdicts.{Demand, FailsAt}
+use Rattle.pa_rules.specs.Verdicts.{Demand}
+use Rattle.pa_rules.proofs.Recorded.{records_are_lines}
+use Rattle.pa_one_run.proofs.worked.Lists.{each}
+use Rattle.pa_one_run.proofs.worked.Holders.{HasIt, IsIssued, issued, all_have_holders}
+use Rattle.pa_one_run.proofs.worked.Moves.{all_hold-true, moves_of}
+use Rattle.pa_one_run.proofs.worked.Slots.{Worded, worded_slots}
 use Rattle.pa_verdict.specs.WrongRuns.{seen_at, first_slots, second_slots, astray_trace, astray_told, AstrayFails}
+use Rattle.pa_verdict.proofs.Holding.{holders_are_places}
 use Rattle.pa_verdict.proofs.Lists.{shown}
 use Rattle.pa_verdict.proofs.WrongRuns.{apart}
 
@@ -110,16 +117,52 @@ caches_met r (places.Report i) less = tt
 
 -- ---- holders
 
-abbrev the_slot : SlotName
-the_slot = record { start = 16400; born = 0 }
+due : AreDue astray_trace.lines astray_told.entries
+due = records_are_lines.due astray_trace.lines ps refl
 
-none_else : (q : ℕ) → (q ≡ 0 → ⊥) → moves_at (roots q) the_slot 0 ≡ []
-none_else zero ne = absurd (ne refl)
-none_else (suc zero) ne = refl
-none_else (suc (suc q)) ne = refl
+-- the words of the two slots
+abbrev words : List Worded
+words =
+    record { slot = (seen_at 16384 0 0).slot; words = 0x1000001 ∷ [] }
+    ∷ record { slot = (seen_at 16400 0 0).slot; words = 0x1000001 ∷ [] }
+    ∷ []
 
-is_held : IsHeld ps roots the_slot 0 (WithThread 0)
-is_held = (0, InRoot, none_else, inl (refl, refl), (first_record, ((0, lit< tt, refl), refl), refl))
+one_run_each : Slots (marks_of ps)
+one_run_each = worded_slots (marks_of ps) words refl
+
+abbrev first_moves : List Move
+first_moves = moves_of (roots 0)
+
+abbrev second_moves : List Move
+second_moves = moves_of (roots 1)
+
+each_move : (p : ℕ) (s : SlotName) (k : ℕ) → HasHolders ps s k (moves_at (roots p) s k)
+each_move zero s k = all_have_holders ps first_moves (all_hold-true ps first_moves first_moves refl) s k
+each_move (suc zero) s k = all_have_holders ps second_moves (all_hold-true ps second_moves second_moves refl) s k
+each_move (suc (suc p)) s k = tt
+
+-- only the first journal names the two
+abbrev IsAlone : Seen → Type 0
+IsAlone seen = (q : ℕ) → (q ≡ 0 → ⊥) → moves_at (roots q) seen.slot 0 ≡ []
+
+first_alone : IsAlone (seen_at 16384 0 0)
+first_alone zero ne = absurd (ne refl)
+first_alone (suc zero) ne = refl
+first_alone (suc (suc q)) ne = refl
+
+second_alone : IsAlone (seen_at 16400 0 0)
+second_alone zero ne = absurd (ne refl)
+second_alone (suc zero) ne = refl
+second_alone (suc (suc q)) ne = refl
+
+first_held : HasIt ps roots 0 (seen_at 16384 0 0)
+first_held = (0, InRoot, first_alone, inl (refl, refl), (first_record, ((0, lit< tt, refl), refl), refl))
+
+second_held : HasIt ps roots 0 (seen_at 16400 0 0)
+second_held = (0, InRoot, second_alone, inl (refl, refl), (first_record, ((0, lit< tt, refl), refl), refl))
+
+all_issued : AllByRecursion (IsIssued ps roots) ps
+all_issued = (issued ps roots 0 (seen_at 16384 0 0) 8 first_held, (issued ps roots 0 (seen_at 16400 0 0) 8 second_held, tt))
 
 filled_act : (p i : ℕ) (e : RootEntry) → IsEntry roots p i e → (class : ℕ) × (asked : Option ℕ) × (xs : List Numbered) × (e.act ≡ Fill class asked xs)
 filled_act zero zero e at = (0, Some 0, slots 0 0 first_slots, ap (λ (z : RootEntry). z.act) (sym (of_some (fill 2 0 (Some 0) (slots 0 0 first_slots)) e at)))
@@ -131,23 +174,20 @@ filled_act (suc (suc p)) i e at = absurd (not_some e at)
 not_unmap : (class asked : ℕ) (from : Option ℕ) (xs : List Numbered) (slot : Numbered) → Fill class from xs ≡ Unmap asked slot → ⊥
 not_unmap class asked from xs slot e = absurd cc
 
-second_holds : RecordHolds ps roots second_record
-second_holds = record {
-  issues = λ seen usable made.
-      let told : answers.Made (seen_at 16400 0 0) 8 ≡ answers.Made seen usable = made in
-      let same : seen_at 16400 0 0 ≡ seen = cc in
-      subst (λ (z : Seen). IsHeld ps roots z.slot (number_of z.found.0) (WithThread 0)) same is_held;
-  gone = λ p i asked n slot e at act of.
-      let (class, from, xs, is) = filled_act p i e at in
-      absurd (not_unmap class asked from xs slot (sym is ∙ act));
-}
+none_goes : (p i asked : ℕ) (slot : Numbered) (e : RootEntry) → IsEntry roots p i e → e.act ≡ Unmap asked slot → ⊥
+none_goes p i asked slot e at act = let (class, from, xs, is) = filled_act p i e at in not_unmap class asked from xs slot (sym is ∙ act)
 
-holders_met : Demand clauses.Holders astray_trace astray_told (places.Record 1)
-holders_met = λ x at. shown (RecordHolds ps roots) second_record x second_holds at
+held : AreHolders ps roots
+held = record {
+  moves = each_move;
+  issues = λ x seen usable among made. each (IsIssued ps roots) ps all_issued x among seen usable made;
+  gone_from_journal = λ p i j asked slot e f at act at' less named. none_goes p i asked slot e at act;
+  gone_from_records = λ p i asked n slot e x at act among of. absurd (none_goes p i asked slot e at act);
+}
 
 pub astray_fails : AstrayFails
 astray_fails r tells = (
-  subst (λ u. Demand clauses.Holders astray_trace u (places.Record 1)) (sym tells) holders_met,
+  λ place. subst (λ u. Demand clauses.Holders astray_trace u place) (sym tells) ((holders_are_places astray_trace astray_told due one_run_each).0 held place),
   record {
     place = places.Record 1;
     line = refl;

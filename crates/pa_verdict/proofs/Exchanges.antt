@@ -1,6 +1,6 @@
 -- The clause of the cells, exchange by exchange.
-use Rattle.std.proofs.Common.{◌≡◌, ℕ, zero, suc, ◌+◌, ◌<◌, ◌⊎◌, List, [], ◌∷◌, Some, refl, sym, ◌∙◌, ap, arith, inl, inr}
-use Rattle.std.specs.Prelude.{Contains, AllPairs, slice_get}
+use Rattle.std.proofs.Common.{◌≡◌, ℕ, zero, suc, ◌⊎◌, List, [], ◌∷◌, Some, refl, sym, ◌∙◌, ap, arith, inl, inr}
+use Rattle.std.specs.Prelude.{slice_get}
 use Rattle.std.proofs.lemmas.Bool.{cases_order}
 use Rattle.pa_trace.specs.declared.script.Trace.{Trace}
 use Rattle.pa_record.specs.declared.history.CellEntry.{CellEntry}
@@ -9,10 +9,8 @@ use Rattle.pa_record.specs.declared.history.Held.TheVariants.{Nothing}
 use Rattle.pa_record.proofs.Members.{of_some, not_some}
 use Rattle.pa_rules.specs.declared.played.Played.{Played}
 use Rattle.pa_rules.specs.declared.verdict.Clause.TheVariants as clauses
-use Rattle.pa_rules.specs.declared.verdict.Place.{Place}
 use Rattle.pa_rules.specs.declared.verdict.Place.TheVariants as places
 use Rattle.pa_rules.specs.Told.{Told, records_of}
-use Rattle.pa_rules.specs.Played.{AreDue}
 use Rattle.pa_rules.specs.Cells.{IsChain, IsExchange, AreCells}
 use Rattle.pa_rules.specs.RecordDemands.{WasGiven, IsAbove, ExchangeFits}
 use Rattle.pa_verdict.specs.Clauses.{IsMet, CellsArePlaces}

@@ -1,5 +1,5 @@
 -- The clause of the holders, record by record and entry by entry.
-use Rattle.std.proofs.Common.{◌≡◌, ℕ, ◌+◌, ◌≤◌, true, List, [], ◌∷◌, ◌++◌, refl, subst, sym, ◌∙◌, ap, arith, inl, inr}
+use Rattle.std.proofs.Common.{◌≡◌, ℕ, ◌+◌, true, List, [], ◌∷◌, ◌++◌, refl, subst, sym, ◌∙◌, ap, arith, inl, inr}
 use Rattle.std.specs.Prelude.{Contains, AllPairs}
 use Rattle.std.proofs.lemmas.Bool.{eq-eqb, eqb-true, and_parts}
 use Rattle.pa_trace.specs.declared.script.Trace.{Trace}
@@ -11,12 +11,11 @@ use Rattle.pa_record.specs.declared.root.RootEntry.{RootEntry}
 use Rattle.pa_record.proofs.Members.{not_in_none, in_cases}
 use Rattle.pa_rules.specs.declared.played.Played.{Played}
 use Rattle.pa_rules.specs.declared.verdict.Clause.TheVariants as clauses
-use Rattle.pa_rules.specs.declared.verdict.Place.{Place}
 use Rattle.pa_rules.specs.declared.verdict.Place.TheVariants as places
 use Rattle.pa_rules.specs.Told.{Told, records_of}
-use Rattle.pa_rules.specs.Played.{AreDue, marks_of}
+use Rattle.pa_rules.specs.Played.{marks_of}
 use Rattle.pa_rules.specs.Roots.{Journals, IsEntry, IsOfLine}
-use Rattle.pa_rules.specs.Holders.{Holder, InRoot, WithThread, Move, is_move_of, moves_at, IsReturnedBy, IsFirstHolder, made_by, needed_by, HolderAfter, MovesFit, HasHolders, AreHolders}
+use Rattle.pa_rules.specs.Holders.{Holder, WithThread, Move, is_move_of, moves_at, IsReturnedBy, IsFirstHolder, made_by, needed_by, HolderAfter, MovesFit, HasHolders, AreHolders}
 use Rattle.pa_rules.specs.HeapDemands.{MovesOfEntryFit, RecordHolds}
 use Rattle.pa_rules.proofs.Marking.{mark_line}
 use Rattle.pa_rules.proofs.Running.{OtherRecord, one_mark, run_rises, marks_differ}
@@ -25,7 +24,7 @@ use Rattle.pa_rules.proofs.Phases.{mark_in}
 use Rattle.pa_verdict.specs.Clauses.{IsMet, HoldersArePlaces}
 use Rattle.pa_verdict.proofs.Lists.{at_in, in_at}
 use Rattle.pa_verdict.proofs.Ordering.{due_differ}
-use Rattle.pa_verdict.proofs.Moves.{entry_moves, moves_before, moves_split, IsMoveAt, move_place}
+use Rattle.pa_verdict.proofs.Moves.{entry_moves, moves_before, moves_split, move_place}
 
 -- ---- from the clause to each place
 

@@ -1,5 +1,5 @@
 -- Entries in the order of their records: said of each two of them, and of each one and those before it.
-use Rattle.std.proofs.Common.{◌≡◌, ℕ, zero, suc, ◌+◌, ◌<◌, ◌⊎◌, List, Some, refl, sym, ◌∙◌, ap, subst, arith, inl, inr}
+use Rattle.std.proofs.Common.{◌≡◌, ℕ, ◌<◌, List, Some, sym, ◌∙◌, ap, subst, arith, inl, inr}
 use Rattle.std.specs.Prelude.{Contains, AllPairs, slice_get, map}
 use Rattle.std.proofs.lemmas.Bool.{cases_order}
 use Rattle.pa_trace.specs.declared.script.Trace.{Trace}

@@ -1,5 +1,5 @@
 -- The clause of the pool, entry by entry.
-use Rattle.std.proofs.Common.{◌≡◌, ℕ, zero, suc, ◌<◌, List, [], ◌∷◌, take, Some, refl, subst, sym, ap}
+use Rattle.std.proofs.Common.{◌≡◌, ℕ, zero, suc, List, [], ◌∷◌, take, Some, refl, subst}
 use Rattle.std.specs.Prelude.{slice_get}
 use Rattle.pa_trace.specs.declared.script.Trace.{Trace}
 use Rattle.pa_record.specs.declared.pool.PoolEntry.{PoolEntry}
@@ -7,10 +7,8 @@ use Rattle.pa_record.specs.Pool.{PoolState, PoolActFits, PoolReplays, new_pool, 
 use Rattle.pa_record.proofs.Members.{of_some, not_some}
 use Rattle.pa_rules.specs.declared.played.Played.{Played}
 use Rattle.pa_rules.specs.declared.verdict.Clause.TheVariants as clauses
-use Rattle.pa_rules.specs.declared.verdict.Place.{Place}
 use Rattle.pa_rules.specs.declared.verdict.Place.TheVariants as places
 use Rattle.pa_rules.specs.Told.{Told, records_of}
-use Rattle.pa_rules.specs.Played.{AreDue}
 use Rattle.pa_rules.specs.Roots.{Journals, IsPoolOf}
 use Rattle.pa_rules.specs.HeapDemands.{IsPoolEntry, PoolEntryFits}
 use Rattle.pa_verdict.specs.Clauses.{IsMet, PoolIsPlaces}

@@ -1,17 +1,16 @@
 -- The run whose journal names an entry of the pool that isn't there fails at the line that does so first.
-use Rattle.std.proofs.Common.{◌≡◌, ℕ, zero, suc, ◌+◌, ◌<◌, ◌≤◌, true, List, [], ◌∷◌, Some, None, length, refl, sym, ◌∙◌, ap, subst, arith, inl, inr, lit<, lit≤}
-use Rattle.std.specs.Prelude.{Contains, slice_get}
+use Rattle.std.proofs.Common.{◌≡◌, ℕ, zero, suc, ◌<◌, true, List, [], ◌∷◌, Some, length, refl, sym, ◌∙◌, ap, subst, arith, lit<, lit≤}
+use Rattle.std.specs.Prelude.{slice_get}
 use Rattle.pa_buckets.specs.Table.{rows, row_of, slot_of, pages_of, slots_of}
 use Rattle.pa_buckets.specs.Bands.{fill_of}
 use Rattle.pa_buckets.specs.Classes.{IsClassOf}
 use Rattle.pa_trace.specs.declared.script.Op.TheVariants as ops
 use Rattle.pa_record.specs.declared.entry.Answer.TheVariants as answers
-use Rattle.pa_record.specs.declared.pool.PoolEntry.{PoolEntry}
 use Rattle.pa_record.specs.declared.root.RootEntry.{RootEntry}
 use Rattle.pa_record.specs.declared.run.Run.{Run}
 use Rattle.pa_record.specs.Worked.{slots, fill, full, pool_take}
 use Rattle.pa_record.specs.Pool.{IsPool, new_pool}
-use Rattle.pa_record.specs.Root.{new_root, RootReplays, asked_by}
+use Rattle.pa_record.specs.Root.{new_root, asked_by}
 use Rattle.pa_record.proofs.Members.{of_some, not_some}
 use Rattle.pa_record.proofs.Tested.{all_fit, all_fit-true, pool_all_fit-true}
 use Rattle.pa_rules.specs.declared.played.Played.{Played}
@@ -20,9 +19,9 @@ use Rattle.pa_rules.specs.declared.verdict.Place.{Place}
 use Rattle.pa_rules.specs.declared.verdict.Place.TheVariants as places
 use Rattle.pa_rules.specs.Told.{Told, told_by, records_of}
 use Rattle.pa_rules.specs.Places.{line_at}
-use Rattle.pa_rules.specs.Roots.{Names, IsEntry}
+use Rattle.pa_rules.specs.Roots.{Names}
 use Rattle.pa_rules.specs.HeapDemands.{PoolEntryFits, EntryFits}
-use Rattle.pa_rules.specs.Verdicts.{Demand, FailsAt}
+use Rattle.pa_rules.specs.Verdicts.{Demand}
 use Rattle.pa_verdict.specs.Clauses.{IsMet}
 use Rattle.pa_verdict.specs.WrongRuns.{seen_at, first_slots, refused_trace, refused_told, RefusedFails}
 use Rattle.pa_verdict.proofs.Lists.{shown}

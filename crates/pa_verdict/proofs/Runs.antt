@@ -1,6 +1,6 @@
 -- The clause of the slots, record by record: a slot has one run.
-use Rattle.std.proofs.Common.{◌≡◌, ℕ, ◌⊎◌, List, [], ◌∷◌, Option, Some, None, refl, sym, ◌∙◌, ap, subst, inl, inr}
-use Rattle.std.specs.Prelude.{Contains, AllPairs, slice_get}
+use Rattle.std.proofs.Common.{◌≡◌, ℕ, ◌⊎◌, List, [], ◌∷◌, Some, refl, sym, ◌∙◌, ap, subst, inl, inr}
+use Rattle.std.specs.Prelude.{Contains, AllPairs}
 use Rattle.pa_trace.specs.declared.script.Trace.{Trace}
 use Rattle.pa_machine.specs.declared.word.SlotName.{SlotName}
 use Rattle.pa_machine.specs.declared.word.Step.{Step}
@@ -8,12 +8,10 @@ use Rattle.pa_machine.specs.Count.{CanStep, stepped}
 use Rattle.pa_machine.specs.Run.{Mark, IsFirstAt, IsRunFrom, IsOneRun, Slots}
 use Rattle.pa_machine.proofs.Runs.{same_slot_cases}
 use Rattle.pa_record.proofs.Members.{not_in_none, first_in, later_in, in_cases, of_some}
-use Rattle.pa_rules.specs.declared.played.Played.{Played}
 use Rattle.pa_rules.specs.declared.verdict.Clause.TheVariants as clauses
-use Rattle.pa_rules.specs.declared.verdict.Place.{Place}
 use Rattle.pa_rules.specs.declared.verdict.Place.TheVariants as places
 use Rattle.pa_rules.specs.Told.{Told, records_of}
-use Rattle.pa_rules.specs.Played.{mark_of, marks_of}
+use Rattle.pa_rules.specs.Played.{marks_of}
 use Rattle.pa_rules.proofs.Running.{OtherLine, one_mark, mark_from, marks_differ}
 use Rattle.pa_rules.proofs.Phases.{mark_in}
 use Rattle.pa_verdict.specs.Clauses.{IsMet, SlotsArePlaces}

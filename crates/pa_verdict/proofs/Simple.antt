@@ -1,19 +1,15 @@
 -- The clauses that say of each record by itself what they ask: lines, contents, seen; and the report.
-use Rattle.std.proofs.Common.{◌≡◌, ℕ, List, Some, refl, sym, ◌∙◌, ap, get_or}
+use Rattle.std.proofs.Common.{List, ap, get_or}
 use Rattle.std.specs.Prelude.{All, Contains, slice_get, map}
 use Rattle.std.proofs.lemmas.List.Elements.{All-contains, Contains-get_or}
 use Rattle.pa_trace.specs.declared.script.Trace.{Trace}
-use Rattle.pa_machine.specs.Run.{Mark}
-use Rattle.pa_machine.specs.Count.{number_of}
 use Rattle.pa_record.specs.declared.report.ReportLine.{ReportLine}
-use Rattle.pa_rules.specs.declared.played.Played.{Played}
 use Rattle.pa_rules.specs.declared.verdict.Clause.TheVariants as clauses
-use Rattle.pa_rules.specs.declared.verdict.Place.{Place}
 use Rattle.pa_rules.specs.declared.verdict.Place.TheVariants as places
 use Rattle.pa_rules.specs.Told.{Told, records_of}
-use Rattle.pa_rules.specs.Played.{AreDue, op_lines, key_of_line, key_of_entry, mark_of}
+use Rattle.pa_rules.specs.Played.{AreDue, op_lines, key_of_line, key_of_entry}
 use Rattle.pa_rules.specs.Contents.{AreContents}
-use Rattle.pa_rules.specs.Seen.{IsSeenInOrder, IsBefore, left_number}
+use Rattle.pa_rules.specs.Seen.{IsSeenInOrder}
 use Rattle.pa_rules.specs.Report.{IsReport, IsReportLine, phases_of}
 use Rattle.pa_rules.specs.Sizes.{usable_of}
 use Rattle.pa_rules.specs.Legal.{phases_in}

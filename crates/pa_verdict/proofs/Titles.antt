@@ -1,6 +1,6 @@
 -- The clause of the titles: it never fails where the journals and the pool are right, and said of the journals up to each
 -- line it is the whole.
-use Rattle.std.proofs.Common.{◌≡◌, ℕ, zero, suc, ◌+◌, ◌<◌, ◌≤◌, ◌==◌, List, [], ◌∷◌, take, Some, refl, subst, sym, ◌∙◌, ap, arith, inl, inr}
+use Rattle.std.proofs.Common.{◌≡◌, ℕ, zero, suc, ◌+◌, ◌<◌, ◌==◌, List, [], ◌∷◌, take, Some, refl, subst, sym, ◌∙◌, ap, arith, inl, inr}
 use Rattle.std.specs.Prelude.{slice_get, nat_lt}
 use Rattle.std.proofs.lemmas.Bool.{cases_Bool, lt-ltb}
 use Rattle.pa_machine.specs.declared.title.Title.{Title}
@@ -9,12 +9,11 @@ use Rattle.pa_record.specs.declared.pool.PoolEntry.{PoolEntry}
 use Rattle.pa_record.specs.declared.root.RootEntry.{RootEntry}
 use Rattle.pa_record.specs.Root.{Root, new_root, root_next, RootReplays, IsJournal}
 use Rattle.pa_record.specs.Sound.{IsMadeBy, AreTitles}
-use Rattle.pa_record.proofs.Members.{of_some, not_some}
+use Rattle.pa_record.proofs.Members.{not_some}
 use Rattle.pa_record.proofs.Lawful.{journal_leaves}
 use Rattle.pa_record.proofs.Asked.{titles_are_asked}
 use Rattle.pa_rules.specs.declared.played.Played.{Played}
 use Rattle.pa_rules.specs.declared.verdict.Clause.TheVariants as clauses
-use Rattle.pa_rules.specs.declared.verdict.Place.{Place}
 use Rattle.pa_rules.specs.declared.verdict.Place.TheVariants as places
 use Rattle.pa_rules.specs.Told.{Told, records_of}
 use Rattle.pa_rules.specs.Roots.{Journals, AreRoots, IsPoolOf, AreAllTitles}

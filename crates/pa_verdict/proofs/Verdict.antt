@@ -1,15 +1,14 @@
 -- A run is legal exactly where each clause holds at each place, and it has one verdict.
-use Rattle.std.proofs.Common.{◌≡◌, ℕ, ◌+◌, ◌<◌, List, [], ◌∷◌, get_or, refl, sym, ◌∙◌, ap, subst, arith, inl, inr}
+use Rattle.std.proofs.Common.{◌≡◌, ℕ, List, [], ◌∷◌, get_or, refl, sym, ◌∙◌, ap, subst, arith, inl, inr}
 use Rattle.std.proofs.lemmas.Bool.{cases_order}
 use Rattle.pa_trace.specs.declared.script.Trace.{Trace}
 use Rattle.pa_record.specs.declared.run.Run.{Run}
 use Rattle.pa_rules.specs.declared.verdict.Clause.{Clause}
 use Rattle.pa_rules.specs.declared.verdict.Clause.TheVariants as clauses
-use Rattle.pa_rules.specs.declared.verdict.Verdict.{Verdict}
 use Rattle.pa_rules.specs.declared.verdict.Verdict.TheVariants.{Legal, Broken}
 use Rattle.pa_rules.specs.Told.{Told, told_by}
-use Rattle.pa_rules.specs.Legal.{IsLegalTold, IsLegal}
-use Rattle.pa_rules.specs.Verdicts.{Holds, FailsAt, IsFirstFailing, IsVerdict, turn}
+use Rattle.pa_rules.specs.Legal.{IsLegalTold}
+use Rattle.pa_rules.specs.Verdicts.{Holds, FailsAt, IsFirstFailing, turn}
 use Rattle.pa_verdict.specs.Clauses.{IsMet}
 use Rattle.pa_verdict.specs.Verdict.{LegalIs, OneVerdict, TitlesNeverFail}
 use Rattle.pa_verdict.proofs.Simple.{lines_are_places, contents_are_places, seen_is_places, report_is_places}

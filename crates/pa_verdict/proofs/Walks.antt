@@ -4,7 +4,6 @@ use Rattle.std.specs.Prelude.{slice_get}
 use Rattle.pa_trace.specs.declared.script.Trace.{Trace}
 use Rattle.pa_rules.specs.declared.played.Played.{Played}
 use Rattle.pa_rules.specs.declared.verdict.Clause.TheVariants as clauses
-use Rattle.pa_rules.specs.declared.verdict.Place.{Place}
 use Rattle.pa_rules.specs.declared.verdict.Place.TheVariants as places
 use Rattle.pa_rules.specs.Told.{Told, records_of}
 use Rattle.pa_rules.specs.Registers.{Facts, Regs, AllRegs, Row, RowsTo, AreRegisters, no_regs, with_thread, usable_in}
@@ -12,7 +11,7 @@ use Rattle.pa_rules.specs.Roots.{Journals}
 use Rattle.pa_rules.specs.Caches.{Cache, Caches, CacheRow, CachesTo, AreCaches, no_caches, with_cache}
 use Rattle.pa_rules.specs.Sizes.{usable_of}
 use Rattle.pa_verdict.specs.Clauses.{IsMet, RegistersArePlaces, CachesArePlaces}
-use Rattle.pa_verdict.proofs.Lists.{IsEnd, end_of, cut_at}
+use Rattle.pa_verdict.proofs.Lists.{end_of, cut_at}
 
 -- ---- registers
 

@@ -1,7 +1,5 @@
 -- The wrong runs that were worked out fail where they do.
-use Rattle.std.proofs.Common.{◌≡◌, ℕ, zero, suc, ◌+◌, ◌<◌, ◌≤◌, max, List, [], ◌∷◌, Option, Some, None, length, refl, sym, ◌∙◌, ap, subst, arith, inl, inr, lit<, lit≤}
-use Rattle.std.specs.Prelude.{Contains, slice_get}
-use Rattle.pa_buckets.specs.Table.{rows, row_of, slot_of, pages_of, slots_of}
+use Rattle.std.proofs.Common.{◌≡◌, ℕ, zero, suc, ◌+◌, ◌<◌, max, List, [], ◌∷◌, refl, sym, subst, arith, inl, inr, lit<, lit≤}
 use Rattle.pa_buckets.specs.Classes.{IsClassOf}
 use Rattle.pa_buckets.proofs.Facts.{IsRow-of}
 use Rattle.pa_trace.specs.declared.script.Op.TheVariants as ops
@@ -10,15 +8,14 @@ use Rattle.pa_record.specs.declared.root.RootAct.{RootAct}
 use Rattle.pa_record.specs.declared.root.RootAct.TheVariants.{Map}
 use Rattle.pa_record.specs.declared.run.Run.{Run}
 use Rattle.pa_rules.specs.declared.played.Played.{Played}
-use Rattle.pa_rules.specs.declared.verdict.Clause.{Clause}
 use Rattle.pa_rules.specs.declared.verdict.Clause.TheVariants as clauses
 use Rattle.pa_rules.specs.declared.verdict.Place.{Place}
 use Rattle.pa_rules.specs.declared.verdict.Place.TheVariants as places
-use Rattle.pa_rules.specs.Told.{Told, told_by, records_of}
+use Rattle.pa_rules.specs.Told.{records_of}
 use Rattle.pa_rules.specs.Places.{line_at}
-use Rattle.pa_rules.specs.Roots.{Journals, AsksForMap}
+use Rattle.pa_rules.specs.Roots.{AsksForMap}
 use Rattle.pa_rules.specs.Caches.{Cache, Caches, CacheRow, CachesTo, acts_of, no_caches, with_cache}
-use Rattle.pa_rules.specs.Verdicts.{Demand, FailsAt}
+use Rattle.pa_rules.specs.Verdicts.{Demand}
 use Rattle.pa_verdict.specs.WrongRuns.{seen_at, maps_trace, maps_told, MapsFail}
 use Rattle.pa_verdict.proofs.Lists.{shown}
 

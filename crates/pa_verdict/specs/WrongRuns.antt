@@ -11,11 +11,10 @@ use Rattle.pa_record.specs.declared.root.RootEntry.{RootEntry}
 use Rattle.pa_record.specs.declared.run.Run.{Run}
 use Rattle.pa_record.specs.Worked.{slots, fill, full, map_made, map_gone, pool_take, pool_give}
 use Rattle.pa_rules.specs.declared.verdict.Clause.TheVariants as clauses
-use Rattle.pa_rules.specs.declared.verdict.Place.TheVariants.{Record}
 use Rattle.pa_rules.specs.Told.{Told, told_by}
 use Rattle.pa_rules.specs.Roots.{journal_at}
 use Rattle.pa_rules.specs.Plain.{history_at}
-use Rattle.pa_rules.specs.Verdicts.{Demand, Holds, FailsAt}
+use Rattle.pa_rules.specs.Verdicts.{Holds, FailsAt}
 
 -- a slot that begins there, of this entry of the pool, with this word
 abbrev pub seen_at : ℕ → ℕ → ℕ → Seen
@@ -86,8 +85,7 @@ astray_told =
     ((fill 2 0 (Some 0) (slots 0 0 first_slots) ∷ []) ∷ (fill 3 0 (Some 1) (slots 1 0 second_slots) ∷ []) ∷ [])
     (pool_take 2 0 1 (Some 0) ∷ pool_take 3 1 1 (Some 1) ∷ [])
 
--- caches fails at that record, and holders doesn't: its thread has the slot
+-- caches fails at that record, and holders holds: its thread has the slot
 abbrev pub AstrayFails : Type 0
 AstrayFails =
-    (r : Run) → told_by r ≡ astray_told →
-    Demand clauses.Holders astray_trace (told_by r) (Record 1) × FailsAt clauses.Caches astray_trace r 3
+    (r : Run) → told_by r ≡ astray_told → Holds clauses.Holders astray_trace r × FailsAt clauses.Caches astray_trace r 3

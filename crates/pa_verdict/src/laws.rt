@@ -89,7 +89,7 @@ pub fn refused_fails()
     ensures { RefusedFails }
 {}
 
-/// A run in which an allocation got a slot of another partition fails caches at its record, which holders lets through.
+/// A run in which an allocation got a slot of another partition fails caches at its record, and holders holds.
 pub fn astray_fails()
     ensures { AstrayFails }
 {}

@@ -1,20 +1,19 @@
 -- Regions with the worked words hold the worked runs.
-use Rattle.std.proofs.Common.{◌≡◌, ℕ, zero, suc, ◌+◌, ◌*◌, ◌<◌, ◌≤◌, Bool, true, false, not, None, List, [], ◌∷◌, map, length, refl, sym, ◌∙◌, ap, subst, arith, inl, inr, lit<, lit≤}
+use Rattle.std.proofs.Common.{◌≡◌, ℕ, zero, suc, ◌+◌, ◌*◌, ◌<◌, ◌≤◌, Bool, true, false, not, None, List, [], ◌∷◌, map, length, refl, sym, ◌∙◌, ap, subst, arith, inl, inr, lit<}
 use Rattle.std.specs.Prelude.{Contains, find, slice_index}
 use Rattle.std.proofs.lemmas.Bool.{not-true, both_ways, ne_eqb}
 use Rattle.pa_machine.specs.declared.title.Title.{Title}
 use Rattle.pa_machine.specs.declared.word.SlotName.{SlotName}
 use Rattle.pa_machine.specs.Count.{number_of, held_of, refs_of}
-use Rattle.pa_machine.specs.Run.{IsRunFrom}
 use Rattle.pa_machine.specs.Titles.{poison, count_word}
 use Rattle.pa_buckets.specs.Table.{rows, row_of, slot_of, pages_of, slots_of}
 use Rattle.pa_buckets.specs.Bands.{fill_of}
 use Rattle.pa_trace.specs.declared.script.Op.{Op}
 use Rattle.pa_trace.specs.declared.script.Op.TheVariants as ops
-use Rattle.pa_record.specs.Spans.{Span, title_at, name_of}
-use Rattle.pa_record.specs.Root.{Root, new_root, root_replayed, map_title}
+use Rattle.pa_record.specs.Spans.{Span, name_of}
+use Rattle.pa_record.specs.Root.{Root, new_root, root_replayed}
 use Rattle.pa_record.specs.Worked.{direct_map_again_pool, direct_map_again_journal}
-use Rattle.pa_record.proofs.Members.{not_in_none, in_cases}
+use Rattle.pa_record.proofs.Members.{not_in_none}
 use Rattle.pa_record.proofs.Joined.{map_in}
 use Rattle.pa_rules.specs.declared.played.Played.{Played}
 use Rattle.pa_rules.specs.Played.{marks_of}

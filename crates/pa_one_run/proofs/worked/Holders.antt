@@ -18,7 +18,7 @@ use Rattle.pa_record.proofs.Joined.{filter_cases}
 use Rattle.pa_rules.specs.declared.played.Played.{Played}
 use Rattle.pa_rules.specs.Played.{mark_of}
 use Rattle.pa_rules.specs.Roots.{Journals, journal_at}
-use Rattle.pa_rules.specs.Holders.{Holder, WithThread, Move, moves_by, is_move_of, moves_at, HasHolders, IsHeld, IsOfSlot, NamesSlot}
+use Rattle.pa_rules.specs.Holders.{WithThread, Move, moves_by, is_move_of, moves_at, HasHolders, IsHeld, IsOfSlot, NamesSlot}
 use Rattle.pa_one_run.proofs.lines.Lists.{get_in}
 use Rattle.pa_one_run.proofs.worked.Lists.{each, passes, implies, implied, none_passes, none_or_some}
 

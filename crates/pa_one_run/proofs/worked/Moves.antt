@@ -154,7 +154,7 @@ moves_of journal = flat_map (λ (e : RootEntry). moves_by e.line e.act) journal
 abbrev pub all_hold : List Played → List Move → List Move → Bool
 all_hold ps ms xs = list_all (λ (m : Move). has_holders ps m.slot m.number (filter (is_move_of m.slot m.number) ms)) xs
 
-all_hold-true : (ps : List Played) (ms xs : List Move) → all_hold ps ms xs ≡ true → AllByRecursion (HasItsHolders ps ms) xs
+pub all_hold-true : (ps : List Played) (ms xs : List Move) → all_hold ps ms xs ≡ true → AllByRecursion (HasItsHolders ps ms) xs
 all_hold-true ps ms [] h = tt
 all_hold-true ps ms (m ∷ xs) h =
     let here : List Move = filter (is_move_of m.slot m.number) ms in
