@@ -6,7 +6,7 @@ ghost use Rattle.pa_region.specs.Moves.{CanCount};
 ghost use Rattle.pa_region.specs.Shares.{IsUser, IsMade, IsLooked};
 
 use pa_machine::{Step, Title, Word, held, refs};
-use pa_region::{Region, Seat};
+use pa_region::{Region, Seat, releases_leave};
 
 /// What a release did to the slot: somebody else still holds it, or it was the last to let go and the slot is free.
 #[derive(Clone, Copy, Debug, PartialEq, Eq)]
@@ -89,6 +89,7 @@ fn release(region: &Region, seat: &mut Seat, title: Title, step: Step) -> (Word,
     ensures kept { result.1 ≡ Fate.Kept → free_of seat.new.view title ≡ 0 }
 {
     let found = region.count_step(seat, title, step);
+    releases_leave();
     if returned(step, found) {
         (found, Fate::Last)
     } else {
@@ -110,11 +111,14 @@ fn returned(step: Step, found: Word) -> bool
 #[cfg(test)]
 mod tests {
     use super::*;
+    use pa_region::{
+        a_cut_leaves_other_bytes, a_cut_leaves_zeros, a_new_region_can_be_cut,
+        an_uncut_gives_bytes_back, new_words_are_zero,
+    };
     use std::test::Fail;
     use std::thread;
 
     #[test]
-    #[tactic(auto, using(pa_region::proofs::FirstLists::blank_at))]
     fn a_slot_is_issued_and_pointed_to(rt: HostRuntime) -> Result<(), Fail> {
         let first = Title {
             start: 0x4000,
@@ -126,7 +130,13 @@ mod tests {
             len: 16,
             born: 0,
         };
-        let (region, mut seat) = Region::with_titles(rt.alloc(), 1, 16, &[first, second])?;
+        let (region, mut seat) = Region::new(rt.alloc(), 1, 16)?;
+        new_words_are_zero();
+        a_new_region_can_be_cut();
+        a_cut_leaves_other_bytes();
+        a_cut_leaves_zeros();
+        region.cut(&mut seat, first);
+        region.cut(&mut seat, second);
         assert_eq!(rt; issue(&region, &mut seat, first).0, 0);
         assert_eq!(rt; copy(&region, &mut seat, first).0, 0x1000001);
         assert_eq!(rt; look(&region, &mut seat, first).0, 0x2000003);
@@ -153,14 +163,17 @@ mod tests {
 
     // A region has one seat until seats can be split, so the two threads have it one after the other.
     #[test]
-    #[tactic(auto, using(pa_region::proofs::FirstLists::blank_at))]
     fn two_threads_reset_a_slot(rt: HostRuntime) -> Result<(), Fail> {
         let title = Title {
             start: 0x4000,
             len: 16,
             born: 0,
         };
-        let (region, mut seat) = Region::with_titles(rt.alloc(), 1, 16, &[title])?;
+        let (region, mut seat) = Region::new(rt.alloc(), 1, 16)?;
+        new_words_are_zero();
+        a_new_region_can_be_cut();
+        a_cut_leaves_zeros();
+        region.cut(&mut seat, title);
         issue(&region, &mut seat, title);
         copy(&region, &mut seat, title);
         copy(&region, &mut seat, title);
@@ -172,9 +185,36 @@ mod tests {
         Ok(())
     }
 
+    // The bytes of a slot that is made raw again are cut for one that is born later.
     #[test]
-    fn a_region_without_titles_opens(rt: HostRuntime) -> Result<(), Fail> {
-        let (region, seat) = Region::with_titles(rt.alloc(), 1, 0, &[])?;
+    fn bytes_are_cut_again(rt: HostRuntime) -> Result<(), Fail> {
+        let old = Title {
+            start: 0x4000,
+            len: 16,
+            born: 0,
+        };
+        let new = Title {
+            start: 0x4000,
+            len: 16,
+            born: 1,
+        };
+        let (region, mut seat) = Region::new(rt.alloc(), 1, 1)?;
+        new_words_are_zero();
+        a_new_region_can_be_cut();
+        an_uncut_gives_bytes_back();
+        a_cut_leaves_zeros();
+        region.cut(&mut seat, old);
+        region.uncut(&mut seat, old);
+        region.cut(&mut seat, new);
+        assert_eq!(rt; issue(&region, &mut seat, new).0, 0);
+        let closed = region.close(seat);
+        assert_eq!(rt; closed.word(0x4008), 0x1000001);
+        Ok(())
+    }
+
+    #[test]
+    fn a_new_region_is_closed(rt: HostRuntime) -> Result<(), Fail> {
+        let (region, seat) = Region::new(rt.alloc(), 1, 0)?;
         assert_eq!(rt; seat.stake(), 0);
         let closed = region.close(seat);
         assert_eq!(rt; closed.word(0), 0);

@@ -8,23 +8,18 @@ use Rattle.pa_machine.specs.declared.title.Title.{Title}
 use Rattle.pa_machine.specs.declared.title.OwnState.{OwnState}
 use Rattle.pa_machine.specs.declared.title.OwnState.TheVariants.{Clean, Dirty, Poisoned}
 use Rattle.pa_machine.specs.Titles.{same_title, same_state, Covers, IsWellFormed, content_count, content_place, HasContentFrom, poison, progress}
-use Rattle.pa_machine.specs.Holdings.{OwnOf, RefOf, one}
+use Rattle.pa_machine.specs.Holdings.{one}
 use Rattle.pa_machine.proofs.Same.{state_self}
 use Rattle.pa_region.specs.declared.view.OwnTitle.{OwnTitle}
 use Rattle.pa_region.specs.declared.view.View.{View}
 use Rattle.pa_region.specs.Views.{free_of, own_of, own_as, HasStake}
 use Rattle.pa_region.specs.Moves.{changed, is_own_of, filled_with, after_look}
 use Rattle.pa_region.specs.Stores.{after_store, HasRawWord, HasFreeContent, CanStore, poisoned_to, after_poison, own_to, CanPoison}
-use Rattle.pa_region.proofs.Adding.{first_of}
-use Rattle.pa_region.proofs.Pieces.{own_as_own, owns_have, refs_have}
-use Rattle.pa_region.proofs.Filled.{filled_here}
 use Rattle.pa_region.specs.declared.view.Entry.TheVariants.{Looked}
 use Rattle.pa_region.specs.Pairs.{last_entry, least_log}
 use Rattle.pa_region.specs.Shares.{IsUser}
 use Rattle.pa_region.specs.Loads.{content_offset}
-use Rattle.pa_region.proofs.Entering.{least_noted}
-use Rattle.pa_region.proofs.LookStep.{look_holds}
-use Rattle.pa_region.proofs.Waitings.{last_noted}
+use Rattle.pa_region.specs.Leaves.{StatesAreOwns, OwnsChange, FilledWords, LookLeaves}
 use Rattle.pa_quarantine.specs.Filling.{zeros_to, poisons_to, zeroed, poisoned}
 
 -- the view after a store that left its Owns
@@ -84,10 +79,10 @@ zero_end t j v u some_content all e = e ∙ (ap (λ (k : ℕ). zeros_to t k v) a
     go (suc k) h = refl
 
 -- the content is 0 then
-pub zero_content : (n : ℕ) (t : Title) (v u : View) → IsWellFormed n t → length v.words ≡ n → u ≡ zeroed t v → HasContentFrom u.words t 0 0
-zero_content n t v u well long e i low below =
+pub zero_content : FilledWords → (n : ℕ) (t : Title) (v u : View) → IsWellFormed n t → length v.words ≡ n → u ≡ zeroed t v → HasContentFrom u.words t 0 0
+zero_content law n t v u well long e i low below =
     let a = well.start_aligned in let b = well.len_aligned in let c = well.long in let d = well.inside in
-    ap (λ (x : View). slice_index x.words (content_place t i)) e ∙ filled_here 0 t (content_count t) v.words i below (omega arith)
+    ap (λ (x : View). slice_index x.words (content_place t i)) e ∙ (law 0 t (content_count t) v.words).0 i below (omega arith)
 
 -- an Own that is clean or dirty has no word poisoned
 open_to : (v : View) (t : Title) → own_as v t Clean + own_as v t Dirty ≤ own_to v t 0
@@ -113,30 +108,30 @@ open_to v t = go v.owns
         )
 
 -- an open Own is an Own
-pub open_own : (v : View) (t : Title) → 0 < own_as v t Clean + own_as v t Dirty → 0 < own_of v t
-open_own v t h = let a = own_as_own v t Clean in let b = own_as_own v t Dirty in omega arith
+pub open_own : StatesAreOwns → (v : View) (t : Title) → 0 < own_as v t Clean + own_as v t Dirty → 0 < own_of v t
+open_own law v t h = let a = law v t Clean in let b = law v t Dirty in omega arith
 
 -- an Own that was poisoned so far, in the view after it
-poisoned_there : (v : View) (t : Title) (n : ℕ) → 0 < own_of v t →
+poisoned_there : OwnsChange → (v : View) (t : Title) (n : ℕ) → 0 < own_of v t →
     (0 < sum_by (λ (o : OwnTitle). one (same_title o.title t && (progress o.state == n))) (changed (is_own_of t) (poisoned_to n) v.owns)) ×
     (0 < sum_by (λ (o : OwnTitle). one (same_title o.title t && same_state o.state (Poisoned n))) (changed (is_own_of t) (poisoned_to n) v.owns))
-poisoned_there v t n has =
-    let first = first_of (is_own_of t) v.owns has in
-    let a = first.1.replaced (poisoned_to n) (λ (o : OwnTitle). one (same_title o.title t && (progress o.state == n))) in
-    let b = first.1.replaced (poisoned_to n) (λ (o : OwnTitle). one (same_title o.title t && same_state o.state (Poisoned n))) in
-    let a1 = first.1.left_out (λ (o : OwnTitle). one (same_title o.title t && (progress o.state == n))) in
-    let b1 = first.1.left_out (λ (o : OwnTitle). one (same_title o.title t && same_state o.state (Poisoned n))) in
-    let x : one (same_title first.0.title t && (n == n)) ≡ 1 = rw (first.1.passes, eq-eqb n n refl) refl in
-    let y : one (same_title first.0.title t && same_state (Poisoned n) (Poisoned n)) ≡ 1 = rw (first.1.passes, state_self (Poisoned n)) refl in
+poisoned_there law v t n has =
+    let first = law.0 t (poisoned_to n) v.owns has in
+    let a = first.1.replaced (λ (o : OwnTitle). one (same_title o.title t && (progress o.state == n))) in
+    let b = first.1.replaced (λ (o : OwnTitle). one (same_title o.title t && same_state o.state (Poisoned n))) in
+    let a1 = first.1.within (λ (o : OwnTitle). one (same_title o.title t && (progress o.state == n))) in
+    let b1 = first.1.within (λ (o : OwnTitle). one (same_title o.title t && same_state o.state (Poisoned n))) in
+    let x : one (same_title first.0.title t && (n == n)) ≡ 1 = rw (first.1.is_own, eq-eqb n n refl) refl in
+    let y : one (same_title first.0.title t && same_state (Poisoned n) (Poisoned n)) ≡ 1 = rw (first.1.is_own, state_self (Poisoned n)) refl in
     (omega arith, omega arith)
 
 -- the next word may be poisoned
-pub poison_can : (t : Title) (j : ℕ) (v u : View) → j < content_count t → 0 < own_as v t Clean + own_as v t Dirty → HasStake v → u ≡ poisons_to t j v → CanPoison t j u
-poison_can t j v u below has stake same = subst (λ (x : View). CanPoison t j x) (sym same) (go j below)
+pub poison_can : StatesAreOwns → OwnsChange → (t : Title) (j : ℕ) (v u : View) → j < content_count t → 0 < own_as v t Clean + own_as v t Dirty → HasStake v → u ≡ poisons_to t j v → CanPoison t j u
+poison_can states law t j v u below has stake same = subst (λ (x : View). CanPoison t j x) (sym same) (go j below)
   where
     go : (k : ℕ) → k < content_count t → CanPoison t k (poisons_to t k v)
     go zero less = (let o = open_to v t in omega arith, less, stake)
-    go (suc k) less = ((poisoned_there v t (suc k) (open_own v t has)).0, less, stake)
+    go (suc k) less = ((poisoned_there law v t (suc k) (open_own states v t has)).0, less, stake)
 
 -- a change of the first Own that was changed
 changed_twice : (t : Title) (n m : ℕ) (os : List OwnTitle) → changed (is_own_of t) (poisoned_to m) (changed (is_own_of t) (poisoned_to n) os) ≡ changed (is_own_of t) (poisoned_to m) os
@@ -175,30 +170,26 @@ poison_end t j v u some_content all e = e ∙ (ap (λ (k : ℕ). poisons_to t k 
     go (suc k) h = refl
 
 -- the Own can be freed then
-pub poison_ready : (t : Title) (v : View) → 0 < own_as v t Clean + own_as v t Dirty → 0 < own_as (poisoned t v) t (Poisoned (content_count t))
-poison_ready t v has = (poisoned_there v t (content_count t) (open_own v t has)).1
+pub poison_ready : StatesAreOwns → OwnsChange → (t : Title) (v : View) → 0 < own_as v t Clean + own_as v t Dirty → 0 < own_as (poisoned t v) t (Poisoned (content_count t))
+poison_ready states law t v has = (poisoned_there law v t (content_count t) (open_own states v t has)).1
 
 -- After a look the view has the same handles and words, and a stake: so it may read.
-pub look_user : (t : Title) (word : ℕ) (v u : View) → u ≡ after_look t word v → IsUser t v → IsUser t u
-look_user t word v u e has =
-    let o = look_holds t word v (OwnOf t) in let r = look_holds t word v (RefOf t) in
-    let o1 = owns_have v t in let o2 = owns_have (after_look t word v) t in
-    let r1 = refs_have v t in let r2 = refs_have (after_look t word v) t in
+pub look_user : LookLeaves → (t : Title) (word : ℕ) (v u : View) → u ≡ after_look t word v → HasStake v → IsUser t v → IsUser t u
+look_user law t word v u e stake has =
+    let same = (law t word v stake).0 in
+    let o = same.owns t in let r = same.refs t in
     subst (λ (x : View). IsUser t x) (sym e) (omega arith)
 
-pub look_stake : (t : Title) (word : ℕ) (v u : View) → u ≡ after_look t word v → HasStake v → HasStake u
-look_stake t word v u e has = let l = least_noted (Looked t word) v.stakes in subst (λ (x : View). HasStake x) (sym e) (omega arith)
+pub look_stake : LookLeaves → (t : Title) (word : ℕ) (v u : View) → u ≡ after_look t word v → HasStake v → HasStake u
+look_stake law t word v u e has = let l = (law t word v has).1.least in subst (λ (x : View). HasStake x) (sym e) (omega arith)
 
 -- its log ends with the look
-pub look_last : (t : Title) (word : ℕ) (v u : View) → u ≡ after_look t word v → HasStake v → last_entry (least_log u.stakes) ≡ Some (Looked t word)
-look_last t word v u e has = ap (λ (x : View). last_entry (least_log x.stakes)) e ∙ last_noted (Looked t word) v.stakes has
+pub look_last : LookLeaves → (t : Title) (word : ℕ) (v u : View) → u ≡ after_look t word v → HasStake v → last_entry (least_log u.stakes) ≡ Some (Looked t word)
+look_last law t word v u e has = ap (λ (x : View). last_entry (least_log x.stakes)) e ∙ (law t word v has).1.last
 
 -- it knows an Own of the title as before
-pub look_own : (t : Title) (word : ℕ) (v u : View) → u ≡ after_look t word v → 0 < own_of v t → 0 < own_of u t
-look_own t word v u e has =
-    let o = look_holds t word v (OwnOf t) in
-    let o1 = owns_have v t in let o2 = owns_have (after_look t word v) t in
-    subst (λ (x : View). 0 < own_of x t) (sym e) (omega arith)
+pub look_own : LookLeaves → (t : Title) (word : ℕ) (v u : View) → u ≡ after_look t word v → HasStake v → 0 < own_of v t → 0 < own_of u t
+look_own law t word v u e stake has = let o = (law t word v stake).0.owns t in subst (λ (x : View). 0 < own_of x t) (sym e) (omega arith)
 
 -- where a content word lies
 pub place_offset : (n : ℕ) (t : Title) (place : ℕ) → IsWellFormed n t → place < content_count t →

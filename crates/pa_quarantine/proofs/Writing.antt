@@ -12,8 +12,7 @@ use Rattle.pa_region.specs.declared.view.View.{View}
 use Rattle.pa_region.specs.Views.{own_of, own_as, idle_of, HasStake}
 use Rattle.pa_region.specs.Moves.{changed, is_own_of, filled_with, CanCount}
 use Rattle.pa_region.specs.Stores.{dirty, after_store, CanStore}
-use Rattle.pa_region.proofs.Adding.{first_of, changed_sum}
-use Rattle.pa_region.proofs.Filled.{filled_here}
+use Rattle.pa_region.specs.Leaves.{StatesAreOwns, OwnsChange, FilledWords}
 use Rattle.pa_quarantine.specs.Filling.{writes_to, filled}
 use Rattle.pa_quarantine.proofs.Filling.{offset_place, open_own}
 
@@ -22,23 +21,23 @@ abbrev pub IsOpen : Title → View → Type 0
 IsOpen t v = (0 < idle_of v t) × (0 < own_as v t Clean + own_as v t Dirty)
 
 -- it stays one when it gets dirty
-open_dirty : (t : Title) (v : View) → IsOpen t v →
+open_dirty : StatesAreOwns → OwnsChange → (t : Title) (v : View) → IsOpen t v →
     (0 < sum_by (λ (o : OwnTitle). one (same_title o.title t && o.idle)) (changed (is_own_of t) dirty v.owns)) ×
     (0 < sum_by (λ (o : OwnTitle). one (same_title o.title t && same_state o.state Clean)) (changed (is_own_of t) dirty v.owns)
     + sum_by (λ (o : OwnTitle). one (same_title o.title t && same_state o.state Dirty)) (changed (is_own_of t) dirty v.owns))
-open_dirty t v has =
-    let idle = changed_sum (is_own_of t) dirty (λ (o : OwnTitle). one (same_title o.title t && o.idle)) v.owns (λ o. refl) in
+open_dirty states law t v has =
+    let idle = law.1 t dirty (λ (o : OwnTitle). one (same_title o.title t && o.idle)) v.owns (λ o. refl) in
     let some_idle = has.0 in
-    let first = first_of (is_own_of t) v.owns (open_own v t has.1) in
-    let a = first.1.replaced dirty (λ (o : OwnTitle). one (same_title o.title t && same_state o.state Dirty)) in
-    let b = first.1.left_out (λ (o : OwnTitle). one (same_title o.title t && same_state o.state Dirty)) in
-    let here : one (same_title first.0.title t && same_state Dirty Dirty) ≡ 1 = rw first.1.passes refl in
+    let first = law.0 t dirty v.owns (open_own states v t has.1) in
+    let a = first.1.replaced (λ (o : OwnTitle). one (same_title o.title t && same_state o.state Dirty)) in
+    let b = first.1.within (λ (o : OwnTitle). one (same_title o.title t && same_state o.state Dirty)) in
+    let here : one (same_title first.0.title t && same_state Dirty Dirty) ≡ 1 = rw first.1.is_own refl in
     (omega arith, omega arith)
 
 -- so a view that has written some words
-open_still : (t : Title) (value j : ℕ) (v : View) → IsOpen t v → IsOpen t (writes_to t value j v)
-open_still t value zero v has = has
-open_still t value (suc j) v has = open_dirty t v has
+open_still : StatesAreOwns → OwnsChange → (t : Title) (value j : ℕ) (v : View) → IsOpen t v → IsOpen t (writes_to t value j v)
+open_still states law t value zero v has = has
+open_still states law t value (suc j) v has = open_dirty states law t v has
 
 stake_still : (t : Title) (value j : ℕ) (v : View) → HasStake v → HasStake (writes_to t value j v)
 stake_still t value zero v has = has
@@ -51,19 +50,19 @@ content_inside n t j at_byte well e below =
     (omega arith, (omega arith, omega arith))
 
 -- a store may be made
-pub write_can : (n : ℕ) (t : Title) (value j at_byte : ℕ) (v u : View) → IsWellFormed n t → at_byte ≡ t.start + 8 * j → j < content_count t → IsOpen t v → HasStake v →
+pub write_can : StatesAreOwns → OwnsChange → (n : ℕ) (t : Title) (value j at_byte : ℕ) (v u : View) → IsWellFormed n t → at_byte ≡ t.start + 8 * j → j < content_count t → IsOpen t v → HasStake v →
     u ≡ writes_to t value j v → CanStore at_byte u
-write_can n t value j at_byte v u well e below has stake same =
+write_can states law n t value j at_byte v u well e below has stake same =
     let inside = content_inside n t j at_byte well e below in
-    let still = open_still t value j v has in
+    let still = open_still states law t value j v has in
     subst (λ (x : View). CanStore at_byte x) (sym same) (inside.0, inr (inr (t, still.0, still.1, inside.1, stake_still t value j v stake)))
 
 -- to a content word of the Own
-pub write_own : (n : ℕ) (t : Title) (value j at_byte : ℕ) (v u : View) → IsWellFormed n t → at_byte ≡ t.start + 8 * j → j < content_count t → IsOpen t v →
+pub write_own : StatesAreOwns → OwnsChange → (n : ℕ) (t : Title) (value j at_byte : ℕ) (v u : View) → IsWellFormed n t → at_byte ≡ t.start + 8 * j → j < content_count t → IsOpen t v →
     u ≡ writes_to t value j v → (0 < own_of u t) × IsContentOf t at_byte
-write_own n t value j at_byte v u well e below has same =
-    let still = open_still t value j v has in
-    (subst (λ (x : View). 0 < own_of x t) (sym same) (open_own (writes_to t value j v) t still.1), (content_inside n t j at_byte well e below).1)
+write_own states law n t value j at_byte v u well e below has same =
+    let still = open_still states law t value j v has in
+    (subst (λ (x : View). 0 < own_of x t) (sym same) (open_own states (writes_to t value j v) t still.1), (content_inside n t j at_byte well e below).1)
 
 -- dirty twice is dirty
 dirty_twice : (t : Title) (os : List OwnTitle) → changed (is_own_of t) dirty (changed (is_own_of t) dirty os) ≡ changed (is_own_of t) dirty os
@@ -111,13 +110,13 @@ write_end t value j v u some_content all e = e ∙ (ap (λ (k : ℕ). writes_to 
     go (suc k) h = refl
 
 -- the owner may tell that it has written
-pub write_told : (n : ℕ) (t : Title) (value : ℕ) (v u : View) → IsWellFormed n t → length v.words ≡ n → IsOpen t v → HasStake v → 0 < v.budget →
+pub write_told : StatesAreOwns → OwnsChange → FilledWords → (n : ℕ) (t : Title) (value : ℕ) (v u : View) → IsWellFormed n t → length v.words ≡ n → IsOpen t v → HasStake v → 0 < v.budget →
     u ≡ filled t value v → CanCount Write t u
-write_told n t value v u well long has stake budget e =
+write_told states law fills n t value v u well long has stake budget e =
     let a = well.start_aligned in let b = well.len_aligned in let c = well.long in let d = well.inside in
     subst (λ (x : View). CanCount Write t x) (sym e) (
-      open_dirty t v has,
+      open_dirty states law t v has,
       stake,
       budget,
-      (value, λ i low below. filled_here value t (content_count t) v.words i below (omega arith)),
+      (value, λ i low below. (fills value t (content_count t) v.words).0 i below (omega arith)),
     )

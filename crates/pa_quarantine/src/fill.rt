@@ -9,7 +9,7 @@ ghost use Rattle.pa_quarantine.specs.Filling.{zeroed, poisoned, filled_share};
 
 use pa_count::wrote;
 use pa_machine::{Title, Word};
-use pa_region::{Region, Seat};
+use pa_region::{Region, Seat, filled_words_have_the_value, owns_change, states_are_owns};
 
 /// Makes every content word of a free slot 0, in address order: so it can be issued.
 pub fn zero_fill(region: &Region, seat: &mut Seat, title: Title)
@@ -19,6 +19,7 @@ pub fn zero_fill(region: &Region, seat: &mut Seat, title: Title)
     ensures view { seat.new.view ≡ zeroed title seat.old.view }
     ensures content { HasContentFrom seat.new.view.words title 0 0 }
 {
+    filled_words_have_the_value();
     seat.placed(title);
     for word in 0..title.len / 8 - 1 {
         region.store(seat, title.start + 8 * word, 0);
@@ -33,6 +34,8 @@ pub fn poison(region: &Region, seat: &mut Seat, title: Title)
     ensures view { seat.new.view ≡ poisoned title seat.old.view }
     ensures ready { HasHandle Free title seat.new.view }
 {
+    states_are_owns();
+    owns_change();
     seat.placed(title);
     for word in 0..title.len / 8 - 1 {
         region.poison_next(seat, title, word);
@@ -47,6 +50,9 @@ pub fn write(region: &Region, seat: &mut Seat, title: Title, value: u64) -> Word
     requires able { HasStake seat.old.view × (0 < seat.old.view.budget) }
     ensures { IsMade Write title result.0 (filled_share title value seat.old) seat.new }
 {
+    states_are_owns();
+    owns_change();
+    filled_words_have_the_value();
     seat.placed(title);
     for word in 0..title.len / 8 - 1 {
         region.store(seat, title.start + 8 * word, value);

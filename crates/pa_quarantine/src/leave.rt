@@ -14,7 +14,7 @@ ghost use Rattle.pa_quarantine.specs.Filling.{poisoned_share};
 use crate::fill::poison;
 use pa_count::{Fate, free, look, reset};
 use pa_machine::{Title, Word};
-use pa_region::{Region, Seat};
+use pa_region::{Region, Seat, looks_leave, owns_change, states_are_owns};
 
 /// The owner frees the slot: its content is poisoned, and then it is freed in one step. `Last` exactly where no
 /// `raw_ptr` points to it: then the seat holds the title free. Else the slot is quarantined.
@@ -26,6 +26,8 @@ pub fn free_owned(region: &Region, seat: &mut Seat, title: Title) -> (Word, Fate
     ensures last { result.1 ≡ Fate.Last → free_of seat.new.view title ≡ 1 }
     ensures kept { result.1 ≡ Fate.Kept → free_of seat.new.view title ≡ 0 }
 {
+    states_are_owns();
+    owns_change();
     poison(region, seat, title);
     free(region, seat, title)
 }
@@ -55,6 +57,7 @@ pub fn read(region: &Region, seat: &mut Seat, title: Title, place: u32) -> (Word
     ensures freed { held_of result.0.0 ≡ 0 → result.1 ≡ poison_word }
     ensures own { 0 < own_of seat.old.view title → result.1 ≡ content_at seat.old.view.words title place }
 {
+    looks_leave();
     let found = look(region, seat, title);
     seat.placed(title);
     (found, region.load(seat, title.start + 8 * place))
@@ -65,6 +68,7 @@ mod tests {
     use super::*;
     use crate::fill::{write, zero_fill};
     use pa_count::{copy, issue};
+    use pa_region::a_new_region_can_be_cut;
     use std::test::Fail;
 
     const POISON: u64 = 0xefef_efef_efef_efef;
@@ -76,7 +80,9 @@ mod tests {
             len: 32,
             born: 0,
         };
-        let (region, mut seat) = Region::with_titles(rt.alloc(), 1, 16, &[title])?;
+        let (region, mut seat) = Region::new(rt.alloc(), 1, 16)?;
+        a_new_region_can_be_cut();
+        region.cut(&mut seat, title);
         zero_fill(&region, &mut seat, title);
         assert_eq!(rt; issue(&region, &mut seat, title).0, 0);
         assert_eq!(rt; copy(&region, &mut seat, title).0, 0x1000001);
@@ -104,7 +110,9 @@ mod tests {
             len: 16,
             born: 0,
         };
-        let (region, mut seat) = Region::with_titles(rt.alloc(), 1, 16, &[title])?;
+        let (region, mut seat) = Region::new(rt.alloc(), 1, 16)?;
+        a_new_region_can_be_cut();
+        region.cut(&mut seat, title);
         zero_fill(&region, &mut seat, title);
         assert_eq!(rt; issue(&region, &mut seat, title).0, 0);
         assert_eq!(rt; write(&region, &mut seat, title, 7).0, 0x1000001);

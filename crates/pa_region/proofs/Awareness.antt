@@ -11,6 +11,7 @@ use lib.ListN.{get_elem?}
 use Rattle.atomic_table.specs.Table.{Me, Allows, keeps}
 use Rattle.atomic_table.specs.Table.{State as TableState}
 use Rattle.atomic_table.proofs.Lists.{set_again}
+use Rattle.std.specs.Prelude.{slice_index}
 use Rattle.pa_machine.specs.declared.title.Title.{Title}
 use Rattle.pa_machine.specs.Count.{number_of}
 use Rattle.pa_machine.specs.Titles.{count_word}
@@ -21,7 +22,7 @@ use Rattle.pa_region.specs.declared.view.Made.{Made}
 use Rattle.pa_region.specs.declared.view.Keeper.{Keeper}
 use Rattle.pa_region.specs.declared.view.SeenList.{SeenList}
 use Rattle.pa_region.specs.declared.view.View.{View}
-use Rattle.pa_region.specs.Views.{byte_words, shown, free_of, own_of, ref_of, uncut_of, stake_of, unseen_of, unseen_in, logged_in, HasTitle}
+use Rattle.pa_region.specs.Views.{byte_words, shown, free_of, own_of, ref_of, uncut_of, stake_of, unseen_of, unseen_in, logged_in, counted_on, HasTitle}
 use Rattle.pa_region.specs.Rule.{IsKept}
 use Rattle.pa_region.specs.Lists.{keeper_of, lease_of, list_of, list_among, IsBeginning, IsKnownTo, Rises}
 use Rattle.pa_region.specs.Aware.{IsAware}
@@ -36,7 +37,8 @@ use Rattle.pa_region.proofs.SeenPart.{seen_within}
 use Rattle.pa_region.proofs.CountLists.{free_word_known}
 use Rattle.pa_region.proofs.ListFacts.{each_map, each_both, each_left}
 use Rattle.pa_region.proofs.JoinLists.{longer_is, among_beginning, beginnings_order}
-use Rattle.pa_region.proofs.Ends.{knows_logs}
+use Rattle.pa_region.proofs.Shown.{put_there}
+use Rattle.pa_region.proofs.Ends.{all_logs, knows_logs}
 
 -- one note more makes what is seen of a list no shorter
 among_more : (k : ℕ) (n : SeenList) (ns : List SeenList) → length (list_among k ns) ≤ length (list_among k (n ∷ ns))
@@ -112,7 +114,12 @@ aware_of words views i v k at_i = record {
   rises = λ q. rises_begins (list_of q v) (begins q).0 (subst Rises (begins q).1 (k.lists.rises q));
   makers = λ q. each_left (λ m. m.stake < 16) (list_of q v) (begins q).0 (subst (λ (ms : List Made). Each (λ m. m.stake < 16) ms) (begins q).1 (k.lists.makers q));
   follows = (k.lists.each_view i v at_i).follows;
+  handles = (k.lists.each_view i v at_i).handles;
   all_logs = knows_logs words views i v k at_i;
+  all_seen = λ every t.
+      let within = seen_within views i v (logged_in views) (unseen_in views) at_i k.seen t in
+      let same = all_logs views i v k.history (byte_words words) (total_of (shown words views)) at_i k.logs every (counted_on t) in
+      omega arith;
 }
   where
     held : (t : Title) → HasTitle v t → IsTitleHeld (total_of (shown words views)) t
@@ -121,16 +128,29 @@ aware_of words views i v k at_i = record {
     begins : (q : ℕ) → IsBeginning (list_of q v) (k.list q)
     begins q = among_beginning k.list q v.seen_lists (k.lists.each_view i v at_i).beginnings
 
--- a load that changes nothing and tells this
-abbrev pub AwareTells : Me (Unit {0}) View → Me (Unit {0}) View → Type 0
-AwareTells me after = (after.0 ≡ me.0) × (after.1 ≡ me.1) × IsAware me.0
+-- whatever a step tells, it also tells what the rule says of the view after it
+pub tells_aware : (slots id place : ℕ) (me : Me (Unit {0}) View) (change : ℕ → ℕ) (then : ℕ → Me (Unit {0}) View → Type 0) →
+    Allows (λ (s : TableState (Unit {0}) View). IsKept s.words s.views) slots id me place change then →
+    Allows (λ (s : TableState (Unit {0}) View). IsKept s.words s.views) slots id me place change (λ word after. then word after × IsAware after.0)
+tells_aware slots id place me change then allowed s k homes at_id small =
+    let step = allowed s k homes at_id small in (
+      step.0,
+      step.1,
+      step.2,
+      step.3,
+      (step.4, aware_of (set s.words place (change (slice_index s.words place))) (set s.views id step.0) id step.0 step.3 (put_there s.views id me.0 step.0 at_id)),
+    )
 
-pub aware_allowed : (slots id place : ℕ) (me : Me (Unit {0}) View) →
-    Allows (λ (s : TableState (Unit {0}) View). IsKept s.words s.views) slots id me place (λ n. n) (λ word after. AwareTells me after)
-aware_allowed slots id place me s k homes at_id small = (
+-- a load that changes nothing
+abbrev pub Stays : Me (Unit {0}) View → Me (Unit {0}) View → Type 0
+Stays me after = (after.0 ≡ me.0) × (after.1 ≡ me.1)
+
+pub stays_allowed : (slots id place : ℕ) (me : Me (Unit {0}) View) →
+    Allows (λ (s : TableState (Unit {0}) View). IsKept s.words s.views) slots id me place (λ n. n) (λ word after. Stays me after)
+stays_allowed slots id place me s k homes at_id small = (
   me.0,
   keeps,
   tt,
   subst (λ (ws : List ℕ). IsKept ws (set s.views id me.0)) (sym (set-get_or s.words place 0)) (subst (λ (vs : List View). IsKept s.words vs) (sym (set_again s.views id me.0 at_id)) k),
-  (refl, refl, aware_of s.words s.views id me.0 k at_id),
+  (refl, refl),
 )

@@ -1,5 +1,6 @@
 -- A counted step keeps the rule.
-use Rattle.std.proofs.Common.{◌≡◌, ℕ, ◌+◌, ◌<◌, ◌≤◌, ◌&&◌, List, ◌∷◌, set, refl, ◌∙◌, ap, subst, arith, ◌⊎◌, inl, inr, ltb}
+use Rattle.std.proofs.Common.{◌≡◌, ℕ, ◌+◌, ◌<◌, ◌≤◌, ◌&&◌, List, ◌∷◌, set, length, refl, ◌∙◌, ap, subst, arith, ◌⊎◌, inl, inr, ltb}
+use Rattle.std.proofs.lemmas.List.{length-set}
 use Rattle.std.specs.List.{sum_by}
 use Rattle.std.proofs.lemmas.Bool.{cases_lt}
 use mathlib.Core.Option.{some}
@@ -22,7 +23,7 @@ use Rattle.pa_machine.proofs.Happening.{happens_good}
 use Rattle.pa_region.specs.declared.view.OwnTitle.{OwnTitle}
 use Rattle.pa_region.specs.declared.view.Entry.{Entry}
 use Rattle.pa_region.specs.declared.view.View.{View}
-use Rattle.pa_region.specs.Views.{held_of_view, byte_words, shown, idle_of, idle_in, budget_in, low_in, uncut_in, stake_of, stakes_in, logged_of, logged_in, counted, counted_on, names, seen_among, HasStake}
+use Rattle.pa_region.specs.Views.{held_of_view, byte_words, shown, idle_of, idle_in, budget_in, low_in, uncut_in, stake_of, stakes_in, logged_of, logged_in, counted, counted_on, names, uncuts, seen_among, HasStake}
 use Rattle.pa_region.specs.History.{reached}
 use Rattle.pa_region.specs.Rule.{IsKept}
 use Rattle.pa_region.specs.Moves.{without, is_own_of, CanCount, moved, value_of, after_count}
@@ -30,14 +31,15 @@ use Rattle.pa_region.proofs.Adding.{sum_set, one_lt, first_of}
 use Rattle.pa_region.proofs.Pieces.{HasPiece, handle_piece, total_set, held_within, lost_by, gained_by, moved_changes, owns_have, refs_have}
 use Rattle.pa_region.proofs.HolderPart.{IsCountStep, holders_count, held_after}
 use Rattle.pa_region.proofs.ReservationPart.{reservations_count}
+use Rattle.pa_region.proofs.NamePart.{named_more}
 use Rattle.pa_region.proofs.LogPart.{history_by, logs_count, reached_number}
 use Rattle.pa_region.proofs.SeenPart.{seen_entered, note, note_here}
 use Rattle.pa_region.proofs.Entering.{noted_logs, noted_stakes, logged_set, logged_grows}
 use Rattle.pa_region.proofs.Idle.{moved_idle_other, idle_within, copy_idle}
 use Rattle.pa_region.proofs.Bytes.{bytes_set, held_in_all, place_below}
-use Rattle.pa_region.proofs.Stays.{low_set, uncut_set, stakes_set, low_raw}
+use Rattle.pa_region.proofs.Stays.{low_set, stakes_set, low_raw}
 use Rattle.pa_region.proofs.Found.{handle_held, count_can}
-use Rattle.pa_region.proofs.MovedRest.{moved_raws, moved_stakes, moved_uncut, moved_seen, entry_of}
+use Rattle.pa_region.proofs.MovedRest.{moved_raws, moved_stakes, moved_seen, entry_of}
 use Rattle.pa_region.proofs.ReadsCount.{reads_count}
 use Rattle.pa_region.proofs.CountEvent.{count_event, count_content}
 use Rattle.pa_region.proofs.CountValues.{count_values}
@@ -148,7 +150,10 @@ count_keeps step t words views i v k at_i can =
       reservations = reservations_count t (byte_words words) (total_of (shown words views)) _ (idle_in views) (budget_in views) (logged_in views counted)
           (low_in views) (low_in (set views i w)) _ _ (uncut_in views) (uncut_in (set views i w))
           k.reservations k.holders held (λ u y. (back u).1 y) (low_set views i v w at_i (moved_raws step t word v)) (low_raw words views)
-          (λ u. more (names u)) (uncut_set views i v w at_i (moved_uncut step t word v));
+          (λ u. more (names u)) (λ u. let m = more (uncuts u) in omega arith);
+      named = named_more t (length (byte_words words)) (length (byte_words (set words (count_place t) (stepped step word)))) (total_of (shown words views)) (total_of (shown (set words (count_place t) (stepped step word)) (set views i w))) (low_in views) _ _ (uncut_in views) (uncut_in (set views i w))
+          k.named k.reservations k.holders.good.divided held (rw at_place (length-set (byte_words words) (count_place t) (stepped step word))) (λ u none y. (back u).0 y)
+          (λ u. more (names u)) (λ u. let m = more (uncuts u) in omega arith);
       logs = rw at_place (
           logs_count step t x.0 (value_of step t v) (byte_words words) (total_of (shown words views)) _ (idle_in views) (budget_in views) (logged_in views counted)
           k.history (logged_in views) (logged_in (set views i w)) (stakes_in views) (stakes_in (set views i w)) k.logs k.holders x.1

@@ -5,53 +5,37 @@ use Rattle.std.specs.List.{sum_by}
 use mathlib.Core.Option.{some, some-injective, some-ne-none}
 use lib.ListN.{get_elem?}
 use Rattle.pa_machine.specs.declared.title.Title.{Title}
-use Rattle.pa_machine.specs.Titles.{count_word}
 use Rattle.pa_machine.specs.Holdings.{Thing}
 use Rattle.pa_machine.specs.Events.{total_of}
 use Rattle.pa_region.specs.declared.view.Entry.{Entry}
 use Rattle.pa_region.specs.declared.view.Stake.{Stake}
 use Rattle.pa_region.specs.declared.view.View.{View}
 use Rattle.std.proofs.lemmas.List.{get_or-take, length-take-le}
-use Rattle.pa_region.specs.Views.{byte_words, shown, stakes_in, logged_of, logged_in}
+use Rattle.pa_region.specs.Views.{byte_words, shown, stakes_in, logged_of, logged_in, names}
 use Rattle.pa_region.specs.History.{Done}
 use Rattle.pa_region.specs.Rule.{Logs, IsKept}
 use Rattle.pa_region.specs.AllReads.{HasAllLogs}
 use Rattle.pa_region.proofs.WholeReads.{any_none, all_of, whole_reads}
-use Rattle.pa_region.proofs.Pieces.{title_held}
-use Rattle.atomic_table.specs.Table.{Final}
-use Rattle.atomic_table.specs.Table.{Seen as SeenAt, State as TableState}
 use Rattle.pa_region.specs.Views.{HasEveryStake}
-use Rattle.pa_region.specs.History.{IsChained, reached}
-use Rattle.pa_region.specs.Start.{IsEnd}
-use Rattle.pa_region.proofs.Bytes.{held_in_all}
+use Rattle.pa_region.specs.History.{IsChained}
 
 -- the logs of all views are those of the one that has every stake
-all_logs : (views : List View) (i : ℕ) (v : View) (history : Title → List Done) (words : List ℕ) (total : Thing → ℕ) → get_elem? views i ≡ some v →
+pub all_logs : (views : List View) (i : ℕ) (v : View) (history : Title → List Done) (words : List ℕ) (total : Thing → ℕ) → get_elem? views i ≡ some v →
     Logs history words total (logged_in views) (stakes_in views) → HasEveryStake v → (weight : Entry → ℕ) → logged_in views weight ≡ logged_of v weight
 all_logs views i v history words total at_i l every weight =
     all_of (λ (s : Stake). sum_by weight s.log) views i v at_i every l.each_stake (λ u none. any_none (sum_by weight) u.stakes none)
 
 -- so it knows all logs
-pub knows_logs : (words : List ℕ) (views : List View) (i : ℕ) (v : View) → IsKept words views → get_elem? views i ≡ some v → HasEveryStake v → HasAllLogs v
+unfoldable pub knows_logs : (words : List ℕ) (views : List View) (i : ℕ) (v : View) → IsKept words views → get_elem? views i ≡ some v → HasEveryStake v → HasAllLogs v
 knows_logs words views i v k at_i every =
-    let same : logged_in views ≡ logged_of v = λ n weight. all_logs views i v k.history (byte_words words) (total_of (shown words views)) at_i k.logs every weight n in
+    let own_logs : (weight : Entry → ℕ) → logged_in views weight ≡ logged_of v weight = all_logs views i v k.history (byte_words words) (total_of (shown words views)) at_i k.logs every in
+    let same : logged_in views ≡ logged_of v = λ n weight. own_logs weight n in
     record {
       history = k.history;
       chain = λ t. subst (λ (logs : (Entry → ℕ) → ℕ). IsChained logs t (k.history t)) same (k.logs.chain t);
+      well = λ t known. let e = own_logs (names t) in rw (k.values.long i v at_i) (k.named.well t (omega arith));
+      one_name = λ t u known other start born. let e = own_logs (names t) in let f = own_logs (names u) in k.named.one_name t u (omega arith) (omega arith) start born;
       reads = whole_reads k.history (byte_words words) views i v k.reads at_i every k.logs.each_stake;
-    }
-
--- what the words of the end say to that view
-pub ends : (id : ℕ) (v : View) (words : List ℕ) (slots : List (Unit {0})) → HasEveryStake v →
-    Final (SeenAt (λ (s : TableState (Unit {0}) View). IsKept s.words s.views) id v) words slots → IsEnd (byte_words words) v
-unfolding knows_logs
-ends id v words slots every f =
-    let s = f.0 in
-    let k = f.1.0 in
-    let at_id = f.1.1 in
-    record {
-      logs = knows_logs s.words s.views id v k at_id every;
-      last = λ t held. subst (λ (ws : List ℕ). count_word (byte_words ws) t ≡ reached (k.history t)) f.2 (k.logs.last t (held_in_all s.words s.views id v t at_id (title_held v t held)));
     }
 
 -- a word that the table's list has, among those of the bytes

@@ -128,6 +128,7 @@ beside_listed list k m u l no_keeper no_stake = record {
   made = λ q. go q (eqb q k);
   noticed = l.noticed;
   follows = l.follows;
+  handles = l.handles;
 }
   where
     go : (q : ℕ) (c : Bool) → Each (λ (s : Stake). made_with s.number (if c then list q ++ m ∷ [] else list q) ≡ entered_in q s.log) u.stakes
@@ -136,7 +137,7 @@ beside_listed list k m u l no_keeper no_stake = record {
     go q false = l.made q
 
 -- what the entering view has seen of each list afterwards
-seen_after : (k : ℕ) (numbers : List ℕ) (v : View) (q : ℕ) → list_of q (after_enter k numbers v) ≡ (if eqb q k then list_of q v ++ new_entry numbers v ∷ [] else list_of q v)
+pub seen_after : (k : ℕ) (numbers : List ℕ) (v : View) (q : ℕ) → list_of q (after_enter k numbers v) ≡ (if eqb q k then list_of q v ++ new_entry numbers v ∷ [] else list_of q v)
 seen_after k numbers v q = elim (eqb_tells q k) [
   | inl y ↦ subst (λ (n : ℕ). list_of n (after_enter k numbers v) ≡ (if eqb n k then list_of n v ++ new_entry numbers v ∷ [] else list_of n v)) (sym y.1) here
   | inr n ↦ rw (eqb_flip q k false n.0, n.0) refl
@@ -169,6 +170,7 @@ here_listed list k numbers v l has one_keeper one_stake =
       noticed = λ q. subst (λ (xs : List Made). Each (λ (s : Stake). made_with s.number xs ≡ entered_in q s.log) w.stakes) (sym (seen_after k numbers v q))
           (entering_made k q m (list_of q v) v.stakes refl one_stake (l.noticed q));
       follows = λ q. subst (λ (xs : List Made). Each (IsKnownTo v.seen) xs) (sym (seen_after k numbers v q)) (known q (eqb q k));
+      handles = l.handles;
     }
   where
     at_k : list_with list k (new_entry numbers v) k ≡ list k ++ new_entry numbers v ∷ []

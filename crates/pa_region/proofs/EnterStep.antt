@@ -1,6 +1,5 @@
 -- An entry in a keeper's list keeps the rule.
-use Rattle.std.proofs.Common.{◌≡◌, ℕ, ◌+◌, ◌≤◌, List, set, refl, sym, ◌∙◌, ap, subst, arith, inl, inr, eqb}
-use Rattle.std.specs.Prelude.{Some}
+use Rattle.std.proofs.Common.{◌≡◌, ℕ, ◌+◌, ◌≤◌, List, length, set, refl, sym, ◌∙◌, ap, subst, arith, inl, inr}
 use mathlib.Core.Option.{some}
 use lib.ListN.{get_elem?}
 use Rattle.atomic_table.specs.Seated.{TableId}
@@ -11,11 +10,9 @@ use Rattle.pa_machine.specs.declared.title.Title.{Title}
 use Rattle.pa_machine.specs.Holdings.{Piece, Thing, FreeTitle, OwnOf, RefOf, IsTitleHeld}
 use Rattle.pa_machine.specs.Events.{total_of}
 use Rattle.pa_region.specs.declared.view.Entry.{Entry}
-use Rattle.pa_region.specs.declared.view.Entry.TheVariants.{Looked, Entered}
+use Rattle.pa_region.specs.declared.view.Entry.TheVariants.{Entered}
 use Rattle.pa_region.specs.declared.view.View.{View}
-use Rattle.pa_region.specs.Views.{pieces_of, byte_words, shown, idle_of, idle_in, budget_in, low_in, uncut_in, stakes_in, least_stake, logged_of, logged_in, ahead_of, ahead_in, unseen_by, unseen_of, unseen_in, counted, counted_on, counted_at, names, HasStake}
-use Rattle.pa_region.specs.Pairs.{last_entry, least_log, weight_after, paired_in, paired_by, logged_by}
-use Rattle.pa_region.specs.Waiting.{gave_no_poison, quiet_read, poisoned_apart, IsReader, Reads}
+use Rattle.pa_region.specs.Views.{pieces_of, byte_words, shown, idle_of, idle_in, budget_in, low_in, uncut_in, stakes_in, logged_of, logged_in, ahead_of, ahead_in, unseen_by, unseen_of, unseen_in, counted, counted_on, names, uncuts, HasStake}
 use Rattle.pa_region.specs.Rule.{IsKept}
 use Rattle.pa_region.specs.Shares.{IsSound}
 use Rattle.pa_region.specs.Entries.{new_entry, after_enter, CanEnter}
@@ -24,48 +21,15 @@ use Rattle.pa_region.proofs.Pieces.{total_set}
 use Rattle.pa_region.proofs.HolderPart.{holders_same}
 use Rattle.pa_region.proofs.ValuePart.{values_same}
 use Rattle.pa_region.proofs.ReservationPart.{reservations_same}
+use Rattle.pa_region.proofs.NamePart.{named_same}
 use Rattle.pa_region.proofs.LogPart.{chain_other}
 use Rattle.pa_region.proofs.SeenPart.{seen_same}
 use Rattle.pa_region.proofs.Entering.{noted_logs, noted_stakes, logged_set}
 use Rattle.pa_region.proofs.Shown.{map_same}
-use Rattle.pa_region.proofs.Stays.{low_set, uncut_set, stakes_set}
-use Rattle.pa_region.proofs.ReadsSame.{each_set, stake_noted, none_more}
-use Rattle.pa_region.proofs.Readings.{right_same}
-use Rattle.pa_region.proofs.PairSums.{paired_set}
-use Rattle.pa_region.proofs.PairSums.{paired_by_set}
-use Rattle.pa_region.proofs.PairSums.{logged_by_set}
-use Rattle.pa_region.proofs.PoisonedOwns.{apart_set}
-use Rattle.pa_region.proofs.Readings.{gave_none_after}
-use Rattle.pa_region.proofs.Readings.{quiet_none_after}
-use Rattle.pa_region.proofs.Waitings.{last_noted}
+use Rattle.pa_region.proofs.Stays.{low_set, stakes_set}
+use Rattle.pa_region.proofs.EntryReads.{entry_reads}
 use Rattle.pa_region.proofs.SeatStakes.{SameStakes}
 use Rattle.pa_region.proofs.EnterLists.{list_with, enter_lists}
-
--- what the rule says of reads: the entry is none of one
-enter_reads : (k : ℕ) (numbers : List ℕ) (words : List ℕ) (views : List View) (i : ℕ) (v : View) (r : IsKept words views) → get_elem? views i ≡ some v → HasStake v →
-    Reads r.history (byte_words words) (set views i (after_enter k numbers v))
-enter_reads k numbers words views i v r at_i has =
-    let w = after_enter k numbers v in
-    let e = Entered k (new_entry numbers v) in
-    record {
-      right = right_same r.history (paired_in views) (paired_in (set views i w)) (paired_by views) (paired_by (set views i w)) (logged_by views) (logged_by (set views i w))
-          (poisoned_apart views) (poisoned_apart (set views i w)) r.reads.right
-          (let p = paired_set views i v w e at_i refl has gave_no_poison in
-          let z = gave_none_after (last_entry (least_log v.stakes)) e refl in omega arith)
-          (λ own u found value.
-          let p = paired_set views i v w e at_i refl has (quiet_read own u found value) in
-          let z = quiet_none_after own u found value (last_entry (least_log v.stakes)) e refl in omega arith)
-          (λ n own u found value. none_more (eqb (least_stake v.stakes) n) (weight_after (quiet_read own u found value) (last_entry (least_log v.stakes)) e) _ _
-          (paired_by_set views i v w e at_i refl has n (quiet_read own u found value)) (quiet_none_after own u found value (last_entry (least_log v.stakes)) e refl))
-          (λ n u number. none_more (eqb (least_stake v.stakes) n) (counted_at u number e) _ _ (logged_by_set views i v w e at_i refl has n (counted_at u number)) refl)
-          (λ u n some_own. let l = apart_set views i v w at_i (λ q. noted_stakes e v.stakes q has) u n (omega arith) in omega arith);
-      each_view = each_set (IsReader r.history (byte_words words)) (IsReader r.history (byte_words words)) views i v w at_i r.reads.each_view
-          (record {
-            waits = λ u found is quiet. let no_look : Some e ≡ Some (Looked u found) = sym (last_noted e v.stakes has) ∙ is in absurd (cc);
-            stake = λ some_own. stake_noted e v w refl has;
-          })
-          (λ j u ne at_j reader. reader);
-    }
 
 -- the core that is shown stays
 enter_shown : (k : ℕ) (numbers : List ℕ) (words : List ℕ) (views : List View) (i : ℕ) (v : View) → get_elem? views i ≡ some v →
@@ -99,14 +63,17 @@ enter_keeps k numbers words views i v r at_i can =
           (let m = more counted in omega arith);
       values = values_same (byte_words words) views i v w at_i r.values refl (λ q knows. knows);
       reservations = reservations_same (total_of (shown words views)) (total_of (shown words (set views i w))) (low_in views) (low_in (set views i w)) _ _ (uncut_in views) (uncut_in (set views i w))
-          r.reservations back (low_set views i v w at_i refl) (λ u. let m = more (names u) in omega arith) (uncut_set views i v w at_i refl);
+          r.reservations back (low_set views i v w at_i refl) (λ u. let m = more (names u) in omega arith) (λ u. let m = more (uncuts u) in omega arith);
+      named = named_same (length (byte_words words)) (length (byte_words words)) (total_of (shown words views)) (total_of (shown words (set views i w))) _ _ (uncut_in views) (uncut_in (set views i w))
+          r.named refl (λ u y. let p = same (FreeTitle u) in let q = same (OwnOf u) in let s = same (RefOf u) in omega arith)
+          (λ u. let m = more (names u) in omega arith) (λ u. let m = more (uncuts u) in omega arith);
       logs = record {
         chain = λ u. chain_other (logged_in views) (logged_in (set views i w)) e u (r.history u) (r.logs.chain u) more refl (λ n. refl) (λ p found written. refl) (λ found some_look. absurd (omega arith));
         last = λ u y. r.logs.last u (back u y);
         each_stake = λ n. stakes_set views i v w at_i (λ m. noted_stakes e v.stakes m stake) n ∙ r.logs.each_stake n;
       };
       content = rw (enter_shown k numbers words views i v at_i) r.content;
-      reads = enter_reads k numbers words views i v r at_i stake;
+      reads = entry_reads r.history words views i v w e at_i r.reads refl refl stake refl (λ u found look. absurd (cc)) (λ u n. refl);
       seen = seen_same (logged_in views) (logged_in (set views i w)) (ahead_in views) (ahead_in (set views i w)) (unseen_in views) (unseen_in (set views i w)) r.seen
           (λ u. let m = more (counted_on u) in omega arith)
           (λ u n. let c = sum_set (λ z. ahead_of z u n) views i v w at_i in omega arith)

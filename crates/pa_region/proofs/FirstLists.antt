@@ -1,5 +1,5 @@
 -- The fifth part at the start: empty lists, with keepers and leases in the first view.
-use Rattle.std.proofs.Common.{◌≡◌, ℕ, zero, suc, ◌+◌, ◌<◌, ◌≤◌, List, [], ◌∷◌, refl, sym, ap, subst, arith, ◌⊎◌, inl, inr, eqb, leb}
+use Rattle.std.proofs.Common.{◌≡◌, ℕ, zero, suc, ◌+◌, ◌<◌, ◌≤◌, [], ◌∷◌, refl, sym, ap, subst, arith, ◌⊎◌, inl, inr, eqb, leb}
 use Rattle.std.specs.Prelude.{slice_index}
 use Rattle.std.specs.List.{sum_by}
 use Rattle.core.specs.List.{AllByRecursion as Each}
@@ -7,7 +7,6 @@ use Rattle.std.proofs.lemmas.List.Sums.{sum_by-cons}
 use Rattle.std.proofs.lemmas.Bool.{cases_lt, le-leb}
 use mathlib.Core.Option.{some, some-injective, some-ne-none}
 use lib.ListN.{get_elem?}
-use Rattle.pa_machine.specs.declared.title.Title.{Title}
 use Rattle.pa_machine.specs.Count.{number_of}
 use Rattle.pa_machine.specs.Titles.{count_place, count_word}
 use Rattle.pa_machine.specs.Holdings.{one}
@@ -66,25 +65,26 @@ stakes_empty k from zero = tt
 stakes_empty k from (suc count) = (refl, stakes_empty k (suc from) count)
 
 -- the first view, to the empty lists
-first_listed : (words budget : ℕ) (titles : List Title) → IsListed (λ k. []) (first_view words budget titles)
-first_listed words budget titles = record {
+first_listed : (words budget : ℕ) → IsListed (λ k. []) (first_view words budget)
+first_listed words budget = record {
   beginnings = tt;
   whole = λ k has. refl;
   kept = keepers_empty 0 6;
   made = λ k. stakes_empty k 0 16;
   noticed = λ k. stakes_empty k 0 16;
   follows = λ k. tt;
+  handles = λ t has. absurd (omega arith);
 }
 
 -- its words are 0, so it has seen all numbers of its free titles
-first_free : (words budget : ℕ) (titles : List Title) → HasSeenFree (first_view words budget titles)
-first_free words budget titles t free =
+first_free : (words budget : ℕ) → HasSeenFree (first_view words budget)
+first_free words budget t free =
     let z : number_of (count_word (blank words) t) ≡ 0 = ap number_of (blank_at words (count_place t)) in
     omega arith
 
 -- the part at the start
-pub first_lists : (words budget : ℕ) (titles : List Title) → Lists (λ k. []) (first_view words budget titles ∷ [])
-first_lists words budget titles = record {
+pub first_lists : (words budget : ℕ) → Lists (λ k. []) (first_view words budget ∷ [])
+first_lists words budget = record {
   each_keeper = λ k.
       let s = keeper_count 0 6 k in
       elim (stake_count 0 6 k) [
@@ -94,10 +94,10 @@ first_lists words budget titles = record {
   each_lease = λ n. let z : one (leb 0 n) ≡ 1 = ap one (le-leb 0 n (omega arith)) in omega arith;
   rises = λ k. tt;
   makers = λ k. tt;
-  each_view = λ i v at_i. subst (IsListed (λ k. [])) (only i v at_i) (first_listed words budget titles);
-  free_seen = λ i v at_i. subst HasSeenFree (only i v at_i) (first_free words budget titles);
+  each_view = λ i v at_i. subst (IsListed (λ k. [])) (only i v at_i) (first_listed words budget);
+  free_seen = λ i v at_i. subst HasSeenFree (only i v at_i) (first_free words budget);
 }
   where
-    only : (i : ℕ) (v : View) → get_elem? (first_view words budget titles ∷ []) i ≡ some v → first_view words budget titles ≡ v
-    only zero v at_i = some-injective (first_view words budget titles) v at_i
+    only : (i : ℕ) (v : View) → get_elem? (first_view words budget ∷ []) i ≡ some v → first_view words budget ≡ v
+    only zero v at_i = some-injective (first_view words budget) v at_i
     only (suc i) v at_i = absurd (some-ne-none v (sym at_i))

@@ -8,20 +8,21 @@ use Rattle.std.proofs.lemmas.List.Filters.{sum_by-filter_both}
 use mathlib.Core.Option.{some}
 use lib.ListN.{get_elem?}
 use Rattle.atomic_table.proofs.Lists.{at_snoc}
+use Rattle.pa_machine.specs.declared.title.Title.{Title}
 use Rattle.pa_machine.specs.Titles.{same_title}
-use Rattle.pa_machine.specs.Holdings.{Thing, RawByte, FreeTitle, OwnOf, one}
+use Rattle.pa_machine.specs.Holdings.{Thing, RawByte, FreeTitle, OwnOf, RefOf, one}
 use Rattle.pa_region.specs.declared.view.Made.{Made}
 use Rattle.pa_region.specs.declared.view.Stake.{Stake}
 use Rattle.pa_region.specs.declared.view.Keeper.{Keeper}
 use Rattle.pa_region.specs.declared.view.View.{View}
-use Rattle.pa_region.specs.Views.{held_of_view, byte_words, Knows, least_stake, HasStake}
+use Rattle.pa_region.specs.Views.{held_of_view, byte_words, own_of, ref_of, Knows, least_stake, HasStake}
 use Rattle.pa_region.specs.Pairs.{pairs, amount_by}
 use Rattle.pa_region.specs.Waiting.{is_poisoned, is_unclean, unclean_of, IsReader}
 use Rattle.pa_region.proofs.ReadsSame.{reader_handed}
 use Rattle.pa_region.specs.Rule.{IsKept}
 use Rattle.pa_region.specs.Lists.{keeper_of, made_with, entered_in, list_of, IsListed, HasSeenFree}
 use Rattle.pa_region.specs.Hands.{Parcel, empty_of, left_after, given_after, CanHand, IsParted}
-use Rattle.pa_region.proofs.Pieces.{frees_have, owns_have}
+use Rattle.pa_region.proofs.Pieces.{frees_have, owns_have, refs_have}
 use Rattle.pa_region.proofs.Parting.{items_owns, given_nothing, items_part, items_floors, items_idle}
 use Rattle.pa_region.proofs.LeasePart.{leases_sum}
 use Rattle.pa_region.proofs.ListPart.{each_set}
@@ -42,7 +43,6 @@ hand_parts p v can = record {
   stakes = λ k. stakes_part p v (λ s. one (eqb s.number k));
   keepers = λ k. let e = sum_by-filter_both (λ (q : Keeper). p.keepers q.number) (λ q. not (p.keepers q.number)) (λ q. refl) (λ q. one (eqb q.number k)) v.keepers in omega arith;
   leases = λ n. let e = leases_sum p.leases v.leases can.leases n in omega arith;
-  uncut = λ t. omega arith;
   pairs = λ weight. stakes_part p v (λ s. pairs weight s.log);
   pairs_by = λ k weight. stakes_part p v (amount_by k (pairs weight));
   logs_by = λ k weight. stakes_part p v (amount_by k (sum_by weight));
@@ -103,14 +103,15 @@ module _ {A : Type 0} where
 -- a view with some of the stakes and keepers stays as it was to the lists
 listed_part : (list : ℕ → List Made) (v w : View) (stakes keepers : ℕ → Bool) → IsListed list v → w.seen_lists ≡ v.seen_lists → w.seen ≡ v.seen →
     w.stakes ≡ filter (λ (s : Stake). stakes s.number) v.stakes → w.keepers ≡ filter (λ (q : Keeper). keepers q.number) v.keepers →
-    ((k : ℕ) → keeper_of w k ≤ keeper_of v k) → IsListed list w
-listed_part list v w stakes keepers l lists seen s q less = record {
+    ((k : ℕ) → keeper_of w k ≤ keeper_of v k) → ((t : Title) → own_of w t + ref_of w t ≤ own_of v t + ref_of v t) → IsListed list w
+listed_part list v w stakes keepers l lists seen s q less fewer = record {
   beginnings = rw lists l.beginnings;
   whole = λ k has. rw lists (l.whole k (let e = less k in omega arith));
   kept = rw q (each_filter (λ (q : Keeper). q.entries ≡ list q.number) (λ (q : Keeper). keepers q.number) v.keepers l.kept);
   made = λ k. rw s (each_filter (λ (s : Stake). made_with s.number (list k) ≡ entered_in k s.log) (λ (s : Stake). stakes s.number) v.stakes (l.made k));
   noticed = λ k. rw (lists, s) (each_filter (λ (s : Stake). made_with s.number (list_of k v) ≡ entered_in k s.log) (λ (s : Stake). stakes s.number) v.stakes (l.noticed k));
   follows = λ k. rw (lists, seen) (l.follows k);
+  handles = λ t has. rw seen (l.handles t (let e = fewer t in omega arith));
 }
 
 -- the view of who gave, and that of who gets
@@ -120,11 +121,20 @@ left_keepers p v can k = let e = (hand_parts p v can).keepers k in omega arith
 given_keepers : (p : Parcel) (v : View) → CanHand p v → (k : ℕ) → keeper_of (given_after p v) k ≤ keeper_of v k
 given_keepers p v can k = let e = (hand_parts p v can).keepers k in omega arith
 
+-- who holds less has fewer handles
+fewer_handles : (v w : View) → ((x : Thing) → held_of_view w x ≤ held_of_view v x) → (t : Title) → own_of w t + ref_of w t ≤ own_of v t + ref_of v t
+fewer_handles v w less t =
+    let o = less (OwnOf t) in let r = less (RefOf t) in
+    let o1 = owns_have v t in let o2 = owns_have w t in let r1 = refs_have v t in let r2 = refs_have w t in
+    omega arith
+
 pub left_listed : (list : ℕ → List Made) (p : Parcel) (v : View) → CanHand p v → IsListed list v → IsListed list (left_after p v)
 left_listed list p v can l = listed_part list v (left_after p v) (λ k. not (p.stakes k)) (λ k. not (p.keepers k)) l refl refl refl refl (left_keepers p v can)
+    (fewer_handles v (left_after p v) (λ x. let e = (hand_parts p v can).things x in omega arith))
 
 pub given_listed : (list : ℕ → List Made) (p : Parcel) (v : View) → CanHand p v → IsListed list v → IsListed list (given_after p v)
 given_listed list p v can l = listed_part list v (given_after p v) p.stakes p.keepers l refl refl refl refl (given_keepers p v can)
+    (fewer_handles v (given_after p v) (λ x. let e = (hand_parts p v can).things x in omega arith))
 
 -- a hand keeps the rule
 pub hand_keeps : (p : Parcel) (words : List ℕ) (views : List View) (i : ℕ) (v : View) → IsKept words views → get_elem? views i ≡ some v → CanHand p v →

@@ -7,6 +7,7 @@ use Rattle.std.proofs.lemmas.Bool.Decides.{eqb_tells}
 use Rattle.pa_region.specs.declared.view.Made.{Made}
 use Rattle.pa_region.specs.declared.view.SeenList.{SeenList}
 use Rattle.pa_region.specs.Lists.{longer, list_among, made_with, IsBeginning}
+use Rattle.pa_region.specs.Takes.{IsLongest}
 use Rattle.pa_region.proofs.ListFacts.{made_append}
 
 -- the longer one of two
@@ -15,12 +16,6 @@ longer_is a b = elim (cases_lt (length a) (length b)) [
   | inl y ↦ inl (rw (lt-ltb (length a) (length b) y) refl, y)
   | inr n ↦ inr (rw (le-ltb (length a) (length b) n) refl, n)
 ]
-
--- the list that is seen in two lists of notes is one of the two that are, and as long as each
-pub record IsLongest (whole a b : List Made) : Type 0 where
-  pub either : (whole ≡ a) ⊎ (whole ≡ b)
-  pub first : length a ≤ length whole
-  pub second : length b ≤ length whole
 
 -- the lengths of equal lists
 same_long : (a b : List Made) → a ≡ b → length a ≡ length b

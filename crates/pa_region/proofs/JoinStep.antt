@@ -17,7 +17,7 @@ use Rattle.pa_region.specs.declared.view.Made.{Made}
 use Rattle.pa_region.specs.declared.view.Stake.{Stake}
 use Rattle.pa_region.specs.declared.view.Keeper.{Keeper}
 use Rattle.pa_region.specs.declared.view.View.{View}
-use Rattle.pa_region.specs.Views.{raw_piece, own_piece, held_of_view, byte_words, Knows, free_of, idle_of, seen_of, least_stake}
+use Rattle.pa_region.specs.Views.{raw_piece, own_piece, held_of_view, byte_words, Knows, free_of, own_of, ref_of, idle_of, seen_of, least_stake}
 use Rattle.pa_region.specs.Pairs.{pairs, amount_by}
 use Rattle.pa_region.specs.Waiting.{is_poisoned, is_unclean, IsReader}
 use Rattle.pa_region.proofs.ReadsSame.{reader_handed}
@@ -60,7 +60,6 @@ united_parts v w = record {
       let a = sum_by-append (λ x. one (eqb x n)) v.leases.single w.leases.single in
       let b = sum_by-append (λ f. one (leb f n)) v.leases.from w.leases.from in
       omega arith;
-  uncut = λ t. sym (sum_by-append (λ u. one (same_title u t)) v.uncut w.uncut);
   pairs = λ weight. sym (sum_by-append (λ (s : Stake). pairs weight s.log) v.stakes w.stakes);
   pairs_by = λ k weight. sym (sum_by-append (amount_by k (pairs weight)) v.stakes w.stakes);
   logs_by = λ k weight. sym (sum_by-append (amount_by k (sum_by weight)) v.stakes w.stakes);
@@ -88,7 +87,6 @@ spent_parts w = record {
   stakes = λ k. refl;
   keepers = λ k. refl;
   leases = λ n. refl;
-  uncut = λ t. refl;
   pairs = λ weight. refl;
   pairs_by = λ k weight. refl;
   logs_by = λ k weight. refl;
@@ -165,6 +163,13 @@ module _ (list : ℕ → List Made) (v w : View) (l : IsListed list v) (r : IsLi
       | inl y ↦ rw y (each_map (IsKnownTo v.seen) (IsKnownTo (v.seen ++ w.seen)) (list_of k v) (λ m known t. let a = known t in let b = seen_left t v.seen w.seen in omega arith) (l.follows k))
       | inr n ↦ rw n (each_map (IsKnownTo w.seen) (IsKnownTo (v.seen ++ w.seen)) (list_of k w) (λ m known t. let a = known t in let b = seen_right t v.seen w.seen in omega arith) (r.follows k))
     ];
+    handles = λ t has.
+        let o = sum_by-append (λ (x : OwnTitle). one (same_title x.title t)) v.owns w.owns in
+        let f = sum_by-append (λ u. one (same_title u t)) v.refs w.refs in
+        elim (cases_lt 0 (own_of v t + ref_of v t)) [
+          | inl y ↦ let a = l.handles t y in let b = seen_left t v.seen w.seen in omega arith
+          | inr n ↦ let a = r.handles t (omega arith) in let b = seen_right t v.seen w.seen in omega arith
+        ];
   }
 
 -- of a view with nothing
@@ -176,6 +181,7 @@ spent_listed list w = record {
   made = λ k. tt;
   noticed = λ k. tt;
   follows = λ k. tt;
+  handles = λ t has. absurd (omega arith);
 }
 
 spent_knows : (w : View) (q : ℕ) → Knows (spent_of w) q → ⊥

@@ -27,6 +27,10 @@ module _ {A : Type 0} where
   each_left P [] ys e = tt
   each_left P (x ∷ xs) ys e = (e.0, each_left P xs ys e.1)
 
+  pub each_right : (P : A → Type 0) (xs ys : List A) → Each P (xs ++ ys) → Each P ys
+  each_right P [] ys e = e
+  each_right P (x ∷ xs) ys e = each_right P xs ys e.1
+
   -- where one member changes
   pub each_changed : (P : A → Type 0) (test : A → Bool) (change : A → A) (xs : List A) → ((x : A) → P x → P (change x)) → Each P xs → Each P (changed test change xs)
   each_changed P test change [] h e = tt

@@ -1,5 +1,5 @@
 -- The fifth part after a step that enters nothing: the lists stay.
-use Rattle.std.proofs.Common.{◌≡◌, ℕ, ◌<◌, ◌≤◌, List, [], set, refl, sym, ◌∙◌, ap, subst, arith, ◌⊎◌, inl, inr, eqb}
+use Rattle.std.proofs.Common.{◌≡◌, ℕ, ◌+◌, ◌<◌, ◌≤◌, List, [], set, refl, sym, ◌∙◌, ap, subst, arith, ◌⊎◌, inl, inr, eqb}
 use Rattle.core.specs.List.{AllByRecursion as Each}
 use Rattle.std.proofs.lemmas.Bool.Decides.{eqb_tells}
 use mathlib.Core.Option.{some, some-injective}
@@ -11,7 +11,7 @@ use Rattle.pa_region.specs.declared.view.Stake.{Stake}
 use Rattle.pa_region.specs.declared.view.Keeper.{Keeper}
 use Rattle.pa_region.specs.declared.view.SeenList.{SeenList}
 use Rattle.pa_region.specs.declared.view.View.{View}
-use Rattle.pa_region.specs.Views.{seen_of, least_stake}
+use Rattle.pa_region.specs.Views.{seen_of, least_stake, own_of, ref_of}
 use Rattle.pa_region.specs.Moves.{noted}
 use Rattle.pa_region.specs.Lists.{keeper_of, lease_of, list_of, list_among, made_with, entry_in, entered_in, IsBeginning, IsKnownTo, IsListed, HasSeenFree, Lists}
 use Rattle.pa_region.proofs.Adding.{sum_set}
@@ -23,13 +23,14 @@ use Rattle.pa_region.proofs.ListFacts.{each_map, each_changed, entered_nothing}
 abbrev pub IsLogging : List Stake → List Stake → Type 0
 IsLogging before after = (after ≡ before) ⊎ ((e : Entry) × (after ≡ noted e before) × ((k : ℕ) → entry_in k e ≡ []))
 
--- a view after a step that enters nothing: it has seen as much at least
+-- a view after a step that enters nothing: it has seen as much at least, also the issue of a title of which it got a handle
 pub record IsGrown (v w : View) : Type 0 where
   pub keepers : w.keepers ≡ v.keepers
   pub leases : w.leases ≡ v.leases
   pub lists : w.seen_lists ≡ v.seen_lists
   pub stakes : IsLogging v.stakes w.stakes
   pub seen : (t : Title) → seen_of v t ≤ seen_of w t
+  pub handles : (t : Title) → 0 < own_of w t + ref_of w t → (0 < own_of v t + ref_of v t) ⊎ (1 ≤ seen_of w t)
 
 -- what stakes made stays what their logs entered
 logging_keeps : (list : List Made) (k : ℕ) (before after : List Stake) → IsLogging before after →
@@ -51,6 +52,7 @@ listed_grown list v w l g = record {
       (logging_keeps (list_of k v) k v.stakes w.stakes g.stakes (l.noticed k));
   follows = λ k. subst (λ (ns : List SeenList). Each (λ m. IsKnownTo w.seen m) (list_among k ns)) (sym g.lists)
       (each_map (IsKnownTo v.seen) (IsKnownTo w.seen) (list_of k v) (λ m known t. let a = known t in let b = g.seen t in omega arith) (l.follows k));
+  handles = λ t has. elim (g.handles t has) [ inl y ↦ let a = l.handles t y in let b = g.seen t in omega arith | inr n ↦ n ];
 }
 
 -- a fact of each view, where one view changes

@@ -11,7 +11,7 @@ use Rattle.pa_machine.specs.Titles.{same_title, count_word}
 use Rattle.pa_machine.specs.Holdings.{Thing, one, IsTitleHeld}
 use Rattle.pa_machine.proofs.Same.{title_tells, title_self}
 use Rattle.pa_region.specs.declared.view.Entry.{Entry}
-use Rattle.pa_region.specs.declared.view.Entry.TheVariants.{Counted, Looked, Read, Added, Entered}
+use Rattle.pa_region.specs.declared.view.Entry.TheVariants.{Counted, Looked, Read, Added, Entered, Uncut}
 use Rattle.std.proofs.lemmas.Bool.{eq-eqb, eqb-true}
 use Rattle.pa_region.specs.Views.{counted_on, counted_at, counted_as, looked_at, step_number}
 use Rattle.pa_region.specs.History.{Done, reached, IsLegal, IsWordIn, IsLogged, IsChained}
@@ -47,6 +47,7 @@ as_at t step word value (Looked u found) = omega arith
 as_at t step word value (Read u place read since owned unclean) = omega arith
 as_at t step word value (Added word_number bytes) = omega arith
 as_at t step word value (Entered keeper made) = omega arith
+as_at t step word value (Uncut again) = omega arith
 
 -- the number of the last word is the number of steps
 pub reached_number : (history : List Done) → IsLegal history → number_of (reached history) ≡ length history

@@ -17,7 +17,7 @@ use Rattle.pa_region.specs.declared.view.OwnTitle.{OwnTitle}
 use Rattle.pa_region.specs.declared.view.Entry.{Entry}
 use Rattle.pa_region.specs.declared.view.Entry.TheVariants.{Looked}
 use Rattle.pa_region.specs.declared.view.View.{View}
-use Rattle.pa_region.specs.Views.{raw_piece, own_piece, pieces_of, held_of_view, byte_words, shown, Knows, idle_of, idle_in, budget_in, low_in, uncut_in, stakes_in, logged_of, logged_in, counted, counted_on, names, seen_among, HasTitle, HasStake}
+use Rattle.pa_region.specs.Views.{raw_piece, own_piece, pieces_of, held_of_view, byte_words, shown, Knows, idle_of, idle_in, budget_in, low_in, uncut_in, stakes_in, logged_of, logged_in, counted, counted_on, names, uncuts, seen_among, HasTitle, HasStake}
 use Rattle.pa_region.specs.History.{reached}
 use Rattle.pa_region.specs.Rule.{IsKept}
 use Rattle.pa_region.specs.Moves.{changed, is_own_of, idle_if, after_look}
@@ -26,6 +26,7 @@ use Rattle.pa_region.proofs.Adding.{sum_set, one_lt}
 use Rattle.pa_region.proofs.Pieces.{title_held, held_title, held_split, total_set, unchanged_sum, owns_have}
 use Rattle.pa_region.proofs.HolderPart.{holders_same}
 use Rattle.pa_region.proofs.ReservationPart.{reservations_count}
+use Rattle.pa_region.proofs.NamePart.{named_more}
 use Rattle.pa_region.proofs.LogPart.{logs_look, reached_number}
 use Rattle.pa_region.proofs.SeenPart.{seen_entered, note, note_here}
 use Rattle.pa_region.proofs.Entering.{noted_logs, noted_stakes, logged_set}
@@ -33,7 +34,7 @@ use Rattle.pa_region.proofs.Idle.{look_idle_other, look_idle_none}
 use Rattle.pa_region.proofs.Bytes.{held_in_all}
 use Rattle.pa_region.proofs.Shown.{shown_actor, map_same}
 use Rattle.pa_region.proofs.CountEvent.{title_in_core}
-use Rattle.pa_region.proofs.Stays.{low_set, uncut_set, stakes_set, low_raw}
+use Rattle.pa_region.proofs.Stays.{low_set, stakes_set, low_raw}
 use Rattle.pa_region.proofs.ReadsSame.{reads_look}
 use Rattle.pa_region.proofs.ValuePart.{values_same}
 use Rattle.pa_region.proofs.CountLists.{look_lists}
@@ -126,6 +127,8 @@ look_keeps t words views i v k at_i mine has =
     λ x. let c = total_set words words views i v w at_i x in let d = look_holds t word v x in omega arith in
     let back : (u : Title) → IsTitleHeld (total_of (shown words (set views i w))) u → IsTitleHeld (total_of (shown words views)) u =
     λ u y. let p = same (FreeTitle u) in let q = same (OwnOf u) in let r = same (RefOf u) in omega arith in
+    let forth : (u : Title) → IsTitleHeld (total_of (shown words views)) u → IsTitleHeld (total_of (shown words (set views i w))) u =
+    λ u y. let p = same (FreeTitle u) in let q = same (OwnOf u) in let r = same (RefOf u) in omega arith in
     record {
       history = k.history;
       list = k.list;
@@ -144,7 +147,10 @@ look_keeps t words views i v k at_i mine has =
       reservations = reservations_count t (byte_words words) (total_of (shown words views)) _ (idle_in views) (budget_in views) (logged_in views counted)
           (low_in views) (low_in (set views i w)) _ _ (uncut_in views) (uncut_in (set views i w))
           k.reservations k.holders held back (low_set views i v w at_i refl) (low_raw words views)
-          (λ u. more (names u)) (uncut_set views i v w at_i refl);
+          (λ u. more (names u)) (λ u. let m = more (uncuts u) in omega arith);
+      named = named_more t (length (byte_words words)) (length (byte_words words)) (total_of (shown words views)) (total_of (shown words (set views i w))) (low_in views) _ _ (uncut_in views) (uncut_in (set views i w))
+          k.named k.reservations k.holders.good.divided held refl (λ u none y. forth u y)
+          (λ u. more (names u)) (λ u. let m = more (uncuts u) in omega arith);
       logs = logs_look t (byte_words words) (total_of (shown words views)) _ k.history (logged_in views) (logged_in (set views i w)) (stakes_in views) (stakes_in (set views i w))
           k.logs held back more (stakes_set views i v w at_i (λ n. noted_stakes (Looked t word) v.stakes n has));
       content = rw (look_shown t words views i v at_i) k.content;

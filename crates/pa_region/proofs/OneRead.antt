@@ -12,7 +12,7 @@ use Rattle.pa_machine.proofs.Same.{title_tells}
 use Rattle.pa_machine.proofs.Arith.{held_small}
 use Rattle.pa_region.specs.declared.view.Deeds.{Deeds}
 use Rattle.pa_region.specs.declared.view.Entry.{Entry}
-use Rattle.pa_region.specs.declared.view.Entry.TheVariants.{Counted, Looked, Read, Added, Entered}
+use Rattle.pa_region.specs.declared.view.Entry.TheVariants.{Counted, Looked, Read, Added, Entered, Uncut}
 use Rattle.pa_region.specs.declared.view.View.{View}
 use Rattle.pa_region.specs.Views.{counted_at}
 use Rattle.pa_region.specs.History.{Done, reached, IsLegal, IsWordIn, content_of}
@@ -66,6 +66,7 @@ quiet_tells own t found value (Counted x step w v) u place given since owned unc
 quiet_tells own t found value (Read x p v d o c) u place given since owned unclean h = absurd (omega arith)
 quiet_tells own t found value (Added w bytes) u place given since owned unclean h = absurd (omega arith)
 quiet_tells own t found value (Entered keeper numbers) u place given since owned unclean h = absurd (omega arith)
+quiet_tells own t found value (Uncut again) u place given since owned unclean h = absurd (omega arith)
 
 -- nothing was handed over where all was quiet
 quiet_handed : (d : Deeds) → is_quiet d ≡ true → d.handed ≡ false
@@ -129,6 +130,7 @@ gave_poison history words v t place value owned unclean (Counted x step w found)
 gave_poison history words v t place value owned unclean (Read x p given d o c) waits freed = refl
 gave_poison history words v t place value owned unclean (Added w bytes) waits freed = refl
 gave_poison history words v t place value owned unclean (Entered keeper numbers) waits freed = refl
+gave_poison history words v t place value owned unclean (Uncut again) waits freed = refl
 
 -- nor after any last entry
 gave_poison_after : (history : Title → List Done) (words : List ℕ) (v : View) (t : Title) (place value : ℕ) (owned unclean : Bool) (last : Option Entry) →

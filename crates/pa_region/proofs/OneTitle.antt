@@ -11,9 +11,10 @@ use Rattle.pa_machine.specs.declared.title.Title.{Title}
 use Rattle.pa_machine.specs.Count.{number_of}
 use Rattle.pa_machine.specs.Holdings.{IsTitleHeld}
 use Rattle.pa_machine.specs.Events.{total_of}
+use Rattle.pa_region.specs.declared.view.Entry.{Entry}
 use Rattle.pa_region.specs.declared.view.View.{View}
 use Rattle.pa_region.specs.Views.{shown, logged_in, counted_on}
-use Rattle.pa_region.specs.History.{Done, reached}
+use Rattle.pa_region.specs.History.{Done, reached, IsChained}
 use Rattle.pa_region.specs.Rule.{IsKept}
 use Rattle.pa_region.proofs.Adding.{one_lt}
 use Rattle.pa_region.proofs.LogPart.{reached_number}
@@ -39,14 +40,18 @@ found_once words views t k held =
           elim (one_lt n (length (k.history t))) [ inl y ↦ let z = y.1 in absurd (omega arith) | inr m ↦ let z = m.0 in omega arith ]),
     )
 
--- a title that no log names has made no step
-pub unnamed_new : (words : List ℕ) (views : List View) (t : Title) (k : IsKept words views) → IsTitleHeld (total_of (shown words views)) t →
-    logged_in views (counted_on t) ≡ 0 → word_shown words t ≡ 0
-unnamed_new words views t k held none = k.logs.last t held ∙ go (k.history t) (sym (k.logs.chain t).all ∙ none)
+-- the word of a title on which no step was made
+pub unstepped : (logs : (Entry → ℕ) → ℕ) (t : Title) (history : List Done) → IsChained logs t history → logs (counted_on t) ≡ 0 → reached history ≡ 0
+unstepped logs t history chain none = go history (sym chain.all ∙ none)
   where
     go : (hs : List Done) → length hs ≡ 0 → reached hs ≡ 0
     go [] e = refl
     go (d ∷ older) e = absurd (omega arith)
+
+-- a title that no log names has made no step
+pub unnamed_new : (words : List ℕ) (views : List View) (t : Title) (k : IsKept words views) → IsTitleHeld (total_of (shown words views)) t →
+    logged_in views (counted_on t) ≡ 0 → word_shown words t ≡ 0
+unnamed_new words views t k held none = k.logs.last t held ∙ unstepped (logged_in views) t (k.history t) (k.logs.chain t) none
 
 -- it has at most one Own
 pub few_owns : (words : List ℕ) (views : List View) (t : Title) → IsKept words views → IsTitleHeld (total_of (shown words views)) t → sum_by (λ u. own_of u t) views ≤ 1

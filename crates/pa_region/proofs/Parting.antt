@@ -21,10 +21,10 @@ use Rattle.pa_region.proofs.Adding.{sum_same, sum_none, first_of}
 use Rattle.pa_region.proofs.Pieces.{held_split, found_title}
 
 -- the test of a range
-abbrev has_byte : RawRange → ℕ → Bool
+abbrev pub has_byte : RawRange → ℕ → Bool
 has_byte r b = leb r.start b && ltb b (r.start + r.len)
 
-range_cases : (r : RawRange) (b : ℕ) → ((r.start ≤ b) × (b < r.start + r.len) × (has_byte r b ≡ true)) ⊎ (((r.start ≤ b) × (b < r.start + r.len) → ⊥) × (has_byte r b ≡ false))
+pub range_cases : (r : RawRange) (b : ℕ) → ((r.start ≤ b) × (b < r.start + r.len) × (has_byte r b ≡ true)) ⊎ (((r.start ≤ b) × (b < r.start + r.len) → ⊥) × (has_byte r b ≡ false))
 range_cases r b = elim (cases_lt b r.start) [
   | inl y ↦ inr ((λ h. let z = h.0 in omega arith), rw (lt-leb r.start b y) refl)
   | inr n ↦ elim (cases_lt b (r.start + r.len)) [
@@ -74,7 +74,7 @@ three_parts a e r b order floor =
     ]
 
 -- so it is for any amount that goes by bytes
-ranges_part : (a e b : ℕ) (floor : RawRange → Bool) → a ≤ e → ((r : RawRange) → floor (below_part a r) ≡ floor r) → ((r : RawRange) → floor (above_part e r) ≡ floor r) → ((r : RawRange) → floor (inner_part a e r) ≡ floor r) →
+pub ranges_part : (a e b : ℕ) (floor : RawRange → Bool) → a ≤ e → ((r : RawRange) → floor (below_part a r) ≡ floor r) → ((r : RawRange) → floor (above_part e r) ≡ floor r) → ((r : RawRange) → floor (inner_part a e r) ≡ floor r) →
     (rs : List RawRange) →
     sum_by (λ r. one (has_byte r b && floor r)) (outside a e rs) + sum_by (λ r. one (has_byte r b && floor r)) (inside a e rs) ≡ sum_by (λ r. one (has_byte r b && floor r)) rs
 ranges_part a e b floor order f g h [] = refl
@@ -108,7 +108,7 @@ nothing a e rs x none =
     omega arith
 
 -- what raw ranges hold, outside and inside
-raws_part : (a e : ℕ) → a ≤ e → (rs : List RawRange) (x : Thing) →
+pub raws_part : (a e : ℕ) → a ≤ e → (rs : List RawRange) (x : Thing) →
     sum_by (λ r. amount x (raw_piece r)) (outside a e rs) + sum_by (λ r. amount x (raw_piece r)) (inside a e rs) ≡ sum_by (λ r. amount x (raw_piece r)) rs
 raws_part a e order rs (RawByte b) =
     let p = ranges_part a e b (λ r. true) order (λ r. refl) (λ r. refl) (λ r. refl) rs in

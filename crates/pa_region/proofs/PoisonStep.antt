@@ -105,7 +105,6 @@ poison_write t j words views i v k at_i can =
       idle = λ u. changed_sum (is_own_of t) (poisoned_to (j + 1)) (λ (o : OwnTitle). one (same_title o.title u && o.idle)) v.owns (λ o. refl);
       budget = refl;
       stakes = refl;
-      uncut = refl;
       seen = refl;
       grown = record {
         keepers = refl;
@@ -113,6 +112,7 @@ poison_write t j words views i v k at_i can =
         lists = refl;
         stakes = inl refl;
         seen = λ u. omega arith;
+        handles = λ u has. let o = changed_sum (is_own_of t) (poisoned_to (j + 1)) (λ (x : OwnTitle). one (same_title x.title u)) v.owns (λ x. refl) in inl (omega arith);
       };
       handed = refl;
       poisoned = λ u. sum_grows (λ (o : OwnTitle). one (same_title o.title u && is_poisoned o.state)) (is_own_of t) (poisoned_to (j + 1)) v.owns

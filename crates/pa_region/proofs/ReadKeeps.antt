@@ -11,7 +11,7 @@ use Rattle.pa_machine.specs.Events.{IsEnabled, Happens, total_of}
 use Rattle.pa_region.specs.declared.view.Entry.{Entry}
 use Rattle.pa_region.specs.declared.view.Entry.TheVariants.{Looked, Read}
 use Rattle.pa_region.specs.declared.view.View.{View}
-use Rattle.pa_region.specs.Views.{pieces_of, byte_words, shown, idle_of, idle_in, budget_in, low_in, uncut_in, stakes_in, least_stake, logged_of, logged_in, ahead_of, ahead_in, unseen_by, unseen_of, unseen_in, counted, counted_on, counted_at, names, HasStake}
+use Rattle.pa_region.specs.Views.{pieces_of, byte_words, shown, idle_of, idle_in, budget_in, low_in, uncut_in, stakes_in, least_stake, logged_of, logged_in, ahead_of, ahead_in, unseen_by, unseen_of, unseen_in, counted, counted_on, counted_at, names, uncuts, HasStake}
 use Rattle.pa_region.specs.Rule.{IsKept}
 use Rattle.pa_region.proofs.ListPart.{lists_grown}
 use Rattle.pa_region.specs.Pairs.{last_entry, least_log, weight_after, paired_in, paired_by, logged_by}
@@ -22,11 +22,12 @@ use Rattle.pa_region.proofs.Adding.{sum_set, one_lt}
 use Rattle.pa_region.proofs.Pieces.{total_set}
 use Rattle.pa_region.proofs.HolderPart.{holders_same}
 use Rattle.pa_region.proofs.ReservationPart.{reservations_count}
+use Rattle.pa_region.proofs.NamePart.{named_more}
 use Rattle.pa_region.proofs.LogPart.{chain_other}
 use Rattle.pa_region.proofs.SeenPart.{seen_same}
 use Rattle.pa_region.proofs.Entering.{noted_logs, noted_stakes, logged_set}
 use Rattle.pa_region.proofs.Shown.{shown_actor, map_same}
-use Rattle.pa_region.proofs.Stays.{low_set, uncut_set, stakes_set, low_raw}
+use Rattle.pa_region.proofs.Stays.{low_set, stakes_set, low_raw}
 use Rattle.pa_region.proofs.ValuePart.{values_same}
 use Rattle.pa_region.proofs.CountEvent.{content_covered, title_in_core}
 use Rattle.pa_region.proofs.PairSums.{paired_set, paired_by_set, logged_by_set}
@@ -137,6 +138,8 @@ read_keeps words views i v t place k at_i has stake below =
     let same : (x : Thing) → total_of (shown words (set views i w)) x ≡ total_of (shown words views) x = λ x. let c = total_set words words views i v w at_i x in omega arith in
     let back : (u : Title) → IsTitleHeld (total_of (shown words (set views i w))) u → IsTitleHeld (total_of (shown words views)) u =
     λ u y. let p = same (FreeTitle u) in let q = same (OwnOf u) in let r = same (RefOf u) in omega arith in
+    let forth : (u : Title) → IsTitleHeld (total_of (shown words views)) u → IsTitleHeld (total_of (shown words (set views i w))) u =
+    λ u y. let p = same (FreeTitle u) in let q = same (OwnOf u) in let r = same (RefOf u) in omega arith in
     record {
       history = k.history;
       list = k.list;
@@ -149,7 +152,10 @@ read_keeps words views i v t place k at_i has stake below =
       reservations = reservations_count t (byte_words words) (total_of (shown words views)) _ (idle_in views) (budget_in views) (logged_in views counted)
           (low_in views) (low_in (set views i w)) _ _ (uncut_in views) (uncut_in (set views i w))
           k.reservations k.holders held back (low_set views i v w at_i refl) (low_raw words views)
-          (λ u. more (names u)) (uncut_set views i v w at_i refl);
+          (λ u. more (names u)) (λ u. let m = more (uncuts u) in omega arith);
+      named = named_more t (length (byte_words words)) (length (byte_words words)) (total_of (shown words views)) (total_of (shown words (set views i w))) (low_in views) _ _ (uncut_in views) (uncut_in (set views i w))
+          k.named k.reservations k.holders.good.divided held refl (λ u none y. forth u y)
+          (λ u. more (names u)) (λ u. let m = more (uncuts u) in omega arith);
       logs = record {
         chain = λ u. chain_other (logged_in views) (logged_in (set views i w)) e u (k.history u) (k.logs.chain u) more refl (λ n. refl) (λ p found written. refl) (λ found some_look. absurd (omega arith));
         last = λ u y. k.logs.last u (back u y);
@@ -167,5 +173,6 @@ read_keeps words views i v t place k at_i has stake below =
         lists = refl;
         stakes = inr (Read t place value v.since (has_own v t) (has_unclean v t), refl, λ n. refl);
         seen = λ u. omega arith;
+        handles = λ u has. inl has;
       }) (k.lists.free_seen i v at_i);
     }

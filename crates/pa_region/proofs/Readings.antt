@@ -8,7 +8,7 @@ use Rattle.pa_machine.specs.Count.{number_of}
 use Rattle.pa_machine.specs.Titles.{same_title}
 use Rattle.pa_machine.specs.Holdings.{one}
 use Rattle.pa_region.specs.declared.view.Entry.{Entry}
-use Rattle.pa_region.specs.declared.view.Entry.TheVariants.{Counted, Looked, Read, Added, Entered}
+use Rattle.pa_region.specs.declared.view.Entry.TheVariants.{Counted, Looked, Read, Added, Entered, Uncut}
 use Rattle.pa_region.specs.declared.view.Stake.{Stake}
 use Rattle.pa_region.specs.declared.view.View.{View}
 use Rattle.pa_region.specs.Views.{counted_at, looked_at, logged_of, logged_in}
@@ -24,6 +24,7 @@ is_read (Looked t found) = false
 is_read (Read t place value since owned unclean) = true
 is_read (Added word bytes) = false
 is_read (Entered keeper numbers) = false
+is_read (Uncut again) = false
 
 -- another entry makes no such pair with what is before it
 gave_none : (a e : Entry) → is_read e ≡ false → gave_no_poison a e ≡ 0
@@ -32,10 +33,12 @@ gave_none (Looked t found) (Looked u word) other = refl
 gave_none (Looked t found) (Read u place value since owned unclean) other = absurd (true≢false other)
 gave_none (Looked t found) (Added word bytes) other = refl
 gave_none (Looked t found) (Entered keeper numbers) other = refl
+gave_none (Looked t found) (Uncut again) other = refl
 gave_none (Counted t step found value) e other = refl
 gave_none (Read t place value since owned unclean) e other = refl
 gave_none (Added word bytes) e other = refl
 gave_none (Entered keeper numbers) e other = refl
+gave_none (Uncut again) e other = refl
 
 quiet_none : (own : Bool) (t : Title) (found value : ℕ) (a e : Entry) → is_read e ≡ false → quiet_read own t found value a e ≡ 0
 quiet_none own t found value (Looked u word) (Counted x step w v) other = refl
@@ -43,10 +46,12 @@ quiet_none own t found value (Looked u word) (Looked x w) other = refl
 quiet_none own t found value (Looked u word) (Read x place v since owned unclean) other = absurd (true≢false other)
 quiet_none own t found value (Looked u word) (Added w bytes) other = refl
 quiet_none own t found value (Looked u word) (Entered keeper numbers) other = refl
+quiet_none own t found value (Looked u word) (Uncut again) other = refl
 quiet_none own t found value (Counted u step w v) e other = refl
 quiet_none own t found value (Read u place v since owned unclean) e other = refl
 quiet_none own t found value (Added w bytes) e other = refl
 quiet_none own t found value (Entered keeper numbers) e other = refl
+quiet_none own t found value (Uncut again) e other = refl
 
 -- nor as a log's last entry
 pub gave_none_after : (last : Option Entry) (e : Entry) → is_read e ≡ false → weight_after gave_no_poison last e ≡ 0
@@ -72,10 +77,12 @@ quiet_looked own t found value (Looked u word) (Read x place given since owned u
     go false b c d e = omega arith
 quiet_looked own t found value (Looked u word) (Added w bytes) = omega arith
 quiet_looked own t found value (Looked u word) (Entered keeper numbers) = omega arith
+quiet_looked own t found value (Looked u word) (Uncut again) = omega arith
 quiet_looked own t found value (Counted u step w v) b = omega arith
 quiet_looked own t found value (Read u place v since owned unclean) b = omega arith
 quiet_looked own t found value (Added w bytes) b = omega arith
 quiet_looked own t found value (Entered keeper numbers) b = omega arith
+quiet_looked own t found value (Uncut again) b = omega arith
 
 -- pairs that weigh at most their first entry
 pairs_first : (weight : Entry → Entry → ℕ) (f : Entry → ℕ) → ((a b : Entry) → weight a b ≤ f a) → (log : List Entry) → pairs weight log ≤ sum_by f log

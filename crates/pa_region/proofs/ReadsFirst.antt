@@ -5,7 +5,6 @@ use Rattle.std.proofs.lemmas.List.Sums.{sum_by-cons}
 use Rattle.std.proofs.lemmas.Bool.{cases_Bool}
 use mathlib.Core.Option.{some, some-injective, some-ne-none}
 use lib.ListN.{get_elem?}
-use Rattle.pa_machine.specs.declared.title.Title.{Title}
 use Rattle.pa_region.specs.declared.view.Entry.{Entry}
 use Rattle.pa_region.specs.declared.view.Entry.TheVariants.{Looked}
 use Rattle.pa_region.specs.declared.view.Stake.{Stake}
@@ -29,34 +28,34 @@ first_sum amount from (suc count) none =
     omega (arith, sum_by-cons amount (record { number = from; log = [] }) (stakes_from (suc from) count))
 
 -- over all views
-first_all : (amount : Stake → ℕ) (words budget : ℕ) (titles : List Title) → ((n : ℕ) → amount (record { number = n; log = [] }) ≡ 0) →
-    sum_by (λ (v : View). sum_by amount v.stakes) (first_view words budget titles ∷ []) ≡ 0
-first_all amount words budget titles none =
+first_all : (amount : Stake → ℕ) (words budget : ℕ) → ((n : ℕ) → amount (record { number = n; log = [] }) ≡ 0) →
+    sum_by (λ (v : View). sum_by amount v.stakes) (first_view words budget ∷ []) ≡ 0
+first_all amount words budget none =
     let z = first_sum amount 0 16 none in
-    omega (arith, sum_by-cons (λ (v : View). sum_by amount v.stakes) (first_view words budget titles) [])
+    omega (arith, sum_by-cons (λ (v : View). sum_by amount v.stakes) (first_view words budget) [])
 
 -- an amount of no entry
 no_amount : (r n : ℕ) (amount : List Entry → ℕ) → amount [] ≡ 0 → amount_by r amount (record { number = n; log = [] }) ≡ 0
 no_amount r n amount none = elim (cases_Bool (eqb n r)) [ inl y ↦ rw y none | inr m ↦ rw m refl ]
 
 -- so there is no read
-pub reads_first : (words budget : ℕ) (titles : List Title) (bytes : List ℕ) → Reads (λ t. []) bytes (first_view words budget titles ∷ [])
-reads_first words budget titles bytes = record {
+pub reads_first : (words budget : ℕ) (bytes : List ℕ) → Reads (λ t. []) bytes (first_view words budget ∷ [])
+reads_first words budget bytes = record {
   right = right_none (λ t. []) (paired_in views) (paired_by views) (logged_by views) (poisoned_apart views)
-      (first_all (λ (s : Stake). pairs gave_no_poison s.log) words budget titles (λ n. refl))
-      (λ own t found value. first_all (λ (s : Stake). pairs (quiet_read own t found value) s.log) words budget titles (λ n. refl))
-      (λ r own t found value. first_all (amount_by r (pairs (quiet_read own t found value))) words budget titles (λ n. no_amount r n (pairs (quiet_read own t found value)) refl));
+      (first_all (λ (s : Stake). pairs gave_no_poison s.log) words budget (λ n. refl))
+      (λ own t found value. first_all (λ (s : Stake). pairs (quiet_read own t found value) s.log) words budget (λ n. refl))
+      (λ r own t found value. first_all (amount_by r (pairs (quiet_read own t found value))) words budget (λ n. no_amount r n (pairs (quiet_read own t found value)) refl));
   each_view = λ i v at_i. subst (λ (u : View). IsReader (λ t. []) bytes u) (only i v at_i) first;
 }
   where
     views : List View
-    views = first_view words budget titles ∷ []
+    views = first_view words budget ∷ []
 
-    only : (i : ℕ) (v : View) → get_elem? views i ≡ some v → first_view words budget titles ≡ v
-    only zero v at_i = some-injective (first_view words budget titles) v at_i
+    only : (i : ℕ) (v : View) → get_elem? views i ≡ some v → first_view words budget ≡ v
+    only zero v at_i = some-injective (first_view words budget) v at_i
     only (suc i) v at_i = absurd (some-ne-none v (sym at_i))
 
-    first : IsReader (λ t. []) bytes (first_view words budget titles)
+    first : IsReader (λ t. []) bytes (first_view words budget)
     first = record {
       waits = λ t found is quiet.
           let none : last_entry (least_log (stakes_from 0 16)) ≡ None = ap last_entry (first_log (least_stake (stakes_from 0 16)) 0 16) in

@@ -1,5 +1,5 @@
 -- Steps that only regroup what the views have: where all sums stay, the rule's parts do.
-use Rattle.std.proofs.Common.{◌≡◌, ℕ, ◌+◌, ◌<◌, ◌≤◌, Bool, true, false, ◌&&◌, List, [], ◌∷◌, ◌++◌, set, refl, sym, ◌∙◌, ap, subst, arith, ◌⊎◌, inl, inr}
+use Rattle.std.proofs.Common.{◌≡◌, ℕ, ◌+◌, ◌<◌, ◌≤◌, Bool, true, false, ◌&&◌, List, [], ◌∷◌, ◌++◌, length, set, refl, sym, ◌∙◌, ap, subst, arith, ◌⊎◌, inl, inr}
 use Rattle.std.specs.List.{sum_by}
 use Rattle.std.specs.Prelude.{nat_lt, if◌then◌else◌}
 use Rattle.std.proofs.lemmas.Bool.{cases_lt, lt-ltb, le-ltb}
@@ -10,14 +10,14 @@ use Rattle.pa_machine.specs.declared.title.Title.{Title}
 use Rattle.pa_machine.specs.declared.title.OwnState.TheVariants.{Clean, Dirty, Poisoned}
 use Rattle.pa_machine.specs.declared.title.OwnState.{OwnState}
 use Rattle.pa_machine.specs.Titles.{same_title}
-use Rattle.pa_machine.specs.Holdings.{Thing, OwnOf, OwnAs, RefOf, one}
+use Rattle.pa_machine.specs.Holdings.{Thing, FreeTitle, OwnOf, OwnAs, RefOf, one}
 use Rattle.pa_machine.specs.Events.{total_of}
 use Rattle.pa_machine.specs.Trail.{KeepsContent}
 use Rattle.pa_region.specs.declared.view.Entry.{Entry}
 use Rattle.pa_region.specs.declared.view.OwnTitle.{OwnTitle}
 use Rattle.pa_region.specs.declared.view.SeenNumber.{SeenNumber}
 use Rattle.pa_region.specs.declared.view.View.{View}
-use Rattle.pa_region.specs.Views.{held_of_view, byte_words, shown, idle_of, idle_in, budget_in, low_of, low_in, uncut_of, uncut_in, stake_of, stakes_in, logged_of, logged_in, ahead_of, ahead_in, unseen_by, unseen_of, own_of, unseen_in, counted, counted_on, names}
+use Rattle.pa_region.specs.Views.{held_of_view, byte_words, shown, idle_of, idle_in, budget_in, low_of, low_in, uncut_in, stake_of, stakes_in, logged_of, logged_in, ahead_of, ahead_in, unseen_by, unseen_of, own_of, unseen_in, counted, counted_on, names, uncuts}
 use Rattle.pa_region.specs.Rule.{Values, Reservations, Logs, IsKept}
 use Rattle.pa_region.specs.Lists.{keeper_of, keepers_in, lease_of, leases_in, IsListed, HasSeenFree}
 use Rattle.pa_region.specs.Hands.{IsParted, CanTake}
@@ -27,6 +27,7 @@ use Rattle.pa_region.proofs.ReadsSame.{reads_over}
 use Rattle.pa_region.proofs.Adding.{sum_set, sum_part, one_and}
 use Rattle.pa_region.proofs.Pieces.{total_sum, owns_have}
 use Rattle.pa_region.proofs.HolderPart.{holders_same}
+use Rattle.pa_region.proofs.NamePart.{named_same}
 use Rattle.pa_region.proofs.SeenPart.{logged_mono}
 use Rattle.pa_region.proofs.SeenJoin.{seen_left, seen_right, unseen_grown}
 
@@ -40,7 +41,6 @@ pub record IsRegrouped (before after : List View) : Type 0 where
   pub stakes : (k : ℕ) → stakes_in after k ≡ stakes_in before k
   pub keepers : (k : ℕ) → keepers_in after k ≡ keepers_in before k
   pub leases : (n : ℕ) → leases_in after n ≡ leases_in before n
-  pub uncut : (t : Title) → uncut_in after t ≡ uncut_in before t
   pub ahead : (t : Title) (n : ℕ) → ahead_in before t n ≡ 0 → ahead_in after t n ≡ 0
   pub unseen : unseen_in before ≡ 0 → unseen_in after ≡ 0
   pub pairs : (weight : Entry → Entry → ℕ) → paired_in after weight ≡ paired_in before weight
@@ -66,7 +66,6 @@ kept_regrouped words before after k g values listed free readers =
     let total : total_of (shown words before) ≡ total_of (shown words after) = λ i x. sym (same x) i in
     let logs : logged_in before ≡ logged_in after = λ i weight. sym (g.logs weight) i in
     let low : low_in before ≡ low_in after = λ i b n. sym (g.floors b n) i in
-    let uncut : uncut_in before ≡ uncut_in after = λ i t. sym (g.uncut t) i in
     let stakes : stakes_in before ≡ stakes_in after = λ i n. sym (g.stakes n) i in
     record {
       history = k.history;
@@ -78,8 +77,10 @@ kept_regrouped words before after k g values listed free readers =
       reservations =
           subst (λ total_now. Reservations total_now (low_in after) (λ t. logged_in after (names t)) (uncut_in after)) total
           (subst (λ low_now. Reservations (total_of (shown words before)) low_now (λ t. logged_in after (names t)) (uncut_in after)) low
-          (subst (λ (ls : (Entry → ℕ) → ℕ). Reservations (total_of (shown words before)) (low_in before) (λ t. ls (names t)) (uncut_in after)) logs
-          (subst (λ uncut_now. Reservations (total_of (shown words before)) (low_in before) (λ t. logged_in before (names t)) uncut_now) uncut k.reservations)));
+          (subst (λ (ls : (Entry → ℕ) → ℕ). Reservations (total_of (shown words before)) (low_in before) (λ t. ls (names t)) (λ t. ls (uncuts t))) logs k.reservations));
+      named = named_same (length (byte_words words)) (length (byte_words words)) (total_of (shown words before)) (total_of (shown words after)) _ _ (uncut_in before) (uncut_in after)
+          k.named refl (λ u y. let p = same (FreeTitle u) in let q = same (OwnOf u) in let s = same (RefOf u) in omega arith)
+          (λ u. g.logs (names u)) (λ u. g.logs (uncuts u));
       logs =
           subst (λ total_now. Logs k.history (byte_words words) total_now (logged_in after) (stakes_in after)) total
           (subst (λ ls. Logs k.history (byte_words words) (total_of (shown words before)) ls (stakes_in after)) logs
@@ -177,7 +178,6 @@ parted_regroups views i v l r at_i p left right = record {
   stakes = λ k. part_sum (λ u. stake_of u k) views i v l r at_i (p.stakes k);
   keepers = λ k. part_sum (λ u. keeper_of u k) views i v l r at_i (p.keepers k);
   leases = λ n. part_sum (λ u. lease_of u n) views i v l r at_i (p.leases n);
-  uncut = λ t. part_sum (λ u. uncut_of u t) views i v l r at_i (p.uncut t);
   ahead = λ t n none.
       let a = sum_by_push (λ u. ahead_of u t n) (set views i l) r in
       let b = sum_set (λ u. ahead_of u t n) views i v l at_i in
@@ -234,7 +234,6 @@ joined_regroups views i j v w both spent at_i at_j p idle none seen no_note can 
   stakes = λ k. join_sum (λ u. stake_of u k) views i j v w both spent at_i at_j (sym (p.stakes k)) (let z = none.stakes k in omega arith);
   keepers = λ k. join_sum (λ u. keeper_of u k) views i j v w both spent at_i at_j (sym (p.keepers k)) (let z = none.keepers k in omega arith);
   leases = λ n. join_sum (λ u. lease_of u n) views i j v w both spent at_i at_j (sym (p.leases n)) (let z = none.leases n in omega arith);
-  uncut = λ t. join_sum (λ u. uncut_of u t) views i j v w both spent at_i at_j (sym (p.uncut t)) (let z = none.uncut t in omega arith);
   ahead = λ t n zero.
       let e : ahead_of both t n ≡ ahead_of v t n + ahead_of w t n = rw seen (sum_by-append (λ (s : SeenNumber). one (same_title s.title t && nat_lt n s.number)) v.seen w.seen) in
       join_sum (λ u. ahead_of u t n) views i j v w both spent at_i at_j e (rw no_note refl) ∙ zero;

@@ -23,13 +23,13 @@ reservations_count t words total later idle budget steps low low_after named nam
         let l = within b u.born in
         omega arith
     | inr n ↦
-        let e = names u in let f = same_uncut u in let z = n.0 in
+        let e = names u in let z = n.0 in
         r.floors u b (omega arith) covers
   ];
   later = λ u k b known other ne covers inside. elim (title_one t u) [
     | inl y ↦ absurd (ne (sym y.1 ∙ h.good.divided.apart t k b held (back k other) (subst (λ (z : Title). Covers z b) (sym y.1) covers) inside))
     | inr n ↦
-        let e = names u in let f = same_uncut u in let z = n.0 in
+        let e = names u in let z = n.0 in
         r.later u k b (omega arith) (back k other) ne covers inside
   ];
   gone = λ u known other. let f = same_uncut u in r.gone u (omega arith) (back u other);
@@ -46,7 +46,7 @@ pub reservations_same : (total later : Thing → ℕ) (low low_after : ℕ → �
     Reservations total low named uncut → ((u : Title) → IsTitleHeld later u → IsTitleHeld total u) → ((b n : ℕ) → low_after b n ≡ low b n) →
     ((u : Title) → named_after u ≡ named u) → ((u : Title) → uncut_after u ≡ uncut u) → Reservations later low_after named_after uncut_after
 reservations_same total later low low_after named named_after uncut uncut_after r back same_low same_named same_uncut = record {
-  floors = λ u b known covers. let e = same_named u in let f = same_uncut u in same_low b u.born ∙ r.floors u b (omega arith) covers;
-  later = λ u k b known other ne covers inside. let e = same_named u in let f = same_uncut u in r.later u k b (omega arith) (back k other) ne covers inside;
+  floors = λ u b known covers. let e = same_named u in same_low b u.born ∙ r.floors u b (omega arith) covers;
+  later = λ u k b known other ne covers inside. let e = same_named u in r.later u k b (omega arith) (back k other) ne covers inside;
   gone = λ u known other. let f = same_uncut u in r.gone u (omega arith) (back u other);
 }

@@ -5,7 +5,6 @@ use Rattle.std.specs.List.{sum_by, filter}
 use Rattle.std.proofs.lemmas.List.{get_or-replicate}
 use Rattle.std.proofs.lemmas.List.Sums.{sum_by-cons, sum_by-append}
 use Rattle.std.proofs.lemmas.Bool.{cases_lt, lt-ltb, le-ltb, true≢false}
-use Rattle.pa_machine.specs.declared.title.Title.{Title}
 use Rattle.pa_machine.specs.Holdings.{one}
 use Rattle.pa_region.specs.declared.view.Stake.{Stake}
 use Rattle.pa_region.specs.declared.view.View.{View}
@@ -30,7 +29,7 @@ pub stakes_equal : (v w : View) → w.stakes ≡ v.stakes → SameStakes v w
 stakes_equal v w e k = ap (λ ss. sum_by (λ (s : Stake). one (eqb s.number k)) ss) e
 
 -- how often a number stands among those that pass a test on numbers
-filter_number : (test : ℕ → Bool) (k : ℕ) (ss : List Stake) →
+pub filter_number : (test : ℕ → Bool) (k : ℕ) (ss : List Stake) →
     sum_by (λ (s : Stake). one (eqb s.number k)) (filter (λ (s : Stake). test s.number) ss) ≡ (if test k then sum_by (λ (s : Stake). one (eqb s.number k)) ss else 0)
 filter_number test k [] = nothing (test k)
   where
@@ -102,8 +101,8 @@ both_stakes v w has others now s t e k below =
     ∙ (sym (test_sum (stake_of v k) (stake_of w k)) ∙ ap (ltb 0) (sym (sum_by-append (λ (s : Stake). one (eqb s.number k)) v.stakes w.stakes)))))
 
 -- the first seat has all
-pub first_stakes : (words budget : ℕ) (titles : List Title) → AreStakes (replicate 16 true) (first_view words budget titles)
-first_stakes words budget titles k below = get_or-replicate 16 k true false below ∙ sym (elim (stake_count 0 16 k) [
+pub first_stakes : (words budget : ℕ) → AreStakes (replicate 16 true) (first_view words budget)
+first_stakes words budget k below = get_or-replicate 16 k true false below ∙ sym (elim (stake_count 0 16 k) [
   | inl y ↦ let z = y.2 in lt-ltb 0 (sum_by (λ (s : Stake). one (eqb s.number k)) (stakes_from 0 16)) (omega arith)
   | inr n ↦ absurd (n.0 (omega arith, omega arith))
 ])

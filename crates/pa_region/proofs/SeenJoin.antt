@@ -4,7 +4,7 @@ use Rattle.pa_machine.specs.declared.title.Title.{Title}
 use Rattle.pa_machine.specs.Count.{number_of}
 use Rattle.pa_machine.proofs.Same.{title_tells}
 use Rattle.pa_region.specs.declared.view.Entry.{Entry}
-use Rattle.pa_region.specs.declared.view.Entry.TheVariants.{Counted, Looked, Read, Added, Entered}
+use Rattle.pa_region.specs.declared.view.Entry.TheVariants.{Counted, Looked, Read, Added, Entered, Uncut}
 use Rattle.pa_region.specs.declared.view.SeenNumber.{SeenNumber}
 use Rattle.pa_region.specs.Views.{seen_among, unseen_by}
 use Rattle.pa_region.proofs.SeenPart.{lt_antitone}
@@ -30,3 +30,4 @@ unseen_grown notes more h (Looked u found) = lt_antitone (seen_among u notes) (s
 unseen_grown notes more h (Read u place read since owned unclean) = omega arith
 unseen_grown notes more h (Added word_number bytes) = omega arith
 unseen_grown notes more h (Entered keeper made) = omega arith
+unseen_grown notes more h (Uncut again) = omega arith

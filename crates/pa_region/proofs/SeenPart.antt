@@ -11,7 +11,7 @@ use Rattle.pa_machine.specs.Titles.{same_title}
 use Rattle.pa_machine.specs.Holdings.{one}
 use Rattle.pa_machine.proofs.Same.{title_tells, title_self}
 use Rattle.pa_region.specs.declared.view.Entry.{Entry}
-use Rattle.pa_region.specs.declared.view.Entry.TheVariants.{Counted, Looked, Read, Added, Entered}
+use Rattle.pa_region.specs.declared.view.Entry.TheVariants.{Counted, Looked, Read, Added, Entered, Uncut}
 use Rattle.pa_region.specs.declared.view.Stake.{Stake}
 use Rattle.pa_region.specs.declared.view.SeenNumber.{SeenNumber}
 use Rattle.pa_region.specs.declared.view.View.{View}
@@ -92,6 +92,7 @@ unseen_less t number notes (Looked u found) =
 unseen_less t number notes (Read u place read since owned unclean) = omega arith
 unseen_less t number notes (Added word_number bytes) = omega arith
 unseen_less t number notes (Entered keeper made) = omega arith
+unseen_less t number notes (Uncut again) = omega arith
 
 -- greater weights give greater sums
 pub logged_mono : (v : View) (f g : Entry → ℕ) → ((e : Entry) → f e ≤ g e) → logged_of v f ≤ logged_of v g

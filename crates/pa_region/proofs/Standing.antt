@@ -12,7 +12,7 @@ use Rattle.pa_machine.specs.Count.{number_of}
 use Rattle.pa_machine.specs.Titles.{same_title}
 use Rattle.pa_machine.specs.Holdings.{one}
 use Rattle.pa_region.specs.declared.view.Entry.{Entry}
-use Rattle.pa_region.specs.declared.view.Entry.TheVariants.{Counted, Looked, Read, Added, Entered}
+use Rattle.pa_region.specs.declared.view.Entry.TheVariants.{Counted, Looked, Read, Added, Entered, Uncut}
 use Rattle.pa_region.specs.declared.view.Stake.{Stake}
 use Rattle.pa_region.specs.declared.view.View.{View}
 use Rattle.pa_region.specs.Views.{counted_on, counted_at, counted_as, step_number, logged_of}
@@ -42,12 +42,12 @@ step_is : (p q : Step) → step_number p ≡ step_number q → p ≡ q
 step_is p q e = sym (step_back p) ∙ (ap step_of e ∙ step_back q)
 
 -- what an entry that counts as a step says of it
-record IsAs (step : Step) (word value : ℕ) (p : Step) (found written : ℕ) : Type 0 where
+pub record IsAs (step : Step) (word value : ℕ) (p : Step) (found written : ℕ) : Type 0 where
   pub step_same : p ≡ step
   pub word_same : found ≡ word
   pub value_same : written ≡ value
 
-as_tells : (t : Title) (step : Step) (word value : ℕ) (u : Title) (p : Step) (found written : ℕ) → 0 < counted_as t step word value (Counted u p found written) →
+pub as_tells : (t : Title) (step : Step) (word value : ℕ) (u : Title) (p : Step) (found written : ℕ) → 0 < counted_as t step word value (Counted u p found written) →
     IsAs step word value p found written
 as_tells t step word value u p found written h =
     let all = and_parts (same_title u t) (eqb (step_number p) (step_number step) && (eqb found word && eqb written value)) (one_true _ h) in
@@ -87,6 +87,7 @@ one_of_two t step other word value found written same differ (Looked u w) = omeg
 one_of_two t step other word value found written same differ (Read u place x since owned unclean) = omega arith
 one_of_two t step other word value found written same differ (Added w bytes) = omega arith
 one_of_two t step other word value found written same differ (Entered keeper numbers) = omega arith
+one_of_two t step other word value found written same differ (Uncut again) = omega arith
 
 -- sums of two weights that together are at most a third
 sum_two : {A : Type 0} (f g h : A → ℕ) (xs : List A) → ((x : A) → f x + g x ≤ h x) → sum_by f xs + sum_by g xs ≤ sum_by h xs

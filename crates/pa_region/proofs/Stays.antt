@@ -3,27 +3,19 @@ use Rattle.std.proofs.Common.{◌≡◌, ℕ, ◌+◌, ◌≤◌, ◌&&◌, List
 use Rattle.std.proofs.lemmas.List.Sums.{sum_by-le-sum_by}
 use mathlib.Core.Option.{some}
 use lib.ListN.{get_elem?}
-use Rattle.pa_machine.specs.declared.title.Title.{Title}
 use Rattle.pa_machine.specs.Holdings.{RawByte, one, amount}
 use Rattle.pa_machine.specs.Events.{total_of}
 use Rattle.pa_region.specs.declared.view.RawRange.{RawRange}
 use Rattle.pa_region.specs.declared.view.View.{View}
-use Rattle.pa_region.specs.Views.{raw_piece, held_of_view, shown, low_of, low_in, uncut_of, uncut_in, stake_of, stakes_in}
+use Rattle.pa_region.specs.Views.{raw_piece, held_of_view, shown, low_of, low_in, stake_of, stakes_in}
 use Rattle.pa_region.proofs.Adding.{one_and, sum_set}
 use Rattle.pa_region.proofs.Pieces.{held_split, total_sum}
 
--- floors and uncut titles stay where a view's raw ranges and uncut titles do
+-- floors stay where a view's raw ranges do
 pub low_set : (views : List View) (i : ℕ) (v w : View) → get_elem? views i ≡ some v → w.raws ≡ v.raws → (b n : ℕ) → low_in (set views i w) b n ≡ low_in views b n
 low_set views i v w at_i e b n =
     let c = sum_set (λ u. low_of u b n) views i v w at_i in
     let same : low_of w b n ≡ low_of v b n = rw e refl in
-    omega arith
-
--- uncut titles stay
-pub uncut_set : (views : List View) (i : ℕ) (v w : View) → get_elem? views i ≡ some v → w.uncut ≡ v.uncut → (t : Title) → uncut_in (set views i w) t ≡ uncut_in views t
-uncut_set views i v w at_i e t =
-    let c = sum_set (λ u. uncut_of u t) views i v w at_i in
-    let same : uncut_of w t ≡ uncut_of v t = rw e refl in
     omega arith
 
 -- stakes stay
@@ -33,16 +25,17 @@ stakes_set views i v w at_i same k =
     let s = same k in
     omega arith
 
--- a raw range with a low floor is a raw range
+-- a raw range with a low floor is a raw range, of one view
+pub low_held : (v : View) (b n : ℕ) → low_of v b n ≤ held_of_view v (RawByte b)
+low_held v b n =
+    let h = held_split v (RawByte b) in
+    let l = sum_by-le-sum_by (λ (r : RawRange). one ((leb r.start b && ltb b (r.start + r.len)) && leb r.floor n)) (λ (r : RawRange). amount (RawByte b) (raw_piece r)) v.raws
+    (λ r. one_and (leb r.start b && ltb b (r.start + r.len)) (leb r.floor n)) in
+    omega arith
+
+-- and of all
 pub low_raw : (words : List ℕ) (views : List View) (b n : ℕ) → low_in views b n ≤ total_of (shown words views) (RawByte b)
 low_raw words views b n =
     let s = total_sum words views (RawByte b) in
-    let l = sum_by-le-sum_by (λ v. low_of v b n) (λ v. held_of_view v (RawByte b)) views each in
+    let l = sum_by-le-sum_by (λ v. low_of v b n) (λ v. held_of_view v (RawByte b)) views (λ v. low_held v b n) in
     omega arith
-  where
-    each : (v : View) → low_of v b n ≤ held_of_view v (RawByte b)
-    each v =
-        let h = held_split v (RawByte b) in
-        let l = sum_by-le-sum_by (λ (r : RawRange). one ((leb r.start b && ltb b (r.start + r.len)) && leb r.floor n)) (λ (r : RawRange). amount (RawByte b) (raw_piece r)) v.raws
-        (λ r. one_and (leb r.start b && ltb b (r.start + r.len)) (leb r.floor n)) in
-        omega arith

@@ -163,7 +163,6 @@ store_write at_byte value words views i v k at_i can = record {
   idle = λ t. changed_sum (has_content_at at_byte) dirty (λ (o : OwnTitle). one (same_title o.title t && o.idle)) v.owns (λ o. refl);
   budget = refl;
   stakes = refl;
-  uncut = refl;
   seen = refl;
   grown = record {
     keepers = refl;
@@ -171,6 +170,7 @@ store_write at_byte value words views i v k at_i can = record {
     lists = refl;
     stakes = inl refl;
     seen = λ u. omega arith;
+    handles = λ u has. let o = changed_sum (has_content_at at_byte) dirty (λ (x : OwnTitle). one (same_title x.title u)) v.owns (λ x. refl) in inl (omega arith);
   };
   handed = refl;
   poisoned = λ u. poisoned_stay u can.1;

@@ -27,7 +27,7 @@ use Rattle.pa_region.proofs.AtNumber.{content_within, content_last}
 use Rattle.pa_region.proofs.PairSums.{last_more}
 
 -- the log of a number after an entry in the first stake of that number
-log_changed : (k : ℕ) (e : Entry) (ss : List Stake) → 0 < sum_by (λ (s : Stake). one (eqb s.number k)) ss →
+pub log_changed : (k : ℕ) (e : Entry) (ss : List Stake) → 0 < sum_by (λ (s : Stake). one (eqb s.number k)) ss →
     log_among k (changed (λ (s : Stake). eqb s.number k) (with_entry_last e) ss) ≡ log_among k ss ++ e ∷ []
 log_changed k e [] there = absurd (omega arith)
 log_changed k e (s ∷ ss) there = elim (eqb_tells s.number k) [

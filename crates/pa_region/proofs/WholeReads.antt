@@ -38,7 +38,7 @@ any_none amount (s ∷ ss) none =
     elim (one_eq s.number s.number) [ inl y ↦ let a = y.0 in absurd (omega arith) | inr n ↦ absurd (n.1 refl) ]
 
 -- a view that has every stake leaves none to another
-others_none : (views : List View) (i : ℕ) (v : View) → get_elem? views i ≡ some v → HasEveryStake v → ((k : ℕ) → stakes_in views k ≡ one (nat_lt k 16)) →
+pub others_none : (views : List View) (i : ℕ) (v : View) → get_elem? views i ≡ some v → HasEveryStake v → ((k : ℕ) → stakes_in views k ≡ one (nat_lt k 16)) →
     (j : ℕ) (u : View) → get_elem? views j ≡ some u → (j ≡ i → ⊥) → (k : ℕ) → stake_of u k ≡ 0
 others_none views i v at_i every each j u at_j ne k =
     let all = each k in
@@ -68,7 +68,7 @@ poisoned_unclean v t =
     go false a = omega arith
 
 -- a view without a stake has no least one
-no_least : (u : View) → ((k : ℕ) → stake_of u k ≡ 0) → least_stake u.stakes < 16 → ⊥
+pub no_least : (u : View) → ((k : ℕ) → stake_of u k ≡ 0) → least_stake u.stakes < 16 → ⊥
 no_least u none has = let there = least_there u.stakes has in let z = none (least_stake u.stakes) in absurd (omega arith)
 
 -- so no view has an Own poisoned apart from a stake that it has

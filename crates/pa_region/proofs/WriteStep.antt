@@ -15,7 +15,7 @@ use Rattle.pa_machine.specs.Trail.{KeepsContent}
 use Rattle.pa_region.specs.declared.view.Entry.{Entry}
 use Rattle.pa_region.specs.declared.view.Stake.{Stake}
 use Rattle.pa_region.specs.declared.view.View.{View}
-use Rattle.pa_region.specs.Views.{held_of_view, byte_words, shown, Knows, idle_of, idle_in, budget_in, low_in, uncut_in, stakes_in, logged_of, logged_in, HasStake, ahead_of, ahead_in, unseen_of, unseen_in, counted, counted_on, names}
+use Rattle.pa_region.specs.Views.{held_of_view, byte_words, shown, Knows, idle_of, idle_in, budget_in, low_in, uncut_in, stakes_in, logged_of, logged_in, HasStake, ahead_of, ahead_in, unseen_of, unseen_in, counted, counted_on, names, uncuts}
 use Rattle.pa_region.specs.History.{content_of}
 use Rattle.pa_region.specs.Waiting.{poisoned_of, unclean_of}
 use Rattle.pa_region.specs.Rule.{IsKept, Values}
@@ -24,12 +24,13 @@ use Rattle.pa_region.proofs.Pieces.{title_held, held_title, total_set, frees_hav
 use Rattle.pa_region.proofs.ReadsSame.{reads_other}
 use Rattle.pa_region.proofs.HolderPart.{holders_written}
 use Rattle.pa_region.proofs.ReservationPart.{reservations_same}
+use Rattle.pa_region.proofs.NamePart.{named_same}
 use Rattle.pa_region.proofs.LogPart.{logs_same}
 use Rattle.pa_region.proofs.SeenPart.{seen_same}
 use Rattle.pa_region.proofs.Idle.{idle_within}
 use Rattle.pa_region.proofs.Bytes.{bytes_set, bytes_length, held_in_all}
 use Rattle.pa_region.proofs.ListPart.{IsGrown, lists_grown}
-use Rattle.pa_region.proofs.Stays.{low_set, uncut_set, stakes_set}
+use Rattle.pa_region.proofs.Stays.{low_set, stakes_set}
 use Rattle.pa_region.proofs.ValuePart.{ShownGood, knows_apart, values_step}
 
 -- The view v knows the word p, which is no held title's count word, and becomes w: it knows the value x there, and holds
@@ -47,7 +48,6 @@ pub record IsWrite (words : List ℕ) (views : List View) (v w : View) (p x : �
   pub idle : (t : Title) → idle_of w t ≡ idle_of v t
   pub budget : w.budget ≡ v.budget
   pub stakes : w.stakes ≡ v.stakes
-  pub uncut : w.uncut ≡ v.uncut
   pub seen : w.seen ≡ v.seen
   pub grown : IsGrown v w
   pub handed : w.since.handed ≡ v.since.handed
@@ -99,7 +99,9 @@ write_keeps words views i v w p x k at_i h good content =
           (logs counted));
       values = rw at_place (write_values words views i v w p x k at_i h);
       reservations = reservations_same (total_of (shown words views)) (total_of (shown (set words p x) (set views i w))) (low_in views) (low_in (set views i w)) _ _ (uncut_in views) (uncut_in (set views i w))
-          k.reservations back (low_set views i v w at_i h.raws) (λ t. logs (names t)) (uncut_set views i v w at_i h.uncut);
+          k.reservations back (low_set views i v w at_i h.raws) (λ t. logs (names t)) (λ t. logs (uncuts t));
+      named = named_same (length (byte_words words)) (length (byte_words (set words p x))) (total_of (shown words views)) (total_of (shown (set words p x) (set views i w))) _ _ (uncut_in views) (uncut_in (set views i w))
+          k.named (rw at_place (length-set (byte_words words) p x)) forth (λ t. logs (names t)) (λ t. logs (uncuts t));
       logs = rw at_place (logs_same k.history (byte_words words) (set (byte_words words) p x) (total_of (shown words views)) (total_of (shown (set words p x) (set views i w)))
           (logged_in views) (logged_in (set views i w)) (stakes_in views) (stakes_in (set views i w)) k.logs back word logs
           (stakes_set views i v w at_i (λ n. ap (λ (ss : List Stake). sum_by (λ (s : Stake). one (s.number == n)) ss) h.stakes)));
@@ -127,6 +129,14 @@ write_keeps words views i v w p x k at_i h good content =
   where
     back : (t : Title) → IsTitleHeld (total_of (shown (set words p x) (set views i w))) t → IsTitleHeld (total_of (shown words views)) t
     back t held =
+        let a = total_set words (set words p x) views i v w at_i (FreeTitle t) in
+        let b = total_set words (set words p x) views i v w at_i (OwnOf t) in
+        let c = total_set words (set words p x) views i v w at_i (RefOf t) in
+        let d = h.free t in let e = h.own t in let f = h.ref t in
+        omega arith
+
+    forth : (t : Title) → IsTitleHeld (total_of (shown words views)) t → IsTitleHeld (total_of (shown (set words p x) (set views i w))) t
+    forth t held =
         let a = total_set words (set words p x) views i v w at_i (FreeTitle t) in
         let b = total_set words (set words p x) views i v w at_i (OwnOf t) in
         let c = total_set words (set words p x) views i v w at_i (RefOf t) in

@@ -1,16 +1,16 @@
 -- What a view with every stake knows of its logs, and of the reads in them.
-use Rattle.std.specs.Prelude.{◌≡◌, ℕ, ◌<◌, ◌⊎◌, List, ◌∷◌, ◌++◌, Bool, true, false}
+use Rattle.std.specs.Prelude.{◌≡◌, ℕ, ◌<◌, ◌⊎◌, List, ◌∷◌, ◌++◌, Bool, true, false, length}
 use mathlib.Core.Option.{some}
 use lib.ListN.{get_elem?}
 use Rattle.pa_machine.specs.declared.title.Title.{Title}
 use Rattle.pa_machine.specs.Count.{number_of, held_of}
-use Rattle.pa_machine.specs.Titles.{poison}
+use Rattle.pa_machine.specs.Titles.{IsWellFormed, poison}
 use Rattle.pa_region.specs.declared.view.Deeds.{Deeds}
 use Rattle.pa_region.specs.declared.view.Entry.{Entry}
 use Rattle.pa_region.specs.declared.view.Entry.TheVariants.{Looked, Read}
 use Rattle.pa_region.specs.declared.view.Stake.{Stake}
 use Rattle.pa_region.specs.declared.view.View.{View}
-use Rattle.pa_region.specs.Views.{logged_of}
+use Rattle.pa_region.specs.Views.{logged_of, names}
 use Rattle.pa_region.specs.History.{Done, IsChained}
 use Rattle.pa_region.specs.Contents.{content_at_number}
 use Rattle.pa_region.specs.Pairs.{paired_of, paired_of_by, logged_of_by}
@@ -28,10 +28,12 @@ pub record HasReads (history : Title → List Done) (v : View) : Type 0 where
       ⊎ ((value ≡ poison) × IsFreedElsewhere (logged_of_by v) (history t) t r (number_of found))
 
 -- What a view with every stake knows of all logs: each title has a history that its logs chain, and each read in them gave
--- what it should.
+-- what it should. Titles that they name are well formed, and two of one start and one `born` are one.
 pub record HasAllLogs (v : View) : Type 0 where
   pub history : Title → List Done
   pub chain : (t : Title) → IsChained (logged_of v) t (history t)
+  pub well : (t : Title) → 0 < logged_of v (names t) → IsWellFormed (length v.words) t
+  pub one_name : (t u : Title) → 0 < logged_of v (names t) → 0 < logged_of v (names u) → t.start ≡ u.start → t.born ≡ u.born → t ≡ u
   pub reads : HasReads history v
 
 -- what one read gave, with stake r, of a title with this history

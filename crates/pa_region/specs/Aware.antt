@@ -6,15 +6,16 @@ use Rattle.pa_machine.specs.Count.{number_of}
 use Rattle.pa_machine.specs.Titles.{Covers, count_word}
 use Rattle.pa_machine.specs.Holdings.{RawByte}
 use Rattle.pa_region.specs.declared.view.View.{View}
-use Rattle.pa_region.specs.Views.{held_of_view, free_of, own_of, ref_of, uncut_of, stake_of, seen_of, unseen_of, HasTitle, HasEveryStake}
-use Rattle.pa_region.specs.Lists.{keeper_of, lease_of, list_of, made_with, entered_in, IsBeginning, IsKnownTo, Rises}
+use Rattle.pa_region.specs.Views.{held_of_view, free_of, own_of, ref_of, uncut_of, stake_of, seen_of, unseen_of, logged_of, counted_on, HasTitle, HasEveryStake}
+use Rattle.pa_region.specs.Lists.{keeper_of, lease_of, list_of, made_with, entered_in, IsBeginning, IsKnownTo, Rises, HasSeenHandles}
 use Rattle.pa_region.specs.AllReads.{HasAllLogs}
 
 -- Each thing, stake, keeper and lease is there at most once. A free title isn't used besides, its titles share no byte, and
--- none is raw or was made raw again. It has seen what its own logs say, and the number of each title that it holds free.
+-- none is raw or was made raw again. It has seen what its own logs say, the number of each title that it holds free, and
+-- the issue of each title of which it has a handle.
 -- Each note of a keeper's list is a beginning of what it has seen of the list, and its own keepers' lists are that. What
 -- its stakes made there is what their logs entered; makers had stakes, what they had seen rises, and it has seen it too.
--- And with every stake its logs are all logs.
+-- And with every stake its logs are all logs, and it has seen no more than they say.
 pub record IsAware (v : View) : Type 0 where
   pub raw_once : (b : ℕ) → held_of_view v (RawByte b) ≤ 1
   pub free_once : (t : Title) → free_of v t ≤ 1
@@ -35,4 +36,6 @@ pub record IsAware (v : View) : Type 0 where
   pub rises : (k : ℕ) → Rises (list_of k v)
   pub makers : (k : ℕ) → Each (λ m. m.stake < 16) (list_of k v)
   pub follows : (k : ℕ) → Each (λ m. IsKnownTo v.seen m) (list_of k v)
+  pub handles : HasSeenHandles v
   pub all_logs : HasEveryStake v → HasAllLogs v
+  pub all_seen : HasEveryStake v → (t : Title) → seen_of v t ≤ logged_of v (counted_on t)

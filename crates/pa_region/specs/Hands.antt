@@ -15,7 +15,7 @@ use Rattle.pa_region.specs.declared.view.Stake.{Stake}
 use Rattle.pa_region.specs.declared.view.Keeper.{Keeper}
 use Rattle.pa_region.specs.declared.view.Leases.{Leases}
 use Rattle.pa_region.specs.declared.view.View.{View}
-use Rattle.pa_region.specs.Views.{held_of_view, free_of, own_as, ref_of, idle_of, low_of, uncut_of, stake_of, logged_of}
+use Rattle.pa_region.specs.Views.{held_of_view, free_of, own_as, ref_of, idle_of, low_of, stake_of, logged_of}
 use Rattle.pa_region.specs.Moves.{without, is_title_of}
 use Rattle.pa_region.specs.Lists.{keeper_of, lease_of}
 use Rattle.pa_region.specs.Pairs.{paired_of, paired_of_by, logged_of_by}
@@ -151,12 +151,10 @@ empty_of v = record v {
   stakes = [];
   keepers = [];
   leases = record { single = []; from = [] };
-  uncut = [];
   since = handed v.since;
 }
 
--- The view of who gets the parcel: a stake goes with its log and a keeper with its list, and what was seen is copied.
--- The titles that were made raw again stay with the giver.
+-- the view of who gets the parcel: a stake goes with its log and a keeper with its list, and what was seen is copied
 abbrev pub given_after : Parcel → View → View
 given_after p v = record v {
   raws = (given_of p.items v (empty_of v)).raws;
@@ -167,7 +165,6 @@ given_after p v = record v {
   stakes = filter (λ (s : Stake). p.stakes s.number) v.stakes;
   keepers = filter (λ (q : Keeper). p.keepers q.number) v.keepers;
   leases = record { single = p.leases; from = [] };
-  uncut = [];
   since = handed v.since;
 }
 
@@ -179,8 +176,7 @@ pub record CanHand (p : Parcel) (v : View) : Type 0 where
   pub clean : (k : ℕ) → p.stakes k ≡ true → unclean_of v ≡ 0
 
 -- What v has is what l and r have together: each thing, floors, the budget, the entries of the logs of any weight,
--- stakes, keepers, leases, and the titles that were made raw again, and Owns that aren't clean. That no Ref of a title is
--- left may be forgotten.
+-- stakes, keepers, leases, and Owns that aren't clean. That no Ref of a title is left may be forgotten.
 pub record IsParted (v l r : View) : Type 0 where
   pub things : (x : Thing) → held_of_view l x + held_of_view r x ≡ held_of_view v x
   pub floors : (b n : ℕ) → low_of l b n + low_of r b n ≡ low_of v b n
@@ -190,7 +186,6 @@ pub record IsParted (v l r : View) : Type 0 where
   pub stakes : (k : ℕ) → stake_of l k + stake_of r k ≡ stake_of v k
   pub keepers : (k : ℕ) → keeper_of l k + keeper_of r k ≡ keeper_of v k
   pub leases : (n : ℕ) → lease_of l n + lease_of r n ≡ lease_of v n
-  pub uncut : (t : Title) → uncut_of l t + uncut_of r t ≡ uncut_of v t
   pub pairs : (weight : Entry → Entry → ℕ) → paired_of l weight + paired_of r weight ≡ paired_of v weight
   pub pairs_by : (k : ℕ) (weight : Entry → Entry → ℕ) → paired_of_by l k weight + paired_of_by r k weight ≡ paired_of_by v k weight
   pub logs_by : (k : ℕ) (weight : Entry → ℕ) → logged_of_by l k weight + logged_of_by r k weight ≡ logged_of_by v k weight
@@ -227,7 +222,6 @@ united v w = record {
   since = done_by_both v.since w.since;
   keepers = v.keepers ++ w.keepers;
   leases = record { single = v.leases.single ++ w.leases.single; from = v.leases.from ++ w.leases.from };
-  uncut = v.uncut ++ w.uncut;
   seen = v.seen ++ w.seen;
   seen_lists = v.seen_lists ++ w.seen_lists;
 }

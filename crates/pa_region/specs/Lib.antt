@@ -1,10 +1,15 @@
 pub mod AllReads
 pub mod Aware
 pub mod Contents
+pub mod CutTells
+pub mod Cuts
+pub mod Ends
 pub mod Entries
 pub mod Frees
 pub mod Hands
 pub mod History
+pub mod Leaves
+pub mod Lending
 pub mod Lists
 pub mod Loads
 pub mod Marks
@@ -15,6 +20,7 @@ pub mod Says
 pub mod Shares
 pub mod Start
 pub mod Stores
+pub mod Takes
 pub mod Tells
 pub mod Views
 pub mod Waiting

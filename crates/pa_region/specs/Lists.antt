@@ -15,7 +15,7 @@ use Rattle.pa_region.specs.declared.view.Keeper.{Keeper}
 use Rattle.pa_region.specs.declared.view.SeenNumber.{SeenNumber}
 use Rattle.pa_region.specs.declared.view.SeenList.{SeenList}
 use Rattle.pa_region.specs.declared.view.View.{View}
-use Rattle.pa_region.specs.Views.{seen_among, seen_of, free_of}
+use Rattle.pa_region.specs.Views.{seen_among, seen_of, free_of, own_of, ref_of}
 
 -- how often a view has keeper k
 abbrev pub keeper_of : View → ℕ → ℕ
@@ -74,10 +74,14 @@ abbrev pub Rises : List Made → Type 0
 Rises [] = Unit {0}
 Rises (m ∷ ms) = Each (λ later. IsKnownTo later.seen m) ms × Rises ms
 
+-- who has a handle of a title has seen a number of at least 1: that of its issue
+abbrev pub HasSeenHandles : View → Type 0
+HasSeenHandles v = (t : Title) → 0 < own_of v t + ref_of v t → 1 ≤ seen_of v t
+
 -- Of one view and the lists of the keepers. What it has seen of a list is a beginning of it, and the whole list where
 -- it has the keeper, with which the list goes. What a stake of the view made is, in order, what its log entered: in
 -- the whole list, and in what the view has seen of it. And all that the makers of what it has seen had seen, it has
--- seen.
+-- seen, and the issue of each title of which it has a handle.
 pub record IsListed (list : ℕ → List Made) (v : View) : Type 0 where
   pub beginnings : Each (λ n. IsBeginning n.entries (list n.keeper)) v.seen_lists
   pub whole : (k : ℕ) → 0 < keeper_of v k → list_of k v ≡ list k
@@ -85,6 +89,7 @@ pub record IsListed (list : ℕ → List Made) (v : View) : Type 0 where
   pub made : (k : ℕ) → Each (λ s. made_with s.number (list k) ≡ entered_in k s.log) v.stakes
   pub noticed : (k : ℕ) → Each (λ s. made_with s.number (list_of k v) ≡ entered_in k s.log) v.stakes
   pub follows : (k : ℕ) → Each (λ m. IsKnownTo v.seen m) (list_of k v)
+  pub handles : HasSeenHandles v
 
 -- who holds a title free has seen its number
 abbrev pub HasSeenFree : View → Type 0

@@ -4,7 +4,7 @@ use mathlib.Core.Option.{some}
 use lib.ListN.{get_elem?}
 use Rattle.pa_machine.specs.declared.title.Title.{Title}
 use Rattle.pa_machine.specs.Count.{number_of, refs_of}
-use Rattle.pa_machine.specs.Titles.{Covers, count_word}
+use Rattle.pa_machine.specs.Titles.{Covers, IsWellFormed, count_word}
 use Rattle.pa_machine.specs.Holdings.{Thing, one, IsTitleHeld}
 use Rattle.pa_machine.specs.Good.{IsGood}
 use Rattle.pa_machine.specs.Events.{total_of}
@@ -34,13 +34,19 @@ pub record Values (words : List ℕ) (views : List View) : Type 0 where
   pub long : (i : ℕ) (v : View) → get_elem? views i ≡ some v → length v.words ≡ length words
   pub known : (i word : ℕ) (v : View) → get_elem? views i ≡ some v → Knows v word → slice_index v.words word ≡ slice_index words word
 
--- The second part, of each title that some log names or some view has uncut: the raw bytes that it covers have floors
--- above its `born`, and each other held title that shares a byte with it has a greater `born`. What was uncut isn't
--- held.
+-- The second part, of each title that some log names: the raw bytes that it covers have floors above its `born`, and each
+-- other held title that shares a byte with it has a greater `born`. What was made raw again isn't held.
 pub record Reservations (total : Thing → ℕ) (low : ℕ → ℕ → ℕ) (named uncut : Title → ℕ) : Type 0 where
-  pub floors : (t : Title) (b : ℕ) → 0 < named t + uncut t → Covers t b → low b t.born ≡ 0
-  pub later : (t u : Title) (b : ℕ) → 0 < named t + uncut t → IsTitleHeld total u → (t ≡ u → ⊥) → Covers t b → Covers u b → t.born < u.born
+  pub floors : (t : Title) (b : ℕ) → 0 < named t → Covers t b → low b t.born ≡ 0
+  pub later : (t u : Title) (b : ℕ) → 0 < named t → IsTitleHeld total u → (t ≡ u → ⊥) → Covers t b → Covers u b → t.born < u.born
   pub gone : (t : Title) → 0 < uncut t → IsTitleHeld total t → ⊥
+
+-- The second part also says that titles which logs name are well formed, in a region of so many words; that two of them
+-- with one start and one `born` are one; and that such a title, where no log says that it was made raw again, is held.
+pub record Named (words : ℕ) (total : Thing → ℕ) (named uncut : Title → ℕ) : Type 0 where
+  pub well : (t : Title) → 0 < named t → IsWellFormed words t
+  pub one_name : (t u : Title) → 0 < named t → 0 < named u → t.start ≡ u.start → t.born ≡ u.born → t ≡ u
+  pub held : (t : Title) → 0 < named t → uncut t ≡ 0 → IsTitleHeld total t
 
 -- The third part: the logs chain the history of each title, held or not. A held title's word is the last one of its
 -- history. Each of the 16 stakes is in exactly one view, and there are no others.
@@ -64,6 +70,7 @@ pub record IsKept (words : List ℕ) (views : List View) : Type 0 where
   pub holders : Holders (byte_words words) (total_of (shown words views)) (idle_in views) (budget_in views) (logged_in views counted)
   pub values : Values (byte_words words) views
   pub reservations : Reservations (total_of (shown words views)) (low_in views) (λ t. logged_in views (names t)) (uncut_in views)
+  pub named : Named (length (byte_words words)) (total_of (shown words views)) (λ t. logged_in views (names t)) (uncut_in views)
   pub logs : Logs history (byte_words words) (total_of (shown words views)) (logged_in views) (stakes_in views)
   pub content : KeepsContent (shown words views) (λ t. content_of (history t))
   pub reads : Reads history (byte_words words) views

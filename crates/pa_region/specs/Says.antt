@@ -1,26 +1,27 @@
 -- What the rule says, of any number of seats.
-use Rattle.std.specs.Prelude.{◌≡◌, ℕ, ◌+◌, ◌/◌, ◌%◌, ◌<◌, ◌≤◌, List, [], ◌∷◌, ◌++◌, slice_set, replicate}
+use Rattle.std.specs.Prelude.{◌≡◌, ℕ, ◌+◌, ◌/◌, ◌%◌, ◌<◌, ◌≤◌, List, [], ◌∷◌, ◌++◌, slice_set, length, replicate}
 use mathlib.Core.Option.{some}
 use lib.ListN.{get_elem?}
 use Rattle.pa_machine.specs.declared.title.Title.{Title}
 use Rattle.pa_machine.specs.declared.word.Step.{Step}
 use Rattle.pa_machine.specs.Count.{CanStep, stepped, number_of}
-use Rattle.pa_machine.specs.Titles.{count_place, count_word, content_count, content_place, content_at, poison}
+use Rattle.pa_machine.specs.Titles.{IsWellFormed, count_place, count_word, content_count, content_place, content_at, poison}
 use Rattle.pa_machine.specs.Holdings.{IsTitleHeld}
 use Rattle.pa_machine.specs.declared.event.Event.{Event}
-use Rattle.pa_machine.specs.declared.event.Event.TheVariants.{Count, Store, Poison, Load}
+use Rattle.pa_machine.specs.declared.event.Event.TheVariants.{Count, Store, Poison, Load, Cut, Uncut}
 use Rattle.pa_machine.specs.Events.{total_of, IsEnabled, Happens}
 use Rattle.pa_machine.specs.Trail.{IsGoodState}
 use Rattle.pa_region.specs.declared.view.View.{View}
-use Rattle.pa_region.specs.Views.{byte_words, shown, logged_in, counted_on, counted_at, HasTitle, HasStake}
+use Rattle.pa_region.specs.Views.{byte_words, shown, logged_in, counted_on, counted_at, names, uncut_in, seen_of, HasTitle, HasStake}
 use Rattle.pa_region.specs.Rule.{IsKept}
 use Rattle.pa_region.specs.Moves.{CanCount, IsFound, after_count, after_look}
 use Rattle.pa_region.specs.Stores.{after_store, CanStore, after_poison, CanPoison}
 use Rattle.pa_region.specs.Entries.{CanEnter, after_enter}
+use Rattle.pa_region.specs.Cuts.{CanCut, titled, CanUncut, after_uncut}
 use Rattle.pa_region.specs.Hands.{Parcel, CanHand, CanTake, IsParted, left_after, given_after, united, spent_of}
 use Rattle.pa_region.specs.Shares.{IsUser, count_offset}
 use Rattle.pa_region.specs.Loads.{after_read, content_offset, IsPlain}
-use Rattle.pa_region.specs.Start.{AreApart, AreWellFormed, first_view}
+use Rattle.pa_region.specs.Start.{first_view}
 
 -- the word that is shown for a title
 abbrev pub word_shown : List ℕ → Title → ℕ
@@ -96,8 +97,7 @@ ReadKeeps =
 -- the rule holds of a new region's words, which are 0, and of the first seat's view
 abbrev pub StartKeeps : Type 0
 StartKeeps =
-    (words budget : ℕ) (titles : List Title) → budget ≤ 65536 → AreWellFormed words titles → AreApart titles →
-    IsKept (replicate (words + 16) 0) (first_view words budget titles ∷ [])
+    (words budget : ℕ) → budget ≤ 65536 → IsKept (replicate (words + 16) 0) (first_view words budget ∷ [])
 
 -- under the rule the core that is shown is good
 abbrev pub ShowsGood : Type 0
@@ -135,3 +135,27 @@ abbrev pub EnterKeeps : Type 0
 EnterKeeps =
     (k : ℕ) (numbers : List ℕ) (words : List ℕ) (views : List View) (i : ℕ) (v : View) → IsKept words views → get_elem? views i ≡ some v → CanEnter k v →
     IsKept words (slice_set views i (after_enter k numbers v))
+
+-- a cut by view number i, of a title whose count word it knows to be 0, is a cut by the core's actor i, and keeps the rule;
+-- nobody has seen a step on the title
+abbrev pub CutKeeps : Type 0
+CutKeeps =
+    (t : Title) (words : List ℕ) (views : List View) (i : ℕ) (v : View) →
+    IsKept words views → get_elem? views i ≡ some v → CanCut t v → count_word v.words t ≡ 0 →
+    IsEventOf (Cut i t) words views words (slice_set views i (titled t v)) ×
+    IsKept words (slice_set views i (titled t v)) × (seen_of v t ≡ 0)
+
+-- making a free title raw again is an uncut by the core's actor i, and keeps the rule
+abbrev pub UncutKeeps : Type 0
+UncutKeeps =
+    (t : Title) (words : List ℕ) (views : List View) (i : ℕ) (v : View) → IsKept words views → get_elem? views i ≡ some v → CanUncut t v →
+    IsEventOf (Uncut i t) words views words (slice_set views i (after_uncut t v)) × IsKept words (slice_set views i (after_uncut t v))
+
+-- Under the rule each title that some log names is well formed; two of them with one start and one `born` are one; and one
+-- that no log says was made raw again is held.
+abbrev pub NamedAreOne : Type 0
+NamedAreOne =
+    (words : List ℕ) (views : List View) (t : Title) → IsKept words views → 0 < logged_in views (names t) →
+    IsWellFormed (length (byte_words words)) t ×
+    ((u : Title) → 0 < logged_in views (names u) → t.start ≡ u.start → t.born ≡ u.born → t ≡ u) ×
+    (uncut_in views t ≡ 0 → IsTitleHeld (total_of (shown words views)) t)

@@ -12,7 +12,7 @@ use Rattle.pa_machine.specs.Events.{State}
 use Rattle.pa_region.specs.declared.view.RawRange.{RawRange}
 use Rattle.pa_region.specs.declared.view.OwnTitle.{OwnTitle}
 use Rattle.pa_region.specs.declared.view.Entry.{Entry}
-use Rattle.pa_region.specs.declared.view.Entry.TheVariants.{Counted, Looked, Read}
+use Rattle.pa_region.specs.declared.view.Entry.TheVariants.{Counted, Looked, Read, Uncut}
 use Rattle.pa_region.specs.declared.view.Stake.{Stake}
 use Rattle.pa_region.specs.declared.view.SeenNumber.{SeenNumber}
 use Rattle.pa_region.specs.declared.view.View.{View}
@@ -88,14 +88,6 @@ low_of v b n = sum_by (λ (r : RawRange). one ((nat_le r.start b && nat_lt b (r.
 abbrev pub low_in : List View → ℕ → ℕ → ℕ
 low_in views b n = sum_by (λ v. low_of v b n) views
 
--- how often a view has uncut the title
-abbrev pub uncut_of : View → Title → ℕ
-uncut_of v t = sum_by (λ u. one (same_title u t)) v.uncut
-
--- how often any view has
-abbrev pub uncut_in : List View → Title → ℕ
-uncut_in views t = sum_by (λ v. uncut_of v t) views
-
 -- how often a view has stake number k
 abbrev pub stake_of : View → ℕ → ℕ
 stake_of v k = sum_by (λ (s : Stake). one (s.number == k)) v.stakes
@@ -151,7 +143,21 @@ abbrev pub names : Title → Entry → ℕ
 names t (Counted u step found value) = one (same_title u t)
 names t (Looked u found) = one (same_title u t)
 names t (Read u place value since owned unclean) = one (same_title u t)
+names t (Uncut u) = one (same_title u t)
 names t other = 0
+
+-- it says that this title was made raw again
+abbrev pub uncuts : Title → Entry → ℕ
+uncuts t (Uncut u) = one (same_title u t)
+uncuts t other = 0
+
+-- how often a view's logs say so
+abbrev pub uncut_of : View → Title → ℕ
+uncut_of v t = logged_of v (uncuts t)
+
+-- how often all logs say so
+abbrev pub uncut_in : List View → Title → ℕ
+uncut_in views t = logged_in views (uncuts t)
 
 -- the greatest number of the title that these notes say was seen, 0 where they say none
 abbrev pub seen_among : Title → List SeenNumber → ℕ

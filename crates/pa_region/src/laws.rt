@@ -1,5 +1,6 @@
 //! What the region's rule says of any number of seats, as laws: calls that do nothing, and whose clauses are proved.
-ghost use Rattle.pa_region.specs.Says.{CountKeeps, CountIsEvent, LookKeeps, LookIsLoad, StoreKeeps, PoisonKeeps, PlainIsLoad, ReadKeeps, HandKeeps, JoinKeeps, EnterKeeps, StartKeeps, ShowsGood, FindsEachNumberOnce, UnnamedIsNew};
+ghost use Rattle.pa_region.specs.Ends.{UnnamedEndsNew};
+ghost use Rattle.pa_region.specs.Says.{CountKeeps, CountIsEvent, LookKeeps, LookIsLoad, StoreKeeps, PoisonKeeps, PlainIsLoad, ReadKeeps, HandKeeps, JoinKeeps, EnterKeeps, CutKeeps, UncutKeeps, StartKeeps, ShowsGood, FindsEachNumberOnce, UnnamedIsNew, NamedAreOne};
 
 /// Each counted step keeps the rule.
 pub fn counted_steps_keep_the_rule()
@@ -56,6 +57,16 @@ pub fn joins_keep_the_rule()
     ensures { JoinKeeps }
 {}
 
+/// Each cut of a title out of raw bytes is an enabled event of the core that is shown, and keeps the rule.
+pub fn cuts_keep_the_rule()
+    ensures { CutKeeps }
+{}
+
+/// Each title that is made raw again is so by an enabled event of the core that is shown, and the rule is kept.
+pub fn uncuts_keep_the_rule()
+    ensures { UncutKeeps }
+{}
+
 /// A new region meets the rule.
 pub fn a_new_region_meets_the_rule()
     ensures { StartKeeps }
@@ -74,4 +85,14 @@ pub fn each_number_is_found_once()
 /// Under the rule a title that no log names has the word 0.
 pub fn an_unnamed_title_is_new()
     ensures { UnnamedIsNew }
+{}
+
+/// Under the rule two titles of one slot that logs name are one, which is well formed, and held unless it was made raw again.
+pub fn a_named_title_is_held()
+    ensures { NamedAreOne }
+{}
+
+/// At the end a title that the closing seat holds, and that no log names, has the word 0.
+pub fn an_unnamed_title_ends_new()
+    ensures { UnnamedEndsNew }
 {}

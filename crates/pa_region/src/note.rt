@@ -1,4 +1,4 @@
-ghost use Rattle.std.specs.Prelude.{◌≡◌, ℕ, ◌<◌};
+ghost use Rattle.std.specs.Prelude.{◌≡◌, ℕ, ◌<◌, length};
 ghost use Rattle.pa_machine.specs.declared.title.Title.{Title};
 ghost use Rattle.pa_region.specs.Views.{stake_of};
 ghost use Rattle.pa_region.specs.Waiting.{poisoned_of, unclean_of};
@@ -6,7 +6,7 @@ ghost use Rattle.pa_region.specs.Hands.{CanHand, IsParted, left_after, given_aft
 ghost use Rattle.pa_region.specs.Aware.{IsAware};
 ghost use Rattle.pa_region.specs.Entries.{CanEnter, after_enter};
 ghost use Rattle.pa_region.specs.Marks.{parcel_of};
-ghost use Rattle.pa_region.specs.Shares.{Share};
+ghost use Rattle.pa_region.specs.Shares.{Share, byte_word_count};
 
 use crate::marks::{Mark, both, marked, unmarked};
 use crate::region::{Region, Seat};
@@ -37,6 +37,15 @@ impl Note {
     {
         let Note { seat } = self;
         seat
+    }
+
+    /// What the rule says of the note's view, whose list of words is as long as the region's. It costs nothing: it hands
+    /// on what the note's type keeps.
+    pub fn aware(&self)
+        ensures aware { IsAware self.now.view }
+        ensures long { length self.now.view.words ≡ byte_word_count self.now.region }
+    {
+        self.seat.aware();
     }
 }
 
@@ -74,14 +83,13 @@ impl Region {
     }
 
     /// Takes in a note: the seat has then all that both had, and has seen what either has seen. Where the note has a
-    /// stake, the seat has no poisoned Own. A second load, which changes nothing, tells what the rule says of the view.
+    /// stake, the seat has no poisoned Own. A second load changes nothing, and tells what the rule says of the view.
     pub fn take(&self, seat: &mut Seat, note: Note)
         requires region { (seat.old.region ≡ self.now) × (note.region ≡ self.now) }
         requires able { (k : ℕ) (t : Title) → 0 < stake_of note.view k → poisoned_of seat.old.view t ≡ 0 }
         ensures region { seat.new.region ≡ seat.old.region }
         ensures view { seat.new.view ≡ united seat.old.view note.view }
         ensures parted { IsParted seat.new.view seat.old.view note.view }
-        ensures aware { IsAware seat.new.view }
     {
         let Note { seat: other } = note;
         let Seat {

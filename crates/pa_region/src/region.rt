@@ -4,10 +4,12 @@ ghost use Rattle.pa_machine.specs.Titles.{IsWellFormed, count_place, content_cou
 ghost use Rattle.pa_region.specs.Views.{HasTitle, HasStake, HasEveryStake, least_stake};
 ghost use Rattle.pa_region.specs.Moves.{CanCount};
 ghost use Rattle.pa_region.specs.Marks.{AreStakes};
+ghost use Rattle.pa_region.specs.Aware.{IsAware};
 ghost use Rattle.pa_region.specs.Shares.{Share, IsSound, IsMade, byte_word_count, adds};
 ghost use Rattle.pa_region.specs.Loads.{CanLoad, LoadTells};
 ghost use Rattle.pa_region.specs.Stores.{CanStore, after_store, StoreTells, CanPoison, after_poison};
-ghost use Rattle.pa_region.specs.Start.{AreApart, AreWellFormed, first_view, IsEnd};
+ghost use Rattle.pa_region.specs.Start.{first_view};
+ghost use Rattle.pa_region.specs.Ends.{IsEnd};
 
 use crate::closed::Closed;
 use crate::marks::{Stakes, least};
@@ -47,7 +49,8 @@ impl Model for Seat {
 
     ghost view = { λ s. record { region = s.seat.table_id; view = s.seat.me.0 } };
 
-    ghost invariant = { λ s. (s.seat.me.1 ≡ []) × IsSound s.seat.table_id s.seat.me.0 × AreStakes s.stakes s.seat.me.0 };
+    ghost invariant = { λ s.
+        (s.seat.me.1 ≡ []) × IsSound s.seat.table_id s.seat.me.0 × AreStakes s.stakes s.seat.me.0 × IsAware s.seat.me.0 };
 }
 
 impl Seat {
@@ -72,31 +75,31 @@ impl Seat {
     }
 }
 
+impl Seat {
+    /// What the rule says of the seat's view, whose list of words is as long as the region's. It costs nothing: it hands
+    /// on what the seat's type keeps.
+    pub fn aware(&self)
+        ensures aware { IsAware self.now.view }
+        ensures long { length self.now.view.words ≡ byte_word_count self.now.region }
+    {
+        let _ = &self.seat;
+    }
+}
+
 impl Region {
-    /// A region of so many super pages of 2,097,152 bytes, whose words are all 0, and its first seat: it holds these
-    /// titles free, the rest of the bytes as raw, the right to make `budget` counted steps, and every stake.
-    pub fn with_titles(
-        alloc: Global,
-        supers: u32,
-        budget: u32,
-        titles: &[Title],
-    ) -> Result<(Region, Seat), OutOfMemory>
+    /// A region of so many super pages of 2,097,152 bytes, whose words are all 0, and its first seat: it holds all bytes
+    /// as raw, and has the right to make `budget` counted steps, every stake, every keeper with an empty list, and
+    /// every lease.
+    pub fn new(alloc: Global, supers: u32, budget: u32) -> Result<(Region, Seat), OutOfMemory>
         requires supers { (1 ≤ supers) × (supers ≤ 16) }
         requires budget { budget ≤ 65536 }
-        requires titles { AreWellFormed (262144 * supers) titles.now × AreApart titles.now }
         ensures words { IfOk result (λ r. byte_word_count r.0 ≡ 262144 * supers) }
         ensures region { IfOk result (λ r. r.1.region ≡ r.0) }
-        ensures view { IfOk result (λ r. r.1.view ≡ first_view (262144 * supers) budget titles.now) }
+        ensures view { IfOk result (λ r. r.1.view ≡ first_view (262144 * supers) budget) }
     {
         let words = supers * 262144;
         let zeros = vec![in alloc; 0u64; words as usize + 16]?;
-        let mut kept = Vec::new(alloc);
-        kept.extend_from_slice(titles)?;
-        let opening = Opening {
-            words,
-            budget,
-            titles: kept,
-        };
+        let opening = Opening { words, budget };
         let (table, seat) = Table::of_words(alloc, zeros.as_slice(), &opening)?;
         Ok((
             Region { table },

@@ -5,6 +5,7 @@ ghost use Rattle.pa_machine.specs.Titles.{poison};
 ghost use Rattle.pa_region.specs.declared.view.View.{View};
 ghost use Rattle.pa_region.specs.Rule.{IsKept};
 ghost use Rattle.pa_region.specs.Start.{first_view};
+ghost use Rattle.pa_region.specs.Aware.{IsAware};
 
 use crate::marks::Mark;
 use crate::view::View;
@@ -13,12 +14,11 @@ use pa_machine::{Item, Step, Title};
 use std::alloc::Global;
 use std::marker::{Brand, PhantomData};
 
-/// What a region is opened with: its words for bytes, the counted steps that may be made, and its free titles.
+/// What a region is opened with: its words for bytes, and the counted steps that may be made.
 #[derive(Drop)]
 pub struct Opening {
     pub words: u32,
     pub budget: u32,
-    pub titles: Vec<Title>,
 }
 
 /// The region's rule.
@@ -30,7 +30,7 @@ impl TableRule<(), View, Opening> for Kept {
 
     ghost holds = { λ key s. IsKept s.words s.views };
 
-    ghost first = { λ key. first_view key.words key.budget key.titles.items };
+    ghost first = { λ key. first_view key.words key.budget };
 }
 
 /// The words of a region, of which only seats of it can change any.
@@ -49,13 +49,15 @@ impl Telling for Brand {
     ghost then = { λ _ _ _. Unit {0} };
 }
 
-/// A step that tells what was picked.
+/// A step that tells what was picked, and what the rule says of the view after it.
 pub struct Told<T> {
     telling: PhantomData<T>,
 }
 
 impl<T: Telling> Play<(), View> for Told<T> {
-    ghost then = { λ _. T.then };
+    ghost use Rattle.pa_region.specs.Aware.{IsAware};
+
+    ghost then = { λ _ me word after. T.then me word after × IsAware after.0 };
 }
 
 // One `fetch_add` on a word, for a step on the title.
@@ -71,6 +73,7 @@ pub fn add_as<T: Telling>(
     requires allowed { Allows (λ (s : TableState (Unit {0}) View). IsKept s.words s.views) table.now.shared.table_id.slots seat.old.id seat.old.me word (λ n. (n + value) % 2 ^ 64) (T.then seat.old.me) }
     ensures seat { (seat.new.table_id ≡ seat.old.table_id) × (seat.new.id ≡ seat.old.id) }
     ensures told { T.then seat.old.me result seat.new.me }
+    ensures aware { IsAware seat.new.me.0 }
 {
     table.shared.fetch_add::<Told<T>>(seat, word, value)
 }
@@ -81,8 +84,20 @@ pub fn load_as<T: Telling>(table: &Words, seat: &mut Seat<(), View>, word: usize
     requires allowed { Allows (λ (s : TableState (Unit {0}) View). IsKept s.words s.views) table.now.shared.table_id.slots seat.old.id seat.old.me word (λ n. n) (T.then seat.old.me) }
     ensures seat { (seat.new.table_id ≡ seat.old.table_id) × (seat.new.id ≡ seat.old.id) }
     ensures told { T.then seat.old.me result seat.new.me }
+    ensures aware { IsAware seat.new.me.0 }
 {
     table.shared.load::<Told<T>>(seat, word)
+}
+
+// One load of a word, at which a seat cuts the title or makes it raw again.
+pub fn title_as<T: Telling>(table: &Words, seat: &mut Seat<(), View>, word: usize, _title: Title)
+    requires region { (seat.old.table_id ≡ table.now.shared.table_id) × (word < table.now.shared.table_id.words) }
+    requires allowed { Allows (λ (s : TableState (Unit {0}) View). IsKept s.words s.views) table.now.shared.table_id.slots seat.old.id seat.old.me word (λ n. n) (T.then seat.old.me) }
+    ensures seat { (seat.new.table_id ≡ seat.old.table_id) × (seat.new.id ≡ seat.old.id) }
+    ensures told { (found : ℕ) × T.then seat.old.me found seat.new.me }
+    ensures aware { IsAware seat.new.me.0 }
+{
+    table.shared.load::<Told<T>>(seat, word);
 }
 
 // One load of word 0, at which a seat makes an entry in a keeper's list.
@@ -91,6 +106,7 @@ pub fn enter_as<T: Telling>(table: &Words, seat: &mut Seat<(), View>, _keeper: u
     requires allowed { Allows (λ (s : TableState (Unit {0}) View). IsKept s.words s.views) table.now.shared.table_id.slots seat.old.id seat.old.me 0 (λ n. n) (T.then seat.old.me) }
     ensures seat { (seat.new.table_id ≡ seat.old.table_id) × (seat.new.id ≡ seat.old.id) }
     ensures told { (word : ℕ) × T.then seat.old.me word seat.new.me }
+    ensures aware { IsAware seat.new.me.0 }
 {
     table.shared.load::<Told<T>>(seat, 0);
 }
@@ -107,6 +123,7 @@ pub fn store_as<T: Telling>(
     requires allowed { Allows (λ (s : TableState (Unit {0}) View). IsKept s.words s.views) table.now.shared.table_id.slots seat.old.id seat.old.me word (λ _. value) (λ _. T.then seat.old.me value) }
     ensures seat { (seat.new.table_id ≡ seat.old.table_id) × (seat.new.id ≡ seat.old.id) }
     ensures told { T.then seat.old.me value seat.new.me }
+    ensures aware { IsAware seat.new.me.0 }
 {
     table.shared.store::<Told<T>>(seat, word, value)
 }
@@ -123,6 +140,7 @@ pub fn poison_as<T: Telling>(
     requires allowed { Allows (λ (s : TableState (Unit {0}) View). IsKept s.words s.views) table.now.shared.table_id.slots seat.old.id seat.old.me word (λ _. poison) (λ _. T.then seat.old.me poison) }
     ensures seat { (seat.new.table_id ≡ seat.old.table_id) × (seat.new.id ≡ seat.old.id) }
     ensures told { T.then seat.old.me poison seat.new.me }
+    ensures aware { IsAware seat.new.me.0 }
 {
     table
         .shared
@@ -183,7 +201,7 @@ pub trait Taking {
 impl Taking for Brand {
     ghost both = { λ v w. v };
 
-    ghost spent = { first_view 0 0 [] };
+    ghost spent = { first_view 0 0 };
 }
 
 /// A join into the view that was picked.
@@ -206,12 +224,13 @@ pub fn take_as<T: Taking>(table: &Words, seat: &mut Seat<(), View>, other: Seat<
     table.shared.join_seat::<Taken<T>>(seat, other)
 }
 
-// One load of word 0, which changes no view and tells what the rule says of one.
+// One load of word 0, which changes no view, and tells what the rule says of it.
 pub fn tell_as<T: Telling>(table: &Words, seat: &mut Seat<(), View>)
     requires region { (seat.old.table_id ≡ table.now.shared.table_id) × (0 < table.now.shared.table_id.words) }
     requires allowed { Allows (λ (s : TableState (Unit {0}) View). IsKept s.words s.views) table.now.shared.table_id.slots seat.old.id seat.old.me 0 (λ n. n) (T.then seat.old.me) }
     ensures seat { (seat.new.table_id ≡ seat.old.table_id) × (seat.new.id ≡ seat.old.id) }
     ensures told { (word : ℕ) × T.then seat.old.me word seat.new.me }
+    ensures aware { IsAware seat.new.me.0 }
 {
     table.shared.load::<Told<T>>(seat, 0);
 }

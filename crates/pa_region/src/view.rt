@@ -59,6 +59,10 @@ pub enum Entry {
         keeper: u32,
         made: Made,
     },
+    /// The title was made raw again.
+    Uncut {
+        title: Title,
+    },
 }
 
 /// An entry of a keeper's list: the stake with which it was made, its numbers, and what its maker had seen then.
@@ -116,8 +120,6 @@ pub struct View {
     pub since: Deeds,
     pub keepers: LinkedList<Keeper>,
     pub leases: Leases,
-    /// The titles that the seat has made raw again.
-    pub uncut: LinkedList<Title>,
     pub seen: LinkedList<SeenNumber>,
     pub seen_lists: LinkedList<SeenList>,
 }

@@ -6,14 +6,14 @@ use Rattle.pa_quarantine.proofs.Filling.{open_own, poison_can, poison_more, pois
 use Rattle.pa_quarantine.proofs.fill.poison.Goals as goal
 
 pub placed-requires : goal.placed-requires
-placed-requires c = let o = open_own c.args.seat.now.view c.args.title c.requires.able.0 in omega arith
+placed-requires c = let o = open_own c.states_are_owns.ensures c.args.seat.now.view c.args.title c.requires.able.0 in omega arith
 
 pub loop-word-init : goal.loop-word-init
 loop-word-init c = record { region = refl; view = refl }
 
 pub poison_next-requires-clause-able : goal.poison_next-requires-clause-able
 poison_next-requires-clause-able c =
-    poison_can c.args.title c.loop-word.word c.args.seat.now.view c.loop-word.seat.view (omega arith) c.requires.able.0 c.requires.able.1 c.loop-word.invariant.view
+    poison_can c.states_are_owns.ensures c.owns_change.ensures c.args.title c.loop-word.word c.args.seat.now.view c.loop-word.seat.view (omega arith) c.requires.able.0 c.requires.able.1 c.loop-word.invariant.view
 
 pub loop-word-preserved : goal.loop-word-preserved
 loop-word-preserved c = record {
@@ -31,4 +31,4 @@ returns-clause-ready c =
     let long = c.placed.ensures.well.long in
     subst (λ (v : View). HasHandle Free c.args.title v)
     (sym (poison_end c.args.title c.loop-word.word c.args.seat.now.view c.loop-word.seat.view (omega arith) (omega arith) c.loop-word.invariant.view))
-    (poison_ready c.args.title c.args.seat.now.view c.requires.able.0)
+    (poison_ready c.states_are_owns.ensures c.owns_change.ensures c.args.title c.args.seat.now.view c.requires.able.0)

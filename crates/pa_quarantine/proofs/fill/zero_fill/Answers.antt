@@ -27,5 +27,5 @@ returns-clause-view c =
 pub returns-clause-content : goal.returns-clause-content
 returns-clause-content c =
     let long = c.placed.ensures.well.long in
-    zero_content (byte_word_count c.args.seat.now.region) c.args.title c.args.seat.now.view c.loop-word.seat.view c.placed.ensures.well c.placed.ensures.long
+    zero_content c.filled_words_have_the_value.ensures (byte_word_count c.args.seat.now.region) c.args.title c.args.seat.now.view c.loop-word.seat.view c.placed.ensures.well c.placed.ensures.long
     (zero_end c.args.title c.loop-word.word c.args.seat.now.view c.loop-word.seat.view (omega arith) (omega arith) c.loop-word.invariant.view)

@@ -2,4 +2,4 @@ use Rattle.pa_region.proofs.Opens.{opens}
 use Rattle.pa_region.proofs.laws.a_new_region_meets_the_rule.Goals as goal
 
 pub returns : goal.returns
-returns c words budget titles few well apart = opens words budget titles few well apart
+returns c words budget few = opens words budget few

@@ -2,8 +2,8 @@ use Rattle.std.proofs.Common.{ℕ, List, sym, subst}
 use Rattle.core.specs.Mem.Slots.{slots_items}
 use Rattle.pa_region.specs.Views.{HasEveryStake}
 use Rattle.pa_region.specs.Shares.{Share}
-use Rattle.pa_region.specs.Start.{IsEnd}
-use Rattle.pa_region.proofs.Ends.{ends}
+use Rattle.pa_region.specs.Ends.{IsEnd}
+use Rattle.pa_region.proofs.Closing.{ends}
 use Rattle.pa_region.proofs.region.Region.close.Goals as goal
 
 pub returns-clause-end : goal.returns-clause-end

@@ -38,6 +38,7 @@ invariant_of-seat c =
       subst (λ (z : TableId). IsSound z c.add_as.new.seat.me.0) (sym region)
           (subst (λ (w : View). IsSound c.seat.inside.seat.table_id w) (sym told.0) (count_sound c.seat.inside.seat.table_id c.args.step c.args.title c.add_as.result before can c.seat.invariant.1)),
       stakes_kept c.seat.inside.stakes before c.add_as.new.seat.me.0 (λ k. ap (λ (w : View). stake_of w k) told.0 ∙ count_stakes c.args.step c.args.title c.add_as.result before can.1 k) c.seat.invariant.2,
+      c.add_as.ensures.aware,
     )
 
 pub returns : goal.returns

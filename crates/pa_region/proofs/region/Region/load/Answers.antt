@@ -25,6 +25,7 @@ invariant_of-seat c =
       told.1 ∙ c.seat.invariant.0,
       subst (λ (z : TableId). IsSound z c.load_as.new.seat.me.0) (sym c.load_as.ensures.seat.0) kept.0,
       stakes_kept c.seat.inside.stakes c.seat.inside.seat.me.0 c.load_as.new.seat.me.0 kept.1 c.seat.invariant.2,
+      c.load_as.ensures.aware,
     )
 
 pub returns-clause-told : goal.returns-clause-told

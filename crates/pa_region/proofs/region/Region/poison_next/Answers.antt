@@ -25,6 +25,7 @@ invariant_of-seat c =
       subst (λ (z : TableId). IsSound z c.poison_as.new.seat.me.0) (sym c.poison_as.ensures.seat.0)
           (subst (λ (w : View). IsSound c.seat.inside.seat.table_id w) (sym told.0) (poison_sound c.seat.inside.seat.table_id c.args.title c.args.word c.seat.inside.seat.me.0 c.seat.invariant.1)),
       stakes_kept c.seat.inside.stakes c.seat.inside.seat.me.0 c.poison_as.new.seat.me.0 (stakes_equal c.seat.inside.seat.me.0 c.poison_as.new.seat.me.0 (ap (λ (w : View). w.stakes) told.0)) c.seat.invariant.2,
+      c.poison_as.ensures.aware,
     )
 
 pub returns-clause-region : goal.returns-clause-region

@@ -7,8 +7,7 @@ use Rattle.pa_region.specs.Waiting.{poisoned_of, unclean_of}
 use Rattle.pa_region.specs.Hands.{CanTake, IsParted, united}
 use Rattle.pa_region.specs.Marks.{AreStakes}
 use Rattle.pa_region.specs.Shares.{Share, IsSound}
-use Rattle.pa_region.specs.Aware.{IsAware}
-use Rattle.pa_region.proofs.Awareness.{aware_allowed}
+use Rattle.pa_region.proofs.Awareness.{stays_allowed}
 use Rattle.pa_region.proofs.JoinStep.{united_parts}
 use Rattle.pa_region.proofs.HandSound.{united_sound, take_allowed}
 use Rattle.pa_region.proofs.SeatStakes.{both_stakes}
@@ -43,6 +42,7 @@ invariant_of-seat c =
           (united_sound c.seat.inside.seat.table_id v w c.seat.invariant.1 (subst (λ (z : TableId). IsSound z w) same c.other.invariant.1))),
       subst (λ (u : View). AreStakes c.both-seat-inside.result u) (sym view)
           (both_stakes v w c.seat.inside.stakes c.other.inside.stakes c.both-seat-inside.result c.seat.invariant.2 c.other.invariant.2 c.both-seat-inside.ensures),
+      c.tell_as.ensures.aware,
     )
 
 pub returns-clause-view : goal.returns-clause-view
@@ -66,7 +66,4 @@ tell_as-requires-clause-region c = (
 )
 
 pub tell_as-requires-clause-allowed : goal.tell_as-requires-clause-allowed
-tell_as-requires-clause-allowed c = aware_allowed c.self.inside.table.shared.table_id.slots c.take_as.new.seat.id 0 c.take_as.new.seat.me
-
-pub returns-clause-aware : goal.returns-clause-aware
-returns-clause-aware c = subst (λ (u : View). IsAware u) (sym c.tell_as.ensures.told.1.0) c.tell_as.ensures.told.1.2
+tell_as-requires-clause-allowed c = stays_allowed c.self.inside.table.shared.table_id.slots c.take_as.new.seat.id 0 c.take_as.new.seat.me

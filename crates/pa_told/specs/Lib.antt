@@ -1,0 +1,12 @@
+pub mod Ending
+pub mod Listed
+pub mod Reads
+pub mod Rows
+pub mod Seats
+pub mod Steps
+pub mod Swaps
+pub mod Told
+pub mod Touches
+pub mod Viewed
+pub mod Whole
+pub mod Worked

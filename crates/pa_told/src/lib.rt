@@ -1,0 +1,12 @@
+//! What the logs and the lists of a region say at the end of the run that was played in it: the clauses of a legal run that
+//! speak of steps, looks, reads and what was seen, and what the closed region's words are. Laws alone; nothing here runs.
+#![tactic(auto)]
+
+mod laws;
+
+pub use laws::{
+    acts_are_theirs, cells_follow, content_follows, contents_follow, entries_in_order,
+    held_follows, histories_follow, legal_is_told, lines_have_theirs, logs_are_told, orders_follow,
+    reads_follow, seats_know, seen_follows, slots_follow, swaps_follow, tells_its_mark,
+    threads_merge, usable_follows, worked_is_read_off, worked_is_seen,
+};
