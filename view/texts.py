@@ -77,9 +77,6 @@ def read(text):
     if lines.pop():
         raise NoRun(len(lines) + 1, "the last line has no line feed")
     if "run 1" not in lines:
-        at = next((n for n, line in enumerate(lines) if line.startswith("plain ")), None)
-        if at is not None:
-            raise NoRun(at + 1, "this is a plain text, which has no journals; a run begins with the line `run 1`")
         raise NoRun(len(lines) + 1, "there is no run: the line `run 1` is missing")
     start = lines.index("run 1")
     return read_trace(lines[:start]), read_run(lines, start), start

@@ -2,4 +2,5 @@ mod Words
 mod Given
 mod Refusing
 mod Ending
+mod Printing
 mod Parsed

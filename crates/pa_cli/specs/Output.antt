@@ -4,11 +4,9 @@ use Rattle.pa_trace.specs.declared.script.Trace.{Trace}
 use Rattle.pa_trace.specs.Grammar.{IsTraceText}
 use Rattle.pa_trace.specs.Limits.{IsInput}
 use Rattle.pa_trace.specs.Generated.{IsGenerated}
-use Rattle.pa_record.specs.declared.entry.Entry.{Entry}
-use Rattle.pa_record.specs.declared.history.CellEntry.{CellEntry}
-use Rattle.pa_rules.specs.declared.slot_word.SlotWord.{SlotWord}
-use Rattle.pa_rules.specs.Plain.{IsPlainRun}
-use Rattle.pa_plain.specs.PlainText.{plain_text}
+use Rattle.pa_record.specs.declared.run.Run.{Run}
+use Rattle.pa_record.specs.RunText.{IsRunText}
+use Rattle.pa_rules.specs.Legal.{IsFileRun}
 use Rattle.pa_cli.specs.Call.{Stream, Call, IsReadWhole}
 use Rattle.pa_cli.specs.declared.command.Command.{Command}
 use Rattle.pa_cli.specs.declared.command.Command.TheVariants.{Model, Layout, Help, Version}
@@ -17,19 +15,17 @@ use Rattle.pa_cli.specs.Command.{AsksFor}
 use Rattle.pa_cli.specs.LayoutText.{IsLayoutText}
 use Rattle.pa_cli.specs.HelpText.{help_text, version_text}
 
--- the text is the plain text of a plain run of the trace's lines
-pub record IsRunText (trace : Trace) (text : List ℕ) : Type 0 where
-  pub entries : List Entry
-  pub cells : List (List CellEntry)
-  pub slots : List SlotWord
-  pub run : IsPlainRun trace.lines entries cells slots
-  pub printed : text ≡ plain_text entries cells slots
+-- the text is that of the trace's run in the order of its lines, which is a legal run of the trace
+pub record IsModelText (trace : Trace) (text : List ℕ) : Type 0 where
+  pub run : Run
+  pub filed : IsFileRun trace run
+  pub printed : IsRunText run text
 
 -- the bytes are the text of a trace within the limits, and the text is that of its run
 pub record IsPlayedText (bytes text : List ℕ) : Type 0 where
   pub trace : Trace
   pub input : IsInput trace bytes
-  pub run : IsRunText trace text
+  pub played : IsModelText trace text
 
 -- the output of `model`: the text is that of the source's bytes, all of which were read
 pub record IsModelOutput (before after : Stream) (text : List ℕ) : Type 0 where

@@ -17,7 +17,7 @@ const LINE_BYTES: usize = 80;
 const HELP: &[u8] = b"usage: partalloc COMMAND
 
 commands
-  model             read a trace from standard input, play its lines in their order, print every answer and the slots
+  model             read a trace from standard input, play its lines in their order, print the run: answers, journals, report
   layout SIZE       print the size class or the direct map of a request of SIZE bytes, 0 to 4294967295
   trace ROUNDS KEY  print a trace of ROUNDS rounds, 1 to 800, with random numbers by KEY, 0 to 18446744073709551615
   --help            print this text

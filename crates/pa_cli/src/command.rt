@@ -10,7 +10,7 @@ const MOST_ROUNDS: u32 = 800;
 /// What the program is asked to do.
 #[derive(Clone, Copy, Debug, PartialEq, Eq)]
 pub enum Command {
-    /// Reads a trace, plays its lines in their order on one thread, and prints every answer and the slots.
+    /// Reads a trace, plays its lines in their order on one thread, and prints the run.
     Model,
     /// Prints where a request of so many bytes is placed: its size class or its direct map.
     Layout(u32),

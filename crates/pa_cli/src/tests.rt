@@ -10,10 +10,12 @@ const TRACE: &[u8] = b"trace 1 region 1 partitions 1 threads 1
 ";
 
 // What `model` writes for it.
-const TEXT: &[u8] = b"plain 1
-e 2 0 made 00000000.0 8 0000000000000000
-e 3 0 done 00000000.0 0000000001000001
-q 00000000.0 free 0000000002000000
+const TEXT: &[u8] = b"run 1
+e 2 0 made 00004000.0 8 0000000000000000
+e 3 0 done 00004000.0 0000000001000001
+r 0 0 2 fill 0 0 00004000.0@0 00004010.0@0 00004020.0@0 00004030.0@0 00004040.0@0 00004050.0@0 00004060.0@0 00004070.0@0
+p 0 2 0 take 1 0
+s 1 0 live 0 0 quarantined 0 0 cached 8 128 root 248 3968 committed 4096 reserved 2097152 full 0 active 1 empty 0 decommitted 0
 end
 ";
 

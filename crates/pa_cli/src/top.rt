@@ -2,7 +2,7 @@ ghost use Rattle.std.specs.Prelude.{◌≡◌, ◌↔◌, map, string_bytes, IfO
 ghost use Rattle.pa_cli.specs.Call.{call_of, stream_of};
 ghost use Rattle.pa_cli.specs.Command.{IsCommand, IsAsked};
 ghost use Rattle.pa_cli.specs.Cause.{Caused, ReadsForModel, IsRightCall, IsRefusal};
-ghost use Rattle.pa_cli.specs.Output.{IsOutputOf, IsModelOutput, IsPlayedText, IsRunText};
+ghost use Rattle.pa_cli.specs.Output.{IsOutputOf, IsModelOutput, IsPlayedText, IsModelText};
 ghost use Rattle.pa_cli.specs.declared.command.Command.TheVariants as Command;
 ghost use Rattle.pa_trace.specs.Faults.{IsFault};
 ghost use Rattle.pa_trace.specs.Limits.{IsWithinLimits};
@@ -14,14 +14,15 @@ use crate::output::write_output;
 use crate::status::Status;
 use pa_io::{Failed, Sink, Source};
 use pa_machine::OutOfMemory;
-use pa_plain::{play, write_plain};
+use pa_model::play;
+use pa_record::write_run;
 use pa_trace::{Trace, TraceFault, read_trace};
 use std::alloc::Global;
 
-/// Does what the words ask for. `model` reads a trace from the source, plays it, and writes the answers to the sink; the
-/// input is read to its end, or to one byte past the 4,194,304 bytes that it may have. `layout SIZE` writes where a request
-/// of so many bytes is placed, `trace ROUNDS KEY` writes a generated trace, and `--help` and `--version` write their texts;
-/// these four read nothing.
+/// Does what the words ask for. `model` reads a trace from the source, plays its lines in their order, and writes the text
+/// of that run to the sink; the input is read to its end, or to one byte past the 4,194,304 bytes that it may have.
+/// `layout SIZE` writes where a request of so many bytes is placed, `trace ROUNDS KEY` writes a generated trace, and `--help`
+/// and `--version` write their texts; these four read nothing.
 pub fn run<S: Source, K: Sink>(
     alloc: Global,
     words: &[String],
@@ -31,8 +32,9 @@ pub fn run<S: Source, K: Sink>(
     // The words alone decide on the command.
     ensures command { result ≡ Status.BadCommand ↔ ¬ IsCommand (map string_bytes words.now) }
 
-    // The status has its cause, and leaves source and sink as that cause says. Only `model` reads. A good input is played,
-    // and a faulty one refused; the other commands answer.
+    // The status has its cause, and leaves source and sink as that cause says: of `model` that what is written is the text of
+    // the trace's run in the order of its lines, which is legal. Only `model` reads. A good input is played, and a faulty one
+    // refused; the other commands answer.
     ensures call { IsRightCall result (call_of (map string_bytes words.now)
         (stream_of (S.left source.old) (S.faults source.old)) (stream_of (S.left source.new) (S.faults source.new))
         (stream_of (K.written sink.old) (K.faults sink.old)) (stream_of (K.written sink.new) (K.faults sink.new))) }
@@ -101,23 +103,23 @@ fn model<S: Source>(alloc: Global, source: &mut S) -> Result<Vec<u8>, Status>
     Ok(played_text(alloc, input.as_slice())?)
 }
 
-// The plain text of the trace whose text the bytes are.
+// The text of the run of the trace whose text the bytes are.
 fn played_text(alloc: Global, bytes: &[u8]) -> Result<Vec<u8>, TraceFault>
     ensures text { IfOk result (λ text. IsPlayedText bytes.now text.items) }
     ensures fault { IfErr result (λ fault. IsFault fault bytes.now) }
 {
     let trace = read_trace(alloc, bytes)?;
-    match run_text(alloc, &trace) {
+    match model_text(alloc, &trace) {
         Ok(text) => Ok(text),
         Err(OutOfMemory) => Err(TraceFault::OutOfMemory),
     }
 }
 
-// The plain text of the trace's run.
-fn run_text(alloc: Global, trace: &Trace) -> Result<Vec<u8>, OutOfMemory>
+// The text of the trace's run in the order of its lines.
+fn model_text(alloc: Global, trace: &Trace) -> Result<Vec<u8>, OutOfMemory>
     requires { IsWithinLimits trace.now }
-    ensures { IfOk result (λ text. IsRunText trace.now text.items) }
+    ensures { IfOk result (λ text. IsModelText trace.now text.items) }
 {
     let run = play(alloc, trace)?;
-    write_plain(alloc, &run)
+    write_run(alloc, &run)
 }

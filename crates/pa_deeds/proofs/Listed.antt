@@ -46,7 +46,7 @@ use Rattle.pa_deeds.proofs.Lists.{once_differ, All-members, times_member}
 -- ---- numbers of threads
 
 -- a number that is above the threads of these records
-threads_of : List Played → ℕ
+pub threads_of : List Played → ℕ
 threads_of [] = 0
 threads_of (x ∷ xs) = max (x.thread + 1) (threads_of xs)
 
@@ -71,14 +71,14 @@ listed_from lists class (suc n) m among = elim (Contains-append_cases (lists cla
   | inr rest ↦ let (c, low, high, there) = listed_from lists (class + 1) n m rest in (c, omega arith, omega arith, there)
 ]
 
-listed_least : (s : SlotName) (lists : ℕ → List Numbered) (c class n : ℕ) → class ≤ c → c < class + n → stands s (lists c) ≤ listed_times s lists class n
+pub listed_least : (s : SlotName) (lists : ℕ → List Numbered) (c class n : ℕ) → class ≤ c → c < class + n → stands s (lists c) ≤ listed_times s lists class n
 listed_least s lists c class zero low high = absurd (omega arith)
 listed_least s lists c class (suc n) low high = elim (cases_eq class c) [
   | inl e ↦ let same : stands s (lists class) ≡ stands s (lists c) = ap (λ z. stands s (lists z)) e in omega arith
   | inr other ↦ let ih = listed_least s lists c (class + 1) n (omega arith) (omega arith) in omega arith
 ]
 
-cached_least : (s : SlotName) (all : Caches) (p threads t : ℕ) → t < threads → listed_times s (all t p) 0 59 ≤ cached_times s all p threads
+pub cached_least : (s : SlotName) (all : Caches) (p threads t : ℕ) → t < threads → listed_times s (all t p) 0 59 ≤ cached_times s all p threads
 cached_least s all p zero t below = absurd (omega arith)
 cached_least s all p (suc u) t below = elim (cases_eq u t) [
   | inl e ↦ let same : listed_times s (all u p) 0 59 ≡ listed_times s (all t p) 0 59 = ap (λ z. listed_times s (all z p) 0 59) e in omega arith
@@ -95,7 +95,7 @@ module _ (supers partitions n : ℕ) (ls : List Line) (ps : List Played) (pools 
   are_pool = (placed_are_roots supers partitions n ls ps pools roots all h.lines h.placed h.pooled).1
 
   -- a slot that left a root stands in the lists or is in use, once, or it is in the root
-  stands_once : (p t : ℕ) (s : SlotName) (w : ℕ) → p < partitions → HasLeft roots p s → HasWord ps s w →
+  pub stands_once : (p t : ℕ) (s : SlotName) (w : ℕ) → p < partitions → HasLeft roots p s → HasWord ps s w →
       IsOnce (root_at pools roots p) s (cached_times s all p (max (t + 1) (threads_of ps)) + busy w)
   stands_once p t s w below left word =
       let r = are_roots in

@@ -71,7 +71,7 @@ front_out r slot xs out none (others, differ) = (
       differ,
 )
 
-spilled_out : (r : Root) (class : ℕ) (xs : List Numbered) → AreOut r xs → AreOut r (spilled class xs)
+pub spilled_out : (r : Root) (class : ℕ) (xs : List Numbered) → AreOut r xs → AreOut r (spilled class xs)
 spilled_out r class xs out = elim (cases_Bool (nat_lt (limit_of class) (length xs))) [
   | inl over ↦ rw over (parts_are_out.behind r (take (limit_of class / 2) xs) (drop (limit_of class / 2) xs) (subst (λ z. AreOut r z) (sym (take-append-drop (limit_of class / 2) xs)) out))
   | inr within ↦ rw within (λ k d low. absurd (omega arith), λ i j d before low. absurd (omega arith))

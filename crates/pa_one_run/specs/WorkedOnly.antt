@@ -11,7 +11,7 @@ use Rattle.pa_record.specs.RunText.{journal_of, history_of}
 use Rattle.pa_record.specs.Worked.{direct_map_again_pool, direct_map_again_journal, purge_pool, purge_journal}
 use Rattle.pa_rules.specs.Played.{entry_of}
 use Rattle.pa_rules.specs.Roots.{journal_at}
-use Rattle.pa_rules.specs.Plain.{history_at}
+use Rattle.pa_rules.specs.Cells.{history_at}
 use Rattle.pa_rules.specs.Worked.{purge_records}
 use Rattle.pa_rules.specs.Legal.{IsLegal}
 use Rattle.pa_one_run.specs.Worked.{direct_map_trace, direct_map_records, direct_map_report}

@@ -1,5 +1,5 @@
 -- The cells that the threads share, and what was exchanged with them.
-use Rattle.std.specs.Prelude.{◌≡◌, ℕ, ◌<◌, ◌⊎◌, List, [], ◌∷◌, Some, Contains, slice_get}
+use Rattle.std.specs.Prelude.{◌≡◌, ℕ, ◌<◌, ◌⊎◌, List, [], ◌∷◌, Some, Contains, slice_get, slice_index_or}
 use Rattle.pa_trace.specs.declared.script.Op.TheVariants.{Swap}
 use Rattle.pa_record.specs.declared.entry.Answer.TheVariants.{Swapped}
 use Rattle.pa_record.specs.declared.history.CellEntry.{CellEntry}
@@ -11,6 +11,10 @@ use Rattle.pa_rules.specs.declared.played.Played.{Played}
 abbrev pub IsChain : Held → List CellEntry → Type 0
 IsChain held [] = Unit {0}
 IsChain held (e ∷ es) = (e.found ≡ held) × IsChain e.gave es
+
+-- the exchanges of each cell, by the cell's number; a history that isn't there is empty
+abbrev pub history_at : List (List CellEntry) → ℕ → List CellEntry
+history_at cells k = slice_index_or cells k []
 
 -- e is exchange j of cell k
 abbrev pub IsExchange : (ℕ → List CellEntry) → ℕ → ℕ → CellEntry → Type 0

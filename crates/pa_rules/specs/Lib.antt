@@ -16,7 +16,6 @@ pub mod Places
 pub mod RecordDemands
 pub mod HeapDemands
 pub mod Verdicts
-pub mod Plain
 pub mod Flow
 pub mod Laws
 pub mod Worked

@@ -5,7 +5,6 @@
 mod laws;
 mod played;
 mod register;
-mod slot_word;
 mod verdict;
 
 pub use laws::{
@@ -14,5 +13,4 @@ pub use laws::{
 };
 pub use played::Played;
 pub use register::Reg;
-pub use slot_word::SlotWord;
 pub use verdict::{Clause, Place, Verdict};

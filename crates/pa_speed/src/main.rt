@@ -6,8 +6,8 @@ ghost use Rattle.std.specs.Prelude.{◌≡◌, ◌*◌, ℕ, List, IfSome, lengt
 ghost use Rattle.pa_trace.specs.Grammar.{IsTraceText};
 ghost use Rattle.pa_trace.specs.Limits.{IsWithinLimits};
 
-use pa_plain::play;
-use pa_record::{Run, write_run};
+use pa_model::play;
+use pa_record::write_run;
 use pa_trace::{Trace, read_trace, write_trace};
 use std::alloc::Global;
 use std::process::ExitCode;
@@ -75,15 +75,8 @@ fn write_again(alloc: Global, trace: &Trace, times: u32) -> Option<u64>
 fn write_run_again(alloc: Global, trace: &Trace, times: u32) -> Option<u64>
     requires { IsWithinLimits trace.now }
 {
-    let Ok(plain) = play(alloc, trace) else {
+    let Ok(run) = play(alloc, trace) else {
         return None;
-    };
-    let run = Run {
-        entries: plain.entries,
-        roots: Vec::new(alloc),
-        pool: Vec::new(alloc),
-        cells: plain.cells,
-        report: Vec::new(alloc),
     };
     let mut total = 0u64;
     for _ in 0..times {

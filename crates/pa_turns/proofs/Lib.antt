@@ -1,16 +1,16 @@
-mod Marking
-mod Histories
-mod Lines
-mod Numbers
-mod Handles
-mod Contents
-mod Rows
-mod Words
-mod Turn
-mod Balance
-mod Starting
-mod Ops
-mod Looking
-mod Swapping
-mod Ending
-mod Worked
+pub mod Marking
+pub mod Histories
+pub mod Lines
+pub mod Numbers
+pub mod Handles
+pub mod Contents
+pub mod Rows
+pub mod Words
+pub mod Turn
+pub mod Balance
+pub mod Starting
+pub mod Ops
+pub mod Looking
+pub mod Swapping
+pub mod Ending
+pub mod Worked

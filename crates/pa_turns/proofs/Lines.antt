@@ -87,7 +87,7 @@ phase_counts phase (Do thread op ∷ ls) =
     let c : count_by is_phase (Do thread op ∷ ls) ≡ 0 + count_by is_phase ls = sum_by-cons (λ l. cond (is_phase l) 1 0) (Do thread op) ls in
     omega (arith, phase_counts phase ls, c)
 
-phases_are : (ls : List Line) → phase_after 1 ls ≡ phases_in ls
+pub phases_are : (ls : List Line) → phase_after 1 ls ≡ phases_in ls
 phases_are ls = omega (arith, phase_counts 1 ls)
 
 -- the records of the lines with the record of an op more

@@ -41,7 +41,7 @@ still threads ls ps a thread op answer can other unmade tells found read row =
       handles = can.told.handles;
     })
 
-none_mark : (line : ℕ) (op : Op) (answer : Answer) → TellsNone answer → mark_of_answer line op answer ≡ None
+pub none_mark : (line : ℕ) (op : Op) (answer : Answer) → TellsNone answer → mark_of_answer line op answer ≡ None
 none_mark line op (Made seen n) h = absurd h
 none_mark line op (Done seen) h = absurd h
 none_mark line op (Value seen value) h = absurd h
@@ -91,7 +91,7 @@ none_goes_on threads ls ps a thread op answer can none other row =
     (λ m e. let bad : None ≡ Some m = sym silent ∙ e in absurd cc)
     (none_read (ps ++ x ∷ []) answer none) row
 
-look_mark : (line : ℕ) (op : Op) (a : Shown) (s : Seen) (answer : Answer) → Looks a s answer → mark_of_answer line op answer ≡ Some (mark_at line s None)
+pub look_mark : (line : ℕ) (op : Op) (a : Shown) (s : Seen) (answer : Answer) → Looks a s answer → mark_of_answer line op answer ≡ Some (mark_at line s None)
 look_mark line op a s (Made seen n) h = absurd h
 look_mark line op a s (Done seen) h = absurd h
 look_mark line op a s (Value seen value) h = ap (λ z. Some (mark_at line z None)) h.0

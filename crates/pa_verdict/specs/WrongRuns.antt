@@ -13,7 +13,7 @@ use Rattle.pa_record.specs.Worked.{slots, fill, full, map_made, map_gone, pool_t
 use Rattle.pa_rules.specs.declared.verdict.Clause.TheVariants as clauses
 use Rattle.pa_rules.specs.Told.{Told, told_by}
 use Rattle.pa_rules.specs.Roots.{journal_at}
-use Rattle.pa_rules.specs.Plain.{history_at}
+use Rattle.pa_rules.specs.Cells.{history_at}
 use Rattle.pa_rules.specs.Verdicts.{Holds, FailsAt}
 
 -- a slot that begins there, of this entry of the pool, with this word

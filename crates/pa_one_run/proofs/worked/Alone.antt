@@ -8,9 +8,8 @@ use Rattle.pa_trace.specs.declared.script.Op.TheVariants as ops
 use Rattle.pa_record.specs.declared.history.CellEntry.{CellEntry}
 use Rattle.pa_record.proofs.Members.{not_some}
 use Rattle.pa_rules.specs.declared.played.Played.{Played}
-use Rattle.pa_rules.specs.Cells.{AreCells, IsExchange}
+use Rattle.pa_rules.specs.Cells.{AreCells, IsExchange, history_at}
 use Rattle.pa_rules.specs.Seen.{IsSeenInOrder}
-use Rattle.pa_rules.specs.Plain.{history_at}
 use Rattle.pa_one_run.proofs.worked.Lists.{passes}
 use Rattle.pa_one_run.proofs.worked.Seen.{is_seen, seen_in_order}
 

@@ -13,7 +13,7 @@ use Rattle.pa_record.specs.declared.run.Run.{Run}
 use Rattle.pa_rules.specs.declared.played.Played.{Played}
 use Rattle.pa_rules.specs.Played.{AreLines, AreDue, entry_of, played, marks_of}
 use Rattle.pa_rules.specs.Told.{told_by, records_of}
-use Rattle.pa_rules.specs.Cells.{AreCells}
+use Rattle.pa_rules.specs.Cells.{AreCells, history_at}
 use Rattle.pa_rules.specs.Registers.{AreRegisters}
 use Rattle.pa_rules.specs.Contents.{AreContents}
 use Rattle.pa_rules.specs.Roots.{IsPoolOf, AreRoots, AreAllTitles, journal_at}
@@ -22,7 +22,6 @@ use Rattle.pa_rules.specs.Caches.{AreCaches}
 use Rattle.pa_rules.specs.Seen.{IsSeenInOrder}
 use Rattle.pa_rules.specs.Report.{IsReport}
 use Rattle.pa_rules.specs.Sizes.{usable_of}
-use Rattle.pa_rules.specs.Plain.{history_at}
 use Rattle.pa_rules.specs.Legal.{phases_in, IsLegalBy, IsLegal, IsFileRun}
 use Rattle.pa_rules.proofs.Recorded.{records_are_lines}
 use Rattle.pa_one_run.specs.Worked.{IsRunOf}

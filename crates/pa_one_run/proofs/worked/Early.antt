@@ -10,9 +10,8 @@ use Rattle.pa_record.specs.declared.history.Held.TheVariants as held
 use Rattle.pa_record.proofs.Members.{of_some, not_some}
 use Rattle.pa_rules.specs.declared.played.Played.{Played}
 use Rattle.pa_rules.specs.Played.{marks_of, AreLines}
-use Rattle.pa_rules.specs.Cells.{AreCells, IsExchange, IsRecordOf, IsChain, StandsBefore}
+use Rattle.pa_rules.specs.Cells.{history_at, AreCells, IsExchange, IsRecordOf, IsChain, StandsBefore}
 use Rattle.pa_rules.specs.Seen.{IsSeenInOrder}
-use Rattle.pa_rules.specs.Plain.{history_at}
 use Rattle.pa_one_run.specs.WorkedEarly.{early_read_trace, early_read_records, there_history, back_history}
 use Rattle.pa_one_run.proofs.Filed.{cell_line}
 use Rattle.pa_one_run.proofs.lines.Lists.{get_in}

@@ -13,7 +13,7 @@ use Rattle.pa_record.specs.Worked.{direct_map_again_pool, direct_map_again_journ
 use Rattle.pa_rules.specs.Played.{entry_of}
 use Rattle.pa_rules.specs.Told.{told_by}
 use Rattle.pa_rules.specs.Roots.{journal_at}
-use Rattle.pa_rules.specs.Plain.{history_at}
+use Rattle.pa_rules.specs.Cells.{history_at}
 use Rattle.pa_rules.specs.Worked.{purge_records}
 use Rattle.pa_rules.specs.Legal.{IsFileRun}
 use Rattle.pa_one_run.specs.Worked.{IsRunOf, IsTold, direct_map_trace, direct_map_records, direct_map_report}

@@ -1,0 +1,56 @@
+use Rattle.std.proofs.Common.{◌<◌, ◌≤◌, List, length, get_or, ap, arith}
+use Rattle.pa_trace.specs.declared.script.Line.{Line}
+use Rattle.pa_trace.specs.declared.script.Line.TheVariants.{Phase}
+use Rattle.pa_record.specs.RunText.{IsPrintable}
+use Rattle.pa_rules.specs.Legal.{IsFileRun}
+use Rattle.pa_model.specs.Changes.{phase_ended}
+use Rattle.pa_model.specs.Told.{IsToldRun}
+use Rattle.pa_model.proofs.Ended.{ends_filed, ends_printed}
+use Rattle.pa_model.proofs.Outcome.{if_ok}
+use Rattle.pa_model.proofs.Reporting.{end_ready}
+use Rattle.pa_model.proofs.Start.{begins_playing}
+use Rattle.pa_model.proofs.Trace.{line_ready, line_more, all_played}
+use Rattle.pa_model.proofs.whole.play.Goals as goal
+
+pub loop-line-init : goal.loop-line-init
+loop-line-init c =
+    let t = c.args.trace.now in
+    begins_playing t.region t.partitions t.threads c.in_ok-player.player c.requires.within.head c.in_ok-player.ensures
+
+pub line-requires : goal.line-requires
+line-requires c =
+    let t = c.args.trace.now in
+    let i = c.loop-line.line-index in
+    let size = ap (λ (z : List Line). length z) c.as_slice-line-items.ensures in
+    let is = ap (λ (z : List Line). get_or z i Phase) c.as_slice-line-items.ensures in
+    let lt : i < length t.lines = omega (arith, size, c.loop-line-test.true) in
+    line_ready t i c.loop-line.player (get_or c.as_slice-line-items.result.now i Phase) Phase c.requires.within lt is c.loop-line.invariant
+
+pub loop-line-preserved : goal.loop-line-preserved
+loop-line-preserved c =
+    let t = c.args.trace.now in
+    let i = c.loop-line.line-index in
+    let size = ap (λ (z : List Line). length z) c.as_slice-line-items.ensures in
+    let is = ap (λ (z : List Line). get_or z i Phase) c.as_slice-line-items.ensures in
+    let lt : i < length t.lines = omega (arith, size, c.loop-line-test.true) in
+    line_more t i c.loop-line.player c.line.new.self (get_or c.as_slice-line-items.result.now i Phase) Phase c.requires.within lt is c.loop-line.invariant c.in_ok-line.ensures
+
+pub finish-requires : goal.finish-requires
+finish-requires c =
+    let t = c.args.trace.now in
+    let size = ap (λ (z : List Line). length z) c.as_slice-line-items.ensures in
+    let past : length t.lines ≤ c.loop-line.line-index = omega (arith, size, c.loop-line-test.false) in
+    let few = c.requires.within.few in
+    end_ready t.region t.partitions t.threads t.lines c.loop-line.player (omega arith) (all_played t c.loop-line.line-index c.loop-line.player past c.loop-line.invariant)
+
+pub returns : goal.returns
+returns c =
+    let t = c.args.trace.now in
+    let p = c.loop-line.player in
+    let size = ap (λ (z : List Line). length z) c.as_slice-line-items.ensures in
+    let past : length t.lines ≤ c.loop-line.line-index = omega (arith, size, c.loop-line-test.false) in
+    let playing = all_played t c.loop-line.line-index p past c.loop-line.invariant in
+    record {
+      run = if_ok c.finish.result (IsToldRun (phase_ended p).told) (IsFileRun t) c.finish.ensures (λ r told. ends_filed t p r playing told);
+      printable = if_ok c.finish.result (IsToldRun (phase_ended p).told) IsPrintable c.finish.ensures (λ r told. ends_printed t.region t.partitions t.threads t.lines p r playing told);
+    }

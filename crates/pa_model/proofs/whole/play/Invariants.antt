@@ -1,0 +1,7 @@
+use Rattle.std.proofs.Common.{take}
+use Rattle.pa_model.specs.Playing.{IsPlaying}
+use Rattle.pa_model.proofs.whole.play.Given as goal
+
+-- the first lines were played
+abbrev pub invariant-loop-line : goal.invariant-loop-line
+invariant-loop-line l = IsPlaying l.trace.region l.trace.partitions l.trace.threads (take l.line-index l.trace.lines) l.player

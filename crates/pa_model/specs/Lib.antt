@@ -1,0 +1,10 @@
+pub mod Asks
+pub mod Begun
+pub mod Calls
+pub mod Changes
+pub mod Lists
+pub mod Playing
+pub mod Plays
+pub mod Tables
+pub mod Tallies
+pub mod Told

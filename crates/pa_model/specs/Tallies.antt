@@ -1,0 +1,15 @@
+-- The tallies of the partitions.
+use Rattle.std.specs.Prelude.{◌≡◌, ℕ, ◌<◌, List, length, slice_index_or}
+use Rattle.pa_record.specs.declared.report.Tally.{Tally}
+
+-- the tally of a partition
+abbrev pub no_tally : Tally
+no_tally = record { slots = 0; bytes = 0 }
+
+abbrev pub tally_at : List Tally → ℕ → Tally
+tally_at tallies q = slice_index_or tallies q no_tally
+
+-- nothing in any of the four
+pub record IsNone (tallies : List Tally) : Type 0 where
+  pub four : length tallies ≡ 4
+  pub none : (q : ℕ) → q < 4 → tally_at tallies q ≡ no_tally

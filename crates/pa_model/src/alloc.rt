@@ -1,0 +1,270 @@
+ghost use Rattle.std.specs.Prelude.{◌≡◌, ◌≢◌, ◌%◌, ◌<◌, ◌≤◌, [], IfNone, IfOk, OnOk, length};
+ghost use Rattle.pa_trace.specs.declared.script.Op.TheVariants as ops;
+ghost use Rattle.pa_trace.specs.declared.script.Line.TheVariants.{Do};
+ghost use Rattle.pa_deeds.specs.Ops.{found_by};
+ghost use Rattle.pa_model.specs.Asks.{CanAllocateMap, CanAllocateSlot, CanIssue, CanIssueFront, CanPlace, CanPut};
+ghost use Rattle.pa_layout.specs.Pages.{supers_for};
+ghost use Rattle.pa_place.specs.Placed.{IsEmptyIfRefused};
+ghost use Rattle.pa_model.specs.Calls.{IsMapTaken, IsSlotsTaken};
+ghost use Rattle.pa_model.specs.Changes.{AllocatesMap, AllocatesSlot, ArePut, Fills, IsFrontIssued, Refills, asked_in};
+ghost use Rattle.pa_model.specs.Changes.{issued, list_in, made_at};
+ghost use Rattle.pa_model.specs.Playing.{list_place, register_at};
+ghost use Rattle.pa_model.specs.Plays.{IsReady, Plays};
+ghost use Rattle.pa_model.specs.Tables.{HasNone};
+
+use crate::handle::Handle;
+use crate::player::Player;
+use crate::table::{fits, name_of};
+use pa_buckets::{Class, class_of, fill_count, raw_of};
+use pa_direct::{GREATEST_SIZE, Shape, shape};
+use pa_layout::super_page_of;
+use pa_machine::{OutOfMemory, Step, Title};
+use pa_place::Placed;
+use pa_record::{Answer, Batch, PoolAct, RootAct};
+
+// The bytes of a count word.
+pub(crate) const COUNT_WORD: u32 = 8;
+
+impl Player {
+    // An allocation into a register, which must have no handle.
+    pub(crate) fn allocate(
+        &mut self,
+        thread: u32,
+        reg: u32,
+        partition: u32,
+        size: u32,
+    ) -> Result<Answer, OutOfMemory>
+        requires { IsReady (Do thread (ops.Alloc reg partition size)) self.old }
+        ensures { IfOk result (Plays self.old thread (ops.Alloc reg partition size) self.new) }
+    {
+        match self.register(thread, reg) {
+            Handle::Own(_) => Ok(Answer::Filled),
+            Handle::Ref(_) => Ok(Answer::Filled),
+            Handle::Empty => self.request(thread, reg, partition, size),
+            Handle::Freed => self.request(thread, reg, partition, size),
+            Handle::Cleared => self.request(thread, reg, partition, size),
+        }
+    }
+
+    // An allocation into a register that has no handle.
+    fn request(
+        &mut self,
+        thread: u32,
+        reg: u32,
+        partition: u32,
+        size: u32,
+    ) -> Result<Answer, OutOfMemory>
+        requires ready { IsReady (Do thread (ops.Alloc reg partition size)) self.old }
+        requires none { HasNone (register_at self.old thread reg) }
+        ensures { IfOk result (Plays self.old thread (ops.Alloc reg partition size) self.new) }
+    {
+        if size > GREATEST_SIZE {
+            return Ok(Answer::TooLarge);
+        }
+        match class_of(raw_of(size)) {
+            Some(class) => self.request_slot(thread, reg, partition, class),
+            None => {
+                let shape = shape(size).unwrap();
+                self.request_map(thread, reg, partition, shape)
+            }
+        }
+    }
+
+    // An allocation of a slot of the class, from the thread's cache, which is filled first where it has none.
+    fn request_slot(
+        &mut self,
+        thread: u32,
+        reg: u32,
+        partition: u32,
+        class: Class,
+    ) -> Result<Answer, OutOfMemory>
+        requires { CanAllocateSlot thread reg partition class self.old }
+        ensures { IfOk result (AllocatesSlot thread reg partition
+            (list_place self.old.partitions thread partition class) class self.old self.new) }
+    {
+        let at = self.list_of(thread, partition, class);
+        if self.caches.places(at).is_empty() {
+            return self.refill(thread, reg, partition, class);
+        }
+        Ok(self.issue_front(thread, reg, partition, at))
+    }
+
+    // An allocation of a slot of the class where the thread's cache has none.
+    fn refill(
+        &mut self,
+        thread: u32,
+        reg: u32,
+        partition: u32,
+        class: Class,
+    ) -> Result<Answer, OutOfMemory>
+        requires can { CanAllocateSlot thread reg partition class self.old }
+        requires empty { list_in self.old (list_place self.old.partitions thread partition class) ≡ [] }
+        ensures { IfOk result (Refills thread reg partition
+            (list_place self.old.partitions thread partition class) class self.old self.new) }
+    {
+        let at = self.list_of(thread, partition, class);
+        match self.fill(at, partition, class)? {
+            Some(entry) => Ok(Answer::Full { entry }),
+            None => Ok(self.issue_front(thread, reg, partition, at)),
+        }
+    }
+
+    // Issues the front of a list, which isn't empty.
+    fn issue_front(&mut self, thread: u32, reg: u32, partition: u32, at: usize) -> Answer
+        requires at { at < length self.old.caches }
+        requires some { list_in self.old at ≢ [] }
+        requires can { CanIssueFront thread reg partition at self.old }
+        ensures { IsFrontIssued thread reg partition at self.old self.new result }
+    {
+        let place = self.caches.front(at).unwrap();
+        let len = self.table.slot(place).title.len;
+        self.cached.remove(partition, 1, u64::from(len));
+        self.issue(thread, reg, place)
+    }
+
+    // Fills a list that is empty from the root. Where there is no room it tells the journal's entry that says so.
+    fn fill(&mut self, at: usize, partition: u32, class: Class) -> Result<Option<u32>, OutOfMemory>
+        requires at { at < length self.old.caches }
+        requires empty { list_in self.old at ≡ [] }
+        requires can { CanPlace partition self.old }
+        ensures fills { IfOk result (Fills partition at class self.old self.new) }
+        ensures at_list { OnOk result (at < length self.new.caches) }
+        ensures some { IfOk result (λ o. IfNone o (list_in self.new at ≢ [])) }
+    {
+        let placed = self.take_slots(partition, class)?;
+        let titles = placed.titles.as_slice();
+        if titles.is_empty() {
+            let pool = placed.pool.unwrap();
+            let class = Some(class);
+            let entry = self.told.root(partition, RootAct::Full { class, pool })?;
+            return Ok(Some(entry));
+        }
+        let slots = self.put_all(at, partition, class, titles)?;
+        let pool = placed.pool;
+        self.told
+            .root(partition, RootAct::Fill { class, pool, slots })?;
+        Ok(None)
+    }
+
+    // Takes the slots of a fill from the root of a partition, or none where there is no room.
+    fn take_slots(&mut self, partition: u32, class: Class) -> Result<Placed, OutOfMemory>
+        requires { CanPlace partition self.old }
+        ensures taken { IfOk result (IsSlotsTaken partition class self.old self.new) }
+        ensures empty { IfOk result (IsEmptyIfRefused 1 self.old.heap.pool) }
+    {
+        let want = fill_count(class);
+        let placed = self
+            .heap
+            .roots
+            .fill(partition, &mut self.heap.pool, class, want)?;
+        self.tell_asked(partition, 1, &placed)?;
+        Ok(placed)
+    }
+
+    // Tells the pool's entry, if it was asked for so many super pages.
+    fn tell_asked(&mut self, partition: u32, count: u32, placed: &Placed) -> Result<(), OutOfMemory>
+        ensures { OnOk result (self.new ≡ asked_in partition count placed.now.titles.items placed.now.pool self.old) }
+    {
+        match placed.pool {
+            None => Ok(()),
+            Some(_) => {
+                let first = first_super(placed.titles.as_slice());
+                self.told.pool(partition, PoolAct::Take { count, first })
+            }
+        }
+    }
+
+    // Puts the slots that left the root into the list, in their order.
+    fn put_all(
+        &mut self,
+        at: usize,
+        partition: u32,
+        class: Class,
+        titles: &[Title],
+    ) -> Result<Batch, OutOfMemory>
+        requires at { at < length self.old.caches }
+        requires empty { list_in self.old at ≡ [] }
+        requires few { length titles.now ≤ 16 }
+        requires can { CanPut partition self.old }
+        ensures put { IfOk result (ArePut partition at class titles.now self.old self.new) }
+        ensures at_list { OnOk result (at < length self.new.caches) }
+        ensures many { OnOk result (length (list_in self.new at) ≡ length titles.now) }
+        ensures journals { OnOk result (self.new.told ≡ self.old.told) }
+    {
+        let mut batch = Batch::new();
+        for title in titles {
+            fits(title.len);
+            let place = self.table.home(*title, partition, Some(class))?;
+            batch.push(self.table.numbered(place));
+            self.caches.push(at, place);
+            self.cached.add(partition, title.len);
+        }
+        Ok(batch)
+    }
+
+    // An allocation of a direct map of this shape.
+    fn request_map(
+        &mut self,
+        thread: u32,
+        reg: u32,
+        partition: u32,
+        shape: Shape,
+    ) -> Result<Answer, OutOfMemory>
+        requires { CanAllocateMap thread reg partition shape.slot shape.supers self.old }
+        ensures { IfOk result (AllocatesMap thread reg partition shape.slot shape.supers self.old self.new) }
+    {
+        let placed = self.take_map(partition, shape)?;
+        let pool = placed.pool.unwrap();
+        let Some(title) = placed.titles.as_slice().first() else {
+            let class = None;
+            let entry = self.told.root(partition, RootAct::Full { class, pool })?;
+            return Ok(Answer::Full { entry });
+        };
+        let slot = name_of(*title);
+        let len = title.len;
+        self.told.root(partition, RootAct::Map { pool, slot, len })?;
+        let place = self.table.home(*title, partition, None)?;
+        Ok(self.issue(thread, reg, place))
+    }
+
+    // Takes a direct map from the root of a partition, or none where there is no room.
+    fn take_map(&mut self, partition: u32, shape: Shape) -> Result<Placed, OutOfMemory>
+        requires whole { shape.slot % 4096 ≡ 0 }
+        requires some { 0 < shape.slot }
+        requires supers { shape.supers ≡ supers_for shape.slot }
+        requires few { shape.supers ≤ 16 }
+        requires place { CanPlace partition self.old }
+        ensures { IfOk result (IsMapTaken partition shape.slot shape.supers self.old self.new) }
+    {
+        let count = shape.supers;
+        let placed = self
+            .heap
+            .roots
+            .map(partition, &mut self.heap.pool, shape.slot, count)?;
+        self.tell_asked(partition, count, &placed)?;
+        Ok(placed)
+    }
+
+    // Issues a free slot to a register.
+    fn issue(&mut self, thread: u32, reg: u32, place: u32) -> Answer
+        requires can { CanIssue thread reg place self.old }
+        ensures answer { result ≡ made_at self.old place }
+        ensures issued { self.new ≡ issued thread reg place self.old }
+    {
+        let seen = self.table.step(place, Step::Issue);
+        self.table.fill(place, 0);
+        let slot = self.table.slot(place);
+        let len = slot.title.len;
+        self.set_register(thread, reg, Handle::Own(place));
+        self.live.add(slot.partition, len);
+        let usable = len - COUNT_WORD;
+        Answer::Made { seen, usable }
+    }
+}
+
+// The super page in which the first of the titles stands.
+fn first_super(titles: &[Title]) -> Option<u32>
+    ensures { result ≡ found_by titles.now }
+{
+    titles.first().map(|title| super_page_of(title.start))
+}

@@ -1,0 +1,157 @@
+ghost use Rattle.std.specs.Prelude.{◌≡◌, ◌<◌, ◌≤◌, [], IfOk, OnOk, length};
+ghost use Rattle.pa_trace.specs.Limits.{IsHeadWithin};
+ghost use Rattle.pa_trace.specs.declared.script.Line.TheVariants.{Do, Phase};
+ghost use Rattle.pa_model.specs.Asks.{CanEnd};
+ghost use Rattle.pa_model.specs.Begun.{IsBegun};
+ghost use Rattle.pa_model.specs.Changes.{phase_begun, phase_ended, registered};
+ghost use Rattle.pa_model.specs.Playing.{register_at, list_place};
+ghost use Rattle.pa_model.specs.Plays.{GoesTo, IsReady, Plays};
+ghost use Rattle.pa_model.specs.Told.{IsToldRun};
+
+use crate::caches::Caches;
+use crate::handle::Handle;
+use crate::heap::Heap;
+use crate::registers::Registers;
+use crate::table::Table;
+use crate::tallies::Tallies;
+use crate::told::Told;
+use pa_buckets::Class;
+use pa_machine::OutOfMemory;
+use pa_record::{Answer, Run};
+use pa_trace::{Line, Op};
+use std::alloc::Global;
+
+// The classes of slots.
+pub(crate) const CLASSES: u32 = 59;
+
+// What the lines so far left.
+#[derive(Drop)]
+pub(crate) struct Player {
+    pub(crate) heap: Heap,
+    pub(crate) table: Table,
+    pub(crate) registers: Registers,
+    pub(crate) cells: [Handle; 64],
+    pub(crate) caches: Caches,
+    pub(crate) live: Tallies,
+    pub(crate) quarantined: Tallies,
+    pub(crate) cached: Tallies,
+    pub(crate) told: Told,
+    pub(crate) partitions: u32,
+    pub(crate) phase: u32,
+}
+
+impl Player {
+    // Before the first line.
+    pub(crate) fn new(
+        alloc: Global,
+        region: u32,
+        partitions: u32,
+        threads: u32,
+    ) -> Result<Player, OutOfMemory>
+        requires { IsHeadWithin region partitions threads }
+        ensures { IfOk result (IsBegun region partitions threads) }
+    {
+        Ok(Player {
+            heap: Heap::new(alloc, region, partitions)?,
+            table: Table::new(alloc),
+            registers: Registers::new(alloc, threads)?,
+            cells: [Handle::Empty; 64],
+            caches: Caches::new(alloc, threads * partitions * CLASSES)?,
+            live: Tallies::new(),
+            quarantined: Tallies::new(),
+            cached: Tallies::new(),
+            told: Told::new(alloc, partitions)?,
+            partitions,
+            phase: 1,
+        })
+    }
+
+    // Plays a line, and records its op.
+    pub(crate) fn line(&mut self, line: Line) -> Result<(), OutOfMemory>
+        requires { IsReady line self.old }
+        ensures { OnOk result (GoesTo self.old line self.new) }
+    {
+        match line {
+            Line::Phase => self.begin_phase(),
+            Line::Do { thread, op } => self.record(thread, op),
+        }
+    }
+
+    // Plays a line that begins a phase.
+    fn begin_phase(&mut self) -> Result<(), OutOfMemory>
+        requires { CanEnd self.old }
+        ensures { OnOk result (self.new ≡ phase_begun self.old) }
+    {
+        self.end_phase()?;
+        self.told.next();
+        Ok(())
+    }
+
+    // Plays an op, and records its answer.
+    fn record(&mut self, thread: u32, op: Op) -> Result<(), OutOfMemory>
+        requires { IsReady (Do thread op) self.old }
+        ensures { OnOk result (GoesTo self.old (Do thread op) self.new) }
+    {
+        let answer = self.answer(thread, op)?;
+        self.told.answer(thread, answer)?;
+        Ok(())
+    }
+
+    // The run of the lines that were played.
+    pub(crate) fn finish(mut self, alloc: Global) -> Result<Run, OutOfMemory>
+        requires { CanEnd self }
+        ensures { IfOk result (IsToldRun (phase_ended self).told) }
+    {
+        self.end_phase()?;
+        self.told.into_run(alloc)
+    }
+
+    // Plays one op, and answers it.
+    fn answer(&mut self, thread: u32, op: Op) -> Result<Answer, OutOfMemory>
+        requires { IsReady (Do thread op) self.old }
+        ensures { IfOk result (Plays self.old thread op self.new) }
+    {
+        match op {
+            Op::Alloc {
+                reg,
+                partition,
+                size,
+            } => self.allocate(thread, reg, partition, size),
+            Op::Copy { from, to } => Ok(self.copy(thread, from, to)),
+            Op::Reset { reg } => self.reset(thread, reg),
+            Op::Free { reg } => self.free(thread, reg),
+            Op::Write { reg, value } => Ok(self.write(thread, reg, value)),
+            Op::Read { reg, place } => Ok(self.read(thread, reg, place)),
+            Op::Swap { cell, reg } => self.swap(thread, cell, reg),
+            Op::Purge => self.purge(thread),
+        }
+    }
+
+    // What a register of a thread holds.
+    pub(crate) fn register(&self, thread: u32, reg: u32) -> Handle
+        requires thread { thread < length self.now.registers }
+        requires reg { reg < 64 }
+        ensures { result ≡ register_at self.now thread reg }
+    {
+        self.registers.get(thread, reg)
+    }
+
+    // Sets a register of a thread.
+    pub(crate) fn set_register(&mut self, thread: u32, reg: u32, holds: Handle)
+        requires thread { thread < length self.old.registers }
+        requires reg { reg < 64 }
+        ensures { self.new ≡ registered thread reg holds self.old }
+    {
+        self.registers.set(thread, reg, holds);
+    }
+
+    // Where the list of a thread's cache stands, by its partition and class.
+    pub(crate) fn list_of(&self, thread: u32, partition: u32, class: Class) -> usize
+        requires thread { thread < 16 }
+        requires partitions { self.now.partitions ≤ 4 }
+        requires partition { partition < self.now.partitions }
+        ensures { result ≡ list_place self.now.partitions thread partition class }
+    {
+        ((thread * self.partitions + partition) * CLASSES + class.number()) as usize
+    }
+}

@@ -1,0 +1,146 @@
+ghost use Rattle.std.specs.Prelude.{◌≡◌, ◌+◌, ◌<◌, ◌≤◌, OnOk, All, drop, length, map, slice_range, sum};
+ghost use Rattle.pa_model.specs.Asks.{CanGive, CanPutBack, CanTakeBack, CanUnmap};
+ghost use Rattle.pa_model.specs.Changes.{gave_back, given, list_in, taken_back, unmapped_at};
+ghost use Rattle.pa_model.specs.Playing.{numbered_at};
+ghost use Rattle.pa_model.specs.Tables.{slot_at};
+
+use crate::player::Player;
+use crate::table::Table;
+use arrayvec::ArrayVec;
+use pa_buckets::{Class, cache_limit};
+use pa_layout::{super_page_of, supers_for};
+use pa_machine::{OutOfMemory, Title};
+use pa_record::{Batch, PoolAct, RootAct};
+
+// The most slots that go back to a root at once.
+const BATCH: usize = 16;
+
+impl Player {
+    // A slot that a step of the thread returned: to its cache, or back to the pool.
+    pub(crate) fn take_back(&mut self, thread: u32, place: u32) -> Result<(), OutOfMemory>
+        requires place { place < length self.old.table }
+        requires can { CanTakeBack thread place (slot_at self.old.table place).partition (slot_at self.old.table place).class self.old }
+        ensures { OnOk result (self.new ≡ taken_back thread (slot_at self.old.table place).partition
+            (slot_at self.old.table place).class place self.old) }
+    {
+        let slot = self.table.slot(place);
+        match slot.class {
+            Some(class) => self.put_back(thread, place, slot.partition, class),
+            None => self.unmap(place, slot.partition),
+        }
+    }
+
+    // Puts a slot in front of its list. Where that is longer than its limit then, those after half of the limit go back to
+    // the root.
+    fn put_back(
+        &mut self,
+        thread: u32,
+        place: u32,
+        partition: u32,
+        class: Class,
+    ) -> Result<(), OutOfMemory>
+        requires place { place < length self.old.table }
+        requires can { CanPutBack thread place partition class self.old }
+        ensures { OnOk result (self.new ≡ taken_back thread partition (Some class) place self.old) }
+    {
+        let limit = cache_limit(class) as usize;
+        let at = self.list_of(thread, partition, class);
+        let len = self.table.slot(place).title.len;
+        self.caches.put(at, place);
+        self.cached.add(partition, len);
+        if self.caches.places(at).len() > limit {
+            self.give(at, partition, limit / 2)?;
+        }
+        Ok(())
+    }
+
+    // Gives the slots of a list from this place on back to the root, in batches of at most 16.
+    pub(crate) fn give(&mut self, at: usize, partition: u32, keep: usize) -> Result<(), OutOfMemory>
+        requires at { at < length self.old.caches }
+        requires can { CanGive partition (drop keep (list_in self.old at)) self.old }
+        ensures { OnOk result (self.new ≡ given partition at keep self.old) }
+    {
+        let count = self.caches.places(at).len();
+        let mut from = keep;
+        'batches: while from < count {
+            let to = count.min(from + BATCH);
+            self.give_batch(at, partition, from, to)?;
+            from = to;
+        }
+        self.caches.keep(at, keep);
+        Ok(())
+    }
+
+    // Gives the slots of a part of a list back to the root, 1 to 16.
+    fn give_batch(
+        &mut self,
+        at: usize,
+        partition: u32,
+        from: usize,
+        to: usize,
+    ) -> Result<(), OutOfMemory>
+        requires at { at < length self.old.caches }
+        requires some { from < to }
+        requires few { to ≤ from + 16 }
+        requires within { to ≤ length (list_in self.old at) }
+        requires can { CanGive partition (slice_range (list_in self.old at) from to) self.old }
+        ensures { OnOk result (self.new ≡ gave_back partition (slice_range (list_in self.old at) from to) self.old) }
+    {
+        let places = &self.caches.places(at)[from..to];
+        let titles = titles_of(&self.table, places);
+        let slots = batch_of(&self.table, places);
+        let bytes = bytes_of(titles.as_slice());
+        self.heap.roots.give(partition, titles.as_slice());
+        self.told.root(partition, RootAct::Give { slots })?;
+        self.cached.remove(partition, titles.len() as u64, bytes);
+        Ok(())
+    }
+
+    // A direct map goes back, and its super pages to the pool.
+    fn unmap(&mut self, place: u32, partition: u32) -> Result<(), OutOfMemory>
+        requires place { place < length self.old.table }
+        requires can { CanUnmap place partition self.old }
+        ensures { OnOk result (self.new ≡ unmapped_at partition place self.old) }
+    {
+        let title = self.table.slot(place).title;
+        let pool = self.heap.roots.unmap(partition, &mut self.heap.pool, title);
+        let first = super_page_of(title.start);
+        let count = supers_for(title.len);
+        self.told.pool(partition, PoolAct::Give { count, first })?;
+        let slot = self.table.numbered(place);
+        self.told.root(partition, RootAct::Unmap { pool, slot })?;
+        Ok(())
+    }
+}
+
+// The titles of the slots in these places, at most 16; the slots with their numbers; and their bytes.
+fn titles_of(table: &Table, places: &[u32]) -> ArrayVec<Title, 16>
+    requires few { length places.now ≤ 16 }
+    requires among { All (λ i. i < length table.now) places.now }
+    ensures { result.items ≡ map (λ i. (slot_at table.now i).title) places.now }
+{
+    let mut titles = ArrayVec::new();
+    for place in places {
+        titles.push(table.slot(*place).title);
+    }
+    titles
+}
+
+fn batch_of(table: &Table, places: &[u32]) -> Batch
+    requires few { length places.now ≤ 16 }
+    requires among { All (λ i. i < length table.now) places.now }
+    ensures { result ≡ map (numbered_at table.now) places.now }
+{
+    let mut batch = Batch::new();
+    for place in places {
+        batch.push(table.numbered(*place));
+    }
+    batch
+}
+
+fn bytes_of(titles: &[Title]) -> u64
+    requires { length titles.now ≤ 16 }
+    ensures { result ≡ sum (map (λ t. t.len) titles.now) }
+{
+    titles.iter().map(|title| u64::from(title.len)).sum()
+}

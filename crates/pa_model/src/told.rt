@@ -1,0 +1,158 @@
+ghost use Rattle.std.specs.Prelude.{◌≡◌, ◌+◌, ◌<◌, ◌≤◌, ◌^◌, [], ◌∷◌, ◌++◌, IfOk, OnOk, length};
+ghost use Rattle.pa_model.specs.Told.{IsToldRun, journal_in, history_in, with_act, with_exchange};
+ghost use Rattle.pa_model.specs.Begun.{IsUntold};
+
+use crate::acts::Acts;
+use pa_machine::OutOfMemory;
+use pa_record::{
+    Answer, CellEntry, Entry, Held, History, PoolAct, PoolEntry, ReportLine, RootAct, Run,
+};
+use std::alloc::Global;
+use std::marker::Model;
+
+// What the run tells so far, and the number of the line that is played. It is seen as its lists.
+#[derive(Drop)]
+pub(crate) struct Told {
+    entries: Vec<Entry>,
+    journals: Vec<Acts>,
+    pools: Vec<PoolEntry>,
+    histories: Vec<History>,
+    report: Vec<ReportLine>,
+    line: u32,
+}
+
+impl Model for Told {
+    ghost use Rattle.pa_model.specs.Told.{Lists};
+
+    ghost Value = { Lists };
+
+    ghost view = { λ t. record {
+      entries = t.entries.items;
+      journals = t.journals.items;
+      pools = t.pools.items;
+      histories = t.histories.items;
+      report = t.report.items;
+      line = t.line;
+    } };
+}
+
+impl Told {
+    // Nothing, before the first line. The head is line 1.
+    pub(crate) fn new(alloc: Global, partitions: u32) -> Result<Told, OutOfMemory>
+        ensures { IfOk result (IsUntold partitions) }
+    {
+        let mut journals = Vec::with_capacity(alloc, partitions as usize)?;
+        for _ in 0..partitions {
+            journals.push(Acts::new(alloc))?;
+        }
+        let mut histories = Vec::with_capacity(alloc, 64)?;
+        for _ in 0..64_u32 {
+            histories.push(History::new(alloc))?;
+        }
+        Ok(Told {
+            entries: Vec::new(alloc),
+            journals,
+            pools: Vec::new(alloc),
+            histories,
+            report: Vec::new(alloc),
+            line: 2,
+        })
+    }
+
+    // The record of this line, after which the next is played.
+    pub(crate) fn answer(&mut self, thread: u32, answer: Answer) -> Result<(), OutOfMemory>
+        requires { self.old.line ≤ 65537 }
+        ensures { OnOk result (self.new ≡ record self.old {
+          entries = self.old.entries ++ record { line = self.old.line; thread = thread; answer = answer } ∷ [];
+          line = self.old.line + 1;
+        }) }
+    {
+        self.entries.push(Entry {
+            line: self.line,
+            thread,
+            answer,
+        })?;
+        self.line += 1;
+        Ok(())
+    }
+
+    // The next line is played from now on.
+    pub(crate) fn next(&mut self)
+        requires { self.old.line ≤ 65537 }
+        ensures { self.new ≡ record self.old { line = self.old.line + 1 } }
+    {
+        self.line += 1;
+    }
+
+    // An entry of the pool on this line.
+    pub(crate) fn pool(&mut self, partition: u32, act: PoolAct) -> Result<(), OutOfMemory>
+        ensures { OnOk result (self.new ≡ record self.old {
+          pools = self.old.pools ++ record { line = self.old.line; partition = partition; act = act } ∷ [];
+        }) }
+    {
+        self.pools.push(PoolEntry {
+            line: self.line,
+            partition,
+            act,
+        })?;
+        Ok(())
+    }
+
+    // A line of the report.
+    pub(crate) fn report(&mut self, line: ReportLine) -> Result<(), OutOfMemory>
+        ensures { OnOk result (self.new ≡ record self.old { report = self.old.report ++ line ∷ [] }) }
+    {
+        self.report.push(line)?;
+        Ok(())
+    }
+
+    // An entry of a root's journal on this line. Tells its place there.
+    pub(crate) fn root(&mut self, partition: u32, act: RootAct) -> Result<u32, OutOfMemory>
+        requires partition { partition < length self.old.journals }
+        requires few { length (journal_in self.old partition) < 2 ^ 32 }
+        ensures place { IfOk result (λ entry. entry ≡ length (journal_in self.old partition)) }
+        ensures after { OnOk result (self.new ≡ with_act partition (record { line = self.old.line; act = act }) self.old) }
+    {
+        let line = self.line;
+        let journal = &mut self.journals[partition as usize];
+        let entry = journal.entries().len() as u32;
+        journal.push(line, act)?;
+        Ok(entry)
+    }
+
+    // An exchange with a cell on this line. Tells its place in the cell's history.
+    pub(crate) fn exchange(
+        &mut self,
+        cell: u32,
+        gave: Held,
+        found: Held,
+    ) -> Result<u32, OutOfMemory>
+        requires cell { cell < length self.old.histories }
+        requires few { length (history_in self.old cell) < 2 ^ 32 }
+        ensures place { IfOk result (λ entry. entry ≡ length (history_in self.old cell)) }
+        ensures after { OnOk result (self.new ≡ with_exchange cell (record { line = self.old.line; gave = gave; found = found }) self.old) }
+    {
+        let line = self.line;
+        let history = &mut self.histories[cell as usize];
+        let entry = history.entries().len() as u32;
+        history.push(CellEntry { line, gave, found })?;
+        Ok(entry)
+    }
+
+    // The run that was told.
+    pub(crate) fn into_run(self, alloc: Global) -> Result<Run, OutOfMemory>
+        ensures { IfOk result (IsToldRun self) }
+    {
+        let mut roots = Vec::with_capacity(alloc, self.journals.len())?;
+        for journal in self.journals {
+            roots.push(journal.into_journal())?;
+        }
+        Ok(Run {
+            entries: self.entries,
+            roots,
+            pool: self.pools,
+            cells: self.histories,
+            report: self.report,
+        })
+    }
+}
