@@ -1,4 +1,5 @@
 pub mod Celling
+pub mod Closing
 pub mod Contents
 pub mod Ends
 pub mod Filters

@@ -1,4 +1,4 @@
-ghost use Rattle.pa_told.specs.Ending.{HeldFollows};
+ghost use Rattle.pa_told.specs.Ending.{ClosesHolding, HeldFollows};
 ghost use Rattle.pa_told.specs.Listed.{ActsAreTheirs, EntriesInOrder, LinesHaveTheirs, OrdersFollow};
 ghost use Rattle.pa_told.specs.Reads.{ContentsFollow, ReadsFollow};
 ghost use Rattle.pa_told.specs.Rows.{ThreadsMerge, UsableFollows};
@@ -114,4 +114,10 @@ pub fn worked_is_seen()
 /// The law that the cells are those of a legal run, from the cells' list and the answers.
 pub fn cells_follow()
     ensures { CellsFollow }
+{}
+
+/// The law that the words of a closed region end with each standing title's history, and hold the run, by what the close
+/// tells its seat.
+pub fn closes_holding()
+    ensures { ClosesHolding }
 {}

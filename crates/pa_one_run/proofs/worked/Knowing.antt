@@ -36,10 +36,10 @@ in_use x fits m mark none =
     let here : uses_by m.step m.found ≡ true = subst (λ o. uses o ≡ true) mark fits in
     ltb-true 0 (held_of m.found + refs_of m.found) (subst (λ o. uses_by o m.found ≡ true) none here)
 
-all_used : (ps : List Played) → list_all (λ (x : Played). uses (mark_of x)) ps ≡ true → (x : Played) → Contains ps x → FindsInUse x
+pub all_used : (ps : List Played) → list_all (λ (x : Played). uses (mark_of x)) ps ≡ true → (x : Played) → Contains ps x → FindsInUse x
 all_used ps fit x among = in_use x (passes (λ (y : Played). uses (mark_of y)) ps x fit among)
 
-known_of : (t : Trace) (r : Run) (ps : List Played) → AreLines t.lines ps → map entry_of ps ≡ r.entries.items → IsLegal t r → ((x : Played) → Contains ps x → FindsInUse x) → IsKnown t (told_by r) (records_of t (told_by r))
+pub known_of : (t : Trace) (r : Run) (ps : List Played) → AreLines t.lines ps → map entry_of ps ≡ r.entries.items → IsLegal t r → ((x : Played) → Contains ps x → FindsInUse x) → IsKnown t (told_by r) (records_of t (told_by r))
 known_of t r ps lines told legal used =
     let same : records_of t (told_by r) ≡ ps = ap (played t.lines) (sym told) ∙ records_are_lines.same t.lines ps lines in
     legal_is_known t (told_by r) legal (λ x among. used x (subst (λ zs. Contains zs x) same among))

@@ -32,7 +32,7 @@ abbrev after_free : Regs
 after_free = with after_give 0 Freed
 
 -- those of the second after its lines
-abbrev after_take : Regs
+abbrev pub after_take : Regs
 after_take = with (no_regs 1) 0 (Ref the_slot)
 
 abbrev after_reset : Regs
@@ -104,7 +104,7 @@ the_free = record { line = 6; thread = 0; phase = 2; op = ops.Free 0; answer = a
 abbrev the_read : Played
 the_read = record { line = 8; thread = 1; phase = 2; op = ops.Read 0 0; answer = answers.Value (seen_at 16384 0 0x2000003) poison }
 
-has_regs : HasRegs usable_of cells two_threads_records the_read after_take
+pub has_regs : HasRegs usable_of cells two_threads_records the_read after_take
 has_regs = (
   take 5 two_threads_records,
   drop 6 two_threads_records,

@@ -1,0 +1,4 @@
+pub mod Maps
+pub mod Purge
+pub mod Threads
+pub mod Worked

@@ -1,0 +1,25 @@
+-- Records that were worked out by hand, with what logs tell of them and notes of what was seen.
+use Rattle.std.specs.Prelude.{List, map}
+use Rattle.pa_region.specs.declared.view.Entry.{Entry}
+use Rattle.pa_region.specs.declared.view.SeenNumber.{SeenNumber}
+use Rattle.pa_region.specs.Views.{seen_among}
+use Rattle.pa_rules.specs.declared.played.Played.{Played}
+use Rattle.pa_told.specs.Told.{ToldRecord}
+
+-- a record, its stretch of its thread's log, and notes of the numbers that its seat had seen before it and hands on
+pub record Worked : Type 0 where
+  pub played : Played
+  pub stretch : List Entry
+  pub saw : List SeenNumber
+  pub gives : List SeenNumber
+
+abbrev pub told_record : Worked → ToldRecord
+told_record w = record {
+  played = w.played;
+  stretch = w.stretch;
+  saw = λ t. seen_among t w.saw;
+  gives = λ t. seen_among t w.gives;
+}
+
+abbrev pub told_records : List Worked → List ToldRecord
+told_records ws = map told_record ws
