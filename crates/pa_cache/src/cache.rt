@@ -56,6 +56,7 @@ impl Cache {
     pub fn kept(&self)
         ensures { IsCache self.now }
     {
+        // Naming the list hands the proof what the type keeps.
         let _ = &self.titles;
     }
 

@@ -12,7 +12,7 @@ help_text =
     ended (codes "usage: partalloc COMMAND"
     ∷ []
     ∷ codes "commands"
-    ∷ codes "  model             read a trace from standard input, play its lines in their order, print the run: answers, journals, report"
+    ∷ codes "  model             read a trace from standard input, play its lines in their order, print the run: answers, heap, exchanges, report"
     ∷ codes "  layout SIZE       print the size class or the direct map of a request of SIZE bytes, 0 to 4294967295"
     ∷ codes "  trace ROUNDS KEY  print a trace of ROUNDS rounds, 1 to 800, with random numbers by KEY, 0 to 18446744073709551615"
     ∷ codes "  --help            print this text"
@@ -28,7 +28,7 @@ help_text =
     ∷ codes "  6            out of memory"
     ∷ codes "  8            no words: the words could not be had"
     ∷ []
-    ∷ codes "The texts are described in docs/FORMATS.md."
+    ∷ codes "The texts are described in docs/FORMATS.md, which also says why a file is refused that looks right."
     ∷ [])
 
 -- the name and the version

@@ -17,7 +17,7 @@ const LINE_BYTES: usize = 80;
 const HELP: &[u8] = b"usage: partalloc COMMAND
 
 commands
-  model             read a trace from standard input, play its lines in their order, print the run: answers, journals, report
+  model             read a trace from standard input, play its lines in their order, print the run: answers, heap, exchanges, report
   layout SIZE       print the size class or the direct map of a request of SIZE bytes, 0 to 4294967295
   trace ROUNDS KEY  print a trace of ROUNDS rounds, 1 to 800, with random numbers by KEY, 0 to 18446744073709551615
   --help            print this text
@@ -33,7 +33,7 @@ status, and what it prints on standard error
   6            out of memory
   8            no words: the words could not be had
 
-The texts are described in docs/FORMATS.md.
+The texts are described in docs/FORMATS.md, which also says why a file is refused that looks right.
 ";
 
 // What `--version` prints.

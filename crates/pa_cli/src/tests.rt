@@ -237,7 +237,11 @@ fn trace_tells_a_generated_trace(rt: HostRuntime) -> Result<(), Fail> {
 fn help_and_version_are_told(rt: HostRuntime) -> Result<(), Fail> {
     let help = told(rt.alloc(), &["--help"])?;
     assert!(rt; help.starts_with(b"usage: partalloc COMMAND\n\ncommands\n  model "));
-    assert!(rt; help.ends_with(b"docs/FORMATS.md.\n"));
+    assert!(rt;
+        help.ends_with(
+            b"docs/FORMATS.md, which also says why a file is refused that looks right.\n"
+        )
+    );
     assert_eq!(rt;
         told(rt.alloc(), &["--version"])?.as_slice(),
         b"partalloc 0.1.0\n".as_slice()

@@ -15,7 +15,7 @@ use Rattle.pa_record.proofs.Pairs.{pairs_none}
 use Rattle.pa_record.proofs.Joined.{map_in}
 use Rattle.pa_rules.specs.declared.played.Played.{Played}
 use Rattle.pa_rules.specs.Played.{OpLine, AreLines, op_lines, op_line_of}
-use Rattle.pa_rules.specs.Cells.{StandsBefore}
+use Rattle.pa_rules.specs.Order.{StandsBefore}
 use Rattle.pa_deeds.specs.Deeds.{IsPlacedTo}
 use Rattle.pa_deeds.specs.Pooled.{IsPooledTo}
 use Rattle.pa_deeds.specs.Laws.{StartsEmpty, LinePasses, PlacedAreRoots, SameIsPlaced}

@@ -10,7 +10,8 @@ use Rattle.pa_record.specs.declared.root.RootAct.{RootAct}
 use Rattle.pa_record.specs.Root.{Root, new_root, root_next, root_replayed, RootActFits, IsJournal, asked_by}
 use Rattle.pa_record.specs.Sound.{AsksFrom, least_after, least_after_all}
 use Rattle.pa_rules.specs.declared.played.Played.{Played}
-use Rattle.pa_rules.specs.Roots.{Journals, IsEntry, IsOfLine, MakesEntry, IsFull}
+use Rattle.pa_rules.specs.Roots.{Journals, IsEntry, MakesEntry, IsFull}
+use Rattle.pa_rules.specs.Order.{IsOfLine}
 use Rattle.pa_rules.specs.Caches.{Cache, Caches, CacheRow, CachesTo, no_caches}
 use Rattle.pa_legal.specs.Numbers.{moves_of, at_end, IsNumbered, AreNumbered}
 use Rattle.pa_legal.specs.Known.{UnmapsNext}
@@ -36,7 +37,8 @@ root_after pools (a ∷ acts) r = root_after pools acts (root_next pools a r)
 
 abbrev pub ActsFit : List PoolEntry → ℕ → List RootAct → Root → Type 0
 ActsFit pools least [] r = Unit {0}
-ActsFit pools least (a ∷ acts) r = RootActFits pools a r × AsksFrom least (asked_by a) × ActsFit pools (least_after least (asked_by a)) acts (root_next pools a r)
+ActsFit pools least (a ∷ acts) r =
+    RootActFits pools a r × AsksFrom least (asked_by a) × ActsFit pools (least_after least (asked_by a)) acts (root_next pools a r)
 
 -- The run before line n.
 --   rising, recorded, entered, sorted: records and entries stand in the order of their lines, which are below n
@@ -60,7 +62,8 @@ pub record IsPlacedTo (partitions n : ℕ) (ps : List Played) (pools : List Pool
 
 -- The deed of line n, whose record is x: the acts of its partitions, over a pool that got these entries more, and the lists of
 -- its thread before and after it.
-pub record IsDeed (partitions n : ℕ) (x : Played) (pools more : List PoolEntry) (roots : Journals) (acts : Acts) (cache next : Cache) : Type 0 where
+pub record IsDeed (partitions n : ℕ) (x : Played) (pools more : List PoolEntry) (roots : Journals) (acts : Acts) (cache next : Cache) :
+    Type 0 where
   pub line : x.line ≡ n
   pub fits : (p : ℕ) → ActsFit (pools ++ more) (least_after_all 0 (roots p)) (acts p) (root_at pools roots p)
   pub makes : (p : ℕ) (a : RootAct) → Contains (acts p) a → MakesEntry (pools ++ more) p a x.op

@@ -24,18 +24,21 @@ pub record GoesOn (n : ℕ) (ps later : List Played) (pools more : List PoolEntr
 -- a run goes on from itself, and with a line more
 pub record RunGoesOn : Type 0 where
   pub here : (n : ℕ) (ps : List Played) (pools : List PoolEntry) (roots : Journals) → GoesOn n ps ps pools pools roots roots
-  pub line : (n m : ℕ) (ps later : List Played) (x : Played) (pools more made : List PoolEntry) (roots grows : Journals) (acts : Acts) → n ≤ m → x.line ≡ m →
+  pub line : (n m : ℕ) (ps later : List Played) (x : Played) (pools more made : List PoolEntry) (roots grows : Journals) (acts : Acts) →
+      n ≤ m → x.line ≡ m →
       GoesOn n ps later pools more roots grows → GoesOn n ps (later ++ x ∷ []) pools (more ++ made) roots (grown grows m acts)
 
 -- the records lead to the lists to which they led, whatever came later
 abbrev pub CachesStay : Type 0
 CachesStay =
-    (partitions n : ℕ) (ps later : List Played) (pools more : List PoolEntry) (roots grows : Journals) (all : Caches) → IsPlacedTo partitions n ps pools roots all →
+    (partitions n : ℕ) (ps later : List Played) (pools more : List PoolEntry) (roots grows : Journals) (all : Caches) →
+    IsPlacedTo partitions n ps pools roots all →
     GoesOn n ps later pools more roots grows → CachesTo partitions grows no_caches ps all
 
 -- What stays of a phase that was the last of the run before line n: its records and its entries are those up to its end, and
 -- what its lists held and its roots had is what the report says.
-pub record IsPhaseEnd (partitions phase : ℕ) (ps later : List Played) (pools more : List PoolEntry) (roots grows : Journals) (all : Caches) : Type 0 where
+pub record IsPhaseEnd (partitions phase : ℕ) (ps later : List Played) (pools more : List PoolEntry) (roots grows : Journals)
+    (all : Caches) : Type 0 where
   pub records : until phase later ≡ ps
   pub entries : (p : ℕ) → AreUntil later phase (grows p) (roots p)
   pub census : (p : ℕ) → HasCensus later more grows phase p (census (root_at pools roots p))
@@ -44,6 +47,8 @@ pub record IsPhaseEnd (partitions phase : ℕ) (ps later : List Played) (pools m
 
 abbrev pub PhaseEnds : Type 0
 PhaseEnds =
-    (partitions n m phase : ℕ) (ps later : List Played) (pools more : List PoolEntry) (roots grows : Journals) (all then : Caches) → IsPlacedTo partitions n ps pools roots all →
-    IsPlacedTo partitions m later more grows then → GoesOn n ps later pools more roots grows → ((x : Played) → Contains ps x → x.phase ≤ phase) →
+    (partitions n m phase : ℕ) (ps later : List Played) (pools more : List PoolEntry) (roots grows : Journals) (all then : Caches) →
+    IsPlacedTo partitions n ps pools roots all →
+    IsPlacedTo partitions m later more grows then → GoesOn n ps later pools more roots grows →
+    ((x : Played) → Contains ps x → x.phase ≤ phase) →
     ((x : Played) → Contains later x → n ≤ x.line → phase < x.phase) → IsPhaseEnd partitions phase ps later pools more roots grows all

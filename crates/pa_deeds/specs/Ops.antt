@@ -43,7 +43,8 @@ abbrev pub only_in : ℕ → List RootAct → Acts
 only_in p acts q = if q == p then acts else []
 
 -- the deed of a line with these acts in partition p, and what its root and the pool became
-pub record IsCalled (supers partitions n : ℕ) (x : Played) (pools more : List PoolEntry) (roots : Journals) (p : ℕ) (acts : List RootAct) (cache next : Cache) (after : Root) (plan : PoolState) : Type 0 where
+pub record IsCalled (supers partitions n : ℕ) (x : Played) (pools more : List PoolEntry) (roots : Journals) (p : ℕ) (acts : List RootAct)
+    (cache next : Cache) (after : Root) (plan : PoolState) : Type 0 where
   pub done : IsDone supers partitions n x pools more roots (only_in p acts) cache next
   pub root : root_at (pools ++ more) (grown roots n (only_in p acts)) p ≡ after
   pub others : (q : ℕ) → (q ≡ p → ⊥) → root_at (pools ++ more) (grown roots n (only_in p acts)) q ≡ root_at pools roots q
@@ -68,9 +69,11 @@ NothingMoves =
 -- the front of a list that isn't empty
 abbrev pub FrontLeaves : Type 0
 FrontLeaves =
-    (supers partitions n p class usable : ℕ) (ps : List Played) (x : Played) (pools : List PoolEntry) (roots : Journals) (all : Caches) (seen : Seen) (rest : List Numbered) →
+    (supers partitions n p class usable : ℕ) (ps : List Played) (x : Played) (pools : List PoolEntry) (roots : Journals) (all : Caches)
+    (seen : Seen) (rest : List Numbered) →
     IsPlacedTo partitions n ps pools roots all → x.line ≡ n → x.answer ≡ answers.Made seen usable → AsksForClass x.op p class →
-    FrontIs seen (all x.thread p class) rest → IsDone supers partitions n x pools [] roots no_acts (all x.thread) (with_list (all x.thread) p class rest)
+    FrontIs seen (all x.thread p class) rest →
+    IsDone supers partitions n x pools [] roots no_acts (all x.thread) (with_list (all x.thread) p class rest)
 
 -- ---- fills and direct maps
 
@@ -90,12 +93,15 @@ HasNumbers roots p xs = (m : Numbered) (k : ℕ) → Contains xs m → at_end (S
 -- an allocation that finds its list empty, and fills it
 abbrev pub FillIsDone : Type 0
 FillIsDone =
-    (supers partitions n p class usable : ℕ) (ps : List Played) (x : Played) (pools : List PoolEntry) (roots : Journals) (all : Caches) (seen : Seen) (xs rest : List Numbered)
+    (supers partitions n p class usable : ℕ) (ps : List Played) (x : Played) (pools : List PoolEntry) (roots : Journals) (all : Caches)
+    (seen : Seen) (xs rest : List Numbered)
     (plan : PoolState) (after : Root) (placed : Placed) →
     IsPlacedTo partitions n ps pools roots all → x.line ≡ n → x.answer ≡ answers.Made seen usable → AsksForClass x.op p class →
-    p < partitions → all x.thread p class ≡ [] → FillDid class (fill_of class) (pool_at supers pools) plan (root_at pools roots p) after placed →
+    p < partitions → all x.thread p class ≡ [] →
+    FillDid class (fill_of class) (pool_at supers pools) plan (root_at pools roots p) after placed →
     map name_of placed.titles.items ≡ names xs → HasNumbers roots p xs → FrontIs seen xs rest →
-    IsCalled supers partitions n x pools (asked_for n p 1 placed.titles.items placed.pool) roots p (Fill class placed.pool xs ∷ []) (all x.thread)
+    IsCalled supers partitions n x pools (asked_for n p 1 placed.titles.items placed.pool) roots p (Fill class placed.pool xs ∷ [])
+    (all x.thread)
     (with_list (all x.thread) p class rest) after plan
 
 -- and one that got none
@@ -104,19 +110,23 @@ FullIsDone =
     (supers partitions n p class asked j : ℕ) (ps : List Played) (x : Played) (pools : List PoolEntry) (roots : Journals) (all : Caches)
     (plan : PoolState) (after : Root) (placed : Placed) →
     IsPlacedTo partitions n ps pools roots all → x.line ≡ n → x.answer ≡ answers.Full j → j ≡ length (roots p) → AsksForClass x.op p class →
-    p < partitions → all x.thread p class ≡ [] → FillDid class (fill_of class) (pool_at supers pools) plan (root_at pools roots p) after placed →
+    p < partitions → all x.thread p class ≡ [] →
+    FillDid class (fill_of class) (pool_at supers pools) plan (root_at pools roots p) after placed →
     placed.pool ≡ Some asked → placed.titles.items ≡ [] →
-    IsCalled supers partitions n x pools (asked_for n p 1 [] (Some asked)) roots p (Full (Some class) asked ∷ []) (all x.thread) (all x.thread) after plan
+    IsCalled supers partitions n x pools (asked_for n p 1 [] (Some asked)) roots p (Full (Some class) asked ∷ []) (all x.thread)
+    (all x.thread) after plan
 
 -- a direct map, and one that got no room
 abbrev pub MapIsDone : Type 0
 MapIsDone =
-    (supers partitions n p size usable asked : ℕ) (ps : List Played) (x : Played) (pools : List PoolEntry) (roots : Journals) (all : Caches) (seen : Seen) (t : Title)
+    (supers partitions n p size usable asked : ℕ) (ps : List Played) (x : Played) (pools : List PoolEntry) (roots : Journals)
+    (all : Caches) (seen : Seen) (t : Title)
     (plan : PoolState) (after : Root) (placed : Placed) →
     IsPlacedTo partitions n ps pools roots all → x.line ≡ n → x.answer ≡ answers.Made seen usable → AsksForMap x.op p size →
     p < partitions → MapDid (shape_of size).slot (pool_at supers pools) plan (root_at pools roots p) after placed →
     placed.pool ≡ Some asked → placed.titles.items ≡ t ∷ [] → name_of t ≡ seen.slot →
-    IsCalled supers partitions n x pools (asked_for n p (shape_of size).supers (t ∷ []) (Some asked)) roots p (Map asked seen.slot (shape_of size).slot ∷ [])
+    IsCalled supers partitions n x pools (asked_for n p (shape_of size).supers (t ∷ []) (Some asked)) roots p
+    (Map asked seen.slot (shape_of size).slot ∷ [])
     (all x.thread) (all x.thread) after plan
 
 abbrev pub FullMapIsDone : Type 0
@@ -126,7 +136,8 @@ FullMapIsDone =
     IsPlacedTo partitions n ps pools roots all → x.line ≡ n → x.answer ≡ answers.Full j → j ≡ length (roots p) → AsksForMap x.op p size →
     p < partitions → MapDid (shape_of size).slot (pool_at supers pools) plan (root_at pools roots p) after placed →
     placed.pool ≡ Some asked → placed.titles.items ≡ [] →
-    IsCalled supers partitions n x pools (asked_for n p (shape_of size).supers [] (Some asked)) roots p (Full None asked ∷ []) (all x.thread) (all x.thread) after plan
+    IsCalled supers partitions n x pools (asked_for n p (shape_of size).supers [] (Some asked)) roots p (Full None asked ∷ [])
+    (all x.thread) (all x.thread) after plan
 
 -- ---- steps that return
 
@@ -149,7 +160,8 @@ AreOut r xs = All (IsOut r) (names xs) × AllPairs ◌≢◌ (names xs)
 -- a slot of a class becomes the front of its list, and what doesn't stay goes back
 abbrev pub ReturnIsDone : Type 0
 ReturnIsDone =
-    (supers partitions n p class : ℕ) (ls : List Line) (ps : List Played) (x : Played) (pools : List PoolEntry) (roots : Journals) (all : Caches) (seen : Seen) →
+    (supers partitions n p class : ℕ) (ls : List Line) (ps : List Played) (x : Played) (pools : List PoolEntry) (roots : Journals)
+    (all : Caches) (seen : Seen) →
     IsSoFar supers partitions n ls ps pools roots all → x.line ≡ n → Returns ps x seen → IsOfClass roots seen.slot p class →
     AreOut (root_at pools roots p) (returned_by seen ∷ all x.thread p class)
     × IsCalled supers partitions n x pools [] roots p (gives (spilled class (returned_by seen ∷ all x.thread p class))) (all x.thread)
@@ -169,10 +181,12 @@ unmap_made n p t = record { line = n; partition = p; act = pool.Give (supers_for
 
 abbrev pub UnmapIsDone : Type 0
 UnmapIsDone =
-    (supers partitions n p : ℕ) (ps : List Played) (x : Played) (pools : List PoolEntry) (roots : Journals) (all : Caches) (seen : Seen) (t : Title) →
+    (supers partitions n p : ℕ) (ps : List Played) (x : Played) (pools : List PoolEntry) (roots : Journals) (all : Caches) (seen : Seen)
+    (t : Title) →
     IsPlacedTo partitions n ps pools roots all → IsPooledTo supers n pools roots → x.line ≡ n → Returns ps x seen →
     Contains (root_at pools roots p).maps t → name_of t ≡ seen.slot →
-    IsCalled supers partitions n x pools (unmap_made n p t ∷ []) roots p (unmap_at (length pools) seen.slot (number_of seen.found.0 + 1) ∷ []) (all x.thread) (all x.thread)
+    IsCalled supers partitions n x pools (unmap_made n p t ∷ []) roots p
+    (unmap_at (length pools) seen.slot (number_of seen.found.0 + 1) ∷ []) (all x.thread) (all x.thread)
     (unmapped (name_of t) (root_at pools roots p)) (gave (super_page_at t.start) (pool_at supers pools))
 
 -- ---- a purge
@@ -195,9 +209,12 @@ ListsAreOut =
 abbrev pub PurgeIsDone : Type 0
 PurgeIsDone =
     (supers partitions n : ℕ) (ls : List Line) (ps : List Played) (x : Played) (pools : List PoolEntry) (roots : Journals) (all : Caches) →
-    IsSoFar supers partitions n ls ps pools roots all → x.line ≡ n → x.op ≡ ops.Purge → x.answer ≡ answers.Purged (all_listed (all x.thread) 0 partitions) →
+    IsSoFar supers partitions n ls ps pools roots all → x.line ≡ n → x.op ≡ ops.Purge →
+    x.answer ≡ answers.Purged (all_listed (all x.thread) 0 partitions) →
     IsDone supers partitions n x pools [] roots (purge_in partitions (all x.thread)) (all x.thread) (λ p class. [])
-    × ((p : ℕ) → p < partitions → root_at pools (grown roots n (purge_in partitions (all x.thread))) p ≡ purged (all_returned (names (all_of (all x.thread p) 0 59)) (root_at pools roots p)))
+    × ((p : ℕ) → p < partitions →
+    root_at pools (grown roots n (purge_in partitions (all x.thread))) p ≡
+    purged (all_returned (names (all_of (all x.thread p) 0 59)) (root_at pools roots p)))
 
 -- ---- parts of what is out
 

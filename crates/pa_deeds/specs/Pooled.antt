@@ -51,12 +51,14 @@ Asks supers n pools (e ∷ []) acts = AsksOnce supers n pools e acts
 Asks supers n pools (e ∷ f ∷ more) acts = ⊥
 
 -- the deed of a line, with its entries of the pool
-pub record IsDone (supers partitions n : ℕ) (x : Played) (pools more : List PoolEntry) (roots : Journals) (acts : Acts) (cache next : Cache) : Type 0 where
+pub record IsDone (supers partitions n : ℕ) (x : Played) (pools more : List PoolEntry) (roots : Journals) (acts : Acts)
+    (cache next : Cache) : Type 0 where
   pub deed : IsDeed partitions n x pools more roots acts cache next
   pub asks : Asks supers n pools more acts
 
 -- the run before line n, whose records are those of the first lines of a trace, and whose slots' steps are one run each
-pub record IsSoFar (supers partitions n : ℕ) (ls : List Line) (ps : List Played) (pools : List PoolEntry) (roots : Journals) (all : Caches) : Type 0 where
+pub record IsSoFar (supers partitions n : ℕ) (ls : List Line) (ps : List Played) (pools : List PoolEntry) (roots : Journals)
+    (all : Caches) : Type 0 where
   pub lines : AreLines ls ps
   pub slots : Slots (marks_of ps)
   pub placed : IsPlacedTo partitions n ps pools roots all

@@ -15,9 +15,16 @@ slot_for raw = 4096 * quotient_up raw 4096
 abbrev pub shape_of : ℕ → Shape
 shape_of size = record { slot = slot_for (size + 8); supers = supers_for (slot_for (size + 8)) }
 
+-- the greatest request that is served, in bytes, and the greatest that a class serves
+abbrev pub greatest_size : ℕ
+greatest_size = 33521656
+
+abbrev pub greatest_in_class : ℕ
+greatest_in_class = 917496
+
 -- a request for a direct map: too large for a class, and not too large for the region
 abbrev pub IsDirectSize : ℕ → Type 0
-IsDirectSize size = (917496 < size) × (size ≤ 33521656)
+IsDirectSize size = (greatest_in_class < size) × (size ≤ greatest_size)
 
 -- a shape that some request has
 abbrev pub IsShape : Shape → Type 0

@@ -1,5 +1,5 @@
 ghost use Rattle.std.specs.Prelude.{◌≡◌, ◌↔◌, ◌<◌, IsNone, IfSome};
-ghost use Rattle.pa_direct.specs.Shapes.{shape_of};
+ghost use Rattle.pa_direct.specs.Shapes.{shape_of, greatest_size, greatest_in_class};
 
 use crate::maps::Shape;
 use pa_layout::{SYSTEM_PAGE, supers_for};
@@ -14,8 +14,8 @@ const COUNT_WORD: u32 = 8;
 /// super pages that hold it with a partition page before it and another after it. `None` exactly where the request
 /// is above 33,521,656 bytes.
 pub fn shape(size: u32) -> Option<Shape>
-    requires no_class { 917496 < size }
-    ensures refused { IsNone result ↔ (33521656 < size) }
+    requires no_class { greatest_in_class < size }
+    ensures refused { IsNone result ↔ (greatest_size < size) }
     ensures shape { IfSome result (λ s. s ≡ shape_of size) }
 {
     if size > GREATEST_SIZE {

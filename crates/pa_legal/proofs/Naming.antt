@@ -28,16 +28,16 @@ use Rattle.pa_rules.specs.Holders.{Out, Back, Move, move_of, moves_by}
 use Rattle.pa_legal.specs.Numbers.{Unnamed}
 
 -- the root has no super page and no direct map of this entry of the pool, and may get none
-record IsGone (b n : ℕ) (r : Root) : Type 0 where
-  past : b < n
-  supers : (at : SuperPage) → Contains r.supers at → at.born ≡ b → ⊥
-  maps : (t : Title) → Contains r.maps t → t.born ≡ b → ⊥
+pub record IsGone (b n : ℕ) (r : Root) : Type 0 where
+  pub past : b < n
+  pub supers : (at : SuperPage) → Contains r.supers at → at.born ≡ b → ⊥
+  pub maps : (t : Title) → Contains r.maps t → t.born ≡ b → ⊥
 
 -- a root that replays go on from
-record IsGood (n : ℕ) (r : Root) : Type 0 where
-  sound : IsSound r
-  settled : IsSettled r
-  born : IsBornBelow n r
+pub record IsGood (n : ℕ) (r : Root) : Type 0 where
+  pub sound : IsSound r
+  pub settled : IsSettled r
+  pub born : IsBornBelow n r
 
 out_born : (r : Root) (name : SlotName) (b : ℕ) → IsSound r → ((at : SuperPage) → Contains r.supers at → at.born ≡ b → ⊥) → IsOut r name → name.born ≡ b → ⊥
 out_born r name b sound gone (s, among, n, out) same =
@@ -80,10 +80,10 @@ least_grows b n (Unmap j slot) asks less = omega arith
 least_grows b n Purge asks less = less
 
 module _ (pools : List PoolEntry) (act : RootAct) (b n : ℕ) (r : Root) (good : IsGood n r) (asks : AsksFrom n (asked_by act)) (fits : RootActFits pools act r) where
-  good_next : IsGood (least_after n (asked_by act)) (root_next pools act r)
+  pub good_next : IsGood (least_after n (asked_by act)) (root_next pools act r)
   good_next = let next = next_is pools act n r good.sound good.settled good.born asks fits in record { sound = next.sound; settled = next.settled; born = next.born }
 
-  gone_next : IsGone b n r → IsGone b (least_after n (asked_by act)) (root_next pools act r)
+  pub gone_next : IsGone b n r → IsGone b (least_after n (asked_by act)) (root_next pools act r)
   gone_next gone =
       let next = next_is pools act n r good.sound good.settled good.born asks fits in
       record {
@@ -165,7 +165,7 @@ map_gone name (v ∷ vs) t u alone among start born there same = elim (cases_Boo
   ]
 ]
 
-unmap_gone : (pools : List PoolEntry) (asked n : ℕ) (slot : Numbered) (r : Root) → IsGood n r → n ≤ asked → RootActFits pools (Unmap asked slot) r → IsGone slot.slot.born (asked + 1) (unmapped slot.slot r)
+pub unmap_gone : (pools : List PoolEntry) (asked n : ℕ) (slot : Numbered) (r : Root) → IsGood n r → n ≤ asked → RootActFits pools (Unmap asked slot) r → IsGone slot.slot.born (asked + 1) (unmapped slot.slot r)
 unmap_gone pools asked n slot r good asks (len, first, member, start, gave) = record {
   past = let below = good.born.maps (map_title slot.slot len) member in omega arith;
   supers = λ at among same. good.sound.mixed (map_title slot.slot len) at member among (sym same);

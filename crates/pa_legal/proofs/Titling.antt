@@ -17,7 +17,8 @@ use Rattle.pa_record.specs.Laws.{leaves_by}
 use Rattle.pa_record.proofs.Members.{first_in}
 use Rattle.pa_record.proofs.Lawful.{journal_leaves}
 use Rattle.pa_rules.specs.declared.played.Played.{Played}
-use Rattle.pa_rules.specs.Roots.{Journals, IsOfLine, MakesEntry, AreRoots, IsPoolOf}
+use Rattle.pa_rules.specs.Roots.{Journals, MakesEntry, AreRoots, IsPoolOf}
+use Rattle.pa_rules.specs.Order.{IsOfLine}
 use Rattle.pa_rules.specs.Caches.{IsOfClass, IsDirect}
 use Rattle.pa_rules.specs.Report.{HasSize}
 use Rattle.pa_rules.proofs.Owned.{only_of, title_of, HasLen}

@@ -156,7 +156,8 @@ IsSlotStepped Write actor back old new = IsNextSlot old new old.free (Some (reco
 -- in a table of titles, the entry at a place becomes another
 abbrev pub IsChangedAt : (Slot → Slot → Type 0) → List Place → ℕ → List Place → Type 0
 IsChangedAt R before p after =
-    (old : Box Slot Global) × (new : Box Slot Global) × (slice_index_or before p None ≡ Some old) × (after ≡ slice_set before p (Some new)) × R old.value new.value
+    (old : Box Slot Global) × (new : Box Slot Global) × (slice_index_or before p None ≡ Some old)
+    × (after ≡ slice_set before p (Some new)) × R old.value new.value
 
 -- there is an entry at the place, of which this holds
 abbrev pub IsEntryAt : (Slot → Type 0) → List Place → ℕ → Type 0

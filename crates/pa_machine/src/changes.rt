@@ -13,6 +13,7 @@ use crate::word::{Step, Word, held, next, refs};
 
 // What the events change in the tables, one function for each.
 impl Tables {
+    // Makes an event that is enabled. After want of memory nothing changed.
     pub fn make(&mut self, event: &Event) -> Result<(), OutOfMemory>
         requires sound { IsSound self.old }
         requires enabled { IsEnabled event.now (state_of self.old) }
@@ -32,6 +33,7 @@ impl Tables {
         Ok(())
     }
 
+    // A counted step: the count word, and what the actor and the owner have of the title.
     pub fn count(&mut self, actor: u32, title: Title, step: Step) -> Result<(), OutOfMemory>
         requires sound { IsSound self.old }
         requires enabled { IsEnabled (Event.Count actor title step) (state_of self.old) }
@@ -46,6 +48,7 @@ impl Tables {
         Ok(())
     }
 
+    // Stores the value. An Own in which it is stored becomes dirty.
     pub fn store(&mut self, actor: u32, at: u32, value: u64)
         requires sound { IsSound self.old }
         requires enabled { IsEnabled (Event.Store actor at value) (state_of self.old) }
@@ -64,8 +67,12 @@ impl Tables {
     // Where the title starts whose Own the actor has and which has the byte.
     fn own_over(&self, actor: u32, at: u32) -> Option<usize>
         requires sound { IsSound self.now }
-        ensures some { IfSome result (λ p. (o : Slot) × (s : OwnState) × (slot_over self.now.homes.items self.now.slots.items at ≡ Some o) × (o.own ≡ Some (record { actor = actor; state = s })) × (p ≡ o.title.start / 8)) }
-        ensures none { IfNone result ((o : Slot) (s : OwnState) → slot_over self.now.homes.items self.now.slots.items at ≡ Some o → o.own ≡ Some (record { actor = actor; state = s }) → ⊥) }
+        ensures some { IfSome result
+            (λ p. (o : Slot) × (s : OwnState) × (slot_over self.now.homes.items self.now.slots.items at ≡ Some o)
+            × (o.own ≡ Some (record { actor = actor; state = s })) × (p ≡ o.title.start / 8)) }
+        ensures none { IfNone result
+            ((o : Slot) (s : OwnState) → slot_over self.now.homes.items self.now.slots.items at ≡ Some o →
+            o.own ≡ Some (record { actor = actor; state = s }) → ⊥) }
     {
         match self.slot_over(at) {
             Some(slot) => slot.own_place(actor),
@@ -73,12 +80,14 @@ impl Tables {
         }
     }
 
+    // Poisons the next word of the content.
     pub fn poison(&mut self, actor: u32, title: Title)
         requires sound { IsSound self.old }
         requires enabled { IsEnabled (Event.Poison actor title) (state_of self.old) }
         ensures happens { Happens (Event.Poison actor title) (state_of self.old) (state_of self.new) }
         ensures sound { IsSound self.new }
     {
+        // A hint to the proof: the number of content words is the contract's `content_count`.
         let _words = title.content_words();
         let done = self.progress_of(title);
         restate_at(
@@ -100,6 +109,7 @@ impl Tables {
         }
     }
 
+    // Hands the item over.
     pub fn hand(&mut self, from: u32, to: u32, item: Item)
         requires sound { IsSound self.old }
         requires enabled { IsEnabled (Event.Hand from to item) (state_of self.old) }
@@ -114,6 +124,7 @@ impl Tables {
         }
     }
 
+    // Hands raw bytes over.
     fn hand_raw(&mut self, from: u32, to: u32, start: u32, len: u32)
         requires sound { IsSound self.old }
         requires enabled { IsEnabled (Event.Hand from to (Item.Raw start len)) (state_of self.old) }
@@ -130,6 +141,7 @@ impl Tables {
         }
     }
 
+    // Hands a free title over.
     fn hand_free(&mut self, from: u32, to: u32, title: Title)
         requires sound { IsSound self.old }
         requires enabled { IsEnabled (Event.Hand from to (Item.Free title)) (state_of self.old) }
@@ -139,6 +151,7 @@ impl Tables {
         hand_free_at(&mut self.slots, title.first_word(), to);
     }
 
+    // Hands the Own over, which is clean.
     fn hand_own(&mut self, from: u32, to: u32, title: Title)
         requires sound { IsSound self.old }
         requires enabled { IsEnabled (Event.Hand from to (Item.Own title)) (state_of self.old) }
@@ -148,6 +161,7 @@ impl Tables {
         restate_at(&mut self.slots, title.first_word(), to, OwnState::Clean);
     }
 
+    // Hands one Ref over.
     fn hand_ref(&mut self, from: u32, to: u32, title: Title)
         requires sound { IsSound self.old }
         requires enabled { IsEnabled (Event.Hand from to (Item.Ref title)) (state_of self.old) }
@@ -157,6 +171,7 @@ impl Tables {
         hand_ref_at(&mut self.slots, title.first_word(), from, to);
     }
 
+    // Cuts the title out of raw bytes of the actor, who has it free then.
     pub fn cut(&mut self, actor: u32, title: Title) -> Result<(), OutOfMemory>
         requires sound { IsSound self.old }
         requires enabled { IsEnabled (Event.Cut actor title) (state_of self.old) }
@@ -182,6 +197,7 @@ impl Tables {
         Ok(())
     }
 
+    // Makes a free title of the actor raw again.
     pub fn uncut(&mut self, actor: u32, title: Title)
         requires sound { IsSound self.old }
         requires enabled { IsEnabled (Event.Uncut actor title) (state_of self.old) }
@@ -208,6 +224,7 @@ fn is_free(word: Word) -> bool
     !held(word) && refs(word) == 0
 }
 
+// Makes the step in the entry of the title that starts at this word.
 fn step_at(
     slots: &mut [Option<Box<Slot>>],
     place: usize,
@@ -226,16 +243,19 @@ fn step_at(
     }
 }
 
+// The title that starts at this word has this owner and state then.
 fn restate_at(slots: &mut [Option<Box<Slot>>], place: usize, actor: u32, state: OwnState)
     requires inside { place < length slots.old }
     requires entry { IsEntryAt (λ o. Unit {0}) slots.old place }
-    ensures { IsChangedAt (λ o n. IsNextSlot o n o.free (Some (record { actor = actor; state = state })) o.refs.items) slots.old place slots.new }
+    ensures { IsChangedAt
+        (λ o n. IsNextSlot o n o.free (Some (record { actor = actor; state = state })) o.refs.items) slots.old place slots.new }
 {
     if let Some(slot) = &mut slots[place] {
         slot.restate(actor, state);
     }
 }
 
+// The title that starts at this word is free of this actor then.
 fn hand_free_at(slots: &mut [Option<Box<Slot>>], place: usize, to: u32)
     requires inside { place < length slots.old }
     requires entry { IsEntryAt (λ o. Unit {0}) slots.old place }
@@ -246,10 +266,13 @@ fn hand_free_at(slots: &mut [Option<Box<Slot>>], place: usize, to: u32)
     }
 }
 
+// One Ref of the title that starts at this word goes from one actor to the other.
 fn hand_ref_at(slots: &mut [Option<Box<Slot>>], place: usize, from: u32, to: u32)
     requires inside { place < length slots.old }
     requires entry { IsEntryAt (λ o. Contains o.refs.items from) slots.old place }
-    ensures { IsChangedAt (λ o n. (k : ℕ) × (k < length o.refs.items) × (slice_index o.refs.items k ≡ from) × IsNextSlot o n o.free o.own (slice_set o.refs.items k to)) slots.old place slots.new }
+    ensures { IsChangedAt
+        (λ o n. (k : ℕ) × (k < length o.refs.items) × (slice_index o.refs.items k ≡ from)
+        × IsNextSlot o n o.free o.own (slice_set o.refs.items k to)) slots.old place slots.new }
 {
     if let Some(slot) = &mut slots[place] {
         slot.hand_ref(from, to);

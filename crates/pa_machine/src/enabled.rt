@@ -11,6 +11,7 @@ use crate::word::{Step, apply, refs};
 
 // The conditions of the events, as tests on the tables.
 impl Tables {
+    // Whether the event is enabled.
     pub fn is_enabled(&self, event: &Event) -> bool
         requires { IsSound self.now }
         ensures { IsTrue result ↔ IsEnabled event.now (state_of self.now) }
@@ -26,10 +27,12 @@ impl Tables {
         }
     }
 
+    // Whether the actor may make this step on the title, and the step is enabled at its count word.
     fn can_count(&self, actor: u32, title: Title, step: Step) -> bool
         requires { IsSound self.now }
         ensures { IsTrue result ↔ IsEnabled (Event.Count actor title step) (state_of self.now) }
     {
+        // what the two tests below ask is known behind this one
         if !self.has_actor(actor) {
             return false;
         }
@@ -70,6 +73,7 @@ impl Tables {
             || self.holds_own(actor, title, OwnState::Dirty)
     }
 
+    // Whether the step is enabled at the title's count word.
     fn can_step(&self, title: Title, step: Step) -> bool
         requires { IsWellFormed (length self.now.words.items) title }
         ensures { IsTrue result ↔ CanStep step (count_word self.now.words.items title) }
@@ -85,16 +89,15 @@ impl Tables {
         refs(self.count_word(title)) == 0
     }
 
+    // Whether the actor may store in the word at this byte. Which value it stores makes no difference.
     fn can_store(&self, actor: u32, at: u32, _value: u64) -> bool
         requires { IsSound self.now }
         ensures { IsTrue result ↔ IsEnabled (Event.Store actor at _value) (state_of self.now) }
     {
-        if !self.has_actor(actor) {
-            return false;
-        }
-        at % 8 == 0 && self.may_store(actor, at)
+        self.has_actor(actor) && at % 8 == 0 && self.may_store(actor, at)
     }
 
+    // Whether the word is raw for the actor, or a title's word in which it may write.
     fn may_store(&self, actor: u32, at: u32) -> bool
         requires sound { IsSound self.now }
         requires actor { HasActor (state_of self.now) actor }
@@ -115,6 +118,7 @@ impl Tables {
         }
     }
 
+    // Whether the actor may change the title's content: it has it free, or its unshared Own, clean or dirty.
     fn may_change(&self, actor: u32, title: Title) -> bool
         requires sound { IsSound self.now }
         requires actor { HasActor (state_of self.now) actor }
@@ -124,6 +128,7 @@ impl Tables {
         self.holds_free(actor, title) || (self.holds_open(actor, title) && self.is_unshared(title))
     }
 
+    // Whether the actor may poison the next word of the title's content.
     fn can_poison(&self, actor: u32, title: Title) -> bool
         requires { IsSound self.now }
         ensures { IsTrue result ↔ IsEnabled (Event.Poison actor title) (state_of self.now) }
@@ -131,6 +136,7 @@ impl Tables {
         self.has_actor(actor) && self.may_poison(actor, title)
     }
 
+    // What that asks of an actor that there is.
     fn may_poison(&self, actor: u32, title: Title) -> bool
         requires sound { IsSound self.now }
         requires actor { HasActor (state_of self.now) actor }
@@ -142,16 +148,15 @@ impl Tables {
         }
     }
 
+    // Whether the actor may load the word at this byte.
     fn can_load(&self, actor: u32, at: u32) -> bool
         requires { IsSound self.now }
         ensures { IsTrue result ↔ IsEnabled (Event.Load actor at) (state_of self.now) }
     {
-        if !self.has_actor(actor) {
-            return false;
-        }
-        at % 8 == 0 && self.may_load(actor, at)
+        self.has_actor(actor) && at % 8 == 0 && self.may_load(actor, at)
     }
 
+    // Whether the word is raw for the actor, or in a title that it holds.
     fn may_load(&self, actor: u32, at: u32) -> bool
         requires sound { IsSound self.now }
         requires actor { HasActor (state_of self.now) actor }
@@ -172,16 +177,15 @@ impl Tables {
         }
     }
 
+    // Whether there are both actors and the first has the item.
     fn can_hand(&self, from: u32, to: u32, item: Item) -> bool
         requires { IsSound self.now }
         ensures { IsTrue result ↔ IsEnabled (Event.Hand from to item) (state_of self.now) }
     {
-        if !self.has_actor(from) {
-            return false;
-        }
-        self.has_actor(to) && self.holds_item(from, item)
+        self.has_actor(from) && self.has_actor(to) && self.holds_item(from, item)
     }
 
+    // Whether the actor has the item. An Own is handed over clean.
     fn holds_item(&self, actor: u32, item: Item) -> bool
         requires sound { IsSound self.now }
         requires actor { HasActor (state_of self.now) actor }
@@ -195,6 +199,7 @@ impl Tables {
         }
     }
 
+    // Whether the actor may cut the title out of raw bytes.
     fn can_cut(&self, actor: u32, title: Title) -> bool
         requires { IsSound self.now }
         ensures { IsTrue result ↔ IsEnabled (Event.Cut actor title) (state_of self.now) }
@@ -202,17 +207,20 @@ impl Tables {
         self.has_actor(actor) && self.may_cut(actor, title)
     }
 
+    // What that asks of an actor that there is: whole words, two at least, all raw for it, and a count word of 0.
     fn may_cut(&self, actor: u32, title: Title) -> bool
         requires sound { IsSound self.now }
         requires actor { HasActor (state_of self.now) actor }
         ensures { IsTrue result ↔ MayCut (state_of self.now) actor title }
     {
+        // what the two tests below ask is known behind this one
         if !is_aligned(title) {
             return false;
         }
         self.holds_raw(actor, title.start, title.len) && self.count_word(title).0 == 0
     }
 
+    // Whether the actor has the title free, so that it may make it raw again.
     fn can_uncut(&self, actor: u32, title: Title) -> bool
         requires { IsSound self.now }
         ensures { IsTrue result ↔ IsEnabled (Event.Uncut actor title) (state_of self.now) }

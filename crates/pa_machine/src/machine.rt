@@ -38,7 +38,8 @@ impl Core {
         ensures shape { IsSameShape self.old self.new }
         ensures good { IsGoodState self.new }
         ensures returns { OnOk result (OnlyReturns event.now self.old self.new) }
-        ensures content { OnOk result ((last : TitleOf → ℕ) → KeepsContent self.old last → KeepsContent self.new (noted event.now self.new last)) }
+        ensures content { OnOk result
+            ((last : TitleOf → ℕ) → KeepsContent self.old last → KeepsContent self.new (noted event.now self.new last)) }
     {
         if !self.tables.is_enabled(event) {
             return Err(StepFault::NotEnabled);
@@ -75,7 +76,9 @@ impl Core {
 pub fn core_run(core: &mut Core, events: &[Event]) -> Result<(), (u32, StepFault)>
     requires { length events.now < 2 ^ 32 }
     ensures done { OnOk result (IsRunTo core.old events.now core.new) }
-    ensures refused { IfErr result (λ e. (e.0 < length events.now) × IsRunTo core.old (take e.0 events.now) core.new × IsRefusedFor e.1 (slice_get events.now e.0) core.new) }
+    ensures refused { IfErr result
+        (λ e. (e.0 < length events.now) × IsRunTo core.old (take e.0 events.now) core.new
+        × IsRefusedFor e.1 (slice_get events.now e.0) core.new) }
     ensures shape { IsSameShape core.old core.new }
     ensures good { IsGoodState core.new }
 {
@@ -92,6 +95,7 @@ pub fn core_run(core: &mut Core, events: &[Event]) -> Result<(), (u32, StepFault
 fn known_good(core: &Core)
     ensures { IsGoodState core.now }
 {
+    // Naming the tables hands the proof what the type keeps.
     let _ = &core.tables;
 }
 

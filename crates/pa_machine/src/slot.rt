@@ -52,7 +52,8 @@ impl Slot {
 
     // Where the title starts, if the actor has its Own.
     pub fn own_place(&self, actor: u32) -> Option<usize>
-        ensures some { IfSome result (λ p. (s : OwnState) × (self.now.own ≡ Some (record { actor = actor; state = s })) × (p ≡ self.now.title.start / 8)) }
+        ensures some { IfSome result
+            (λ p. (s : OwnState) × (self.now.own ≡ Some (record { actor = actor; state = s })) × (p ≡ self.now.title.start / 8)) }
         ensures none { IfNone result ((s : OwnState) → self.now.own ≡ Some (record { actor = actor; state = s }) → ⊥) }
     {
         if self.is_own_of(actor) {
@@ -62,18 +63,21 @@ impl Slot {
         }
     }
 
+    // Whether the slot is free, and of the actor.
     pub fn is_free_of(&self, actor: u32) -> bool
         ensures { IsTrue result ↔ (self.now.free ≡ Some actor) }
     {
         self.free == Some(actor)
     }
 
+    // Whether the actor has the Own in this state.
     pub fn is_owned_by(&self, actor: u32, state: OwnState) -> bool
         ensures { IsTrue result ↔ (self.now.own ≡ Some (record { actor = actor; state = state })) }
     {
         self.own == Some(Owner { actor, state })
     }
 
+    // Whether the actor has a Ref.
     pub fn has_ref_of(&self, actor: u32) -> bool
         ensures { IsTrue result ↔ Contains self.now.refs.items actor }
     {
@@ -87,6 +91,7 @@ impl Slot {
         self.is_free_of(actor) || self.is_own_of(actor) || self.has_ref_of(actor)
     }
 
+    // Whether the actor has the Own, in any state.
     fn is_own_of(&self, actor: u32) -> bool
         ensures { IsTrue result ↔ ((state : OwnState) × (self.now.own ≡ Some (record { actor = actor; state = state }))) }
     {
@@ -138,6 +143,7 @@ impl Slot {
         Ok(())
     }
 
+    // The slot is free of the actor, if the step left neither bit nor count.
     fn give_back(&mut self, actor: u32, back: bool)
         ensures { IsNextSlot self.old self.new (if back then Some actor else self.old.free) self.old.own self.old.refs.items }
     {
@@ -146,9 +152,11 @@ impl Slot {
         }
     }
 
+    // One Ref of the actor goes.
     fn drop_ref(&mut self, actor: u32)
         requires { Contains self.old.refs.items actor }
-        ensures { (k : ℕ) × (k < length self.old.refs.items) × (slice_index self.old.refs.items k ≡ actor) × IsNextSlot self.old self.new self.old.free self.old.own (swap_remove self.old.refs.items k 0) }
+        ensures { (k : ℕ) × (k < length self.old.refs.items) × (slice_index self.old.refs.items k ≡ actor)
+            × IsNextSlot self.old self.new self.old.free self.old.own (swap_remove self.old.refs.items k 0) }
     {
         let place = self.ref_place(actor);
         self.refs.swap_remove(place);
@@ -182,9 +190,11 @@ impl Slot {
         self.free = Some(to);
     }
 
+    // One Ref goes from one actor to the other.
     pub fn hand_ref(&mut self, from: u32, to: u32)
         requires { Contains self.old.refs.items from }
-        ensures { (k : ℕ) × (k < length self.old.refs.items) × (slice_index self.old.refs.items k ≡ from) × IsNextSlot self.old self.new self.old.free self.old.own (slice_set self.old.refs.items k to) }
+        ensures { (k : ℕ) × (k < length self.old.refs.items) × (slice_index self.old.refs.items k ≡ from)
+            × IsNextSlot self.old self.new self.old.free self.old.own (slice_set self.old.refs.items k to) }
     {
         let place = self.ref_place(from);
         self.refs[place] = to;

@@ -41,6 +41,7 @@ impl Tables {
         })
     }
 
+    // Whether there is such an actor.
     pub fn has_actor(&self, actor: u32) -> bool
         ensures { IsTrue result ↔ HasActor (state_of self.now) actor }
     {
@@ -98,6 +99,7 @@ impl Tables {
         true
     }
 
+    // Whether the byte is raw, and of the actor.
     fn is_raw_of(&self, actor: u32, byte: usize) -> bool
         requires { byte < length self.now.holders.items }
         ensures { IsTrue result ↔ (slice_index_or self.now.holders.items byte None ≡ Some actor) }
@@ -105,6 +107,7 @@ impl Tables {
         self.holders[byte] == Some(actor)
     }
 
+    // Whether the actor has the title free.
     pub fn holds_free(&self, actor: u32, title: Title) -> bool
         requires sound { IsSound self.now }
         requires actor { HasActor (state_of self.now) actor }
@@ -116,6 +119,7 @@ impl Tables {
         }
     }
 
+    // Whether the actor has the title's Own in this state.
     pub fn holds_own(&self, actor: u32, title: Title, state: OwnState) -> bool
         requires sound { IsSound self.now }
         requires actor { HasActor (state_of self.now) actor }
@@ -127,6 +131,7 @@ impl Tables {
         }
     }
 
+    // Whether the actor has a Ref of the title.
     pub fn holds_ref(&self, actor: u32, title: Title) -> bool
         requires sound { IsSound self.now }
         requires actor { HasActor (state_of self.now) actor }

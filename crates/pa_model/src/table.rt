@@ -58,6 +58,7 @@ impl Table {
     pub(crate) fn is_named(&self)
         ensures named { AreNamed self.now }
     {
+        // Naming the slots hands the proof what the type keeps.
         let _slots = self.slots.len();
     }
 
@@ -166,6 +167,7 @@ impl Table {
 pub(crate) fn fits(number: u32)
     ensures { number < 4294967296 }
 {
+    // Naming the number hands the proof that it has 32 bits.
     let _number = number;
 }
 

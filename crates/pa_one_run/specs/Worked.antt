@@ -17,14 +17,15 @@ use Rattle.pa_record.specs.declared.report.ReportLine.{ReportLine}
 use Rattle.pa_record.specs.declared.report.Tally.{Tally}
 use Rattle.pa_record.specs.declared.census.Census.{Census}
 use Rattle.pa_record.specs.declared.run.Run.{Run}
-use Rattle.pa_record.specs.Fits.{RunFits}
+use Rattle.pa_record.specs.Bits.{RunInBits}
 use Rattle.pa_record.specs.Worked.{slots, fill, pool_take, direct_map_again_pool, direct_map_again_journal, direct_map_again_census, census_of}
 use Rattle.pa_rules.specs.declared.played.Played.{Played}
 use Rattle.pa_rules.specs.Played.{entry_of}
 use Rattle.pa_rules.specs.Legal.{IsLegal, IsFileRun}
 
 -- the run tells just this
-pub record IsRunOf (r : Run) (told : List Entry) (journals : List (List RootEntry)) (pools : List PoolEntry) (exchanged : List (List CellEntry)) (lines : List ReportLine) : Type 0 where
+pub record IsRunOf (r : Run) (told : List Entry) (journals : List (List RootEntry)) (pools : List PoolEntry)
+    (exchanged : List (List CellEntry)) (lines : List ReportLine) : Type 0 where
   pub entries : r.entries.items ≡ told
   pub roots : r.roots.items ≡ journals
   pub pool : r.pool.items ≡ pools
@@ -33,9 +34,10 @@ pub record IsRunOf (r : Run) (told : List Entry) (journals : List (List RootEntr
 
 -- The trace is within the limits, and there is a run that tells just this, with numbers that have the bits of their types.
 -- Its vectors are of some heap.
-pub record IsTold (t : Trace) (told : List Entry) (journals : List (List RootEntry)) (pools : List PoolEntry) (exchanged : List (List CellEntry)) (lines : List ReportLine) : Type 0 where
+pub record IsTold (t : Trace) (told : List Entry) (journals : List (List RootEntry)) (pools : List PoolEntry)
+    (exchanged : List (List CellEntry)) (lines : List ReportLine) : Type 0 where
   pub limits : IsWithinLimits t
-  pub run : (heap : Global) → (r : Run) × RunFits r × IsRunOf r told journals pools exchanged lines
+  pub run : (heap : Global) → (r : Run) × RunInBits r × IsRunOf r told journals pools exchanged lines
 
 -- a slot that begins there, of this entry of the pool, with this word
 abbrev pub seen_at : ℕ → ℕ → ℕ → Seen
@@ -100,7 +102,8 @@ abbrev pub direct_map_report : List ReportLine
 direct_map_report = report_line 1 (tally 1 2002944) (tally 0 0) (tally 0 0) direct_map_again_census ∷ []
 
 abbrev pub DirectMapIsTold : Type 0
-DirectMapIsTold = IsTold direct_map_trace (map entry_of direct_map_records) (direct_map_again_journal ∷ []) direct_map_again_pool [] direct_map_report
+DirectMapIsTold = IsTold direct_map_trace (map entry_of direct_map_records)
+    (direct_map_again_journal ∷ []) direct_map_again_pool [] direct_map_report
 
 -- a run that tells this is the one in the order of the lines
 abbrev pub DirectMapIsFiled : Type 0
@@ -166,10 +169,12 @@ two_threads_report =
     ∷ []
 
 abbrev pub TwoThreadsAreTold : Type 0
-TwoThreadsAreTold = IsTold two_threads_trace (map entry_of two_threads_records) (two_threads_journal ∷ []) two_threads_pool (two_threads_history ∷ []) two_threads_report
+TwoThreadsAreTold = IsTold two_threads_trace (map entry_of two_threads_records) (two_threads_journal ∷ []) two_threads_pool
+    (two_threads_history ∷ []) two_threads_report
 
 -- a run that tells this is legal
 abbrev pub TwoThreadsAreLegal : Type 0
 TwoThreadsAreLegal =
-    (r : Run) → IsRunOf r (map entry_of two_threads_records) (two_threads_journal ∷ []) two_threads_pool (two_threads_history ∷ []) two_threads_report →
+    (r : Run) → IsRunOf r (map entry_of two_threads_records) (two_threads_journal ∷ []) two_threads_pool
+    (two_threads_history ∷ []) two_threads_report →
     IsLegal two_threads_trace r

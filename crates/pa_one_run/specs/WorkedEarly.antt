@@ -77,5 +77,6 @@ EarlyReadIsTold =
 abbrev pub EarlyReadIsLegal : Type 0
 EarlyReadIsLegal =
     (r : Run) →
-    IsRunOf r (map entry_of early_read_records) (two_threads_journal ∷ []) two_threads_pool (there_history ∷ back_history ∷ []) early_read_report →
+    IsRunOf r (map entry_of early_read_records) (two_threads_journal ∷ []) two_threads_pool
+    (there_history ∷ back_history ∷ []) early_read_report →
     IsLegal early_read_trace r

@@ -16,5 +16,6 @@ DirectMapIsKnown =
 -- two threads, with a read while the slot is freed
 abbrev pub TwoThreadsAreKnown : Type 0
 TwoThreadsAreKnown =
-    (r : Run) → IsRunOf r (map entry_of two_threads_records) (two_threads_journal ∷ []) two_threads_pool (two_threads_history ∷ []) two_threads_report →
+    (r : Run) → IsRunOf r (map entry_of two_threads_records) (two_threads_journal ∷ []) two_threads_pool
+    (two_threads_history ∷ []) two_threads_report →
     IsKnown two_threads_trace (told_by r) (records_of two_threads_trace (told_by r))

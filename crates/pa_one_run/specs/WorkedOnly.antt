@@ -19,7 +19,8 @@ use Rattle.pa_one_run.specs.WorkedWrites.{writes_trace, writes_records, writes_j
 use Rattle.pa_one_run.specs.WorkedPurge.{purge_trace, purge_report}
 
 -- the run tells this, but for empty journals and histories after these
-pub record Tells (r : Run) (told : List Entry) (journals : List (List RootEntry)) (pools : List PoolEntry) (exchanged : List (List CellEntry)) (lines : List ReportLine) : Type 0 where
+pub record Tells (r : Run) (told : List Entry) (journals : List (List RootEntry)) (pools : List PoolEntry)
+    (exchanged : List (List CellEntry)) (lines : List ReportLine) : Type 0 where
   pub entries : r.entries.items ≡ told
   pub roots : (p : ℕ) → journal_of r p ≡ journal_at journals p
   pub pool : r.pool.items ≡ pools
@@ -31,7 +32,8 @@ abbrev pub IsOnlyRun : Trace → List Entry → List (List RootEntry) → List P
 IsOnlyRun t told journals pools exchanged lines = (r : Run) → IsLegal t r → Tells r told journals pools exchanged lines
 
 abbrev pub OnlyDirectMaps : Type 0
-OnlyDirectMaps = IsOnlyRun direct_map_trace (map entry_of direct_map_records) (direct_map_again_journal ∷ []) direct_map_again_pool [] direct_map_report
+OnlyDirectMaps = IsOnlyRun direct_map_trace (map entry_of direct_map_records)
+    (direct_map_again_journal ∷ []) direct_map_again_pool [] direct_map_report
 
 abbrev pub OnlyWrites : Type 0
 OnlyWrites = IsOnlyRun writes_trace (map entry_of writes_records) (writes_journal ∷ []) writes_pool [] writes_report

@@ -1,23 +1,21 @@
 -- What each call leaves: a sound root, of which at most 16 spans are empty, and lists that aren't too long.
 use Rattle.std.proofs.Common.{◌≡◌, ◌≢◌, ℕ, suc, ◌+◌, ◌<◌, ◌≤◌, List, [], ◌∷◌, length, map, refl, sym, ◌∙◌, ap, subst, arith, inl, inr, Option, Some, None, vec_len}
 use Rattle.std.specs.Prelude.{Contains, AllPairs, All, IsNone}
-use Rattle.std.specs.Vec.{vec_capacity}
 use Rattle.std.proofs.lemmas.Bool.{cases_Bool}
 use Rattle.std.proofs.lemmas.List.{length_push}
 use Rattle.pa_machine.specs.declared.title.Title.{Title}
 use Rattle.pa_machine.specs.declared.word.SlotName.{SlotName}
 use Rattle.pa_record.specs.declared.taken.SuperPage.{SuperPage}
 use Rattle.pa_record.specs.Pool.{PoolState, took}
-use Rattle.pa_buckets.specs.declared.spans.State.TheVariants as state
-use Rattle.pa_record.specs.Spans.{name_of, is_in}
-use Rattle.pa_record.specs.Root.{Root, Filled, span_for, takes, all_returned, purged, unmapped, without_map, empties, IsOut}
+use Rattle.pa_record.specs.Spans.{name_of}
+use Rattle.std.proofs.lemmas.List.Elements.{Contains-push_cases}
+use Rattle.pa_record.specs.Root.{Root, Filled, span_for, takes, opened, mapped, all_returned, purged, unmapped, without_map, empties, IsOut}
 use Rattle.pa_record.specs.Sound.{IsSound, IsSettled, IsBornBelow}
 use Rattle.pa_record.proofs.Filling.{takes_filled, takes_none, opened_sound, opened_born}
 use Rattle.pa_record.proofs.Returning.{all_returned_is, times_is}
 use Rattle.pa_record.proofs.Mapping.{mapped_sound, mapped_born, unmapped_sound, unmapped_born, born_more, born_same}
 use Rattle.pa_place.specs.declared.store.Store.{Store}
 use Rattle.pa_place.specs.Placed.{filled_by, Fills, map_in, mapped_by, IsStep}
-use Rattle.pa_place.specs.Listing.{IsListing}
 use Rattle.pa_place.specs.Order.{IsOrdered}
 use Rattle.pa_place.specs.Store.{root_of, HasLowSupers, IsReady, IsKept, opened_where, AsksWhere, IsFiled}
 use Rattle.pa_place.proofs.Filling.{filled_with}
@@ -32,10 +30,10 @@ pub record IsGood (r : Root) : Type 0 where
   pub supers : length r.supers ≤ 2147483647
   pub maps : length r.maps ≤ 2147483647
 
-pub kept_by : (s : Store) (r : Root) → root_of s ≡ r → IsGood r → vec_len s.spans ≤ 2147483647 → IsFiled (root_of s) s.empty.items → 17 ≤ vec_capacity s.empty → IsKept s
-kept_by s r e good many filed ring =
+pub kept_by : (s : Store) (r : Root) → root_of s ≡ r → IsGood r → vec_len s.spans ≤ 2147483647 → IsFiled s → IsKept s
+kept_by s r e good many filed =
     let g = subst IsGood (sym e) good in
-    record { ready = g.ready; settled = g.settled; ordered = g.ordered; filed = filed; ring = ring; supers = g.supers; maps = g.maps; spans = many }
+    record { ready = g.ready; settled = g.settled; ordered = g.ordered; filed = filed; supers = g.supers; maps = g.maps; spans = many }
 
 pub good_of : (s : Store) → IsKept s → IsGood (root_of s)
 good_of s k = record { ready = k.ready; settled = k.settled; ordered = k.ordered; supers = k.supers; maps = k.maps }
@@ -94,18 +92,15 @@ filled_step class want r next titles good real few e ordered =
 pub in_place : (n : ℕ) (r next : Root) → IsInPlace r next → IsStep n n r next
 in_place n r next a = record { turn = a.turn; rises = a.rises; entries = omega arith; one = omega arith; born = a.born n }
 
--- nothing changed
-pub no_step : (n m : ℕ) (r next : Root) → m ≡ n → next ≡ r → IsStep n m r next
-no_step n m r next e f = rw (e, f) (record { turn = omega arith; rises = omega arith; entries = omega arith; one = omega arith; born = λ old. old })
-
--- the pool may be asked for a super page
-pub record IsAfterAsk (pool next : PoolState) (r after : Root) : Type 0 where
-  pub good : IsGood after
-  pub turn : after.turn ≡ r.turn
-  pub born : IsBornBelow next.entries after
-  pub entries : pool.entries ≤ next.entries
-  pub one : next.entries ≤ pool.entries + 1
-  pub maps : after.maps ≡ r.maps
+-- a step after one that takes no turn
+pub two_steps : (n m : ℕ) (r mid after : Root) → IsStep n m r mid → mid.turn ≡ r.turn → IsStep m m mid after → IsStep n m r after
+two_steps n m r mid after a same b = record {
+  turn = let p = b.turn in omega arith;
+  rises = let p = b.rises in omega arith;
+  entries = a.entries;
+  one = a.one;
+  born = λ old. b.born (a.born old);
+}
 
 pub entries_after : (count : ℕ) (found : Option ℕ) (pool : PoolState) → (took count found pool).entries ≡ pool.entries + 1
 entries_after count None pool = refl
@@ -129,33 +124,26 @@ opened_good (Some first) entry r good few old low = (
     super_at : ℕ → ℕ → SuperPage
     super_at number born = record { number = number; born = born }
 
-opened_maps : (found : Option ℕ) (entry : ℕ) (r : Root) → (opened_where found entry r).maps ≡ r.maps
-opened_maps None entry r = refl
-opened_maps (Some first) entry r = refl
+-- the super page that was opened lies in the region
+pub low_opened : (first entry : ℕ) (r : Root) → first < 64 → HasLowSupers r → HasLowSupers (opened first entry r)
+low_opened first entry r low h at among = elim (Contains-push_cases r.supers (record { number = first; born = entry }) at among) [
+  | inl old ↦ h at old
+  | inr e ↦ subst (λ (z : SuperPage). z.number < 64) e low
+]
 
-pub asked_step : (class : ℕ) (pool next : PoolState) (r after : Root) (asked : Option ℕ) → IsGood r → length r.supers < 2147483647 → IsBornBelow pool.entries r → HasLowSupers after →
-    AsksWhere class pool next r after asked → IsAfterAsk pool next r after
-asked_step class pool next r after None good few old low (some, same, e) = record {
-  good = subst IsGood (sym e) good;
-  turn = ap (λ (z : Root). z.turn) e;
-  born = subst (λ z. IsBornBelow z.entries after) (sym same) (subst (λ z. IsBornBelow pool.entries z) (sym e) old);
-  entries = let p = ap (λ (z : PoolState). z.entries) same in omega arith;
-  one = let p = ap (λ (z : PoolState). z.entries) same in omega arith;
-  maps = ap (λ (z : Root). z.maps) e;
-}
-asked_step class pool next r after (Some entry) good few old low (none, found, is, e) =
-    let old' = subst (λ n. IsBornBelow n r) (sym is.entry) old in
-    let (a, b, t) = opened_good found entry r good few old' (subst HasLowSupers e low) in
-    let n = ap (λ (z : PoolState). z.entries) is.took ∙ entries_after 1 found pool in
-    let m : entry + 1 ≡ next.entries = let p = is.entry in omega arith in
-    record {
-      good = subst IsGood (sym e) a;
-      turn = ap (λ (z : Root). z.turn) e ∙ t;
-      born = subst (λ z. IsBornBelow z after) m (subst (λ z. IsBornBelow (entry + 1) z) (sym e) b);
-      entries = omega arith;
-      one = omega arith;
-      maps = ap (λ (z : Root). z.maps) e ∙ opened_maps found entry r;
-    }
+-- a super page is opened in a root
+pub record IsAfterOpen (entry : ℕ) (r after : Root) : Type 0 where
+  pub good : IsGood after
+  pub step : IsStep entry (entry + 1) r after
+
+pub opened_step : (first entry : ℕ) (r after : Root) → IsGood r → length r.supers < 2147483647 → first < 64 → IsBornBelow entry r → after ≡ opened first entry r → IsAfterOpen entry r after
+opened_step first entry r after good few low old e =
+    let (a, b, t) = opened_good (Some first) entry r good few old (low_opened first entry r low good.ready.low) in
+    subst (IsAfterOpen entry r) (sym e)
+    (record {
+      good = a;
+      step = record { turn = omega arith; rises = omega arith; entries = omega arith; one = omega arith; born = λ _. b };
+    })
 
 -- the fill is one that asks the pool exactly where it has to
 filled_where : (class want entry : ℕ) (found : Option ℕ) (r : Root) → IsNone (span_for class r) → takes class want (opened_where found entry r) ≡ filled_by class want entry found r
@@ -169,10 +157,6 @@ fills_by class want pool next r after last titles (Some entry) (none, found, is,
     (none, found, is, sym filled ∙ ap (takes class want) e ∙ filled_where class want entry found r none)
 
 -- a direct map
-pub record IsAfterMap (pool next : PoolState) (r after : Root) : Type 0 where
-  pub good : IsGood after
-  pub step : IsStep pool.entries next.entries r after
-
 mapped_good : (len entry : ℕ) (found : Option ℕ) (r : Root) → IsGood r → length r.maps < 2147483647 → IsBornBelow entry r →
     IsGood (mapped_by len entry found r).root × IsBornBelow (entry + 1) (mapped_by len entry found r).root × ((mapped_by len entry found r).root.turn ≡ r.turn)
 mapped_good len entry None r good few old = (good, born_more entry (entry + 1) r (omega arith) old, refl)
@@ -189,23 +173,15 @@ mapped_good len entry (Some first) r good few old =
       refl,
     )
 
-pub mapped_step : (len entry : ℕ) (found : Option ℕ) (pool next : PoolState) (r after : Root) (titles : List Title) → IsGood r → length r.maps < 2147483647 → IsBornBelow pool.entries r →
-    entry ≡ pool.entries → next.entries ≡ pool.entries + 1 → mapped_by len entry found r ≡ filled_with after titles → IsAfterMap pool next r after
-mapped_step len entry found pool next r after titles good few old is more e =
-    let (a, b, t) = mapped_good len entry found r good few (subst (λ n. IsBornBelow n r) (sym is) old) in
-    let same : (mapped_by len entry found r).root ≡ after = ap (λ (f : Filled). f.root) e in
-    let m : entry + 1 ≡ next.entries = omega arith in
-    let turn : after.turn ≡ r.turn = sym (ap (λ (z : Root). z.turn) same) ∙ t in
-    record {
-      good = subst IsGood same a;
-      step = record {
-        turn = let e = turn in omega arith;
-        rises = let e = turn in omega arith;
-        entries = omega arith;
-        one = omega arith;
-        born = λ _. subst (λ z. IsBornBelow z after) m (subst (λ z. IsBornBelow (entry + 1) z) same b);
-      };
-    }
+-- a direct map is made in a root
+pub made_step : (first len entry : ℕ) (t : Title) (r after : Root) → IsGood r → length r.maps < 2147483647 → IsBornBelow entry r → t ≡ map_in first len entry → after ≡ mapped t r → IsAfterOpen entry r after
+made_step first len entry t r after good few old is e =
+    let (a, b, n) = mapped_good len entry (Some first) r good few old in
+    subst (IsAfterOpen entry r) (sym (e ∙ ap (λ z. mapped z r) is))
+    (record {
+      good = a;
+      step = record { turn = omega arith; rises = omega arith; entries = omega arith; one = omega arith; born = λ _. b };
+    })
 
 -- a direct map goes
 length-without_map : (name : SlotName) (ts : List Title) → length (without_map name ts) ≤ length ts
@@ -238,20 +214,3 @@ unmapped_step name r after good e =
         born = λ old. unmapped_born name n (n + 1) r (omega arith) old;
       };
     })
-
--- a root with the same spans, and the same list of the empty ones
-pub same_filed : (r after : Root) (xs ys : List ℕ) → after.spans ≡ r.spans → ys ≡ xs → IsFiled r xs → IsFiled after ys
-same_filed r after xs ys e f h =
-    subst (λ zs. IsFiled after zs) (sym f) (subst (λ ss. IsListing (is_in state.Empty) ss xs) (sym e) h)
-
-opened_spans : (found : Option ℕ) (entry : ℕ) (r : Root) → (opened_where found entry r).spans ≡ r.spans
-opened_spans None entry r = refl
-opened_spans (Some first) entry r = refl
-
-pub asked_spans : (class : ℕ) (pool next : PoolState) (r after : Root) (asked : Option ℕ) → AsksWhere class pool next r after asked → after.spans ≡ r.spans
-asked_spans class pool next r after None (some, same, e) = ap (λ (z : Root). z.spans) e
-asked_spans class pool next r after (Some entry) (none, found, is, e) = ap (λ (z : Root). z.spans) e ∙ opened_spans found entry r
-
-pub mapped_spans : (len entry : ℕ) (found : Option ℕ) (r : Root) → (mapped_by len entry found r).root.spans ≡ r.spans
-mapped_spans len entry None r = refl
-mapped_spans len entry (Some first) r = refl

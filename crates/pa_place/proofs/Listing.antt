@@ -1,60 +1,27 @@
 -- A list of the spans that pass a test, while one span changes.
-use Rattle.std.proofs.Common.{◌≡◌, ◌≢◌, ℕ, zero, suc, ◌+◌, ◌<◌, Bool, true, false, cond, eqb, List, [], ◌∷◌, ◌++◌, length, set, refl, sym, ◌∙◌, ap, subst, arith, ◌⊎◌, inl, inr, Option, Some, None}
-use Rattle.std.specs.Prelude.{Contains, AllPairs, count_by, slice_get, position, remove}
-use Rattle.std.proofs.lemmas.Bool.{cases_Bool, both_ways, eqb-true, eqb-false, eq-eqb}
+use Rattle.std.proofs.Common.{◌≡◌, ◌≢◌, ℕ, zero, suc, ◌+◌, ◌-◌, ◌<◌, Bool, true, false, eqb, List, [], ◌∷◌, ◌++◌, length, get_or, set, refl, sym, ◌∙◌, ap, subst, arith, ◌⊎◌, inl, inr, Option, Some, None}
+use Rattle.std.specs.Prelude.{Contains, AllPairs, IfSome, slice_get, position, remove}
+use Rattle.std.proofs.lemmas.Option.{slice_get_within, slice_get-get_or, get_or_from_slice_get}
+use Rattle.std.proofs.lemmas.Bool.{cases_Bool, cases_lt, both_ways, eqb-true, eqb-false, eq-eqb}
 use Rattle.std.proofs.lemmas.List.{length_push}
 use Rattle.std.proofs.lemmas.List.Elements.{Contains-push_cases, Contains-append_left, Contains-push}
-use Rattle.std.proofs.lemmas.List.Sums.{sum_by-cons, sum_by_push}
-use Rattle.pa_record.specs.Spans.{Span, earliest}
+use Rattle.std.proofs.lemmas.List.Sums.{sum_by_push}
+use Rattle.pa_record.specs.Spans.{Span, latest, earliest}
 use Rattle.pa_record.specs.Root.{Root}
 use Rattle.pa_record.specs.Sound.{IsSound}
 use Rattle.pa_record.specs.Chosen.{TestsUsed}
 use Rattle.pa_record.proofs.Members.{of_some, not_some, not_in_none, first_in, later_in, in_cases}
 use Rattle.pa_record.proofs.Pairs.{pairs_none, pairs_cons, pairs_head, pairs_tail, pairs_push}
 use Rattle.pa_record.proofs.PoolSteps.{slice_get_more}
-use Rattle.pa_record.proofs.Choice.{earliest_is}
-use Rattle.pa_record.proofs.Chosen.{is_earliest}
+use Rattle.pa_record.proofs.Choice.{latest_is, earliest_is}
+use Rattle.pa_record.proofs.Chosen.{is_latest, is_earliest}
 use Rattle.pa_record.proofs.Entering.{one_if}
-use Rattle.pa_place.specs.Listing.{IsSooner, IsListing, without_index, left_if, entered_if}
+use Rattle.pa_place.specs.Scans.{span_at}
+use Rattle.pa_place.specs.Listing.{IsSooner, IsListing, without_index, refiled}
+use Rattle.pa_place.specs.Filed.{last_of}
+use Rattle.pa_place.proofs.Setting.{set_same, set_other, set_parts, count_set}
 use Rattle.pa_place.proofs.Removing.{without_first, removed_first, none_removed_first}
 use Rattle.pa_place.proofs.Placing.{member_at}
-
--- a member of a list in which one was set
-pub set_same : {A : Type 0} (xs : List A) (i : ℕ) (x y : A) → slice_get xs i ≡ Some x → slice_get (set xs i y) i ≡ Some y
-set_same [] i x y e = absurd (not_some x e)
-set_same (z ∷ xs) zero x y e = refl
-set_same (z ∷ xs) (suc i) x y e = set_same xs i x y e
-
-pub set_other : {A : Type 0} (xs : List A) (i j : ℕ) (y : A) → j ≢ i → slice_get (set xs i y) j ≡ slice_get xs j
-set_other [] i j y other = refl
-set_other (z ∷ xs) zero zero y other = absurd (other refl)
-set_other (z ∷ xs) zero (suc j) y other = refl
-set_other (z ∷ xs) (suc i) zero y other = refl
-set_other (z ∷ xs) (suc i) (suc j) y other = set_other xs i j y (λ e. other (ap suc e))
-
-set_parts : {A : Type 0} (xs : List A) (i j : ℕ) (x y v : A) → slice_get xs i ≡ Some x → slice_get (set xs i y) j ≡ Some v → ((j ≡ i) × (v ≡ y)) ⊎ ((j ≢ i) × (slice_get xs j ≡ Some v))
-set_parts xs i j x y v e f = elim (cases_Bool (eqb j i)) [
-  | inl hit ↦
-      let same = eqb-true j i hit in
-      inl (same, of_some v y (sym f ∙ ap (slice_get (set xs i y)) same ∙ set_same xs i x y e))
-  | inr miss ↦
-      let other = eqb-false j i miss in
-      inr (other, sym (set_other xs i j y other) ∙ f)
-]
-
--- how many pass
-count_set : (test : Span → Bool) (ss : List Span) (i : ℕ) (s t : Span) → slice_get ss i ≡ Some s → count_by test (set ss i t) + one_if (test s) ≡ count_by test ss + one_if (test t)
-count_set test [] i s t e = absurd (not_some s e)
-count_set test (u ∷ ss) zero s t e =
-    let a = sum_by-cons (λ (z : Span). cond (test z) 1 0) t ss in
-    let b = sum_by-cons (λ (z : Span). cond (test z) 1 0) u ss in
-    let f : one_if (test u) ≡ one_if (test s) = ap (λ z. one_if (test z)) (of_some u s e) in
-    omega arith
-count_set test (u ∷ ss) (suc i) s t e =
-    let a = sum_by-cons (λ (z : Span). cond (test z) 1 0) u (set ss i t) in
-    let b = sum_by-cons (λ (z : Span). cond (test z) 1 0) u ss in
-    let ih = count_set test ss i s t e in
-    omega arith
 
 -- the list without an index, by its place
 without_index_is : (i : ℕ) (ids : List ℕ) → without_first (λ k. eqb k i) ids ≡ without_index i ids
@@ -299,14 +266,121 @@ none_listed test = record {
   many = refl;
 }
 
--- a span changed that doesn't pass after it
-pub left_by : (test : Span → Bool) (ss : List Span) (ids : List ℕ) (i : ℕ) (s t : Span) (b : Bool) → slice_get ss i ≡ Some s → b ≡ test s → test t ≡ false → IsListing test ss ids →
-    IsListing test (set ss i t) (left_if b i ids)
-left_by test ss ids i s t true e is fails h = leaves test ss ids i s t e (sym is) fails h
-left_by test ss ids i s t false e is fails h = stands test ss ids i s t e (sym is) fails h
+-- a span changed that passes before and after, with the same turn
+old_turn : (ss : List Span) (i j : ℕ) (s t v : Span) → slice_get ss i ≡ Some s → t.turn ≡ s.turn → slice_get (set ss i t) j ≡ Some v → (u : Span) × (slice_get ss j ≡ Some u) × (u.turn ≡ v.turn)
+old_turn ss i j s t v e same f = elim (set_parts ss i j s t v e f) [
+  | inl here ↦ (s, ap (slice_get ss) here.0 ∙ e, sym same ∙ sym (ap (λ (z : Span). z.turn) here.1))
+  | inr there ↦ (v, there.1, refl)
+]
 
--- one that didn't pass before it
-pub entered_by : (test : Span → Bool) (ss : List Span) (ids : List ℕ) (i : ℕ) (s t : Span) (b : Bool) → slice_get ss i ≡ Some s → test s ≡ false → b ≡ test t →
-    (test t ≡ true → (j : ℕ) (v : Span) → slice_get ss j ≡ Some v → test v ≡ true → v.turn < t.turn) → IsListing test ss ids → IsListing test (set ss i t) (entered_if b i ids)
-entered_by test ss ids i s t true e fails is last h = enters test ss ids i s t e fails (sym is) (last (sym is)) h
-entered_by test ss ids i s t false e fails is last h = stands test ss ids i s t e fails (sym is) h
+remains : (test : Span → Bool) (ss : List Span) (ids : List ℕ) (i : ℕ) (s t : Span) → slice_get ss i ≡ Some s → test s ≡ true → test t ≡ true → t.turn ≡ s.turn → IsListing test ss ids →
+    IsListing test (set ss i t) ids
+remains test ss ids i s t e passes passes' same h = record {
+  here = λ j among. elim (cases_Bool (eqb j i)) [
+    | inl hit ↦ (t, ap (slice_get (set ss i t)) (eqb-true j i hit) ∙ set_same ss i s t e, passes')
+    | inr miss ↦ let (v, f, p) = h.here j among in (v, set_other ss i j t (eqb-false j i miss) ∙ f, p)
+  ];
+  all = λ j v f p. elim (set_parts ss i j s t v e f) [
+    | inl here ↦ h.all j s (ap (slice_get ss) here.0 ∙ e) passes
+    | inr there ↦ h.all j v there.1 p
+  ];
+  order = pairs_map (IsSooner ss) (IsSooner (set ss i t)) ids h.order (λ j k first second sooner v w f g.
+      let (a, old, p) = old_turn ss i j s t v e same f in
+      let (b, old', q) = old_turn ss i k s t w e same g in
+      let less = sooner a b old old' in
+      omega arith);
+  many =
+      let b = count_set test ss i s t e in
+      let c : one_if (test s) ≡ 1 = ap one_if passes in
+      let d : one_if (test t) ≡ 1 = ap one_if passes' in
+      let m = h.many in
+      omega arith;
+}
+
+-- a span changed that passes as before, with the same turn
+pub alike : (test : Span → Bool) (ss : List Span) (ids : List ℕ) (i : ℕ) (s t : Span) → slice_get ss i ≡ Some s → test t ≡ test s → t.turn ≡ s.turn → IsListing test ss ids → IsListing test (set ss i t) ids
+alike test ss ids i s t e same turn h = elim (cases_Bool (test s)) [
+  | inl passes ↦ remains test ss ids i s t e passes (same ∙ passes) turn h
+  | inr fails ↦ stands test ss ids i s t e fails (same ∙ fails) h
+]
+
+-- a span changed: the list is refiled
+abbrev pub IsLast : (Span → Bool) → List Span → Span → Type 0
+IsLast test ss t = (j : ℕ) (v : Span) → slice_get ss j ≡ Some v → test v ≡ true → v.turn < t.turn
+
+pub refiled_by : (test : Span → Bool) (ss : List Span) (ids : List ℕ) (i : ℕ) (s t : Span) (was is : Bool) → slice_get ss i ≡ Some s → was ≡ test s → is ≡ test t →
+    (was ≡ true → is ≡ true → t.turn ≡ s.turn) → (was ≡ false → is ≡ true → IsLast test ss t) → IsListing test ss ids → IsListing test (set ss i t) (refiled was is i ids)
+refiled_by test ss ids i s t true true e a b same last h = remains test ss ids i s t e (sym a) (sym b) (same refl refl) h
+refiled_by test ss ids i s t true false e a b same last h = leaves test ss ids i s t e (sym a) (sym b) h
+refiled_by test ss ids i s t false true e a b same last h = enters test ss ids i s t e (sym a) (sym b) (last refl refl) h
+refiled_by test ss ids i s t false false e a b same last h = stands test ss ids i s t e (sym a) (sym b) h
+
+-- no index stands twice in a list
+pub listed_once : (test : Span → Bool) (ss : List Span) (ids : List ℕ) → IsListing test ss ids → AllPairs ◌≢◌ ids
+listed_once test ss ids h = pairs_map (IsSooner ss) ◌≢◌ ids h.order (λ j k first second sooner same.
+    let (v, f, p) = h.here j first in
+    not_sooner ss j v f (subst (λ z. IsSooner ss j z) (sym same) sooner))
+
+-- so where it stands last the list without it ends before it
+pub without_last : (i : ℕ) (ids : List ℕ) → AllPairs ◌≢◌ (ids ++ i ∷ []) → without_index i (ids ++ i ∷ []) ≡ ids
+without_last i [] once = rw (eq-eqb i i refl) refl
+without_last i (k ∷ ids) once = elim (cases_Bool (eqb k i)) [
+  | inl hit ↦ absurd (pairs_head ◌≢◌ k i (ids ++ i ∷ []) once (Contains-push ids i) (eqb-true k i hit))
+  | inr miss ↦ rw miss (ap (λ xs. k ∷ xs) (without_last i ids (pairs_tail ◌≢◌ k (ids ++ i ∷ []) once)))
+]
+
+-- the last of a list and its others
+last_pair : (R : ℕ → ℕ → Type 0) (xs : List ℕ) (a b : ℕ) → AllPairs R xs → Contains xs a → slice_get xs (length xs - 1) ≡ Some b → (a ≡ b) ⊎ R a b
+last_pair R xs a b h (k, below, e) f = elim (cases_lt k (length xs - 1)) [
+  | inl less ↦ inr (subst (λ z. R z b) e (subst (λ z. R (get_or xs k a) z) (get_or_from_slice_get xs (length xs - 1) b a f) (h k (length xs - 1) a less (omega arith))))
+  | inr more ↦
+      let same : k ≡ length xs - 1 = omega arith in
+      inl (sym e ∙ ap (λ n. get_or xs n a) same ∙ get_or_from_slice_get xs (length xs - 1) b a f)
+]
+
+-- a span that is listed, and not before another that is, is the latest
+pub listed_latest : (test : Span → Bool) (r : Root) (ids : List ℕ) (i : ℕ) → IsSound r → TestsUsed test r → IsListing test r.spans ids → Contains ids i →
+    ((j : ℕ) → Contains ids j → (j ≡ i) ⊎ IsSooner r.spans j i) → slice_get r.spans i ≡ latest test r.spans
+listed_latest test r ids i sound used h among last =
+    let (s, e, passes) = h.here i among in
+    e
+    ∙ sym (is_latest test r s sound used (record {
+      among = member_at r.spans i s e;
+      passes = passes;
+      most = λ t member good.
+          let (j, g) = place_of r.spans t member in
+          elim (last j (h.all j t g good)) [
+            | inl here ↦ let k = ap (λ (z : Span). z.turn) (of_some s t (sym e ∙ ap (slice_get r.spans) (sym here) ∙ g)) in omega arith
+            | inr sooner ↦ let less = sooner t s g e in omega arith
+          ];
+    }))
+
+-- none is the latest where none is listed
+none_latest_by : (test : Span → Bool) (ss : List Span) (o : Option Span) → IsListing test ss [] → latest test ss ≡ o → latest test ss ≡ None
+none_latest_by test ss None h e = e
+none_latest_by test ss (Some s) h e =
+    let k = latest_is test ss s e in
+    let (j, g) = place_of ss s k.among in
+    absurd (not_in_none j (h.all j s g k.passes))
+
+pub none_is_latest : (test : Span → Bool) (ss : List Span) → IsListing test ss [] → latest test ss ≡ None
+none_is_latest test ss h = none_latest_by test ss (latest test ss) h refl
+
+-- the last of a list is the latest
+empty_by : (ids : List ℕ) → last_of ids ≡ None → ids ≡ []
+empty_by [] e = refl
+empty_by (k ∷ ids) e =
+    absurd (not_some (get_or (k ∷ ids) (length ids) 0) (sym e ∙ sym (last_there (k ∷ ids) (length ids) (omega arith)) ∙ slice_get-get_or (k ∷ ids) (length ids) 0 (omega arith)))
+  where
+    last_there : (xs : List ℕ) (n : ℕ) → length xs ≡ n + 1 → slice_get xs n ≡ last_of xs
+    last_there xs n e = ap (slice_get xs) (let f : n ≡ length xs - 1 = omega arith in f)
+
+pub last_is_latest : (test : Span → Bool) (r : Root) (ids : List ℕ) (o : Option ℕ) → IsSound r → TestsUsed test r → IsListing test r.spans ids → o ≡ last_of ids → span_at r.spans o ≡ latest test r.spans
+last_is_latest test r ids None sound used h e = sym (none_is_latest test r.spans (subst (λ xs. IsListing test r.spans xs) (empty_by ids (sym e)) h))
+last_is_latest test r ids (Some i) sound used h e =
+    listed_latest test r ids i sound used h (member_at ids (length ids - 1) i (sym e)) (λ j among. last_pair (IsSooner r.spans) ids j i h.order among (sym e))
+
+-- and stands among the spans
+pub listed_within : (test : Span → Bool) (ss : List Span) (ids : List ℕ) (o : Option ℕ) → IsListing test ss ids → o ≡ last_of ids → IfSome o (λ at. at < length ss)
+listed_within test ss ids None h e = tt
+listed_within test ss ids (Some i) h e = let (s, f, p) = h.here i (member_at ids (length ids - 1) i (sym e)) in slice_get_within ss i s f

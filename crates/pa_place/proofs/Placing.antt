@@ -143,17 +143,18 @@ served_root r i s u next title turn sound e served is after =
     ∙ ap (λ n. last (record r { spans = set r.spans i next; turn = n }) (Some (title_at (with_free s) served.number))) (sym after)
     ∙ ap (λ v. last (record r { spans = set r.spans i next; turn = turn }) (Some v)) (sym served.title)
 
+-- who stands at a place of a list
+pub there : {A : Type 0} (xs : List A) (i : ℕ) → i < length xs → (x : A) × (slice_get xs i ≡ Some x)
+there [] i below = absurd (omega arith)
+there (x ∷ xs) zero below = (x, refl)
+there (x ∷ xs) (suc i) below = there xs i (omega arith)
+
 -- the listed span by its place
 pub listed_place : (class : ℕ) (r : Root) (o : Option ℕ) → span_at r.spans o ≡ listed class r.spans → IfSome o (λ at. at < length r.spans) → is_some o ≡ true → FindsPlace class r r o
 listed_place class r None e within some = absurd (true≢false (sym some))
 listed_place class r (Some at) e within some =
     let (s, f) = there r.spans at within in
     (record { span = s; root = r }, listed_found class r s (sym e ∙ f), refl, f)
-  where
-    there : (ss : List Span) (i : ℕ) → i < length ss → (s : Span) × (slice_get ss i ≡ Some s)
-    there [] i below = absurd (omega arith)
-    there (s ∷ ss) zero below = (s, refl)
-    there (s ∷ ss) (suc i) below = there ss i (omega arith)
 
 -- one of the blank spans is used
 pub blanks_popped : (class n : ℕ) (before after : List Span) (s : Span) → before ≡ after ++ s ∷ [] → HasBlanks class (n + 1) before → HasBlanks class n after

@@ -1,8 +1,11 @@
+pub mod Filed
 pub mod Listing
+pub mod Made
 pub mod Order
 pub mod Out
 pub mod Placed
 pub mod Pool
+pub mod Roomy
 pub mod Scans
 pub mod Served
 pub mod Store

@@ -1,6 +1,9 @@
--- A list of indices of the spans that pass a test.
-use Rattle.std.specs.Prelude.{◌≡◌, ◌<◌, ◌==◌, if◌then◌else◌, ℕ, Bool, true, List, [], ◌∷◌, ◌++◌, length, Some, Contains, AllPairs, count_by, slice_get}
-use Rattle.pa_record.specs.Spans.{Span}
+-- Lists of indices of the spans that pass a test.
+use Rattle.std.specs.Prelude.{◌≡◌, ◌≢◌, ◌<◌, ◌≤◌, ◌==◌, if◌then◌else◌, ℕ, Bool, true, false, List, [], ◌∷◌, ◌++◌, length, Some, Contains, AllPairs, count_by, slice_get, Vec}
+use Rattle.std.specs.Vec.{vec_capacity}
+use Rattle.std.specs.declared.alloc.Global.{Global}
+use Rattle.pa_buckets.specs.declared.spans.State.{State}
+use Rattle.pa_record.specs.Spans.{Span, is_of}
 
 -- the span at i has a lesser turn than that at j
 abbrev pub IsSooner : List Span → ℕ → ℕ → Type 0
@@ -13,14 +16,39 @@ pub record IsListing (test : Span → Bool) (ss : List Span) (ids : List ℕ) : 
   pub order : AllPairs (IsSooner ss) ids
   pub many : length ids ≡ count_by test ss
 
+-- a span of the class
+abbrev pub is_class : ℕ → Span → Bool
+is_class class s = s.class == class
+
+-- for each class its spans in a state are listed, in a list that has room for all spans of the class
+pub record AreListed (a : State) (ss : List Span) (lists : List (Vec ℕ Global)) : Type 0 where
+  pub classes : length lists ≡ 59
+  pub listing : (class : ℕ) (list : Vec ℕ Global) → slice_get lists class ≡ Some list → IsListing (is_of class a) ss list.items
+  pub room : (class : ℕ) (list : Vec ℕ Global) → slice_get lists class ≡ Some list → count_by (is_class class) ss ≤ vec_capacity list
+
+-- there is room for so many in the list of the class
+abbrev pub HasListRoom : ℕ → ℕ → List (Vec ℕ Global) → Type 0
+HasListRoom class n lists = (list : Vec ℕ Global) → slice_get lists class ≡ Some list → n ≤ vec_capacity list
+
 -- the list without an index
 abbrev pub without_index : ℕ → List ℕ → List ℕ
 without_index i [] = []
 without_index i (k ∷ ids) = if k == i then ids else k ∷ without_index i ids
 
--- the list where the span at i leaves it, or comes to its end, and as it is where it doesn't
-abbrev pub left_if : Bool → ℕ → List ℕ → List ℕ
-left_if leaves i ids = if leaves then without_index i ids else ids
+-- The list after the span at i changed, by whether it was to be listed before and is after: it leaves the list, comes to
+-- its end, or stays where it is.
+abbrev pub refiled : Bool → Bool → ℕ → List ℕ → List ℕ
+refiled true true i ids = ids
+refiled true false i ids = without_index i ids
+refiled false true i ids = ids ++ i ∷ []
+refiled false false i ids = ids
 
-abbrev pub entered_if : Bool → ℕ → List ℕ → List ℕ
-entered_if enters i ids = if enters then ids ++ i ∷ [] else ids
+-- no index stands twice in the list, and there is room for one where one comes on it
+pub record CanRefile (was is : Bool) (list : Vec ℕ Global) : Type 0 where
+  pub once : AllPairs ◌≢◌ list.items
+  pub room : was ≡ false → is ≡ true → length list.items < vec_capacity list
+
+-- the list after that, with as much room
+pub record IsRefiled (was is : Bool) (i : ℕ) (old new : Vec ℕ Global) : Type 0 where
+  pub items : new.items ≡ refiled was is i old.items
+  pub room : vec_capacity new ≡ vec_capacity old

@@ -1,15 +1,17 @@
 -- The plain store as a root, and what it keeps.
-use Rattle.std.specs.Prelude.{◌≡◌, ℕ, ◌+◌, ◌<◌, ◌≤◌, List, length, Option, Some, None, IsSome, IsNone, slice_get, All, Contains, vec_len, nat_le, if◌then◌else◌}
+use Rattle.std.specs.Prelude.{◌≡◌, ℕ, ◌+◌, ◌<◌, ◌≤◌, List, length, Option, Some, None, IsSome, IsNone, true, false, slice_get, slice_set, All, Contains, vec_len, nat_le, if◌then◌else◌}
 use Rattle.std.specs.Vec.{vec_capacity}
+use Rattle.pa_buckets.specs.declared.spans.State.{State}
 use Rattle.pa_buckets.specs.declared.spans.State.TheVariants as state
 use Rattle.pa_buckets.specs.Table.{pages_of, slots_of}
 use Rattle.pa_record.specs.declared.taken.SuperPage.{SuperPage}
 use Rattle.pa_record.specs.Pool.{PoolState}
 use Rattle.pa_record.specs.Spans.{Span, is_in}
-use Rattle.pa_record.specs.Root.{Root, Found, opened, span_for}
+use Rattle.pa_record.specs.Root.{Root, Found, in_state, turn_after, opened, span_for}
 use Rattle.pa_record.specs.Sound.{IsSound, IsSettled}
 use Rattle.pa_place.specs.declared.store.Store.{Store}
-use Rattle.pa_place.specs.Listing.{IsListing}
+use Rattle.pa_place.specs.declared.room.Room.{Room}
+use Rattle.pa_place.specs.Filed.{AreFiled, HasRoomToList}
 use Rattle.pa_place.specs.Order.{IsOrdered}
 use Rattle.pa_place.specs.Placed.{IsAsked}
 use Rattle.pa_place.specs.Served.{blank_span}
@@ -45,28 +47,49 @@ abbrev pub room_for : ℕ → Root → Option SuperPage → Option SuperPage
 room_for class r None = None
 room_for class r (Some at) = if nat_le (r.page + pages_of class) 127 then Some at else None
 
--- the empty spans are listed, in the order in which they became empty
-abbrev pub IsFiled : Root → List ℕ → Type 0
-IsFiled r empty = IsListing (is_in state.Empty) r.spans empty
+-- the spans of a store are listed by their states
+abbrev pub IsFiled : Store → Type 0
+IsFiled s = AreFiled s.spans.items s.lists
 
--- What a store keeps between calls: a sound root of which at most 16 spans are empty, whose spans are in order, a list
--- of the empty ones with room for 17, and lists that aren't too long.
+-- each span that entered a state did so before that turn
+abbrev pub HaveTurns : List Span → ℕ → Type 0
+HaveTurns ss turn = (i : ℕ) (s : Span) → slice_get ss i ≡ Some s → is_in state.None s ≡ false → s.turn < turn
+
+-- the root in which the span there entered the state
+abbrev pub EntersAt : Root → Root → ℕ → State → Type 0
+EntersAt r after at to =
+    (s : Span) → slice_get r.spans at ≡ Some s → after ≡ record r { spans = slice_set r.spans at (in_state to r.turn s); turn = turn_after to r.turn s }
+
+-- What a store keeps between calls: a sound root of which at most 16 spans are empty, whose spans are in order and listed
+-- by their states, and lists that aren't too long.
 pub record IsKept (s : Store) : Type 0 where
   pub ready : IsReady (root_of s)
   pub settled : IsSettled (root_of s)
   pub ordered : IsOrdered (root_of s)
-  pub filed : IsFiled (root_of s) s.empty.items
-  pub ring : 17 ≤ vec_capacity s.empty
+  pub filed : IsFiled s
   pub supers : length s.supers.items ≤ 2147483647
   pub maps : length s.maps.items ≤ 2147483647
   pub spans : vec_len s.spans ≤ 2147483647
 
--- there is room for so many spans more, and for one super page
-pub record HasRoomFor (s : Store) (spans : ℕ) : Type 0 where
+-- there is room for so many spans of the class more, for one super page, and for one direct map
+pub record HasRoomFor (s : Store) (class spans : ℕ) : Type 0 where
+  pub lists : HasRoomToList class (vec_len s.spans + spans) s.lists
   pub room : vec_len s.spans + spans ≤ vec_capacity s.spans
-  pub few_spans : vec_len s.spans + spans ≤ 2147483647
-  pub supers : vec_len s.supers < vec_capacity s.supers
-  pub few_supers : length s.supers.items < 2147483647
+  pub few : vec_len s.spans + spans ≤ 2147483647
+
+pub record HasSuperRoom (s : Store) : Type 0 where
+  pub room : vec_len s.supers < vec_capacity s.supers
+  pub few : length s.supers.items < 2147483647
+
+pub record HasMapRoom (s : Store) : Type 0 where
+  pub room : vec_len s.maps < vec_capacity s.maps
+  pub few : length s.maps.items < 2147483647
+
+-- there is the room that is promised, and for each take a blank span
+pub record HasRooms (s : Store) (blanks : List Span) (room : Room) : Type 0 where
+  pub takes : 1 ≤ room.takes → HasRoomFor s room.class room.takes × HasBlanks room.class room.takes blanks
+  pub super_page : room.super_page ≡ true → HasSuperRoom s
+  pub map : room.map ≡ true → HasMapRoom s
 
 -- the super pages that the pool found become the current ones
 abbrev pub opened_where : Option ℕ → ℕ → Root → Root

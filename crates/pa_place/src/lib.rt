@@ -7,15 +7,19 @@ mod lists;
 mod looks;
 mod placed;
 mod placement;
+mod plain_root;
 mod plain_span;
 mod pool_plan;
 mod returns;
+mod room;
 mod scans;
+mod states;
 mod store;
 mod takes;
 #[cfg(test)]
 mod tests;
 
-pub use placed::{Out, Placed};
+pub use placed::{Given, Made, Out, Placed};
 pub use placement::Placement;
+pub use plain_root::PlainRoot;
 pub use pool_plan::PoolPlan;

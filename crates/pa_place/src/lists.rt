@@ -1,39 +1,153 @@
-ghost use Rattle.std.specs.Prelude.{◌≡◌, ◌<◌, ◌==◌, ◌++◌, ◌∷◌, [], IfSome, IfNone, length, position};
+ghost use Rattle.std.specs.Prelude.{◌≡◌, ◌≢◌, ◌<◌, ◌≤◌, ◌==◌, [], ℕ, List, Some, AllPairs, IfOk, OnOk, length, position, slice_get, Vec as List_of};
 ghost use Rattle.std.specs.Vec.{vec_capacity};
-ghost use Rattle.pa_place.specs.Listing.{without_index, left_if, entered_if};
+ghost use Rattle.std.specs.declared.alloc.Global.{Global as Heap};
+ghost use Rattle.pa_buckets.specs.declared.spans.State.{State as SpanState};
+ghost use Rattle.pa_record.specs.Spans.{Span, same_state};
+ghost use Rattle.pa_place.specs.Listing.{AreListed, HasListRoom, CanRefile, IsRefiled, without_index};
+ghost use Rattle.pa_place.specs.Filed.{AreFiled, HasClasses, HasRoomToList, CanRefileAt, IsRefiledAt, CanFile, IsFiledAnew, last_of};
 
-// Takes the index off the list, where the span there leaves it.
-pub(crate) fn leave_list(list: &mut Vec<usize>, leaves: bool, at: usize)
-    ensures left { list.new.items ≡ left_if leaves at list.old.items }
-    ensures room { vec_capacity list.new ≡ vec_capacity list.old }
-{
-    if leaves {
-        remove_index(list, at);
+use pa_buckets::{Class, State};
+use pa_machine::OutOfMemory;
+use std::alloc::Global;
+
+// The number of classes.
+const CLASSES: usize = 59;
+
+// The most spans that are empty at once: 16 stay so, and one more may be until the oldest is decommitted.
+const MOST_LISTED: usize = 17;
+
+// Where the spans stand that are empty, and for each class where those stand that are active and those that are
+// decommitted. Each list is in the order in which its spans entered the state.
+#[derive(Drop)]
+pub(crate) struct Lists {
+    pub(crate) empty: Vec<usize>,
+    pub(crate) active: Vec<Vec<usize>>,
+    pub(crate) decommitted: Vec<Vec<usize>>,
+}
+
+impl Lists {
+    // No span is listed.
+    pub(crate) fn new(alloc: Global) -> Result<Lists, OutOfMemory>
+        ensures { IfOk result (λ lists. AreFiled [] lists) }
+    {
+        let empty = Vec::with_capacity(alloc, MOST_LISTED)?;
+        let active = no_lists(alloc)?;
+        let decommitted = no_lists(alloc)?;
+        Ok(Lists {
+            empty,
+            active,
+            decommitted,
+        })
+    }
+
+    // Makes room for so many spans of the class.
+    pub(crate) fn reserve(&mut self, class: Class, most: usize) -> Result<(), OutOfMemory>
+        requires { HasClasses self.old }
+        ensures filed { (ss : List Span) → AreFiled ss self.old → AreFiled ss self.new }
+        ensures room { OnOk result (HasRoomToList class most self.new) }
+    {
+        reserve_at(&mut self.active, class, most)?;
+        reserve_at(&mut self.decommitted, class, most)
+    }
+
+    // The span of the class that stands there went from one state into another, or stayed in it.
+    pub(crate) fn refile(&mut self, class: Class, was: State, to: State, at: usize)
+        requires { CanFile class was to self.old }
+        ensures { IsFiledAnew class was to at self.old self.new }
+    {
+        let number = class.number() as usize;
+        refile(&mut self.empty, State::Empty, was, to, at);
+        refile(&mut self.active[number], State::Active, was, to, at);
+        refile(
+            &mut self.decommitted[number],
+            State::Decommitted,
+            was,
+            to,
+            at,
+        );
     }
 }
 
-// Puts the index at the end of the list, where the span there comes on it. There is room for one.
-pub(crate) fn enter_list(list: &mut Vec<usize>, enters: bool, at: usize)
-    requires { length list.old.items < vec_capacity list.old }
-    ensures entered { list.new.items ≡ entered_if enters at list.old.items }
-    ensures room { vec_capacity list.new ≡ vec_capacity list.old }
+// An empty list for each class.
+fn no_lists(alloc: Global) -> Result<Vec<Vec<usize>>, OutOfMemory>
+    ensures { IfOk result (λ lists. (a : SpanState) → AreListed a [] lists.items) }
 {
-    if enters {
+    let mut lists = Vec::with_capacity(alloc, CLASSES)?;
+    for _class in 0..CLASSES {
+        lists.push_reserved(Vec::new(alloc));
+    }
+    Ok(lists)
+}
+
+// Makes room for so many members of the list of the class in all.
+fn reserve_at(lists: &mut Vec<Vec<usize>>, class: Class, most: usize) -> Result<(), OutOfMemory>
+    requires { length lists.old.items ≡ 59 }
+    ensures listed { (a : SpanState) (ss : List Span) → AreListed a ss lists.old.items → AreListed a ss lists.new.items }
+    ensures room { OnOk result (HasListRoom class most lists.new.items) }
+{
+    reserve(&mut lists[class.number() as usize], most)
+}
+
+// Makes room for so many members in all.
+fn reserve(list: &mut Vec<usize>, most: usize) -> Result<(), OutOfMemory>
+    ensures items { list.new.items ≡ list.old.items }
+    ensures more { vec_capacity list.old ≤ vec_capacity list.new }
+    ensures room { OnOk result (most ≤ vec_capacity list.new) }
+{
+    list.reserve(most.saturating_sub(list.len()))?;
+    Ok(())
+}
+
+// The last member of the list of the class.
+pub(crate) fn last_listed(lists: &[Vec<usize>], class: Class) -> Option<usize>
+    requires { length lists.now ≡ 59 }
+    ensures { (list : List_of ℕ Heap) → slice_get lists.now class ≡ Some list → result ≡ last_of list.items }
+{
+    lists[class.number() as usize].last().copied()
+}
+
+// The first member of the list.
+pub(crate) fn first_listed(list: &[usize]) -> Option<usize>
+    ensures { result ≡ slice_get list.now 0 }
+{
+    list.first().copied()
+}
+
+// Takes the index off the list of the spans in a state, or puts it at its end, where the span there left the state or
+// came into it.
+fn refile(list: &mut Vec<usize>, state: State, was: State, to: State, at: usize)
+    requires { CanRefile (same_state was state) (same_state to state) list.old }
+    ensures { IsRefiled (same_state was state) (same_state to state) at list.old list.new }
+{
+    let was_in = are_same(was, state);
+    let is_in = are_same(to, state);
+    if was_in && !is_in {
+        take_off(list, at);
+    } else if is_in && !was_in {
         list.push_reserved(at);
     }
 }
 
-// Takes the first index off the list, if there is one.
-pub(crate) fn take_first(list: &mut Vec<usize>) -> Option<usize>
-    ensures some { IfSome result (λ at. list.old.items ≡ at ∷ list.new.items) }
-    ensures none { IfNone result (list.old.items ≡ []) }
-    ensures same { IfNone result (list.new.items ≡ []) }
+// Whether two states are one.
+fn are_same(one: State, other: State) -> bool
+    ensures { result ≡ same_state one other }
+{
+    one == other
+}
+
+// Takes the index off the list: as a rule it is the last.
+fn take_off(list: &mut Vec<usize>, at: usize)
+    requires once { AllPairs ◌≢◌ list.old.items }
+    ensures without { list.new.items ≡ without_index at list.old.items }
     ensures room { vec_capacity list.new ≡ vec_capacity list.old }
 {
-    if list.is_empty() {
-        return None;
+    let Some(last) = list.pop() else {
+        return;
+    };
+    if last != at {
+        list.push_reserved(last);
+        remove_index(list, at);
     }
-    Some(list.remove(0))
 }
 
 // Removes the index.

@@ -1,4 +1,4 @@
-ghost use Rattle.std.specs.Prelude.{◌≡◌, ◌≢◌, ℕ, ◌+◌, ◌-◌, ◌%◌, ◌<◌, ◌≤◌, ◌^◌, IfOk, IfSome, IfNone, OnErr, All, AllPairs, Contains, length, map};
+ghost use Rattle.std.specs.Prelude.{◌≡◌, ◌≢◌, true, ℕ, ◌+◌, ◌-◌, ◌%◌, ◌<◌, ◌≤◌, ◌^◌, IfOk, IfSome, IfNone, OnErr, All, AllPairs, Contains, length, map};
 ghost use Rattle.pa_layout.specs.Pages.{super_page_at, supers_for};
 ghost use Rattle.pa_record.specs.declared.taken.Taken.{Taken};
 ghost use Rattle.pa_record.specs.Pool.{IsOneTake, gave};
@@ -6,13 +6,15 @@ ghost use Rattle.pa_record.specs.Spans.{name_of};
 ghost use Rattle.pa_record.specs.Root.{new_root, all_returned, purged, unmapped, IsOut};
 ghost use Rattle.pa_record.specs.Census.{census};
 ghost use Rattle.pa_record.specs.Sound.{IsSound, IsSettled, IsBornBelow};
+ghost use Rattle.pa_place.specs.Roomy.{HasTakes};
+ghost use Rattle.pa_place.specs.Store.{AsksWhere};
 ghost use Rattle.pa_place.specs.Out.{IsOutAs, IsNotOut};
-ghost use Rattle.pa_place.specs.Placed.{FillDid, MapDid, IsEmptyIfRefused, IsStep};
+ghost use Rattle.pa_place.specs.Placed.{FillDid, MapDid, IsEmptyIfRefused, IsStep, mapped_by};
 
-use crate::blanks::Blanks;
 use crate::placed::{Out, Placed};
+use crate::plain_root::PlainRoot;
 use crate::pool_plan::PoolPlan;
-use crate::store::Store;
+use arrayvec::ArrayVec;
 use pa_buckets::Class;
 use pa_layout::{super_page_of, supers_for};
 use pa_machine::{OutOfMemory, SlotName, Title};
@@ -24,9 +26,7 @@ use std::marker::Model;
 /// A list that would have more than 2,147,483,647 members is refused as want of memory.
 #[derive(Drop)]
 pub struct Placement {
-    store: Store,
-    blanks: Blanks,
-    alloc: Global,
+    root: PlainRoot,
 }
 
 impl Model for Placement {
@@ -34,11 +34,7 @@ impl Model for Placement {
 
     ghost Value = { Root };
 
-    ghost use Rattle.pa_place.specs.Store.{root_of, IsKept};
-
-    ghost view = { λ p. root_of p.store };
-
-    ghost invariant = { λ p. IsKept p.store };
+    ghost view = { λ p. p.root.root };
 }
 
 impl Placement {
@@ -46,13 +42,8 @@ impl Placement {
     pub fn new(alloc: Global) -> Result<Placement, OutOfMemory>
         ensures start { IfOk result (λ p. p ≡ new_root) }
     {
-        let store = Store::new(alloc)?;
-        let blanks = Blanks::new(alloc)?;
-        Ok(Placement {
-            store,
-            blanks,
-            alloc,
-        })
+        let root = PlainRoot::new(alloc)?;
+        Ok(Placement { root })
     }
 
     /// What is known of every placement: its root is sound, and at most 16 of its spans are empty.
@@ -60,7 +51,7 @@ impl Placement {
         ensures sound { IsSound self.now }
         ensures settled { IsSettled self.now }
     {
-        let _page = self.store.page;
+        self.root.is_sound();
     }
 
     /// Takes `want` slots of the class, 1 to 8, or as many as there are. Only the first take may ask the pool, for one super
@@ -83,14 +74,13 @@ impl Placement {
         ensures step { IsStep pool.old.entries pool.new.entries self.old self.new }
         ensures maps { self.new.maps ≡ self.old.maps }
     {
-        let mut blanks = self.blanks.take(self.alloc, class, want)?;
-        self.store.make_room(want)?;
-        let entry = self.store.ask(pool, class);
-        let titles = self.store.takes(class, want, &mut blanks);
-        self.blanks.put(class, blanks);
+        self.root.is_sound();
+        self.root.ready(class, want)?;
+        let entry = ask(&mut self.root, pool, class);
+        let given = self.root.take(class, want);
         Ok(Placed {
             pool: entry,
-            titles,
+            titles: given.titles,
         })
     }
 
@@ -115,10 +105,10 @@ impl Placement {
         ensures turn { self.new.turn ≡ self.old.turn }
         ensures step { IsStep pool.old.entries pool.new.entries self.old self.new }
     {
-        self.store.make_map_room()?;
+        self.root.ready_map()?;
         let entry = pool.entries();
         let found = pool.take(supers);
-        let titles = self.store.map(found, entry, slot);
+        let titles = map_found(&mut self.root, found, entry, slot);
         Ok(Placed {
             pool: Some(entry),
             titles,
@@ -135,7 +125,7 @@ impl Placement {
         ensures step { (n : ℕ) → IsStep n n self.old self.new }
         ensures maps { self.new.maps ≡ self.old.maps }
     {
-        self.store.give_all(titles);
+        self.root.give(titles);
     }
 
     /// Gives the super pages of a direct map back to the pool, and tells the pool's entry. The map is one of this root, and
@@ -151,7 +141,7 @@ impl Placement {
     {
         let entry = pool.entries();
         pool.give(super_page_of(title.start), supers_for(title.len));
-        self.store.unmap(title);
+        self.root.unmap(title);
         entry
     }
 
@@ -162,7 +152,7 @@ impl Placement {
         ensures step { (n : ℕ) → IsStep n n self.old self.new }
         ensures maps { self.new.maps ≡ self.old.maps }
     {
-        self.store.purge();
+        self.root.purge();
     }
 
     /// The slot of a span, or the direct map, that has that name and is out of this root. `None` exactly where none is.
@@ -170,13 +160,51 @@ impl Placement {
         ensures some { IfSome result (IsOutAs self.now slot) }
         ensures none { IfNone result (IsNotOut self.now slot) }
     {
-        self.store.out(slot)
+        self.root.out(slot)
     }
 
     /// What the root has: its free slots, its bytes, and its spans by their states.
     pub fn census(&self) -> Census
         ensures { result ≡ census self.now }
     {
-        self.store.census()
+        self.root.census()
     }
+}
+
+// Asks the pool for a super page where no span has a slot of the class left and the current super page has no room for a new
+// one. What the pool gives becomes the current one. Tells the pool's entry, if it was asked.
+pub(crate) fn ask(root: &mut PlainRoot, pool: &mut PoolPlan, class: Class) -> Option<u32>
+    requires room { root.old.room.super_page ≡ true }
+    requires entries { pool.old.entries < 2 ^ 32 - 1 }
+    requires born { IsBornBelow pool.old.entries root.old.root }
+    ensures asks { AsksWhere class pool.old pool.new root.old.root root.new.root result }
+    ensures takes { (want : ℕ) → HasTakes class want root.old.room → HasTakes class want root.new.room }
+    ensures step { IsStep pool.old.entries pool.new.entries root.old.root root.new.root }
+    ensures turn { root.new.root.turn ≡ root.old.root.turn }
+    ensures maps { root.new.root.maps ≡ root.old.root.maps }
+{
+    if !root.asks(class) {
+        return None;
+    }
+    let entry = pool.entries();
+    if let Some(first) = pool.take(1) {
+        root.open(first, entry);
+    }
+    Some(entry)
+}
+
+// Makes the direct map in the super pages that this entry of the pool found, if it found some.
+fn map_found(root: &mut PlainRoot, found: Option<u32>, entry: u32, slot: u32) -> ArrayVec<Title, 16>
+    requires room { root.old.room.map ≡ true }
+    requires low { IfSome found (λ first. first < 64) }
+    requires born { IsBornBelow entry root.old.root }
+    ensures mapped { mapped_by slot entry found root.old.root ≡ record { root = root.new.root; titles = result.items } }
+    ensures turn { root.new.root.turn ≡ root.old.root.turn }
+    ensures step { IsStep entry (entry + 1) root.old.root root.new.root }
+{
+    let mut titles = ArrayVec::new();
+    if let Some(first) = found {
+        titles.push(root.map(first, slot, entry));
+    }
+    titles
 }

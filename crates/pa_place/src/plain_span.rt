@@ -4,9 +4,13 @@ ghost use Rattle.pa_buckets.specs.Table.{slot_of, slots_of};
 ghost use Rattle.pa_record.specs.Spans.{bytes_of, title_at, holds, number_in, numbers, provisioned_more, with_free, with_front, without_front, without_pages, state_in_use, state_back, is_in, is_of};
 ghost use Rattle.pa_record.specs.Root.{in_state, turn_after, IsOutOf};
 ghost use Rattle.pa_record.specs.Sound.{IsCounted};
+ghost use Rattle.arrayvec.specs.ArrayVec.{array_vec_len};
+ghost use Rattle.pa_place.specs.Made.{made_from};
 ghost use Rattle.pa_place.specs.Order.{starts_after};
 ghost use Rattle.pa_place.specs.Served.{blank_span, stands_at, IsServed, IsLow};
 
+use crate::placed::Made;
+use arrayvec::ArrayVec;
 use pa_buckets::{Class, State, slot_size, span_of};
 use pa_layout::{PARTITION_PAGE, SYSTEM_PAGE};
 use pa_machine::{OutOfMemory, SlotName, Title};
@@ -79,10 +83,10 @@ impl PlainSpan {
         self.class
     }
 
-    pub(crate) fn turn(&self) -> u64
-        ensures { result ≡ self.now.turn }
+    pub(crate) fn state(&self) -> State
+        ensures { result ≡ self.now.state }
     {
-        self.turn
+        self.state
     }
 
     // The system pages that are committed.
@@ -103,13 +107,6 @@ impl PlainSpan {
         ensures { result ≡ is_in state self.now }
     {
         self.state == state
-    }
-
-    // Whether it is a span of the class in that state.
-    pub(crate) fn is_of(&self, class: Class, state: State) -> bool
-        ensures { result ≡ is_of class state self.now }
-    {
-        self.class == class && self.is_in(state)
     }
 
     // Whether the slot of that name lies in it.
@@ -161,7 +158,8 @@ impl PlainSpan {
         requires counted { IsCounted self.now }
         requires low { IsLow self.now }
         requires held { holds name self.now ≡ true }
-        ensures some { IfSome result (λ t. (t ≡ title_at self.now (number_in self.now name)) × IsOutOf self.now name (number_in self.now name)) }
+        ensures some { IfSome result
+            (λ t. (t ≡ title_at self.now (number_in self.now name)) × IsOutOf self.now name (number_in self.now name)) }
         ensures none { IfNone result ((number : ℕ) → IsOutOf self.now name number → ⊥) }
     {
         let number = self.number_of(name);
@@ -186,6 +184,29 @@ impl PlainSpan {
         self.make_front();
         let number = self.take_front();
         self.title(number)
+    }
+
+    // The slots that were ever made.
+    pub(crate) fn made(&self) -> u32
+        ensures { result ≡ self.now.made }
+    {
+        self.made
+    }
+
+    // Tells the batch of slots that were made beyond the first `before`, if some were. All lie in the region.
+    pub(crate) fn tell_made(&self, before: u32, made: &mut ArrayVec<Made, 8>)
+        requires low { IsLow self.now }
+        requires most { self.now.made ≤ slots_of self.now.class }
+        requires few { array_vec_len made.old < 8 }
+        ensures batch { made.new.items ≡ made.old.items ++ made_from before self.now }
+        ensures more { array_vec_len made.new ≤ array_vec_len made.old + 1 }
+    {
+        if before < self.made {
+            made.push(Made {
+                first: self.title(before),
+                count: self.made - before,
+            });
+        }
     }
 
     // Provisions the span where its list is empty.

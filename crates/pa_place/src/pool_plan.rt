@@ -31,7 +31,8 @@ impl Model for PoolPlan {
 
     ghost view = { λ p. record { supers = p.supers; entries = p.entries; taken = p.taken.items } };
 
-    ghost invariant = { λ p. (64 ≤ vec_capacity p.taken) × IsSoundPlan (record { supers = p.supers; entries = p.entries; taken = p.taken.items }) };
+    ghost invariant = { λ p. (64 ≤ vec_capacity p.taken)
+        × IsSoundPlan (record { supers = p.supers; entries = p.entries; taken = p.taken.items }) };
 }
 
 impl PoolPlan {
@@ -94,6 +95,13 @@ impl PoolPlan {
         self.taken
             .iter()
             .any(|run| run.first == first && run.count == count)
+    }
+
+    /// The runs that are taken, in the order of their entries.
+    pub fn runs(&self) -> &[Taken]
+        ensures { result.now ≡ self.now.taken }
+    {
+        self.taken.as_slice()
     }
 
     // The first of the lowest `count` super pages that are free.

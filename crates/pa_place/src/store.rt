@@ -1,15 +1,12 @@
 ghost use Rattle.std.specs.Prelude.{◌≡◌, ◌+◌, ◌<◌, ◌≤◌, ◌-◌, ◌^◌, OnOk, IfOk, IfSome, length, is_some, position, ◌==◌, ◌&&◌, vec_len};
 ghost use Rattle.std.specs.Vec.{vec_capacity};
-ghost use Rattle.pa_record.specs.Root.{new_root, span_for, opened, unmapped, without_map};
+ghost use Rattle.pa_record.specs.Root.{new_root, span_for, opened, mapped, unmapped, without_map};
 ghost use Rattle.pa_record.specs.Spans.{name_of};
-ghost use Rattle.pa_place.specs.Placed.{mapped_by};
-ghost use Rattle.pa_place.specs.Store.{root_of, HasLowSupers, IsReady, HasRoomFor, HasBlanks, AsksWhere, IsFiled};
+ghost use Rattle.pa_place.specs.Placed.{map_in};
+ghost use Rattle.pa_place.specs.Store.{root_of, IsReady, HasRoomFor, HasSuperRoom, HasMapRoom, IsFiled};
 
+use crate::lists::Lists;
 use crate::plain_span::PlainSpan;
-use crate::pool_plan::PoolPlan;
-use crate::returns::MOST_EMPTY;
-use crate::scans::place_listed;
-use arrayvec::ArrayVec;
 use pa_buckets::Class;
 use pa_layout::page_start;
 use pa_machine::{OutOfMemory, SlotName, Title};
@@ -28,35 +25,35 @@ pub(crate) struct Store {
     pub(crate) turn: u64,
     pub(crate) maps: Vec<Title>,
     pub(crate) spans: Vec<PlainSpan>,
-    // where the empty spans stand, in the order in which they became empty
-    pub(crate) empty: Vec<usize>,
+    pub(crate) lists: Lists,
 }
 
 impl Store {
     // A root with no super page.
     pub(crate) fn new(alloc: Global) -> Result<Store, OutOfMemory>
         ensures start { IfOk result (λ s. root_of s ≡ new_root) }
-        ensures filed { IfOk result (λ s. IsFiled (root_of s) s.empty.items) }
-        ensures ring { IfOk result (λ s. 17 ≤ vec_capacity s.empty) }
+        ensures filed { IfOk result (λ s. IsFiled s) }
     {
         let supers = Vec::with_capacity(alloc, 1)?;
-        let empty = Vec::with_capacity(alloc, MOST_EMPTY + 1)?;
+        let lists = Lists::new(alloc)?;
         Ok(Store {
             supers,
             page: 0,
             turn: 0,
             maps: Vec::new(alloc),
             spans: Vec::new(alloc),
-            empty,
+            lists,
         })
     }
 
-    // Makes room for so many spans more and for one super page. There is none in lists that are too long.
-    pub(crate) fn make_room(&mut self, spans: u32) -> Result<(), OutOfMemory>
+    // Makes room for so many spans of the class more and for one super page. There is none in lists that are too long.
+    pub(crate) fn make_room(&mut self, class: Class, spans: u32) -> Result<(), OutOfMemory>
+        requires { IsFiled self.old }
         ensures same { root_of self.new ≡ root_of self.old }
-        ensures empty { self.new.empty ≡ self.old.empty }
+        ensures filed { IsFiled self.new }
         ensures many { vec_len self.new.spans ≡ vec_len self.old.spans }
-        ensures room { OnOk result (HasRoomFor self.new spans) }
+        ensures room { OnOk result (HasRoomFor self.new class spans) }
+        ensures super_page { OnOk result (HasSuperRoom self.new) }
     {
         let spans = spans as usize;
         if self.supers.len() >= MOST_MEMBERS
@@ -66,16 +63,16 @@ impl Store {
         }
         self.supers.reserve(1)?;
         self.spans.reserve(spans)?;
-        Ok(())
+        let most = self.spans.len() + spans;
+        self.lists.reserve(class, most)
     }
 
     // Makes room for one direct map.
     pub(crate) fn make_map_room(&mut self) -> Result<(), OutOfMemory>
         ensures same { root_of self.new ≡ root_of self.old }
-        ensures empty { self.new.empty ≡ self.old.empty }
+        ensures lists { self.new.lists ≡ self.old.lists }
         ensures many { vec_len self.new.spans ≡ vec_len self.old.spans }
-        ensures room { OnOk result (vec_len self.new.maps < vec_capacity self.new.maps) }
-        ensures few { OnOk result (length self.new.maps.items < 2147483647) }
+        ensures room { OnOk result (HasMapRoom self.new) }
     {
         if self.maps.len() >= MOST_MEMBERS {
             return Err(OutOfMemory);
@@ -84,42 +81,22 @@ impl Store {
         Ok(())
     }
 
-    // Asks the pool for a super page where no span has a slot of the class left and the current super page has no room for
-    // a new one. What the pool gives becomes the current one. Tells the pool's entry, if it was asked.
-    pub(crate) fn ask(&mut self, pool: &mut PoolPlan, class: Class) -> Option<u32>
-        requires ready { IsReady (root_of self.old) }
-        requires entries { pool.old.entries < 2 ^ 32 - 1 }
-        requires room { vec_len self.old.supers < vec_capacity self.old.supers }
-        ensures asks { AsksWhere class pool.old pool.new (root_of self.old) (root_of self.new) result }
-        ensures low { HasLowSupers (root_of self.new) }
-        ensures empty { self.new.empty ≡ self.old.empty }
-        ensures spans { vec_len self.new.spans ≡ vec_len self.old.spans }
-        ensures room { vec_capacity self.new.spans ≡ vec_capacity self.old.spans }
-    {
-        if self.has_span(class) {
-            return None;
-        }
-        let entry = pool.entries();
-        if let Some(first) = pool.take(1) {
-            self.open(first, entry);
-        }
-        Some(entry)
-    }
-
     // Whether a slot of the class can be taken without asking the pool.
-    fn has_span(&self, class: Class) -> bool
-        requires { IsReady (root_of self.now) }
+    pub(crate) fn has_span(&self, class: Class) -> bool
+        requires ready { IsReady (root_of self.now) }
+        requires filed { IsFiled self.now }
         ensures { result ≡ is_some (span_for class (root_of self.now)) }
     {
-        place_listed(&self.spans, class).is_some() || self.room_for(class).is_some()
+        self.listed(class).is_some() || self.room_for(class).is_some()
     }
 
     // Makes the super page, which this entry of the pool took, the current one.
-    fn open(&mut self, first: u32, entry: u32)
+    pub(crate) fn open(&mut self, first: u32, entry: u32)
         requires room { vec_len self.old.supers < vec_capacity self.old.supers }
         ensures opened { root_of self.new ≡ opened first entry (root_of self.old) }
         ensures spans { self.new.spans ≡ self.old.spans }
-        ensures empty { self.new.empty ≡ self.old.empty }
+        ensures maps { self.new.maps ≡ self.old.maps }
+        ensures lists { self.new.lists ≡ self.old.lists }
     {
         self.supers.push_reserved(SuperPage {
             number: first,
@@ -128,31 +105,28 @@ impl Store {
         self.page = 1;
     }
 
-    // Makes the direct map in the super pages that this entry of the pool found. There is room for one.
-    pub(crate) fn map(&mut self, found: Option<u32>, entry: u32, slot: u32) -> ArrayVec<Title, 16>
+    // Makes the direct map in the super pages from `first` on, which this entry of the pool took. There is room for one.
+    pub(crate) fn map(&mut self, first: u32, slot: u32, entry: u32) -> Title
         requires room { vec_len self.old.maps < vec_capacity self.old.maps }
-        requires low { IfSome found (λ first. first < 64) }
-        ensures mapped { mapped_by slot entry found (root_of self.old) ≡ record { root = root_of self.new; titles = result.items } }
-        ensures empty { self.new.empty ≡ self.old.empty }
+        requires low { first < 64 }
+        ensures title { result ≡ map_in first slot entry }
+        ensures mapped { root_of self.new ≡ mapped result (root_of self.old) }
+        ensures lists { self.new.lists ≡ self.old.lists }
         ensures many { vec_len self.new.spans ≡ vec_len self.old.spans }
     {
-        let mut titles = ArrayVec::new();
-        if let Some(first) = found {
-            let title = Title {
-                start: page_start(first, 1),
-                len: slot,
-                born: entry,
-            };
-            self.maps.push_reserved(title);
-            titles.push(title);
-        }
-        titles
+        let title = Title {
+            start: page_start(first, 1),
+            len: slot,
+            born: entry,
+        };
+        self.maps.push_reserved(title);
+        title
     }
 
     // Removes the direct map.
     pub(crate) fn unmap(&mut self, title: Title)
         ensures unmapped { root_of self.new ≡ unmapped (name_of title) (root_of self.old) }
-        ensures empty { self.new.empty ≡ self.old.empty }
+        ensures lists { self.new.lists ≡ self.old.lists }
         ensures many { vec_len self.new.spans ≡ vec_len self.old.spans }
     {
         let name = SlotName {

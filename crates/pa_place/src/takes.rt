@@ -1,19 +1,21 @@
-ghost use Rattle.std.specs.Prelude.{◌≡◌, ℕ, ◌+◌, ◌<◌, ◌≤◌, ◌^◌, Some, IfSome, option_copied, slice_get, vec_len};
+ghost use Rattle.std.specs.Prelude.{◌≡◌, [], ℕ, ◌+◌, ◌<◌, ◌≤◌, ◌^◌, ◌++◌, Some, IfSome, IfNone, option_copied, slice_get, vec_len};
 ghost use Rattle.std.specs.Vec.{vec_capacity};
 ghost use Rattle.pa_buckets.specs.Table.{pages_of};
 ghost use Rattle.pa_record.specs.Spans.{Span};
-ghost use Rattle.pa_record.specs.Root.{Took, current, new_span, with_span, front_taken, one_take, takes};
+ghost use Rattle.pa_record.specs.Root.{Took, current, new_span, with_span, front_taken, one_take, span_for, takes};
 ghost use Rattle.pa_record.specs.Spans.{with_free};
 ghost use Rattle.pa_place.specs.Order.{IsOrdered};
 ghost use Rattle.pa_place.specs.Served.{blank_span};
+ghost use Rattle.arrayvec.specs.ArrayVec.{array_vec_len};
+ghost use Rattle.pa_place.specs.Filed.{HasRoomToList};
+ghost use Rattle.pa_place.specs.Made.{made_from, cut_in, takes_cut};
 ghost use Rattle.pa_place.specs.Store.{root_of, IsReady, IsUsableAt, FindsPlace, HasBlanks, room_for, IsFiled};
 
-use crate::lists::leave_list;
+use crate::placed::Made;
 use crate::plain_span::PlainSpan;
-use crate::scans::place_listed;
 use crate::store::Store;
 use arrayvec::ArrayVec;
-use pa_buckets::{Class, State, span_of};
+use pa_buckets::{Class, span_of};
 use pa_layout::page_start;
 use pa_machine::Title;
 use pa_record::SuperPage;
@@ -23,30 +25,34 @@ const LAST_PAGE: u32 = 127;
 
 impl Store {
     // Takes until so many slots are taken or a take finds none. As many blank spans lie ready, and there is room for them.
+    // Tells the batches of slots that were made.
     pub(crate) fn takes(
         &mut self,
         class: Class,
         want: u32,
         blanks: &mut Vec<PlainSpan>,
+        made: &mut ArrayVec<Made, 8>,
     ) -> ArrayVec<Title, 16>
+        requires none { made.old.items ≡ [] }
         requires real { class < 59 }
         requires few { want ≤ 8 }
         requires ready { IsReady (root_of self.old) }
         requires ordered { IsOrdered (root_of self.old) }
-        requires filed { IsFiled (root_of self.old) self.old.empty.items }
+        requires filed { IsFiled self.old }
         requires turn { self.old.turn < 2 ^ 62 }
         requires blanks { HasBlanks class want blanks.old.items }
         requires room { vec_len self.old.spans + want ≤ vec_capacity self.old.spans }
+        requires lists { HasRoomToList class (vec_len self.old.spans + want) self.old.lists }
         ensures filled { takes class want (root_of self.old) ≡ record { root = root_of self.new; titles = result.items } }
+        ensures cut { made.new.items ≡ takes_cut class want (root_of self.old) }
         ensures many { vec_len self.new.spans ≤ vec_len self.old.spans + want }
         ensures blanks { HasBlanks class 0 blanks.new.items }
         ensures ordered { IsOrdered (root_of self.new) }
-        ensures filed { IsFiled (root_of self.new) self.new.empty.items }
-        ensures ring { vec_capacity self.new.empty ≡ vec_capacity self.old.empty }
+        ensures filed { IsFiled self.new }
     {
         let mut titles = ArrayVec::new();
         for _taken in 0..want {
-            match self.take(class, blanks) {
+            match self.take(class, blanks, made) {
                 Some(title) => titles.push(title),
                 None => break,
             }
@@ -56,24 +62,34 @@ impl Store {
 
     // One take of a slot of the class that may not ask the pool. Some blank spans of the class lie ready, and there is room
     // for one span more.
-    fn take(&mut self, class: Class, blanks: &mut Vec<PlainSpan>) -> Option<Title>
+    fn take(
+        &mut self,
+        class: Class,
+        blanks: &mut Vec<PlainSpan>,
+        made: &mut ArrayVec<Made, 8>,
+    ) -> Option<Title>
+        requires few { array_vec_len made.old < 8 }
         requires real { class < 59 }
         requires ready { IsReady (root_of self.old) }
         requires ordered { IsOrdered (root_of self.old) }
-        requires filed { IsFiled (root_of self.old) self.old.empty.items }
+        requires filed { IsFiled self.old }
         requires turn { self.old.turn < 2 ^ 63 }
         requires blanks { HasBlanks class 1 blanks.old.items }
         requires room { vec_len self.old.spans < vec_capacity self.old.spans }
+        requires lists { HasRoomToList class (vec_len self.old.spans + 1) self.old.lists }
         ensures took { one_take class (root_of self.old) ≡ record { root = root_of self.new; title = result } }
+        ensures cut { IfSome result (λ _. made.new.items ≡ made.old.items ++ cut_in (span_for class (root_of self.old))) }
+        ensures same { IfNone result (made.new.items ≡ made.old.items) }
+        ensures more { array_vec_len made.new ≤ array_vec_len made.old + 1 }
         ensures ordered { IsOrdered (root_of self.new) }
-        ensures filed { IsFiled (root_of self.new) self.new.empty.items }
-        ensures ring { vec_capacity self.new.empty ≡ vec_capacity self.old.empty }
+        ensures filed { IsFiled self.new }
+        ensures lists { (n : ℕ) → HasRoomToList class n self.old.lists → HasRoomToList class n self.new.lists }
         ensures blanks { (n : ℕ) → HasBlanks class (n + 1) blanks.old.items → HasBlanks class n blanks.new.items }
         ensures many { vec_len self.new.spans ≤ vec_len self.old.spans + 1 }
         ensures room { vec_capacity self.new.spans ≡ vec_capacity self.old.spans }
     {
         let at = self.place_for(class, blanks)?;
-        Some(self.take_at(at))
+        Some(self.take_at(at, made))
     }
 
     // Where the span stands from which a slot of the class is taken. It is made where none is listed and the current super
@@ -81,18 +97,19 @@ impl Store {
     fn place_for(&mut self, class: Class, blanks: &mut Vec<PlainSpan>) -> Option<usize>
         requires ready { IsReady (root_of self.old) }
         requires ordered { IsOrdered (root_of self.old) }
-        requires filed { IsFiled (root_of self.old) self.old.empty.items }
+        requires filed { IsFiled self.old }
         requires blanks { HasBlanks class 1 blanks.old.items }
         requires room { vec_len self.old.spans < vec_capacity self.old.spans }
+        requires lists { HasRoomToList class (vec_len self.old.spans + 1) self.old.lists }
         ensures place { FindsPlace class (root_of self.old) (root_of self.new) result }
         ensures ordered { IsOrdered (root_of self.new) }
-        ensures filed { IsFiled (root_of self.new) self.new.empty.items }
-        ensures ring { vec_capacity self.new.empty ≡ vec_capacity self.old.empty }
+        ensures filed { IsFiled self.new }
+        ensures lists { (n : ℕ) → HasRoomToList class n self.old.lists → HasRoomToList class n self.new.lists }
         ensures blanks { (n : ℕ) → HasBlanks class (n + 1) blanks.old.items → HasBlanks class n blanks.new.items }
         ensures many { vec_len self.new.spans ≤ vec_len self.old.spans + 1 }
         ensures room { vec_capacity self.new.spans ≡ vec_capacity self.old.spans }
     {
-        let listed = place_listed(&self.spans, class);
+        let listed = self.listed(class);
         if listed.is_some() {
             return listed;
         }
@@ -122,7 +139,7 @@ impl Store {
         requires number { at.number < 64 }
         requires page { self.old.page + pages_of class ≤ 127 }
         requires room { vec_len self.old.spans < vec_capacity self.old.spans }
-        ensures empty { self.new.empty ≡ self.old.empty }
+        ensures lists { self.new.lists ≡ self.old.lists }
         ensures after { root_of self.new ≡ with_span (new_span class at self.old.page) (root_of self.old) }
         ensures many { vec_len self.new.spans ≡ vec_len self.old.spans + 1 }
         ensures room { vec_capacity self.new.spans ≡ vec_capacity self.old.spans }
@@ -132,26 +149,32 @@ impl Store {
         self.spans.push_reserved(span);
     }
 
-    // Takes a slot from the span there, which has one that isn't out.
-    fn take_at(&mut self, at: usize) -> Title
+    // Takes a slot from the span there, which has one that isn't out. Tells the batch of slots that it made, if it made
+    // some.
+    fn take_at(&mut self, at: usize, made: &mut ArrayVec<Made, 8>) -> Title
+        requires few { array_vec_len made.old < 8 }
         requires ready { IsReady (root_of self.old) }
         requires ordered { IsOrdered (root_of self.old) }
-        requires filed { IsFiled (root_of self.old) self.old.empty.items }
+        requires filed { IsFiled self.old }
         requires usable { IsUsableAt (root_of self.old) at }
         requires turn { self.old.turn < 2 ^ 63 }
-        ensures took { (s : Span) → slice_get self.old.spans.items at ≡ Some s → front_taken (with_free s).free (with_free s) (root_of self.old) ≡ record { root = root_of self.new; title = Some result } }
+        ensures took { (s : Span) → slice_get self.old.spans.items at ≡ Some s →
+            front_taken (with_free s).free (with_free s) (root_of self.old) ≡ record { root = root_of self.new; title = Some result } }
+        ensures cut { (s : Span) → slice_get self.old.spans.items at ≡ Some s →
+            made.new.items ≡ made.old.items ++ made_from s.made (with_free s) }
+        ensures more { array_vec_len made.new ≤ array_vec_len made.old + 1 }
         ensures ordered { IsOrdered (root_of self.new) }
-        ensures filed { IsFiled (root_of self.new) self.new.empty.items }
-        ensures ring { vec_capacity self.new.empty ≡ vec_capacity self.old.empty }
+        ensures filed { IsFiled self.new }
+        ensures lists { (class n : ℕ) → HasRoomToList class n self.old.lists → HasRoomToList class n self.new.lists }
         ensures many { vec_len self.new.spans ≡ vec_len self.old.spans }
         ensures room { vec_capacity self.new.spans ≡ vec_capacity self.old.spans }
     {
         let span = &mut self.spans[at];
-        let was_empty = span.is_in(State::Empty);
+        let before = span.made();
         let title = span.take_slot();
+        span.tell_made(before, made);
         let state = span.state_in_use();
-        self.turn = span.enter(state, self.turn);
-        leave_list(&mut self.empty, was_empty, at);
+        self.enter(at, state);
         title
     }
 }

@@ -1,7 +1,8 @@
 ghost use Rattle.std.specs.Prelude.{◌≡◌, ℕ, ◌+◌, ◌*◌, ◌<◌, ◌≤◌, [], OnOk};
 ghost use Rattle.pa_place.specs.Tests.{IsYoung, HasOnlyMaps};
 
-use crate::{Out, Placement, PoolPlan};
+use crate::placement::ask;
+use crate::{Out, Placement, PlainRoot, PoolPlan};
 use pa_buckets::Class;
 use pa_machine::SlotName;
 use pa_record::{Census, Tally};
@@ -287,5 +288,54 @@ fn as_many_direct_maps_as_there_are(rt: HostRuntime) -> Result<(), Fail> {
     let census = placement.census();
     assert_eq!(rt; census.committed, 128188416);
     assert_eq!(rt; census.reserved, 134217728);
+    Ok(())
+}
+
+// A take of `want` slots of the class, all of which there are, with room that is made before. What it makes begins at these
+// bytes, so many slots each. At most so many steps were made before.
+fn take(
+    rt: &impl Abort,
+    root: &mut PlainRoot,
+    pool: &mut PoolPlan,
+    steps: u32,
+    class: u32,
+    want: u32,
+    made: &[(u32, u32)],
+) -> Result<(), Fail>
+    requires young { IsYoung steps pool.old.entries root.old.root }
+    requires few { steps < 10000 }
+    requires some { 1 ≤ want }
+    requires most { want ≤ 8 }
+    ensures young { OnOk result (IsYoung (steps + 1) pool.new.entries root.new.root) }
+{
+    let class = Class::of(class).ok_or("no such class")?;
+    root.ready(class, want)?;
+    ask(root, pool, class);
+    let given = root.take(class, want);
+    assert_eq!(rt; given.titles.as_slice().len(), want as usize);
+    assert_eq!(rt; given.made.as_slice().len(), made.len());
+    for (batch, told) in given.made.as_slice().iter().zip(made) {
+        assert_eq!(rt; batch.first.start, told.0);
+        assert_eq!(rt; batch.count, told.1);
+    }
+    Ok(())
+}
+
+// A class of many slots in a page makes those of a page at once, and a class of one slot in a span one with each take.
+#[test]
+fn what_takes_make(rt: HostRuntime) -> Result<(), Fail> {
+    let mut pool = PoolPlan::new(rt.alloc(), 1)?;
+    let mut root = PlainRoot::new(rt.alloc())?;
+    take(&rt, &mut root, &mut pool, 0, 0, 8, &[(16384, 256)])?;
+    take(&rt, &mut root, &mut pool, 1, 0, 8, &[])?;
+    take(
+        &rt,
+        &mut root,
+        &mut pool,
+        2,
+        35,
+        2,
+        &[(32768, 1), (49152, 1)],
+    )?;
     Ok(())
 }

@@ -8,7 +8,7 @@ use Rattle.pa_record.specs.declared.entry.Entry.{Entry}
 use Rattle.pa_record.specs.declared.entry.Seen.{Seen}
 use Rattle.pa_record.specs.declared.entry.Answer.{Answer}
 use Rattle.pa_record.specs.declared.entry.Answer.TheVariants.{Made, Done, Value, Dangling, SecondFree, NotOwner, StaleReset, StaleUse, Nothing, Filled, NotRef, Shared, OutOfRange, TooLarge, Full, Swapped, Purged}
-use Rattle.pa_record.specs.Fits.{Is32, Is64, SeenFits, AnswerFits, EntryFits}
+use Rattle.pa_record.specs.Bits.{Is32, Is64, SeenInBits, AnswerInBits, EntryInBits}
 use Rattle.pa_record.specs.Text.{spaced_slot as slot_part, seen_text, answer_text, entry_text}
 use Rattle.pa_record.proofs.Same.{same_seen, same_entry}
 use Rattle.pa_record.proofs.Fields.{letters, cut4, cut6, cut7, wide, same_rest, spaced_number, last_number, spaced_slot, split_seen, split_seen_if}
@@ -16,7 +16,7 @@ use Rattle.pa_record.proofs.Fields.{letters, cut4, cut6, cut7, wide, same_rest, 
 made_cut : (s : Seen) (n : ℕ) (x : List ℕ) → answer_text (Made s n) ++ x ≡ codes "made" ++ (slot_part s ++ (codes " " ++ (decimal n ++ (codes " " ++ (hex 16 s.found.0 ++ x)))))
 made_cut s n x = cut6 (codes "made") (slot_part s) (codes " ") (decimal n) (codes " ") (hex 16 s.found.0) x
 
-split_made : (s t : Seen) (m n : ℕ) (x y : List ℕ) → SeenFits s → Is32 m → SeenFits t → Is32 n → answer_text (Made s m) ++ 10 ∷ x ≡ answer_text (Made t n) ++ 10 ∷ y → (Made s m ≡ Made t n) × (x ≡ y)
+split_made : (s t : Seen) (m n : ℕ) (x y : List ℕ) → SeenInBits s → Is32 m → SeenInBits t → Is32 n → answer_text (Made s m) ++ 10 ∷ x ≡ answer_text (Made t n) ++ 10 ∷ y → (Made s m ≡ Made t n) × (x ≡ y)
 split_made s t m n x y hs hm ht hn e =
     let cut = sym (made_cut s m (10 ∷ x)) ∙ e ∙ made_cut t n (10 ∷ y) in
     let slot = spaced_slot s.slot t.slot _ _ hs.0 ht.0 (append_cancel_left (codes "made ") _ _ cut) in
@@ -27,7 +27,7 @@ split_made s t m n x y hs hm ht hn e =
     (cc, same_rest 10 x y found.1)
 
 -- `WORD SLOT FOUND VALUE`
-split_read : (w : List ℕ) (s t : Seen) (m n : ℕ) (x y : List ℕ) → SeenFits s → Is64 m → SeenFits t → Is64 n
+split_read : (w : List ℕ) (s t : Seen) (m n : ℕ) (x y : List ℕ) → SeenInBits s → Is64 m → SeenInBits t → Is64 n
     → (w ++ seen_text s ++ codes " " ++ hex 16 m) ++ 10 ∷ x ≡ (w ++ seen_text t ++ codes " " ++ hex 16 n) ++ 10 ∷ y → (s ≡ t) × (m ≡ n) × (x ≡ y)
 split_read w s t m n x y hs hm ht hn e =
     let cut = sym (cut4 w (seen_text s) (codes " ") (hex 16 m) (10 ∷ x)) ∙ e ∙ cut4 w (seen_text t) (codes " ") (hex 16 n) (10 ∷ y) in
@@ -36,12 +36,12 @@ split_read w s t m n x y hs hm ht hn e =
     (seen.0, value.0, same_rest 10 x y value.1)
 
 -- `SLOT FOUND` at the end
-split_last : (s t : Seen) (x y : List ℕ) → SeenFits s → SeenFits t → seen_text s ++ 10 ∷ x ≡ seen_text t ++ 10 ∷ y → (s ≡ t) × (x ≡ y)
+split_last : (s t : Seen) (x y : List ℕ) → SeenInBits s → SeenInBits t → seen_text s ++ 10 ∷ x ≡ seen_text t ++ 10 ∷ y → (s ≡ t) × (x ≡ y)
 split_last s t x y hs ht e =
     let p = split_seen s t (10 ∷ x) (10 ∷ y) hs ht e in
     (p.0, same_rest 10 x y p.1)
 
-split_answer : (a b : Answer) (x y : List ℕ) → AnswerFits a → AnswerFits b → answer_text a ++ 10 ∷ x ≡ answer_text b ++ 10 ∷ y → (a ≡ b) × (x ≡ y)
+split_answer : (a b : Answer) (x y : List ℕ) → AnswerInBits a → AnswerInBits b → answer_text a ++ 10 ∷ x ≡ answer_text b ++ 10 ∷ y → (a ≡ b) × (x ≡ y)
 split_answer (Made s m) (Made t n) x y ha hb e = split_made s t m n x y ha.0 ha.1 hb.0 hb.1 e
 split_answer (Done s) (Done t) x y ha hb e =
     let p = split_last s t x y ha hb (append_cancel_left (codes "done") _ _ e) in
@@ -86,7 +86,7 @@ split_answer a b x y ha hb e =
 entry_cut : (a : Entry) (x : List ℕ) → entry_text a ++ x ≡ codes "e " ++ (decimal a.line ++ (codes " " ++ (decimal a.thread ++ (codes " " ++ (answer_text a.answer ++ 10 ∷ x)))))
 entry_cut a x = cut7 (codes "e ") (decimal a.line) (codes " ") (decimal a.thread) (codes " ") (answer_text a.answer) (10 ∷ []) x
 
-pub split_entry : (a b : Entry) (x y : List ℕ) → EntryFits a → EntryFits b → entry_text a ++ x ≡ entry_text b ++ y → (a ≡ b) × (x ≡ y)
+pub split_entry : (a b : Entry) (x y : List ℕ) → EntryInBits a → EntryInBits b → entry_text a ++ x ≡ entry_text b ++ y → (a ≡ b) × (x ≡ y)
 split_entry a b x y ha hb e =
     let cut = sym (entry_cut a x) ∙ e ∙ entry_cut b y in
     let line = spaced_number a.line b.line _ _ (wide a.line ha.0) (wide b.line hb.0) (append_cancel_left (codes "e ") _ _ cut) in

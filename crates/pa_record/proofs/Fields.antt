@@ -14,7 +14,7 @@ use Rattle.pa_record.specs.declared.entry.Seen.{Seen}
 use Rattle.pa_record.specs.declared.numbered.Numbered.{Numbered}
 use Rattle.pa_record.specs.declared.history.Held.{Held}
 use Rattle.pa_record.specs.declared.history.Held.TheVariants as handles
-use Rattle.pa_record.specs.Fits.{Is32, Is64, IsClass, SeenFits, NumberedFits, HeldFits}
+use Rattle.pa_record.specs.Bits.{Is32, Is64, IsClass, SeenInBits, NumberedInBits, HeldInBits}
 use Rattle.pa_record.specs.Text.{seen_text, seen_text_if, number_or, numbered_text, slots_text, held_text}
 use Rattle.pa_record.proofs.Same.{same_seen, same_numbered}
 
@@ -91,13 +91,13 @@ marked_slot s t x y hs ht e =
 seen_cut : (s : Seen) (x : List ℕ) → seen_text s ++ x ≡ codes " " ++ (slot_text s.slot ++ (codes " " ++ (hex 16 s.found.0 ++ x)))
 seen_cut s x = cut4 (codes " ") (slot_text s.slot) (codes " ") (hex 16 s.found.0) x
 
-pub split_seen : (s t : Seen) (x y : List ℕ) → SeenFits s → SeenFits t → seen_text s ++ x ≡ seen_text t ++ y → (s ≡ t) × (x ≡ y)
+pub split_seen : (s t : Seen) (x y : List ℕ) → SeenInBits s → SeenInBits t → seen_text s ++ x ≡ seen_text t ++ y → (s ≡ t) × (x ≡ y)
 split_seen s t x y hs ht e =
     let slot = spaced_slot s.slot t.slot (hex 16 s.found.0 ++ x) (hex 16 t.found.0 ++ y) hs.0 ht.0 (same_rest 32 _ _ (sym (seen_cut s x) ∙ e ∙ seen_cut t y)) in
     let found = split_word s.found.0 t.found.0 x y hs.1 ht.1 slot.1 in
     (same_seen s t slot.0 found.0, found.1)
 
-pub split_seen_if : (s t : Option Seen) (x y : List ℕ) → IfSome s SeenFits → IfSome t SeenFits → seen_text_if s ++ 10 ∷ x ≡ seen_text_if t ++ 10 ∷ y → (s ≡ t) × (x ≡ y)
+pub split_seen_if : (s t : Option Seen) (x y : List ℕ) → IfSome s SeenInBits → IfSome t SeenInBits → seen_text_if s ++ 10 ∷ x ≡ seen_text_if t ++ 10 ∷ y → (s ≡ t) × (x ≡ y)
 split_seen_if None None x y hs ht e = (refl, same_rest 10 x y e)
 split_seen_if (Some s) (Some t) x y hs ht e =
     let seen = split_seen s t (10 ∷ x) (10 ∷ y) hs ht e in
@@ -106,7 +106,7 @@ split_seen_if s t x y hs ht e = absurd cc
 
 -- ---- slots with their numbers
 
-pub split_numbered : (m n : Numbered) (x y : List ℕ) → NumberedFits m → NumberedFits n → IsStop x → IsStop y → numbered_text m ++ x ≡ numbered_text n ++ y → (m ≡ n) × (x ≡ y)
+pub split_numbered : (m n : Numbered) (x y : List ℕ) → NumberedInBits m → NumberedInBits n → IsStop x → IsStop y → numbered_text m ++ x ≡ numbered_text n ++ y → (m ≡ n) × (x ≡ y)
 split_numbered m n x y hm hn sx sy e =
     let cut = sym (cut3 (slot_text m.slot) (codes "@") (decimal m.number) x) ∙ e ∙ cut3 (slot_text n.slot) (codes "@") (decimal n.number) y in
     let slot = marked_slot m.slot n.slot (decimal m.number ++ x) (decimal n.number ++ y) hm.0 hn.0 cut in
@@ -118,7 +118,7 @@ pub slots_stop : (s : List Numbered) (x : List ℕ) → IsStop (slots_text s ++ 
 slots_stop [] x = refl
 slots_stop (m ∷ s) x = refl
 
-pub split_slots : (s t : List Numbered) (x y : List ℕ) → AllByRecursion NumberedFits s → AllByRecursion NumberedFits t → slots_text s ++ 10 ∷ x ≡ slots_text t ++ 10 ∷ y → (s ≡ t) × (x ≡ y)
+pub split_slots : (s t : List Numbered) (x y : List ℕ) → AllByRecursion NumberedInBits s → AllByRecursion NumberedInBits t → slots_text s ++ 10 ∷ x ≡ slots_text t ++ 10 ∷ y → (s ≡ t) × (x ≡ y)
 split_slots [] [] x y hs ht e = (refl, same_rest 10 x y e)
 split_slots [] (n ∷ t) x y hs ht e = absurd cc
 split_slots (m ∷ s) [] x y hs ht e = absurd cc
@@ -158,7 +158,7 @@ class_wide_if (Some n) h = class_wide n h
 
 -- ---- handles
 
-pub split_held : (a b : Held) (c : ℕ) (x y : List ℕ) → IsStop (c ∷ x) → IsStop (c ∷ y) → HeldFits a → HeldFits b → held_text a ++ c ∷ x ≡ held_text b ++ c ∷ y → (a ≡ b) × (x ≡ y)
+pub split_held : (a b : Held) (c : ℕ) (x y : List ℕ) → IsStop (c ∷ x) → IsStop (c ∷ y) → HeldInBits a → HeldInBits b → held_text a ++ c ∷ x ≡ held_text b ++ c ∷ y → (a ≡ b) × (x ≡ y)
 split_held handles.Nothing handles.Nothing c x y sx sy ha hb e = (refl, cc)
 split_held (handles.Own s) (handles.Own t) c x y sx sy ha hb e =
     let p = split_slot s t (c ∷ x) (c ∷ y) ha hb sx sy (append_cancel_left (codes "own:") _ _ e) in

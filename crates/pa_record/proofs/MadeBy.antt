@@ -9,10 +9,11 @@ use Rattle.pa_record.specs.declared.root.RootEntry.{RootEntry}
 use Rattle.pa_record.specs.declared.root.RootAct.{RootAct}
 use Rattle.pa_record.specs.declared.root.RootAct.TheVariants.{Fill, Map, Full, Give, Unmap, Purge}
 use Rattle.pa_record.specs.Root.{Root, new_root, root_next, root_replayed, RootActFits, RootReplays, RiseFrom, IsJournal, all_asked, asked_by, map_title}
-use Rattle.pa_record.specs.Sound.{IsSound, IsSettled, IsBornBelow, IsMade, AsksFrom, least_after, least_after_all, IsMapBy, IsMadeBy, TitlesApart, IsInPayload, IsMapped, AreTitles}
+use Rattle.pa_record.specs.Sound.{IsSound, IsSettled, IsBornBelow, IsMade, AsksFrom, least_after, least_after_all, IsMapBy, IsMadeBy, TitlesApart, IsInOwn, IsMapped, AreTitles}
 use Rattle.pa_record.proofs.Members.{not_in_none, first_in, later_in, in_cases}
 use Rattle.pa_record.proofs.Stepping.{next_is}
-use Rattle.pa_record.proofs.Titles.{next_titles, titles_taken, IsReplayed, rise_parts, made_apart, made_payload, made_or_map, fill_made, journal_replayed, new_sound, new_born}
+use Rattle.pa_record.proofs.Owned.{made_in_own, journal_taken}
+use Rattle.pa_record.proofs.Titles.{next_titles, titles_taken, IsReplayed, rise_parts, made_apart, made_or_map, fill_made, journal_replayed, new_sound, new_born}
 
 -- a direct map's title is among those that were taken or mapped
 pub map_taken : (pools : List PoolEntry) (es : List RootEntry) (r : Root) (t : Title) → IsMapBy es t → Contains (titles_taken pools es r) t
@@ -94,9 +95,12 @@ module _ (pools : List PoolEntry) (journal : List RootEntry) (h : IsJournal pool
   apart t u (inr mapped) (inl made) same = turned t u (slot_or_map u t made mapped (sym same))
   apart t u (inr mapped) (inr mapped') same = left.known.titles.apart t u (taken t mapped) (taken u mapped') same
 
-  lie : (t : Title) → IsMadeBy pools journal t → IsInPayload t ⊎ ((first : ℕ) × IsMapped pools t first)
-  lie t (inl made) = inl (made_payload (root_replayed pools journal new_root) t left.sound made)
-  lie t (inr mapped) = left.known.titles.lie t (taken t mapped)
+  in_own : (t : Title) → IsMade (root_replayed pools journal new_root) t → IsInOwn pools t
+  in_own t made = made_in_own pools (root_replayed pools journal new_root) t left.sound (journal_taken pools journal h) made
+
+  lie : (t : Title) → IsMadeBy pools journal t → IsInOwn pools t ⊎ ((first : ℕ) × IsMapped pools t first)
+  lie t (inl made) = inl (in_own t made)
+  lie t (inr mapped) = elim (left.known.titles.lie t (taken t mapped)) [ inl made ↦ inl (in_own t made) | inr map ↦ inr map ]
 
   pub made_titles : AreTitles pools (IsMadeBy pools journal)
   made_titles = record { apart = apart; lie = lie }

@@ -3,7 +3,7 @@ use Rattle.std.proofs.Common.{◌≡◌, ℕ, ◌<◌, List, ◌++◌, codes, ge
 use Rattle.std.specs.List.{flat_map}
 use Rattle.std.proofs.lemmas.List.{append_cancel_left}
 use Rattle.pa_record.specs.declared.run.Run.{Run}
-use Rattle.pa_record.specs.Fits.{EntryFits, RootFits, PoolFits, CellFits, ReportFits}
+use Rattle.pa_record.specs.Bits.{EntryInBits, RootInBits, PoolInBits, CellInBits, ReportInBits}
 use Rattle.pa_record.specs.Text.{entry_text, root_text, roots_text, pool_text, pools_text, cell_text, cells_text, report_text, places_text, run_text}
 use Rattle.pa_record.specs.RunText.{IsRunText, IsSameRun}
 use Rattle.pa_record.proofs.Fields.{cut6}
@@ -29,10 +29,10 @@ report_begins : Begins 115 (λ _. report_text)
 unfolding places_text
 report_begins n s = (_, refl)
 
-roots_known : AreNested RootFits 114 root_text
+roots_known : AreNested RootInBits 114 root_text
 roots_known = record { splits = split_root; place = root_place; begins = root_begins }
 
-cells_known : AreNested CellFits 99 cell_text
+cells_known : AreNested CellInBits 99 cell_text
 cells_known = record { splits = split_cell; place = cell_place; begins = cell_begins }
 
 -- two numerals
@@ -65,7 +65,7 @@ cells_avoid c r other = avoid_flat c 115 report_text r.report.items (codes "end\
 
 pool_avoids : (c : ℕ) (r : Run) → (c ≡ 99 → ⊥) → (c ≡ 115 → ⊥) → Avoids c (behind_pool r)
 unfolding behind_pool
-pool_avoids c r cells other = avoid_nested c 99 CellFits cell_text 0 r.cells.items (behind_cells r) cells cells_known (cells_avoid c r other)
+pool_avoids c r cells other = avoid_nested c 99 CellInBits cell_text 0 r.cells.items (behind_cells r) cells cells_known (cells_avoid c r other)
 
 roots_avoid : (c : ℕ) (r : Run) → (c ≡ 112 → ⊥) → (c ≡ 99 → ⊥) → (c ≡ 115 → ⊥) → Avoids c (behind_roots r)
 unfolding behind_roots
@@ -74,7 +74,7 @@ roots_avoid c r pool cells other = avoid_lines c 112 pool_text 0 r.pool.items (b
 entries_avoid : (r : Run) → Avoids 101 (behind_entries r)
 unfolding behind_entries
 entries_avoid r =
-    avoid_nested 101 114 RootFits root_text 0 r.roots.items (behind_roots r) (apart 101 114 (omega arith)) roots_known
+    avoid_nested 101 114 RootInBits root_text 0 r.roots.items (behind_roots r) (apart 101 114 (omega arith)) roots_known
     (roots_avoid 101 r (apart 101 112 (omega arith)) (above 101 99 (omega arith)) (apart 101 115 (omega arith)))
 
 -- each kind's letter, behind the lines of that kind
@@ -97,15 +97,15 @@ pub one_run : (a b : Run) (text : List ℕ) → IsRunText a text → IsRunText b
 unfolding behind_entries behind_roots behind_pool behind_cells
 one_run a b text ha hb =
     let whole = append_cancel_left (codes "run 1\n") _ _ (sym (run_cut a) ∙ sym ha.text ∙ hb.text ∙ run_cut b) in
-    let entries = split_flat EntryFits 101 entry_text a.entries.items b.entries.items (behind_entries a) (behind_entries b)
+    let entries = split_flat EntryInBits 101 entry_text a.entries.items b.entries.items (behind_entries a) (behind_entries b)
     split_entry entry_begins (entries_avoid a) (entries_avoid b) ha.fits.entries hb.fits.entries whole in
-    let roots = split_nested RootFits 114 root_text 0 a.roots.items b.roots.items (behind_roots a) (behind_roots b) roots_known
+    let roots = split_nested RootInBits 114 root_text 0 a.roots.items b.roots.items (behind_roots a) (behind_roots b) roots_known
     (roots_avoid_root a) (roots_avoid_root b) ha.fits.roots hb.fits.roots (omega arith) (omega arith) entries.1 in
-    let pool = split_placed PoolFits 112 pool_text a.pool.items b.pool.items (behind_pool a) (behind_pool b)
+    let pool = split_placed PoolInBits 112 pool_text a.pool.items b.pool.items (behind_pool a) (behind_pool b)
     split_pool pool_begins (pool_avoids_pool a) (pool_avoids_pool b) ha.fits.pool hb.fits.pool roots.1 in
-    let cells = split_nested CellFits 99 cell_text 0 a.cells.items b.cells.items (behind_cells a) (behind_cells b) cells_known
+    let cells = split_nested CellInBits 99 cell_text 0 a.cells.items b.cells.items (behind_cells a) (behind_cells b) cells_known
     (cells_avoid_cell a) (cells_avoid_cell b) ha.fits.cells hb.fits.cells (omega arith) (omega arith) pool.1 in
-    let report = split_flat ReportFits 115 report_text a.report.items b.report.items (codes "end\n") (codes "end\n")
+    let report = split_flat ReportInBits 115 report_text a.report.items b.report.items (codes "end\n") (codes "end\n")
     split_line report_begins (end_avoids 115) (end_avoids 115) ha.fits.report hb.fits.report cells.1 in
     record { entries = entries.0; roots = roots.0; pool = pool.0; cells = cells.0; report = report.0 }
 

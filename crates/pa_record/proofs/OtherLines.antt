@@ -13,14 +13,14 @@ use Rattle.pa_record.specs.declared.pool.PoolAct.TheVariants as turns
 use Rattle.pa_record.specs.declared.history.CellEntry.{CellEntry}
 use Rattle.pa_record.specs.declared.report.Tally.{Tally}
 use Rattle.pa_record.specs.declared.report.ReportLine.{ReportLine}
-use Rattle.pa_record.specs.Fits.{Is64, RootActFits, RootFits, PoolActFits, PoolFits, CellFits, TallyFits, ReportFits}
+use Rattle.pa_record.specs.Bits.{Is64, RootActInBits, RootInBits, PoolActInBits, PoolInBits, CellInBits, TallyInBits, ReportInBits}
 use Rattle.pa_record.specs.Text.{number_or, numbered_text, slots_text, root_act_text, root_text, pool_act_text, pool_text, held_text, cell_text, field_text, tally_text, places_text, bytes_text, spans_text, report_text}
 use Rattle.pa_record.proofs.Same.{same_root, same_pool, same_cell, same_tally, same_line}
 use Rattle.pa_record.proofs.Fields.{letters, cut3, cut4, cut5, cut6, cut8, wide, wide_if, class_wide, class_wide_if, same_rest, spaced_number, last_number, marked_slot, split_number_or, split_numbered, split_slots, slots_stop, split_held}
 
 -- ---- what a root did
 
-split_fill : (c d : ℕ) (p q : Option ℕ) (s t : List Numbered) (x y : List ℕ) → RootActFits (acts.Fill c p s) → RootActFits (acts.Fill d q t)
+split_fill : (c d : ℕ) (p q : Option ℕ) (s t : List Numbered) (x y : List ℕ) → RootActInBits (acts.Fill c p s) → RootActInBits (acts.Fill d q t)
     → root_act_text (acts.Fill c p s) ++ 10 ∷ x ≡ root_act_text (acts.Fill d q t) ++ 10 ∷ y → (acts.Fill c p s ≡ acts.Fill d q t) × (x ≡ y)
 split_fill c d p q s t x y ha hb e =
     let cut = sym (cut5 (codes "fill ") (decimal c) (codes " ") (number_or (codes "-") p) (slots_text s) (10 ∷ x)) ∙ e
@@ -33,7 +33,7 @@ split_fill c d p q s t x y ha hb e =
     let three = slots.0 in
     (cc, slots.1)
 
-split_full : (c d : Option ℕ) (p q : ℕ) (x y : List ℕ) → RootActFits (acts.Full c p) → RootActFits (acts.Full d q)
+split_full : (c d : Option ℕ) (p q : ℕ) (x y : List ℕ) → RootActInBits (acts.Full c p) → RootActInBits (acts.Full d q)
     → root_act_text (acts.Full c p) ++ 10 ∷ x ≡ root_act_text (acts.Full d q) ++ 10 ∷ y → (acts.Full c p ≡ acts.Full d q) × (x ≡ y)
 split_full c d p q x y ha hb e =
     let cut = sym (cut4 (codes "full ") (number_or (codes "direct") c) (codes " ") (decimal p) (10 ∷ x)) ∙ e
@@ -44,7 +44,7 @@ split_full c d p q x y ha hb e =
     let two = pool.0 in
     (cc, pool.1)
 
-split_root_act : (a b : RootAct) (x y : List ℕ) → RootActFits a → RootActFits b → root_act_text a ++ 10 ∷ x ≡ root_act_text b ++ 10 ∷ y → (a ≡ b) × (x ≡ y)
+split_root_act : (a b : RootAct) (x y : List ℕ) → RootActInBits a → RootActInBits b → root_act_text a ++ 10 ∷ x ≡ root_act_text b ++ 10 ∷ y → (a ≡ b) × (x ≡ y)
 split_root_act (acts.Fill c p s) (acts.Fill d q t) x y ha hb e = split_fill c d p q s t x y ha hb e
 split_root_act (acts.Map p s l) (acts.Map q t m) x y ha hb e =
     let cut = sym (cut6 (codes "map ") (decimal p) (codes " ") (slot_text s) (codes "@0 ") (decimal l) (10 ∷ x)) ∙ e
@@ -77,7 +77,7 @@ root_cut : (p j : ℕ) (a : RootEntry) (x : List ℕ) → root_text p j a ++ x
 root_cut p j a x = cut6 (field_text (codes "r ") p) (field_text (codes " ") j) (field_text (codes " ") a.line) (codes " ") (root_act_text a.act) (10 ∷ []) x
 
 -- the same place on both sides
-pub split_root : (p j : ℕ) (a b : RootEntry) (x y : List ℕ) → RootFits a → RootFits b → root_text p j a ++ x ≡ root_text p j b ++ y → (a ≡ b) × (x ≡ y)
+pub split_root : (p j : ℕ) (a b : RootEntry) (x y : List ℕ) → RootInBits a → RootInBits b → root_text p j a ++ x ≡ root_text p j b ++ y → (a ≡ b) × (x ≡ y)
 split_root p j a b x y ha hb e =
     let cut = append_cancel_left (codes "r ") _ _ (sym (root_cut p j a x) ∙ e ∙ root_cut p j b y) in
     let behind = append_cancel_left (decimal j) _ _ (same_rest 32 _ _ (append_cancel_left (decimal p) _ _ cut)) in
@@ -92,7 +92,7 @@ root_place p q j i a b x y hp hq e =
 
 -- ---- the pool
 
-split_pool_act : (a b : PoolAct) (x y : List ℕ) → PoolActFits a → PoolActFits b → pool_act_text a ++ 10 ∷ x ≡ pool_act_text b ++ 10 ∷ y → (a ≡ b) × (x ≡ y)
+split_pool_act : (a b : PoolAct) (x y : List ℕ) → PoolActInBits a → PoolActInBits b → pool_act_text a ++ 10 ∷ x ≡ pool_act_text b ++ 10 ∷ y → (a ≡ b) × (x ≡ y)
 split_pool_act (turns.Take m p) (turns.Take n q) x y ha hb e =
     let cut = sym (cut4 (codes "take ") (decimal m) (codes " ") (number_or (codes "none") p) (10 ∷ x)) ∙ e ∙ cut4 (codes "take ") (decimal n) (codes " ") (number_or (codes "none") q) (10 ∷ y) in
     let count = spaced_number m n _ _ (wide m ha.0) (wide n hb.0) (append_cancel_left (codes "take ") _ _ cut) in
@@ -115,7 +115,7 @@ pool_cut : (j : ℕ) (a : PoolEntry) (x : List ℕ) → pool_text j a ++ x
     ≡ codes "p " ++ (decimal j ++ (codes " " ++ (decimal a.line ++ (codes " " ++ (decimal a.partition ++ (codes " " ++ (pool_act_text a.act ++ 10 ∷ x)))))))
 pool_cut j a x = cut6 (field_text (codes "p ") j) (field_text (codes " ") a.line) (field_text (codes " ") a.partition) (codes " ") (pool_act_text a.act) (10 ∷ []) x
 
-pub split_pool : (j : ℕ) (a b : PoolEntry) (x y : List ℕ) → PoolFits a → PoolFits b → pool_text j a ++ x ≡ pool_text j b ++ y → (a ≡ b) × (x ≡ y)
+pub split_pool : (j : ℕ) (a b : PoolEntry) (x y : List ℕ) → PoolInBits a → PoolInBits b → pool_text j a ++ x ≡ pool_text j b ++ y → (a ≡ b) × (x ≡ y)
 split_pool j a b x y ha hb e =
     let cut = append_cancel_left (codes "p ") _ _ (sym (pool_cut j a x) ∙ e ∙ pool_cut j b y) in
     let line = spaced_number a.line b.line _ _ (wide a.line ha.0) (wide b.line hb.0) (same_rest 32 _ _ (append_cancel_left (decimal j) _ _ cut)) in
@@ -130,7 +130,7 @@ cell_cut : (k j : ℕ) (a : CellEntry) (x : List ℕ) → cell_text k j a ++ x
 cell_cut k j a x = cut8 (field_text (codes "c ") k) (field_text (codes " ") j) (field_text (codes " ") a.line) (codes " ") (held_text a.gave) (codes " ") (held_text a.found) (10 ∷ []) x
 
 -- the same place on both sides
-pub split_cell : (k j : ℕ) (a b : CellEntry) (x y : List ℕ) → CellFits a → CellFits b → cell_text k j a ++ x ≡ cell_text k j b ++ y → (a ≡ b) × (x ≡ y)
+pub split_cell : (k j : ℕ) (a b : CellEntry) (x y : List ℕ) → CellInBits a → CellInBits b → cell_text k j a ++ x ≡ cell_text k j b ++ y → (a ≡ b) × (x ≡ y)
 split_cell k j a b x y ha hb e =
     let cut = append_cancel_left (codes "c ") _ _ (sym (cell_cut k j a x) ∙ e ∙ cell_cut k j b y) in
     let behind = append_cancel_left (decimal j) _ _ (same_rest 32 _ _ (append_cancel_left (decimal k) _ _ cut)) in
@@ -147,7 +147,7 @@ cell_place k l j i a b x y hk hl e =
 -- ---- the report
 
 -- a word and a tally, and the space behind it
-split_tally : (w : List ℕ) (s t : Tally) (x y : List ℕ) → TallyFits s → TallyFits t → tally_text w s ++ 32 ∷ x ≡ tally_text w t ++ 32 ∷ y → (s ≡ t) × (x ≡ y)
+split_tally : (w : List ℕ) (s t : Tally) (x y : List ℕ) → TallyInBits s → TallyInBits t → tally_text w s ++ 32 ∷ x ≡ tally_text w t ++ 32 ∷ y → (s ≡ t) × (x ≡ y)
 split_tally w s t x y hs ht e =
     let cut = sym (cut3 w (decimal s.slots) (field_text (codes " ") s.bytes) (32 ∷ x)) ∙ e ∙ cut3 w (decimal t.slots) (field_text (codes " ") t.bytes) (32 ∷ y) in
     let slots = spaced_number s.slots t.slots _ _ hs.0 ht.0 (append_cancel_left w _ _ cut) in
@@ -170,7 +170,7 @@ unfolding places_text
 places_cut s x = cut6 (field_text (codes "s ") s.phase) (field_text (codes " ") s.partition) (tally_text (codes " live ") s.live) (tally_text (codes " quarantined ") s.quarantined)
     (tally_text (codes " cached ") s.cached) (tally_text (codes " root ") s.root) x
 
-split_places : (s t : ReportLine) (x y : List ℕ) → ReportFits s → ReportFits t → places_text s ++ 32 ∷ x ≡ places_text t ++ 32 ∷ y → SamePlaces s t × (x ≡ y)
+split_places : (s t : ReportLine) (x y : List ℕ) → ReportInBits s → ReportInBits t → places_text s ++ 32 ∷ x ≡ places_text t ++ 32 ∷ y → SamePlaces s t × (x ≡ y)
 split_places s t x y hs ht e =
     let cut = append_cancel_left (codes "s ") _ _ (sym (places_cut s (32 ∷ x)) ∙ e ∙ places_cut t (32 ∷ y)) in
     let phase = spaced_number s.phase t.phase _ _ (wide s.phase hs.phase) (wide t.phase ht.phase) cut in
@@ -197,7 +197,7 @@ line_cut : (s : ReportLine) (x : List ℕ) → report_text s ++ x
 line_cut s x =
     cut4 (places_text s) (bytes_text s) (spans_text s) (10 ∷ []) x ∙ ap (λ (w : List ℕ). places_text s ++ w) (tail_cut s (10 ∷ x))
 
-pub split_line : (s t : ReportLine) (x y : List ℕ) → ReportFits s → ReportFits t → report_text s ++ x ≡ report_text t ++ y → (s ≡ t) × (x ≡ y)
+pub split_line : (s t : ReportLine) (x y : List ℕ) → ReportInBits s → ReportInBits t → report_text s ++ x ≡ report_text t ++ y → (s ≡ t) × (x ≡ y)
 split_line s t x y hs ht e =
     let (places, rest) = split_places s t _ _ hs ht (sym (line_cut s x) ∙ e ∙ line_cut t y) in
     let committed = spaced_number s.committed t.committed _ _ hs.committed ht.committed (append_cancel_left (codes "committed ") _ _ rest) in

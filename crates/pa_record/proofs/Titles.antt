@@ -17,7 +17,7 @@ use Rattle.pa_record.specs.declared.root.RootAct.TheVariants.{Fill, Map, Full, G
 use Rattle.pa_record.specs.Pool.{act_at, FoundRun}
 use Rattle.pa_record.specs.Spans.{Span, title_at, same_place}
 use Rattle.pa_record.specs.Root.{Root, new_root, takes, opened, opened_by, super_of, map_title, mapped, root_next, root_replayed, RootActFits, RootReplays, RiseFrom, all_asked, asked_by}
-use Rattle.pa_record.specs.Sound.{IsSound, IsSettled, IsBornBelow, IsMade, AsksFrom, least_after, least_after_all, IsNext, TitlesApart, IsInPayload, IsMapped, AreTitles}
+use Rattle.pa_record.specs.Sound.{IsSound, IsSettled, IsBornBelow, IsMade, AsksFrom, least_after, least_after_all, IsNext, TitlesApart, IsMapped}
 use Rattle.pa_record.proofs.Members.{not_in_none, in_cases, not_some}
 use Rattle.pa_record.proofs.Pairs.{pairs_none}
 use Rattle.pa_record.proofs.Slots.{slot_within, slots_apart}
@@ -74,18 +74,6 @@ made_apart r t u sound (s, among, n, below, e) (s', among', m, below', f) born =
       | inr apart ↦ inr (subst (λ x. TitlesApart x u) (sym e) (subst (λ x. TitlesApart (title_at s n) x) (sym f) apart))
     ]
 
--- a slot lies in payload
-pub made_payload : (r : Root) (t : Title) → IsSound r → IsMade r t → IsInPayload t
-made_payload r t sound (s, among, n, below, e) =
-    let (at, page, p) = sound.placed s among in
-    let w = slot_within s n (sound.spans s among).counted (made_low r s n sound among below) in
-    let place = p.place in let first = p.first in let last = p.last in
-    let from = w.from in let to = w.to in (
-      at.number,
-      subst (λ x. page_place at.number 1 ≤ x.start) (sym e) (omega arith),
-      subst (λ x. x.start + x.len ≤ page_place at.number 127) (sym e) (omega arith),
-    )
-
 pub made_born : (r : Root) (t : Title) → IsSound r → IsMade r t → (at : SuperPage) × Contains r.supers at × (t.born ≡ at.born)
 made_born r t sound (s, among, n, below, e) =
     let (at, page, p) = sound.placed s among in
@@ -95,10 +83,15 @@ made_born r t sound (s, among, n, below, e) =
 abbrev pub IsOldMap : ℕ → Root → Title → Type 0
 IsOldMap n r t = (t.born < n) × ((at : SuperPage) → Contains r.supers at → t.born ≢ at.born)
 
+-- titles of one entry of the pool are equal or don't overlap, and each is a slot that was made or a direct map
+pub record LieApart (pools : List PoolEntry) (r : Root) (ts : List Title) : Type 0 where
+  pub apart : (t u : Title) → Contains ts t → Contains ts u → t.born ≡ u.born → (t ≡ u) ⊎ TitlesApart t u
+  pub lie : (t : Title) → Contains ts t → IsMade r t ⊎ ((first : ℕ) × IsMapped pools t first)
+
 -- what is known of the titles so far
 pub record IsKnown (pools : List PoolEntry) (n : ℕ) (r : Root) (ts : List Title) : Type 0 where
   pub each : (t : Title) → Contains ts t → IsMade r t ⊎ IsOldMap n r t
-  pub titles : AreTitles pools (λ t. Contains ts t)
+  pub titles : LieApart pools r ts
 
 known_none : (pools : List PoolEntry) (n : ℕ) (r : Root) → IsKnown pools n r []
 known_none pools n r = record {
@@ -150,7 +143,7 @@ with_slots pools m after ts new sound known made = record {
     ];
     lie = λ t among. elim (Contains-append_cases ts new t among) [
       | inl old ↦ known.titles.lie t old
-      | inr fresh ↦ inl (made_payload after t sound (made t fresh))
+      | inr fresh ↦ inl (made t fresh)
     ];
   };
 }
@@ -160,7 +153,10 @@ known_after : (pools : List PoolEntry) (n m : ℕ) (r after : Root) (ts : List T
     ((at : SuperPage) → Contains after.supers at → Contains r.supers at ⊎ (n ≤ at.born)) → IsKnown pools n r ts → IsKnown pools m after ts
 known_after pools n m r after ts more keeps news known = record {
   each = λ t among. elim (known.each t among) [ inl slot ↦ inl (keeps t slot) | inr old ↦ inr (old_map_stays n m r after t more news old) ];
-  titles = known.titles;
+  titles = record {
+    apart = known.titles.apart;
+    lie = λ t among. elim (known.titles.lie t among) [ inl made ↦ inl (keeps t made) | inr mapped ↦ inr mapped ];
+  };
 }
 
 -- one direct map more

@@ -12,5 +12,7 @@ TestsUsed test r = (s : Span) → Contains r.spans s → test s ≡ true → is_
 
 -- a span that passes and has the greatest turn of those that pass is the one that is chosen; so is one that has the least
 pub record OneIsChosen : Type 0 where
-  pub latest : (test : Span → Bool) (r : Root) (s : Span) → IsSound r → TestsUsed test r → IsLatest test r.spans s → latest test r.spans ≡ Some s
-  pub earliest : (test : Span → Bool) (r : Root) (s : Span) → IsSound r → TestsUsed test r → IsEarliest test r.spans s → earliest test r.spans ≡ Some s
+  pub latest : (test : Span → Bool) (r : Root) (s : Span) → IsSound r → TestsUsed test r → IsLatest test r.spans s →
+      latest test r.spans ≡ Some s
+  pub earliest : (test : Span → Bool) (r : Root) (s : Span) → IsSound r → TestsUsed test r → IsEarliest test r.spans s →
+      earliest test r.spans ≡ Some s

@@ -51,7 +51,8 @@ pub record OutIsOut : Type 0 where
 pub record FillKeeps : Type 0 where
   pub filled : (class want : ℕ) (r : Root) → IsSound r → class < 59 → IsFilled class want r (takes class want r)
   pub opens : (number born : ℕ) (r : Root) → IsSound r → IsBornBelow born r → IsSound (opened number born r)
-  pub finds : (class want : ℕ) (r : Root) → IsSound r → class < 59 → IsSome (span_for class r) → 1 ≤ length (takes class (suc want) r).titles
+  pub finds : (class want : ℕ) (r : Root) → IsSound r → class < 59 → IsSome (span_for class r) →
+      1 ≤ length (takes class (suc want) r).titles
   pub finds_none : (class want : ℕ) (r : Root) → IsNone (span_for class r) → takes class want r ≡ record { root = r; titles = [] }
   pub finds_new : (class number born : ℕ) (r : Root) → class < 59 → IsSome (span_for class (opened number born r))
 
@@ -76,7 +77,8 @@ pub record IsLeft (pools : List PoolEntry) (journal : List RootEntry) (r : Root)
   pub titles : AreTitles pools (IsMadeBy pools journal)
 
 abbrev pub JournalLeaves : Type 0
-JournalLeaves = (pools : List PoolEntry) (journal : List RootEntry) → IsJournal pools journal → IsLeft pools journal (root_replayed pools journal new_root)
+JournalLeaves = (pools : List PoolEntry) (journal : List RootEntry) → IsJournal pools journal →
+    IsLeft pools journal (root_replayed pools journal new_root)
 
 -- A journal that fits goes on fitting while its pool gets entries, and with one entry more that fits.
 pub record JournalGrows : Type 0 where
@@ -84,7 +86,8 @@ pub record JournalGrows : Type 0 where
   pub pool_same : (pools more : List PoolEntry) (journal : List RootEntry) → IsJournal pools journal →
       root_replayed (pools ++ more) journal new_root ≡ root_replayed pools journal new_root
   pub fits : (pools : List PoolEntry) (journal : List RootEntry) (e : RootEntry) → IsJournal pools journal →
-      RootActFits pools e.act (root_replayed pools journal new_root) → AsksFrom (least_after_all 0 journal) (asked_by e.act) → IsJournal pools (journal ++ e ∷ [])
+      RootActFits pools e.act (root_replayed pools journal new_root) → AsksFrom (least_after_all 0 journal) (asked_by e.act) →
+      IsJournal pools (journal ++ e ∷ [])
   pub next : (pools : List PoolEntry) (journal : List RootEntry) (e : RootEntry) →
       root_replayed pools (journal ++ e ∷ []) new_root ≡ root_next pools e.act (root_replayed pools journal new_root)
 
@@ -153,19 +156,25 @@ OutIsLeft = (pools : List PoolEntry) (journal : List RootEntry) (name : SlotName
 -- a super page, one that got none, a direct map, one that got no room, and a direct map that went back. And the pool's next
 -- entry is always one that a journal may name.
 pub record CallsFit : Type 0 where
-  pub fill : (pools : List PoolEntry) (e : PoolEntry) (class first : ℕ) (slots : List Numbered) (r : Root) → class < 59 → IsNone (span_for class r) →
+  pub fill : (pools : List PoolEntry) (e : PoolEntry) (class first : ℕ) (slots : List Numbered) (r : Root) → class < 59 →
+      IsNone (span_for class r) →
       e.act ≡ pool.Take 1 (Some first) → map name_of (takes class (fill_of class) (opened first (length pools) r)).titles ≡ names slots →
       RootActFits (pools ++ e ∷ []) (Fill class (Some (length pools)) slots) r
-  pub filled : (pools : List PoolEntry) (e : PoolEntry) (class first : ℕ) (slots : List Numbered) (r : Root) → e.act ≡ pool.Take 1 (Some first) →
-      root_next (pools ++ e ∷ []) (Fill class (Some (length pools)) slots) r ≡ (takes class (fill_of class) (opened first (length pools) r)).root
+  pub filled : (pools : List PoolEntry) (e : PoolEntry) (class first : ℕ) (slots : List Numbered) (r : Root) →
+      e.act ≡ pool.Take 1 (Some first) →
+      root_next (pools ++ e ∷ []) (Fill class (Some (length pools)) slots) r ≡
+      (takes class (fill_of class) (opened first (length pools) r)).root
   pub full : (pools : List PoolEntry) (e : PoolEntry) (class : ℕ) (r : Root) → IsNone (span_for class r) → e.act ≡ pool.Take 1 None →
       RootActFits (pools ++ e ∷ []) (Full (Some class) (length pools)) r
-  pub map : (pools : List PoolEntry) (e : PoolEntry) (first len : ℕ) (slot : SlotName) (r : Root) → e.act ≡ pool.Take (supers_for len) (Some first) →
+  pub map : (pools : List PoolEntry) (e : PoolEntry) (first len : ℕ) (slot : SlotName) (r : Root) →
+      e.act ≡ pool.Take (supers_for len) (Some first) →
       slot.start ≡ page_place first 1 → slot.born ≡ length pools → RootActFits (pools ++ e ∷ []) (Map (length pools) slot len) r
   pub full_map : (pools : List PoolEntry) (e : PoolEntry) (count : ℕ) (r : Root) → e.act ≡ pool.Take count None →
       RootActFits (pools ++ e ∷ []) (Full None (length pools)) r
-  pub unmap : (pools : List PoolEntry) (e : PoolEntry) (first len : ℕ) (slot : Numbered) (r : Root) → Contains r.maps (map_title slot.slot len) →
-      slot.slot.start ≡ page_place first 1 → e.act ≡ pool.Give (supers_for len) first → RootActFits (pools ++ e ∷ []) (Unmap (length pools) slot) r
+  pub unmap : (pools : List PoolEntry) (e : PoolEntry) (first len : ℕ) (slot : Numbered) (r : Root) →
+      Contains r.maps (map_title slot.slot len) →
+      slot.slot.start ≡ page_place first 1 → e.act ≡ pool.Give (supers_for len) first →
+      RootActFits (pools ++ e ∷ []) (Unmap (length pools) slot) r
   pub next : (pools : List PoolEntry) (journal : List RootEntry) → IsJournal pools journal → least_after_all 0 journal ≤ length pools
 
 -- each span of the root entered one of the four states
@@ -175,10 +184,13 @@ IsUsed r = (s : Span) → Contains r.spans s → is_in state.None s ≡ false
 -- an entry keeps that, so a journal does; and the counts of the states add up to the spans
 pub record SpansAreUsed : Type 0 where
   pub takes_keep : (class want : ℕ) (r : Root) → IsSound r → class < 59 → IsUsed r → IsUsed (takes class want r).root
-  pub returns_keep : (r : Root) (xs : List SlotName) → IsSound r → All (IsOut r) xs → AllPairs ◌≢◌ xs → IsUsed r → IsUsed (all_returned xs r)
+  pub returns_keep : (r : Root) (xs : List SlotName) → IsSound r → All (IsOut r) xs → AllPairs ◌≢◌ xs → IsUsed r →
+      IsUsed (all_returned xs r)
   pub purge_keeps : (r : Root) → IsSound r → IsUsed r → IsUsed (purged r)
-  pub journal : (pools : List PoolEntry) (journal : List RootEntry) → IsJournal pools journal → IsUsed (root_replayed pools journal new_root)
-  pub counted : (r : Root) → IsUsed r → count_in state.Full r + count_in state.Active r + count_in state.Empty r + count_in state.Decommitted r ≡ length r.spans
+  pub journal : (pools : List PoolEntry) (journal : List RootEntry) → IsJournal pools journal →
+      IsUsed (root_replayed pools journal new_root)
+  pub counted : (r : Root) → IsUsed r →
+      count_in state.Full r + count_in state.Active r + count_in state.Empty r + count_in state.Decommitted r ≡ length r.spans
 
 -- the names of a span's slots that are out, and of all slots and direct maps that are out of a root
 abbrev pub names_of : Span → List SlotName

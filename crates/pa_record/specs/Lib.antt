@@ -1,6 +1,6 @@
 pub mod Text
 pub mod Numbers
-pub mod Fits
+pub mod Bits
 pub mod RunText
 pub mod Pool
 pub mod Spans

@@ -9,7 +9,7 @@ use Rattle.pa_record.specs.declared.root.RootEntry.{RootEntry}
 use Rattle.pa_record.specs.declared.root.RootAct.{RootAct}
 use Rattle.pa_record.specs.Pool.{FoundRun}
 use Rattle.pa_record.specs.Root.{Root, new_root, root_next, root_replayed, RootActFits, IsJournal, asked_by}
-use Rattle.pa_record.specs.Sound.{IsSound, IsBornBelow, AsksFrom, IsMade}
+use Rattle.pa_record.specs.Sound.{IsSound, IsBornBelow, AsksFrom, IsMade, IsInOwn}
 
 -- the direct map stands behind the first partition page of the super pages that its entry of the pool took
 abbrev pub IsMapTaken : List PoolEntry → Title → Type 0
@@ -20,15 +20,11 @@ pub record IsTakenBy (pools : List PoolEntry) (r : Root) : Type 0 where
   pub supers : (at : SuperPage) → Contains r.supers at → FoundRun pools at.born 1 at.number
   pub maps : (t : Title) → Contains r.maps t → IsMapTaken pools t
 
--- the title lies in the payload of the super page that its entry of the pool took
-abbrev pub IsInOwn : List PoolEntry → Title → Type 0
-IsInOwn pools t =
-    (first : ℕ) × FoundRun pools t.born 1 first × (page_place first 1 ≤ t.start) × (t.start + t.len ≤ page_place first 127)
-
 -- An entry that fits keeps that, so a journal's root has it; and a slot that was made of such a root lies in the super page
 -- of its own entry.
 pub record RootsAreTaken : Type 0 where
   pub next : (pools : List PoolEntry) (act : RootAct) (n : ℕ) (r : Root) → IsSound r → IsBornBelow n r → AsksFrom n (asked_by act) →
       RootActFits pools act r → IsTakenBy pools r → IsTakenBy pools (root_next pools act r)
-  pub journal : (pools : List PoolEntry) (journal : List RootEntry) → IsJournal pools journal → IsTakenBy pools (root_replayed pools journal new_root)
+  pub journal : (pools : List PoolEntry) (journal : List RootEntry) → IsJournal pools journal →
+      IsTakenBy pools (root_replayed pools journal new_root)
   pub own : (pools : List PoolEntry) (r : Root) (t : Title) → IsSound r → IsTakenBy pools r → IsMade r t → IsInOwn pools t

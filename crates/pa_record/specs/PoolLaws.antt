@@ -35,4 +35,5 @@ pub record PoolGrows : Type 0 where
 -- there is one lowest free run; and what was given back is free
 pub record PoolAnswers : Type 0 where
   pub lowest : (s : PoolState) (count : ℕ) (a b : Option ℕ) → IsLowest s count a → IsLowest s count b → a ≡ b
-  pub free : (pools : List PoolEntry) (s : PoolState) (first count : ℕ) (t : Taken) → IsSoundPool pools s → IsOneTake s first count t → IsFreeRun (gave first s) count first
+  pub free : (pools : List PoolEntry) (s : PoolState) (first count : ℕ) (t : Taken) → IsSoundPool pools s → IsOneTake s first count t →
+      IsFreeRun (gave first s) count first

@@ -176,7 +176,8 @@ IsOut r name = (s : Span) × Contains r.spans s × (number : ℕ) × IsOutOf s n
 
 -- the title is out of the root: it is a slot that is out, or a direct map
 abbrev pub IsTitleOut : Root → Title → Type 0
-IsTitleOut r t = ((s : Span) × Contains r.spans s × (number : ℕ) × IsOutOf s (name_of t) number × (t ≡ title_at s number)) ⊎ Contains r.maps t
+IsTitleOut r t =
+    ((s : Span) × Contains r.spans s × (number : ℕ) × IsOutOf s (name_of t) number × (t ≡ title_at s number)) ⊎ Contains r.maps t
 
 -- where the fill's first take asked the pool, the super page that it got is the current one
 abbrev pub super_of : Option PoolAct → ℕ

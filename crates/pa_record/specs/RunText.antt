@@ -6,7 +6,7 @@ use Rattle.pa_record.specs.declared.root.RootAct.{RootAct}
 use Rattle.pa_record.specs.declared.root.RootAct.TheVariants.{Fill, Map, Full, Give, Unmap, Purge}
 use Rattle.pa_record.specs.declared.history.CellEntry.{CellEntry}
 use Rattle.pa_record.specs.declared.run.Run.{Run}
-use Rattle.pa_record.specs.Fits.{RunFits}
+use Rattle.pa_record.specs.Bits.{RunInBits}
 use Rattle.pa_record.specs.Text.{run_text}
 
 -- a fill or a give names at least one slot
@@ -26,7 +26,7 @@ pub record IsPrintable (r : Run) : Type 0 where
 
 -- the bytes are the text of this run
 pub record IsRunText (r : Run) (bytes : List ℕ) : Type 0 where
-  pub fits : RunFits r
+  pub fits : RunInBits r
   pub form : IsPrintable r
   pub text : bytes ≡ run_text r
 

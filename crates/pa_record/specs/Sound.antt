@@ -96,9 +96,10 @@ IsMadeBy pools journal t = IsMade (root_replayed pools journal new_root) t ⊎ I
 abbrev pub TitlesApart : Title → Title → Type 0
 TitlesApart t u = (t.start + t.len ≤ u.start) ⊎ (u.start + u.len ≤ t.start)
 
--- the title lies in the payload of a super page, which is its partition pages 1 to 126
-abbrev pub IsInPayload : Title → Type 0
-IsInPayload t = (super : ℕ) × (page_place super 1 ≤ t.start) × (t.start + t.len ≤ page_place super 127)
+-- the title lies in the payload, partition pages 1 to 126, of the super page that its entry of the pool took
+abbrev pub IsInOwn : List PoolEntry → Title → Type 0
+IsInOwn pools t =
+    (first : ℕ) × FoundRun pools t.born 1 first × (page_place first 1 ≤ t.start) × (t.start + t.len ≤ page_place first 127)
 
 -- The title is a direct map: it stands behind the first guard of the super pages that its entry of the pool took, as many
 -- as it needs, and a guard follows it.
@@ -107,11 +108,11 @@ pub record IsMapped (pools : List PoolEntry) (t : Title) (first : ℕ) : Type 0 
   pub start : t.start ≡ page_place first 1
   pub guard : t.start + t.len + 16384 ≤ 2097152 * (first + supers_for t.len)
 
--- Of the titles that were made, those of one entry of the pool are equal or don't overlap, and each lies in payload or is a
--- direct map.
+-- Of the titles that were made, those of one entry of the pool are equal or don't overlap, and each lies in the payload of its
+-- own super page or is a direct map.
 pub record AreTitles (pools : List PoolEntry) (WasMade : Title → Type 0) : Type 0 where
   pub apart : (t u : Title) → WasMade t → WasMade u → t.born ≡ u.born → (t ≡ u) ⊎ TitlesApart t u
-  pub lie : (t : Title) → WasMade t → IsInPayload t ⊎ ((first : ℕ) × IsMapped pools t first)
+  pub lie : (t : Title) → WasMade t → IsInOwn pools t ⊎ ((first : ℕ) × IsMapped pools t first)
 
 -- the slots that an entry gives back to the root
 abbrev pub given_back : RootAct → List SlotName

@@ -84,7 +84,8 @@ root_act_text acts.Purge = codes "purge"
 
 -- `r P J LINE ACT` and an LF: entry J of the journal of partition P
 abbrev pub root_text : ℕ → ℕ → RootEntry → List ℕ
-root_text p j e = field_text (codes "r ") p ++ field_text (codes " ") j ++ field_text (codes " ") e.line ++ codes " " ++ root_act_text e.act ++ 10 ∷ []
+root_text p j e = field_text (codes "r ") p ++ field_text (codes " ") j ++ field_text (codes " ") e.line ++ codes " "
+    ++ root_act_text e.act ++ 10 ∷ []
 
 -- what the pool did
 abbrev pub pool_act_text : PoolAct → List ℕ
@@ -93,7 +94,8 @@ pool_act_text (turns.Give count first) = codes "give " ++ decimal count ++ codes
 
 -- `p J LINE P ACT` and an LF: entry J of the pool
 abbrev pub pool_text : ℕ → PoolEntry → List ℕ
-pool_text j e = field_text (codes "p ") j ++ field_text (codes " ") e.line ++ field_text (codes " ") e.partition ++ codes " " ++ pool_act_text e.act ++ 10 ∷ []
+pool_text j e = field_text (codes "p ") j ++ field_text (codes " ") e.line
+    ++ field_text (codes " ") e.partition ++ codes " " ++ pool_act_text e.act ++ 10 ∷ []
 
 -- `-`, `own:SLOT` or `ref:SLOT`
 abbrev pub held_text : Held → List ℕ
@@ -103,7 +105,8 @@ held_text (handles.Ref slot) = codes "ref:" ++ slot_text slot
 
 -- `c K J LINE GAVE FOUND` and an LF: exchange J of cell K
 abbrev pub cell_text : ℕ → ℕ → CellEntry → List ℕ
-cell_text k j e = field_text (codes "c ") k ++ field_text (codes " ") j ++ field_text (codes " ") e.line ++ codes " " ++ held_text e.gave ++ codes " " ++ held_text e.found ++ 10 ∷ []
+cell_text k j e = field_text (codes "c ") k ++ field_text (codes " ") j ++ field_text (codes " ") e.line
+    ++ codes " " ++ held_text e.gave ++ codes " " ++ held_text e.found ++ 10 ∷ []
 
 -- a word, how many slots and how many bytes
 abbrev pub tally_text : List ℕ → Tally → List ℕ

@@ -138,15 +138,18 @@ cache_overflow_journal =
     ∷ fill 50 0 None (slots 0 0 (17152 ∷ 17168 ∷ 17184 ∷ 17200 ∷ 17216 ∷ 17232 ∷ 17248 ∷ 17264 ∷ []))
     ∷ fill 58 0 None (slots 0 0 (17280 ∷ 17296 ∷ 17312 ∷ 17328 ∷ 17344 ∷ 17360 ∷ 17376 ∷ 17392 ∷ []))
     ∷ fill 67 0 None (slots 0 0 (17408 ∷ 17424 ∷ 17440 ∷ 17456 ∷ 17472 ∷ 17488 ∷ 17504 ∷ 17520 ∷ []))
-    ∷ give 125 (slots 0 2 (16784 ∷ 16768 ∷ 16752 ∷ 16736 ∷ 16720 ∷ 16704 ∷ 16688 ∷ 16672 ∷ 16656 ∷ 16640 ∷ 16624 ∷ 16608 ∷ 16592 ∷ 16576 ∷ 16560 ∷ 16544 ∷ []))
-    ∷ give 125 (slots 0 2 (16528 ∷ 16512 ∷ 16496 ∷ 16480 ∷ 16464 ∷ 16448 ∷ 16432 ∷ 16416 ∷ 16400 ∷ 17408 ∷ []) ++ slots 0 0 (17424 ∷ 17440 ∷ 17456 ∷ 17472 ∷ 17488 ∷ 17504 ∷ []))
+    ∷ give 125 (slots 0 2
+    (16784 ∷ 16768 ∷ 16752 ∷ 16736 ∷ 16720 ∷ 16704 ∷ 16688 ∷ 16672 ∷ 16656 ∷ 16640 ∷ 16624 ∷ 16608 ∷ 16592 ∷ 16576 ∷ 16560 ∷ 16544 ∷ []))
+    ∷ give 125 (slots 0 2 (16528 ∷ 16512 ∷ 16496 ∷ 16480 ∷ 16464 ∷ 16448 ∷ 16432 ∷ 16416 ∷ 16400 ∷ 17408 ∷ []) ++ slots 0 0
+    (17424 ∷ 17440 ∷ 17456 ∷ 17472 ∷ 17488 ∷ 17504 ∷ []))
     ∷ give 125 (slots 0 0 (17520 ∷ []))
     ∷ []
 
 abbrev pub cache_overflow_census : Census
 cache_overflow_census = census_of 217 3472 4096 2097152 0 1 0 0
 
--- The ring of empty spans: the seventeenth empty span has the oldest one decommitted, and the last slot is taken from the span that became empty last.
+-- The ring of empty spans: the seventeenth empty span has the oldest one decommitted, and the last slot is taken from the span that
+-- became empty last.
 abbrev pub empty_ring_pool : List PoolEntry
 empty_ring_pool =
     pool_take 2 0 1 (Some 0)

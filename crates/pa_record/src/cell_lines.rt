@@ -54,7 +54,9 @@ fn push_exchange(
 
 // Appends `c K J LINE` and a space.
 fn push_place(out: &mut Vec<u8>, cell: u64, index: u64, line: u32) -> Result<(), OutOfMemory>
-    ensures pushed { OnOk result (out.new.items ≡ out.old.items ++ (field_text (codes "c ") cell ++ field_text (codes " ") index ++ field_text (codes " ") line ++ codes " ")) }
+    ensures pushed { OnOk result
+        (out.new.items ≡ out.old.items ++
+        (field_text (codes "c ") cell ++ field_text (codes " ") index ++ field_text (codes " ") line ++ codes " ")) }
     ensures kept { OnErr result (StartsWith out.new.items out.old.items) }
 {
     push_field(out, b"c ", cell)?;

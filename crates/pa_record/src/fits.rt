@@ -2,7 +2,7 @@
 ghost use Rattle.std.specs.Prelude.{IfSome};
 ghost use Rattle.std.specs.List.{AllByRecursion};
 ghost use Rattle.pa_text.specs.Hex.{SlotFits};
-ghost use Rattle.pa_record.specs.Fits.{Is32, IsClass, EntryFits, NumberedFits, RootActFits, RootFits, PoolFits, CellFits, ReportFits, RunFits};
+ghost use Rattle.pa_record.specs.Bits.{Is32, IsClass, EntryInBits, NumberedInBits, RootActInBits, RootInBits, PoolInBits, CellInBits, ReportInBits, RunInBits};
 
 use crate::{
     CellEntry, Entry, History, Journal, Numbered, PoolEntry, ReportLine, RootAct, RootEntry, Run,
@@ -12,7 +12,7 @@ use pa_machine::SlotName;
 
 /// Each number of a run has the bits of its type, each class is one of the 59, and no batch has more than 16 slots.
 pub fn run_fits(run: &Run)
-    ensures { RunFits run.now }
+    ensures { RunInBits run.now }
 {
     entries_fit(&run.entries);
     journals_fit(&run.roots);
@@ -22,7 +22,7 @@ pub fn run_fits(run: &Run)
 }
 
 fn entries_fit(entries: &[Entry])
-    ensures { AllByRecursion EntryFits entries.now }
+    ensures { AllByRecursion EntryInBits entries.now }
 {
     for entry in entries {
         entry_fits(*entry);
@@ -30,11 +30,11 @@ fn entries_fit(entries: &[Entry])
 }
 
 fn entry_fits(entry: Entry)
-    ensures { EntryFits entry }
+    ensures { EntryInBits entry }
 {}
 
 fn journals_fit(journals: &[Journal])
-    ensures { AllByRecursion (AllByRecursion RootFits) journals.now }
+    ensures { AllByRecursion (AllByRecursion RootInBits) journals.now }
 {
     for journal in journals {
         journal_fits(journal.entries());
@@ -42,7 +42,7 @@ fn journals_fit(journals: &[Journal])
 }
 
 fn journal_fits(entries: &[RootEntry])
-    ensures { AllByRecursion RootFits entries.now }
+    ensures { AllByRecursion RootInBits entries.now }
 {
     for entry in entries {
         root_fits(entry);
@@ -50,14 +50,14 @@ fn journal_fits(entries: &[RootEntry])
 }
 
 fn root_fits(entry: &RootEntry)
-    ensures { RootFits entry.now }
+    ensures { RootInBits entry.now }
 {
     number_fits(entry.line);
     root_act_fits(&entry.act);
 }
 
 fn root_act_fits(act: &RootAct)
-    ensures { RootActFits act.now }
+    ensures { RootActInBits act.now }
 {
     match act {
         RootAct::Fill { class, pool, slots } => {
@@ -104,7 +104,7 @@ fn slot_fits(slot: SlotName)
 {}
 
 fn batch_fits(slots: &[Numbered])
-    ensures { AllByRecursion NumberedFits slots.now }
+    ensures { AllByRecursion NumberedInBits slots.now }
 {
     for slot in slots {
         numbered_fits(*slot);
@@ -112,11 +112,11 @@ fn batch_fits(slots: &[Numbered])
 }
 
 fn numbered_fits(slot: Numbered)
-    ensures { NumberedFits slot }
+    ensures { NumberedInBits slot }
 {}
 
 fn pool_fits(entries: &[PoolEntry])
-    ensures { AllByRecursion PoolFits entries.now }
+    ensures { AllByRecursion PoolInBits entries.now }
 {
     for entry in entries {
         pool_entry_fits(*entry);
@@ -124,11 +124,11 @@ fn pool_fits(entries: &[PoolEntry])
 }
 
 fn pool_entry_fits(entry: PoolEntry)
-    ensures { PoolFits entry }
+    ensures { PoolInBits entry }
 {}
 
 fn histories_fit(histories: &[History])
-    ensures { AllByRecursion (AllByRecursion CellFits) histories.now }
+    ensures { AllByRecursion (AllByRecursion CellInBits) histories.now }
 {
     for history in histories {
         history_fits(history.entries());
@@ -136,7 +136,7 @@ fn histories_fit(histories: &[History])
 }
 
 fn history_fits(entries: &[CellEntry])
-    ensures { AllByRecursion CellFits entries.now }
+    ensures { AllByRecursion CellInBits entries.now }
 {
     for entry in entries {
         exchange_fits(*entry);
@@ -144,11 +144,11 @@ fn history_fits(entries: &[CellEntry])
 }
 
 fn exchange_fits(entry: CellEntry)
-    ensures { CellFits entry }
+    ensures { CellInBits entry }
 {}
 
 fn report_fits(report: &[ReportLine])
-    ensures { AllByRecursion ReportFits report.now }
+    ensures { AllByRecursion ReportInBits report.now }
 {
     for line in report {
         line_fits(*line);
@@ -156,5 +156,5 @@ fn report_fits(report: &[ReportLine])
 }
 
 fn line_fits(line: ReportLine)
-    ensures { ReportFits line }
+    ensures { ReportInBits line }
 {}

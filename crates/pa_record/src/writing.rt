@@ -20,7 +20,8 @@ pub fn push_entry(out: &mut Vec<u8>, entry: &Entry) -> Result<(), OutOfMemory>
 
 // Appends `e LINE THREAD` and a space.
 fn push_place(out: &mut Vec<u8>, line: u32, thread: u32) -> Result<(), OutOfMemory>
-    ensures pushed { OnOk result (out.new.items ≡ out.old.items ++ (codes "e " ++ decimal line ++ codes " " ++ decimal thread ++ codes " ")) }
+    ensures pushed { OnOk result
+        (out.new.items ≡ out.old.items ++ (codes "e " ++ decimal line ++ codes " " ++ decimal thread ++ codes " ")) }
     ensures kept { OnErr result (StartsWith out.new.items out.old.items) }
 {
     push_bytes(out, b"e ")?;

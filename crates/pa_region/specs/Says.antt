@@ -34,7 +34,8 @@ CountKeeps =
     (step : Step) (t : Title) (words : List ℕ) (views : List View) (i : ℕ) (v : View) →
     IsKept words views → get_elem? views i ≡ some v → CanCount step t v →
     CanStep step (word_shown words t) × IsFound t (word_shown words t) v ×
-    IsKept (slice_set words (count_place t) (stepped step (word_shown words t))) (slice_set views i (after_count step t (word_shown words t) v))
+    IsKept (slice_set words (count_place t) (stepped step (word_shown words t)))
+    (slice_set views i (after_count step t (word_shown words t) v))
 
 -- from one list of words and one list of views to the next, this event was enabled in the core that is shown, and happened
 abbrev pub IsEventOf : Event → List ℕ → List View → List ℕ → List View → Type 0
@@ -91,7 +92,8 @@ abbrev pub ReadKeeps : Type 0
 ReadKeeps =
     (t : Title) (place : ℕ) (words : List ℕ) (views : List View) (i : ℕ) (v : View) →
     IsKept words views → get_elem? views i ≡ some v → IsUser t v → HasStake v → place < content_count t →
-    IsEventOf (Load i (content_offset t place)) words views words (slice_set views i (after_read t place (content_at (byte_words words) t place) v)) ×
+    IsEventOf (Load i (content_offset t place)) words views words
+    (slice_set views i (after_read t place (content_at (byte_words words) t place) v)) ×
     IsKept words (slice_set views i (after_read t place (content_at (byte_words words) t place) v))
 
 -- the rule holds of a new region's words, which are 0, and of the first seat's view
@@ -133,7 +135,8 @@ JoinKeeps =
 -- an entry in a keeper's list by any one seat that has the keeper and a stake keeps it
 abbrev pub EnterKeeps : Type 0
 EnterKeeps =
-    (k : ℕ) (numbers : List ℕ) (words : List ℕ) (views : List View) (i : ℕ) (v : View) → IsKept words views → get_elem? views i ≡ some v → CanEnter k v →
+    (k : ℕ) (numbers : List ℕ) (words : List ℕ) (views : List View) (i : ℕ) (v : View) → IsKept words views → get_elem? views i ≡ some v →
+    CanEnter k v →
     IsKept words (slice_set views i (after_enter k numbers v))
 
 -- a cut by view number i, of a title whose count word it knows to be 0, is a cut by the core's actor i, and keeps the rule;

@@ -46,7 +46,8 @@ StepStandsAtItsNumber =
 abbrev pub HistoryGoesOn : Type 0
 HistoryGoesOn =
     (logs after : (Entry → ℕ) → ℕ) (t : Title) (older newer : List Done) → AddsUp after →
-    ((weight : Entry → ℕ) → logs weight ≤ after weight) → IsChained logs t older → IsChained after t newer → (later : List Done) × (newer ≡ later ++ older)
+    ((weight : Entry → ℕ) → logs weight ≤ after weight) → IsChained logs t older → IsChained after t newer → (later : List Done)
+    × (newer ≡ later ++ older)
 
 -- up to a number that it had passed, a longer history is what it was
 abbrev pub LongerIsTheSame : Type 0

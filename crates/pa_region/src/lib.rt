@@ -14,6 +14,7 @@ mod lending;
 #[cfg(test)]
 mod lending_tests;
 mod marks;
+mod name;
 mod note;
 mod read_laws;
 mod region;
@@ -41,6 +42,7 @@ pub use lend_laws::{
 };
 pub use lending::{enter_both, enter_with, lend_stake};
 pub use marks::Mark;
+pub use name::Name;
 pub use note::Note;
 pub use read_laws::{
     a_history_goes_on, a_longer_history_is_the_same, a_look_finds_its_word,

@@ -70,6 +70,7 @@ impl Seat {
         ensures well { IsWellFormed (byte_word_count self.now.region) title }
         ensures long { length self.now.view.words ≡ byte_word_count self.now.region }
     {
+        // Naming the seat inside hands its proof what the type keeps; so do the lines like this one below, here and in the other files.
         let _ = &self.seat;
         let _ = title;
     }

@@ -70,7 +70,8 @@ pub fn add_as<T: Telling>(
     _step: Step,
 ) -> u64
     requires region { (seat.old.table_id ≡ table.now.shared.table_id) × (word < table.now.shared.table_id.words) }
-    requires allowed { Allows (λ (s : TableState (Unit {0}) View). IsKept s.words s.views) table.now.shared.table_id.slots seat.old.id seat.old.me word (λ n. (n + value) % 2 ^ 64) (T.then seat.old.me) }
+    requires allowed { Allows (λ (s : TableState (Unit {0}) View). IsKept s.words s.views)
+        table.now.shared.table_id.slots seat.old.id seat.old.me word (λ n. (n + value) % 2 ^ 64) (T.then seat.old.me) }
     ensures seat { (seat.new.table_id ≡ seat.old.table_id) × (seat.new.id ≡ seat.old.id) }
     ensures told { T.then seat.old.me result seat.new.me }
     ensures aware { IsAware seat.new.me.0 }
@@ -81,7 +82,8 @@ pub fn add_as<T: Telling>(
 // One load of a word, which is the word at that offset in bytes.
 pub fn load_as<T: Telling>(table: &Words, seat: &mut Seat<(), View>, word: usize, _at: u32) -> u64
     requires region { (seat.old.table_id ≡ table.now.shared.table_id) × (word < table.now.shared.table_id.words) }
-    requires allowed { Allows (λ (s : TableState (Unit {0}) View). IsKept s.words s.views) table.now.shared.table_id.slots seat.old.id seat.old.me word (λ n. n) (T.then seat.old.me) }
+    requires allowed { Allows (λ (s : TableState (Unit {0}) View). IsKept s.words s.views)
+        table.now.shared.table_id.slots seat.old.id seat.old.me word (λ n. n) (T.then seat.old.me) }
     ensures seat { (seat.new.table_id ≡ seat.old.table_id) × (seat.new.id ≡ seat.old.id) }
     ensures told { T.then seat.old.me result seat.new.me }
     ensures aware { IsAware seat.new.me.0 }
@@ -92,7 +94,8 @@ pub fn load_as<T: Telling>(table: &Words, seat: &mut Seat<(), View>, word: usize
 // One load of a word, at which a seat cuts the title or makes it raw again.
 pub fn title_as<T: Telling>(table: &Words, seat: &mut Seat<(), View>, word: usize, _title: Title)
     requires region { (seat.old.table_id ≡ table.now.shared.table_id) × (word < table.now.shared.table_id.words) }
-    requires allowed { Allows (λ (s : TableState (Unit {0}) View). IsKept s.words s.views) table.now.shared.table_id.slots seat.old.id seat.old.me word (λ n. n) (T.then seat.old.me) }
+    requires allowed { Allows (λ (s : TableState (Unit {0}) View). IsKept s.words s.views)
+        table.now.shared.table_id.slots seat.old.id seat.old.me word (λ n. n) (T.then seat.old.me) }
     ensures seat { (seat.new.table_id ≡ seat.old.table_id) × (seat.new.id ≡ seat.old.id) }
     ensures told { (found : ℕ) × T.then seat.old.me found seat.new.me }
     ensures aware { IsAware seat.new.me.0 }
@@ -103,7 +106,8 @@ pub fn title_as<T: Telling>(table: &Words, seat: &mut Seat<(), View>, word: usiz
 // One load of word 0, at which a seat makes an entry in a keeper's list.
 pub fn enter_as<T: Telling>(table: &Words, seat: &mut Seat<(), View>, _keeper: u32, _entry: &[u64])
     requires region { (seat.old.table_id ≡ table.now.shared.table_id) × (0 < table.now.shared.table_id.words) }
-    requires allowed { Allows (λ (s : TableState (Unit {0}) View). IsKept s.words s.views) table.now.shared.table_id.slots seat.old.id seat.old.me 0 (λ n. n) (T.then seat.old.me) }
+    requires allowed { Allows (λ (s : TableState (Unit {0}) View). IsKept s.words s.views)
+        table.now.shared.table_id.slots seat.old.id seat.old.me 0 (λ n. n) (T.then seat.old.me) }
     ensures seat { (seat.new.table_id ≡ seat.old.table_id) × (seat.new.id ≡ seat.old.id) }
     ensures told { (word : ℕ) × T.then seat.old.me word seat.new.me }
     ensures aware { IsAware seat.new.me.0 }
@@ -120,7 +124,8 @@ pub fn store_as<T: Telling>(
     _at: u32,
 )
     requires region { (seat.old.table_id ≡ table.now.shared.table_id) × (word < table.now.shared.table_id.words) }
-    requires allowed { Allows (λ (s : TableState (Unit {0}) View). IsKept s.words s.views) table.now.shared.table_id.slots seat.old.id seat.old.me word (λ _. value) (λ _. T.then seat.old.me value) }
+    requires allowed { Allows (λ (s : TableState (Unit {0}) View). IsKept s.words s.views)
+        table.now.shared.table_id.slots seat.old.id seat.old.me word (λ _. value) (λ _. T.then seat.old.me value) }
     ensures seat { (seat.new.table_id ≡ seat.old.table_id) × (seat.new.id ≡ seat.old.id) }
     ensures told { T.then seat.old.me value seat.new.me }
     ensures aware { IsAware seat.new.me.0 }
@@ -137,7 +142,8 @@ pub fn poison_as<T: Telling>(
     _place: u32,
 )
     requires region { (seat.old.table_id ≡ table.now.shared.table_id) × (word < table.now.shared.table_id.words) }
-    requires allowed { Allows (λ (s : TableState (Unit {0}) View). IsKept s.words s.views) table.now.shared.table_id.slots seat.old.id seat.old.me word (λ _. poison) (λ _. T.then seat.old.me poison) }
+    requires allowed { Allows (λ (s : TableState (Unit {0}) View). IsKept s.words s.views)
+        table.now.shared.table_id.slots seat.old.id seat.old.me word (λ _. poison) (λ _. T.then seat.old.me poison) }
     ensures seat { (seat.new.table_id ≡ seat.old.table_id) × (seat.new.id ≡ seat.old.id) }
     ensures told { T.then seat.old.me poison seat.new.me }
     ensures aware { IsAware seat.new.me.0 }
@@ -182,8 +188,10 @@ pub fn hand_as<T: Handing>(
     _marks: &[Mark],
 ) -> Seat<(), View>
     requires region { (seat.old.table_id ≡ table.now.shared.table_id) × (0 < table.now.shared.table_id.words) }
-    requires allowed { Splits (λ (s : TableState (Unit {0}) View). IsKept s.words s.views) seat.old.id seat.old.me.0 (T.left seat.old.me.0) (T.right seat.old.me.0) }
-    ensures seat { (seat.new.table_id ≡ seat.old.table_id) × (seat.new.id ≡ seat.old.id) × (seat.new.me ≡ (T.left seat.old.me.0, seat.old.me.1)) }
+    requires allowed { Splits (λ (s : TableState (Unit {0}) View). IsKept s.words s.views)
+        seat.old.id seat.old.me.0 (T.left seat.old.me.0) (T.right seat.old.me.0) }
+    ensures seat { (seat.new.table_id ≡ seat.old.table_id) × (seat.new.id ≡ seat.old.id)
+        × (seat.new.me ≡ (T.left seat.old.me.0, seat.old.me.1)) }
     ensures other { (result.table_id ≡ seat.old.table_id) × (result.me ≡ (T.right seat.old.me.0, [])) }
 {
     table.shared.split_seat::<Handed<T>>(seat)
@@ -217,9 +225,12 @@ impl<T: Taking> Join<View> for Taken<T> {
 
 // One load of word 0, at which a seat gets all that another has.
 pub fn take_as<T: Taking>(table: &Words, seat: &mut Seat<(), View>, other: Seat<(), View>)
-    requires region { (seat.old.table_id ≡ table.now.shared.table_id) × (other.table_id ≡ table.now.shared.table_id) × (other.me.1 ≡ []) × (0 < table.now.shared.table_id.words) }
-    requires allowed { Joins (λ (s : TableState (Unit {0}) View). IsKept s.words s.views) seat.old.id seat.old.me.0 other.id other.me.0 (T.both seat.old.me.0 other.me.0) T.spent }
-    ensures seat { (seat.new.table_id ≡ seat.old.table_id) × (seat.new.id ≡ seat.old.id) × (seat.new.me ≡ (T.both seat.old.me.0 other.me.0, seat.old.me.1)) }
+    requires region { (seat.old.table_id ≡ table.now.shared.table_id) × (other.table_id ≡ table.now.shared.table_id) × (other.me.1 ≡ [])
+        × (0 < table.now.shared.table_id.words) }
+    requires allowed { Joins (λ (s : TableState (Unit {0}) View). IsKept s.words s.views)
+        seat.old.id seat.old.me.0 other.id other.me.0 (T.both seat.old.me.0 other.me.0) T.spent }
+    ensures seat { (seat.new.table_id ≡ seat.old.table_id) × (seat.new.id ≡ seat.old.id)
+        × (seat.new.me ≡ (T.both seat.old.me.0 other.me.0, seat.old.me.1)) }
 {
     table.shared.join_seat::<Taken<T>>(seat, other)
 }
@@ -227,7 +238,8 @@ pub fn take_as<T: Taking>(table: &Words, seat: &mut Seat<(), View>, other: Seat<
 // One load of word 0, which changes no view, and tells what the rule says of it.
 pub fn tell_as<T: Telling>(table: &Words, seat: &mut Seat<(), View>)
     requires region { (seat.old.table_id ≡ table.now.shared.table_id) × (0 < table.now.shared.table_id.words) }
-    requires allowed { Allows (λ (s : TableState (Unit {0}) View). IsKept s.words s.views) table.now.shared.table_id.slots seat.old.id seat.old.me 0 (λ n. n) (T.then seat.old.me) }
+    requires allowed { Allows (λ (s : TableState (Unit {0}) View). IsKept s.words s.views)
+        table.now.shared.table_id.slots seat.old.id seat.old.me 0 (λ n. n) (T.then seat.old.me) }
     ensures seat { (seat.new.table_id ≡ seat.old.table_id) × (seat.new.id ≡ seat.old.id) }
     ensures told { (word : ℕ) × T.then seat.old.me word seat.new.me }
     ensures aware { IsAware seat.new.me.0 }

@@ -26,7 +26,7 @@ use Rattle.pa_record.proofs.Members.{not_in_none, first_in, in_cases}
 use Rattle.pa_rules.specs.declared.played.Played.{Played}
 use Rattle.pa_rules.specs.Played.{mark_of, mark_of_answer, mark_at, look_at, marks_of, step_of}
 use Rattle.pa_rules.specs.Roots.{Journals}
-use Rattle.pa_rules.specs.Caches.{Cache, Caches, with_list, with_cache, Becomes, acts_of, OnlyActs, NoActs, IsOfClass, IsDirect, MadeRow, FullRow, ReturnRow, DoneRow, PurgedRow, CacheRow, CachesTo, no_caches, gives, kept, spilled, unmap_at}
+use Rattle.pa_rules.specs.Caches.{Cache, Caches, with_list, with_cache, SameLists, acts_of, OnlyActs, NoActs, IsOfClass, IsDirect, MadeRow, FullRow, ReturnRow, DoneRow, PurgedRow, CacheRow, CachesTo, no_caches, gives, kept, spilled, unmap_at}
 use Rattle.pa_rules.specs.Flow.{returns_at, is_issue, is_issue_of, is_return_of, issues_of, returns_of, listed_times, cached_times, left_in, back_in, left_on, back_on, IsOnlyOf, CachesKeep}
 use Rattle.pa_rules.proofs.Known.{IsKnown, FirstKeeps, first_keeps, entry_of_act, known_with, row_known}
 use Rattle.pa_rules.proofs.Counted.{once, stands, times_cons, stands_kept, back_gives, left_gives, back_purge, left_purge, listed_agree, listed_none, list_of_another, listed_changed, cached_changed}
@@ -48,7 +48,7 @@ Flows s p acts mark cache after =
     listed_times s (after p) 0 59 + marked (is_issue_of s) mark + back_in s acts ≡ listed_times s (cache p) 0 59 + left_in s acts + marked (is_return_of s) mark
 
 -- a row without entries, steps that issue or return, and changes
-quiet : (s : SlotName) (p : ℕ) (acts : List RootAct) (mark : Option Mark) (cache after : Cache) → Becomes after cache →
+quiet : (s : SlotName) (p : ℕ) (acts : List RootAct) (mark : Option Mark) (cache after : Cache) → SameLists after cache →
     left_in s acts + marked (is_return_of s) mark ≡ back_in s acts + marked (is_issue_of s) mark → Flows s p acts mark cache after
 quiet s p acts mark cache after becomes even = let same = listed_agree s (after p) (cache p) 0 59 (λ c low. becomes p c) in omega arith
 
@@ -249,7 +249,7 @@ purged_keeps partitions s p roots x slots cache after below (acts, counted, empt
     omega arith
 
 -- a row without entries, with a look or no mark
-look_keeps : (s : SlotName) (p : ℕ) (roots : Journals) (x : Played) (o : Option Seen) (cache after : Cache) → NoActs roots x.line × Becomes after cache →
+look_keeps : (s : SlotName) (p : ℕ) (roots : Journals) (x : Played) (o : Option Seen) (cache after : Cache) → NoActs roots x.line × SameLists after cache →
     Flows s p (acts_of roots x.line p) (look_at x.line o) cache after
 look_keeps s p roots x None cache after (acts, becomes) =
     let (left, back) = none_left s (acts_of roots x.line p) (acts p) in

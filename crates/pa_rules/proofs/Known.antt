@@ -20,7 +20,7 @@ use Rattle.pa_record.proofs.Joined.{map_cases, map_in, filter_cases}
 use Rattle.pa_rules.specs.declared.played.Played.{Played}
 use Rattle.pa_rules.specs.Played.{step_of}
 use Rattle.pa_rules.specs.Roots.{Journals}
-use Rattle.pa_rules.specs.Caches.{Cache, Caches, with_list, with_cache, Becomes, acts_of, FilledFirst, MadeRow, ReturnRow, DoneRow, FullRow, CacheRow, CachesTo, IsOfClass, kept}
+use Rattle.pa_rules.specs.Caches.{Cache, Caches, with_list, with_cache, SameLists, acts_of, FilledFirst, MadeRow, ReturnRow, DoneRow, FullRow, CacheRow, CachesTo, IsOfClass, kept}
 use Rattle.pa_rules.specs.Flow.{left_in, back_in}
 use Rattle.pa_rules.proofs.Counted.{stands}
 
@@ -28,11 +28,11 @@ use Rattle.pa_rules.proofs.Counted.{stands}
 abbrev pub IsKnown : Journals → Cache → Type 0
 IsKnown roots cache = (q c : ℕ) (n : Numbered) → Contains (cache q c) n → IsOfClass roots n.slot q c
 
-pub known_same : (roots : Journals) (cache after : Cache) → IsKnown roots cache → Becomes after cache → IsKnown roots after
+pub known_same : (roots : Journals) (cache after : Cache) → IsKnown roots cache → SameLists after cache → IsKnown roots after
 known_same roots cache after known becomes q c n among = known q c n (subst (λ xs. Contains xs n) (becomes q c) among)
 
 -- the slots of one list are known, and the others stayed
-pub known_changed : (roots : Journals) (cache after : Cache) (p class : ℕ) (xs : List Numbered) → IsKnown roots cache → Becomes after (with_list cache p class xs) →
+pub known_changed : (roots : Journals) (cache after : Cache) (p class : ℕ) (xs : List Numbered) → IsKnown roots cache → SameLists after (with_list cache p class xs) →
     ((n : Numbered) → Contains xs n → IsOfClass roots n.slot p class) → IsKnown roots after
 known_changed roots cache after p class xs known becomes new q c n among =
     let there : Contains (with_list cache p class xs q c) n = subst (λ ys. Contains ys n) (becomes q c) among in

@@ -29,8 +29,8 @@ abbrev pub with_list : Cache → ℕ → ℕ → List Numbered → Cache
 with_list cache p class xs q c = if (q == p) && (c == class) then xs else cache q c
 
 -- `after` has what `cache` has
-abbrev pub Becomes : Cache → Cache → Type 0
-Becomes after cache = (p c : ℕ) → after p c ≡ cache p c
+abbrev pub SameLists : Cache → Cache → Type 0
+SameLists after cache = (p c : ℕ) → after p c ≡ cache p c
 
 -- what the entries of a line did, in the order of partition p's journal
 abbrev pub acts_of : Journals → ℕ → ℕ → List RootAct
@@ -55,7 +55,8 @@ gives xs = batches (length xs) xs
 -- the slot is one of partition p's of the class, which a fill gave; a direct map of partition p
 abbrev pub IsOfClass : Journals → SlotName → ℕ → ℕ → Type 0
 IsOfClass roots s p class =
-    (e : RootEntry) × (asked : Option ℕ) × (slots : List Numbered) × Contains (roots p) e × (e.act ≡ Fill class asked slots) × Contains (names slots) s
+    (e : RootEntry) × (asked : Option ℕ) × (slots : List Numbered) × Contains (roots p) e × (e.act ≡ Fill class asked slots)
+    × Contains (names slots) s
 
 abbrev pub IsDirect : Journals → SlotName → ℕ → Type 0
 IsDirect roots s p = (e : RootEntry) × (asked len : ℕ) × Contains (roots p) e × (e.act ≡ Map asked s len)
@@ -72,14 +73,15 @@ FilledFirst roots line p class (y ∷ ys) xs = (xs ≡ y ∷ ys) × NoActs roots
 abbrev pub MadeRow : Journals → Played → Seen → Cache → Cache → Type 0
 MadeRow roots x seen cache after =
     ((p class : ℕ) × (xs rest : List Numbered) × AsksForClass x.op p class × FilledFirst roots x.line p class (cache p class) xs
-    × FrontIs seen xs rest × Becomes after (with_list cache p class rest))
-    ⊎ ((p size asked len : ℕ) × AsksForMap x.op p size × OnlyActs roots x.line p (Map asked seen.slot len ∷ []) × Becomes after cache)
+    × FrontIs seen xs rest × SameLists after (with_list cache p class rest))
+    ⊎ ((p size asked len : ℕ) × AsksForMap x.op p size × OnlyActs roots x.line p (Map asked seen.slot len ∷ []) × SameLists after cache)
 
 -- there was no room: one Full; for a class the list is empty
 abbrev pub FullRow : Journals → Played → Cache → Cache → Type 0
 FullRow roots x cache after =
-    ((p class asked : ℕ) × AsksForClass x.op p class × (cache p class ≡ []) × OnlyActs roots x.line p (Full (Some class) asked ∷ []) × Becomes after cache)
-    ⊎ ((p size asked : ℕ) × AsksForMap x.op p size × OnlyActs roots x.line p (Full None asked ∷ []) × Becomes after cache)
+    ((p class asked : ℕ) × AsksForClass x.op p class × (cache p class ≡ []) × OnlyActs roots x.line p (Full (Some class) asked ∷ [])
+    × SameLists after cache)
+    ⊎ ((p size asked : ℕ) × AsksForMap x.op p size × OnlyActs roots x.line p (Full None asked ∷ []) × SameLists after cache)
 
 -- how much of a list stays when a slot came to its front: all of it up to the limit, else the first half of the limit
 abbrev pub kept : ℕ → List Numbered → List Numbered
@@ -97,16 +99,16 @@ unmap_at asked slot number = Unmap asked (record { slot = slot; number = number 
 abbrev pub ReturnRow : Journals → Played → Numbered → Cache → Cache → Type 0
 ReturnRow roots x slot cache after =
     ((p class : ℕ) × IsOfClass roots slot.slot p class × OnlyActs roots x.line p (gives (spilled class (slot ∷ cache p class)))
-    × Becomes after (with_list cache p class (kept class (slot ∷ cache p class))))
+    × SameLists after (with_list cache p class (kept class (slot ∷ cache p class))))
     ⊎ ((p asked number : ℕ) × IsDirect roots slot.slot p × OnlyActs roots x.line p (unmap_at asked slot.slot number ∷ [])
-    × Becomes after cache)
+    × SameLists after cache)
 
 -- a step was made: a returning one or another
 abbrev pub DoneRow : Journals → Played → Option Step → Seen → Cache → Cache → Type 0
-DoneRow roots x None seen cache after = NoActs roots x.line × Becomes after cache
+DoneRow roots x None seen cache after = NoActs roots x.line × SameLists after cache
 DoneRow roots x (Some step) seen cache after =
     (IsReturning step seen.found.0 × ReturnRow roots x (record { slot = seen.slot; number = number_of seen.found.0 + 1 }) cache after)
-    ⊎ ((IsReturning step seen.found.0 → ⊥) × NoActs roots x.line × Becomes after cache)
+    ⊎ ((IsReturning step seen.found.0 → ⊥) × NoActs roots x.line × SameLists after cache)
 
 -- what a purge does in a partition: the lists of the classes from one on go back whole, and then the root is purged
 abbrev pub purge_acts : (ℕ → List Numbered) → ℕ → ℕ → List RootAct
@@ -133,7 +135,7 @@ CacheRow partitions roots x (answers.Made seen usable) cache after = MadeRow roo
 CacheRow partitions roots x (answers.Done seen) cache after = DoneRow roots x (step_of x.op) seen cache after
 CacheRow partitions roots x (answers.Full entry) cache after = FullRow roots x cache after
 CacheRow partitions roots x (answers.Purged slots) cache after = PurgedRow partitions roots x slots cache after
-CacheRow partitions roots x answer cache after = NoActs roots x.line × Becomes after cache
+CacheRow partitions roots x answer cache after = NoActs roots x.line × SameLists after cache
 
 abbrev pub with_cache : Caches → ℕ → Cache → Caches
 with_cache all thread cache t = if t == thread then cache else all t
@@ -142,7 +144,8 @@ with_cache all thread cache t = if t == thread then cache else all t
 abbrev pub CachesTo : ℕ → Journals → Caches → List Played → Caches → Type 0
 CachesTo partitions roots all [] after = after ≡ all
 CachesTo partitions roots all (x ∷ xs) after =
-    (next : Cache) × CacheRow partitions roots x x.answer (all x.thread) next × CachesTo partitions roots (with_cache all x.thread next) xs after
+    (next : Cache) × CacheRow partitions roots x x.answer (all x.thread) next
+    × CachesTo partitions roots (with_cache all x.thread next) xs after
 
 -- at the start every list is empty
 abbrev pub no_caches : Caches

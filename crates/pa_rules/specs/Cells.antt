@@ -6,6 +6,7 @@ use Rattle.pa_record.specs.declared.history.CellEntry.{CellEntry}
 use Rattle.pa_record.specs.declared.history.Held.{Held}
 use Rattle.pa_record.specs.declared.history.Held.TheVariants.{Nothing}
 use Rattle.pa_rules.specs.declared.played.Played.{Played}
+use Rattle.pa_rules.specs.Order.{IsOfLine, StandInOrder}
 
 -- each exchange found what the one before it gave, the first one what the cell held
 abbrev pub IsChain : Held → List CellEntry → Type 0
@@ -20,25 +21,16 @@ history_at cells k = slice_index_or cells k []
 abbrev pub IsExchange : (ℕ → List CellEntry) → ℕ → ℕ → CellEntry → Type 0
 IsExchange cells k j e = slice_get (cells k) j ≡ Some e
 
--- the record p is that of exchange e: it has its line
-abbrev pub IsRecordOf : List Played → CellEntry → Played → Type 0
-IsRecordOf ps e p = Contains ps p × (p.line ≡ e.line)
-
--- p stands before q: both are of one thread and p's line is less, or p's phase is
-abbrev pub StandsBefore : Played → Played → Type 0
-StandsBefore p q = ((p.thread ≡ q.thread) × (p.line < q.line)) ⊎ (p.phase < q.phase)
-
 -- The cells' histories are those of the records.
 --   chain: a cell's first exchange finds nothing, and each later one finds what the one before gave
 --   lines: each exchange's line is an exchange of this cell
 --   different: no two exchanges have the same line
 --   answers: each exchange's record names it, and it has the record's line
---   order: exchanges of one thread stand in the order of its lines, and those of an earlier phase before those of a later
+--   order: the exchanges of a cell stand in the order of their records
 pub record AreCells (cells : ℕ → List CellEntry) (ps : List Played) : Type 0 where
   pub chain : (k : ℕ) → IsChain Nothing (cells k)
-  pub lines : (k j : ℕ) (e : CellEntry) → IsExchange cells k j e → (p : Played) × (reg : ℕ) × IsRecordOf ps e p × (p.op ≡ Swap k reg)
+  pub lines : (k j : ℕ) (e : CellEntry) → IsExchange cells k j e → (p : Played) × (reg : ℕ) × IsOfLine ps e.line p × (p.op ≡ Swap k reg)
   pub different : (k l i j : ℕ) (e f : CellEntry) → IsExchange cells k i e → IsExchange cells l j f → e.line ≡ f.line → (k ≡ l) × (i ≡ j)
   pub answers : (p : Played) (k reg : ℕ) → Contains ps p → p.op ≡ Swap k reg
       → (j : ℕ) × (e : CellEntry) × (p.answer ≡ Swapped j) × IsExchange cells k j e × (e.line ≡ p.line)
-  pub order : (k i j : ℕ) (e f : CellEntry) (p q : Played) → IsExchange cells k i e → IsExchange cells k j f
-      → IsRecordOf ps e p → IsRecordOf ps f q → StandsBefore p q → i < j
+  pub order : (k : ℕ) → StandInOrder (λ e. e.line) ps (cells k)

@@ -50,7 +50,8 @@ AreExactContents ps = (p : Played) → Contains ps p → IsReadExact ps p.answer
 -- the record y freed slot s by its owner, and found this number
 abbrev pub IsFreedBy : List Played → SlotName → ℕ → Played → Type 0
 IsFreedBy ps s n y =
-    Contains ps y × (seen : Seen) × (reg : ℕ) × (y.op ≡ ops.Free reg) × (y.answer ≡ Done seen) × (seen.slot ≡ s) × (number_of seen.found.0 ≡ n)
+    Contains ps y × (seen : Seen) × (reg : ℕ) × (y.op ≡ ops.Free reg) × (y.answer ≡ Done seen) × (seen.slot ≡ s)
+    × (number_of seen.found.0 ≡ n)
 
 -- y's free of slot s is the first that found a number not below k
 abbrev pub IsNextFree : List Played → SlotName → ℕ → Played → Type 0

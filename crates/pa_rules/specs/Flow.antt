@@ -114,4 +114,5 @@ IsInPhases ps =
 -- then the records up to the end of a phase have one run for each slot, where all have
 abbrev pub RunsUntil : Type 0
 RunsUntil =
-    (ps : List Played) (phase : ℕ) → AllPairs (λ (x y : Played). x.line ≢ y.line) ps → Slots (marks_of ps) → IsInPhases ps → Slots (marks_of (until phase ps))
+    (ps : List Played) (phase : ℕ) → AllPairs (λ (x y : Played). x.line ≢ y.line) ps → Slots (marks_of ps) → IsInPhases ps →
+    Slots (marks_of (until phase ps))

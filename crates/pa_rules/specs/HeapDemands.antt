@@ -16,7 +16,8 @@ use Rattle.pa_rules.specs.declared.played.Played.{Played}
 use Rattle.pa_rules.specs.declared.verdict.Place.{Place}
 use Rattle.pa_rules.specs.declared.verdict.Place.TheVariants as places
 use Rattle.pa_rules.specs.RecordDemands.{IsRecord, ComesInOrder}
-use Rattle.pa_rules.specs.Roots.{Journals, IsEntry, IsOfLine, Names, MakesEntry, IsFull, AreAllTitles}
+use Rattle.pa_rules.specs.Roots.{Journals, IsEntry, Names, MakesEntry, IsFull, AreAllTitles}
+use Rattle.pa_rules.specs.Order.{IsOfLine}
 use Rattle.pa_rules.specs.Holders.{Holder, WithThread, Move, moves_by, is_move_of, moves_at, IsFirstHolder, HolderAfter, needed_by, IsHeld, IsOfSlot, NamesSlot}
 use Rattle.pa_rules.specs.Caches.{Cache, Caches, CacheRow, CachesTo, no_caches}
 use Rattle.pa_rules.specs.Report.{IsReportLine, phases_of}

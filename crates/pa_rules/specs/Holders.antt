@@ -12,7 +12,8 @@ use Rattle.pa_record.specs.declared.root.RootAct.{RootAct}
 use Rattle.pa_record.specs.declared.root.RootAct.TheVariants.{Fill, Map, Full, Give, Unmap, Purge}
 use Rattle.pa_rules.specs.declared.played.Played.{Played}
 use Rattle.pa_rules.specs.Played.{mark_of}
-use Rattle.pa_rules.specs.Roots.{Journals, IsEntry, IsOfLine}
+use Rattle.pa_rules.specs.Roots.{Journals, IsEntry}
+use Rattle.pa_rules.specs.Order.{IsOfLine}
 
 pub data Holder : Type 0 where
   InRoot : Holder

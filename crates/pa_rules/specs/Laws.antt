@@ -35,7 +35,8 @@ LinesDiffer = (ls : List Line) (ps : List Played) → AreLines ls ps → AllPair
 -- made and the direct maps that are mapped at the end of the phase.
 abbrev pub PlacesAddUp : Type 0
 PlacesAddUp =
-    (supers partitions threads : ℕ) (ps : List Played) (pools : List PoolEntry) (roots : Journals) (l : ReportLine) (before : List RootEntry) →
+    (supers partitions threads : ℕ) (ps : List Played) (pools : List PoolEntry) (roots : Journals) (l : ReportLine)
+    (before : List RootEntry) →
     AreRoots partitions ps pools roots → IsPoolOf supers ps pools roots → AllPairs (λ (x y : Played). x.line ≢ y.line) ps →
     All (λ (x : Played). x.thread < threads) ps → Slots (marks_of ps) → IsInPhases ps → l.partition < partitions →
     IsReportLine partitions threads ps pools roots l → AreUntil ps l.phase (roots l.partition) before →

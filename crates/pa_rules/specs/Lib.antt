@@ -1,5 +1,6 @@
 pub mod Played
 pub mod Registers
+pub mod Order
 pub mod Cells
 pub mod Contents
 pub mod Seen
@@ -16,6 +17,7 @@ pub mod Places
 pub mod RecordDemands
 pub mod HeapDemands
 pub mod Verdicts
+pub mod Tells
 pub mod Flow
 pub mod Laws
 pub mod Worked

@@ -14,7 +14,8 @@ use Rattle.pa_rules.specs.declared.played.Played.{Played}
 use Rattle.pa_rules.specs.declared.verdict.Place.{Place}
 use Rattle.pa_rules.specs.declared.verdict.Place.TheVariants as places
 use Rattle.pa_rules.specs.Played.{op_lines, key_of_line, key_of_entry, mark_of, marks_of}
-use Rattle.pa_rules.specs.Cells.{IsExchange, IsRecordOf, StandsBefore}
+use Rattle.pa_rules.specs.Cells.{IsExchange}
+use Rattle.pa_rules.specs.Order.{IsOfLine, StandsBefore}
 use Rattle.pa_rules.specs.Registers.{Facts, Regs, AllRegs, Row, RowsTo, no_regs, usable_in}
 use Rattle.pa_rules.specs.Contents.{IsReadAllowed}
 use Rattle.pa_rules.specs.Seen.{IsBefore, left_number}
@@ -47,7 +48,7 @@ IsAbove l i k j = (l < k) ⊎ ((l ≡ k) × (i < j))
 -- exchange before it stands behind it.
 pub record ExchangeFits (cells : ℕ → List CellEntry) (ps : List Played) (k j : ℕ) (e : CellEntry) : Type 0 where
   pub found : WasGiven (cells k) j e.found
-  pub line : (p : Played) × (reg : ℕ) × IsRecordOf ps e p × (p.op ≡ Swap k reg)
+  pub line : (p : Played) × (reg : ℕ) × IsOfLine ps e.line p × (p.op ≡ Swap k reg)
   pub once : (l i : ℕ) (f : CellEntry) → IsExchange cells l i f → IsAbove l i k j → f.line ≡ e.line → ⊥
   pub order : ComesInOrder ps (map (λ (f : CellEntry). f.line) (cells k)) j
 

@@ -5,6 +5,7 @@ use Rattle.pa_machine.specs.Count.{held_of, refs_of}
 use Rattle.pa_machine.specs.Run.{same_slot}
 use Rattle.pa_trace.specs.declared.script.Op.{Op}
 use Rattle.pa_trace.specs.declared.script.Op.TheVariants as ops
+use Rattle.pa_direct.specs.Shapes.{greatest_size}
 use Rattle.pa_record.specs.declared.entry.Seen.{Seen}
 use Rattle.pa_record.specs.declared.entry.Answer.{Answer}
 use Rattle.pa_record.specs.declared.entry.Answer.TheVariants.{Made, Done, Value, Dangling, SecondFree, NotOwner, StaleReset, StaleUse, Nothing, Filled, NotRef, Shared, OutOfRange, TooLarge, Full, Swapped, Purged}
@@ -38,9 +39,9 @@ pub record Facts : Type 0 where
 -- or the placement was full.
 abbrev pub RequestRow : Facts → Regs → ℕ → ℕ → Answer → Regs → Type 0
 RequestRow facts regs reg size answer after =
-    ((33521656 < size) × (answer ≡ TooLarge) × Becomes after regs)
-    ⊎ ((size ≤ 33521656) × (seen : Seen) × (answer ≡ Made seen (facts.usable_of size)) × Becomes after (with regs reg (Own seen.slot)))
-    ⊎ ((size ≤ 33521656) × (entry : ℕ) × (answer ≡ Full entry) × Becomes after regs)
+    ((greatest_size < size) × (answer ≡ TooLarge) × Becomes after regs)
+    ⊎ ((size ≤ greatest_size) × (seen : Seen) × (answer ≡ Made seen (facts.usable_of size)) × Becomes after (with regs reg (Own seen.slot)))
+    ⊎ ((size ≤ greatest_size) × (entry : ℕ) × (answer ≡ Full entry) × Becomes after regs)
 
 -- an allocation, by what its register holds
 abbrev pub AllocRow : Reg → Facts → Regs → ℕ → ℕ → Answer → Regs → Type 0

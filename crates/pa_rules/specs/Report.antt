@@ -14,7 +14,8 @@ use Rattle.pa_record.specs.Root.{new_root, root_replayed}
 use Rattle.pa_record.specs.Census.{census}
 use Rattle.pa_rules.specs.declared.played.Played.{Played}
 use Rattle.pa_rules.specs.Played.{marks_of}
-use Rattle.pa_rules.specs.Roots.{Journals, IsOfLine}
+use Rattle.pa_rules.specs.Roots.{Journals}
+use Rattle.pa_rules.specs.Order.{IsOfLine}
 use Rattle.pa_rules.specs.Caches.{Caches, CachesTo, no_caches, IsOfClass, listed_slots}
 
 -- the records up to the end of a phase
@@ -45,7 +46,8 @@ pub record AreSlots (P : ℕ → Type 0) (roots : Journals) (ps : List Played) (
 -- how many they are, and their bytes
 abbrev pub IsTally : (ℕ → Type 0) → Journals → List Played → ℕ → Tally → Type 0
 IsTally P roots ps p tally =
-    (slots : List SlotName) × (sizes : List ℕ) × AreSlots P roots ps p slots sizes × (tally.slots ≡ length slots) × (tally.bytes ≡ sum sizes)
+    (slots : List SlotName) × (sizes : List ℕ) × AreSlots P roots ps p slots sizes × (tally.slots ≡ length slots)
+    × (tally.bytes ≡ sum sizes)
 
 -- the slots and the bytes of a thread's lists of one partition; of the first threads'
 abbrev pub listed_bytes : (ℕ → ℕ) → ℕ → ℕ → ℕ
@@ -63,7 +65,8 @@ cached_bytes all p (suc t) = listed_bytes (λ class. length (all t p class)) 0 5
 -- the caches after these records hold so much of partition p
 abbrev pub IsCached : ℕ → ℕ → Journals → List Played → ℕ → Tally → Type 0
 IsCached partitions threads roots ps p tally =
-    (all : Caches) × CachesTo partitions roots no_caches ps all × (tally.slots ≡ cached_slots all p threads) × (tally.bytes ≡ cached_bytes all p threads)
+    (all : Caches) × CachesTo partitions roots no_caches ps all × (tally.slots ≡ cached_slots all p threads)
+    × (tally.bytes ≡ cached_bytes all p threads)
 
 -- the entries of a journal up to the end of a phase
 abbrev pub InPhases : List Played → ℕ → RootEntry → Type 0
@@ -96,7 +99,8 @@ census_of l =
     }
 
 -- a line of the report: live and quarantined slots by their words, cached ones by the threads' lists, and the census
-pub record IsReportLine (partitions threads : ℕ) (ps : List Played) (pools : List PoolEntry) (roots : Journals) (l : ReportLine) : Type 0 where
+pub record IsReportLine (partitions threads : ℕ) (ps : List Played) (pools : List PoolEntry) (roots : Journals) (l : ReportLine) :
+    Type 0 where
   pub live : IsTally IsLive roots (until l.phase ps) l.partition l.live
   pub quarantined : IsTally IsQuarantined roots (until l.phase ps) l.partition l.quarantined
   pub cached : IsCached partitions threads roots (until l.phase ps) l.partition l.cached
@@ -112,6 +116,7 @@ phases_of partitions phase zero = []
 phases_of partitions phase (suc n) = partitions_of phase 0 partitions ++ phases_of partitions (phase + 1) n
 
 -- the report has one line for each phase and partition, in order, and each is right
-pub record IsReport (phases partitions threads : ℕ) (ps : List Played) (pools : List PoolEntry) (roots : Journals) (report : List ReportLine) : Type 0 where
+pub record IsReport (phases partitions threads : ℕ) (ps : List Played) (pools : List PoolEntry) (roots : Journals)
+    (report : List ReportLine) : Type 0 where
   pub places : map (λ (l : ReportLine). (l.phase, l.partition)) report ≡ phases_of partitions 1 phases
   pub right : All (IsReportLine partitions threads ps pools roots) report

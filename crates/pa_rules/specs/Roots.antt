@@ -14,7 +14,7 @@ use Rattle.pa_record.specs.Pool.{IsPool, FoundNone}
 use Rattle.pa_record.specs.Root.{IsJournal, asked_by}
 use Rattle.pa_record.specs.Sound.{IsMadeBy, AreTitles}
 use Rattle.pa_rules.specs.declared.played.Played.{Played}
-use Rattle.pa_rules.specs.Cells.{StandsBefore}
+use Rattle.pa_rules.specs.Order.{IsOfLine, StandInOrder}
 
 -- the journals, by their partitions
 abbrev pub Journals : Type 0
@@ -23,10 +23,6 @@ Journals = ℕ → List RootEntry
 -- e is entry j of the journal of partition p
 abbrev pub IsEntry : Journals → ℕ → ℕ → RootEntry → Type 0
 IsEntry roots p j e = slice_get (roots p) j ≡ Some e
-
--- x is the record of that line
-abbrev pub IsOfLine : List Played → ℕ → Played → Type 0
-IsOfLine ps line x = Contains ps x × (x.line ≡ line)
 
 -- the op asks partition p for a slot of the class; for a direct map of that many bytes. A size above 33,521,656 is of no
 -- class and for no direct map.
@@ -61,14 +57,13 @@ IsFull act = (class : Option ℕ) × (asked : ℕ) × (act ≡ Full class asked)
 -- The journals are those of the records.
 --   journals: each is one of a root, replayed with the pool's entries
 --   lines: each entry's line is an op that makes it
---   order: entries of one thread stand in the order of its lines, and those of an earlier phase before those of a later
+--   order: the entries of a journal stand in the order of their records
 --   none_past: there are none past the trace's
 --   refusals: a record that is full names a Full of its line
 pub record AreRoots (partitions : ℕ) (ps : List Played) (pools : List PoolEntry) (roots : Journals) : Type 0 where
   pub journals : (p : ℕ) → IsJournal pools (roots p)
   pub lines : (p j : ℕ) (e : RootEntry) → IsEntry roots p j e → (x : Played) × IsOfLine ps e.line x × MakesEntry pools p e.act x.op
-  pub order : (p i j : ℕ) (e f : RootEntry) (x y : Played) → IsEntry roots p i e → IsEntry roots p j f
-      → IsOfLine ps e.line x → IsOfLine ps f.line y → StandsBefore x y → i < j
+  pub order : (p : ℕ) → StandInOrder (λ e. e.line) ps (roots p)
   pub none_past : (p : ℕ) → partitions ≤ p → roots p ≡ []
   pub refusals : (x : Played) (j reg p size : ℕ) → Contains ps x → x.answer ≡ answers.Full j → x.op ≡ ops.Alloc reg p size
       → (e : RootEntry) × IsEntry roots p j e × (e.line ≡ x.line) × IsFull e.act
@@ -81,14 +76,13 @@ Names roots p i j = (e : RootEntry) × IsEntry roots p i e × (asked_by e.act �
 --   fits: each take and give fits the pool after those before it
 --   named: each entry is named by a journal entry, which is of its partition and line; once: and by no other. A journal
 --     entry that names one which isn't there is no matter of the pool's entries
---   order: entries of one thread stand in the order of its lines, and those of an earlier phase before those of a later
+--   order: they stand in the order of their records
 pub record IsPoolOf (supers : ℕ) (ps : List Played) (pools : List PoolEntry) (roots : Journals) : Type 0 where
   pub fits : IsPool supers pools
   pub named : (j : ℕ) (e : PoolEntry) → slice_get pools j ≡ Some e
       → (i : ℕ) × (f : RootEntry) × IsEntry roots e.partition i f × (asked_by f.act ≡ Some j) × (f.line ≡ e.line)
   pub once : (j p q i k : ℕ) (e : PoolEntry) → slice_get pools j ≡ Some e → Names roots p i j → Names roots q k j → (p ≡ q) × (i ≡ k)
-  pub order : (i j : ℕ) (e f : PoolEntry) (x y : Played) → slice_get pools i ≡ Some e → slice_get pools j ≡ Some f
-      → IsOfLine ps e.line x → IsOfLine ps f.line y → StandsBefore x y → i < j
+  pub order : StandInOrder (λ e. e.line) ps pools
 
 -- The titles that the journals make, slots that were cut and direct maps: those of one entry of the pool are equal or don't
 -- overlap, each lies in payload or is a direct map, and an entry of the pool belongs to one partition.

@@ -6,7 +6,8 @@ use Rattle.pa_record.specs.declared.history.CellEntry.{CellEntry}
 use Rattle.pa_record.specs.declared.history.Held.TheVariants.{Nothing}
 use Rattle.pa_rules.specs.declared.played.Played.{Played}
 use Rattle.pa_rules.specs.Played.{mark_of}
-use Rattle.pa_rules.specs.Cells.{IsExchange, StandsBefore}
+use Rattle.pa_rules.specs.Cells.{IsExchange}
+use Rattle.pa_rules.specs.Order.{StandsBefore}
 
 -- x's exchange gave a handle, and y's is the next exchange of that cell
 abbrev pub HandsTo : (ℕ → List CellEntry) → Played → Played → Type 0
@@ -30,5 +31,6 @@ left_number m = number_of m.found + (if is_some m.step then 1 else 0)
 --   rising: a record finds no lower number of a slot than one that is before it left
 pub record IsSeenInOrder (cells : ℕ → List CellEntry) (ps : List Played) : Type 0 where
   pub ahead : (x : Played) → Contains ps x → IsBefore cells ps x x → ⊥
-  pub rising : (x y : Played) (m n : Mark) → Contains ps x → Contains ps y → IsBefore cells ps x y → mark_of x ≡ Some m → mark_of y ≡ Some n →
+  pub rising : (x y : Played) (m n : Mark) → Contains ps x → Contains ps y → IsBefore cells ps x y → mark_of x ≡ Some m →
+      mark_of y ≡ Some n →
       m.slot ≡ n.slot → left_number m ≤ number_of n.found

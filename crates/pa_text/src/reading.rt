@@ -28,9 +28,11 @@ pub fn one_spelling()
 
 /// What is printed of a number, a word or a slot's name, with no digit behind it, tells it and what stands behind it.
 pub fn one_front()
-    ensures number { (m n : ℕ) (x y : List ℕ) → m < 2 ^ 64 → n < 2 ^ 64 → IsStop x → IsStop y → decimal m ++ x ≡ decimal n ++ y → (m ≡ n) × (x ≡ y) }
+    ensures number { (m n : ℕ) (x y : List ℕ) → m < 2 ^ 64 → n < 2 ^ 64 → IsStop x → IsStop y → decimal m ++ x ≡ decimal n ++ y → (m ≡ n)
+        × (x ≡ y) }
     ensures word { (m n : ℕ) (x y : List ℕ) → m < 2 ^ 64 → n < 2 ^ 64 → hex 16 m ++ x ≡ hex 16 n ++ y → (m ≡ n) × (x ≡ y) }
-    ensures slot { (s t : SlotName) (x y : List ℕ) → SlotFits s → SlotFits t → IsStop x → IsStop y → slot_text s ++ x ≡ slot_text t ++ y → (s ≡ t) × (x ≡ y) }
+    ensures slot { (s t : SlotName) (x y : List ℕ) → SlotFits s → SlotFits t → IsStop x → IsStop y → slot_text s ++ x ≡ slot_text t ++ y →
+        (s ≡ t) × (x ≡ y) }
 {}
 
 // The same, byte by byte.

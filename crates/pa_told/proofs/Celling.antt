@@ -7,7 +7,8 @@ use Rattle.pa_record.proofs.Joined.{map_cases, map_in, filter_cases}
 use Rattle.pa_record.proofs.Members.{of_some}
 use Rattle.pa_region.specs.declared.view.Made.{Made}
 use Rattle.pa_rules.specs.declared.played.Played.{Played}
-use Rattle.pa_rules.specs.Cells.{IsExchange, StandsBefore, AreCells}
+use Rattle.pa_rules.specs.Cells.{IsExchange, AreCells}
+use Rattle.pa_rules.specs.Order.{StandsBefore}
 use Rattle.pa_told.specs.Told.{ToldRecord, played_in}
 use Rattle.pa_told.specs.Swaps.{SwapMade, is_of_cell, AreSwapped, AreAnswered, CellsFollow}
 use Rattle.pa_told.proofs.Filters.{get_in}

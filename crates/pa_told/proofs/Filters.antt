@@ -1,12 +1,16 @@
 -- Lists that are filtered: their members, their pairs and their places.
-use Rattle.std.proofs.Common.{◌≡◌, ℕ, zero, suc, ◌<◌, ◌≤◌, ◌⊎◌, Bool, true, List, [], ◌∷◌, ◌++◌, length, filter, map, slice_get, Some, refl, ◌∙◌, ap, subst, arith, inl, inr}
+use Rattle.std.proofs.Common.{◌≡◌, ℕ, zero, suc, ◌<◌, ◌≤◌, ◌⊎◌, Bool, true, ◌&&◌, List, [], ◌∷◌, ◌++◌, length, filter, map, slice_get, Some, refl, ◌∙◌, ap, subst, arith, inl, inr}
 use Rattle.std.specs.Prelude.{Contains, AllPairs}
 use Rattle.std.proofs.lemmas.Bool.{cases_Bool, both_ways}
-use Rattle.pa_record.proofs.Members.{first_in, later_in, of_some}
+use Rattle.pa_record.proofs.Members.{not_in_none, first_in, later_in, in_cases, of_some}
 use Rattle.pa_record.proofs.Pairs.{pairs_none, pairs_cons, pairs_tail, pairs_head}
-use Rattle.pa_record.proofs.Joined.{filter_cases}
+use Rattle.pa_record.proofs.Joined.{filter_cases, filter_in}
 
 module _ {A : Type 0} where
+  -- a list of one has no rest
+  rest_none : (x a : A) (xs : List A) → x ∷ xs ≡ a ∷ [] → xs ≡ []
+  rest_none x a xs e = cc
+
   pub pairs_filter : (R : A → A → Type 0) (test : A → Bool) (xs : List A) → AllPairs R xs → AllPairs R (filter test xs)
   pairs_filter R test [] h = pairs_none R
   pairs_filter R test (x ∷ xs) h =
@@ -69,6 +73,49 @@ module _ {A : Type 0} where
   get_parts (z ∷ zs) ys (suc i) x e = elim (get_parts zs ys i x e) [
     | inl a ↦ let low = a.0 in inl (omega arith, later_in z x zs a.1)
     | inr b ↦ let high = b.0 in inr (omega arith, b.1)
+  ]
+
+  -- a member's place
+  pub place_at : (xs : List A) (x : A) → Contains xs x → (i : ℕ) × (slice_get xs i ≡ Some x)
+  place_at [] x among = absurd (not_in_none x among)
+  place_at (y ∷ ys) x among = elim (in_cases y x ys among) [
+    | inl same ↦ (0, ap (λ z. Some z) same)
+    | inr later ↦ let (i, at) = place_at ys x later in (suc i, at)
+  ]
+
+  -- of a list of one there is one member
+  pub only_one : (a x : A) → Contains (a ∷ []) x → a ≡ x
+  only_one a x among = elim (in_cases a x [] among) [ inl same ↦ same | inr later ↦ absurd (not_in_none x later) ]
+
+  -- where one member passes, one place has such a member
+  pub one_place : (test : A → Bool) (xs : List A) (a : A) (i k : ℕ) (x y : A) → filter test xs ≡ a ∷ [] → slice_get xs i ≡ Some x → slice_get xs k ≡ Some y →
+      test x ≡ true → test y ≡ true → i ≡ k
+  one_place test [] a i k x y e at_i at_k passes also = absurd cc
+  one_place test (z ∷ zs) a zero zero x y e at_i at_k passes also = refl
+  one_place test (z ∷ zs) a zero (suc k) x y e at_i at_k passes also =
+      let t : test z ≡ true = ap test (of_some z x at_i) ∙ passes in
+      let none : filter test zs ≡ [] = rest_none z a (filter test zs) (rw t at e) in
+      absurd (not_in_none y (subst (λ ys. Contains ys y) none (filter_in test zs y (get_in zs k y at_k) also)))
+  one_place test (z ∷ zs) a (suc i) zero x y e at_i at_k passes also =
+      let t : test z ≡ true = ap test (of_some z y at_k) ∙ also in
+      let none : filter test zs ≡ [] = rest_none z a (filter test zs) (rw t at e) in
+      absurd (not_in_none x (subst (λ ys. Contains ys x) none (filter_in test zs x (get_in zs i x at_i) passes)))
+  one_place test (z ∷ zs) a (suc i) (suc k) x y e at_i at_k passes also = elim (cases_Bool (test z)) [
+    | inl t ↦
+        let none : filter test zs ≡ [] = rest_none z a (filter test zs) (rw t at e) in
+        absurd (not_in_none x (subst (λ ys. Contains ys x) none (filter_in test zs x (get_in zs i x at_i) passes)))
+    | inr n ↦ ap suc (one_place test zs a i k x y (rw n at e) at_i at_k passes also)
+  ]
+
+  -- two tests, one after the other
+  pub filter_both : (f g : A → Bool) (xs : List A) → filter g (filter f xs) ≡ filter (λ x. f x && g x) xs
+  filter_both f g [] = refl
+  filter_both f g (x ∷ xs) = elim (cases_Bool (f x)) [
+    | inl y ↦ elim (cases_Bool (g x)) [
+      | inl z ↦ rw (y, z) (ap (λ ys. x ∷ ys) (filter_both f g xs))
+      | inr m ↦ rw (y, m) (filter_both f g xs)
+    ]
+    | inr n ↦ rw n (filter_both f g xs)
   ]
 
   -- nothing more, where a list is the first part of itself

@@ -4,6 +4,9 @@ pub mod Contents
 pub mod Ends
 pub mod Filters
 pub mod Histories
+pub mod Indexing
+pub mod Keeping
+pub mod Layering
 pub mod Lined
 pub mod Listing
 pub mod Logs
@@ -14,11 +17,14 @@ pub mod Orders
 pub mod Places
 pub mod Readers
 pub mod Reading
+pub mod Reporting
 pub mod Seating
+pub mod Sizing
 pub mod Slots
 pub mod StepMarks
 pub mod Sums
 pub mod Swapping
+pub mod Uncutting
 pub mod Usable
 pub mod Viewing
 pub mod Whole

@@ -216,7 +216,7 @@ entries_in_order q list ts x y i j m n is cuts rising first second at_i at_j lin
     in_phases q list ts is cuts rising x y i j m n first second at_i at_j line line' late
 
 -- the entries of a line, as numbers, are those of the journal
-on_line : (line : ℕ) (list : List Made) (journal : List RootEntry) → IsJournalOf list journal →
+pub on_line : (line : ℕ) (list : List Made) (journal : List RootEntry) → IsJournalOf list journal →
     map (λ (m : Made). m.numbers) (filter (is_on line) list) ≡ map root_numbers (filter (λ (e : RootEntry). eqb e.line line) journal)
 on_line line [] [] same = refl
 on_line line [] (e ∷ es) same = absurd cc

@@ -8,10 +8,10 @@ use Rattle.pa_rules.specs.Caches.{Caches, CachesTo, with_cache}
 use Rattle.pa_told.specs.Rows.{records_by, HasRows, HasCacheRows, ThreadsMerge}
 
 -- the records of a thread, with one before them that is its, or another's
-own_first : (k : ℕ) (p : Played) (ps : List Played) → p.thread ≡ k → records_by k (p ∷ ps) ≡ p ∷ records_by k ps
+pub own_first : (k : ℕ) (p : Played) (ps : List Played) → p.thread ≡ k → records_by k (p ∷ ps) ≡ p ∷ records_by k ps
 own_first k p ps e = rw (eq-eqb p.thread k e) refl
 
-other_first : (k : ℕ) (p : Played) (ps : List Played) → (p.thread ≡ k → ⊥) → records_by k (p ∷ ps) ≡ records_by k ps
+pub other_first : (k : ℕ) (p : Played) (ps : List Played) → (p.thread ≡ k → ⊥) → records_by k (p ∷ ps) ≡ records_by k ps
 other_first k p ps e = rw (ne_eqb p.thread k e) refl
 
 registers : (facts : Facts) (all : AllRegs) (ps : List Played) → ((k : ℕ) → HasRows facts (all k) (records_by k ps)) → (after : AllRegs) × RowsTo facts all ps after

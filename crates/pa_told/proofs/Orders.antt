@@ -6,13 +6,13 @@ use Rattle.pa_record.specs.declared.pool.PoolEntry.{PoolEntry}
 use Rattle.pa_record.specs.Numbers.{root_numbers, pool_numbers}
 use Rattle.pa_record.proofs.Members.{of_some}
 use Rattle.pa_region.specs.declared.view.Made.{Made}
-use Rattle.pa_rules.specs.Cells.{StandsBefore}
+use Rattle.pa_rules.specs.Order.{StandsBefore}
 use Rattle.pa_told.specs.Told.{ToldRecord}
 use Rattle.pa_told.specs.Listed.{first_of, IsListOf, AreRising, HasCuts, OrdersFollow}
 use Rattle.pa_told.proofs.Listing.{entries_in_order}
 
 -- the entry of a list at a place, by its numbers
-place_in : {A : Type 0} (numbers : A → List ℕ) (list : List Made) (es : List A) (i : ℕ) (e : A) → map (λ (m : Made). m.numbers) list ≡ map numbers es → slice_get es i ≡ Some e →
+pub place_in : {A : Type 0} (numbers : A → List ℕ) (list : List Made) (es : List A) (i : ℕ) (e : A) → map (λ (m : Made). m.numbers) list ≡ map numbers es → slice_get es i ≡ Some e →
     (m : Made) × (slice_get list i ≡ Some m) × (m.numbers ≡ numbers e)
 place_in numbers list [] i e same at_i = absurd cc
 place_in numbers [] (f ∷ es) i e same at_i = absurd cc

@@ -12,7 +12,8 @@ use Rattle.pa_region.specs.declared.view.Made.{Made}
 use Rattle.pa_region.specs.Views.{seen_among}
 use Rattle.pa_region.specs.Lists.{entered_in, IsKnownTo, Rises}
 use Rattle.pa_rules.specs.declared.played.Played.{Played}
-use Rattle.pa_rules.specs.Cells.{IsExchange, StandsBefore}
+use Rattle.pa_rules.specs.Cells.{IsExchange}
+use Rattle.pa_rules.specs.Order.{StandsBefore}
 use Rattle.pa_rules.specs.Seen.{HandsTo}
 use Rattle.pa_told.specs.Told.{ToldRecord, played_in}
 use Rattle.pa_told.specs.Listed.{line_of, is_on, entries_on}

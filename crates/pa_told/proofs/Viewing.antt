@@ -12,7 +12,8 @@ use Rattle.pa_record.proofs.Joined.{map_cases}
 use Rattle.pa_record.proofs.Members.{not_some}
 use Rattle.pa_rules.specs.declared.played.Played.{Played}
 use Rattle.pa_rules.specs.Played.{mark_of, mark_of_answer}
-use Rattle.pa_rules.specs.Cells.{IsExchange, StandsBefore}
+use Rattle.pa_rules.specs.Cells.{IsExchange}
+use Rattle.pa_rules.specs.Order.{StandsBefore}
 use Rattle.pa_rules.specs.Seen.{HandsTo, IsBefore, Standing, Handing, Between, left_number}
 use Rattle.pa_rules.proofs.ByLines.{same_record}
 use Rattle.pa_told.specs.Told.{ToldRecord, played_in}

@@ -14,7 +14,8 @@ use Rattle.pa_region.specs.declared.view.Entry.TheVariants.{Counted, Looked, Rea
 use Rattle.pa_region.specs.Moves.{no_deeds}
 use Rattle.pa_trace.specs.declared.script.Op.TheVariants.{Swap}
 use Rattle.pa_rules.specs.declared.played.Played.{Played}
-use Rattle.pa_rules.specs.Cells.{StandsBefore, AreCells}
+use Rattle.pa_rules.specs.Cells.{AreCells}
+use Rattle.pa_rules.specs.Order.{StandsBefore}
 use Rattle.pa_told.specs.Told.{ToldRecord, played_in}
 use Rattle.pa_told.specs.Viewed.{IsOrdered, AreViewed}
 use Rattle.pa_told.specs.Worked.{its_title, at_number, the_maker, the_copy, the_reader, the_free, worked_records, no_cells, WorkedIsSeen}

@@ -1,8 +1,13 @@
 pub mod Ending
+pub mod Indices
+pub mod Layers
+pub mod Lengths
 pub mod Listed
 pub mod Reads
+pub mod Reported
 pub mod Rows
 pub mod Seats
+pub mod Standing
 pub mod Steps
 pub mod Swaps
 pub mod Told

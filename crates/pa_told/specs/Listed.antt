@@ -5,7 +5,7 @@ use Rattle.pa_region.specs.Lists.{made_with, entered_in}
 use Rattle.pa_record.specs.declared.root.RootEntry.{RootEntry}
 use Rattle.pa_record.specs.declared.pool.PoolEntry.{PoolEntry}
 use Rattle.pa_record.specs.Numbers.{root_numbers, pool_numbers}
-use Rattle.pa_rules.specs.Cells.{StandsBefore}
+use Rattle.pa_rules.specs.Order.{StandsBefore}
 use Rattle.pa_rules.specs.Roots.{Journals}
 use Rattle.pa_rules.specs.Caches.{acts_of}
 use Rattle.pa_told.specs.Told.{ToldRecord, log_of, told_until}

@@ -9,7 +9,8 @@ use Rattle.pa_record.specs.declared.entry.Answer.TheVariants.{Swapped}
 use Rattle.pa_record.specs.declared.history.CellEntry.{CellEntry}
 use Rattle.pa_record.specs.declared.history.Held.TheVariants.{Nothing}
 use Rattle.pa_rules.specs.declared.played.Played.{Played}
-use Rattle.pa_rules.specs.Cells.{IsChain, IsExchange, StandsBefore, AreCells}
+use Rattle.pa_rules.specs.Cells.{IsChain, IsExchange, AreCells}
+use Rattle.pa_rules.specs.Order.{StandsBefore}
 use Rattle.pa_rules.specs.Seen.{HandsTo}
 use Rattle.pa_told.specs.Told.{ToldRecord, played_in}
 use Rattle.pa_told.specs.Listed.{line_of, IsListOf, AreRising, HasCuts}

@@ -8,7 +8,8 @@ use Rattle.pa_region.specs.declared.view.Entry.TheVariants.{Counted, Looked}
 use Rattle.pa_trace.specs.declared.script.Op.TheVariants.{Swap}
 use Rattle.pa_record.specs.declared.history.CellEntry.{CellEntry}
 use Rattle.pa_rules.specs.declared.played.Played.{Played}
-use Rattle.pa_rules.specs.Cells.{StandsBefore, AreCells}
+use Rattle.pa_rules.specs.Cells.{AreCells}
+use Rattle.pa_rules.specs.Order.{StandsBefore}
 use Rattle.pa_rules.specs.Seen.{HandsTo, IsSeenInOrder}
 use Rattle.pa_told.specs.Told.{ToldRecord, played_in}
 use Rattle.pa_told.specs.Touches.{AreTold}

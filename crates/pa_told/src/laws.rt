@@ -1,8 +1,13 @@
 ghost use Rattle.pa_told.specs.Ending.{ClosesHolding, HeldFollows};
+ghost use Rattle.pa_told.specs.Indices.{IndicesFollow};
+ghost use Rattle.pa_told.specs.Layers.{LayersFollow};
+ghost use Rattle.pa_told.specs.Lengths.{LengthsFollow};
 ghost use Rattle.pa_told.specs.Listed.{ActsAreTheirs, EntriesInOrder, LinesHaveTheirs, OrdersFollow};
 ghost use Rattle.pa_told.specs.Reads.{ContentsFollow, ReadsFollow};
+ghost use Rattle.pa_told.specs.Reported.{ReportFollows};
 ghost use Rattle.pa_told.specs.Rows.{ThreadsMerge, UsableFollows};
 ghost use Rattle.pa_told.specs.Seats.{SeatsKnow};
+ghost use Rattle.pa_told.specs.Standing.{StandsHeld, StandsUncut};
 ghost use Rattle.pa_told.specs.Steps.{ContentFollows, HistoriesFollow, SlotsFollow};
 ghost use Rattle.pa_told.specs.Swaps.{CellsFollow, SwapsFollow};
 ghost use Rattle.pa_told.specs.Told.{LogsAreTold};
@@ -120,4 +125,35 @@ pub fn cells_follow()
 /// tells its seat.
 pub fn closes_holding()
     ensures { ClosesHolding }
+{}
+
+/// The law that an entry's index is the length of its list before it, and that each entry of the pool is named once.
+pub fn indices_follow()
+    ensures { IndicesFollow }
+{}
+
+/// The law that the journals give each slot one length, and each title that was made that of its slot.
+pub fn lengths_follow()
+    ensures { LengthsFollow }
+{}
+
+/// The law that the report is right, from what threads, roots and lists say at the end of each phase.
+pub fn report_follows()
+    ensures { ReportFollows }
+{}
+
+/// The law that no log says of a title that stands that it was made raw again.
+pub fn stands_uncut()
+    ensures { StandsUncut }
+{}
+
+/// The law that the closing seat holds each title that stands and that no log names: it is with its root, or on a thread's list.
+pub fn stands_held()
+    ensures { StandsHeld }
+{}
+
+/// The law that the clauses of the pool and of the roots hold, and that the closing seat is what it is asked to be, from what
+/// each layer says.
+pub fn layers_follow()
+    ensures { LayersFollow }
 {}

@@ -1,6 +1,9 @@
 pub mod Alone
+pub mod Entering
+pub mod Fitting
 pub mod Knowing
 pub mod Maps
+pub mod Otherwise
 pub mod Purge
 pub mod Seen
 pub mod Threads

@@ -17,7 +17,7 @@ use Rattle.pa_region.specs.Views.{seen_among}
 use Rattle.pa_region.proofs.OneRead.{one_true}
 use Rattle.pa_region.proofs.SeenPart.{seen_ahead}
 use Rattle.pa_rules.specs.declared.played.Played.{Played}
-use Rattle.pa_rules.specs.Cells.{StandsBefore}
+use Rattle.pa_rules.specs.Order.{StandsBefore}
 use Rattle.pa_rules.specs.Seen.{HandsTo}
 use Rattle.pa_one_run.proofs.worked.Lists.{all_both, both_pass, passes, implies, implied, stands, stands-from}
 use Rattle.pa_told.specs.Told.{ToldRecord}

@@ -73,22 +73,22 @@ told x among = each (IsTold sixteen) threads_told (
 ) x among
 
 -- the slot's history after each phase
-abbrev steps_first : List Done
+abbrev pub steps_first : List Done
 steps_first = record { step = Copy; value = 0 } ∷ record { step = Issue; value = 0 } ∷ []
 
-abbrev steps_second : List Done
+abbrev pub steps_second : List Done
 steps_second = record { step = Free; value = 0 } ∷ steps_first
 
-abbrev steps_last : List Done
+abbrev pub steps_last : List Done
 steps_last = record { step = Reset; value = 0 } ∷ steps_second
 
-abbrev told_first : List ToldRecord
+abbrev pub told_first : List ToldRecord
 told_first = told_until 1 threads_told
 
 abbrev told_second : List ToldRecord
 told_second = told_until 2 threads_told
 
-chained_first : IsChained (told_of told_first) its_title steps_first
+pub chained_first : IsChained (told_of told_first) its_title steps_first
 chained_first = record {
   legal = ((omega arith, omega arith, omega arith), (((refl, refl), omega arith, tt), tt));
   steps = (refl, (refl, tt));
@@ -134,7 +134,7 @@ not_owned t word found value some_pair =
     true≢false (sym is.owner)
 
 -- what the second thread's reads gave by a history in which the first thread's free is the next one
-abbrev GaveRef : List ToldRecord → List Done → ℕ → Title → ℕ → ℕ → Type 0
+abbrev pub GaveRef : List ToldRecord → List Done → ℕ → Title → ℕ → ℕ → Type 0
 GaveRef ts steps r t found value =
     (its_title ≡ t) × ((value ≡ content_at_number (number_of found) steps) ⊎ ((value ≡ poison) × IsFreedElsewhere (logged_of_by (view_of ts)) steps its_title r (number_of found)))
 
@@ -154,7 +154,7 @@ not_held t found value held some_pair =
 -- only the second thread reads
 module _ (ts : List ToldRecord) (r : ℕ) (weight : Entry → Entry → ℕ) (P : ℕ → Type 0)
     (none : pairs weight (log_of 0 ts) ≡ 0) (others : eqb 0 r ≡ false → eqb 1 r ≡ false → pairs weight (log_of r ts) ≡ 0) where
-  by_second : 0 < paired_of_by (view_of ts) r weight → (0 < pairs weight (log_of 1 ts) → P 1) → P r
+  pub by_second : 0 < paired_of_by (view_of ts) r weight → (0 < pairs weight (log_of 1 ts) → P 1) → P r
   by_second some_pair has =
       let mine = of_thread ts r (pairs weight) some_pair in
       elim (cases_Bool (eqb 1 r)) [
@@ -173,7 +173,7 @@ freed_second = (2, record { behind = lit≤ tt; none_before = refl; here = refl 
 freed_last : IsFreedElsewhere (logged_of_by (view_of threads_told)) steps_last its_title 1 2
 freed_last = (2, record { behind = lit≤ tt; none_before = refl; here = refl }, refl)
 
-of_first : IsOfOne told_first steps_first
+pub of_first : IsOfOne told_first steps_first
 of_first = record {
   low = λ x among. each (λ (y : ToldRecord). y.played.thread < 16) told_first (lit< tt, (lit< tt, (lit< tt, tt))) x among;
   chained = chained_first;
@@ -272,7 +272,7 @@ readers x seen value among is = each HasReader threads_told (
 ) x among seen value is
 
 -- the one exchange that gave, and the one that it gave to
-abbrev hands : ℕ → ℕ → Bool
+abbrev pub hands : ℕ → ℕ → Bool
 hands m n = eqb 4 m && eqb 7 n
 
 handed : (x y : Played) → HandsTo cells x y → (4 ≡ x.line) × (7 ≡ y.line)
@@ -280,7 +280,7 @@ handed x y (zero, zero, e, f, at, at', line, line', gave_one) = (ap cell_line (o
 handed x y (zero, suc j, e, f, at, at', line, line', gave_one) = absurd (not_some f (rw add-one at at'))
 handed x y (suc k, j, e, f, at, at', line, line', gave_one) = absurd (not_some e at)
 
-hands_so : (x y : Played) → HandsTo cells x y → hands x.line y.line ≡ true
+pub hands_so : (x y : Played) → HandsTo cells x y → hands x.line y.line ≡ true
 hands_so x y h = let (a, b) = handed x y h in and_from _ _ (eq-eqb 4 x.line a) (eq-eqb 7 y.line b)
 
 seen_so : AreViewed cells threads_told

@@ -1,4 +1,6 @@
+pub mod Entered
 pub mod Maps
+pub mod OtherReads
 pub mod Purge
 pub mod Threads
 pub mod Worked

@@ -1,4 +1,6 @@
+ghost use Rattle.pa_told_worked.specs.Entered.{DirectMapHasLists, PurgeHasLists, TwoThreadsHaveLists};
 ghost use Rattle.pa_told_worked.specs.Maps.{DirectMapIsPlayedOut};
+ghost use Rattle.pa_told_worked.specs.OtherReads.{OtherReadsFit};
 ghost use Rattle.pa_told_worked.specs.Purge.{PurgeIsPlayedOut};
 ghost use Rattle.pa_told_worked.specs.Threads.{TwoThreadsArePlayedOut};
 
@@ -18,4 +20,25 @@ pub fn purge_is_told()
 /// back as it is freed, one with the reset of its raw_ptr, and for one there is no room.
 pub fn direct_map_is_told()
     ensures { DirectMapIsPlayedOut }
+{}
+
+/// The lists of the run of two threads meet what is asked of lists, of exchanges and of their answers.
+pub fn two_threads_have_lists()
+    ensures { TwoThreadsHaveLists }
+{}
+
+/// The lists of the run with a purge meet what is asked of lists.
+pub fn purge_has_lists()
+    ensures { PurgeHasLists }
+{}
+
+/// The lists of the run with direct maps meet what is asked of lists.
+pub fn direct_map_has_lists()
+    ensures { DirectMapHasLists }
+{}
+
+/// The read of the two threads may give the content, or find the slot freed: what is asked of logs and of what was seen is met
+/// by both.
+pub fn other_reads_fit()
+    ensures { OtherReadsFit }
 {}

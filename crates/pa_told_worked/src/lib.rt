@@ -4,4 +4,7 @@
 
 mod laws;
 
-pub use laws::{direct_map_is_told, purge_is_told, two_threads_are_told};
+pub use laws::{
+    direct_map_has_lists, direct_map_is_told, other_reads_fit, purge_has_lists, purge_is_told,
+    two_threads_are_told, two_threads_have_lists,
+};

@@ -4,7 +4,7 @@ use Rattle.pa_trace.specs.declared.fault.TraceFault.{TraceFault}
 use Rattle.pa_trace.specs.declared.fault.TraceFault.TheVariants.{BadLine, Limit, OutOfMemory}
 use Rattle.pa_trace.specs.declared.script.Line.{Line}
 use Rattle.pa_trace.specs.Grammar.{IsHeadText, IsLineText}
-use Rattle.pa_trace.specs.Limits.{IsHeadWithin, IsLineWithin}
+use Rattle.pa_trace.specs.Limits.{IsHeadWithin, IsLineWithin, most_lines, most_bytes}
 
 -- a byte in front of lines: an LF is a line there, any other byte begins the first line
 abbrev pub with_front : ℕ → List (List ℕ) → List (List ℕ)
@@ -18,7 +18,7 @@ lines_of (b ∷ bytes) = with_front b (lines_of bytes)
 
 -- line n, behind so many bytes, is line 65,537 or contains byte 4,194,305, or stands behind such a line
 abbrev pub IsPast : ℕ → ℕ → List ℕ → Type 0
-IsPast n before line = (65536 < n) ⊎ (4194304 < before + length line)
+IsPast n before line = (most_lines < n) ⊎ (most_bytes < before + length line)
 
 -- the line is a head's text and an LF
 abbrev pub IsHeadLine : ℕ → ℕ → ℕ → List ℕ → Type 0

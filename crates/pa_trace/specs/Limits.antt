@@ -30,14 +30,21 @@ abbrev pub IsHeadWithin : ℕ → ℕ → ℕ → Type 0
 IsHeadWithin region partitions threads =
     ((1 ≤ region) × (region ≤ 16)) × ((1 ≤ partitions) × (partitions ≤ 4)) × ((1 ≤ threads) × (threads ≤ 16))
 
+-- the most lines of a trace, the head included, and the most bytes of its text
+abbrev pub most_lines : ℕ
+most_lines = 65536
+
+abbrev pub most_bytes : ℕ
+most_bytes = 4194304
+
 -- a trace within the limits: at most 65,536 lines, the head included
 pub record IsWithinLimits (t : Trace) : Type 0 where
   pub head : IsHeadWithin t.region t.partitions t.threads
   pub lines : AllByRecursion (IsLineWithin t.partitions t.threads) t.lines
-  pub few : length t.lines < 65536
+  pub few : length t.lines < most_lines
 
 -- the bytes are the text of this trace, which is within the limits, and at most 4,194,304 of them
 pub record IsInput (t : Trace) (bytes : List ℕ) : Type 0 where
   pub limits : IsWithinLimits t
   pub text : IsTraceText t bytes
-  pub short : length bytes ≤ 4194304
+  pub short : length bytes ≤ most_bytes

@@ -165,8 +165,10 @@ purge_in bytes = do
 unfoldable pub op_in : ℕ → List ℕ → Result Op LineFault
 op_in partitions [] = Err Outside
 op_in partitions (c ∷ rest) =
-    if c == 65 then alloc_in partitions rest else (if c == 67 then copy_in rest else (if c == 82 then reset_in rest else (if c == 70 then free_in rest
-    else (if c == 87 then write_in rest else (if c == 68 then read_in rest else (if c == 88 then swap_in rest else (if c == 80 then purge_in rest else Err Outside)))))))
+    if c == 65 then alloc_in partitions rest else
+    (if c == 67 then copy_in rest else (if c == 82 then reset_in rest else (if c == 70 then free_in rest
+    else (if c == 87 then write_in rest else
+    (if c == 68 then read_in rest else (if c == 88 then swap_in rest else (if c == 80 then purge_in rest else Err Outside)))))))
 
 -- the thread, a space and the op
 unfoldable pub do_in : ℕ → ℕ → List ℕ → Result Line LineFault

@@ -1,7 +1,7 @@
 ghost use Rattle.std.specs.Prelude.{◌≡◌, ◌-◌, ◌<◌, ◌≤◌, ◌⊎◌, ◌↔◌, ◌++◌, ◌∷◌, nat_lt, if◌then◌else◌, length, IsTrue, IfOk, IfErr, OnOk, MatchOption};
 ghost use Rattle.std.specs.List.{AllByRecursion};
 ghost use Rattle.pa_trace.specs.Grammar.{AreLinesText};
-ghost use Rattle.pa_trace.specs.Limits.{IsHeadWithin, IsLineWithin, IsInput};
+ghost use Rattle.pa_trace.specs.Limits.{IsHeadWithin, IsLineWithin, IsInput, most_lines, most_bytes};
 ghost use Rattle.pa_trace.specs.Faults.{IsFault};
 ghost use Rattle.pa_trace.specs.Cut.{IsOneLine, IsFaultBehind, told};
 ghost use Rattle.pa_trace.specs.declared.fault.TraceFault.TheVariants as faults;
@@ -64,7 +64,7 @@ fn cut_line(bytes: &[u8]) -> Option<(&[u8], &[u8])>
 
 // Whether line n, which has so many bytes where so many may still come, is one line or one byte too many.
 fn is_past(n: u32, length: usize, room: usize) -> bool
-    ensures { IsTrue result ↔ ((65536 < n) ⊎ (room < length)) }
+    ensures { IsTrue result ↔ ((most_lines < n) ⊎ (room < length)) }
 {
     n > MOST_LINES || length > room
 }
@@ -81,8 +81,8 @@ fn fault_at(n: u32, fault: LineFault) -> TraceFault
 
 // The fault of line n, which has so many bytes where so many may still come, and no LF.
 fn without_end(n: u32, length: usize, room: usize) -> TraceFault
-    ensures past { (65536 < n) ⊎ (room < length) → result ≡ faults.Limit n }
-    ensures bad { n ≤ 65536 → length ≤ room → result ≡ faults.BadLine n }
+    ensures past { (most_lines < n) ⊎ (room < length) → result ≡ faults.Limit n }
+    ensures bad { n ≤ most_lines → length ≤ room → result ≡ faults.BadLine n }
 {
     if is_past(n, length, room) {
         TraceFault::Limit(n)
@@ -94,12 +94,12 @@ fn without_end(n: u32, length: usize, room: usize) -> TraceFault
 // The lines behind the head, each with its LF, where so many bytes may still come.
 fn read_lines(alloc: Global, head: Head, room: usize, bytes: &[u8]) -> Result<Vec<Line>, TraceFault>
     requires head_within { IsHeadWithin head.region head.partitions head.threads }
-    requires space { room ≤ 4194304 }
+    requires space { room ≤ most_bytes }
     ensures text { IfOk result (λ lines. AreLinesText lines.items bytes.now) }
     ensures within { IfOk result (λ lines. AllByRecursion (IsLineWithin head.partitions head.threads) lines.items) }
-    ensures few { IfOk result (λ lines. length lines.items < 65536) }
+    ensures few { IfOk result (λ lines. length lines.items < most_lines) }
     ensures short { OnOk result (length bytes.now ≤ room) }
-    ensures fault { IfErr result (IsFaultBehind head.partitions head.threads 2 (4194304 - room) bytes.now) }
+    ensures fault { IfErr result (IsFaultBehind head.partitions head.threads 2 (most_bytes - room) bytes.now) }
 {
     let mut lines = Vec::with_capacity(alloc, (bytes.len() / LINE).min(MOST_LINES as usize))?;
     let mut rest = bytes;

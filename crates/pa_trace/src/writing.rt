@@ -1,6 +1,6 @@
 ghost use Rattle.std.specs.Prelude.{◌≡◌, ◌++◌, ◌≤◌, length, OnOk, IfOk};
 ghost use Rattle.pa_trace.specs.Grammar.{IsOpText, IsLineText, AreLinesText, IsTraceText};
-ghost use Rattle.pa_trace.specs.Limits.{IsWithinLimits};
+ghost use Rattle.pa_trace.specs.Limits.{IsWithinLimits, most_bytes};
 ghost use Rattle.pa_trace.specs.Faults.{IsHeadLine, IsBodyLine};
 ghost use Rattle.pa_trace.specs.Cut.{Appends, IsField};
 
@@ -16,7 +16,7 @@ const LINE: usize = 16;
 pub fn write_trace(alloc: Global, trace: &Trace) -> Result<Vec<u8>, OutOfMemory>
     requires { IsWithinLimits trace.now }
     ensures text { IfOk result (λ text. IsTraceText trace.now text.items) }
-    ensures short { IfOk result (λ text. length text.items ≤ 4194304) }
+    ensures short { IfOk result (λ text. length text.items ≤ most_bytes) }
 {
     let lines = trace.lines.as_slice();
     let mut out = Vec::with_capacity(alloc, LINE * (lines.len() + 4))?;

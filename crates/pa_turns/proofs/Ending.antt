@@ -13,7 +13,7 @@ use Rattle.pa_record.specs.declared.history.CellEntry.{CellEntry}
 use Rattle.pa_rules.specs.declared.played.Played.{Played}
 use Rattle.pa_rules.specs.Played.{AreLines, marks_of}
 use Rattle.pa_rules.specs.Registers.{usable_in, no_regs}
-use Rattle.pa_rules.specs.Cells.{StandsBefore}
+use Rattle.pa_rules.specs.Order.{StandsBefore}
 use Rattle.pa_rules.specs.Contents.{IsReadExact, IsReadAllowed}
 use Rattle.pa_rules.specs.Seen.{IsBefore, Standing, Handing, Between, IsSeenInOrder}
 use Rattle.pa_rules.specs.FileOrder.{is_step_before, steps_before}

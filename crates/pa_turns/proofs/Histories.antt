@@ -11,7 +11,8 @@ use Rattle.pa_record.specs.declared.history.CellEntry.{CellEntry}
 use Rattle.pa_record.specs.declared.history.Held.{Held}
 use Rattle.pa_record.specs.declared.history.Held.TheVariants.{Nothing}
 use Rattle.pa_rules.specs.declared.played.Played.{Played}
-use Rattle.pa_rules.specs.Cells.{IsChain, IsExchange, IsRecordOf, AreCells}
+use Rattle.pa_rules.specs.Cells.{IsChain, IsExchange, AreCells}
+use Rattle.pa_rules.specs.Order.{IsOfLine}
 use Rattle.pa_turns.specs.Known.{chain_end, HasExchanged}
 
 -- an element of a list with one more at its end
@@ -47,7 +48,7 @@ end_push held (x ∷ es) e = end_push x.gave es e
 
 -- the exchange of a line of the trace with this cell
 abbrev HasLine : List Played → ℕ → CellEntry → Type 0
-HasLine ps k e = (x : Played) × (reg : ℕ) × IsRecordOf ps e x × (x.op ≡ Swap k reg)
+HasLine ps k e = (x : Played) × (reg : ℕ) × IsOfLine ps e.line x × (x.op ≡ Swap k reg)
 
 -- one exchange more, with one cell
 pub record GrowsBy (cell : ℕ) (entry : CellEntry) (cells after : ℕ → List CellEntry) : Type 0 where

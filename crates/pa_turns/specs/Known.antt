@@ -14,7 +14,8 @@ use Rattle.pa_record.specs.declared.history.Held.TheVariants.{Nothing}
 use Rattle.pa_rules.specs.declared.played.Played.{Played}
 use Rattle.pa_rules.specs.Played.{AreLines, marks_of}
 use Rattle.pa_rules.specs.Registers.{Regs, AllRegs, Facts, Row, no_regs, with_thread}
-use Rattle.pa_rules.specs.Cells.{IsChain, IsExchange, IsRecordOf}
+use Rattle.pa_rules.specs.Cells.{IsChain, IsExchange}
+use Rattle.pa_rules.specs.Order.{IsOfLine}
 use Rattle.pa_rules.specs.Contents.{IsContent, AreExactContents}
 use Rattle.pa_rules.specs.FileOrder.{steps_before, AreNumbersInFileOrder}
 use Rattle.pa_rules.specs.Sizes.{usable_of}
@@ -48,7 +49,7 @@ pub record HasExchanged (cells : ℕ → List CellEntry) (held : ℕ → Held) (
   pub ends : (k : ℕ) → chain_end Nothing (cells k) ≡ held k
   pub below : (k j : ℕ) (e : CellEntry) → IsExchange cells k j e → e.line < line
   pub rising : (k i j : ℕ) (e f : CellEntry) → IsExchange cells k i e → IsExchange cells k j f → i < j → e.line < f.line
-  pub lines : (k j : ℕ) (e : CellEntry) → IsExchange cells k j e → (x : Played) × (reg : ℕ) × IsRecordOf ps e x × (x.op ≡ ops.Swap k reg)
+  pub lines : (k j : ℕ) (e : CellEntry) → IsExchange cells k j e → (x : Played) × (reg : ℕ) × IsOfLine ps e.line x × (x.op ≡ ops.Swap k reg)
   pub different : (k l i j : ℕ) (e f : CellEntry) → IsExchange cells k i e → IsExchange cells l j f → e.line ≡ f.line → (k ≡ l) × (i ≡ j)
   pub answers : (x : Played) (k reg : ℕ) → Contains ps x → x.op ≡ ops.Swap k reg
       → (j : ℕ) × (e : CellEntry) × (x.answer ≡ Swapped j) × IsExchange cells k j e × (e.line ≡ x.line)

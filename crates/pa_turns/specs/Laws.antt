@@ -36,23 +36,27 @@ StartsTold = (threads : ℕ) → IsToldTo threads [] [] nothing_shown
 
 -- what is the same to the eye was left by the same records
 abbrev pub LikeIsTold : Type 0
-LikeIsTold = (threads : ℕ) (ls : List Line) (ps : List Played) (a b : Shown) → IsToldTo threads ls ps a → IsLike a b → IsToldTo threads ls ps b
+LikeIsTold = (threads : ℕ) (ls : List Line) (ps : List Played) (a b : Shown) → IsToldTo threads ls ps a → IsLike a b →
+    IsToldTo threads ls ps b
 
 -- a line that begins a phase
 abbrev pub PhaseGoesOn : Type 0
-PhaseGoesOn = (threads : ℕ) (ls : List Line) (ps : List Played) (a : Shown) → IsToldTo threads ls ps a → IsToldTo threads (ls ++ Phase ∷ []) ps a
+PhaseGoesOn = (threads : ℕ) (ls : List Line) (ps : List Played) (a : Shown) → IsToldTo threads ls ps a →
+    IsToldTo threads (ls ++ Phase ∷ []) ps a
 
 -- an op that is refused, or gives back the slots of its caches: it tells of no slot, and is no exchange
 abbrev pub NoneGoesOn : Type 0
 NoneGoesOn =
-    (threads : ℕ) (ls : List Line) (ps : List Played) (a : Shown) (thread : ℕ) (op : Op) (answer : Answer) → CanPlay threads ls ps a thread →
+    (threads : ℕ) (ls : List Line) (ps : List Played) (a : Shown) (thread : ℕ) (op : Op) (answer : Answer) →
+    CanPlay threads ls ps a thread →
     TellsNone answer → ((cell reg : ℕ) → op ≡ ops.Swap cell reg → ⊥) →
     Row (facts_of a.usable a.cells) op (a.regs thread) answer (a.regs thread) → LeadsTo threads ls ps thread op answer a
 
 -- a look at the slot that a register names
 abbrev pub LookGoesOn : Type 0
 LookGoesOn =
-    (threads : ℕ) (ls : List Line) (ps : List Played) (a : Shown) (thread reg : ℕ) (op : Op) (answer : Answer) (seen : Seen) → CanPlay threads ls ps a thread →
+    (threads : ℕ) (ls : List Line) (ps : List Played) (a : Shown) (thread reg : ℕ) (op : Op) (answer : Answer) (seen : Seen) →
+    CanPlay threads ls ps a thread →
     reg < 64 → Names seen.slot (a.regs thread reg) → seen.found.0 ≡ a.word seen.slot → Looks a seen answer →
     ((cell reg : ℕ) → op ≡ ops.Swap cell reg → ⊥) →
     Row (facts_of a.usable a.cells) op (a.regs thread) answer (a.regs thread) → LeadsTo threads ls ps thread op answer a
@@ -60,8 +64,10 @@ LookGoesOn =
 -- an allocation of a slot that is free, into a register without a handle
 abbrev pub MadeGoesOn : Type 0
 MadeGoesOn =
-    (threads : ℕ) (ls : List Line) (ps : List Played) (a : Shown) (thread reg partition size : ℕ) (seen : Seen) → CanPlay threads ls ps a thread →
-    reg < 64 → HoldsNone (a.regs thread reg) → size ≤ 33521656 → seen.found.0 ≡ a.word seen.slot → held_of seen.found.0 ≡ 0 → refs_of seen.found.0 ≡ 0 →
+    (threads : ℕ) (ls : List Line) (ps : List Played) (a : Shown) (thread reg partition size : ℕ) (seen : Seen) →
+    CanPlay threads ls ps a thread →
+    reg < 64 → HoldsNone (a.regs thread reg) → size ≤ 33521656 → seen.found.0 ≡ a.word seen.slot → held_of seen.found.0 ≡ 0 →
+    refs_of seen.found.0 ≡ 0 →
     a.usable seen.slot ≡ usable_of size →
     LeadsTo threads ls ps thread (ops.Alloc reg partition size) (Made seen (usable_of size)) (after_made a thread reg seen)
 
@@ -111,7 +117,8 @@ pub record LetsStep (a : Shown) (thread reg : ℕ) : Type 0 where
 
 abbrev pub HandleLets : Type 0
 HandleLets =
-    (threads : ℕ) (ls : List Line) (ps : List Played) (a : Shown) (thread reg : ℕ) → CanPlay threads ls ps a thread → reg < 64 → LetsStep a thread reg
+    (threads : ℕ) (ls : List Line) (ps : List Played) (a : Shown) (thread reg : ℕ) → CanPlay threads ls ps a thread → reg < 64 →
+    LetsStep a thread reg
 
 -- what the records are at the end
 pub record IsToldRight (ls : List Line) (ps : List Played) (a : Shown) : Type 0 where

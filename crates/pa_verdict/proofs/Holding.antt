@@ -14,7 +14,8 @@ use Rattle.pa_rules.specs.declared.verdict.Clause.TheVariants as clauses
 use Rattle.pa_rules.specs.declared.verdict.Place.TheVariants as places
 use Rattle.pa_rules.specs.Told.{Told, records_of}
 use Rattle.pa_rules.specs.Played.{marks_of}
-use Rattle.pa_rules.specs.Roots.{Journals, IsEntry, IsOfLine}
+use Rattle.pa_rules.specs.Roots.{Journals, IsEntry}
+use Rattle.pa_rules.specs.Order.{IsOfLine}
 use Rattle.pa_rules.specs.Holders.{Holder, WithThread, Move, is_move_of, moves_at, IsReturnedBy, IsFirstHolder, made_by, needed_by, HolderAfter, MovesFit, HasHolders, AreHolders}
 use Rattle.pa_rules.specs.HeapDemands.{MovesOfEntryFit, RecordHolds}
 use Rattle.pa_rules.proofs.Marking.{mark_line}

@@ -6,7 +6,7 @@ use Rattle.pa_trace.specs.declared.script.Trace.{Trace}
 use Rattle.pa_rules.specs.declared.played.Played.{Played}
 use Rattle.pa_rules.specs.Told.{Told, records_of}
 use Rattle.pa_rules.specs.Played.{AreDue}
-use Rattle.pa_rules.specs.Cells.{StandsBefore}
+use Rattle.pa_rules.specs.Order.{StandsBefore}
 use Rattle.pa_rules.specs.RecordDemands.{ComesInOrder}
 use Rattle.pa_rules.proofs.Running.{OtherRecord}
 use Rattle.pa_rules.proofs.ByLines.{same_record}

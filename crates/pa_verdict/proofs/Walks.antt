@@ -24,7 +24,7 @@ rows_cut facts all after (y ∷ before) rest x (next, row, more) =
     let (last, then, to, there) = rows_cut facts (with_thread all y.thread next) after before rest x more in
     (last, then, (next, row, to), there)
 
-rows_end : (facts : Facts) (all after : AllRegs) (next : Regs) (before : List Played) (x : Played) → RowsTo facts all before after → Row facts x.op (after x.thread) x.answer next
+pub rows_end : (facts : Facts) (all after : AllRegs) (next : Regs) (before : List Played) (x : Played) → RowsTo facts all before after → Row facts x.op (after x.thread) x.answer next
     → RowsTo facts all (before ++ x ∷ []) (with_thread after x.thread next)
 rows_end facts all after next [] x same row =
     (next, subst (λ (z : AllRegs). Row facts x.op (z x.thread) x.answer next) same row, ap (λ (z : AllRegs). with_thread z x.thread next) same)

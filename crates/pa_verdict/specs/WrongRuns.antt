@@ -44,7 +44,8 @@ maps_trace = record {
 abbrev pub maps_told : Told
 maps_told =
     telling
-    (made 2 (seen_at 16384 0 0) 2002936 ∷ stepped 3 (seen_at 16384 0 0x1000001) ∷ made 4 (seen_at 16384 0 0x2000000) 2002936 ∷ stepped 5 (seen_at 16384 0 0x3000001) ∷ [])
+    (made 2 (seen_at 16384 0 0) 2002936 ∷ stepped 3 (seen_at 16384 0 0x1000001) ∷ made 4 (seen_at 16384 0 0x2000000) 2002936 ∷ stepped 5
+    (seen_at 16384 0 0x3000001) ∷ [])
     ((map_made 2 0 16384 2002944 ∷ map_gone 3 1 16384 0 4 ∷ []) ∷ [])
     (pool_take 2 0 1 (Some 0) ∷ pool_give 3 0 1 0 ∷ [])
 

@@ -22,7 +22,7 @@ use Rattle.pa_record.proofs.Joined.{map_cases, filter_cases}
 use Rattle.pa_rules.specs.declared.played.Played.{Played}
 use Rattle.pa_rules.specs.Played.{mark_of, mark_of_answer, mark_at, look_at, step_of}
 use Rattle.pa_rules.specs.Roots.{Journals}
-use Rattle.pa_rules.specs.Caches.{Cache, with_list, Becomes, acts_of, OnlyActs, NoActs, IsDirect, FilledFirst, MadeRow, FullRow, ReturnRow, DoneRow, PurgedRow, CacheRow, gives, kept, spilled}
+use Rattle.pa_rules.specs.Caches.{Cache, with_list, SameLists, acts_of, OnlyActs, NoActs, IsDirect, FilledFirst, MadeRow, FullRow, ReturnRow, DoneRow, PurgedRow, CacheRow, gives, kept, spilled}
 use Rattle.pa_rules.specs.Flow.{returns_at, is_issue, is_issue_of, is_return_of, IsOnlyOf}
 use Rattle.pa_rules.proofs.Known.{IsKnown, first_keeps}
 use Rattle.pa_rules.proofs.Counted.{list_of_another}
@@ -62,7 +62,7 @@ module _ (s : SlotName) (k p : ℕ) (roots : Journals) where
       listed s k (after p) 0 59 + marked (is_issue_at s k) mark + moved_in is_back s k acts ≡ listed s k (cache p) 0 59 + moved_in is_out s k acts + marked (is_return_at s k) mark
 
   -- a row without entries, steps that issue or return, and changes
-  quiet : (acts : List RootAct) (mark : Option Mark) (cache after : Cache) → Becomes after cache →
+  quiet : (acts : List RootAct) (mark : Option Mark) (cache after : Cache) → SameLists after cache →
       moved_in is_out s k acts + marked (is_return_at s k) mark ≡ moved_in is_back s k acts + marked (is_issue_at s k) mark → Flows acts mark cache after
   quiet acts mark cache after becomes even = let same = listed_agree s k (after p) (cache p) 0 59 (λ c low. becomes p c) in omega arith
 
@@ -220,7 +220,7 @@ module _ (s : SlotName) (k p : ℕ) (roots : Journals) where
       omega arith
 
   -- a row without entries, with a look or no mark
-  look_flows : (x : Played) (o : Option Seen) (cache after : Cache) → NoActs roots x.line × Becomes after cache → Flows (acts_of roots x.line p) (look_at x.line o) cache after
+  look_flows : (x : Played) (o : Option Seen) (cache after : Cache) → NoActs roots x.line × SameLists after cache → Flows (acts_of roots x.line p) (look_at x.line o) cache after
   look_flows x None cache after (acts, becomes) =
       let (out, back) = none_moved (acts_of roots x.line p) (acts p) in
       quiet (acts_of roots x.line p) None cache after becomes (omega arith)

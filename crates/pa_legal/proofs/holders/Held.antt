@@ -8,7 +8,8 @@ use Rattle.pa_machine.specs.declared.word.SlotName.{SlotName}
 use Rattle.pa_record.specs.declared.pool.PoolEntry.{PoolEntry}
 use Rattle.pa_record.proofs.Members.{first_in, later_in}
 use Rattle.pa_rules.specs.declared.played.Played.{Played}
-use Rattle.pa_rules.specs.Roots.{Journals, IsOfLine}
+use Rattle.pa_rules.specs.Roots.{Journals}
+use Rattle.pa_rules.specs.Order.{IsOfLine}
 use Rattle.pa_rules.specs.Holders.{Holder, WithThread, Way, Out, Back, Move, moves_at, made_by, needed_by, MovesFit, HolderAfter, HasHolders, IsFirstHolder}
 use Rattle.pa_rules.proofs.Running.{OtherRecord}
 use Rattle.pa_rules.proofs.FourPlaces.{HasLeft}

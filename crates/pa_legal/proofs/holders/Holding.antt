@@ -9,7 +9,8 @@ use Rattle.pa_record.specs.declared.pool.PoolEntry.{PoolEntry}
 use Rattle.pa_record.proofs.Members.{not_in_none, first_in, later_in, in_cases}
 use Rattle.pa_record.proofs.Pairs.{pairs_none, pairs_cons, pairs_head, pairs_tail}
 use Rattle.pa_rules.specs.declared.played.Played.{Played}
-use Rattle.pa_rules.specs.Roots.{Journals, IsOfLine}
+use Rattle.pa_rules.specs.Roots.{Journals}
+use Rattle.pa_rules.specs.Order.{IsOfLine}
 use Rattle.pa_rules.specs.Caches.{CachesTo, no_caches}
 use Rattle.pa_rules.specs.Holders.{Way, Out, Back, Move, moves_at}
 use Rattle.pa_rules.specs.Flow.{IsOnlyOf}

@@ -15,8 +15,8 @@ use Rattle.pa_record.specs.declared.root.RootAct.TheVariants.{Fill, Map, Full, G
 use Rattle.pa_record.proofs.Members.{not_in_none}
 use Rattle.pa_record.proofs.Joined.{map_cases, filter_cases, flat_cases, pairs_flat}
 use Rattle.pa_rules.specs.declared.played.Played.{Played}
-use Rattle.pa_rules.specs.Cells.{StandsBefore}
-use Rattle.pa_rules.specs.Roots.{Journals, IsOfLine, MakesEntry, AreRoots}
+use Rattle.pa_rules.specs.Roots.{Journals, MakesEntry, AreRoots}
+use Rattle.pa_rules.specs.Order.{IsOfLine, StandsBefore}
 use Rattle.pa_rules.specs.Holders.{Way, Out, Back, Move, move_of, moves_by, is_move_of, moves_at}
 use Rattle.pa_rules.proofs.Running.{OtherRecord}
 use Rattle.pa_rules.proofs.ByLines.{same_record}

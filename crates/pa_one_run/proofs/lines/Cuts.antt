@@ -9,7 +9,8 @@ use Rattle.pa_record.specs.declared.root.RootEntry.{RootEntry}
 use Rattle.pa_record.proofs.Members.{not_in_none, first_in, in_cases}
 use Rattle.pa_record.proofs.Pairs.{pairs_head}
 use Rattle.pa_rules.specs.declared.played.Played.{Played}
-use Rattle.pa_rules.specs.Roots.{Journals, IsOfLine, MakesEntry}
+use Rattle.pa_rules.specs.Roots.{Journals, MakesEntry}
+use Rattle.pa_rules.specs.Order.{IsOfLine}
 use Rattle.pa_rules.specs.Caches.{Cache, Caches, CacheRow, CachesTo, no_caches, with_cache}
 use Rattle.pa_rules.proofs.ByLines.{same_record}
 use Rattle.pa_rules.proofs.Numbering.{rising_differ}

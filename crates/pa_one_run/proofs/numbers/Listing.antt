@@ -7,7 +7,7 @@ use Rattle.pa_record.specs.declared.numbered.Numbered.{Numbered}
 use Rattle.pa_record.specs.Root.{names}
 use Rattle.pa_record.proofs.Members.{not_in_none}
 use Rattle.pa_record.proofs.Joined.{map_in}
-use Rattle.pa_rules.specs.Caches.{Cache, Caches, Becomes, with_list, with_cache, kept, spilled}
+use Rattle.pa_rules.specs.Caches.{Cache, Caches, SameLists, with_list, with_cache, kept, spilled}
 use Rattle.pa_rules.specs.Flow.{listed_times, cached_times}
 use Rattle.pa_rules.proofs.Counted.{once, stands, times_cons, stands_kept, listed_none, listed_changed, cached_changed}
 use Rattle.pa_rules.proofs.Totals.{some_cached, some_listed, some_times}
@@ -45,7 +45,7 @@ with_cases all thread next t p c m among = elim (cases_eq t thread) [
   | inr other ↦ inr (rw (ne_eqb t thread other) at among)
 ]
 
-list_cases : (cache next : Cache) (q class p c : ℕ) (xs : List Numbered) (m : Numbered) → Becomes next (with_list cache q class xs) → Contains (next p c) m → ((q ≡ p) × Contains xs m) ⊎ Contains (cache p c) m
+list_cases : (cache next : Cache) (q class p c : ℕ) (xs : List Numbered) (m : Numbered) → SameLists next (with_list cache q class xs) → Contains (next p c) m → ((q ≡ p) × Contains xs m) ⊎ Contains (cache p c) m
 list_cases cache next q class p c xs m becomes among =
     let there : Contains (with_list cache q class xs p c) m = subst (λ ys. Contains ys m) (becomes p c) among in
     elim (cases_eq p q) [
@@ -56,7 +56,7 @@ list_cases cache next q class p c xs m becomes among =
       | inr e ↦ inr (rw (ne_eqb p q e) at there)
     ]
 
-pub stands_same : (all : Caches) (s : SlotName) (p threads thread : ℕ) (next : Cache) (m : Numbered) → Becomes next (all thread) → Stands (with_cache all thread next) s p threads m → Stands all s p threads m
+pub stands_same : (all : Caches) (s : SlotName) (p threads thread : ℕ) (next : Cache) (m : Numbered) → SameLists next (all thread) → Stands (with_cache all thread next) s p threads m → Stands all s p threads m
 stands_same all s p threads thread next m becomes at = record {
   thread = at.thread;
   class = at.class;
@@ -69,7 +69,7 @@ stands_same all s p threads thread next m becomes at = record {
   slot = at.slot;
 }
 
-pub stands_changed : (all : Caches) (s : SlotName) (p threads thread q class : ℕ) (xs : List Numbered) (next : Cache) (m : Numbered) → Becomes next (with_list (all thread) q class xs) →
+pub stands_changed : (all : Caches) (s : SlotName) (p threads thread q class : ℕ) (xs : List Numbered) (next : Cache) (m : Numbered) → SameLists next (with_list (all thread) q class xs) →
     Stands (with_cache all thread next) s p threads m → Stands all s p threads m ⊎ ((q ≡ p) × Contains xs m × (m.slot ≡ s))
 stands_changed all s p threads thread q class xs next m becomes at = elim (with_cases all thread next at.thread p at.class m at.among) [
   | inl (e, among) ↦ elim (list_cases (all thread) next q class p at.class xs m becomes among) [
@@ -96,7 +96,7 @@ stands_emptied all s p threads thread next m empty at = record {
 
 -- what doesn't stay of a list that got one slot more
 pub kept_times : (s : SlotName) (all : Caches) (thread p threads class : ℕ) (slot : Numbered) (next : Cache) → thread < threads → class < 59 →
-    Becomes next (with_list (all thread) p class (kept class (slot ∷ all thread p class))) →
+    SameLists next (with_list (all thread) p class (kept class (slot ∷ all thread p class))) →
     cached_times s (with_cache all thread next) p threads + stands s (spilled class (slot ∷ all thread p class)) ≡ cached_times s all p threads + once s slot.slot
 kept_times s all thread p threads class slot next few real becomes =
     let list = slot ∷ all thread p class in

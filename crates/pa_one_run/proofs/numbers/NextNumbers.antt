@@ -22,7 +22,7 @@ use Rattle.pa_record.specs.declared.entry.Answer.TheVariants as answers
 use Rattle.pa_rules.specs.declared.played.Played.{Played}
 use Rattle.pa_rules.specs.Played.{mark_of, mark_of_answer, mark_at, look_at, step_of}
 use Rattle.pa_rules.specs.Holders.{Out, Back}
-use Rattle.pa_rules.specs.Caches.{Cache, Caches, with_list, with_cache, Becomes, acts_of, OnlyActs, NoActs, IsOfClass, FilledFirst, FrontIs, MadeRow, FullRow, ReturnRow, DoneRow, PurgedRow, CacheRow, CachesTo, no_caches, gives, kept, spilled}
+use Rattle.pa_rules.specs.Caches.{Cache, Caches, with_list, with_cache, SameLists, acts_of, OnlyActs, NoActs, IsOfClass, FilledFirst, FrontIs, MadeRow, FullRow, ReturnRow, DoneRow, PurgedRow, CacheRow, CachesTo, no_caches, gives, kept, spilled}
 use Rattle.pa_rules.specs.Flow.{cached_times, listed_times, busy, is_issue}
 use Rattle.pa_rules.proofs.Running.{busy_some}
 use Rattle.pa_rules.proofs.Counted.{once, stands}
@@ -167,7 +167,7 @@ module _ (a : Parts) (before rest : List Played) (x : Played) (all : Caches) (ne
   known = all_known a.partitions a.roots before no_caches all (λ t q c m among. absurd (not_in_none m among)) n.caches x.thread
 
   class_here : (seen : Seen) (c : ℕ) (xs left : List Numbered) → mark_of x ≡ Some (mark_at x.line seen (Some Issue)) → c < 59 → FilledFirst a.roots x.line p c (all x.thread p c) xs →
-      FrontIs seen xs left → Becomes next (with_list (all x.thread) p c left) → AreNumberedAfter a before x all next s p
+      FrontIs seen xs left → SameLists next (with_list (all x.thread) p c left) → AreNumberedAfter a before x all next s p
   class_here seen c xs left marked real first front becomes =
       let mark = mark_at x.line seen (Some Issue) in
       let head : Numbered = record { slot = seen.slot; number = number_of seen.found.0 } in
@@ -195,7 +195,7 @@ module _ (a : Parts) (before rest : List Played) (x : Played) (all : Caches) (ne
   made_next seen marked (inl (q, c, xs, left, asks, first, front, becomes)) = elim (cases_eq q p) [
     | inl same ↦
         class_here seen c xs left marked asks.3.real (subst (λ z. FilledFirst a.roots x.line z c (all x.thread z c) xs) same first) front
-        (subst (λ z. Becomes next (with_list (all x.thread) z c left)) same becomes)
+        (subst (λ z. SameLists next (with_list (all x.thread) z c left)) same becomes)
     | inr other ↦
         let head : Numbered = record { slot = seen.slot; number = number_of seen.found.0 } in
         let keeps = first_keeps s a.roots x.line q c (all x.thread q c) xs (λ m. known q c m) first in
@@ -262,7 +262,7 @@ module _ (a : Parts) (before rest : List Played) (x : Played) (all : Caches) (ne
 
   -- and what doesn't stay of its list goes back
   return_here : (slot : Numbered) (c : ℕ) → c < 59 → AreNumbered Before s later_number (Pushed slot) → cached_times s all p a.threads + once s slot.slot ≤ 1 →
-      On ≡ gives (spilled c (slot ∷ all x.thread p c)) → Becomes next (with_list (all x.thread) p c (kept c (slot ∷ all x.thread p c))) → AreNumberedAfter a before x all next s p
+      On ≡ gives (spilled c (slot ∷ all x.thread p c)) → SameLists next (with_list (all x.thread) p c (kept c (slot ∷ all x.thread p c))) → AreNumberedAfter a before x all next s p
   return_here slot c real on one acts becomes =
       let list = slot ∷ all x.thread p c in
       let times = kept_times s all x.thread p a.threads c slot next few real becomes in
@@ -290,7 +290,7 @@ module _ (a : Parts) (before rest : List Played) (x : Played) (all : Caches) (ne
         | inl same ↦
             let (on, one) = pushed seen step marked none in
             return_here slot c (class_real a.pools a.roots seen.slot q c (n.filed.journals.journals q) of) on one (subst (λ z. acts_of a.roots x.line z ≡ gives (spilled c (slot ∷ all x.thread z c))) same only.0)
-            (subst (λ z. Becomes next (with_list (all x.thread) z c (kept c (slot ∷ all x.thread z c)))) same becomes)
+            (subst (λ z. SameLists next (with_list (all x.thread) z c (kept c (slot ∷ all x.thread z c)))) same becomes)
         | inr other ↦
             quiet
             (apart_slot x s (mark_at x.line seen (Some step)) marked (λ here. other (one_class a s q p c class n.filed (subst (λ z. IsOfClass a.roots z q c) here of) n.of).0))
@@ -323,7 +323,7 @@ module _ (a : Parts) (before rest : List Played) (x : Played) (all : Caches) (ne
         | inr apart ↦ quiet (apart_slot x s mark marked apart) (λ k. ap (ways_of s k) (acts p)) old
       ]
 
-  look_next : (o : Option Seen) → mark_of x ≡ look_at x.line o → NoActs a.roots x.line × Becomes next (all x.thread) → AreNumberedAfter a before x all next s p
+  look_next : (o : Option Seen) → mark_of x ≡ look_at x.line o → NoActs a.roots x.line × SameLists next (all x.thread) → AreNumberedAfter a before x all next s p
   look_next o marked (acts, becomes) = quiet (apart_look x s o marked) (λ k. ap (ways_of s k) (acts p)) (λ m at. stands_same all s p a.threads x.thread next m becomes at)
 
   purged_next : (slots : ℕ) → mark_of x ≡ None → PurgedRow a.partitions a.roots x slots (all x.thread) next → AreNumberedAfter a before x all next s p

@@ -21,7 +21,7 @@ use Rattle.pa_record.specs.declared.entry.Answer.TheVariants as answers
 use Rattle.pa_rules.specs.declared.played.Played.{Played}
 use Rattle.pa_rules.specs.Played.{step_of, mark_at, mark_of, mark_of_answer}
 use Rattle.pa_rules.specs.Roots.{Journals}
-use Rattle.pa_rules.specs.Caches.{Cache, with_list, Becomes, acts_of, OnlyActs, NoActs, batches, gives, purge_acts, all_listed, kept, spilled, FrontIs, FilledFirst, MadeRow, FullRow, IsDirect, unmap_at, ReturnRow, DoneRow, PurgedRow, CacheRow}
+use Rattle.pa_rules.specs.Caches.{Cache, with_list, SameLists, acts_of, OnlyActs, NoActs, batches, gives, purge_acts, all_listed, kept, spilled, FrontIs, FilledFirst, MadeRow, FullRow, IsDirect, unmap_at, ReturnRow, DoneRow, PurgedRow, CacheRow}
 use Rattle.pa_one_run.proofs.lines.Sorting.{below, on}
 use Rattle.pa_one_run.proofs.Filed.{Parts, IsFiled, IsMadeIn, entry_line, pool_line, word_after}
 use Rattle.pa_one_run.proofs.roots.Classes.{class_once, map_once, class_or_map}
@@ -39,11 +39,11 @@ pub record IsRowAlike (a b : Parts) (n : ℕ) (next next' : Cache) : Type 0 wher
   pub caches : next ≡ next'
   pub line : IsAlike a b n
 
-becomes_is : (after cache : Cache) → Becomes after cache → after ≡ cache
+becomes_is : (after cache : Cache) → SameLists after cache → after ≡ cache
 becomes_is after cache h = fun_ext (λ p. fun_ext (λ c. h p c))
 
 -- lists that became the same
-both_become : (after after' cache cache' : Cache) → Becomes after cache → Becomes after' cache' → cache ≡ cache' → after ≡ after'
+both_become : (after after' cache cache' : Cache) → SameLists after cache → SameLists after' cache' → cache ≡ cache' → after ≡ after'
 both_become after after' cache cache' h k e = becomes_is after cache h ∙ e ∙ sym (becomes_is after' cache' k)
 
 -- ---- an allocation that made a slot
@@ -72,7 +72,7 @@ pub record IsMadeAlike (a b : Parts) (n : ℕ) (s t : SlotName) (next next' : Ca
 -- a slot of a class was made
 abbrev ClassRow : Journals → Played → Seen → Cache → Cache → ℕ → ℕ → Type 0
 ClassRow roots x seen cache after p class =
-    (xs rest : List Numbered) × FilledFirst roots x.line p class (cache p class) xs × FrontIs seen xs rest × Becomes after (with_list cache p class rest)
+    (xs rest : List Numbered) × FilledFirst roots x.line p class (cache p class) xs × FrontIs seen xs rest × SameLists after (with_list cache p class rest)
 
 class_row : (a b : Parts) (before : List Played) (x : Played) (v : Answer) (p class : ℕ) (seen other : Seen) (cache next next' : Cache) → Beside a b before x v → ClassRow a.roots x seen cache next p class →
     ClassRow b.roots x other cache next' p class → IsMadeAlike a b x.line seen.slot other.slot next next'
@@ -200,8 +200,8 @@ back_alike a b before x slot cache next next' h made (m, marked, same, left) row
     after = record { filed = h.filed; filed' = h.filed'; rest = x ∷ h.rest; rest' = x ∷ h.rest'; parts = h.parts; parts' = h.parts' }
 
     -- what a list spills has no entry of the pool
-    class_back : (p class : ℕ) → OnlyActs a.roots x.line p (gives (spilled class (slot ∷ cache p class))) → Becomes next (with_list cache p class (kept class (slot ∷ cache p class))) →
-        OnlyActs b.roots x.line p (gives (spilled class (slot ∷ cache p class))) → Becomes next' (with_list cache p class (kept class (slot ∷ cache p class))) → IsRowAlike a b x.line next next'
+    class_back : (p class : ℕ) → OnlyActs a.roots x.line p (gives (spilled class (slot ∷ cache p class))) → SameLists next (with_list cache p class (kept class (slot ∷ cache p class))) →
+        OnlyActs b.roots x.line p (gives (spilled class (slot ∷ cache p class))) → SameLists next' (with_list cache p class (kept class (slot ∷ cache p class))) → IsRowAlike a b x.line next next'
     class_back p class only becomes only' becomes' =
         let list = spilled class (slot ∷ cache p class) in
         let none = batch_asks_none (length list) list in
@@ -216,9 +216,9 @@ back_alike a b before x slot cache next next' h made (m, marked, same, left) row
     by_place : ReturnRow a.roots x slot cache next → ReturnRow b.roots x slot cache next' → IsRowAlike a b x.line next next'
     by_place (inl (p, class, of, only, becomes)) (inl (q, class', of', only', becomes')) =
         let (e, f) = class_alike a b before slot.slot p q class class' after made of of' in
-        let (there, become) : OnlyActs b.roots x.line p (gives (spilled class (slot ∷ cache p class))) × Becomes next' (with_list cache p class (kept class (slot ∷ cache p class))) =
-        subst (λ z. OnlyActs b.roots x.line z (gives (spilled class (slot ∷ cache z class))) × Becomes next' (with_list cache z class (kept class (slot ∷ cache z class)))) (sym e)
-        (subst (λ z. OnlyActs b.roots x.line q (gives (spilled z (slot ∷ cache q z))) × Becomes next' (with_list cache q z (kept z (slot ∷ cache q z)))) (sym f) (only', becomes')) in
+        let (there, become) : OnlyActs b.roots x.line p (gives (spilled class (slot ∷ cache p class))) × SameLists next' (with_list cache p class (kept class (slot ∷ cache p class))) =
+        subst (λ z. OnlyActs b.roots x.line z (gives (spilled class (slot ∷ cache z class))) × SameLists next' (with_list cache z class (kept class (slot ∷ cache z class)))) (sym e)
+        (subst (λ z. OnlyActs b.roots x.line q (gives (spilled z (slot ∷ cache q z))) × SameLists next' (with_list cache q z (kept z (slot ∷ cache q z)))) (sym f) (only', becomes')) in
         class_back p class only becomes there become
     by_place (inl (p, class, of, only, becomes)) (inr (q, j, number, direct, only', becomes')) = absurd (class_not_direct a b before slot.slot p q class after made of direct)
     by_place (inr (p, i, number, direct, only, becomes)) (inl (q, class, of, only', becomes')) = absurd (direct_not_class a b before slot.slot p q class after made direct of)
@@ -234,7 +234,7 @@ back_alike a b before x slot cache next next' h made (m, marked, same, left) row
         }
 
 -- a row without entries
-same_alike : (a b : Parts) (before : List Played) (x : Played) (v : Answer) (cache next next' : Cache) → Beside a b before x v → NoActs a.roots x.line × Becomes next cache → NoActs b.roots x.line × Becomes next' cache →
+same_alike : (a b : Parts) (before : List Played) (x : Played) (v : Answer) (cache next next' : Cache) → Beside a b before x v → NoActs a.roots x.line × SameLists next cache → NoActs b.roots x.line × SameLists next' cache →
     IsRowAlike a b x.line next next'
 same_alike a b before x v cache next next' h (none, becomes) (none', becomes') =
     record { caches = both_become next next' cache cache becomes becomes' refl; line = quiet_alike a b x.line h.filed h.filed' none none' }

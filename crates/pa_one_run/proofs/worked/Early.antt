@@ -10,7 +10,8 @@ use Rattle.pa_record.specs.declared.history.Held.TheVariants as held
 use Rattle.pa_record.proofs.Members.{of_some, not_some}
 use Rattle.pa_rules.specs.declared.played.Played.{Played}
 use Rattle.pa_rules.specs.Played.{marks_of, AreLines}
-use Rattle.pa_rules.specs.Cells.{history_at, AreCells, IsExchange, IsRecordOf, IsChain, StandsBefore}
+use Rattle.pa_rules.specs.Cells.{history_at, AreCells, IsExchange, IsChain}
+use Rattle.pa_rules.specs.Order.{IsOfLine, StandsBefore}
 use Rattle.pa_rules.specs.Seen.{IsSeenInOrder}
 use Rattle.pa_one_run.specs.WorkedEarly.{early_read_trace, early_read_records, there_history, back_history}
 use Rattle.pa_one_run.proofs.Filed.{cell_line}
@@ -61,7 +62,7 @@ is_late j e at = each (λ (e : CellEntry). 8 ≤ e.line) back_history late e (ge
 
 -- the exchange's record is one with cell k
 abbrev IsOf : ℕ → CellEntry → Type 0
-IsOf k e = (p : Played) × (reg : ℕ) × IsRecordOf early_read_records e p × (p.op ≡ ops.Swap k reg)
+IsOf k e = (p : Played) × (reg : ℕ) × IsOfLine early_read_records e.line p × (p.op ≡ ops.Swap k reg)
 
 of_there : AllByRecursion (IsOf 0) there_history
 of_there = ((_, 1, ((2, lit< tt, refl), refl), refl), ((_, 0, ((3, lit< tt, refl), refl), refl), tt))
@@ -122,8 +123,8 @@ all_answered = (
 )
 
 -- the exchanges of each cell stand in the order of their lines
-ordered : (k i j : ℕ) (e f : CellEntry) (p q : Played) → IsExchange cells k i e → IsExchange cells k j f → IsRecordOf early_read_records e p →
-    IsRecordOf early_read_records f q → StandsBefore p q → i < j
+ordered : (k i j : ℕ) (e f : CellEntry) (p q : Played) → IsExchange cells k i e → IsExchange cells k j f → IsOfLine early_read_records e.line p →
+    IsOfLine early_read_records f.line q → StandsBefore p q → i < j
 ordered zero i j e f p q at at' of of' before =
     in_order early_read_records cell_line there_history follow (rises cell_line there_history refl) i j e f p q at at' of of' before
 ordered (suc zero) i j e f p q at at' of of' before =

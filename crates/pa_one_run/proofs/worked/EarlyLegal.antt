@@ -1,7 +1,7 @@
 -- The worked run with an early read is legal, clause by clause, and there is such a run.
 use Rattle.std.proofs.Common.{[], ◌∷◌, map, lit<, rules, Global}
 use Rattle.pa_trace.specs.Limits.{IsWithinLimits}
-use Rattle.pa_record.specs.Fits.{RunFits}
+use Rattle.pa_record.specs.Bits.{RunInBits}
 use Rattle.pa_rules.specs.Played.{entry_of}
 use Rattle.pa_one_run.specs.Worked.{two_threads_journal, two_threads_pool}
 use Rattle.pa_one_run.specs.WorkedEarly.{early_read_trace, early_read_records, there_history, back_history, early_read_report, EarlyReadIsTold, EarlyReadIsLegal}
@@ -14,7 +14,7 @@ use Rattle.pa_one_run.proofs.worked.EarlyHeld as used
 few : AreFew (map entry_of early_read_records) (two_threads_journal ∷ []) two_threads_pool (there_history ∷ back_history ∷ []) early_read_report
 few = (lit< tt, lit< tt, lit< tt, lit< tt, lit< tt)
 
-fits : (heap : Global) → RunFits (run_of (map entry_of early_read_records) (two_threads_journal ∷ []) two_threads_pool (there_history ∷ back_history ∷ []) early_read_report few heap)
+fits : (heap : Global) → RunInBits (run_of (map entry_of early_read_records) (two_threads_journal ∷ []) two_threads_pool (there_history ∷ back_history ∷ []) early_read_report few heap)
 fits heap = record { entries = search rules; roots = search rules; pool = search rules; cells = search rules; report = search rules }
 
 limits : IsWithinLimits early_read_trace

@@ -11,8 +11,8 @@ use Rattle.pa_record.specs.declared.root.RootEntry.{RootEntry}
 use Rattle.pa_record.proofs.Members.{first_in, not_in_none, not_some}
 use Rattle.pa_record.proofs.Pairs.{pairs_none, pairs_cons}
 use Rattle.pa_rules.specs.declared.played.Played.{Played}
-use Rattle.pa_rules.specs.Cells.{StandsBefore}
-use Rattle.pa_rules.specs.Roots.{IsEntry, IsOfLine, journal_at}
+use Rattle.pa_rules.specs.Roots.{IsEntry, journal_at}
+use Rattle.pa_rules.specs.Order.{IsOfLine, StandsBefore}
 
 -- what is shown of each member in order
 pub each : {A : Type 0} (P : A → Type 0) (xs : List A) → AllByRecursion P xs → (x : A) → Contains xs x → P x

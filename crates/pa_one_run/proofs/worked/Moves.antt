@@ -15,7 +15,8 @@ use Rattle.pa_record.specs.declared.root.RootAct.TheVariants.{Unmap}
 use Rattle.pa_record.proofs.Members.{find_is, not_some}
 use Rattle.pa_rules.specs.declared.played.Played.{Played}
 use Rattle.pa_rules.specs.Played.{mark_of}
-use Rattle.pa_rules.specs.Roots.{IsEntry, IsOfLine, journal_at}
+use Rattle.pa_rules.specs.Roots.{IsEntry, journal_at}
+use Rattle.pa_rules.specs.Order.{IsOfLine}
 use Rattle.pa_rules.specs.Holders.{Holder, InRoot, WithThread, Way, Move, moves_by, is_move_of, moves_at, IsReturnedBy, IsFirstHolder, made_by, needed_by, MovesFit, HasHolders, IsOfSlot, NamesSlot, AreHolders}
 use Rattle.pa_one_run.proofs.worked.Lists.{each}
 use Rattle.pa_one_run.proofs.worked.Holders.{HasItsHolders, all_have_holders, IsIssued, gone_by, all_stay_away, all_lower, away_from_journal, away_from_records}

@@ -14,7 +14,8 @@ use Rattle.pa_record.specs.Root.{new_root, root_replayed, IsJournal}
 use Rattle.pa_record.specs.Census.{census}
 use Rattle.pa_record.proofs.Members.{not_some}
 use Rattle.pa_rules.specs.declared.played.Played.{Played}
-use Rattle.pa_rules.specs.Roots.{journal_at, IsEntry, IsOfLine, MakesEntry, IsFull, AreRoots}
+use Rattle.pa_rules.specs.Roots.{journal_at, IsEntry, MakesEntry, IsFull, AreRoots}
+use Rattle.pa_rules.specs.Order.{IsOfLine}
 use Rattle.pa_rules.specs.Caches.{acts_of, NoActs}
 use Rattle.pa_rules.specs.Report.{InPhases, PastPhases, HasCensus}
 use Rattle.pa_one_run.proofs.Filed.{entry_line}

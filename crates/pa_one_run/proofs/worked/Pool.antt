@@ -8,8 +8,8 @@ use Rattle.pa_record.specs.Pool.{IsPool}
 use Rattle.pa_record.specs.Root.{asked_by}
 use Rattle.pa_record.proofs.Members.{of_some, not_some}
 use Rattle.pa_rules.specs.declared.played.Played.{Played}
-use Rattle.pa_rules.specs.Cells.{StandsBefore}
-use Rattle.pa_rules.specs.Roots.{journal_at, IsEntry, IsOfLine, Names, IsPoolOf}
+use Rattle.pa_rules.specs.Roots.{journal_at, IsEntry, Names, IsPoolOf}
+use Rattle.pa_rules.specs.Order.{IsOfLine, StandsBefore}
 use Rattle.pa_one_run.proofs.Filed.{entry_line, pool_line}
 use Rattle.pa_one_run.proofs.worked.Lists.{all_pairs, rises, only_journal, lines_follow, in_order}
 

@@ -1,7 +1,7 @@
 -- There is the worked purge, and it is the run of its trace in the order of the lines.
 use Rattle.std.proofs.Common.{[], ◌∷◌, map, refl, lit<, rules, Global}
 use Rattle.pa_trace.specs.Limits.{IsWithinLimits}
-use Rattle.pa_record.specs.Fits.{RunFits}
+use Rattle.pa_record.specs.Bits.{RunInBits}
 use Rattle.pa_record.specs.Worked.{purge_pool, purge_journal}
 use Rattle.pa_rules.specs.Played.{entry_of}
 use Rattle.pa_rules.specs.Worked.{purge_records}
@@ -13,7 +13,7 @@ use Rattle.pa_one_run.proofs.worked.Purge as purge
 few : AreFew (map entry_of purge_records) (purge_journal ∷ []) purge_pool [] purge_report
 few = (lit< tt, lit< tt, lit< tt, lit< tt, lit< tt)
 
-fits : (heap : Global) → RunFits (run_of (map entry_of purge_records) (purge_journal ∷ []) purge_pool [] purge_report few heap)
+fits : (heap : Global) → RunInBits (run_of (map entry_of purge_records) (purge_journal ∷ []) purge_pool [] purge_report few heap)
 fits heap = record { entries = search rules; roots = search rules; pool = search rules; cells = search rules; report = search rules }
 
 limits : IsWithinLimits purge_trace

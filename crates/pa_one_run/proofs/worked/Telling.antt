@@ -10,7 +10,7 @@ use Rattle.pa_record.specs.declared.pool.PoolEntry.{PoolEntry}
 use Rattle.pa_record.specs.declared.root.RootEntry.{RootEntry}
 use Rattle.pa_record.specs.declared.report.ReportLine.{ReportLine}
 use Rattle.pa_record.specs.declared.run.Run.{Run}
-use Rattle.pa_record.specs.Fits.{RunFits}
+use Rattle.pa_record.specs.Bits.{RunInBits}
 use Rattle.pa_one_run.specs.Worked.{IsTold}
 
 -- the lists are short enough for vectors
@@ -32,7 +32,7 @@ module _ (told : List Entry) (journals : List (List RootEntry)) (pools : List Po
         report = vec_of heap heaps few.4;
       }
 
-  pub told_by : (t : Trace) → IsWithinLimits t → ((heap : Global) → RunFits (run_of heap)) → IsTold t told journals pools exchanged heaps
+  pub told_by : (t : Trace) → IsWithinLimits t → ((heap : Global) → RunInBits (run_of heap)) → IsTold t told journals pools exchanged heaps
   told_by t limits fits = record {
     limits = limits;
     run = λ heap. (run_of heap, fits heap, record { entries = refl; roots = refl; pool = refl; cells = refl; report = refl });

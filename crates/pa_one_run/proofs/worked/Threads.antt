@@ -10,7 +10,8 @@ use Rattle.pa_record.specs.declared.history.Held.TheVariants as held
 use Rattle.pa_record.proofs.Members.{of_some, not_some}
 use Rattle.pa_rules.specs.declared.played.Played.{Played}
 use Rattle.pa_rules.specs.Played.{marks_of, AreLines}
-use Rattle.pa_rules.specs.Cells.{AreCells, IsExchange, IsRecordOf, IsChain, history_at}
+use Rattle.pa_rules.specs.Cells.{AreCells, IsExchange, IsChain, history_at}
+use Rattle.pa_rules.specs.Order.{IsOfLine}
 use Rattle.pa_rules.specs.Seen.{IsSeenInOrder}
 use Rattle.pa_one_run.specs.Worked.{two_threads_trace, two_threads_records, two_threads_history}
 use Rattle.pa_one_run.proofs.Filed.{cell_line}
@@ -40,7 +41,7 @@ only_cell (suc k) j e at = absurd (not_some e at)
 
 -- the exchange's record is one with cell k
 abbrev IsOf : ℕ → CellEntry → Type 0
-IsOf k e = (p : Played) × (reg : ℕ) × IsRecordOf two_threads_records e p × (p.op ≡ ops.Swap k reg)
+IsOf k e = (p : Played) × (reg : ℕ) × IsOfLine two_threads_records e.line p × (p.op ≡ ops.Swap k reg)
 
 of_records : AllByRecursion (IsOf 0) two_threads_history
 of_records = ((_, 1, ((2, lit< tt, refl), refl), refl), ((_, 0, ((4, lit< tt, refl), refl), refl), tt))

@@ -1,7 +1,7 @@
 -- There is the worked run of writes, and it is the one in the order of the lines.
 use Rattle.std.proofs.Common.{[], ◌∷◌, map, refl, lit<, rules, Global}
 use Rattle.pa_trace.specs.Limits.{IsWithinLimits}
-use Rattle.pa_record.specs.Fits.{RunFits}
+use Rattle.pa_record.specs.Bits.{RunInBits}
 use Rattle.pa_rules.specs.Played.{entry_of}
 use Rattle.pa_one_run.specs.WorkedWrites.{writes_trace, writes_records, writes_journal, writes_pool, writes_report, WritesAreTold, WritesAreFiled}
 use Rattle.pa_one_run.proofs.worked.Telling.{AreFew, run_of, told_by}
@@ -12,7 +12,7 @@ use Rattle.pa_one_run.proofs.worked.WritesHeld as held
 few : AreFew (map entry_of writes_records) (writes_journal ∷ []) writes_pool [] writes_report
 few = (lit< tt, lit< tt, lit< tt, lit< tt, lit< tt)
 
-fits : (heap : Global) → RunFits (run_of (map entry_of writes_records) (writes_journal ∷ []) writes_pool [] writes_report few heap)
+fits : (heap : Global) → RunInBits (run_of (map entry_of writes_records) (writes_journal ∷ []) writes_pool [] writes_report few heap)
 fits heap = record { entries = search rules; roots = search rules; pool = search rules; cells = search rules; report = search rules }
 
 limits : IsWithinLimits writes_trace

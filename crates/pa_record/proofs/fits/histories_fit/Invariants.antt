@@ -1,7 +1,7 @@
 use Rattle.std.proofs.Common.{take}
 use Rattle.std.specs.List.{AllByRecursion}
-use Rattle.pa_record.specs.Fits.{CellFits}
+use Rattle.pa_record.specs.Bits.{CellInBits}
 use Rattle.pa_record.proofs.fits.histories_fit.Given as goal
 
 abbrev pub invariant-loop-history : goal.invariant-loop-history
-invariant-loop-history l = AllByRecursion (AllByRecursion CellFits) (take l.history-index l.histories)
+invariant-loop-history l = AllByRecursion (AllByRecursion CellInBits) (take l.history-index l.histories)

@@ -1,7 +1,7 @@
 use Rattle.std.proofs.Common.{take}
 use Rattle.std.specs.List.{AllByRecursion}
-use Rattle.pa_record.specs.Fits.{PoolFits}
+use Rattle.pa_record.specs.Bits.{PoolInBits}
 use Rattle.pa_record.proofs.fits.pool_fits.Given as goal
 
 abbrev pub invariant-loop-entry : goal.invariant-loop-entry
-invariant-loop-entry l = AllByRecursion PoolFits (take l.entry-index l.entries)
+invariant-loop-entry l = AllByRecursion PoolInBits (take l.entry-index l.entries)

@@ -27,7 +27,6 @@ loop-title-preserved c =
       sound = a.rest.sound;
       ordered = c.give.ensures.ordered;
       filed = c.give.ensures.filed;
-      ring = c.give.ensures.ring ∙ inv.ring;
       settled = a.settled inv.settled;
       out = a.rest.out;
       once = a.rest.once;

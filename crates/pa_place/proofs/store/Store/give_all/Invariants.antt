@@ -1,6 +1,5 @@
 use Rattle.std.proofs.Common.{◌≡◌, ◌≢◌, ◌+◌, ◌*◌, ◌≤◌, drop, map, vec_len}
 use Rattle.std.specs.Prelude.{All, AllPairs}
-use Rattle.std.specs.Vec.{vec_capacity}
 use Rattle.pa_record.specs.Spans.{name_of}
 use Rattle.pa_record.specs.Root.{IsOut, all_returned, empties}
 use Rattle.pa_record.specs.Sound.{IsSound}
@@ -13,8 +12,7 @@ invariant-loop-title l = record {
   left : all_returned (map name_of (drop l.title-index l.titles)) (root_of l.self) ≡ all_returned (map name_of l.titles) (root_of l.initial.self);
   sound : IsSound (root_of l.self);
   ordered : IsOrdered (root_of l.self);
-  filed : IsFiled (root_of l.self) l.self.empty.items;
-  ring : vec_capacity l.self.empty ≡ vec_capacity l.initial.self.empty;
+  filed : IsFiled l.self;
   settled : empties (root_of l.self) ≤ 16;
   out : All (IsOut (root_of l.self)) (map name_of (drop l.title-index l.titles));
   once : AllPairs ◌≢◌ (map name_of (drop l.title-index l.titles));

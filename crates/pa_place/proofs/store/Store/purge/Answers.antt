@@ -18,7 +18,6 @@ loop-empty-preserved c =
       sound = a.sound;
       ordered = c.decommit_oldest.ensures.ordered;
       filed = c.decommit_oldest.ensures.filed;
-      ring = c.decommit_oldest.ensures.ring ∙ inv.ring;
       turn = let p = a.turn in let q = inv.turn in omega arith;
       few = omega arith;
       many = c.decommit_oldest.ensures.many ∙ inv.many;

@@ -1,5 +1,4 @@
 use Rattle.std.proofs.Common.{◌≡◌, ◌+◌, ◌-◌, ◌≤◌, vec_len}
-use Rattle.std.specs.Vec.{vec_capacity}
 use Rattle.pa_record.specs.Root.{decommitted_times, purged}
 use Rattle.pa_record.specs.Sound.{IsSound}
 use Rattle.pa_place.specs.Order.{IsOrdered}
@@ -11,8 +10,7 @@ invariant-loop-empty l = record {
   left : decommitted_times (l.empties - l._empty) (root_of l.self) ≡ purged (root_of l.initial.self);
   sound : IsSound (root_of l.self);
   ordered : IsOrdered (root_of l.self);
-  filed : IsFiled (root_of l.self) l.self.empty.items;
-  ring : vec_capacity l.self.empty ≡ vec_capacity l.initial.self.empty;
+  filed : IsFiled l.self;
   turn : l.self.turn ≤ l.initial.self.turn + l._empty;
   few : l._empty ≤ l.empties;
   many : vec_len l.self.spans ≡ vec_len l.initial.self.spans;

@@ -1,4 +1,4 @@
-use Rattle.std.proofs.Common.{arith, ◌≡◌, length, refl, sym, ◌∙◌, ap}
+use Rattle.std.proofs.Common.{arith, ◌≡◌, length, refl, sym, ◌∙◌, ap, subst}
 use Rattle.std.specs.Prelude.{slice_get, find}
 use Rattle.std.proofs.lemmas.Option.{slice_get_read}
 use Rattle.pa_record.specs.Spans.{Span, holds}
@@ -6,7 +6,8 @@ use Rattle.pa_record.specs.Root.{in_state, turn_after, put_back}
 use Rattle.pa_place.specs.Store.{root_of}
 use Rattle.pa_record.proofs.Entering.{IsLike}
 use Rattle.pa_place.proofs.Ordering.{order_changed}
-use Rattle.pa_place.proofs.Ring.{filed_back}
+use Rattle.pa_place.specs.Order.{IsOrdered}
+use Rattle.pa_place.proofs.Filing.{filed_alike, turns_alike, sound_turns, empties_alike, entered_after, set_within}
 use Rattle.pa_place.proofs.Giving.{takes_back, put_back_root}
 use Rattle.pa_place.proofs.store.Store.put_back.Goals as goal
 
@@ -43,12 +44,33 @@ returns-in-Some-clause-back c =
     let s = c.index_mut-span.result.now in
     let found = rw c.deref.ensures.value at c.in-Some.ensures in
     let here = slice_get_read ss (length ss) c.in-Some.at s refl found.within c.index_mut-span.ensures.value in
+    let r = root_of c.args.self.now in
     let held : slice_get ss c.in-Some.at ≡ find (holds c.args.name) ss = found.holding in
     let u = c.put_back.new.self in
     let turn = c.args.self.now.turn in
-    put_back_root (root_of c.args.self.now) c.in-Some.at s u c.enter-self.new.self c.enter-self.result c.args.name c.requires.sound held here c.put_back.ensures
-    (c.enter-self.ensures.state ∙ ap (λ to. in_state to turn u) c.state_back-state.ensures)
-    (c.enter-self.ensures.turn ∙ ap (λ to. turn_after to turn u) c.state_back-state.ensures)
+    let to = c.state_back-state.result in
+    entered_after r (root_of c.enter.new.self) c.in-Some.at s u to here c.enter.ensures.entered
+    ∙ put_back_root r c.in-Some.at s u (in_state to turn u) (turn_after to turn u) c.args.name c.requires.sound held here c.put_back.ensures
+    (ap (λ a. in_state a turn u) c.state_back-state.ensures)
+    (ap (λ a. turn_after a turn u) c.state_back-state.ensures)
+
+pub enter-requires : goal.enter-requires
+enter-requires c =
+    let ss = c.args.self.now.spans.items in
+    let s = c.index_mut-span.result.now in
+    let found = rw c.deref.ensures.value at c.in-Some.ensures in
+    let here = slice_get_read ss (length ss) c.in-Some.at s refl found.within c.index_mut-span.ensures.value in
+    let u = c.put_back.new.self in
+    let class = ap (λ (z : Span). z.class) c.put_back.ensures in
+    let state = ap (λ (z : Span). z.state) c.put_back.ensures in
+    let turn = ap (λ (z : Span). z.turn) c.put_back.ensures in
+    record {
+      here = set_within ss c.in-Some.at u found.within;
+      filed = filed_alike ss c.in-Some.at s u c.args.self.now.lists here class state turn c.requires.filed;
+      turns = turns_alike ss c.in-Some.at c.args.self.now.turn s u here state turn (sound_turns (root_of c.args.self.now) c.requires.sound);
+      ring = λ _. let p = c.requires.settled in let q = empties_alike ss c.in-Some.at s u here state in omega arith;
+      turn = let p = c.requires.turn in omega arith;
+    }
 
 pub returns-in_default-clause-back : goal.returns-in_default-clause-back
 returns-in_default-clause-back c =
@@ -64,27 +86,11 @@ returns-in-Some-clause-ordered c =
     let found = rw c.deref.ensures.value at c.in-Some.ensures in
     let here = slice_get_read ss (length ss) c.in-Some.at s refl found.within c.index_mut-span.ensures.value in
     let u = c.put_back.new.self in
+    let turn = c.args.self.now.turn in
+    let to = c.state_back-state.result in
     let like : IsLike u s = rw c.put_back.ensures (record { place = refl; born = refl; class = refl }) in
-    order_changed (root_of c.args.self.now) c.in-Some.at s u c.enter-self.new.self c.enter-self.result c.state_back-state.result c.requires.ordered here like c.enter-self.ensures.state
+    subst IsOrdered (sym (entered_after (root_of c.args.self.now) (root_of c.enter.new.self) c.in-Some.at s u to here c.enter.ensures.entered))
+    (order_changed (root_of c.args.self.now) c.in-Some.at s u (in_state to turn u) (turn_after to turn u) to c.requires.ordered here like refl)
 
 pub index_holding-requires : goal.index_holding-requires
 index_holding-requires c = rw c.deref.ensures.value (record { order = c.requires.ordered.spans })
-
-pub enter_list-requires : goal.enter_list-requires
-enter_list-requires c =
-    let many = c.requires.filed.many in
-    let few = c.requires.settled in
-    let ring = c.requires.ring in
-    omega arith
-
-pub returns-in-Some-clause-filed : goal.returns-in-Some-clause-filed
-returns-in-Some-clause-filed c =
-    let ss = c.args.self.now.spans.items in
-    let s = c.index_mut-span.result.now in
-    let found = rw c.deref.ensures.value at c.in-Some.ensures in
-    let here = slice_get_read ss (length ss) c.in-Some.at s refl found.within c.index_mut-span.ensures.value in
-    let some = (takes_back (root_of c.args.self.now) s c.args.name c.requires.sound c.requires.out (sym found.holding ∙ here)).some in
-    let u = c.put_back.new.self in
-    rw c.enter_list.ensures.entered
-    (filed_back (root_of c.args.self.now) c.args.self.now.empty.items c.in-Some.at s u c.enter-self.new.self c.state_back-state.result c.is_in-now_empty.result c.requires.sound c.requires.filed here some
-    (ap (λ (z : Span). z.state) c.put_back.ensures) c.enter-self.ensures.state c.is_in-now_empty.ensures)

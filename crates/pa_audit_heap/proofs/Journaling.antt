@@ -1,0 +1,177 @@
+-- The entries of a journal in turn.
+use Rattle.std.proofs.Common.{◌≡◌, ℕ, ◌+◌, ◌<◌, ◌≤◌, ◌⊎◌, List, [], ◌∷◌, length, take, Option, Some, None, refl, sym, ◌∙◌, ap, subst, arith, inl, inr}
+use Rattle.std.specs.Prelude.{slice_get}
+use Rattle.std.proofs.lemmas.Bool.{cases_lt}
+use Rattle.pa_direct.proofs.Serving.{Serves-of}
+use Rattle.pa_layout.specs.Pages.{supers_for}
+use Rattle.pa_trace.specs.declared.script.Op.{Op}
+use Rattle.pa_record.specs.declared.pool.PoolEntry.{PoolEntry}
+use Rattle.pa_record.specs.declared.root.RootEntry.{RootEntry}
+use Rattle.pa_record.specs.declared.root.RootAct.{RootAct}
+use Rattle.pa_record.specs.declared.root.RootAct.TheVariants.{Fill, Map, Full, Give, Unmap, Purge}
+use Rattle.pa_record.specs.Pool.{PoolState, new_pool}
+use Rattle.pa_record.specs.Root.{Root, asked_by, new_root, root_next, root_replayed}
+use Rattle.pa_record.specs.Sound.{IsBornBelow, AsksFrom, least_after}
+use Rattle.pa_record.proofs.Members.{not_in_none, not_some, of_some}
+use Rattle.pa_record.proofs.Replaying.{replayed_push}
+use Rattle.pa_rules.specs.declared.played.Played.{Played}
+use Rattle.pa_rules.specs.declared.verdict.Place.TheVariants as places
+use Rattle.pa_rules.specs.Roots.{Journals, IsEntry, MakesEntry, journal_at}
+use Rattle.pa_rules.specs.HeapDemands.{RootsDemand}
+use Rattle.pa_audit_heap.specs.declared.replay.Replay.{Replay}
+use Rattle.pa_audit_heap.specs.Parts.{FitsRoot, FitsRootAt, IsOfTrace, ComesInJournal}
+use Rattle.pa_audit_heap.specs.Replayed.{HasMapSize, IsPlayedBy}
+use Rattle.pa_audit_heap.specs.Replaying.{HasAsked, IsReplayed}
+use Rattle.pa_audit_heap.proofs.Listed.{front_more, one_there, none_past, map_place}
+use Rattle.pa_rules.specs.Tells.{TellsFirst}
+use Rattle.pa_audit_heap.specs.Tells.{TellsEntry}
+use Rattle.pa_audit_heap.proofs.Naming.{all_journals}
+use Rattle.pa_audit_heap.proofs.Rooting.{in_step}
+
+-- an entry that an op makes has the size of a shape
+pub made_size : (pools : List PoolEntry) (p : ℕ) (act : RootAct) (op : Op) → MakesEntry pools p act op → HasMapSize act
+made_size pools p (Fill class asked slots) op makes = tt
+made_size pools p (Map asked slot len) op (size, (reg, is, direct), same) =
+    let serves = Serves-of size direct in
+    let usable = serves.usable in
+    let large = direct.0 in
+    (omega (arith, serves.system_pages, same), omega arith, omega (arith, serves.few_supers, ap supers_for same))
+made_size pools p (Full class asked) op makes = tt
+made_size pools p (Give slots) op makes = tt
+made_size pools p (Unmap asked slot) op makes = tt
+made_size pools p Purge op makes = tt
+
+-- the start
+pub replayed_none : (supers : ℕ) (pools : List PoolEntry) (es : List RootEntry) (r : Replay) → r.root ≡ new_root → r.plan ≡ new_pool supers → IsReplayed supers pools es 0 r 0
+replayed_none supers pools es r root plan =
+    let turn : r.root.turn ≡ 0 = ap (λ (z : Root). z.turn) root in
+    let entries : r.plan.entries ≡ 0 = ap (λ (z : PoolState). z.entries) plan in
+    record {
+      root = root;
+      supers_are = ap (λ (z : PoolState). z.supers) plan;
+      step = in_step pools supers 0 r.plan r.root plan (omega arith)
+          (subst (IsBornBelow 0) (sym root) (record { supers = λ at among. absurd (not_in_none at among); maps = λ t among. absurd (not_in_none t among) }));
+      turn = omega arith;
+      low = omega arith;
+      above = λ a asks. let k = asks.below in absurd (omega arith);
+      reached = inl refl;
+    }
+
+asks_cases : (es : List RootEntry) (i a : ℕ) (e : RootEntry) → slice_get es i ≡ Some e → HasAsked es (i + 1) a → HasAsked es i a ⊎ (asked_by e.act ≡ Some a)
+asks_cases es i a e at h = elim (cases_lt h.index i) [
+  | inl less ↦ inl (record { index = h.index; entry = h.entry; below = less; at = h.at; names = h.names })
+  | inr more ↦
+      let k = h.below in
+      let same : h.index ≡ i = omega arith in
+      let one = one_there es i h.entry e (subst (λ n. slice_get es n ≡ Some h.entry) same h.at) at in
+      inr (ap (λ (z : RootEntry). asked_by z.act) (sym one) ∙ h.names)
+]
+
+asks_more : (es : List RootEntry) (i a : ℕ) → HasAsked es i a → HasAsked es (i + 1) a
+asks_more es i a h = let k = h.below in record { index = h.index; entry = h.entry; below = omega arith; at = h.at; names = h.names }
+
+above_next : (least a : ℕ) (o : Option ℕ) → AsksFrom least o → (a < least) ⊎ (o ≡ Some a) → a < least_after least o
+above_next least a None from (inl less) = less
+above_next least a None from (inr asks) = absurd (not_some a asks)
+above_next least a (Some b) from (inl less) = omega arith
+above_next least a (Some b) from (inr asks) = let same = of_some b a asks in omega arith
+
+reached_next : (es : List RootEntry) (i least : ℕ) (e : RootEntry) (o : Option ℕ) → slice_get es i ≡ Some e → asked_by e.act ≡ o → (least ≡ 0) ⊎ ((a : ℕ) × HasAsked es i a × (least ≡ a + 1))
+    → (least_after least o ≡ 0) ⊎ ((a : ℕ) × HasAsked es (i + 1) a × (least_after least o ≡ a + 1))
+reached_next es i least e None at asks (inl zero) = inl zero
+reached_next es i least e None at asks (inr (a, names, same)) = inr (a, asks_more es i a names, same)
+reached_next es i least e (Some b) at asks before = inr (b, record { index = i; entry = e; below = omega arith; at = at; names = asks }, refl)
+
+pub replayed_more : (supers : ℕ) (pools : List PoolEntry) (es : List RootEntry) (i : ℕ) (e : RootEntry) (r next : Replay) (least more : ℕ) → IsReplayed supers pools es i r least
+    → slice_get es i ≡ Some e → AsksFrom least (asked_by e.act) → IsPlayedBy pools e.act r.plan r.root next.plan next.root → more ≡ least_after least (asked_by e.act)
+    → IsReplayed supers pools es (i + 1) next more
+replayed_more supers pools es i e r next least more h at from played is =
+    let turn = played.turn in
+    let turn' = h.turn in
+    let low = played.least least h.low from in
+    record {
+      root = played.root ∙ ap (root_next pools e.act) h.root ∙ sym (replayed_push pools (take i es) e new_root) ∙ ap (λ xs. root_replayed pools xs new_root) (sym (front_more es i e at));
+      supers_are = played.supers ∙ h.supers_are;
+      step = played.step;
+      turn = omega arith;
+      low = omega arith;
+      above = λ a asks. subst (λ n. a < n) (sym is) (above_next least a (asked_by e.act) from (elim (asks_cases es i a e at asks) [
+        | inl before ↦ inl (h.above a before)
+        | inr here ↦ inr here
+      ]));
+      reached = subst (λ n. (n ≡ 0) ⊎ ((a : ℕ) × HasAsked es (i + 1) a × (n ≡ a + 1))) (sym is) (reached_next es i least e (asked_by e.act) at refl h.reached);
+    }
+
+-- an entry that names a later entry of the pool than those before it do
+pub rises_here : (supers : ℕ) (pools : List PoolEntry) (roots : Journals) (p i : ℕ) (e : RootEntry) (r : Replay) (least : ℕ) → IsReplayed supers pools (roots p) i r least
+    → AsksFrom least (asked_by e.act) → (k a b : ℕ) (f : RootEntry) → IsEntry roots p k f → k < i → asked_by f.act ≡ Some a → asked_by e.act ≡ Some b → a < b
+rises_here supers pools roots p i e r least h from k a b f is below asks asks' =
+    let low : least ≤ b = subst (AsksFrom least) asks' from in
+    let less = h.above a (record { index = k; entry = f; below = below; at = is; names = asks }) in
+    omega arith
+
+pub not_rises : (supers : ℕ) (pools : List PoolEntry) (roots : Journals) (p i : ℕ) (e : RootEntry) (r : Replay) (least : ℕ) (o : Option ℕ) → IsReplayed supers pools (roots p) i r least
+    → asked_by e.act ≡ o → (AsksFrom least o → ⊥)
+    → ((k a b : ℕ) (f : RootEntry) → IsEntry roots p k f → k < i → asked_by f.act ≡ Some a → asked_by e.act ≡ Some b → a < b) → ⊥
+not_rises supers pools roots p i e r least None h asks low rises = low tt
+not_rises supers pools roots p i e r least (Some b) h asks low rises = elim h.reached [
+  | inl zero ↦ low (omega arith)
+  | inr (a, names, same) ↦
+      let less = rises names.index a b names.entry names.at names.below names.names asks in
+      low (omega arith)
+]
+
+-- the parts of what the clause asks of an entry
+pub entry_parts : (partitions : ℕ) (ps : List Played) (pools : List PoolEntry) (roots : Journals) (p j : ℕ) → IsOfTrace partitions roots p j × (FitsRootAt ps pools roots p j × ComesInJournal ps roots p j)
+    → RootsDemand partitions ps pools roots (places.Root p j)
+entry_parts partitions ps pools roots p j (of_trace, both) e is = record {
+  partition = of_trace e is;
+  fits = (both.0 e is).fits;
+  rises = (both.0 e is).rises;
+  line = (both.0 e is).line;
+  order = both.1;
+}
+
+comes_in : (partitions : ℕ) (ps : List Played) (pools : List PoolEntry) (roots : Journals) (p j : ℕ) → RootsDemand partitions ps pools roots (places.Root p j) → ComesInJournal ps roots p j
+comes_in partitions ps pools roots p j demand i m n x y at at' =
+    let (e, there, same) = map_place (λ (e : RootEntry). e.line) (roots p) j n at' in
+    (demand e there).order i m n x y at at'
+
+pub parts_of : (partitions : ℕ) (ps : List Played) (pools : List PoolEntry) (roots : Journals) (p j : ℕ) → RootsDemand partitions ps pools roots (places.Root p j)
+    → IsOfTrace partitions roots p j × (FitsRootAt ps pools roots p j × ComesInJournal ps roots p j)
+parts_of partitions ps pools roots p j demand = (
+  λ e is. (demand e is).partition,
+  (λ e is. record { fits = (demand e is).fits; rises = (demand e is).rises; line = (demand e is).line }, comes_in partitions ps pools roots p j demand),
+)
+
+pub fits_at : (ps : List Played) (pools : List PoolEntry) (roots : Journals) (p j : ℕ) (e : RootEntry) → IsEntry roots p j e → FitsRoot ps pools roots p j e → FitsRootAt ps pools roots p j
+fits_at ps pools roots p j e is fits d is' = subst (FitsRoot ps pools roots p j) (one_there (roots p) j e d is is') fits
+
+pub fits_behind : (ps : List Played) (pools : List PoolEntry) (roots : Journals) (p j : ℕ) → length (roots p) ≤ j → FitsRootAt ps pools roots p j
+fits_behind ps pools roots p j past e is = absurd (none_past (roots p) j e past is)
+
+-- a list whose first place is empty has no member
+pub none_first : {A : Type 0} (xs : List A) (i : ℕ) (x : A) → None ≡ slice_get xs 0 → slice_get xs i ≡ Some x → ⊥
+none_first [] i x none at = not_some x at
+none_first (y ∷ ys) i x none at = not_some y none
+
+-- a journal behind the last one has no entry
+pub none_behind : (partitions : ℕ) (ps : List Played) (pools : List PoolEntry) (roots : List (List RootEntry)) (p j : ℕ) → length roots ≤ p
+    → RootsDemand partitions ps pools (journal_at roots) (places.Root p j)
+none_behind partitions ps pools roots p j past e is = absurd ((all_journals roots).above p past j e is)
+
+-- the first entry that doesn't meet it, in the order of the partitions
+pub first_is : (Meets : ℕ → ℕ → Type 0) (p j : ℕ) → ((q i : ℕ) → q < p → Meets q i) → TellsFirst (Meets p) (Some j) → TellsEntry Meets (Some (p, j))
+first_is Meets p j before (unmet, met) = (
+  unmet,
+  λ q i above. elim above [
+    | inl less ↦ before q i less
+    | inr (same, less) ↦ subst (λ r. Meets r i) (sym same) (met i less)
+  ],
+)
+
+pub partition_more : (Meets : ℕ → ℕ → Type 0) (p : ℕ) → ((q i : ℕ) → q < p → Meets q i) → ((i : ℕ) → Meets p i) → (q i : ℕ) → q < p + 1 → Meets q i
+partition_more Meets p before here q i less = elim (cases_lt q p) [
+  | inl below ↦ before q i below
+  | inr more ↦ let same : p ≡ q = omega arith in subst (λ r. Meets r i) same (here i)
+]

@@ -1,0 +1,11 @@
+pub mod Listed
+pub mod Telling
+pub mod Halving
+pub mod Ordering
+pub mod Naming
+pub mod Playing
+pub mod Rooting
+pub mod SlotNames
+pub mod Refusing
+pub mod Journaling
+pub mod Rising

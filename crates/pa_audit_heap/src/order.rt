@@ -1,0 +1,55 @@
+ghost use Rattle.std.specs.Prelude.{◌≡◌, ℕ, ◌<◌, ◌↔◌, IsTrue, List};
+ghost use Rattle.pa_rules.specs.declared.played.Played.{Played as Record};
+ghost use Rattle.pa_audit_heap.specs.Ordered.{HaveRisingLines, AreOfThreads16, IsBehind, entered_by, Admits, HasSeen};
+
+use crate::lookup::record_of;
+use pa_rules::Played;
+
+// The most threads of a trace.
+pub(crate) const MOST_THREADS: usize = 16;
+
+// Entries in the order of their records: the last line of each thread, and the last phase; 0 where there is none.
+#[derive(Drop)]
+pub(crate) struct Order {
+    pub(crate) lines: [u32; 16],
+    pub(crate) phase: u32,
+}
+
+impl Order {
+    // The order of no entries.
+    pub(crate) fn new() -> Order
+        ensures { (ps : List Record) (lines : List ℕ) → HasSeen ps lines 0 result }
+    {
+        Order {
+            lines: [0; MOST_THREADS],
+            phase: 0,
+        }
+    }
+
+    // Whether an entry on this line comes in order behind those so far. Where it does it is the last one from then on.
+    pub(crate) fn admits(&mut self, records: &[Played], line: u32) -> bool
+        requires rising { HaveRisingLines records.now }
+        requires threads { AreOfThreads16 records.now }
+        ensures { Admits records.now line self.old self.new result }
+    {
+        match record_of(records, line) {
+            None => true,
+            Some(found) => self.enter(found),
+        }
+    }
+
+    // Whether the record is behind the last one. Where it is it is the last one from then on.
+    fn enter(&mut self, found: Played) -> bool
+        requires { found.thread < 16 }
+        ensures behind { IsTrue result ↔ IsBehind self.old found }
+        ensures entered { IsTrue result → self.new ≡ entered_by found self.old }
+    {
+        let thread = found.thread as usize;
+        if found.line < self.lines[thread] || found.phase < self.phase {
+            return false;
+        }
+        self.lines[thread] = found.line;
+        self.phase = found.phase;
+        true
+    }
+}

@@ -1,0 +1,105 @@
+-- The walk over the lines of a trace, with the records that are due.
+use Rattle.std.proofs.Common.{◌≡◌, ℕ, zero, suc, ◌+◌, ◌-◌, ◌<◌, ◌≤◌, List, [], ◌∷◌, map, drop, get_or, length, Some, None, refl, sym, ◌∙◌, ap, subst, arith, inl, inr}
+use Rattle.std.specs.Prelude.{slice_get}
+use Rattle.std.proofs.lemmas.Bool.{cases_lt}
+use Rattle.std.proofs.lemmas.List.{drop_more, drop_all}
+use Rattle.pa_trace.specs.declared.script.Line.{Line}
+use Rattle.pa_trace.specs.declared.script.Line.TheVariants.{Phase, Do}
+use Rattle.pa_trace.specs.declared.script.Op.{Op}
+use Rattle.pa_record.specs.declared.entry.Entry.{Entry}
+use Rattle.pa_rules.specs.declared.verdict.Place.TheVariants as places
+use Rattle.pa_rules.specs.Played.{op_lines, key_of_line, key_of_entry}
+use Rattle.pa_rules.specs.RecordDemands.{LinesDemand}
+use Rattle.pa_rules.specs.Tells.{TellsFirst}
+
+-- the keys of the records that are due
+abbrev pub due : ℕ → ℕ → List Line → List (ℕ × ℕ)
+due n phase ls = map key_of_line (op_lines n phase ls)
+
+-- So many records are those due; the rest of the lines, from line n on, ask for the rest.
+pub record DueSoFar (ls : List Line) (es : List Entry) (rest : List Line) (n at : ℕ) : Type 0 where
+  pub phase : ℕ
+  pub met : (j : ℕ) → j < at → LinesDemand ls es (places.Record j)
+  pub asks : (j : ℕ) → slice_get (due 2 1 ls) (at + j) ≡ slice_get (due n phase rest) j
+
+pub due_start : (ls : List Line) (es : List Entry) → DueSoFar ls es ls 2 0
+due_start ls es = record { phase = 1; met = λ j below. absurd (omega (arith, below)); asks = λ j. ap (slice_get (due 2 1 ls)) (omega arith) }
+
+-- the line at a place and those behind it
+line_here : (ls : List Line) (i : ℕ) (l : Line) → i < length ls → get_or ls i Phase ≡ l → drop i ls ≡ l ∷ drop (i + 1) ls
+line_here ls i l below is = drop_more ls i Phase below ∙ ap (λ z. z ∷ drop (i + 1) ls) is
+
+phase_on : (ls : List Line) (es : List Entry) (rest : List Line) (n at : ℕ) → DueSoFar ls es (Phase ∷ rest) n at → DueSoFar ls es rest (n + 1) at
+phase_on ls es rest n at h = record { phase = h.phase + 1; met = h.met; asks = h.asks }
+
+here : {A : Type 0} (xs : List A) (at : ℕ) → slice_get xs (at + 0) ≡ slice_get xs at
+here xs at = ap (slice_get xs) (omega arith)
+
+due_here : (ls : List Line) (es : List Entry) (rest : List Line) (n at thread : ℕ) (op : Op) → DueSoFar ls es (Do thread op ∷ rest) n at → slice_get (due 2 1 ls) at ≡ Some (n, thread)
+due_here ls es rest n at thread op h = sym (here (due 2 1 ls) at) ∙ h.asks 0
+
+op_on : (ls : List Line) (es : List Entry) (rest : List Line) (n at thread : ℕ) (op : Op) → DueSoFar ls es (Do thread op ∷ rest) n at → slice_get (map key_of_entry es) at ≡ Some (n, thread)
+    → DueSoFar ls es rest (n + 1) (at + 1)
+op_on ls es rest n at thread op h is = record {
+  phase = h.phase;
+  met = λ j below. elim (cases_lt j at) [
+    | inl less ↦ h.met j less
+    | inr least ↦
+        let same : at ≡ j = omega (arith, below, least) in
+        subst (λ k. LinesDemand ls es (places.Record k)) same (is ∙ sym (due_here ls es rest n at thread op h))
+  ];
+  asks = λ j. ap (slice_get (due 2 1 ls)) (omega arith) ∙ h.asks (suc j);
+}
+
+op_not : (ls : List Line) (es : List Entry) (rest : List Line) (n at thread : ℕ) (op : Op) → DueSoFar ls es (Do thread op ∷ rest) n at
+    → (slice_get (map key_of_entry es) at ≡ Some (n, thread) → ⊥) → TellsFirst (λ i. LinesDemand ls es (places.Record i)) (Some at)
+op_not ls es rest n at thread op h other = (λ is. other (is ∙ due_here ls es rest n at thread op h), h.met)
+
+past : {A : Type 0} (xs : List A) (i : ℕ) → length xs ≤ i → slice_get xs i ≡ None
+past [] i h = refl
+past (x ∷ xs) zero h = absurd (omega (arith, h))
+past (x ∷ xs) (suc i) h = past xs i (omega (arith, h))
+
+within : {A : Type 0} (xs : List A) (i : ℕ) → i < length xs → slice_get xs i ≡ None → ⊥
+within [] i h e = omega (arith, h)
+within (x ∷ xs) zero h e = cc
+within (x ∷ xs) (suc i) h e = within xs i (omega (arith, h)) e
+
+length_map : {A B : Type 0} (f : A → B) (xs : List A) → length (map f xs) ≡ length xs
+length_map f [] = refl
+length_map f (x ∷ xs) = ap suc (length_map f xs)
+
+over : (ls : List Line) (es : List Entry) (n at : ℕ) → DueSoFar ls es [] n at → at < length es → TellsFirst (λ i. LinesDemand ls es (places.Record i)) (Some at)
+over ls es n at h more = (
+  λ is. within (map key_of_entry es) at (omega (arith, more, length_map key_of_entry es)) (is ∙ sym (here (due 2 1 ls) at) ∙ h.asks 0),
+  h.met,
+)
+
+all_due : (ls : List Line) (es : List Entry) (n at : ℕ) → DueSoFar ls es [] n at → length es ≤ at → TellsFirst (λ i. LinesDemand ls es (places.Record i)) None
+all_due ls es n at h none i = elim (cases_lt i at) [
+  | inl less ↦ h.met i less
+  | inr least ↦
+      let same : at + (i - at) ≡ i = omega (arith, least) in
+      past (map key_of_entry es) i (omega (arith, none, least, length_map key_of_entry es)) ∙ sym (h.asks (i - at)) ∙ ap (slice_get (due 2 1 ls)) same
+]
+
+-- ---- the same at a place of the lines
+
+pub due_phase : (ls : List Line) (es : List Entry) (i n at : ℕ) → i < length ls → get_or ls i Phase ≡ Phase → DueSoFar ls es (drop i ls) n at → DueSoFar ls es (drop (i + 1) ls) (n + 1) at
+due_phase ls es i n at below is h = phase_on ls es (drop (i + 1) ls) n at (subst (λ zs. DueSoFar ls es zs n at) (line_here ls i Phase below is) h)
+
+pub due_more : (ls : List Line) (es : List Entry) (i n at thread : ℕ) (op : Op) → i < length ls → get_or ls i Phase ≡ Do thread op → DueSoFar ls es (drop i ls) n at
+    → slice_get (map key_of_entry es) at ≡ Some (n, thread) → DueSoFar ls es (drop (i + 1) ls) (n + 1) (at + 1)
+due_more ls es i n at thread op below is h same =
+    op_on ls es (drop (i + 1) ls) n at thread op (subst (λ zs. DueSoFar ls es zs n at) (line_here ls i (Do thread op) below is) h) same
+
+pub due_not : (ls : List Line) (es : List Entry) (i n at thread : ℕ) (op : Op) → i < length ls → get_or ls i Phase ≡ Do thread op → DueSoFar ls es (drop i ls) n at
+    → (slice_get (map key_of_entry es) at ≡ Some (n, thread) → ⊥) → TellsFirst (λ k. LinesDemand ls es (places.Record k)) (Some at)
+due_not ls es i n at thread op below is h other =
+    op_not ls es (drop (i + 1) ls) n at thread op (subst (λ zs. DueSoFar ls es zs n at) (line_here ls i (Do thread op) below is) h) other
+
+pub due_over : (ls : List Line) (es : List Entry) (i n at : ℕ) → length ls ≤ i → DueSoFar ls es (drop i ls) n at → at < length es → TellsFirst (λ k. LinesDemand ls es (places.Record k)) (Some at)
+due_over ls es i n at end h more = over ls es n at (subst (λ zs. DueSoFar ls es zs n at) (drop_all i ls end) h) more
+
+pub due_all : (ls : List Line) (es : List Entry) (i n at : ℕ) → length ls ≤ i → DueSoFar ls es (drop i ls) n at → length es ≤ at → TellsFirst (λ k. LinesDemand ls es (places.Record k)) None
+due_all ls es i n at end h none = all_due ls es n at (subst (λ zs. DueSoFar ls es zs n at) (drop_all i ls end) h) none

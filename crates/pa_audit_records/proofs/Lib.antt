@@ -1,0 +1,10 @@
+pub mod Telling
+pub mod Due
+pub mod Beside
+pub mod Rising
+pub mod Rowing
+pub mod Putting
+pub mod Walking
+pub mod Stepping
+pub mod Fitting
+pub mod Exchanging

@@ -1,0 +1,92 @@
+-- The walk of the registers along the records.
+use Rattle.std.proofs.Common.{◌≡◌, ℕ, zero, suc, ◌+◌, ◌<◌, ◌≤◌, List, [], ◌∷◌, ◌++◌, take, get_or, length, Some, None, refl, sym, ◌∙◌, subst, arith, inl, inr}
+use Rattle.std.specs.Prelude.{slice_get}
+use Rattle.pa_record.specs.declared.history.CellEntry.{CellEntry}
+use Rattle.pa_rules.specs.declared.played.Played.{Played}
+use Rattle.pa_rules.specs.Registers.{Facts, Regs, AllRegs, Row, RowsTo, with_thread, no_regs}
+use Rattle.pa_one_run.proofs.rows.Handles.{change_of, changed, row_leads}
+use Rattle.std.proofs.lemmas.List.{take_more}
+use Rattle.std.proofs.lemmas.Bool.{cases_lt}
+use Rattle.pa_record.proofs.Members.{of_some, not_some}
+use Rattle.pa_rules.specs.declared.register.Reg.{Reg}
+use Rattle.pa_rules.specs.declared.verdict.Place.TheVariants as places
+use Rattle.pa_rules.specs.RecordDemands.{RegistersDemand}
+use Rattle.pa_rules.specs.Sizes.{usable_of}
+use Rattle.pa_verdict.proofs.Walks.{rows_end}
+use Rattle.pa_rules.specs.Tells.{TellsFirst}
+use Rattle.pa_audit_records.specs.Rows.{MayAnswer}
+use Rattle.pa_audit_records.specs.Tables.{regs_in, regs_next, AreRegsOf, facts_by}
+use Rattle.pa_audit_records.proofs.Rowing.{row_may, may_row}
+
+-- no record stands past the end
+pub not_there : {A : Type 0} (xs : List A) (i : ℕ) (x : A) → length xs ≤ i → slice_get xs i ≡ Some x → ⊥
+not_there [] i x end at = not_some x at
+not_there (y ∷ ys) zero x end at = omega (arith, end)
+not_there (y ∷ ys) (suc i) x end at = not_there ys i x (omega (arith, end)) at
+
+-- Each record so far has the answer that its registers ask for, and the list has the registers after them.
+pub record RegsSoFar (cells : ℕ → List CellEntry) (ps : List Played) (list : List Reg) (i : ℕ) : Type 0 where
+  pub met : (j : ℕ) → j < i → RegistersDemand usable_of cells ps (places.Record j)
+  pub rows : RowsTo (facts_by cells ps) no_regs (take i ps) (regs_in list)
+
+same_regs : (list : List Reg) (all : AllRegs) → AreRegsOf list all → regs_in list ≡ all
+same_regs list all h = λ i t r. (h t r) i
+
+-- the registers that a list of records leads to are one
+rows_one : (facts : Facts) (all after other : AllRegs) (ps : List Played) → RowsTo facts all ps after → RowsTo facts all ps other → after ≡ other
+rows_one facts all after other [] h k = h ∙ sym k
+rows_one facts all after other (p ∷ ps) (next, row, more) (next', row', more') =
+    let one = (row_leads facts p.op (all p.thread) p.answer next row).registers in
+    let two = (row_leads facts p.op (all p.thread) p.answer next' row').registers in
+    let same : next' ≡ next = λ i r. (two r ∙ sym (one r)) i in
+    rows_one facts (with_thread all p.thread next) after other ps more (subst (λ (z : Regs). RowsTo facts (with_thread all p.thread z) ps other) same more')
+
+pub regs_start : (cells : ℕ → List CellEntry) (ps : List Played) (list : List Reg) → AreRegsOf list no_regs → RegsSoFar cells ps list 0
+regs_start cells ps list h = record { met = λ j below. absurd (omega (arith, below)); rows = same_regs list no_regs h }
+
+-- the record at a place
+pub here_is : {A : Type 0} (xs : List A) (i : ℕ) (d : A) → i < length xs → slice_get xs i ≡ Some (get_or xs i d)
+here_is [] i d below = absurd (omega (arith, below))
+here_is (x ∷ xs) zero d below = refl
+here_is (x ∷ xs) (suc i) d below = here_is xs i d (omega (arith, below))
+
+pub regs_not : (cells : ℕ → List CellEntry) (ps : List Played) (list : List Reg) (i : ℕ) (d : Played) → i < length ps → RegsSoFar cells ps list i
+    → (MayAnswer (facts_by cells ps) (get_or ps i d).op (regs_in list (get_or ps i d).thread) (get_or ps i d).answer → ⊥)
+    → TellsFirst (λ k. RegistersDemand usable_of cells ps (places.Record k)) (Some i)
+regs_not cells ps list i d below h other =
+    let x = get_or ps i d in (
+      λ met. let (all, next, rows, row) = met x (here_is ps i d below) in
+          let same : all ≡ regs_in list = rows_one (facts_by cells ps) no_regs all (regs_in list) (take i ps) rows h.rows in
+          other (subst (λ (z : AllRegs). MayAnswer (facts_by cells ps) x.op (z x.thread) x.answer) same (row_may (facts_by cells ps) x.op (all x.thread) next x.answer row)),
+      h.met,
+    )
+
+pub regs_more : (cells : ℕ → List CellEntry) (ps : List Played) (list later : List Reg) (i : ℕ) (d : Played) → i < length ps → RegsSoFar cells ps list i
+    → MayAnswer (facts_by cells ps) (get_or ps i d).op (regs_in list (get_or ps i d).thread) (get_or ps i d).answer
+    → AreRegsOf later (regs_next cells (regs_in list) (get_or ps i d)) → RegsSoFar cells ps later (i + 1)
+regs_more cells ps list later i d below h may has =
+    let x = get_or ps i d in
+    let facts = facts_by cells ps in
+    let next = changed (regs_in list x.thread) (change_of cells x.op x.answer) in
+    let row = may_row facts x.op (regs_in list x.thread) x.answer may in
+    let to = rows_end facts no_regs (regs_in list) next (take i ps) x h.rows row in
+    let all : with_thread (regs_in list) x.thread next ≡ regs_in later = sym (same_regs later (regs_next cells (regs_in list) x) has) in
+    let long : take i ps ++ x ∷ [] ≡ take (i + 1) ps = sym (take_more ps i d below) in
+    record {
+      met = λ j less. elim (cases_lt j i) [
+        | inl before ↦ h.met j before
+        | inr least ↦
+            let same : i ≡ j = omega (arith, less, least) in
+            subst (λ k. RegistersDemand usable_of cells ps (places.Record k)) same
+            (λ y at. let is : x ≡ y = of_some x y (sym (here_is ps i d below) ∙ at) in
+            subst (λ (z : Played). (all : AllRegs) × (next : Regs) × RowsTo facts no_regs (take i ps) all × Row facts z.op (all z.thread) z.answer next) is
+            (regs_in list, next, h.rows, row))
+      ];
+      rows = subst (λ (zs : List Played). RowsTo facts no_regs zs (regs_in later)) long (subst (λ (z : AllRegs). RowsTo facts no_regs (take i ps ++ x ∷ []) z) all to);
+    }
+
+pub regs_all : (cells : ℕ → List CellEntry) (ps : List Played) (list : List Reg) (i : ℕ) → length ps ≤ i → RegsSoFar cells ps list i → TellsFirst (λ k. RegistersDemand usable_of cells ps (places.Record k)) None
+regs_all cells ps list i end h j = elim (cases_lt j i) [
+  | inl before ↦ h.met j before
+  | inr least ↦ λ x at. absurd (not_there ps j x (omega (arith, end, least)) at)
+]

@@ -1,0 +1,7 @@
+use Rattle.std.proofs.Common.{sym, subst}
+use Rattle.pa_audit_records.specs.Marks.{RiseByLine}
+use Rattle.pa_audit_records.proofs.Rising.{rising_played}
+use Rattle.pa_audit_records.proofs.records.records_of.Goals as goal
+
+pub returns-clause-rising : goal.returns-clause-rising
+returns-clause-rising c = subst RiseByLine (sym c.in_ok-all.ensures.records) (rising_played c.args.lines.now c.args.records.now)

@@ -1,0 +1,36 @@
+use Rattle.std.proofs.Common.{◌+◌, length, ap, refl}
+use Rattle.std.specs.Ordering.{nat_cmp}
+use Rattle.std.specs.BTreeMap.{get}
+use Rattle.std.proofs.lemmas.Bool.{false≢true}
+use Rattle.pa_rules.specs.declared.verdict.Place.TheVariants as places
+use Rattle.pa_rules.specs.RecordDemands.{SlotsDemand}
+use Rattle.pa_audit_records.proofs.Telling.{met_more, tells_at, tells_none}
+use Rattle.pa_audit_records.proofs.Walking.{not_there}
+use Rattle.pa_audit_records.proofs.Fitting.{slot_met, slot_fits}
+use Rattle.pa_audit_records.proofs.slots.slots_meet.Goals as goal
+
+pub returns-then-not-mark_fits : goal.returns-then-not-mark_fits
+returns-then-not-mark_fits c =
+    let ps = c.args.records.now in
+    let i = c.loop-record.record-index in
+    tells_at (λ k. SlotsDemand ps (places.Record k)) i c.loop-record.at c.loop-record.invariant.at
+    (λ asks. false≢true (c.if-not-mark_fits.ensures.1
+    (slot_fits ps (get nat_cmp c.in_ok-firsts.firsts) (get nat_cmp c.in_ok-reached.reached) i c.loop-record.at _ c.loop-record.invariant.at c.requires.rising c.in_ok-firsts.ensures c.in_ok-reached.ensures.reached c.in_ok-reached.ensures.all
+    c.loop-record-test.true asks))) c.loop-record.invariant.met
+
+pub loop-record-preserved : goal.loop-record-preserved
+loop-record-preserved c =
+    let ps = c.args.records.now in
+    let i = c.loop-record.record-index in
+    record {
+      met =
+          met_more (λ k. SlotsDemand ps (places.Record k)) i c.loop-record.invariant.met
+          (slot_met ps (get nat_cmp c.in_ok-firsts.firsts) (get nat_cmp c.in_ok-reached.reached) i c.loop-record.at _ c.loop-record.invariant.at c.requires.rising c.in_ok-firsts.ensures c.in_ok-reached.ensures.reached c.loop-record-test.true
+          (c.if-not-mark_fits.ensures.0 refl));
+      at = ap (λ n. n + 1) c.loop-record.invariant.at;
+    }
+
+pub returns : goal.returns
+returns c =
+    let ps = c.args.records.now in
+    tells_none (λ k. SlotsDemand ps (places.Record k)) (length ps) c.loop-record.record-index c.loop-record-test.false c.loop-record.invariant.met (λ j past x m at is. absurd (not_there ps j x past at))

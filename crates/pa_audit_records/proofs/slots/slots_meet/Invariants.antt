@@ -1,0 +1,10 @@
+use Rattle.std.proofs.Common.{◌≡◌, ℕ, ◌<◌}
+use Rattle.pa_rules.specs.declared.verdict.Place.TheVariants as places
+use Rattle.pa_rules.specs.RecordDemands.{SlotsDemand}
+use Rattle.pa_audit_records.proofs.slots.slots_meet.Given as goal
+
+abbrev pub invariant-loop-record : goal.invariant-loop-record
+invariant-loop-record l = record {
+  met : (j : ℕ) → j < l.record-index → SlotsDemand l.records (places.Record j);
+  at : l.at ≡ l.record-index;
+}

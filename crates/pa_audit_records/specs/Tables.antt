@@ -1,0 +1,45 @@
+-- The tables that the checkers keep.
+use Rattle.std.specs.Prelude.{◌≡◌, ℕ, ◌+◌, ◌*◌, ◌<◌, if◌then◌else◌, nat_lt, List, Option, Some, slice_index_or}
+use Rattle.std.specs.Option.{unwrap_or}
+use Rattle.pa_machine.specs.declared.word.SlotName.{SlotName}
+use Rattle.pa_rules.specs.declared.played.Played.{Played}
+use Rattle.pa_rules.specs.declared.register.Reg.{Reg}
+use Rattle.pa_rules.specs.declared.register.Reg.TheVariants.{Empty}
+use Rattle.pa_record.specs.declared.history.CellEntry.{CellEntry}
+use Rattle.pa_rules.specs.Sizes.{usable_of}
+use Rattle.pa_rules.specs.Registers.{AllRegs, Facts, usable_in, with, with_thread}
+use Rattle.pa_one_run.proofs.rows.Handles.{change_of, changed}
+use Rattle.pa_audit_records.specs.Keys.{name_key}
+
+-- key k has v now, the others what they had
+pub record Puts (f g : ℕ → Option ℕ) (k v : ℕ) : Type 0 where
+  pub here : g k ≡ Some v
+  pub other : (q : ℕ) → (q ≡ k → ⊥) → g q ≡ f q
+
+-- the usable number of a slot in a table by the slots' numbers: 0 where none stands there
+abbrev pub usable_by : (ℕ → Option ℕ) → SlotName → ℕ
+usable_by at s = unwrap_or (at (name_key s)) 0
+
+-- the table has the usable number of each slot
+abbrev pub AreUsables : List Played → (ℕ → Option ℕ) → Type 0
+AreUsables ps at = (s : SlotName) → s.start < 4294967296 → usable_by at s ≡ usable_in ps s
+
+-- the registers of all threads in a list, 64 of each thread; one that isn't there is empty
+abbrev pub regs_in : List Reg → AllRegs
+regs_in list t r = if nat_lt r 64 then slice_index_or list (64 * t + r) Empty else Empty
+
+-- they are the same
+abbrev pub AreRegsOf : List Reg → AllRegs → Type 0
+AreRegsOf list all = (t r : ℕ) → regs_in list t r ≡ all t r
+
+-- the registers with one of them changed
+abbrev pub with_register : AllRegs → ℕ → ℕ → Reg → AllRegs
+with_register all thread reg holds = with_thread all thread (with (all thread) reg holds)
+
+-- what the rows ask for besides the registers, by these records and cells
+abbrev pub facts_by : (ℕ → List CellEntry) → List Played → Facts
+facts_by cells ps = record { usable_of = usable_of; usable_at = usable_in ps; cells = cells }
+
+-- the registers after a record, by its answer
+abbrev pub regs_next : (ℕ → List CellEntry) → AllRegs → Played → AllRegs
+regs_next cells all x = with_thread all x.thread (changed (all x.thread) (change_of cells x.op x.answer))

@@ -1,0 +1,22 @@
+//! The clauses of a legal run that speak of records: for each, the first place at which it isn't met.
+#![tactic(auto)]
+
+mod cells;
+mod keys;
+mod lines;
+mod marks;
+mod records;
+mod registers;
+mod rows;
+mod slots;
+mod steps;
+#[cfg(test)]
+mod tests;
+mod usable;
+mod walk;
+
+pub use cells::{exchanges_meet, swaps_meet};
+pub use lines::lines_meet;
+pub use records::{records_are_within, records_of};
+pub use slots::slots_meet;
+pub use walk::registers_meet;

@@ -1,0 +1,59 @@
+ghost use Rattle.std.specs.Prelude.{◌≡◌, ◌<◌, ◌≤◌, ◌-◌, ◌^◌, IfOk, length};
+ghost use Rattle.pa_rules.specs.Played.{played};
+ghost use Rattle.pa_audit_records.specs.Limits.{RecordsAreWithin};
+ghost use Rattle.pa_audit_records.specs.Marks.{RiseByLine};
+
+use pa_machine::OutOfMemory;
+use pa_record::Entry;
+use pa_rules::Played;
+use pa_trace::Line;
+use std::alloc::Global;
+
+/// The records beside the ops of the trace's lines, place by place; where one list is longer, the rest of it stays out.
+pub fn records_of(
+    alloc: Global,
+    lines: &[Line],
+    records: &[Entry],
+) -> Result<Vec<Played>, OutOfMemory>
+    requires lines { length lines.now < 2 ^ 32 - 2 }
+    ensures records { IfOk result (λ all. all.items ≡ played lines.now records.now) }
+    ensures rising { IfOk result (λ all. RiseByLine all.items) }
+    ensures few { IfOk result (λ all. length all.items ≤ length lines.now) }
+{
+    let all = gather(alloc, lines, records)?;
+    Ok(all)
+}
+
+fn gather(alloc: Global, lines: &[Line], records: &[Entry]) -> Result<Vec<Played>, OutOfMemory>
+    requires lines { length lines.now < 2 ^ 32 - 2 }
+    ensures records { IfOk result (λ all. all.items ≡ played lines.now records.now) }
+    ensures few { IfOk result (λ all. length all.items ≤ length lines.now) }
+{
+    let mut all = Vec::new(alloc);
+    let mut number: u32 = 2;
+    let mut phase: u32 = 1;
+    for line in lines {
+        match *line {
+            Line::Phase => phase += 1,
+            Line::Do { thread, op } => {
+                let Some(entry) = records.get(all.len()) else {
+                    return Ok(all);
+                };
+                all.push(Played {
+                    line: number,
+                    thread,
+                    phase,
+                    op,
+                    answer: entry.answer,
+                })?;
+            }
+        }
+        number += 1;
+    }
+    Ok(all)
+}
+
+/// The law that the records of a trace within its limits are of 16 threads at most and name registers below 64.
+pub fn records_are_within()
+    ensures { RecordsAreWithin }
+{}

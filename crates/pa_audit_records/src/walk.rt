@@ -1,0 +1,151 @@
+ghost use Rattle.std.specs.Prelude.{◌≡◌, ◌↔◌, ◌<◌, ◌^◌, All, IfOk, IsTrue, List, length, slice_get};
+ghost use Rattle.std.specs.Ordering.{nat_cmp};
+ghost use Rattle.std.specs.BTreeMap.{get};
+ghost use Rattle.pa_rules.specs.declared.verdict.Place.TheVariants as places;
+ghost use Rattle.pa_rules.specs.Cells.{history_at};
+ghost use Rattle.pa_rules.specs.RecordDemands.{RegistersDemand};
+ghost use Rattle.pa_rules.specs.declared.played.Played.{Played};
+ghost use Rattle.pa_rules.specs.Registers.{usable_in};
+ghost use Rattle.pa_rules.specs.Sizes.{usable_of};
+ghost use Rattle.pa_one_run.proofs.rows.Handles.{change_of, found_by as found_in};
+ghost use Rattle.pa_audit_records.specs.Rows.{AnswersRead, MayAnswer, IsPlayedWithin};
+ghost use Rattle.pa_audit_records.specs.Tables.{AreUsables, AreRegsOf, regs_in, regs_next, facts_by};
+ghost use Rattle.pa_rules.specs.Tells.{TellsFirst};
+
+use crate::keys::{find, key};
+use crate::registers::Registers;
+use crate::rows::{
+    exchange, may_alloc, may_copy, may_free, may_read_from, may_reset, may_swap, may_write,
+    register,
+};
+use crate::usable::usables;
+use pa_machine::{OutOfMemory, SlotName};
+use pa_record::{Answer, Held, History};
+use pa_rules::{Played, Reg};
+use pa_trace::Op;
+use std::alloc::Global;
+use std::collections::BTreeMap;
+
+/// The index of the first record whose answer isn't the one that its thread's registers ask for; none where each is.
+pub fn registers_meet(
+    alloc: Global,
+    records: &[Played],
+    cells: &[History],
+) -> Result<Option<u32>, OutOfMemory>
+    requires few { length records.now < 2 ^ 32 }
+    requires within { All IsPlayedWithin records.now }
+    ensures { IfOk result (TellsFirst (λ i. RegistersDemand usable_of (history_at cells.now) records.now (places.Record i))) }
+{
+    let usables = usables(alloc, records)?;
+    let mut registers = Registers::new(alloc)?;
+    let mut at: u32 = 0;
+    for record in records {
+        if !may_answer(&registers, &usables, cells, record) {
+            return Ok(Some(at));
+        }
+        change(&mut registers, cells, record);
+        at += 1;
+    }
+    Ok(None)
+}
+
+// The usable number of a slot, by the records of which the table was made.
+fn usable_at(usables: &BTreeMap<u128, u32>, slot: SlotName) -> u32
+    ensures { (ps : List Played) → AreUsables ps (get nat_cmp usables.now) → result ≡ usable_in ps slot }
+{
+    find(usables, key(slot)).unwrap_or(0)
+}
+
+// Whether a read may have this answer, by what its register holds.
+fn may_read(usables: &BTreeMap<u128, u32>, holds: Reg, place: u32, answer: Answer) -> bool
+    ensures { (ps : List Played) → AreUsables ps (get nat_cmp usables.now) → IsTrue result ↔ AnswersRead holds (usable_in ps) place answer }
+{
+    match holds {
+        Reg::Empty => matches!(answer, Answer::Nothing),
+        Reg::Own(slot) | Reg::Ref(slot) => {
+            may_read_from(slot, usable_at(usables, slot), place, answer)
+        }
+        Reg::Freed | Reg::Cleared => matches!(answer, Answer::StaleUse { seen: None }),
+    }
+}
+
+// Whether a record's answer is one that its thread's registers ask for.
+fn may_answer(
+    registers: &Registers,
+    usables: &BTreeMap<u128, u32>,
+    cells: &[History],
+    record: &Played,
+) -> bool
+    requires within { IsPlayedWithin record.now }
+    ensures { (ps : List Played) → AreUsables ps (get nat_cmp usables.now) →
+        IsTrue result ↔
+        MayAnswer (facts_by (history_at cells.now) ps) record.now.op (regs_in registers.now record.now.thread) record.now.answer }
+{
+    let thread = record.thread;
+    let answer = record.answer;
+    match record.op {
+        Op::Alloc { reg, size, .. } => may_alloc(registers.get(thread, reg), size, answer),
+        Op::Copy { from, to } => {
+            may_copy(
+                registers.get(thread, from),
+                registers.get(thread, to),
+                answer,
+            )
+        }
+        Op::Reset { reg } => may_reset(registers.get(thread, reg), answer),
+        Op::Free { reg } => may_free(registers.get(thread, reg), answer),
+        Op::Write { reg, .. } => may_write(registers.get(thread, reg), answer),
+        Op::Read { reg, place } => may_read(usables, registers.get(thread, reg), place, answer),
+        Op::Swap { cell, reg } => may_swap(cells, cell, registers.get(thread, reg), answer),
+        Op::Purge => matches!(answer, Answer::Purged { .. }),
+    }
+}
+
+// The register that a record's answer changes, and what it holds then.
+fn change_by(cells: &[History], op: Op, answer: Answer) -> Option<(u32, Reg)>
+    ensures { result ≡ change_of (history_at cells.now) op answer }
+{
+    match op {
+        Op::Alloc { reg, .. } => match answer {
+            Answer::Made { seen, .. } => Some((reg, Reg::Own(seen.slot))),
+            _ => None,
+        },
+        Op::Copy { to, .. } => match answer {
+            Answer::Done { seen } => Some((to, Reg::Ref(seen.slot))),
+            _ => None,
+        },
+        Op::Reset { reg } => match answer {
+            Answer::Done { .. } => Some((reg, Reg::Cleared)),
+            _ => None,
+        },
+        Op::Free { reg } => match answer {
+            Answer::Done { .. } => Some((reg, Reg::Freed)),
+            _ => None,
+        },
+        Op::Swap { cell, reg } => match answer {
+            Answer::Swapped { entry } => Some((reg, register(found_by(cells, cell, entry)))),
+            _ => None,
+        },
+        Op::Write { .. } | Op::Read { .. } | Op::Purge => None,
+    }
+}
+
+// What the exchange of this index with the cell found, and nothing where there is none.
+fn found_by(cells: &[History], cell: u32, entry: u32) -> Held
+    ensures { result ≡ found_in (slice_get (history_at cells.now cell) entry) }
+{
+    match exchange(cells, cell, entry) {
+        Some(found) => found.found,
+        None => Held::Nothing,
+    }
+}
+
+// Changes the registers as a record's answer does.
+fn change(registers: &mut Registers, cells: &[History], record: &Played)
+    requires within { IsPlayedWithin record.now }
+    ensures { AreRegsOf registers.new (regs_next (history_at cells.now) (regs_in registers.old) record.now) }
+{
+    if let Some((reg, holds)) = change_by(cells, record.op, record.answer) {
+        registers.set(record.thread, reg, holds);
+    }
+}

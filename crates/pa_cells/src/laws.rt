@@ -1,0 +1,36 @@
+//! What handles and histories keep, as laws: calls that do nothing, and whose clauses are proved.
+ghost use Rattle.pa_cells.specs.Handles.{HandedCanWait, GiversLackHandles, TakersHaveHandles, SlotsStaySeen};
+ghost use Rattle.pa_cells.specs.Cells.{PlacesStay};
+
+use pa_record::one_entry_for_its_numbers;
+use pa_region::beginnings_join;
+
+/// A note that was handed one handle, of a slot that its giver had seen made, can wait in a cell.
+pub fn what_was_handed_can_wait()
+    ensures { HandedCanWait }
+{}
+
+/// Who hands one handle over has it no more, and all else that it had.
+pub fn givers_lack_handles()
+    ensures { GiversLackHandles }
+{}
+
+/// Who takes in the note of a handle has this handle besides, and has seen how the slot was made.
+pub fn takers_have_handles()
+    ensures { TakersHaveHandles }
+{
+    beginnings_join();
+    slots_stay_seen();
+}
+
+/// Who has seen more of a root's list has seen as well how a slot was made.
+pub fn slots_stay_seen()
+    ensures { SlotsStaySeen }
+{}
+
+/// An exchange that stands in the list stands at its place in its cell's history, whatever comes later.
+pub fn places_stay()
+    ensures { PlacesStay }
+{
+    one_entry_for_its_numbers();
+}

@@ -1,0 +1,61 @@
+ghost use Rattle.std.specs.Prelude.{◌≡◌};
+ghost use Rattle.pa_place.specs.Roomy.{no_room, fill_room, map_room, opened_room};
+
+use pa_buckets::Class;
+
+// What there is room for: so many takes of a class, a super page that a pool gives, and a direct map.
+#[derive(Clone, Copy, Drop)]
+pub(crate) struct Room {
+    pub(crate) class: u32,
+    pub(crate) takes: u32,
+    pub(crate) super_page: bool,
+    pub(crate) map: bool,
+}
+
+impl Room {
+    // For nothing.
+    pub(crate) fn none() -> Room
+        ensures { result ≡ no_room }
+    {
+        Room {
+            class: 0,
+            takes: 0,
+            super_page: false,
+            map: false,
+        }
+    }
+
+    // For so many takes of the class, and a super page.
+    pub(crate) fn of_fill(class: Class, takes: u32) -> Room
+        ensures { result ≡ fill_room class takes }
+    {
+        Room {
+            class: class.number(),
+            takes,
+            super_page: true,
+            map: false,
+        }
+    }
+
+    // For a direct map.
+    pub(crate) fn of_map() -> Room
+        ensures { result ≡ map_room }
+    {
+        Room {
+            class: 0,
+            takes: 0,
+            super_page: false,
+            map: true,
+        }
+    }
+
+    // The same, but for a super page.
+    pub(crate) fn opened(self) -> Room
+        ensures { result ≡ opened_room self }
+    {
+        Room {
+            super_page: false,
+            ..self
+        }
+    }
+}

@@ -1,0 +1,6 @@
+pub mod Gave
+pub mod NextPool
+pub mod RawBytes
+pub mod Runs
+pub mod Testing
+pub mod Took

@@ -1,0 +1,18 @@
+//! The pool of super pages over the region, as it stands behind a lock: whose turn it is takes the lowest super pages that
+//! are free, or gives some back.
+//!
+//! The pool has the super pages that nobody took as raw bytes, and the lease of each take that isn't out. So a lease that
+//! comes back shows that its take wasn't given back before.
+#![tactic(auto)]
+
+mod fault;
+mod laws;
+mod pool;
+mod run;
+#[cfg(test)]
+mod tests;
+
+pub use fault::PoolFault;
+pub use laws::{runs_are_handed, seen_takes_stay};
+pub use pool::Pool;
+pub use run::hand_run;

@@ -1,0 +1,17 @@
+pub mod Wide
+pub mod Fields
+pub mod Slots
+pub mod Reports
+pub mod Again
+pub mod AgainRoots
+pub mod AgainLines
+pub mod OneLine
+pub mod TextLines
+pub mod FirstBad
+pub mod Grown
+pub mod Gathering
+pub mod Keeping
+pub mod ReadSoFar
+pub mod Telling
+pub mod OneReading
+pub mod AllGathered

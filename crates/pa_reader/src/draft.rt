@@ -1,0 +1,138 @@
+ghost use Rattle.std.specs.Prelude.{◌≡◌, [], ◌∷◌, ◌++◌, IfOk, OnOk};
+ghost use Rattle.pa_reader.specs.Gathered.{gathered_with, HasListOf, IsUngathered, TellsGathered};
+
+use crate::Item;
+use pa_machine::OutOfMemory;
+use pa_record::{Entry, History, Journal, PoolEntry, ReportLine, RootEntry, Run};
+use std::alloc::Global;
+use std::marker::Model;
+
+// The partitions and the cells that a run may tell of.
+const PARTITIONS: u32 = 4;
+
+const CELLS: u32 = 64;
+
+// What was read of one journal so far. It is seen as the list of the entries.
+#[derive(Drop)]
+pub struct Acts {
+    items: Vec<RootEntry>,
+}
+
+impl Model for Acts {
+    ghost use Rattle.std.specs.Prelude.{List};
+    ghost use Rattle.pa_record.specs.declared.root.RootEntry.{RootEntry};
+
+    ghost Value = { List RootEntry };
+
+    ghost view = { λ acts. acts.items.items };
+}
+
+impl Acts {
+    // No entries.
+    fn new(alloc: Global) -> Acts
+        ensures empty { result ≡ [] }
+    {
+        Acts {
+            items: Vec::new(alloc),
+        }
+    }
+
+    // Puts an entry behind the others.
+    fn push(&mut self, entry: RootEntry) -> Result<(), OutOfMemory>
+        ensures pushed { OnOk result (self.new ≡ self.old ++ entry ∷ []) }
+    {
+        self.items.push(entry)?;
+        Ok(())
+    }
+
+    // The journal of them.
+    fn into_journal(self) -> Journal
+        ensures journal { result ≡ self }
+    {
+        Journal::of(self.items)
+    }
+}
+
+// What was read of a run so far: a journal for each partition, a history for each cell. It is seen as its lists.
+#[derive(Drop)]
+pub struct Draft {
+    entries: Vec<Entry>,
+    roots: Vec<Acts>,
+    pool: Vec<PoolEntry>,
+    cells: Vec<History>,
+    report: Vec<ReportLine>,
+}
+
+impl Model for Draft {
+    ghost use Rattle.pa_reader.specs.Gathered.{Gathered};
+
+    ghost Value = { Gathered };
+
+    ghost view = { λ d. record {
+      entries = d.entries.items;
+      roots = d.roots.items;
+      pool = d.pool.items;
+      cells = d.cells.items;
+      report = d.report.items;
+    } };
+}
+
+impl Draft {
+    // Nothing yet.
+    pub fn new(alloc: Global) -> Result<Draft, OutOfMemory>
+        ensures { IfOk result IsUngathered }
+    {
+        let mut roots = Vec::with_capacity(alloc, PARTITIONS as usize)?;
+        for _ in 0..PARTITIONS {
+            roots.push(Acts::new(alloc))?;
+        }
+        let mut cells = Vec::with_capacity(alloc, CELLS as usize)?;
+        for _ in 0..CELLS {
+            cells.push(History::new(alloc))?;
+        }
+        Ok(Draft {
+            entries: Vec::new(alloc),
+            roots,
+            pool: Vec::new(alloc),
+            cells,
+            report: Vec::new(alloc),
+        })
+    }
+
+    // Puts the item behind the others of its list, which is there.
+    pub fn put(&mut self, item: Item) -> Result<(), OutOfMemory>
+        requires { HasListOf item self.old }
+        ensures { OnOk result (self.new ≡ gathered_with item self.old) }
+    {
+        match item {
+            Item::Record(entry) => self.entries.push(entry)?,
+            Item::Root {
+                partition,
+                entry,
+                ..
+            } => self.roots[partition as usize].push(entry)?,
+            Item::Pool { entry, .. } => self.pool.push(entry)?,
+            Item::Cell { cell, entry, .. } => self.cells[cell as usize].push(entry)?,
+            Item::Report(line) => self.report.push(line)?,
+            Item::Head | Item::End => {}
+        }
+        Ok(())
+    }
+
+    // The run that was read.
+    pub fn into_run(self, alloc: Global) -> Result<Run, OutOfMemory>
+        ensures { IfOk result (TellsGathered self) }
+    {
+        let mut roots = Vec::with_capacity(alloc, self.roots.len())?;
+        for acts in self.roots {
+            roots.push(acts.into_journal())?;
+        }
+        Ok(Run {
+            entries: self.entries,
+            roots,
+            pool: self.pool,
+            cells: self.cells,
+            report: self.report,
+        })
+    }
+}

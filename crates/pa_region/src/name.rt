@@ -1,0 +1,15 @@
+ghost use Rattle.std.specs.Prelude.{[]};
+
+use std::marker::Brand;
+
+/// Which region a value is of that stands behind a lock, where its type alone says what is known of it. It has no calls. One
+/// call of a program picks the region: it gives `Brand` for the name.
+pub trait Name {
+    ghost use Rattle.atomic_table.specs.Seated.{TableId};
+
+    ghost region: { TableId };
+}
+
+impl Name for Brand {
+    ghost region = { record { words = 0; slots = 0; views_name = 0; atom = 0; block = 0; offset = 0; slot_names = [] } };
+}

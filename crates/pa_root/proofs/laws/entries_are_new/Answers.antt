@@ -1,0 +1,5 @@
+use Rattle.pa_root.proofs.Entries.{entries_are_new}
+use Rattle.pa_root.proofs.laws.entries_are_new.Goals as goal
+
+pub returns : goal.returns
+returns c = entries_are_new

@@ -1,0 +1,5 @@
+use Rattle.pa_root.proofs.MakingNone.{purges_keep_slots}
+use Rattle.pa_root.proofs.laws.purges_keep_slots.Goals as goal
+
+pub returns : goal.returns
+returns c = purges_keep_slots

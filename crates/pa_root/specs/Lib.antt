@@ -1,0 +1,12 @@
+pub mod Reading
+pub mod Keeping
+pub mod Making
+pub mod Handing
+pub mod Laws
+pub mod Giving
+pub mod Filling
+pub mod Asking
+pub mod Cutting
+pub mod Mapping
+pub mod Uncutting
+pub mod Unmapping
