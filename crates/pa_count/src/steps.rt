@@ -3,7 +3,7 @@ ghost use Rattle.pa_machine.specs.declared.word.Step.TheVariants.{Issue, Copy, R
 ghost use Rattle.pa_machine.specs.Run.{IsReturning};
 ghost use Rattle.pa_region.specs.Views.{HasStake, free_of};
 ghost use Rattle.pa_region.specs.Moves.{CanCount};
-ghost use Rattle.pa_region.specs.Shares.{IsUser, IsMade, IsLooked};
+ghost use Rattle.pa_region.specs.Shares.{IsUser, IsStepMade, IsLooked};
 
 use pa_machine::{Step, Title, Word, held, refs};
 use pa_region::{Region, Seat, releases_leave};
@@ -19,7 +19,7 @@ pub enum Fate {
 pub fn issue(region: &Region, seat: &mut Seat, title: Title) -> Word
     requires region { seat.old.region ≡ region.now }
     requires able { CanCount Issue title seat.old.view }
-    ensures { IsMade Issue title result.0 seat.old seat.new }
+    ensures { IsStepMade Issue title result.0 seat.old seat.new }
 {
     region.count_step(seat, title, Step::Issue)
 }
@@ -28,7 +28,7 @@ pub fn issue(region: &Region, seat: &mut Seat, title: Title) -> Word
 pub fn copy(region: &Region, seat: &mut Seat, title: Title) -> Word
     requires region { seat.old.region ≡ region.now }
     requires able { CanCount Copy title seat.old.view }
-    ensures { IsMade Copy title result.0 seat.old seat.new }
+    ensures { IsStepMade Copy title result.0 seat.old seat.new }
 {
     region.count_step(seat, title, Step::Copy)
 }
@@ -37,7 +37,7 @@ pub fn copy(region: &Region, seat: &mut Seat, title: Title) -> Word
 pub fn wrote(region: &Region, seat: &mut Seat, title: Title) -> Word
     requires region { seat.old.region ≡ region.now }
     requires able { CanCount Write title seat.old.view }
-    ensures { IsMade Write title result.0 seat.old seat.new }
+    ensures { IsStepMade Write title result.0 seat.old seat.new }
 {
     region.count_step(seat, title, Step::Write)
 }
@@ -47,7 +47,7 @@ pub fn wrote(region: &Region, seat: &mut Seat, title: Title) -> Word
 pub fn reset(region: &Region, seat: &mut Seat, title: Title) -> (Word, Fate)
     requires region { seat.old.region ≡ region.now }
     requires able { CanCount Reset title seat.old.view }
-    ensures made { IsMade Reset title result.0.0 seat.old seat.new }
+    ensures made { IsStepMade Reset title result.0.0 seat.old seat.new }
     ensures fate { (result.1 ≡ Fate.Last) ↔ IsReturning Reset result.0.0 }
     ensures last { result.1 ≡ Fate.Last → free_of seat.new.view title ≡ 1 }
     ensures kept { result.1 ≡ Fate.Kept → free_of seat.new.view title ≡ 0 }
@@ -60,7 +60,7 @@ pub fn reset(region: &Region, seat: &mut Seat, title: Title) -> (Word, Fate)
 pub fn free(region: &Region, seat: &mut Seat, title: Title) -> (Word, Fate)
     requires region { seat.old.region ≡ region.now }
     requires able { CanCount Free title seat.old.view }
-    ensures made { IsMade Free title result.0.0 seat.old seat.new }
+    ensures made { IsStepMade Free title result.0.0 seat.old seat.new }
     ensures fate { (result.1 ≡ Fate.Last) ↔ IsReturning Free result.0.0 }
     ensures last { result.1 ≡ Fate.Last → free_of seat.new.view title ≡ 1 }
     ensures kept { result.1 ≡ Fate.Kept → free_of seat.new.view title ≡ 0 }
@@ -83,7 +83,7 @@ fn release(region: &Region, seat: &mut Seat, title: Title, step: Step) -> (Word,
     requires release { (step ≡ Reset) ⊎ (step ≡ Free) }
     requires region { seat.old.region ≡ region.now }
     requires able { CanCount step title seat.old.view }
-    ensures made { IsMade step title result.0.0 seat.old seat.new }
+    ensures made { IsStepMade step title result.0.0 seat.old seat.new }
     ensures fate { (result.1 ≡ Fate.Last) ↔ IsReturning step result.0.0 }
     ensures last { result.1 ≡ Fate.Last → free_of seat.new.view title ≡ 1 }
     ensures kept { result.1 ≡ Fate.Kept → free_of seat.new.view title ≡ 0 }
@@ -154,7 +154,7 @@ mod tests {
     fn reset_by(region: &Region, seat: Seat, title: Title) -> (Seat, (Word, Fate))
         requires region { seat.region ≡ region.now }
         requires able { CanCount Reset title seat.view }
-        ensures { IsMade Reset title result.1.0.0 seat result.0 }
+        ensures { IsStepMade Reset title result.1.0.0 seat result.0 }
     {
         let mut seat = seat;
         let released = reset(region, &mut seat, title);

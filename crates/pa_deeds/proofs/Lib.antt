@@ -17,3 +17,4 @@ pub mod Onwards
 pub mod Runs
 pub mod Unmapping
 pub mod Unmapped
+pub mod Sharing

@@ -15,7 +15,7 @@ use Rattle.pa_record.specs.declared.pool.PoolAct.TheVariants as pool
 use Rattle.pa_record.specs.declared.root.RootEntry.{RootEntry}
 use Rattle.pa_record.specs.declared.root.RootAct.{RootAct}
 use Rattle.pa_record.specs.declared.root.RootAct.TheVariants.{Fill, Map, Full, Give, Unmap, Purge}
-use Rattle.pa_record.specs.Pool.{IsOneTake, IsPartitions, act_at, FoundRun}
+use Rattle.pa_record.specs.Pool.{IsPartitions, act_at, FoundRun}
 use Rattle.pa_record.specs.Spans.{name_of}
 use Rattle.pa_record.specs.Root.{Root, new_root, root_next, root_replayed, RootReplays, RootActFits, RiseFrom, IsJournal, asked_by, all_asked, map_title}
 use Rattle.pa_record.specs.Sound.{AsksFrom, least_after, least_after_all}
@@ -39,6 +39,7 @@ use Rattle.pa_legal.proofs.Naming.{unnamed}
 use Rattle.pa_deeds.specs.Deeds.{root_at, IsPlacedTo}
 use Rattle.pa_deeds.specs.Pooled.{pool_at, IsPooledTo}
 use Rattle.pa_deeds.specs.Ops.{MapsAreTaken}
+use Rattle.pa_deeds.specs.Shared.{SharePool}
 use Rattle.pa_deeds.proofs.Numbering.{none_left}
 use Rattle.pa_deeds.proofs.First.{page_super}
 use Rattle.pa_deeds.proofs.Lists.{times_member}
@@ -59,7 +60,7 @@ asks_at : (least : ℕ) (xs ys : List RootEntry) (f : RootEntry) → RiseFrom le
 asks_at least [] ys f h = (rise_parts least (asked_by f.act) (all_asked ys) h).0
 asks_at least (x ∷ xs) ys f h = asks_at (least_after least (asked_by x.act)) xs ys f (rise_parts least (asked_by x.act) (all_asked (xs ++ f ∷ ys)) h).1
 
-least_one : (least : ℕ) (o : Option ℕ) → AsksFrom least o → least ≤ least_after least o
+pub least_one : (least : ℕ) (o : Option ℕ) → AsksFrom least o → least ≤ least_after least o
 least_one least None h = omega arith
 least_one least (Some j) h = omega arith
 
@@ -142,12 +143,12 @@ give_first : (o : Option PoolAct) (count first c g : ℕ) → o ≡ Some (pool.G
 give_first o count first c g e f = cc
 
 -- the direct map that an entry of the pool gave back
-record UnmapOf (pools : List PoolEntry) (roots : Journals) (q k first : ℕ) (slot : Numbered) (len : ℕ) (f : RootEntry) (xs ys : List RootEntry) : Type 0 where
-  parts : roots q ≡ xs ++ f ∷ ys
-  journal : IsJournal pools xs
-  act : f.act ≡ Unmap k slot
-  mapped : Contains (root_replayed pools xs new_root).maps (map_title slot.slot len)
-  start : slot.slot.start ≡ page_place first 1
+pub record UnmapOf (pools : List PoolEntry) (roots : Journals) (q k first : ℕ) (slot : Numbered) (len : ℕ) (f : RootEntry) (xs ys : List RootEntry) : Type 0 where
+  pub parts : roots q ≡ xs ++ f ∷ ys
+  pub journal : IsJournal pools xs
+  pub act : f.act ≡ Unmap k slot
+  pub mapped : Contains (root_replayed pools xs new_root).maps (map_title slot.slot len)
+  pub start : slot.slot.start ≡ page_place first 1
 
 -- only an Unmap names a give
 abbrev Unmaps : List PoolEntry → RootAct → ℕ → ℕ → Root → Type 0
@@ -175,7 +176,7 @@ act_before [] rest j a at low = absurd (omega arith)
 act_before (x ∷ before) rest zero a at low = at
 act_before (x ∷ before) rest (suc j) a at low = act_before before rest j a at (omega arith)
 
-module _ (supers partitions n : ℕ) (ps : List Played) (pools : List PoolEntry) (roots : Journals) (all : Caches) (h : IsPlacedTo partitions n ps pools roots all) (g : IsPooledTo supers n pools roots) where
+module _ (supers : ℕ) (pools : List PoolEntry) (roots : Journals) (h : SharePool supers pools roots) where
   -- the journal of a map that was mapped names its entry of the pool
   map_named : (q : ℕ) (xs ys : List RootEntry) (u : Title) → roots q ≡ xs ++ ys → IsJournal pools xs → Contains (root_replayed pools xs new_root).maps u → (i : ℕ) × Names roots q i u.born
   map_named q xs ys u parts hx member = elim (out_is_left pools xs (name_of u) hx) [
@@ -187,15 +188,15 @@ module _ (supers partitions n : ℕ) (ps : List Played) (pools : List PoolEntry)
     | inr (away, same) ↦ absurd (away (u, inr member, refl))
   ]
 
-  owner_is : (j q i : ℕ) (e : PoolEntry) → slice_get pools j ≡ Some e → Names roots q i j → e.partition ≡ q
+  pub owner_is : (j q i : ℕ) (e : PoolEntry) → slice_get pools j ≡ Some e → Names roots q i j → e.partition ≡ q
   owner_is j q i e at names =
-      let (k, f, there, asked, line) = g.named j e at in
-      (g.once j e.partition q k i (f, there, asked) names).0
+      let (k, named) = h.named j e at in
+      (h.once j e.partition q k i e at named names).0
 
-  unmap_of : (k count first : ℕ) (e : PoolEntry) → slice_get pools k ≡ Some e → e.act ≡ pool.Give count first →
+  pub unmap_of : (k count first : ℕ) (e : PoolEntry) → slice_get pools k ≡ Some e → e.act ≡ pool.Give count first →
       (slot : Numbered) × (len : ℕ) × (f : RootEntry) × (xs ys : List RootEntry) × UnmapOf pools roots e.partition k first slot len f xs ys
   unmap_of k count first e at act =
-      let (i, f, there, asked, line) = g.named k e at in
+      let (i, (f, there, asked)) = h.named k e at in
       let (xs, ys, parts) = split_at (roots e.partition) i f there in
       let journal = subst (λ z. IsJournal pools z) parts (h.journals e.partition) in
       let gave : act_at pools k ≡ Some (pool.Give count first) = ap (λ o. option_map (λ (z : PoolEntry). z.act) o) at ∙ ap Some act in
@@ -241,7 +242,7 @@ module _ (supers partitions n : ℕ) (ps : List Played) (pools : List PoolEntry)
   same_name first s t a b born = same_slot s t (a ∙ sym b) born
 
   -- the run of a map that goes back is there until then
-  live : (fuel k first : ℕ) (e : PoolEntry) (before after : List PoolEntry) (slot : Numbered) (len : ℕ) (f : RootEntry) (xs ys : List RootEntry) → k < fuel → Moment supers pools k e before after →
+  pub live : (fuel k first : ℕ) (e : PoolEntry) (before after : List PoolEntry) (slot : Numbered) (len : ℕ) (f : RootEntry) (xs ys : List RootEntry) → k < fuel → Moment supers pools k e before after →
       UnmapOf pools roots e.partition k first slot len f xs ys → Contains (pool_at supers before).taken (run_of slot.slot.born first (supers_for len))
   live zero k first e before after slot len f xs ys less m u = absurd (omega arith)
   live (suc fuel) k first e before after slot len f xs ys less m u =
@@ -275,19 +276,16 @@ module _ (supers partitions n : ℕ) (ps : List Played) (pools : List PoolEntry)
           not_again e.partition k k' first slot slot' len len' f f' xs ys xs' ys' u (subst (λ q. UnmapOf pools roots q k' first slot' len' f' xs' ys') one u') (omega arith)
           (same_name first slot'.slot slot.slot u'.start u.start born)
 
-  pub map_taken : (p : ℕ) (t : Title) → Contains (root_at pools roots p).maps t →
-      (u : Taken) × IsOneTake (pool_at supers pools) (super_page_at t.start) (supers_for t.len) u × IsPartitions pools p u
-  map_taken p t member =
+  -- the run of a direct map that is mapped is there, and its entry of the pool is its partition's
+  pub map_run : (p : ℕ) (t : Title) → Contains (root_at pools roots p).maps t →
+      (first : ℕ) × (t.start ≡ page_place first 1) × Contains (pool_at supers pools).taken (run_of t.born first (supers_for t.len)) × IsPartitions pools p (run_of t.born first (supers_for t.len))
+  map_run p t member =
       let (first, found, start) = (roots_are_taken.journal pools (roots p) (h.journals p)).maps t member in
       let (i, names) = map_named p (roots p) [] t (sym (append-nil (roots p))) (h.journals p) member in
       let (d, at, act) = entry_of (slice_get pools t.born) (pool.Take (supers_for t.len) (Some first)) found in
       let owner = owner_is t.born p i d at names in
-      elim (taken_or_given supers pools t.born (supers_for t.len) first g.fits found) [
-        | inl there ↦ (
-          run_of t.born first (supers_for t.len),
-          record { among = there; begins = sym (page_super first) ∙ ap super_page_at (sym start); reaches = refl },
-          (d, at, owner),
-        )
+      elim (taken_or_given supers pools t.born (supers_for t.len) first h.fits found) [
+        | inl there ↦ (first, start, there, (d, at, owner))
         | inr (k, e, before, after, w) ↦ absurd (was_given first start d at owner k e before after w)
       ]
     where
@@ -308,5 +306,20 @@ module _ (supers partitions n : ℕ) (ps : List Played) (pools : List PoolEntry)
           subst (λ q. IsNameOut (root_at pools roots q) slot.slot) (sym place) (t, inr member, name) in
           gone pools xs ys f k slot journal u.journal u.act (map_title slot.slot len, inr u.mapped, refl) (subst (λ z. IsNameOut (root_replayed pools z new_root) slot.slot) u.parts still)
 
+-- the journals of a run so far share its pool
+pub of_placed : (supers partitions n : ℕ) (ps : List Played) (pools : List PoolEntry) (roots : Journals) (all : Caches) → IsPlacedTo partitions n ps pools roots all → IsPooledTo supers n pools roots →
+    SharePool supers pools roots
+of_placed supers partitions n ps pools roots all h g = record {
+  fits = g.fits;
+  journals = h.journals;
+  named = λ j e at. let (i, f, there, asked, line) = g.named j e at in (i, (f, there, asked));
+  once = λ j p q i k e at names names'. g.once j p q i k names names';
+}
+
 pub maps_are_taken : MapsAreTaken
-maps_are_taken supers partitions n p ps pools roots all t h g member = map_taken supers partitions n ps pools roots all h g p t member
+maps_are_taken supers partitions n p ps pools roots all t h g member =
+    let (first, start, there, owner) = map_run supers pools roots (of_placed supers partitions n ps pools roots all h g) p t member in (
+      run_of t.born first (supers_for t.len),
+      record { among = there; begins = sym (page_super first) ∙ ap super_page_at (sym start); reaches = refl },
+      owner,
+    )

@@ -3,3 +3,4 @@ pub mod Pooled
 pub mod Laws
 pub mod Ops
 pub mod Onward
+pub mod Shared

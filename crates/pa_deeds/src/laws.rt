@@ -1,5 +1,6 @@
 ghost use Rattle.pa_deeds.specs.Laws.{LineExtends, LinePasses, LineReplays, PlacedAreRoots, PoolExtends, SameIsPlaced, StartsEmpty};
 ghost use Rattle.pa_deeds.specs.Onward.{CachesStay, PhaseEnds, RunGoesOn};
+ghost use Rattle.pa_deeds.specs.Shared.{TitlesShareNoByte};
 ghost use Rattle.pa_deeds.specs.Ops.{FillIsDone, FrontLeaves, FullIsDone, FullMapIsDone, ListsAreOut, MapIsDone, MapsAreTaken, NothingMoves, PartsAreOut, PurgeIsDone, ReturnIsDone, UnmapIsDone};
 
 /// The law that at the start there are no records, no entries and no lists.
@@ -95,6 +96,11 @@ pub fn caches_stay()
 /// The law of what stays of a phase: its records, its entries, what its roots had and what its lists held.
 pub fn phase_ends()
     ensures { PhaseEnds }
+{}
+
+/// The law that two titles which are there at once, of whichever partitions, are one or share no byte.
+pub fn titles_share_no_byte()
+    ensures { TitlesShareNoByte }
 {}
 
 /// The law that the super pages of a direct map which is mapped are one take of its partition that wasn't given.

@@ -15,7 +15,7 @@ use Rattle.pa_machine.specs.Count.{refs_of}
 use Rattle.pa_machine.specs.Titles.{Covers, IsWellFormed, IsContentOf, count_place, count_word, content_count, progress, same_title}
 use Rattle.pa_machine.specs.Holdings.{Thing, RawByte, FreeTitle, OwnOf, OwnAs, RefOf, IsTitleHeld}
 use Rattle.pa_machine.specs.Events.{State, HasActor, CanCount, HoldsRaw, Holds, HoldsOpen, total_of, IsFreeWord, IsOwnWord, IsTitleWord}
-use Rattle.pa_machine.specs.Tables.{Place, pieces_of, state_of, kept_as, slot_at, kept_over, slot_over, IsPlaced, IsSound, IsHeldBy, CanPoison, MayChange, MayWrite}
+use Rattle.pa_machine.specs.Tables.{Place, pieces_of, state_of, kept_as, slot_at, kept_over, slot_over, IsPlaced, AreSound, IsHeldBy, CanPoison, MayChange, MayWrite}
 use Rattle.pa_machine.proofs.Same.{title_tells, title_self}
 use Rattle.pa_machine.proofs.Totals.{tally_of}
 use Rattle.pa_machine.proofs.Keeps.{own_of_state}
@@ -33,13 +33,13 @@ held_own c actor t s h =
 pub held_ref : (c : Tables) (actor : ℕ) (t : Title) → Holds (state_of c) actor (RefOf t) → IsTitleHeld (total_of (state_of c)) t
 held_ref c actor t h = let p = in_total (state_of c) actor (RefOf t) h in omega arith
 
-pub well_free : (c : Tables) (actor : ℕ) (t : Title) → IsSound c → Holds (state_of c) actor (FreeTitle t) → IsWellFormed (length c.words.items) t
+pub well_free : (c : Tables) (actor : ℕ) (t : Title) → AreSound c → Holds (state_of c) actor (FreeTitle t) → IsWellFormed (length c.words.items) t
 well_free c actor t sound h = sound.good.divided.well t (held_free c actor t h)
 
-pub well_own : (c : Tables) (actor : ℕ) (t : Title) (s : OwnState) → IsSound c → Holds (state_of c) actor (OwnAs t s) → IsWellFormed (length c.words.items) t
+pub well_own : (c : Tables) (actor : ℕ) (t : Title) (s : OwnState) → AreSound c → Holds (state_of c) actor (OwnAs t s) → IsWellFormed (length c.words.items) t
 well_own c actor t s sound h = sound.good.divided.well t (held_own c actor t s h)
 
-pub well_ref : (c : Tables) (actor : ℕ) (t : Title) → IsSound c → Holds (state_of c) actor (RefOf t) → IsWellFormed (length c.words.items) t
+pub well_ref : (c : Tables) (actor : ℕ) (t : Title) → AreSound c → Holds (state_of c) actor (RefOf t) → IsWellFormed (length c.words.items) t
 well_ref c actor t sound h = sound.good.divided.well t (held_ref c actor t h)
 
 -- nothing is no entry
@@ -83,7 +83,7 @@ over_is (Some b) at_byte o is words actors i placed = by_test (nat_le b.value.ti
         subst (λ (x : Slot). (kept_as x.title (Some b) ≡ Some x) × Covers x.title at_byte × IsWellFormed words x.title × (x.title.start ≡ 8 * i)) same
         (rw (title_self b.value.title) refl, (low, high), placed.1, placed.0)
 
-pub over_entry : (c : Tables) (at_byte : ℕ) (o : Slot) → IsSound c → slot_over c.homes.items c.slots.items at_byte ≡ Some o →
+pub over_entry : (c : Tables) (at_byte : ℕ) (o : Slot) → AreSound c → slot_over c.homes.items c.slots.items at_byte ≡ Some o →
     (slot_at c.slots.items o.title ≡ Some o) × Covers o.title at_byte × IsWellFormed (length c.words.items) o.title
 over_entry c at_byte o sound is =
     let home = get_or c.homes.items (at_byte / 8) 0 in
@@ -105,7 +105,7 @@ kept_covers t (Some b) o at_byte is covers = elim (title_tells b.value.title t) 
   | inr n ↦ absurd (none_some o (rw n.0 at is))
 ]
 
-pub entry_over : (c : Tables) (t : Title) (o : Slot) (at_byte : ℕ) → IsSound c → IsTitleHeld (total_of (state_of c)) t →
+pub entry_over : (c : Tables) (t : Title) (o : Slot) (at_byte : ℕ) → AreSound c → IsTitleHeld (total_of (state_of c)) t →
     slot_at c.slots.items t ≡ Some o → Covers t at_byte → slot_over c.homes.items c.slots.items at_byte ≡ Some o
 entry_over c t o at_byte sound held is covers =
     let well = sound.good.divided.well t held in
@@ -115,7 +115,7 @@ entry_over c t o at_byte sound held is covers =
     rw home (kept_covers t (get_or c.slots.items (t.start / 8) None) o at_byte is covers)
 
 -- the tests on an entry, as what the actor holds
-pub poison_same : (c : Tables) (actor : ℕ) (t : Title) (o : Slot) → IsSound c → actor < c.actors → slot_at c.slots.items t ≡ Some o →
+pub poison_same : (c : Tables) (actor : ℕ) (t : Title) (o : Slot) → AreSound c → actor < c.actors → slot_at c.slots.items t ≡ Some o →
     CanPoison o actor ↔ ((state : OwnState) × Holds (state_of c) actor (OwnAs t state) × (progress state < content_count t))
 poison_same c actor t o sound has is =
     let title = (kept_is t (get_or c.slots.items (t.start / 8) None) o is (length c.words.items) c.actors (t.start / 8) (sound.placed (t.start / 8))).0 in (
@@ -126,7 +126,7 @@ poison_same c actor t o sound has is =
           (h.0, ap (λ (q : Slot). q.own) (sym same) ∙ r.3, rw title h.2),
     )
 
-pub read_same : (c : Tables) (actor at_byte : ℕ) (o : Slot) → IsSound c → actor < c.actors → slot_over c.homes.items c.slots.items at_byte ≡ Some o →
+pub read_same : (c : Tables) (actor at_byte : ℕ) (o : Slot) → AreSound c → actor < c.actors → slot_over c.homes.items c.slots.items at_byte ≡ Some o →
     IsHeldBy o actor ↔ IsTitleWord (state_of c) actor at_byte
 read_same c actor at_byte o sound has is =
     let e = over_entry c at_byte o sound is in (
@@ -162,7 +162,7 @@ read_same c actor at_byte o sound has is =
       ],
     )
 
-pub none_read : (c : Tables) (actor at_byte : ℕ) → IsSound c → actor < c.actors → slot_over c.homes.items c.slots.items at_byte ≡ None →
+pub none_read : (c : Tables) (actor at_byte : ℕ) → AreSound c → actor < c.actors → slot_over c.homes.items c.slots.items at_byte ≡ None →
     IsTitleWord (state_of c) actor at_byte → ⊥
 none_read c actor at_byte sound has none word = elim word.2 [
   | inl f ↦
@@ -179,7 +179,7 @@ none_read c actor at_byte sound has none word = elim word.2 [
 ]
 
 -- a word that may be written lies in the title of the entry over it
-pub write_over : (c : Tables) (actor at_byte : ℕ) → IsSound c → actor < c.actors → MayWrite (state_of c) actor at_byte →
+pub write_over : (c : Tables) (actor at_byte : ℕ) → AreSound c → actor < c.actors → MayWrite (state_of c) actor at_byte →
     (o : Slot) × (slot_over c.homes.items c.slots.items at_byte ≡ Some o) × IsContentOf o.title at_byte × MayChange (state_of c) actor o.title
 write_over c actor at_byte sound has (inl free) =
     let t = free.0 in
@@ -200,7 +200,7 @@ change_writes c actor at_byte t within (inl free) = inl (t, free, within)
 change_writes c actor at_byte t within (inr own) = inr (t, own.0.0, (own.0.1, within, own.1))
 
 -- an Own, clean or dirty, and what it says of the title
-pub well_open : (c : Tables) (actor : ℕ) (t : Title) → IsSound c → ((state : OwnState) × HoldsOpen (state_of c) actor t state) → IsWellFormed (length c.words.items) t
+pub well_open : (c : Tables) (actor : ℕ) (t : Title) → AreSound c → ((state : OwnState) × HoldsOpen (state_of c) actor t state) → IsWellFormed (length c.words.items) t
 well_open c actor t sound h = well_own c actor t h.0 sound h.1.1
 
 pub open_either : (c : Tables) (actor : ℕ) (t : Title) → ((state : OwnState) × HoldsOpen (state_of c) actor t state) →
@@ -211,7 +211,7 @@ open_either c actor t h = elim h.1.0 [
 ]
 
 -- what a step asks of its actor makes the title a held one
-pub well_counted : (c : Tables) (actor : ℕ) (t : Title) (p : Step) → IsSound c → CanCount p (state_of c) actor t → IsWellFormed (length c.words.items) t
+pub well_counted : (c : Tables) (actor : ℕ) (t : Title) (p : Step) → AreSound c → CanCount p (state_of c) actor t → IsWellFormed (length c.words.items) t
 well_counted c actor t Issue sound can = well_free c actor t sound can.0
 well_counted c actor t Copy sound can = elim can [ inl o ↦ well_own c actor t Clean sound o | inr r ↦ well_ref c actor t sound r ]
 well_counted c actor t Reset sound can = well_ref c actor t sound can
@@ -219,7 +219,7 @@ well_counted c actor t Free sound can = well_own c actor t (Poisoned (content_co
 well_counted c actor t Write sound can = well_open c actor t sound can.0
 
 -- raw bytes lie in the region
-pub well_raw : (c : Tables) (actor : ℕ) (t : Title) → IsSound c → HoldsRaw (state_of c) actor t.start t.len → t.start % 8 ≡ 0 → t.len % 8 ≡ 0 → 16 ≤ t.len →
+pub well_raw : (c : Tables) (actor : ℕ) (t : Title) → AreSound c → HoldsRaw (state_of c) actor t.start t.len → t.start % 8 ≡ 0 → t.len % 8 ≡ 0 → 16 ≤ t.len →
     IsWellFormed (length c.words.items) t
 well_raw c actor t sound raw start len long =
     let last = in_total (state_of c) actor (RawByte (t.start + t.len - 1)) (raw (t.start + t.len - 1) (omega arith) (omega arith)) in
@@ -234,7 +234,7 @@ well_raw c actor t sound raw start len long =
     }
 
 -- a range of raw bytes that isn't empty lies in the region
-pub raw_inside : (c : Tables) (actor start len : ℕ) → IsSound c → 0 < len → HoldsRaw (state_of c) actor start len → start + len ≤ 8 * length c.words.items
+pub raw_inside : (c : Tables) (actor start len : ℕ) → AreSound c → 0 < len → HoldsRaw (state_of c) actor start len → start + len ≤ 8 * length c.words.items
 raw_inside c actor start len sound some_byte raw =
     let last = in_total (state_of c) actor (RawByte (start + len - 1)) (raw (start + len - 1) (omega arith) (omega arith)) in
     elim (cases_lt (start + len - 1) (8 * length c.words.items)) [

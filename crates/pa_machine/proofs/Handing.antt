@@ -15,7 +15,7 @@ use Rattle.pa_machine.specs.declared.tables.Tables.{Tables}
 use Rattle.pa_machine.specs.Titles.{Covers, content_count, content_place, progress, poison, IsContentOf}
 use Rattle.pa_machine.specs.Holdings.{Piece, RawPiece, FreePiece, OwnPiece, RefPiece, Thing, RawByte, FreeTitle, OwnOf, OwnAs, RefOf, IsTitleHeld, held_in, one}
 use Rattle.pa_machine.specs.Events.{State, HasActor, IsEnabled, Happens, IsAfter, HoldsOpen, total_of, Holds, of_actor, Exchanges, IsRawWord, IsFreeWord, IsOwnWord}
-use Rattle.pa_machine.specs.Tables.{Place, is_holder, raw_pieces, place_pieces, state_of, slot_at, slot_over, IsPlaced, IsSound, IsNextSlot, IsFilled, MayWrite, MayChange}
+use Rattle.pa_machine.specs.Tables.{Place, is_holder, raw_pieces, place_pieces, state_of, slot_at, slot_over, IsPlaced, AreSound, IsNextSlot, IsFilled, MayWrite, MayChange}
 use Rattle.pa_machine.proofs.Parts.{IsNoneOf}
 use Rattle.pa_machine.proofs.Cutting.{covered_raw, uncovered_raw, free_alone}
 use Rattle.pa_machine.proofs.Totals.{tally_of}
@@ -29,7 +29,7 @@ use Rattle.pa_machine.proofs.Rowing.{SlotExchanges, own_slot, hand_free_slot, ha
 use Rattle.pa_machine.proofs.Rows.{IsRow, entry_free, entry_own, entry_ref, placed_at, row_sound}
 
 -- a hand of a free title, of a clean Own and of a Ref
-pub hand_free_row : (c after : Tables) (from to : ℕ) (t : Title) (old new : Box Slot Global) → IsSound c → IsEnabled (Hand from to (FreeItem t)) (state_of c) →
+pub hand_free_row : (c after : Tables) (from to : ℕ) (t : Title) (old new : Box Slot Global) → AreSound c → IsEnabled (Hand from to (FreeItem t)) (state_of c) →
     IsSlotChange c after (t.start / 8) old new → after.words.items ≡ c.words.items → IsNextSlot old.value new.value (Some to) old.value.own old.value.refs.items →
     IsRow (Hand from to (FreeItem t)) c after
 hand_free_row c after from to t old new sound can ch words n =
@@ -43,7 +43,7 @@ hand_free_row c after from to t old new sound can ch words n =
           (rw n.is_free (actor_is c to can.1)) (rw n.is_own placed.3) h;
     }
 
-pub hand_own_row : (c after : Tables) (from to : ℕ) (t : Title) (old new : Box Slot Global) → IsSound c → IsEnabled (Hand from to (OwnItem t)) (state_of c) →
+pub hand_own_row : (c after : Tables) (from to : ℕ) (t : Title) (old new : Box Slot Global) → AreSound c → IsEnabled (Hand from to (OwnItem t)) (state_of c) →
     IsSlotChange c after (t.start / 8) old new → after.words.items ≡ c.words.items →
     IsNextSlot old.value new.value old.value.free (Some (record { actor = to; state = Clean })) old.value.refs.items → IsRow (Hand from to (OwnItem t)) c after
 hand_own_row c after from to t old new sound can ch words n =
@@ -57,7 +57,7 @@ hand_own_row c after from to t old new sound can ch words n =
           (rw n.is_free placed.2) (rw n.is_own (actor_is c to can.1)) h;
     }
 
-pub hand_ref_row : (c after : Tables) (from to : ℕ) (t : Title) (old new : Box Slot Global) → IsSound c → IsEnabled (Hand from to (RefItem t)) (state_of c) →
+pub hand_ref_row : (c after : Tables) (from to : ℕ) (t : Title) (old new : Box Slot Global) → AreSound c → IsEnabled (Hand from to (RefItem t)) (state_of c) →
     IsSlotChange c after (t.start / 8) old new → after.words.items ≡ c.words.items → (k : ℕ) → k < length old.value.refs.items → get_or old.value.refs.items k 0 ≡ from →
     IsNextSlot old.value new.value old.value.free old.value.own (set old.value.refs.items k to) → IsRow (Hand from to (RefItem t)) c after
 hand_ref_row c after from to t old new sound can ch words k below is n =
@@ -72,7 +72,7 @@ hand_ref_row c after from to t old new sound can ch words k below is n =
     }
 
 -- the next word of an Own is poisoned
-pub poison_row : (c after : Tables) (k : ℕ) (t : Title) (state : OwnState) (old new : Box Slot Global) → IsSound c → IsEnabled (Poison k t) (state_of c) →
+pub poison_row : (c after : Tables) (k : ℕ) (t : Title) (state : OwnState) (old new : Box Slot Global) → AreSound c → IsEnabled (Poison k t) (state_of c) →
     Holds (state_of c) k (OwnAs t state) → IsSlotChange c after (t.start / 8) old new →
     after.words.items ≡ set c.words.items (content_place t (progress state)) poison →
     IsNextSlot old.value new.value old.value.free (Some (record { actor = k; state = Poisoned (progress state + 1) })) old.value.refs.items → IsRow (Poison k t) c after
@@ -90,7 +90,7 @@ poison_row c after k t state old new sound can has ch words n =
     }
 
 -- a raw byte lies in no title that somebody holds
-pub raw_unheld : (c : Tables) (k at_byte : ℕ) (t : Title) → IsSound c → Holds (state_of c) k (RawByte at_byte) → IsTitleHeld (total_of (state_of c)) t → Covers t at_byte → ⊥
+pub raw_unheld : (c : Tables) (k at_byte : ℕ) (t : Title) → AreSound c → Holds (state_of c) k (RawByte at_byte) → IsTitleHeld (total_of (state_of c)) t → Covers t at_byte → ⊥
 raw_unheld c k at_byte t sound raw held covers =
     let r = in_total (state_of c) k (RawByte at_byte) raw in
     elim (cases_lt at_byte (8 * length c.words.items)) [
@@ -99,7 +99,7 @@ raw_unheld c k at_byte t sound raw held covers =
     ]
 
 -- what a store to an Own asks, told from what the table of homes finds there
-opens : (c : Tables) (k at_byte : ℕ) (t : Title) (s : OwnState) → IsSound c → MayChange (state_of c) k t → Holds (state_of c) k (OwnAs t s) → IsContentOf t at_byte → IsOwnWord (state_of c) k at_byte t s
+opens : (c : Tables) (k at_byte : ℕ) (t : Title) (s : OwnState) → AreSound c → MayChange (state_of c) k t → Holds (state_of c) k (OwnAs t s) → IsContentOf t at_byte → IsOwnWord (state_of c) k at_byte t s
 opens c k at_byte t s sound (inl free) holds within =
     let alone = free_alone c.words.items (total_of (state_of c)) t sound.good (in_total (state_of c) k (FreeTitle t) free) in
     let none = alone.2 in
@@ -109,7 +109,7 @@ opens c k at_byte t s sound (inr own) holds within =
     let same = own_state_is (state_of c) k k t own.0.0 s sound.good own.0.1.1 holds in
     (subst (λ (q : OwnState). HoldsOpen (state_of c) k t q) same own.0.1, within, own.1)
 
-own_word : (c : Tables) (k at_byte : ℕ) (o : Slot) (s : OwnState) → IsSound c → HasActor (state_of c) k → slot_over c.homes.items c.slots.items at_byte ≡ Some o →
+own_word : (c : Tables) (k at_byte : ℕ) (o : Slot) (s : OwnState) → AreSound c → HasActor (state_of c) k → slot_over c.homes.items c.slots.items at_byte ≡ Some o →
     IsRawWord (state_of c) k at_byte ⊎ MayWrite (state_of c) k at_byte → Holds (state_of c) k (OwnAs o.title s) → Covers o.title at_byte → IsOwnWord (state_of c) k at_byte o.title s
 own_word c k at_byte o s sound has over (inl raw) holds covers =
     absurd (raw_unheld c k at_byte o.title sound (raw at_byte (omega arith) (omega arith)) (held_own c k o.title s holds) covers)
@@ -119,7 +119,7 @@ own_word c k at_byte o s sound has over (inr may) holds covers =
     opens c k at_byte o.title s sound (subst (λ (q : Slot). MayChange (state_of c) k q.title) same r.3) holds (subst (λ (q : Slot). IsContentOf q.title at_byte) same r.2)
 
 -- a store to the content of an Own that the table of homes finds there
-pub store_own_row : (c after : Tables) (k at_byte value : ℕ) (o : Slot) (s : OwnState) (old new : Box Slot Global) → IsSound c → IsEnabled (Store k at_byte value) (state_of c) →
+pub store_own_row : (c after : Tables) (k at_byte value : ℕ) (o : Slot) (s : OwnState) (old new : Box Slot Global) → AreSound c → IsEnabled (Store k at_byte value) (state_of c) →
     slot_over c.homes.items c.slots.items at_byte ≡ Some o → o.own ≡ Some (record { actor = k; state = s }) →
     IsSlotChange c after (o.title.start / 8) old new → after.words.items ≡ set c.words.items (at_byte / 8) value →
     IsNextSlot old.value new.value old.value.free (Some (record { actor = k; state = Dirty })) old.value.refs.items → IsRow (Store k at_byte value) c after
@@ -140,9 +140,9 @@ store_own_row c after k at_byte value o s old new sound can over own ch words n 
     }
 
 -- tables in which entries and homes stay
-plain_sound : (e : Event) (c after : Tables) → IsSound c → IsEnabled e (state_of c) → ((u : Title) → IsCutOf e u → ⊥) → length after.words.items ≡ length c.words.items →
+plain_sound : (e : Event) (c after : Tables) → AreSound c → IsEnabled e (state_of c) → ((u : Title) → IsCutOf e u → ⊥) → length after.words.items ≡ length c.words.items →
     length after.holders.items ≡ length c.holders.items → after.slots.items ≡ c.slots.items → after.homes.items ≡ c.homes.items → after.actors ≡ c.actors →
-    Happens e (state_of c) (state_of after) → IsSound after
+    Happens e (state_of c) (state_of after) → AreSound after
 plain_sound e c after sound can uncut words holders slots homes actors h =
     sound_next c after sound words holders (ap length slots) homes (λ i. rw (words, actors, slots) (sound.placed i))
     (λ t held. elim (held_back e (state_of c) (state_of after) can h t held) [ inl was ↦ was | inr cut ↦ absurd (uncut t cut) ])
@@ -152,7 +152,7 @@ plain_sound e c after sound can uncut words holders slots homes actors h =
 nothing_exchanged : (holdings : List (List Piece)) (k : ℕ) → Exchanges holdings (of_actor k []) (of_actor k []) holdings
 nothing_exchanged holdings k = (refl, λ actor x below. refl)
 
-plain_word : (c : Tables) (k at_byte : ℕ) → IsSound c → HasActor (state_of c) k →
+plain_word : (c : Tables) (k at_byte : ℕ) → AreSound c → HasActor (state_of c) k →
     ((o : Slot) (s : OwnState) → slot_over c.homes.items c.slots.items at_byte ≡ Some o → o.own ≡ Some (record { actor = k; state = s }) → ⊥) →
     IsRawWord (state_of c) k at_byte ⊎ (IsFreeWord (state_of c) k at_byte ⊎ ((t : Title) × (state : OwnState) × IsOwnWord (state_of c) k at_byte t state)) →
     IsRawWord (state_of c) k at_byte ⊎ IsFreeWord (state_of c) k at_byte
@@ -164,7 +164,7 @@ plain_word c k at_byte sound has none (inr (inr own)) =
     let low = word.1.0 in let high = word.1.1 in
     absurd (none r.0 own.1 (entry_over c own.0 r.0 at_byte sound (held_own c k own.0 own.1 word.0.1) r.1 (omega arith, omega arith)) r.3)
 
-pub store_plain_row : (c after : Tables) (k at_byte value : ℕ) → IsSound c → IsEnabled (Store k at_byte value) (state_of c) →
+pub store_plain_row : (c after : Tables) (k at_byte value : ℕ) → AreSound c → IsEnabled (Store k at_byte value) (state_of c) →
     ((o : Slot) (s : OwnState) → slot_over c.homes.items c.slots.items at_byte ≡ Some o → o.own ≡ Some (record { actor = k; state = s }) → ⊥) →
     after.words.items ≡ set c.words.items (at_byte / 8) value → after.holders.items ≡ c.holders.items → after.slots.items ≡ c.slots.items →
     after.homes.items ≡ c.homes.items → after.actors ≡ c.actors → IsRow (Store k at_byte value) c after
@@ -243,7 +243,7 @@ raw_things c after from to start len can filled actor (RefOf t) has =
     let a = (raw_titles actor 0 after.holders.items t).ref in let b = (raw_titles actor 0 c.holders.items t).ref in
     let l = none_of actor from (RawPiece start len ∷ []) (RefOf t) refl in let g = none_of actor to (RawPiece start len ∷ []) (RefOf t) refl in omega arith
 
-pub hand_raw_row : (c after : Tables) (from to start len : ℕ) → IsSound c → IsEnabled (Hand from to (RawItem start len)) (state_of c) →
+pub hand_raw_row : (c after : Tables) (from to start len : ℕ) → AreSound c → IsEnabled (Hand from to (RawItem start len)) (state_of c) →
     after.words.items ≡ c.words.items → after.slots.items ≡ c.slots.items → after.homes.items ≡ c.homes.items → after.actors ≡ c.actors →
     IsFilled None c.holders.items start (start + len) (Some to) after.holders.items → IsRow (Hand from to (RawItem start len)) c after
 hand_raw_row c after from to start len sound can words slots homes actors filled =
@@ -253,7 +253,7 @@ hand_raw_row c after from to start len sound can words slots homes actors filled
     record { happens = h; sound = plain_sound (Hand from to (RawItem start len)) c after sound can (λ u cut. cut) (ap length words) filled.len slots homes actors h }
 
 -- a word that may be stored to lies in the region
-pub store_inside : (c : Tables) (k at_byte value : ℕ) → IsSound c → IsEnabled (Store k at_byte value) (state_of c) → at_byte / 8 < length c.words.items
+pub store_inside : (c : Tables) (k at_byte value : ℕ) → AreSound c → IsEnabled (Store k at_byte value) (state_of c) → at_byte / 8 < length c.words.items
 store_inside c k at_byte value sound can = inside can.2
   where
     inside : IsRawWord (state_of c) k at_byte ⊎ MayWrite (state_of c) k at_byte → at_byte / 8 < length c.words.items

@@ -12,7 +12,7 @@ use Rattle.pa_machine.specs.declared.tables.Tables.{Tables}
 use Rattle.pa_machine.specs.Titles.{same_title, same_state}
 use Rattle.pa_machine.specs.Holdings.{Piece, RawPiece, FreePiece, OwnPiece, RefPiece, Thing, RawByte, FreeTitle, OwnOf, OwnAs, RefOf, one, amount, held_in}
 use Rattle.pa_machine.specs.Events.{State, of_actor, held_by, HasActor, Holds, HoldsRaw}
-use Rattle.pa_machine.specs.Tables.{Place, is_holder, raw_pieces, free_pieces, own_pieces, ref_pieces, slot_pieces, place_pieces, holdings_of, state_of, kept_as, slot_at, IsPlaced, IsSound}
+use Rattle.pa_machine.specs.Tables.{Place, is_holder, raw_pieces, free_pieces, own_pieces, ref_pieces, slot_pieces, place_pieces, holdings_of, state_of, kept_as, slot_at, IsPlaced, AreSound}
 use Rattle.pa_machine.proofs.Same.{title_tells, title_self, state_tells, state_self}
 use Rattle.pa_machine.proofs.Parts.{IsNoneOf}
 use Rattle.pa_machine.proofs.Amounts.{free_self, own_self, ref_self, state_here, state_apart}
@@ -97,7 +97,7 @@ refs_here actor t rs (k, below, is) =
     omega arith
 
 -- what an actor of the core holds of a title is what the title's entry has for it, if there is one
-pub reads : (c : Tables) (actor : ℕ) (t : Title) (x : Thing) → IsSound c → actor < c.actors → ((ps : List Piece) → IsNoneOf ps t → held_in ps x ≡ 0) →
+pub reads : (c : Tables) (actor : ℕ) (t : Title) (x : Thing) → AreSound c → actor < c.actors → ((ps : List Piece) → IsNoneOf ps t → held_in ps x ≡ 0) →
     ((o : Slot) × (slot_at c.slots.items t ≡ Some o) × (o.title ≡ t) × (held_by (state_of c) actor x ≡ held_in (slot_pieces actor o) x))
     ⊎ ((slot_at c.slots.items t ≡ None) × (held_by (state_of c) actor x ≡ 0))
 reads c actor t x sound has about =
@@ -110,7 +110,7 @@ reads c actor t x sound has about =
     ]
 
 -- it holds the title free
-pub reads_free : (c : Tables) (actor : ℕ) (t : Title) → IsSound c → actor < c.actors → Holds (state_of c) actor (FreeTitle t) →
+pub reads_free : (c : Tables) (actor : ℕ) (t : Title) → AreSound c → actor < c.actors → Holds (state_of c) actor (FreeTitle t) →
     (o : Slot) × (slot_at c.slots.items t ≡ Some o) × (o.title ≡ t) × (o.free ≡ Some actor)
 reads_free c actor t sound has holds = elim (reads c actor t (FreeTitle t) sound has (λ ps n. n.free)) [
   | inl y ↦
@@ -123,7 +123,7 @@ reads_free c actor t sound has holds = elim (reads c actor t (FreeTitle t) sound
   | inr n ↦ let e = n.1 in absurd (omega arith)
 ]
 
-pub free_read : (c : Tables) (actor : ℕ) (t : Title) (o : Slot) → IsSound c → actor < c.actors → slot_at c.slots.items t ≡ Some o →
+pub free_read : (c : Tables) (actor : ℕ) (t : Title) (o : Slot) → AreSound c → actor < c.actors → slot_at c.slots.items t ≡ Some o →
     o.free ≡ Some actor → Holds (state_of c) actor (FreeTitle t)
 free_read c actor t o sound has is free = elim (reads c actor t (FreeTitle t) sound has (λ ps n. n.free)) [
   | inl y ↦
@@ -138,7 +138,7 @@ free_read c actor t o sound has is free = elim (reads c actor t (FreeTitle t) so
 ]
 
 -- it has the title's Own in this state
-pub reads_own : (c : Tables) (actor : ℕ) (t : Title) (s : OwnState) → IsSound c → actor < c.actors → Holds (state_of c) actor (OwnAs t s) →
+pub reads_own : (c : Tables) (actor : ℕ) (t : Title) (s : OwnState) → AreSound c → actor < c.actors → Holds (state_of c) actor (OwnAs t s) →
     (o : Slot) × (slot_at c.slots.items t ≡ Some o) × (o.title ≡ t) × (o.own ≡ Some (record { actor = actor; state = s }))
 reads_own c actor t s sound has holds = elim (reads c actor t (OwnAs t s) sound has (λ ps n. n.state s)) [
   | inl y ↦
@@ -151,7 +151,7 @@ reads_own c actor t s sound has holds = elim (reads c actor t (OwnAs t s) sound 
   | inr n ↦ let e = n.1 in absurd (omega arith)
 ]
 
-pub own_read : (c : Tables) (actor : ℕ) (t : Title) (s : OwnState) (o : Slot) → IsSound c → actor < c.actors → slot_at c.slots.items t ≡ Some o →
+pub own_read : (c : Tables) (actor : ℕ) (t : Title) (s : OwnState) (o : Slot) → AreSound c → actor < c.actors → slot_at c.slots.items t ≡ Some o →
     o.own ≡ Some (record { actor = actor; state = s }) → Holds (state_of c) actor (OwnAs t s)
 own_read c actor t s o sound has is own = elim (reads c actor t (OwnAs t s) sound has (λ ps n. n.state s)) [
   | inl y ↦
@@ -166,7 +166,7 @@ own_read c actor t s o sound has is own = elim (reads c actor t (OwnAs t s) soun
 ]
 
 -- it has a Ref of the title
-pub reads_ref : (c : Tables) (actor : ℕ) (t : Title) → IsSound c → actor < c.actors → Holds (state_of c) actor (RefOf t) →
+pub reads_ref : (c : Tables) (actor : ℕ) (t : Title) → AreSound c → actor < c.actors → Holds (state_of c) actor (RefOf t) →
     (o : Slot) × (slot_at c.slots.items t ≡ Some o) × (o.title ≡ t) × Contains o.refs.items actor
 reads_ref c actor t sound has holds = elim (reads c actor t (RefOf t) sound has (λ ps n. n.ref)) [
   | inl y ↦
@@ -179,7 +179,7 @@ reads_ref c actor t sound has holds = elim (reads c actor t (RefOf t) sound has 
   | inr n ↦ let e = n.1 in absurd (omega arith)
 ]
 
-pub ref_read : (c : Tables) (actor : ℕ) (t : Title) (o : Slot) → IsSound c → actor < c.actors → slot_at c.slots.items t ≡ Some o →
+pub ref_read : (c : Tables) (actor : ℕ) (t : Title) (o : Slot) → AreSound c → actor < c.actors → slot_at c.slots.items t ≡ Some o →
     Contains o.refs.items actor → Holds (state_of c) actor (RefOf t)
 ref_read c actor t o sound has is refs = elim (reads c actor t (RefOf t) sound has (λ ps n. n.ref)) [
   | inl y ↦
@@ -228,7 +228,7 @@ raw_read c actor b has is =
     omega arith
 
 -- the same both ways, for an entry that is there, and for one that isn't
-pub free_same : (c : Tables) (actor : ℕ) (t : Title) (o : Slot) → IsSound c → actor < c.actors → slot_at c.slots.items t ≡ Some o →
+pub free_same : (c : Tables) (actor : ℕ) (t : Title) (o : Slot) → AreSound c → actor < c.actors → slot_at c.slots.items t ≡ Some o →
     (o.free ≡ Some actor) ↔ Holds (state_of c) actor (FreeTitle t)
 free_same c actor t o sound has is = (
   free_read c actor t o sound has is,
@@ -238,7 +238,7 @@ free_same c actor t o sound has is = (
       ap (λ (q : Slot). q.free) (sym same) ∙ r.3,
 )
 
-pub own_same : (c : Tables) (actor : ℕ) (t : Title) (s : OwnState) (o : Slot) → IsSound c → actor < c.actors → slot_at c.slots.items t ≡ Some o →
+pub own_same : (c : Tables) (actor : ℕ) (t : Title) (s : OwnState) (o : Slot) → AreSound c → actor < c.actors → slot_at c.slots.items t ≡ Some o →
     (o.own ≡ Some (record { actor = actor; state = s })) ↔ Holds (state_of c) actor (OwnAs t s)
 own_same c actor t s o sound has is = (
   own_read c actor t s o sound has is,
@@ -248,7 +248,7 @@ own_same c actor t s o sound has is = (
       ap (λ (q : Slot). q.own) (sym same) ∙ r.3,
 )
 
-pub ref_same : (c : Tables) (actor : ℕ) (t : Title) (o : Slot) → IsSound c → actor < c.actors → slot_at c.slots.items t ≡ Some o →
+pub ref_same : (c : Tables) (actor : ℕ) (t : Title) (o : Slot) → AreSound c → actor < c.actors → slot_at c.slots.items t ≡ Some o →
     Contains o.refs.items actor ↔ Holds (state_of c) actor (RefOf t)
 ref_same c actor t o sound has is = (
   ref_read c actor t o sound has is,
@@ -258,13 +258,13 @@ ref_same c actor t o sound has is = (
       subst (λ (q : Slot). Contains q.refs.items actor) same r.3,
 )
 
-pub none_free : (c : Tables) (actor : ℕ) (t : Title) → IsSound c → actor < c.actors → slot_at c.slots.items t ≡ None → Holds (state_of c) actor (FreeTitle t) → ⊥
+pub none_free : (c : Tables) (actor : ℕ) (t : Title) → AreSound c → actor < c.actors → slot_at c.slots.items t ≡ None → Holds (state_of c) actor (FreeTitle t) → ⊥
 none_free c actor t sound has is holds = let r = reads_free c actor t sound has holds in let e = r.1 in cc
 
-pub none_own : (c : Tables) (actor : ℕ) (t : Title) (s : OwnState) → IsSound c → actor < c.actors → slot_at c.slots.items t ≡ None → Holds (state_of c) actor (OwnAs t s) → ⊥
+pub none_own : (c : Tables) (actor : ℕ) (t : Title) (s : OwnState) → AreSound c → actor < c.actors → slot_at c.slots.items t ≡ None → Holds (state_of c) actor (OwnAs t s) → ⊥
 none_own c actor t s sound has is holds = let r = reads_own c actor t s sound has holds in let e = r.1 in cc
 
-pub none_ref : (c : Tables) (actor : ℕ) (t : Title) → IsSound c → actor < c.actors → slot_at c.slots.items t ≡ None → Holds (state_of c) actor (RefOf t) → ⊥
+pub none_ref : (c : Tables) (actor : ℕ) (t : Title) → AreSound c → actor < c.actors → slot_at c.slots.items t ≡ None → Holds (state_of c) actor (RefOf t) → ⊥
 none_ref c actor t sound has is holds = let r = reads_ref c actor t sound has holds in let e = r.1 in cc
 
 -- a whole range, byte by byte

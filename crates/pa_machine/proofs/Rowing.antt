@@ -22,7 +22,7 @@ use Rattle.pa_machine.specs.Titles.{IsWellFormed}
 use Rattle.pa_machine.specs.Holdings.{Piece, RawPiece, FreePiece, OwnPiece, RefPiece, Thing, RawByte, FreeTitle, OwnOf, OwnAs, RefOf, IsTitleHeld, one, amount, held_in}
 use Rattle.pa_machine.specs.Events.{State, Exchanges, of_actor, held_by, total_of, HasActor, Holds}
 use Rattle.pa_machine.specs.Trail.{IsGoodState}
-use Rattle.pa_machine.specs.Tables.{Place, is_holder, raw_pieces, free_pieces, own_pieces, ref_pieces, slot_pieces, place_pieces, pieces_of, holdings_of, state_of, kept_as, slot_at, IsHolderWithin, IsOwnerWithin, IsPlaced, IsSound, IsNextSlot, IsSameSlot}
+use Rattle.pa_machine.specs.Tables.{Place, is_holder, raw_pieces, free_pieces, own_pieces, ref_pieces, slot_pieces, place_pieces, pieces_of, holdings_of, state_of, kept_as, slot_at, IsHolderWithin, IsOwnerWithin, IsPlaced, AreSound, IsNextSlot, IsSameSlot}
 use Rattle.pa_machine.proofs.Parts.{IsNoneOf}
 use Rattle.pa_machine.proofs.Tabled.{held_join, held_tables, raw_titles, raw_amount, place_raw, ref_sum}
 use Rattle.pa_machine.proofs.Reading.{slot_parts}
@@ -221,7 +221,7 @@ slot_exchanges c after p old new from to lost gained ch e =
     (λ actor x below. rw ch.was (e actor x)))
 
 -- each entry stays in its place
-pub placed_next : (c after : Tables) (p : ℕ) (old new : Box Slot Global) → IsSound c → IsSlotChange c after p old new → length after.words.items ≡ length c.words.items →
+pub placed_next : (c after : Tables) (p : ℕ) (old new : Box Slot Global) → AreSound c → IsSlotChange c after p old new → length after.words.items ≡ length c.words.items →
     new.value.title ≡ old.value.title → IsHolderWithin c.actors new.value.free → IsOwnerWithin c.actors new.value.own →
     (i : ℕ) → IsPlaced (length after.words.items) after.actors i (get_or after.slots.items i None)
 placed_next c after p old new sound ch words title free own i = rw (words, ch.actors, ch.slots) (elim (cases_eq i p) [
@@ -235,10 +235,10 @@ placed_next c after p old new sound ch words title free own i = rw (words, ch.ac
 ])
 
 -- the tables stay sound where the state stays good, entries stay in place, and a title that is held was held before
-pub sound_next : (c after : Tables) → IsSound c → length after.words.items ≡ length c.words.items → length after.holders.items ≡ length c.holders.items →
+pub sound_next : (c after : Tables) → AreSound c → length after.words.items ≡ length c.words.items → length after.holders.items ≡ length c.holders.items →
     length after.slots.items ≡ length c.slots.items → after.homes.items ≡ c.homes.items →
     ((i : ℕ) → IsPlaced (length after.words.items) after.actors i (get_or after.slots.items i None)) →
-    ((t : Title) → IsTitleHeld (total_of (state_of after)) t → IsTitleHeld (total_of (state_of c)) t) → IsGoodState (state_of after) → IsSound after
+    ((t : Title) → IsTitleHeld (total_of (state_of after)) t → IsTitleHeld (total_of (state_of c)) t) → IsGoodState (state_of after) → AreSound after
 sound_next c after sound words holders slots homes placed back good =
     let a = sound.holders in let b = sound.slots in let d = sound.homes in
     record {

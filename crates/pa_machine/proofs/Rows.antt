@@ -22,7 +22,7 @@ use Rattle.pa_machine.specs.Titles.{count_place, count_word, content_count}
 use Rattle.pa_machine.specs.Holdings.{Piece, FreePiece, OwnPiece, RefPiece, Thing, FreeTitle, OwnOf, OwnAs, RefOf, IsTitleHeld}
 use Rattle.pa_machine.specs.Events.{State, IsEnabled, Happens, IsAfter, HoldsOpen, total_of, Holds, words_stepped, returned_at}
 use Rattle.pa_machine.specs.Trail.{IsGoodState}
-use Rattle.pa_machine.specs.Tables.{Place, raw_pieces, place_pieces, slot_pieces, pieces_of, holdings_of, state_of, kept_as, slot_at, IsHolderWithin, IsOwnerWithin, IsPlaced, IsSound, IsNextSlot, IsSameSlot, IsSlotStepped, IsChangedAt, IsEntryAt}
+use Rattle.pa_machine.specs.Tables.{Place, raw_pieces, place_pieces, slot_pieces, pieces_of, holdings_of, state_of, kept_as, slot_at, IsHolderWithin, IsOwnerWithin, IsPlaced, AreSound, IsNextSlot, IsSameSlot, IsSlotStepped, IsChangedAt, IsEntryAt}
 use Rattle.pa_machine.proofs.Same.{title_tells}
 use Rattle.pa_machine.proofs.Totals.{tally_of}
 use Rattle.pa_machine.proofs.Keeps.{own_of_state}
@@ -45,21 +45,21 @@ entry_is : (c : Tables) (t : Title) (b : Box Slot Global) (o : Slot) → get_or 
 entry_is c t b o was is = kept_value t b o (subst (λ (q : Place). kept_as t q ≡ Some o) was is)
 
 -- what the entry says, where its title is held free, owned or pointed to
-pub entry_free : (c : Tables) (k : ℕ) (t : Title) (b : Box Slot Global) → IsSound c → k < c.actors → Holds (state_of c) k (FreeTitle t) →
+pub entry_free : (c : Tables) (k : ℕ) (t : Title) (b : Box Slot Global) → AreSound c → k < c.actors → Holds (state_of c) k (FreeTitle t) →
     get_or c.slots.items (t.start / 8) None ≡ Some b → (b.value.title ≡ t) × (b.value.free ≡ Some k) × (slot_at c.slots.items t ≡ Some b.value)
 entry_free c k t b sound has h was =
     let r = reads_free c k t sound has h in
     let e = entry_is c t b r.0 was r.1 in
     subst (λ (o : Slot). (o.title ≡ t) × (o.free ≡ Some k) × (slot_at c.slots.items t ≡ Some o)) (sym e) (r.2, r.3, r.1)
 
-pub entry_own : (c : Tables) (k : ℕ) (t : Title) (s : OwnState) (b : Box Slot Global) → IsSound c → k < c.actors → Holds (state_of c) k (OwnAs t s) →
+pub entry_own : (c : Tables) (k : ℕ) (t : Title) (s : OwnState) (b : Box Slot Global) → AreSound c → k < c.actors → Holds (state_of c) k (OwnAs t s) →
     get_or c.slots.items (t.start / 8) None ≡ Some b → (b.value.title ≡ t) × (b.value.own ≡ Some (record { actor = k; state = s })) × (slot_at c.slots.items t ≡ Some b.value)
 entry_own c k t s b sound has h was =
     let r = reads_own c k t s sound has h in
     let e = entry_is c t b r.0 was r.1 in
     subst (λ (o : Slot). (o.title ≡ t) × (o.own ≡ Some (record { actor = k; state = s })) × (slot_at c.slots.items t ≡ Some o)) (sym e) (r.2, r.3, r.1)
 
-pub entry_ref : (c : Tables) (k : ℕ) (t : Title) (b : Box Slot Global) → IsSound c → k < c.actors → Holds (state_of c) k (RefOf t) →
+pub entry_ref : (c : Tables) (k : ℕ) (t : Title) (b : Box Slot Global) → AreSound c → k < c.actors → Holds (state_of c) k (RefOf t) →
     get_or c.slots.items (t.start / 8) None ≡ Some b → (b.value.title ≡ t) × Contains b.value.refs.items k × (slot_at c.slots.items t ≡ Some b.value)
 entry_ref c k t b sound has h was =
     let r = reads_ref c k t sound has h in
@@ -67,10 +67,10 @@ entry_ref c k t b sound has h was =
     (ap (λ (o : Slot). o.title) e ∙ r.2, subst (λ (o : Slot). Contains o.refs.items k) (sym e) r.3, r.1 ∙ ap Some (sym e))
 
 -- an entry in its place says nothing that the state doesn't
-pub placed_at : (c : Tables) (t : Title) (b : Box Slot Global) → IsSound c → get_or c.slots.items (t.start / 8) None ≡ Some b → IsPlaced (length c.words.items) c.actors (t.start / 8) (Some b)
+pub placed_at : (c : Tables) (t : Title) (b : Box Slot Global) → AreSound c → get_or c.slots.items (t.start / 8) None ≡ Some b → IsPlaced (length c.words.items) c.actors (t.start / 8) (Some b)
 placed_at c t b sound was = subst (λ (q : Place). IsPlaced (length c.words.items) c.actors (t.start / 8) q) was (sound.placed (t.start / 8))
 
-no_holder : (c : Tables) (t : Title) (b : Box Slot Global) → IsSound c → slot_at c.slots.items t ≡ Some b.value → total_of (state_of c) (FreeTitle t) ≡ 0 →
+no_holder : (c : Tables) (t : Title) (b : Box Slot Global) → AreSound c → slot_at c.slots.items t ≡ Some b.value → total_of (state_of c) (FreeTitle t) ≡ 0 →
     (h : Option ℕ) → b.value.free ≡ h → IsHolderWithin c.actors h → b.value.free ≡ None
 no_holder c t b sound is none None e within = e
 no_holder c t b sound is none (Some w) e within =
@@ -78,7 +78,7 @@ no_holder c t b sound is none (Some w) e within =
     let p = in_total (state_of c) w (FreeTitle t) holds in
     absurd (omega arith)
 
-pub no_owner : (c : Tables) (t : Title) (b : Box Slot Global) → IsSound c → slot_at c.slots.items t ≡ Some b.value → total_of (state_of c) (OwnOf t) ≡ 0 →
+pub no_owner : (c : Tables) (t : Title) (b : Box Slot Global) → AreSound c → slot_at c.slots.items t ≡ Some b.value → total_of (state_of c) (OwnOf t) ≡ 0 →
     (h : Option Owner) → b.value.own ≡ h → IsOwnerWithin c.actors h → b.value.own ≡ None
 no_owner c t b sound is none None e within = e
 no_owner c t b sound is none (Some w) e within =
@@ -91,9 +91,9 @@ holder_within n k true h has within = has
 holder_within n k false h has within = within
 
 -- an event that changes an entry, and a word, leaves the tables sound
-pub row_sound : (e : Event) (c after : Tables) (p : ℕ) (old new : Box Slot Global) → IsSound c → IsEnabled e (state_of c) → ((u : Title) → IsCutOf e u → ⊥) →
+pub row_sound : (e : Event) (c after : Tables) (p : ℕ) (old new : Box Slot Global) → AreSound c → IsEnabled e (state_of c) → ((u : Title) → IsCutOf e u → ⊥) →
     IsSlotChange c after p old new → length after.words.items ≡ length c.words.items → new.value.title ≡ old.value.title →
-    IsHolderWithin c.actors new.value.free → IsOwnerWithin c.actors new.value.own → Happens e (state_of c) (state_of after) → IsSound after
+    IsHolderWithin c.actors new.value.free → IsOwnerWithin c.actors new.value.own → Happens e (state_of c) (state_of after) → AreSound after
 row_sound e c after p old new sound can uncut ch words title free own h =
     sound_next c after sound words (ap length ch.holders) (ap length ch.slots ∙ length-set c.slots.items p (Some new)) ch.homes
     (placed_next c after p old new sound ch words title free own)
@@ -107,9 +107,9 @@ back_after v = eqb (held_of v) 0 && eqb (refs_of v) 0
 -- one row on a title: what its entry says before and after, the two changes, and what follows
 pub record IsRow (e : Event) (c after : Tables) : Type 0 where
   pub happens : Happens e (state_of c) (state_of after)
-  pub sound : IsSound after
+  pub sound : AreSound after
 
-pub count_row : (c after : Tables) (k : ℕ) (t : Title) (p : Step) (back : Bool) (old new : Box Slot Global) → IsSound c → IsEnabled (Count k t p) (state_of c) →
+pub count_row : (c after : Tables) (k : ℕ) (t : Title) (p : Step) (back : Bool) (old new : Box Slot Global) → AreSound c → IsEnabled (Count k t p) (state_of c) →
     IsSlotChange c after (t.start / 8) old new → after.words.items ≡ words_stepped p (state_of c) t →
     back ≡ back_after (stepped p (count_word c.words.items t)) → IsSlotStepped p k back old.value new.value → IsRow (Count k t p) c after
 count_row c after k t Issue back old new sound can ch words b n =
@@ -206,8 +206,8 @@ flat_same f (x ∷ xs) (suc p) y e = ap (λ q. f x ++ q) (flat_same f xs p y e)
 same_pieces : (actor : ℕ) (old new : Slot) → IsSameSlot old new → slot_pieces actor new ≡ slot_pieces actor old
 same_pieces actor old new n = rw (n.title, n.is_free, n.is_own, n.is_refs) refl
 
-pub same_row : (c after : Tables) (p : ℕ) (old new : Box Slot Global) → IsSound c → IsSlotChange c after p old new → after.words.items ≡ c.words.items →
-    IsSameSlot old.value new.value → (state_of after ≡ state_of c) × IsSound after
+pub same_row : (c after : Tables) (p : ℕ) (old new : Box Slot Global) → AreSound c → IsSlotChange c after p old new → after.words.items ≡ c.words.items →
+    IsSameSlot old.value new.value → (state_of after ≡ state_of c) × AreSound after
 same_row c after p old new sound ch words n =
     let pieces : (actor : ℕ) → pieces_of c.holders.items (set c.slots.items p (Some new)) actor ≡ pieces_of c.holders.items c.slots.items actor = λ actor.
     ap (λ q. raw_pieces actor 0 c.holders.items ++ q) (flat_same (place_pieces actor) c.slots.items p (Some new) (rw ch.was (same_pieces actor old.value new.value n))) in
@@ -235,7 +235,7 @@ pub entry_there : (c : Tables) (t : Title) (o : Slot) (P : Slot → Type 0) → 
 entry_there c t o P is h = kept_there t (get_or c.slots.items (t.start / 8) None) o P is h
 
 -- the entry that a step finds
-pub count_entry : (c : Tables) (k : ℕ) (t : Title) (p : Step) → IsSound c → IsEnabled (Count k t p) (state_of c) →
+pub count_entry : (c : Tables) (k : ℕ) (t : Title) (p : Step) → AreSound c → IsEnabled (Count k t p) (state_of c) →
     IsEntryAt (λ o. p ≡ Reset → Contains o.refs.items k) c.slots.items (t.start / 8)
 count_entry c k t Issue sound can = entry_there c t (reads_free c k t sound (actor_is c k can.0) can.1.0).0 _ (reads_free c k t sound (actor_is c k can.0) can.1.0).1 (λ e. cc)
 count_entry c k t Copy sound can = elim can.1 [

@@ -13,7 +13,7 @@ use Rattle.pa_machine.specs.Holdings.{Piece, RawPiece, Thing, RawByte, FreeTitle
 use Rattle.pa_machine.specs.Good.{IsByteGood, IsDivided, IsGood}
 use Rattle.pa_machine.specs.Events.{State, IsStart, held_by, total_of, of_actor}
 use Rattle.pa_machine.specs.Trail.{KeepsContent}
-use Rattle.pa_machine.specs.Tables.{Place, is_holder, raw_pieces, place_pieces, pieces_of, state_of, IsPlaced, IsSound, IsStartTables}
+use Rattle.pa_machine.specs.Tables.{Place, is_holder, raw_pieces, place_pieces, pieces_of, state_of, IsPlaced, AreSound, IsStartTables}
 use Rattle.pa_machine.proofs.Sums.{spread, spread-one}
 use Rattle.pa_machine.proofs.Totals.{of_actor_here, of_actor_apart, get_or_past}
 use Rattle.pa_machine.proofs.Cutting.{covered_raw, uncovered_raw}
@@ -107,7 +107,7 @@ start_good c bytes actors st whole some_actor = record {
   content_kept = λ t held. absurd (no_title c bytes actors t st some_actor held);
 }
 
-pub start_sound : (c : Tables) (bytes actors : ℕ) → IsStartTables bytes actors c → bytes % 8 ≡ 0 → 1 ≤ actors → IsSound c
+pub start_sound : (c : Tables) (bytes actors : ℕ) → IsStartTables bytes actors c → bytes % 8 ≡ 0 → 1 ≤ actors → AreSound c
 start_sound c bytes actors st whole some_actor =
     let words : length c.words.items ≡ bytes / 8 = rw st.words (length-replicate (bytes / 8) 0) in
     let holders : length c.holders.items ≡ bytes = rw st.holders (length-replicate bytes (Some 0)) in

@@ -14,7 +14,7 @@ use Rattle.pa_machine.specs.declared.tables.Tables.{Tables}
 use Rattle.pa_machine.specs.Titles.{same_title, same_state}
 use Rattle.pa_machine.specs.Holdings.{Piece, RawPiece, FreePiece, OwnPiece, RefPiece, Thing, RawByte, FreeTitle, OwnOf, OwnAs, RefOf, one, amount, held_in}
 use Rattle.pa_machine.specs.Events.{State, Exchanges, of_actor, held_by, HasActor, Holds}
-use Rattle.pa_machine.specs.Tables.{Place, is_holder, raw_pieces, free_pieces, own_pieces, ref_pieces, slot_pieces, place_pieces, pieces_of, holdings_of, state_of, kept_as, slot_at, IsPlaced, IsSound}
+use Rattle.pa_machine.specs.Tables.{Place, is_holder, raw_pieces, free_pieces, own_pieces, ref_pieces, slot_pieces, place_pieces, pieces_of, holdings_of, state_of, kept_as, slot_at, IsPlaced, AreSound}
 use Rattle.pa_machine.proofs.Same.{title_tells, title_self, state_tells, state_self}
 use Rattle.pa_machine.proofs.Parts.{IsNoneOf, nil_none, free_none, own_none, ref_none}
 use Rattle.pa_machine.proofs.Totals.{of_actor_here, of_actor_apart}

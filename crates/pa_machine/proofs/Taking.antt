@@ -16,7 +16,7 @@ use Rattle.pa_machine.specs.Titles.{Covers, IsWellFormed, count_place, count_wor
 use Rattle.pa_machine.specs.Run.{IsFree}
 use Rattle.pa_machine.specs.Holdings.{Piece, RawPiece, FreePiece, OwnPiece, RefPiece, Thing, RawByte, FreeTitle, OwnOf, OwnAs, RefOf, IsTitleHeld, held_in, amount, one}
 use Rattle.pa_machine.specs.Events.{State, HasActor, IsEnabled, Happens, total_of, Holds, held_by, of_actor}
-use Rattle.pa_machine.specs.Tables.{Place, is_holder, raw_pieces, place_pieces, slot_pieces, free_pieces, own_pieces, ref_pieces, state_of, slot_at, IsPlaced, IsSound, IsFilled}
+use Rattle.pa_machine.specs.Tables.{Place, is_holder, raw_pieces, place_pieces, slot_pieces, free_pieces, own_pieces, ref_pieces, state_of, slot_at, IsPlaced, AreSound, IsFilled}
 use Rattle.pa_machine.proofs.Parts.{IsNoneOf, apart_words, free_none}
 use Rattle.pa_machine.proofs.Amounts.{free_self}
 use Rattle.pa_machine.proofs.Same.{title_tells}
@@ -32,7 +32,7 @@ use Rattle.pa_machine.proofs.Handing.{one_of, none_of, range_or, raw_unheld}
 use Rattle.pa_machine.proofs.Rows.{IsRow, entry_free, entry_there, placed_at, no_owner}
 
 -- what an actor has at a title's place is what it holds of the title
-place_is : (c : Tables) (actor : ℕ) (t : Title) (x : Thing) → IsSound c → actor < c.actors → ((ps : List Piece) → IsNoneOf ps t → held_in ps x ≡ 0) →
+place_is : (c : Tables) (actor : ℕ) (t : Title) (x : Thing) → AreSound c → actor < c.actors → ((ps : List Piece) → IsNoneOf ps t → held_in ps x ≡ 0) →
     held_in (place_pieces actor (get_or c.slots.items (t.start / 8) None)) x ≡ held_by (state_of c) actor x
 place_is c actor t x sound has about =
     let all = held_tables c.holders.items c.slots.items c.actors actor x has in
@@ -41,7 +41,7 @@ place_is c actor t x sound has about =
     omega arith
 
 -- a thing of a title that nobody holds counts for nothing at the title's place
-unheld_zero : (c : Tables) (actor p : ℕ) (t : Title) (x : Thing) → IsSound c → actor < c.actors → ((ps : List Piece) → IsNoneOf ps t → held_in ps x ≡ 0) →
+unheld_zero : (c : Tables) (actor p : ℕ) (t : Title) (x : Thing) → AreSound c → actor < c.actors → ((ps : List Piece) → IsNoneOf ps t → held_in ps x ≡ 0) →
     (t.start / 8 ≡ p → total_of (state_of c) x ≡ 0) → held_in (place_pieces actor (get_or c.slots.items p None)) x ≡ 0
 unheld_zero c actor p t x sound has about none = elim (cases_eq p (t.start / 8)) [
   | inl same ↦
@@ -53,7 +53,7 @@ unheld_zero c actor p t x sound has about none = elim (cases_eq p (t.start / 8))
 ]
 
 -- nobody holds a title that stands where the bytes are raw
-none_held : (c : Tables) (k p : ℕ) (t u : Title) → IsSound c → IsEnabled (Cut k t) (state_of c) → p ≡ t.start / 8 → u.start / 8 ≡ p →
+none_held : (c : Tables) (k p : ℕ) (t u : Title) → AreSound c → IsEnabled (Cut k t) (state_of c) → p ≡ t.start / 8 → u.start / 8 ≡ p →
     total_of (state_of c) (FreeTitle u) + total_of (state_of c) (OwnOf u) + total_of (state_of c) (RefOf u) ≡ 0
 none_held c k p t u sound can place e = elim (cases_lt 0 (total_of (state_of c) (FreeTitle u) + total_of (state_of c) (OwnOf u) + total_of (state_of c) (RefOf u))) [
   | inl held ↦
@@ -65,7 +65,7 @@ none_held c k p t u sound can place e = elim (cases_lt 0 (total_of (state_of c) 
 ]
 
 -- before a cut nobody has anything at the place where the title will stand
-stale_zero : (c : Tables) (actor k p : ℕ) (t : Title) → IsSound c → actor < c.actors → IsEnabled (Cut k t) (state_of c) → p ≡ t.start / 8 →
+stale_zero : (c : Tables) (actor k p : ℕ) (t : Title) → AreSound c → actor < c.actors → IsEnabled (Cut k t) (state_of c) → p ≡ t.start / 8 →
     (x : Thing) → held_in (place_pieces actor (get_or c.slots.items p None)) x ≡ 0
 stale_zero c actor k p t sound has can place (RawByte b) = place_raw actor (get_or c.slots.items p None) b
 stale_zero c actor k p t sound has can place (FreeTitle u) = unheld_zero c actor p u (FreeTitle u) sound has (λ ps n. n.free) (λ e. let z = none_held c k p t u sound can place e in omega arith)
@@ -105,7 +105,7 @@ raw_lost c later k t can filled actor b =
           omega arith
     ]
 
-cut_things : (c after : Tables) (k : ℕ) (t : Title) (new : Box Slot Global) → IsSound c → IsEnabled (Cut k t) (state_of c) → IsFreshSlot k t new.value →
+cut_things : (c after : Tables) (k : ℕ) (t : Title) (new : Box Slot Global) → AreSound c → IsEnabled (Cut k t) (state_of c) → IsFreshSlot k t new.value →
     IsFilled None c.holders.items t.start (t.start + t.len) None after.holders.items → (actor : ℕ) (x : Thing) → actor < c.actors →
     held_in (raw_pieces actor 0 after.holders.items) x + held_in (place_pieces actor (Some new)) x + held_in (of_actor k (RawPiece t.start t.len ∷ []) actor) x
     ≡ held_in (raw_pieces actor 0 c.holders.items) x + held_in (place_pieces actor (get_or c.slots.items (t.start / 8) None)) x + held_in (of_actor k (FreePiece t ∷ []) actor) x
@@ -138,10 +138,10 @@ new_held c after k t can h =
     let f = free_self t in
     omega arith
 
-place_in : (c : Tables) (t : Title) → IsSound c → IsWellFormed (length c.words.items) t → t.start / 8 < length c.slots.items
+place_in : (c : Tables) (t : Title) → AreSound c → IsWellFormed (length c.words.items) t → t.start / 8 < length c.slots.items
 place_in c t sound well = let a = sound.slots in let b = well.inside in let d = well.long in omega arith
 
-pub cut_row : (c after : Tables) (k : ℕ) (t : Title) (new : Box Slot Global) → IsSound c → IsEnabled (Cut k t) (state_of c) → IsCutRow c after k t new → IsRow (Cut k t) c after
+pub cut_row : (c after : Tables) (k : ℕ) (t : Title) (new : Box Slot Global) → AreSound c → IsEnabled (Cut k t) (state_of c) → IsCutRow c after k t new → IsRow (Cut k t) c after
 cut_row c after k t new sound can r = record { happens = h; sound = sound_after }
   where
     well : IsWellFormed (length c.words.items) t
@@ -189,7 +189,7 @@ cut_row c after k t new sound can r = record { happens = h; sound = sound_after 
       ]
     ]
 
-    sound_after : IsSound after
+    sound_after : AreSound after
     sound_after =
         let a = sound.holders in let b = sound.slots in let d = sound.homes in
         let w = ap length r.words in
@@ -205,7 +205,7 @@ cut_row c after k t new sound can r = record { happens = h; sound = sound_after 
         }
 
 -- what an actor has at the place of a free title is the free title, if it holds it
-free_place : (c : Tables) (k : ℕ) (t : Title) (old : Box Slot Global) → IsSound c → IsEnabled (Uncut k t) (state_of c) → get_or c.slots.items (t.start / 8) None ≡ Some old →
+free_place : (c : Tables) (k : ℕ) (t : Title) (old : Box Slot Global) → AreSound c → IsEnabled (Uncut k t) (state_of c) → get_or c.slots.items (t.start / 8) None ≡ Some old →
     (actor : ℕ) (x : Thing) → actor < c.actors → held_in (place_pieces actor (get_or c.slots.items (t.start / 8) None)) x ≡ held_in (of_actor k (FreePiece t ∷ []) actor) x
 free_place c k t old sound can was actor x has = by_thing x
   where
@@ -245,7 +245,7 @@ free_place c k t old sound can was actor x has = by_thing x
               rw was (omega arith)
         ]
 
-raw_gained : (c : Tables) (later : List (Option ℕ)) (k : ℕ) (t : Title) → IsSound c → IsEnabled (Uncut k t) (state_of c) →
+raw_gained : (c : Tables) (later : List (Option ℕ)) (k : ℕ) (t : Title) → AreSound c → IsEnabled (Uncut k t) (state_of c) →
     IsFilled None c.holders.items t.start (t.start + t.len) (Some k) later → (actor b : ℕ) → actor < c.actors →
     held_in (raw_pieces actor 0 later) (RawByte b) ≡ held_in (raw_pieces actor 0 c.holders.items) (RawByte b) + held_in (of_actor k (RawPiece t.start t.len ∷ []) actor) (RawByte b)
 raw_gained c later k t sound can filled actor b has =
@@ -267,7 +267,7 @@ raw_gained c later k t sound can filled actor b has =
           omega arith
     ]
 
-uncut_things : (c after : Tables) (k : ℕ) (t : Title) (old : Box Slot Global) → IsSound c → IsEnabled (Uncut k t) (state_of c) → get_or c.slots.items (t.start / 8) None ≡ Some old →
+uncut_things : (c after : Tables) (k : ℕ) (t : Title) (old : Box Slot Global) → AreSound c → IsEnabled (Uncut k t) (state_of c) → get_or c.slots.items (t.start / 8) None ≡ Some old →
     IsFilled None c.holders.items t.start (t.start + t.len) (Some k) after.holders.items → (actor : ℕ) (x : Thing) → actor < c.actors →
     held_in (raw_pieces actor 0 after.holders.items) x + held_in (place_pieces actor None) x + held_in (of_actor k (FreePiece t ∷ []) actor) x
     ≡ held_in (raw_pieces actor 0 c.holders.items) x + held_in (place_pieces actor (get_or c.slots.items (t.start / 8) None)) x + held_in (of_actor k (RawPiece t.start t.len ∷ []) actor) x
@@ -291,7 +291,7 @@ pub record IsUncutRow (c after : Tables) (k : ℕ) (t : Title) : Type 0 where
   pub homes : after.homes.items ≡ c.homes.items
   pub actors : after.actors ≡ c.actors
 
-pub uncut_row : (c after : Tables) (k : ℕ) (t : Title) → IsSound c → IsEnabled (Uncut k t) (state_of c) → IsUncutRow c after k t → IsRow (Uncut k t) c after
+pub uncut_row : (c after : Tables) (k : ℕ) (t : Title) → AreSound c → IsEnabled (Uncut k t) (state_of c) → IsUncutRow c after k t → IsRow (Uncut k t) c after
 uncut_row c after k t sound can r = record { happens = h; sound = sound_after }
   where
     well : IsWellFormed (length c.words.items) t
@@ -316,7 +316,7 @@ uncut_row c after k t sound can r = record { happens = h; sound = sound_after }
       | inr ne ↦ rw (get_or-set_other c.slots.items (t.start / 8) i None None ne) (sound.placed i)
     ])
 
-    sound_after : IsSound after
+    sound_after : AreSound after
     sound_after = sound_next c after sound (ap length r.words) r.holders.len (ap length r.slots ∙ length-set c.slots.items (t.start / 8) None) r.homes placed
         (λ u held. elim (held_back (Uncut k t) (state_of c) (state_of after) can h u held) [ inl was ↦ was | inr cut ↦ absurd cut ])
         (happens_good (Uncut k t) (state_of c) (state_of after) sound.good can h)

@@ -123,7 +123,7 @@ slot_over homes slots at = kept_over at (slice_index_or slots (slice_index homes
 
 -- What is always true of the tables: their lengths, where an entry stands, where the words of a held title point, and
 -- that the state is good.
-pub record IsSound (c : Tables) : Type 0 where
+pub record AreSound (c : Tables) : Type 0 where
   pub holders : length c.holders.items ≡ 8 * length c.words.items
   pub slots : length c.slots.items ≡ length c.words.items
   pub homes : length c.homes.items ≡ length c.words.items

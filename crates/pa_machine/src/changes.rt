@@ -1,7 +1,7 @@
 ghost use Rattle.std.specs.Prelude.{◌≡◌, ℕ, ◌+◌, ◌*◌, ◌/◌, ◌%◌, ◌<◌, ◌≤◌, ◌↔◌, ◌⊎◌, ◌==◌, ◌&&◌, IsTrue, IfSome, IfNone, OnOk, OnErr, length, Some, None, Contains, slice_set, slice_index};
 ghost use Rattle.pa_machine.specs.Count.{held_of, refs_of};
 ghost use Rattle.pa_machine.specs.Events.{IsEnabled, Happens};
-ghost use Rattle.pa_machine.specs.Tables.{IsSound, state_of, IsChangedAt, IsEntryAt, IsSlotStepped, IsSameSlot, IsNextSlot, IsFilled, slot_at, slot_over};
+ghost use Rattle.pa_machine.specs.Tables.{AreSound, state_of, IsChangedAt, IsEntryAt, IsSlotStepped, IsSameSlot, IsNextSlot, IsFilled, slot_at, slot_over};
 ghost use Rattle.pa_machine.specs.Titles.{progress};
 
 use crate::event::{Event, Item};
@@ -15,10 +15,10 @@ use crate::word::{Step, Word, held, next, refs};
 impl Tables {
     // Makes an event that is enabled. After want of memory nothing changed.
     pub fn make(&mut self, event: &Event) -> Result<(), OutOfMemory>
-        requires sound { IsSound self.old }
+        requires sound { AreSound self.old }
         requires enabled { IsEnabled event.now (state_of self.old) }
         ensures ok { OnOk result (Happens event.now (state_of self.old) (state_of self.new)) }
-        ensures sound { IsSound self.new }
+        ensures sound { AreSound self.new }
         ensures err { OnErr result (state_of self.new ≡ state_of self.old) }
     {
         match *event {
@@ -35,10 +35,10 @@ impl Tables {
 
     // A counted step: the count word, and what the actor and the owner have of the title.
     pub fn count(&mut self, actor: u32, title: Title, step: Step) -> Result<(), OutOfMemory>
-        requires sound { IsSound self.old }
+        requires sound { AreSound self.old }
         requires enabled { IsEnabled (Event.Count actor title step) (state_of self.old) }
         ensures ok { OnOk result (Happens (Event.Count actor title step) (state_of self.old) (state_of self.new)) }
-        ensures sound { IsSound self.new }
+        ensures sound { AreSound self.new }
         ensures err { OnErr result (state_of self.new ≡ state_of self.old) }
     {
         let after = next(self.count_word(title), step);
@@ -50,10 +50,10 @@ impl Tables {
 
     // Stores the value. An Own in which it is stored becomes dirty.
     pub fn store(&mut self, actor: u32, at: u32, value: u64)
-        requires sound { IsSound self.old }
+        requires sound { AreSound self.old }
         requires enabled { IsEnabled (Event.Store actor at value) (state_of self.old) }
         ensures happens { Happens (Event.Store actor at value) (state_of self.old) (state_of self.new) }
-        ensures sound { IsSound self.new }
+        ensures sound { AreSound self.new }
     {
         let word = at as usize / 8;
         if let Some(place) = self.own_over(actor, at) {
@@ -66,7 +66,7 @@ impl Tables {
 
     // Where the title starts whose Own the actor has and which has the byte.
     fn own_over(&self, actor: u32, at: u32) -> Option<usize>
-        requires sound { IsSound self.now }
+        requires sound { AreSound self.now }
         ensures some { IfSome result
             (λ p. (o : Slot) × (s : OwnState) × (slot_over self.now.homes.items self.now.slots.items at ≡ Some o)
             × (o.own ≡ Some (record { actor = actor; state = s })) × (p ≡ o.title.start / 8)) }
@@ -82,10 +82,10 @@ impl Tables {
 
     // Poisons the next word of the content.
     pub fn poison(&mut self, actor: u32, title: Title)
-        requires sound { IsSound self.old }
+        requires sound { AreSound self.old }
         requires enabled { IsEnabled (Event.Poison actor title) (state_of self.old) }
         ensures happens { Happens (Event.Poison actor title) (state_of self.old) (state_of self.new) }
-        ensures sound { IsSound self.new }
+        ensures sound { AreSound self.new }
     {
         // A hint to the proof: the number of content words is the contract's `content_count`.
         let _words = title.content_words();
@@ -111,10 +111,10 @@ impl Tables {
 
     // Hands the item over.
     pub fn hand(&mut self, from: u32, to: u32, item: Item)
-        requires sound { IsSound self.old }
+        requires sound { AreSound self.old }
         requires enabled { IsEnabled (Event.Hand from to item) (state_of self.old) }
         ensures happens { Happens (Event.Hand from to item) (state_of self.old) (state_of self.new) }
-        ensures sound { IsSound self.new }
+        ensures sound { AreSound self.new }
     {
         match item {
             Item::Raw { start, len } => self.hand_raw(from, to, start, len),
@@ -126,10 +126,10 @@ impl Tables {
 
     // Hands raw bytes over.
     fn hand_raw(&mut self, from: u32, to: u32, start: u32, len: u32)
-        requires sound { IsSound self.old }
+        requires sound { AreSound self.old }
         requires enabled { IsEnabled (Event.Hand from to (Item.Raw start len)) (state_of self.old) }
         ensures happens { Happens (Event.Hand from to (Item.Raw start len)) (state_of self.old) (state_of self.new) }
-        ensures sound { IsSound self.new }
+        ensures sound { AreSound self.new }
     {
         if len > 0 {
             give_bytes(
@@ -143,40 +143,40 @@ impl Tables {
 
     // Hands a free title over.
     fn hand_free(&mut self, from: u32, to: u32, title: Title)
-        requires sound { IsSound self.old }
+        requires sound { AreSound self.old }
         requires enabled { IsEnabled (Event.Hand from to (Item.Free title)) (state_of self.old) }
         ensures happens { Happens (Event.Hand from to (Item.Free title)) (state_of self.old) (state_of self.new) }
-        ensures sound { IsSound self.new }
+        ensures sound { AreSound self.new }
     {
         hand_free_at(&mut self.slots, title.first_word(), to);
     }
 
     // Hands the Own over, which is clean.
     fn hand_own(&mut self, from: u32, to: u32, title: Title)
-        requires sound { IsSound self.old }
+        requires sound { AreSound self.old }
         requires enabled { IsEnabled (Event.Hand from to (Item.Own title)) (state_of self.old) }
         ensures happens { Happens (Event.Hand from to (Item.Own title)) (state_of self.old) (state_of self.new) }
-        ensures sound { IsSound self.new }
+        ensures sound { AreSound self.new }
     {
         restate_at(&mut self.slots, title.first_word(), to, OwnState::Clean);
     }
 
     // Hands one Ref over.
     fn hand_ref(&mut self, from: u32, to: u32, title: Title)
-        requires sound { IsSound self.old }
+        requires sound { AreSound self.old }
         requires enabled { IsEnabled (Event.Hand from to (Item.Ref title)) (state_of self.old) }
         ensures happens { Happens (Event.Hand from to (Item.Ref title)) (state_of self.old) (state_of self.new) }
-        ensures sound { IsSound self.new }
+        ensures sound { AreSound self.new }
     {
         hand_ref_at(&mut self.slots, title.first_word(), from, to);
     }
 
     // Cuts the title out of raw bytes of the actor, who has it free then.
     pub fn cut(&mut self, actor: u32, title: Title) -> Result<(), OutOfMemory>
-        requires sound { IsSound self.old }
+        requires sound { AreSound self.old }
         requires enabled { IsEnabled (Event.Cut actor title) (state_of self.old) }
         ensures ok { OnOk result (Happens (Event.Cut actor title) (state_of self.old) (state_of self.new)) }
-        ensures sound { IsSound self.new }
+        ensures sound { AreSound self.new }
         ensures err { OnErr result (state_of self.new ≡ state_of self.old) }
     {
         let entry = Box::new(self.alloc, Slot::cut_out(self.alloc, actor, title))?;
@@ -199,10 +199,10 @@ impl Tables {
 
     // Makes a free title of the actor raw again.
     pub fn uncut(&mut self, actor: u32, title: Title)
-        requires sound { IsSound self.old }
+        requires sound { AreSound self.old }
         requires enabled { IsEnabled (Event.Uncut actor title) (state_of self.old) }
         ensures happens { Happens (Event.Uncut actor title) (state_of self.old) (state_of self.new) }
-        ensures sound { IsSound self.new }
+        ensures sound { AreSound self.new }
     {
         self.slots[title.first_word()] = None;
         give_bytes(

@@ -2,7 +2,7 @@ ghost use Rattle.std.specs.Prelude.{◌≡◌, ℕ, ◌+◌, ◌*◌, ◌/◌, �
 ghost use Rattle.pa_machine.specs.Count.{CanStep, refs_of};
 ghost use Rattle.pa_machine.specs.Titles.{IsWellFormed, count_word, IsUniform};
 ghost use Rattle.pa_machine.specs.Events.{HasActor, HoldsOpen, HoldsItem, CanCount, IsEnabled, IsRawWord, IsTitleWord};
-ghost use Rattle.pa_machine.specs.Tables.{IsSound, state_of, MayWrite, MayChange, MayPoison, MayCut};
+ghost use Rattle.pa_machine.specs.Tables.{AreSound, state_of, MayWrite, MayChange, MayPoison, MayCut};
 
 use crate::event::{Event, Item};
 use crate::tables::Tables;
@@ -13,7 +13,7 @@ use crate::word::{Step, apply, refs};
 impl Tables {
     // Whether the event is enabled.
     pub fn is_enabled(&self, event: &Event) -> bool
-        requires { IsSound self.now }
+        requires { AreSound self.now }
         ensures { IsTrue result ↔ IsEnabled event.now (state_of self.now) }
     {
         match *event {
@@ -29,7 +29,7 @@ impl Tables {
 
     // Whether the actor may make this step on the title, and the step is enabled at its count word.
     fn can_count(&self, actor: u32, title: Title, step: Step) -> bool
-        requires { IsSound self.now }
+        requires { AreSound self.now }
         ensures { IsTrue result ↔ IsEnabled (Event.Count actor title step) (state_of self.now) }
     {
         // what the two tests below ask is known behind this one
@@ -41,7 +41,7 @@ impl Tables {
 
     // What the step asks of the actor.
     fn may_count(&self, actor: u32, title: Title, step: Step) -> bool
-        requires sound { IsSound self.now }
+        requires sound { AreSound self.now }
         requires actor { HasActor (state_of self.now) actor }
         ensures { IsTrue result ↔ CanCount step (state_of self.now) actor title }
     {
@@ -65,7 +65,7 @@ impl Tables {
 
     // Whether the actor has the title's Own clean or dirty.
     fn holds_open(&self, actor: u32, title: Title) -> bool
-        requires sound { IsSound self.now }
+        requires sound { AreSound self.now }
         requires actor { HasActor (state_of self.now) actor }
         ensures { IsTrue result ↔ ((state : OwnState) × HoldsOpen (state_of self.now) actor title state) }
     {
@@ -91,7 +91,7 @@ impl Tables {
 
     // Whether the actor may store in the word at this byte. Which value it stores makes no difference.
     fn can_store(&self, actor: u32, at: u32, _value: u64) -> bool
-        requires { IsSound self.now }
+        requires { AreSound self.now }
         ensures { IsTrue result ↔ IsEnabled (Event.Store actor at _value) (state_of self.now) }
     {
         self.has_actor(actor) && at % 8 == 0 && self.may_store(actor, at)
@@ -99,7 +99,7 @@ impl Tables {
 
     // Whether the word is raw for the actor, or a title's word in which it may write.
     fn may_store(&self, actor: u32, at: u32) -> bool
-        requires sound { IsSound self.now }
+        requires sound { AreSound self.now }
         requires actor { HasActor (state_of self.now) actor }
         ensures { IsTrue result ↔ (IsRawWord (state_of self.now) actor at ⊎ MayWrite (state_of self.now) actor at) }
     {
@@ -108,7 +108,7 @@ impl Tables {
 
     // Whether the word is a content word of a free title of the actor, or of its unshared Own, clean or dirty.
     fn may_write(&self, actor: u32, at: u32) -> bool
-        requires sound { IsSound self.now }
+        requires sound { AreSound self.now }
         requires actor { HasActor (state_of self.now) actor }
         ensures { IsTrue result ↔ MayWrite (state_of self.now) actor at }
     {
@@ -120,7 +120,7 @@ impl Tables {
 
     // Whether the actor may change the title's content: it has it free, or its unshared Own, clean or dirty.
     fn may_change(&self, actor: u32, title: Title) -> bool
-        requires sound { IsSound self.now }
+        requires sound { AreSound self.now }
         requires actor { HasActor (state_of self.now) actor }
         requires well { IsWellFormed (length self.now.words.items) title }
         ensures { IsTrue result ↔ MayChange (state_of self.now) actor title }
@@ -130,7 +130,7 @@ impl Tables {
 
     // Whether the actor may poison the next word of the title's content.
     fn can_poison(&self, actor: u32, title: Title) -> bool
-        requires { IsSound self.now }
+        requires { AreSound self.now }
         ensures { IsTrue result ↔ IsEnabled (Event.Poison actor title) (state_of self.now) }
     {
         self.has_actor(actor) && self.may_poison(actor, title)
@@ -138,7 +138,7 @@ impl Tables {
 
     // What that asks of an actor that there is.
     fn may_poison(&self, actor: u32, title: Title) -> bool
-        requires sound { IsSound self.now }
+        requires sound { AreSound self.now }
         requires actor { HasActor (state_of self.now) actor }
         ensures { IsTrue result ↔ MayPoison (state_of self.now) actor title }
     {
@@ -150,7 +150,7 @@ impl Tables {
 
     // Whether the actor may load the word at this byte.
     fn can_load(&self, actor: u32, at: u32) -> bool
-        requires { IsSound self.now }
+        requires { AreSound self.now }
         ensures { IsTrue result ↔ IsEnabled (Event.Load actor at) (state_of self.now) }
     {
         self.has_actor(actor) && at % 8 == 0 && self.may_load(actor, at)
@@ -158,7 +158,7 @@ impl Tables {
 
     // Whether the word is raw for the actor, or in a title that it holds.
     fn may_load(&self, actor: u32, at: u32) -> bool
-        requires sound { IsSound self.now }
+        requires sound { AreSound self.now }
         requires actor { HasActor (state_of self.now) actor }
         ensures { IsTrue result ↔ (IsRawWord (state_of self.now) actor at ⊎ IsTitleWord (state_of self.now) actor at) }
     {
@@ -167,7 +167,7 @@ impl Tables {
 
     // Whether the word is in a title that the actor holds.
     fn may_read(&self, actor: u32, at: u32) -> bool
-        requires sound { IsSound self.now }
+        requires sound { AreSound self.now }
         requires actor { HasActor (state_of self.now) actor }
         ensures { IsTrue result ↔ IsTitleWord (state_of self.now) actor at }
     {
@@ -179,7 +179,7 @@ impl Tables {
 
     // Whether there are both actors and the first has the item.
     fn can_hand(&self, from: u32, to: u32, item: Item) -> bool
-        requires { IsSound self.now }
+        requires { AreSound self.now }
         ensures { IsTrue result ↔ IsEnabled (Event.Hand from to item) (state_of self.now) }
     {
         self.has_actor(from) && self.has_actor(to) && self.holds_item(from, item)
@@ -187,7 +187,7 @@ impl Tables {
 
     // Whether the actor has the item. An Own is handed over clean.
     fn holds_item(&self, actor: u32, item: Item) -> bool
-        requires sound { IsSound self.now }
+        requires sound { AreSound self.now }
         requires actor { HasActor (state_of self.now) actor }
         ensures { IsTrue result ↔ HoldsItem (state_of self.now) actor item }
     {
@@ -201,7 +201,7 @@ impl Tables {
 
     // Whether the actor may cut the title out of raw bytes.
     fn can_cut(&self, actor: u32, title: Title) -> bool
-        requires { IsSound self.now }
+        requires { AreSound self.now }
         ensures { IsTrue result ↔ IsEnabled (Event.Cut actor title) (state_of self.now) }
     {
         self.has_actor(actor) && self.may_cut(actor, title)
@@ -209,7 +209,7 @@ impl Tables {
 
     // What that asks of an actor that there is: whole words, two at least, all raw for it, and a count word of 0.
     fn may_cut(&self, actor: u32, title: Title) -> bool
-        requires sound { IsSound self.now }
+        requires sound { AreSound self.now }
         requires actor { HasActor (state_of self.now) actor }
         ensures { IsTrue result ↔ MayCut (state_of self.now) actor title }
     {
@@ -222,7 +222,7 @@ impl Tables {
 
     // Whether the actor has the title free, so that it may make it raw again.
     fn can_uncut(&self, actor: u32, title: Title) -> bool
-        requires { IsSound self.now }
+        requires { AreSound self.now }
         ensures { IsTrue result ↔ IsEnabled (Event.Uncut actor title) (state_of self.now) }
     {
         self.has_actor(actor) && self.holds_free(actor, title)

@@ -21,11 +21,11 @@ impl Model for Core {
 
     ghost Value = { State };
 
-    ghost use Rattle.pa_machine.specs.Tables.{IsSound, state_of};
+    ghost use Rattle.pa_machine.specs.Tables.{AreSound, state_of};
 
     ghost view = { λ c. state_of c.tables };
 
-    ghost invariant = { λ c. IsSound c.tables };
+    ghost invariant = { λ c. AreSound c.tables };
 }
 
 impl Core {

@@ -3,7 +3,7 @@ ghost use Rattle.std.specs.List.{slice_index_or};
 ghost use Rattle.pa_machine.specs.Titles.{IsWellFormed, count_word, HasContentFrom, IsUniform};
 ghost use Rattle.pa_machine.specs.Holdings.{FreeTitle, OwnAs, RefOf};
 ghost use Rattle.pa_machine.specs.Events.{HasActor, Holds, HoldsRaw};
-ghost use Rattle.pa_machine.specs.Tables.{IsSound, IsStartTables, state_of, slot_at, slot_over};
+ghost use Rattle.pa_machine.specs.Tables.{AreSound, IsStartTables, state_of, slot_at, slot_over};
 
 use crate::fault::OutOfMemory;
 use crate::slot::Slot;
@@ -109,7 +109,7 @@ impl Tables {
 
     // Whether the actor has the title free.
     pub fn holds_free(&self, actor: u32, title: Title) -> bool
-        requires sound { IsSound self.now }
+        requires sound { AreSound self.now }
         requires actor { HasActor (state_of self.now) actor }
         ensures { IsTrue result ↔ Holds (state_of self.now) actor (FreeTitle title) }
     {
@@ -121,7 +121,7 @@ impl Tables {
 
     // Whether the actor has the title's Own in this state.
     pub fn holds_own(&self, actor: u32, title: Title, state: OwnState) -> bool
-        requires sound { IsSound self.now }
+        requires sound { AreSound self.now }
         requires actor { HasActor (state_of self.now) actor }
         ensures { IsTrue result ↔ Holds (state_of self.now) actor (OwnAs title state) }
     {
@@ -133,7 +133,7 @@ impl Tables {
 
     // Whether the actor has a Ref of the title.
     pub fn holds_ref(&self, actor: u32, title: Title) -> bool
-        requires sound { IsSound self.now }
+        requires sound { AreSound self.now }
         requires actor { HasActor (state_of self.now) actor }
         ensures { IsTrue result ↔ Holds (state_of self.now) actor (RefOf title) }
     {

@@ -23,7 +23,7 @@ use Rattle.pa_place.specs.Filed.{AreFiled, HasRoomToList, CanRefileAt, IsRefiled
 use Rattle.pa_place.specs.Store.{IsFiled, HaveTurns, EntersAt}
 use Rattle.pa_place.specs.declared.store.Store.{Store}
 use Rattle.pa_place.proofs.Placing.{member_at, there}
-use Rattle.pa_place.proofs.Listing.{IsLast, stands, stays, alike, refiled_by, listed_once}
+use Rattle.pa_place.proofs.Listing.{IsLast, stands, stays, alike, refiled_by, listed_in_turn}
 use Rattle.pa_place.proofs.Setting.{set_same, set_parts, count_set, counts_less}
 
 -- a span of its class is one that is in the state
@@ -120,9 +120,9 @@ all_refiled a ss i s t was is lists after c (list, next, there, done, e) h =
     ]
 
 -- the list has room where the span comes on it
-can_refile_at : (a : State) (ss : List Span) (i : ℕ) (s : Span) (was is : Bool) (lists : List (Vec ℕ Global)) → slice_get ss i ≡ Some s → was ≡ is_in a s → AreListed a ss lists → CanRefileAt s.class was is lists
+can_refile_at : (a : State) (ss : List Span) (i : ℕ) (s : Span) (was is : Bool) (lists : List (Vec ℕ Global)) → slice_get ss i ≡ Some s → was ≡ is_in a s → AreListed a ss lists → CanRefileAt ss s.class was is lists
 can_refile_at a ss i s was is lists e was_in h = λ list f. record {
-  once = listed_once (is_of s.class a) ss list.items (h.listing s.class list f);
+  order = listed_in_turn (is_of s.class a) ss list.items (h.listing s.class list f);
   room = λ not_in now.
       let m = (h.listing s.class list f).many in
       let p = h.room s.class list f in
@@ -131,11 +131,11 @@ can_refile_at a ss i s was is lists e was_in h = λ list f. record {
 }
 
 -- the lists can take the span into another state
-pub can_file : (ss : List Span) (i : ℕ) (s : Span) (to : State) (lists : Lists) → slice_get ss i ≡ Some s → (to ≡ state.Empty → count_by (is_in state.Empty) ss ≤ 16) → AreFiled ss lists → CanFile s.class s.state to lists
+pub can_file : (ss : List Span) (i : ℕ) (s : Span) (to : State) (lists : Lists) → slice_get ss i ≡ Some s → (to ≡ state.Empty → count_by (is_in state.Empty) ss ≤ 16) → AreFiled ss lists → CanFile ss s.class s.state to lists
 can_file ss i s to lists e few h = record {
   classes = record { active = h.active.classes; decommitted = h.decommitted.classes };
   empty = record {
-    once = listed_once (is_in state.Empty) ss lists.empty.items h.empty;
+    order = listed_in_turn (is_in state.Empty) ss lists.empty.items h.empty;
     room = λ not_in now. let p = few (same_state-true to state.Empty now) in let q = h.empty.many in let k = h.ring in omega arith;
   };
   active = can_refile_at state.Active ss i s (is_in state.Active s) (same_state to state.Active) lists.active.items e refl h.active;

@@ -17,7 +17,7 @@ use Rattle.pa_record.proofs.Mapping.{mapped_sound, mapped_born, unmapped_sound, 
 use Rattle.pa_place.specs.declared.store.Store.{Store}
 use Rattle.pa_place.specs.Placed.{filled_by, Fills, map_in, mapped_by, IsStep}
 use Rattle.pa_place.specs.Order.{IsOrdered}
-use Rattle.pa_place.specs.Store.{root_of, HasLowSupers, IsReady, IsKept, opened_where, AsksWhere, IsFiled}
+use Rattle.pa_place.specs.Store.{root_of, HasLowSupers, IsReady, IsStoreSound, opened_where, AsksWhere, IsFiled}
 use Rattle.pa_place.proofs.Filling.{filled_with}
 use Rattle.pa_place.proofs.Ordering.{order_opened}
 use Rattle.pa_place.proofs.Removing.{is_named}
@@ -30,12 +30,12 @@ pub record IsGood (r : Root) : Type 0 where
   pub supers : length r.supers ≤ 2147483647
   pub maps : length r.maps ≤ 2147483647
 
-pub kept_by : (s : Store) (r : Root) → root_of s ≡ r → IsGood r → vec_len s.spans ≤ 2147483647 → IsFiled s → IsKept s
+pub kept_by : (s : Store) (r : Root) → root_of s ≡ r → IsGood r → vec_len s.spans ≤ 2147483647 → IsFiled s → IsStoreSound s
 kept_by s r e good many filed =
     let g = subst IsGood (sym e) good in
     record { ready = g.ready; settled = g.settled; ordered = g.ordered; filed = filed; supers = g.supers; maps = g.maps; spans = many }
 
-pub good_of : (s : Store) → IsKept s → IsGood (root_of s)
+pub good_of : (s : Store) → IsStoreSound s → IsGood (root_of s)
 good_of s k = record { ready = k.ready; settled = k.settled; ordered = k.ordered; supers = k.supers; maps = k.maps }
 
 -- a step that leaves super pages and direct maps as they are

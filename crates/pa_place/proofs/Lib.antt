@@ -13,6 +13,7 @@ pub mod Runs
 pub mod Refused
 pub mod Searching
 pub mod Setting
+pub mod Turns
 pub mod Ordering
 pub mod Listing
 pub mod Making

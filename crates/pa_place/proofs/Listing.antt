@@ -1,6 +1,6 @@
 -- A list of the spans that pass a test, while one span changes.
 use Rattle.std.proofs.Common.{◌≡◌, ◌≢◌, ℕ, zero, suc, ◌+◌, ◌-◌, ◌<◌, Bool, true, false, eqb, List, [], ◌∷◌, ◌++◌, length, get_or, set, refl, sym, ◌∙◌, ap, subst, arith, ◌⊎◌, inl, inr, Option, Some, None}
-use Rattle.std.specs.Prelude.{Contains, AllPairs, IfSome, slice_get, position, remove}
+use Rattle.std.specs.Prelude.{Contains, AllPairs, IfSome, slice_get}
 use Rattle.std.proofs.lemmas.Option.{slice_get_within, slice_get-get_or, get_or_from_slice_get}
 use Rattle.std.proofs.lemmas.Bool.{cases_Bool, cases_lt, both_ways, eqb-true, eqb-false, eq-eqb}
 use Rattle.std.proofs.lemmas.List.{length_push}
@@ -17,25 +17,10 @@ use Rattle.pa_record.proofs.Choice.{latest_is, earliest_is}
 use Rattle.pa_record.proofs.Chosen.{is_latest, is_earliest}
 use Rattle.pa_record.proofs.Entering.{one_if}
 use Rattle.pa_place.specs.Scans.{span_at}
-use Rattle.pa_place.specs.Listing.{IsSooner, IsListing, without_index, refiled}
+use Rattle.pa_place.specs.Listing.{IsSooner, IsListing, IsInTurn, without_index, refiled}
 use Rattle.pa_place.specs.Filed.{last_of}
 use Rattle.pa_place.proofs.Setting.{set_same, set_other, set_parts, count_set}
-use Rattle.pa_place.proofs.Removing.{without_first, removed_first, none_removed_first}
-use Rattle.pa_place.proofs.Placing.{member_at}
-
--- the list without an index, by its place
-without_index_is : (i : ℕ) (ids : List ℕ) → without_first (λ k. eqb k i) ids ≡ without_index i ids
-without_index_is i [] = refl
-without_index_is i (k ∷ ids) = elim (cases_Bool (eqb k i)) [
-  | inl hit ↦ rw hit refl
-  | inr miss ↦ rw miss (ap (λ xs. k ∷ xs) (without_index_is i ids))
-]
-
-pub removed_index : (i k : ℕ) (ids : List ℕ) → position (λ j. eqb j i) ids ≡ Some k → remove ids k ≡ without_index i ids
-removed_index i k ids e = removed_first (λ j. eqb j i) k ids e ∙ without_index_is i ids
-
-pub none_removed_index : (i : ℕ) (ids : List ℕ) → position (λ j. eqb j i) ids ≡ None → ids ≡ without_index i ids
-none_removed_index i ids e = none_removed_first (λ j. eqb j i) ids e ∙ without_index_is i ids
+use Rattle.pa_place.proofs.Placing.{member_at, there}
 
 without_in : (i j : ℕ) (ids : List ℕ) → Contains (without_index i ids) j → Contains ids j
 without_in i j [] among = among
@@ -315,13 +300,20 @@ refiled_by test ss ids i s t true false e a b same last h = leaves test ss ids i
 refiled_by test ss ids i s t false true e a b same last h = enters test ss ids i s t e (sym a) (sym b) (last refl refl) h
 refiled_by test ss ids i s t false false e a b same last h = stands test ss ids i s t e (sym a) (sym b) h
 
--- no index stands twice in a list
-pub listed_once : (test : Span → Bool) (ss : List Span) (ids : List ℕ) → IsListing test ss ids → AllPairs ◌≢◌ ids
-listed_once test ss ids h = pairs_map (IsSooner ss) ◌≢◌ ids h.order (λ j k first second sooner same.
-    let (v, f, p) = h.here j first in
+-- a listing is in the order of turns
+pub listed_in_turn : (test : Span → Bool) (ss : List Span) (ids : List ℕ) → IsListing test ss ids → IsInTurn ss ids
+listed_in_turn test ss ids h = record {
+  within = λ i among. let (s, e, p) = h.here i among in slice_get_within ss i s e;
+  order = h.order;
+}
+
+-- so no index stands twice in it
+pub once_in_turn : (ss : List Span) (ids : List ℕ) → IsInTurn ss ids → AllPairs ◌≢◌ ids
+once_in_turn ss ids h = pairs_map (IsSooner ss) ◌≢◌ ids h.order (λ j k first second sooner same.
+    let (v, f) = there ss j (h.within j first) in
     not_sooner ss j v f (subst (λ z. IsSooner ss j z) (sym same) sooner))
 
--- so where it stands last the list without it ends before it
+-- and where one stands last the list without it ends before it
 pub without_last : (i : ℕ) (ids : List ℕ) → AllPairs ◌≢◌ (ids ++ i ∷ []) → without_index i (ids ++ i ∷ []) ≡ ids
 without_last i [] once = rw (eq-eqb i i refl) refl
 without_last i (k ∷ ids) once = elim (cases_Bool (eqb k i)) [

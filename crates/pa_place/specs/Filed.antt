@@ -26,8 +26,8 @@ pub record HasRoomToList (class n : ℕ) (lists : Lists) : Type 0 where
   pub decommitted : HasListRoom class n lists.decommitted.items
 
 -- the list of the class can be refiled; and it was, and those of the other classes are as they were
-abbrev pub CanRefileAt : ℕ → Bool → Bool → List (Vec ℕ Global) → Type 0
-CanRefileAt class was is lists = (list : Vec ℕ Global) → slice_get lists class ≡ Some list → CanRefile was is list
+abbrev pub CanRefileAt : List Span → ℕ → Bool → Bool → List (Vec ℕ Global) → Type 0
+CanRefileAt ss class was is lists = (list : Vec ℕ Global) → slice_get lists class ≡ Some list → CanRefile ss was is list
 
 abbrev pub IsRefiledAt : ℕ → Bool → Bool → ℕ → List (Vec ℕ Global) → List (Vec ℕ Global) → Type 0
 IsRefiledAt class was is i old new =
@@ -35,11 +35,11 @@ IsRefiledAt class was is i old new =
     × (new ≡ slice_set old class next)
 
 -- the lists can take a span of the class from one state into another; and they did
-pub record CanFile (class : ℕ) (was to : State) (lists : Lists) : Type 0 where
+pub record CanFile (ss : List Span) (class : ℕ) (was to : State) (lists : Lists) : Type 0 where
   pub classes : HasClasses lists
-  pub empty : CanRefile (same_state was state.Empty) (same_state to state.Empty) lists.empty
-  pub active : CanRefileAt class (same_state was state.Active) (same_state to state.Active) lists.active.items
-  pub decommitted : CanRefileAt class (same_state was state.Decommitted) (same_state to state.Decommitted) lists.decommitted.items
+  pub empty : CanRefile ss (same_state was state.Empty) (same_state to state.Empty) lists.empty
+  pub active : CanRefileAt ss class (same_state was state.Active) (same_state to state.Active) lists.active.items
+  pub decommitted : CanRefileAt ss class (same_state was state.Decommitted) (same_state to state.Decommitted) lists.decommitted.items
 
 pub record IsFiledAnew (class : ℕ) (was to : State) (i : ℕ) (old new : Lists) : Type 0 where
   pub empty : IsRefiled (same_state was state.Empty) (same_state to state.Empty) i old.empty new.empty

@@ -1,5 +1,5 @@
 -- Lists of indices of the spans that pass a test.
-use Rattle.std.specs.Prelude.{◌≡◌, ◌≢◌, ◌<◌, ◌≤◌, ◌==◌, if◌then◌else◌, ℕ, Bool, true, false, List, [], ◌∷◌, ◌++◌, length, Some, Contains, AllPairs, count_by, slice_get, Vec}
+use Rattle.std.specs.Prelude.{◌≡◌, ◌<◌, ◌≤◌, ◌==◌, if◌then◌else◌, ℕ, Bool, true, false, List, [], ◌∷◌, ◌++◌, length, Some, Contains, AllPairs, count_by, slice_get, Vec}
 use Rattle.std.specs.Vec.{vec_capacity}
 use Rattle.std.specs.declared.alloc.Global.{Global}
 use Rattle.pa_buckets.specs.declared.spans.State.{State}
@@ -43,9 +43,19 @@ refiled true false i ids = without_index i ids
 refiled false true i ids = ids ++ i ∷ []
 refiled false false i ids = ids
 
--- no index stands twice in the list, and there is room for one where one comes on it
-pub record CanRefile (was is : Bool) (list : Vec ℕ Global) : Type 0 where
-  pub once : AllPairs ◌≢◌ list.items
+-- spans are listed in the order of their turns
+pub record IsInTurn (ss : List Span) (ids : List ℕ) : Type 0 where
+  pub within : (i : ℕ) → Contains ids i → i < length ss
+  pub order : AllPairs (IsSooner ss) ids
+
+-- the first `count` that are listed have a lesser turn, and the others don't
+pub record IsTurnCut (ss : List Span) (turn : ℕ) (ids : List ℕ) (count : ℕ) : Type 0 where
+  pub before : (k i : ℕ) (s : Span) → k < count → slice_get ids k ≡ Some i → slice_get ss i ≡ Some s → s.turn < turn
+  pub after : (k i : ℕ) (s : Span) → count ≤ k → slice_get ids k ≡ Some i → slice_get ss i ≡ Some s → turn ≤ s.turn
+
+-- the list is in the order of turns, and has room for one more where one comes on it
+pub record CanRefile (ss : List Span) (was is : Bool) (list : Vec ℕ Global) : Type 0 where
+  pub order : IsInTurn ss list.items
   pub room : was ≡ false → is ≡ true → length list.items < vec_capacity list
 
 -- the list after that, with as much room

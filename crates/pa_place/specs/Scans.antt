@@ -1,7 +1,13 @@
--- A span of a list by its place, where there is one.
-use Rattle.std.specs.Prelude.{ℕ, List, Option, Some, None, slice_get}
+-- A span of a list by its place, where there is one; and the bytes of what a span keeps.
+use Rattle.std.specs.Prelude.{ℕ, ◌*◌, List, Option, Some, None, slice_get}
+use Rattle.pa_buckets.specs.Table.{slot_of}
 use Rattle.pa_record.specs.Spans.{Span}
+use Rattle.pa_record.specs.Census.{kept_of}
 
 abbrev pub span_at : List Span → Option ℕ → Option Span
 span_at ss None = None
 span_at ss (Some at) = slice_get ss at
+
+-- the bytes of its slots that were made and aren't out
+abbrev pub bytes_kept : Span → ℕ
+bytes_kept s = slot_of s.class * kept_of s

@@ -62,7 +62,7 @@ EntersAt r after at to =
 
 -- What a store keeps between calls: a sound root of which at most 16 spans are empty, whose spans are in order and listed
 -- by their states, and lists that aren't too long.
-pub record IsKept (s : Store) : Type 0 where
+pub record IsStoreSound (s : Store) : Type 0 where
   pub ready : IsReady (root_of s)
   pub settled : IsSettled (root_of s)
   pub ordered : IsOrdered (root_of s)

@@ -1,11 +1,12 @@
-ghost use Rattle.std.specs.Prelude.{◌≡◌, ◌≢◌, ◌<◌, ◌≤◌, ◌==◌, [], ℕ, List, Some, AllPairs, IfOk, OnOk, length, position, slice_get, Vec as List_of};
+ghost use Rattle.std.specs.Prelude.{◌≡◌, ◌≢◌, ◌<◌, ◌≤◌, [], ℕ, List, Some, AllPairs, IfOk, OnOk, length, slice_get, Vec as List_of};
 ghost use Rattle.std.specs.Vec.{vec_capacity};
 ghost use Rattle.std.specs.declared.alloc.Global.{Global as Heap};
 ghost use Rattle.pa_buckets.specs.declared.spans.State.{State as SpanState};
 ghost use Rattle.pa_record.specs.Spans.{Span, same_state};
-ghost use Rattle.pa_place.specs.Listing.{AreListed, HasListRoom, CanRefile, IsRefiled, without_index};
+ghost use Rattle.pa_place.specs.Listing.{AreListed, HasListRoom, CanRefile, IsRefiled, IsInTurn, IsTurnCut, without_index};
 ghost use Rattle.pa_place.specs.Filed.{AreFiled, HasClasses, HasRoomToList, CanRefileAt, IsRefiledAt, CanFile, IsFiledAnew, last_of};
 
+use crate::plain_span::PlainSpan;
 use pa_buckets::{Class, State};
 use pa_machine::OutOfMemory;
 use std::alloc::Global;
@@ -50,16 +51,25 @@ impl Lists {
         reserve_at(&mut self.decommitted, class, most)
     }
 
-    // The span of the class that stands there went from one state into another, or stayed in it.
-    pub(crate) fn refile(&mut self, class: Class, was: State, to: State, at: usize)
-        requires { CanFile class was to self.old }
+    // The span of the class that stands there goes from one state into another, or stays in it.
+    pub(crate) fn refile(
+        &mut self,
+        spans: &[PlainSpan],
+        class: Class,
+        was: State,
+        to: State,
+        at: usize,
+    )
+        requires there { at < length spans.now }
+        requires can { CanFile spans.now class was to self.old }
         ensures { IsFiledAnew class was to at self.old self.new }
     {
         let number = class.number() as usize;
-        refile(&mut self.empty, State::Empty, was, to, at);
-        refile(&mut self.active[number], State::Active, was, to, at);
+        refile(&mut self.empty, spans, State::Empty, was, to, at);
+        refile(&mut self.active[number], spans, State::Active, was, to, at);
         refile(
             &mut self.decommitted[number],
+            spans,
             State::Decommitted,
             was,
             to,
@@ -113,16 +123,24 @@ pub(crate) fn first_listed(list: &[usize]) -> Option<usize>
     list.first().copied()
 }
 
-// Takes the index off the list of the spans in a state, or puts it at its end, where the span there left the state or
-// came into it.
-fn refile(list: &mut Vec<usize>, state: State, was: State, to: State, at: usize)
-    requires { CanRefile (same_state was state) (same_state to state) list.old }
+// Takes the index off the list of the spans in a state, or puts it at its end, where the span there leaves the state or
+// comes into it.
+fn refile(
+    list: &mut Vec<usize>,
+    spans: &[PlainSpan],
+    state: State,
+    was: State,
+    to: State,
+    at: usize,
+)
+    requires there { at < length spans.now }
+    requires can { CanRefile spans.now (same_state was state) (same_state to state) list.old }
     ensures { IsRefiled (same_state was state) (same_state to state) at list.old list.new }
 {
     let was_in = are_same(was, state);
     let is_in = are_same(to, state);
     if was_in && !is_in {
-        take_off(list, at);
+        take_off(list, spans, at);
     } else if is_in && !was_in {
         list.push_reserved(at);
     }
@@ -136,8 +154,9 @@ fn are_same(one: State, other: State) -> bool
 }
 
 // Takes the index off the list: as a rule it is the last.
-fn take_off(list: &mut Vec<usize>, at: usize)
-    requires once { AllPairs ◌≢◌ list.old.items }
+fn take_off(list: &mut Vec<usize>, spans: &[PlainSpan], at: usize)
+    requires there { at < length spans.now }
+    requires order { IsInTurn spans.now list.old.items }
     ensures without { list.new.items ≡ without_index at list.old.items }
     ensures room { vec_capacity list.new ≡ vec_capacity list.old }
 {
@@ -146,23 +165,46 @@ fn take_off(list: &mut Vec<usize>, at: usize)
     };
     if last != at {
         list.push_reserved(last);
-        remove_index(list, at);
+        remove_index(list, spans, at);
     }
 }
 
-// Removes the index.
-fn remove_index(list: &mut Vec<usize>, at: usize)
+// Removes the index, which is searched by the turn of its span.
+fn remove_index(list: &mut Vec<usize>, spans: &[PlainSpan], at: usize)
+    requires there { at < length spans.now }
+    requires order { IsInTurn spans.now list.old.items }
     ensures removed { list.new.items ≡ without_index at list.old.items }
     ensures room { vec_capacity list.new ≡ vec_capacity list.old }
 {
-    if let Some(index) = index_of(list, at) {
-        list.remove(index);
+    let place = count_before(list, spans, turn_at(spans, at));
+    if place < list.len() && list[place] == at {
+        list.remove(place);
     }
 }
 
-// Where it stands in the list.
-fn index_of(list: &[usize], at: usize) -> Option<usize>
-    ensures { result ≡ position (λ k. k == at) list.now }
+// How many of the listed spans have a lesser turn. They are in the order of their turns.
+fn count_before(list: &[usize], spans: &[PlainSpan], turn: u64) -> usize
+    requires order { IsInTurn spans.now list.now }
+    ensures within { result ≤ length list.now }
+    ensures cut { IsTurnCut spans.now turn list.now result }
 {
-    list.iter().position(|listed| *listed == at)
+    let mut low = 0;
+    let mut high = list.len();
+    'search: while low < high {
+        let middle = low + (high - low) / 2;
+        if turn_at(spans, list[middle]) < turn {
+            low = middle + 1;
+        } else {
+            high = middle;
+        }
+    }
+    low
+}
+
+// The turn of the span there.
+fn turn_at(spans: &[PlainSpan], at: usize) -> u64
+    requires { at < length spans.now }
+    ensures { (s : Span) → slice_get spans.now at ≡ Some s → result ≡ s.turn }
+{
+    spans[at].turn()
 }

@@ -2,13 +2,13 @@ ghost use Rattle.std.specs.Prelude.{◌≡◌, ◌*◌, ◌<◌, ◌≤◌, ◌^
 ghost use Rattle.pa_machine.specs.declared.title.Title.{Title as Slot};
 ghost use Rattle.pa_layout.specs.Pages.{supers_for};
 ghost use Rattle.pa_buckets.specs.declared.spans.State.TheVariants as state;
-ghost use Rattle.pa_buckets.specs.Table.{slot_of};
 ghost use Rattle.pa_record.specs.Spans.{Span, is_in, name_of};
 ghost use Rattle.pa_record.specs.Root.{IsOut, IsTitleOut};
 ghost use Rattle.pa_record.specs.Census.{kept_of, census};
 ghost use Rattle.pa_place.specs.Order.{IsOrdered};
 ghost use Rattle.pa_place.specs.Out.{IsOutAs, IsNotOut};
-ghost use Rattle.pa_place.specs.Store.{root_of, IsReady, IsKept};
+ghost use Rattle.pa_place.specs.Scans.{bytes_kept};
+ghost use Rattle.pa_place.specs.Store.{root_of, IsReady, IsStoreSound};
 
 use crate::placed::Out;
 use crate::plain_span::PlainSpan;
@@ -47,18 +47,15 @@ impl Store {
 
     // What the root has.
     pub(crate) fn census(&self) -> Census
-        requires { IsKept self.now }
+        requires { IsStoreSound self.now }
         ensures { result ≡ census (root_of self.now) }
     {
         let sums = sums_of(&self.spans);
+        let mapped = mapped_of(&self.maps);
         Census {
-            root: Tally {
-                slots: sums.slots,
-                bytes: bytes_kept(&self.spans),
-            },
-            committed: u64::from(SYSTEM_PAGE) * sums.pages + bytes_mapped(&self.maps),
-            reserved: u64::from(SUPER_PAGE)
-                * (self.supers.len() as u64 + supers_mapped(&self.maps)),
+            root: sums.kept,
+            committed: u64::from(SYSTEM_PAGE) * sums.pages + mapped.bytes,
+            reserved: u64::from(SUPER_PAGE) * (self.supers.len() as u64 + mapped.supers),
             full: sums.full,
             active: sums.active,
             empty: sums.empty,
@@ -70,7 +67,7 @@ impl Store {
 // The slots of spans that were made and aren't out, their committed system pages, and how many are in each state.
 #[derive(Clone, Copy)]
 struct Sums {
-    slots: u64,
+    kept: Tally,
     pages: u64,
     full: u32,
     active: u32,
@@ -80,8 +77,10 @@ struct Sums {
 
 // They are counted in one pass.
 fn sums_of(spans: &[PlainSpan]) -> Sums
-    requires { length spans.now ≤ 2147483647 }
-    ensures slots { result.slots ≡ sum_by kept_of spans.now }
+    requires few { length spans.now ≤ 2147483647 }
+    requires bytes { sum_by bytes_kept spans.now < 2 ^ 64 }
+    ensures slots { result.kept.slots ≡ sum_by kept_of spans.now }
+    ensures bytes { result.kept.bytes ≡ sum_by bytes_kept spans.now }
     ensures pages { result.pages ≡ sum_by (λ (s : Span). s.committed) spans.now }
     ensures full { result.full ≡ count_by (is_in state.Full) spans.now }
     ensures active { result.active ≡ count_by (is_in state.Active) spans.now }
@@ -89,13 +88,16 @@ fn sums_of(spans: &[PlainSpan]) -> Sums
     ensures decommitted { result.decommitted ≡ count_by (is_in state.Decommitted) spans.now }
 {
     let mut slots = 0;
+    let mut bytes = 0;
     let mut pages = 0;
     let mut full = 0;
     let mut active = 0;
     let mut empty = 0;
     let mut decommitted = 0;
     for span in spans {
-        slots += u64::from(span.kept());
+        let kept = u64::from(span.kept());
+        slots += kept;
+        bytes += u64::from(slot_size(span.class())) * kept;
         pages += u64::from(span.committed());
         full += u32::from(span.is_in(State::Full));
         active += u32::from(span.is_in(State::Active));
@@ -103,7 +105,7 @@ fn sums_of(spans: &[PlainSpan]) -> Sums
         decommitted += u32::from(span.is_in(State::Decommitted));
     }
     Sums {
-        slots,
+        kept: Tally { slots, bytes },
         pages,
         full,
         active,
@@ -112,38 +114,26 @@ fn sums_of(spans: &[PlainSpan]) -> Sums
     }
 }
 
-// The bytes of the slots of the spans that were made and aren't out.
-fn bytes_kept(spans: &[PlainSpan]) -> u64
-    requires { sum_by (λ s. slot_of s.class * kept_of s) spans.now < 2 ^ 64 }
-    ensures { result ≡ sum_by (λ s. slot_of s.class * kept_of s) spans.now }
-{
-    spans
-        .iter()
-        .map(|span| u64::from(slot_size(span.class())) * u64::from(span.kept()))
-        .sum()
+// The bytes of the direct maps' slots, and the super pages of the direct maps.
+#[derive(Clone, Copy)]
+struct Mapped {
+    bytes: u64,
+    supers: u64,
 }
 
-// The bytes of the direct maps' slots, and the super pages of the direct maps.
-fn bytes_mapped(maps: &[Title]) -> u64
+// They are counted in one pass.
+fn mapped_of(maps: &[Title]) -> Mapped
     requires { length maps.now ≤ 2147483647 }
-    ensures bytes { result ≡ sum_by (λ (t : Slot). t.len) maps.now }
-    ensures bound { result ≤ 2 ^ 63 }
+    ensures bytes { result.bytes ≡ sum_by (λ (t : Slot). t.len) maps.now }
+    ensures low_bytes { result.bytes ≤ 2 ^ 63 }
+    ensures supers { result.supers ≡ sum_by (λ (t : Slot). supers_for t.len) maps.now }
+    ensures low_supers { result.supers ≤ 2049 * 2147483647 }
 {
     let mut bytes = 0;
-    for map in maps {
-        bytes += u64::from(map.len);
-    }
-    bytes
-}
-
-fn supers_mapped(maps: &[Title]) -> u64
-    requires { length maps.now ≤ 2147483647 }
-    ensures supers { result ≡ sum_by (λ (t : Slot). supers_for t.len) maps.now }
-    ensures bound { result ≤ 2049 * 2147483647 }
-{
     let mut supers = 0;
     for map in maps {
+        bytes += u64::from(map.len);
         supers += u64::from(supers_for(map.len));
     }
-    supers
+    Mapped { bytes, supers }
 }

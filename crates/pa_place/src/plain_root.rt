@@ -40,11 +40,11 @@ impl Model for PlainRoot {
 
     ghost Value = { RoomyRoot };
 
-    ghost use Rattle.pa_place.specs.Store.{root_of, IsKept, HasRooms};
+    ghost use Rattle.pa_place.specs.Store.{root_of, IsStoreSound, HasRooms};
 
     ghost view = { λ p. record { root = root_of p.store; room = p.room } };
 
-    ghost invariant = { λ p. IsKept p.store × HasRooms p.store p.spare.items p.room };
+    ghost invariant = { λ p. IsStoreSound p.store × HasRooms p.store p.spare.items p.room };
 }
 
 impl PlainRoot {

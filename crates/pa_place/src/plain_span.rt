@@ -89,6 +89,13 @@ impl PlainSpan {
         self.state
     }
 
+    // The turn with which it entered its state.
+    pub(crate) fn turn(&self) -> u64
+        ensures { result ≡ self.now.turn }
+    {
+        self.turn
+    }
+
     // The system pages that are committed.
     pub(crate) fn committed(&self) -> u32
         ensures { result ≡ self.now.committed }

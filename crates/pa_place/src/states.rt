@@ -25,11 +25,11 @@ impl Store {
         ensures many { vec_len self.new.spans ≡ vec_len self.old.spans }
         ensures room { vec_capacity self.new.spans ≡ vec_capacity self.old.spans }
     {
-        let span = &mut self.spans[at];
+        let span = &self.spans[at];
         let class = span.class();
         let was = span.state();
-        self.turn = span.enter(to, self.turn);
-        self.lists.refile(class, was, to, at);
+        self.lists.refile(&self.spans, class, was, to, at);
+        self.turn = self.spans[at].enter(to, self.turn);
     }
 
     // Where the span stands from which a slot of the class is taken where no new one is made: of the active ones the one

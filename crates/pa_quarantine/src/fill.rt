@@ -4,7 +4,7 @@ ghost use Rattle.pa_machine.specs.declared.word.Step.TheVariants.{Free, Write};
 ghost use Rattle.pa_machine.specs.Titles.{HasContentFrom};
 ghost use Rattle.pa_region.specs.Views.{HasStake, free_of, idle_of, own_as};
 ghost use Rattle.pa_region.specs.Moves.{HasHandle};
-ghost use Rattle.pa_region.specs.Shares.{IsMade};
+ghost use Rattle.pa_region.specs.Shares.{IsStepMade};
 ghost use Rattle.pa_quarantine.specs.Filling.{zeroed, poisoned, filled_share};
 
 use pa_count::wrote;
@@ -48,7 +48,7 @@ pub fn write(region: &Region, seat: &mut Seat, title: Title, value: u64) -> Word
     requires region { seat.old.region ≡ region.now }
     requires own { (0 < idle_of seat.old.view title) × (0 < own_as seat.old.view title Clean + own_as seat.old.view title Dirty) }
     requires able { HasStake seat.old.view × (0 < seat.old.view.budget) }
-    ensures { IsMade Write title result.0 (filled_share title value seat.old) seat.new }
+    ensures { IsStepMade Write title result.0 (filled_share title value seat.old) seat.new }
 {
     states_are_owns();
     owns_change();

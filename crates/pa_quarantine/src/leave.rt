@@ -7,7 +7,7 @@ ghost use Rattle.pa_machine.specs.Titles.{content_count, content_at};
 ghost use Rattle.pa_machine.specs.Titles.{poison as poison_word};
 ghost use Rattle.pa_region.specs.Views.{HasStake, free_of, own_of, own_as};
 ghost use Rattle.pa_region.specs.Moves.{CanCount, IsFound, after_look};
-ghost use Rattle.pa_region.specs.Shares.{IsUser, IsMade};
+ghost use Rattle.pa_region.specs.Shares.{IsUser, IsStepMade};
 ghost use Rattle.pa_region.specs.Loads.{after_read};
 ghost use Rattle.pa_quarantine.specs.Filling.{poisoned_share};
 
@@ -21,7 +21,7 @@ use pa_region::{Region, Seat, looks_leave, owns_change, states_are_owns};
 pub fn free_owned(region: &Region, seat: &mut Seat, title: Title) -> (Word, Fate)
     requires region { seat.old.region ≡ region.now }
     requires able { (0 < own_as seat.old.view title Clean + own_as seat.old.view title Dirty) × HasStake seat.old.view × (0 < seat.old.view.budget) }
-    ensures made { IsMade Free title result.0.0 (poisoned_share title seat.old) seat.new }
+    ensures made { IsStepMade Free title result.0.0 (poisoned_share title seat.old) seat.new }
     ensures fate { (result.1 ≡ Fate.Last) ↔ IsReturning Free result.0.0 }
     ensures last { result.1 ≡ Fate.Last → free_of seat.new.view title ≡ 1 }
     ensures kept { result.1 ≡ Fate.Kept → free_of seat.new.view title ≡ 0 }
@@ -37,7 +37,7 @@ pub fn free_owned(region: &Region, seat: &mut Seat, title: Title) -> (Word, Fate
 pub fn release(region: &Region, seat: &mut Seat, title: Title) -> (Word, Fate)
     requires region { seat.old.region ≡ region.now }
     requires able { CanCount Reset title seat.old.view }
-    ensures made { IsMade Reset title result.0.0 seat.old seat.new }
+    ensures made { IsStepMade Reset title result.0.0 seat.old seat.new }
     ensures fate { (result.1 ≡ Fate.Last) ↔ IsReturning Reset result.0.0 }
     ensures last { result.1 ≡ Fate.Last → free_of seat.new.view title ≡ 1 }
     ensures kept { result.1 ≡ Fate.Kept → free_of seat.new.view title ≡ 0 }

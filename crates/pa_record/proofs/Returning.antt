@@ -12,7 +12,7 @@ use Rattle.pa_buckets.specs.Table.{slot_of, slots_of}
 use Rattle.pa_record.specs.Spans.{Span, bytes_of, title_at, name_of, holds, number_in, with_front, without_pages, state_back, same_state, is_in, same_place, earliest}
 use Rattle.pa_record.specs.Root.{Root, in_state, entered, decommitted_span, oldest_decommitted, empties, settled, put_back, returned, all_returned, decommitted_times, IsOut, IsOutOf}
 use Rattle.pa_record.specs.Sound.{StateSays, IsCounted, IsSound}
-use Rattle.pa_record.specs.Steps.{IsKept, IsDecommittedTimes, IsReturned}
+use Rattle.pa_record.specs.Steps.{TakesNothing, IsDecommittedTimes, IsReturned}
 use Rattle.pa_record.proofs.Members.{not_in_none, first_in, later_in, in_cases, find_is, find_some}
 use Rattle.pa_record.proofs.Pairs.{pairs_head, pairs_tail}
 use Rattle.pa_record.proofs.Places.{one_span, put_cases}
@@ -23,7 +23,7 @@ use Rattle.pa_record.proofs.Slots.{slot_within, one_slot}
 use Rattle.pa_record.proofs.Out.{KeepsOut, name_like, entered_out, same_list}
 use Rattle.pa_record.proofs.Taking.{entered_made, turn_not_less}
 
-pub kept_trans : (r after last : Root) → IsKept r after → IsKept after last → IsKept r last
+pub kept_trans : (r after last : Root) → TakesNothing r after → TakesNothing after last → TakesNothing r last
 kept_trans r after last a b = record {
   sound = b.sound;
   rises = let p = a.rises in let q = b.rises in omega arith;
@@ -33,7 +33,7 @@ kept_trans r after last a b = record {
   only = λ name out. a.only name (b.only name out);
 }
 
-pub kept_same : (r : Root) → IsSound r → IsKept r r
+pub kept_same : (r : Root) → IsSound r → TakesNothing r r
 kept_same r sound = record { sound = sound; rises = omega arith; supers = refl; maps = refl; keeps = λ t made. made; only = λ name out. out }
 
 -- where what is out of t was out of s, nothing else comes out when t enters a state in place of s
@@ -54,7 +54,7 @@ entered_only r s t to name sound among like back (u, member, n, out) =
 
 -- the oldest empty span is decommitted
 pub record IsDecommitted (r after : Root) : Type 0 where
-  pub kept : IsKept r after
+  pub kept : TakesNothing r after
   pub turn : after.turn ≤ r.turn + 1
   pub fewer : empties after ≡ empties r - 1
   pub stays : (name : SlotName) → IsOut r name → IsOut after name
@@ -162,7 +162,7 @@ find_out r s name n sound among out =
 
 -- a slot that is out is returned
 pub record IsPutBack (name : SlotName) (r after : Root) : Type 0 where
-  pub kept : IsKept r after
+  pub kept : TakesNothing r after
   pub turn : after.turn ≤ r.turn + 1
   pub more : empties after ≤ empties r + 1
   pub stays : (other : SlotName) → (other ≡ name → ⊥) → IsOut r other → IsOut after other

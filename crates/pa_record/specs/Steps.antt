@@ -56,7 +56,7 @@ pub record IsFilled (class want : ℕ) (r : Root) (f : Filled) : Type 0 where
   pub keeps : (t : Title) → IsMade r t → IsMade f.root t
 
 -- What every step that takes no slot leaves: a sound root, of which nothing more is out and all that was made still is.
-pub record IsKept (r after : Root) : Type 0 where
+pub record TakesNothing (r after : Root) : Type 0 where
   pub sound : IsSound after
   pub rises : r.turn ≤ after.turn
   pub supers : after.supers ≡ r.supers
@@ -66,14 +66,14 @@ pub record IsKept (r after : Root) : Type 0 where
 
 -- the oldest empty span is decommitted so many times: nothing else changes
 pub record IsDecommittedTimes (n : ℕ) (r after : Root) : Type 0 where
-  pub kept : IsKept r after
+  pub kept : TakesNothing r after
   pub turn : after.turn ≤ r.turn + n
   pub fewer : empties after ≡ empties r - n
   pub stays : (name : SlotName) → IsOut r name → IsOut after name
 
 -- Slots are returned: they aren't out any more, all others that were out still are, and at most 16 spans stay empty.
 pub record IsReturned (names : List SlotName) (r after : Root) : Type 0 where
-  pub kept : IsKept r after
+  pub kept : TakesNothing r after
   pub turn : after.turn ≤ r.turn + 2 * length names
   pub settled : empties r ≤ 16 → empties after ≤ 16
   pub stays : (other : SlotName) → (Contains names other → ⊥) → IsOut r other → IsOut after other

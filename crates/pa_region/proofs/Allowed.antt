@@ -24,7 +24,7 @@ use Rattle.atomic_table.specs.Table.{Me, Allows, keeps}
 use Rattle.atomic_table.specs.Table.{State as TableState}
 use Rattle.atomic_table.specs.Seated.{TableId}
 use Rattle.pa_machine.proofs.Parts.{word_covered}
-use Rattle.pa_region.specs.Shares.{IsSound, byte_word_count, adds, CountTells, IsUser}
+use Rattle.pa_region.specs.Shares.{IsSeatSound, byte_word_count, adds, CountTells, IsUser}
 use Rattle.pa_region.proofs.Bytes.{bytes_word, held_in_all, place_below}
 use Rattle.pa_region.proofs.Found.{handle_held, count_can, count_found}
 use Rattle.pa_region.proofs.CountStep.{count_keeps}
@@ -102,7 +102,7 @@ free_alone t words views i v k at_i mine has =
     absurd (omega arith)
 
 -- what a seat's type keeps goes on: the view's titles lie in the region
-pub count_sound : (region : TableId) (step : Step) (t : Title) (word : ℕ) (v : View) → CanCount step t v → IsSound region v → IsSound region (after_count step t word v)
+pub count_sound : (region : TableId) (step : Step) (t : Title) (word : ℕ) (v : View) → CanCount step t v → IsSeatSound region v → IsSeatSound region (after_count step t word v)
 count_sound region step t word v can sound = record {
   small = sound.small;
   well = λ u held. well u held;
@@ -130,7 +130,7 @@ count_sound region step t word v can sound = record {
         ]
 
 -- so it is after a look
-pub look_sound : (region : TableId) (t : Title) (word : ℕ) (v : View) → IsSound region v → IsSound region (after_look t word v)
+pub look_sound : (region : TableId) (t : Title) (word : ℕ) (v : View) → IsSeatSound region v → IsSeatSound region (after_look t word v)
 look_sound region t word v sound = record {
   small = sound.small;
   well = λ u held. well u held;

@@ -12,7 +12,7 @@ use Rattle.pa_region.specs.declared.view.Entry.{Entry}
 use Rattle.pa_region.specs.declared.view.Stake.{Stake}
 use Rattle.pa_region.specs.declared.view.Keeper.{Keeper}
 use Rattle.pa_region.specs.declared.view.View.{View}
-use Rattle.pa_region.specs.Views.{held_of_view, free_of, own_of, ref_of, stake_of, logged_of, names, uncuts, unseen_by, HasTitle, HasEveryStake}
+use Rattle.pa_region.specs.Views.{held_of_view, free_of, own_of, ref_of, stake_of, logged_of, names, uncuts, undone_of, unseen_by, HasTitle, HasEveryStake}
 use Rattle.pa_region.specs.History.{IsChained}
 use Rattle.pa_region.specs.Contents.{content_at_number}
 use Rattle.pa_region.specs.Pairs.{pairs, amount_by}
@@ -38,6 +38,7 @@ record IsShareOf (v w : View) : Type 0 where
   words : w.words ≡ v.words
   seen : w.seen ≡ v.seen
   lists : w.seen_lists ≡ v.seen_lists
+  undone : (t : Title) → undone_of w t ≤ undone_of v t
 
 -- two views with the same stakes know the same of all logs
 same_logs : (v w : View) → w.stakes ≡ v.stakes → w.words ≡ v.words → HasAllLogs v → HasAllLogs w
@@ -74,6 +75,7 @@ share_aware v w h a = record {
   apart = λ t u b mine other. a.apart t u b (title t mine) (title u other);
   raw_apart = λ t b mine covers. let e = h.things (RawByte b) in let z = a.raw_apart t b (title t mine) covers in omega arith;
   gone = λ t some_uncut mine. a.gone t (let e = h.logs (uncuts t) in omega arith) (title t mine);
+  undone = λ t some_uncut mine. a.undone t (let e = h.undone t in omega arith) (title t mine);
   own_logs = let e = h.logs (unseen_by v.seen) in let z = a.own_logs in rw h.seen (omega arith);
   free_seen = λ t free. rw (h.words, h.seen) (a.free_seen t (let f = frees t in omega arith));
   notes = rw h.lists a.notes;
@@ -154,6 +156,7 @@ left_aware p v can a =
       words = refl;
       seen = refl;
       lists = refl;
+      undone = λ t. let e = parts.undone t in omega arith;
     }) a
 
 -- and of who gets it
@@ -173,4 +176,5 @@ given_aware p v can a =
       words = refl;
       seen = refl;
       lists = refl;
+      undone = λ t. let e = parts.undone t in omega arith;
     }) a

@@ -22,7 +22,7 @@ use Rattle.pa_region.specs.declared.view.Made.{Made}
 use Rattle.pa_region.specs.declared.view.Keeper.{Keeper}
 use Rattle.pa_region.specs.declared.view.SeenList.{SeenList}
 use Rattle.pa_region.specs.declared.view.View.{View}
-use Rattle.pa_region.specs.Views.{byte_words, shown, free_of, own_of, ref_of, uncut_of, stake_of, unseen_of, unseen_in, logged_in, counted_on, HasTitle}
+use Rattle.pa_region.specs.Views.{byte_words, shown, free_of, own_of, ref_of, uncut_of, undone_of, stake_of, unseen_of, unseen_in, logged_in, counted_on, HasTitle}
 use Rattle.pa_region.specs.Rule.{IsKept}
 use Rattle.pa_region.specs.Lists.{keeper_of, lease_of, list_of, list_among, IsBeginning, IsKnownTo, Rises}
 use Rattle.pa_region.specs.Aware.{IsAware}
@@ -96,6 +96,10 @@ aware_of words views i v k at_i = record {
       let o = raw_outside (byte_words words) (total_of (shown words views)) b t k.holders.good (held t mine) covers in
       omega arith;
   gone = λ t some_uncut mine. let p = sum_part (λ u. uncut_of u t) views i v at_i in k.reservations.gone t (omega arith) (held t mine);
+  undone = λ t some_uncut mine.
+      let p = sum_part (λ u. undone_of u t) views i v at_i in
+      let logged = k.undone t in
+      k.reservations.gone t (omega arith) (held t mine);
   own_logs = let p = sum_part unseen_of views i v at_i in let e = k.seen.own_logs in omega arith;
   free_seen = λ t free.
       let known = ap number_of (free_word_known words views i v t k.holders.good k.values at_i free) in

@@ -37,9 +37,9 @@ use Rattle.pa_region.proofs.SeenPart.{seen_entered, note, note_here}
 use Rattle.pa_region.proofs.Entering.{noted_logs, noted_stakes, logged_set, logged_grows}
 use Rattle.pa_region.proofs.Idle.{moved_idle_other, idle_within, copy_idle}
 use Rattle.pa_region.proofs.Bytes.{bytes_set, held_in_all, place_below}
-use Rattle.pa_region.proofs.Stays.{low_set, stakes_set, low_raw}
+use Rattle.pa_region.proofs.Stays.{low_set, stakes_set, undone_set, low_raw}
 use Rattle.pa_region.proofs.Found.{handle_held, count_can}
-use Rattle.pa_region.proofs.MovedRest.{moved_raws, moved_stakes, moved_seen, entry_of}
+use Rattle.pa_region.proofs.MovedRest.{moved_raws, moved_stakes, moved_uncut, moved_seen, entry_of}
 use Rattle.pa_region.proofs.ReadsCount.{reads_count}
 use Rattle.pa_region.proofs.CountEvent.{count_event, count_content}
 use Rattle.pa_region.proofs.CountValues.{count_values}
@@ -174,6 +174,7 @@ count_keeps step t words views i v k at_i can =
       lists = count_lists step t x.0 words (set words (count_place t) (stepped step word)) views i v k at_i can x.1
           (happens_good (CountEvent i t step) (shown words views) (shown (set words (count_place t) (stepped step word)) (set views i w)) k.holders.good event.0 event.1)
           (rw at_place (count_values step t words views i v k at_i can)) at_place;
+      undone = undone_set views i v w at_i (moved_uncut step t word v) (λ u. let m = more (uncuts u) in omega arith) k.undone;
     }
   where
     fresh : (n a : ℕ) → n ≤ a → one (ltb a n) ≡ 0

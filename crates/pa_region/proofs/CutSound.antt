@@ -13,7 +13,7 @@ use Rattle.pa_machine.proofs.Cutting.{covers_or, uncovered_raw}
 use Rattle.pa_region.specs.declared.view.View.{View}
 use Rattle.pa_region.specs.Views.{seen_of}
 use Rattle.pa_region.specs.Rule.{IsKept}
-use Rattle.pa_region.specs.Shares.{IsSound, byte_word_count, count_offset}
+use Rattle.pa_region.specs.Shares.{IsSeatSound, byte_word_count, count_offset}
 use Rattle.pa_region.specs.Stores.{after_store, HasRawWord, CanStore, StoreTells}
 use Rattle.pa_region.specs.Cuts.{CanCut, titled, after_cut, CanUncut, after_uncut}
 use Rattle.pa_region.proofs.Adding.{sum_none}
@@ -25,7 +25,7 @@ use Rattle.pa_region.proofs.CutStep.{cut_keeps, cut_unseen}
 use Rattle.pa_region.proofs.UncutStep.{uncut_keeps, uncut_changes, uncut_fewer}
 
 -- a title that can be cut lies in the seat's region
-pub cut_well : (region : TableId) (t : Title) (v : View) → IsSound region v → CanCut t v → IsWellFormed (byte_word_count region) t
+pub cut_well : (region : TableId) (t : Title) (v : View) → IsSeatSound region v → CanCut t v → IsWellFormed (byte_word_count region) t
 cut_well region t v sound can =
     let long = can.long in
     let low = can.floors (t.start + t.len - 1) (omega arith, omega arith) in
@@ -45,7 +45,7 @@ cut_store t v can =
 pub cut_still : (t : Title) (v : View) → CanCut t v → CanCut t (after_store (count_offset t) 0 v)
 cut_still t v can = record { start_aligned = can.start_aligned; len_aligned = can.len_aligned; long = can.long; floors = can.floors }
 
-pub cut_zero : (region : TableId) (t : Title) (v : View) → IsSound region v → CanCut t v → count_word (after_store (count_offset t) 0 v).words t ≡ 0
+pub cut_zero : (region : TableId) (t : Title) (v : View) → IsSeatSound region v → CanCut t v → count_word (after_store (count_offset t) 0 v).words t ≡ 0
 cut_zero region t v sound can =
     let well = cut_well region t v sound can in
     let a = well.start_aligned in let b = well.len_aligned in let c = well.long in let d = well.inside in let e = sound.long in
@@ -92,7 +92,7 @@ title_inside region table t place at_byte same well at_is e =
     omega arith
 
 -- what a seat's type keeps goes on after a cut
-pub titled_sound : (region : TableId) (t : Title) (v : View) → IsSound region v → CanCut t v → IsSound region (titled t v)
+pub titled_sound : (region : TableId) (t : Title) (v : View) → IsSeatSound region v → CanCut t v → IsSeatSound region (titled t v)
 titled_sound region t v sound can = record {
   small = sound.small;
   well = λ u has.
@@ -112,7 +112,7 @@ titled_sound region t v sound can = record {
 }
 
 -- and after an uncut
-pub uncut_sound : (region : TableId) (t : Title) (v : View) → IsSound region v → CanUncut t v → IsSound region (after_uncut t v)
+pub uncut_sound : (region : TableId) (t : Title) (v : View) → IsSeatSound region v → CanUncut t v → IsSeatSound region (after_uncut t v)
 uncut_sound region t v sound can = record {
   small = sound.small;
   well = λ u has. let l = uncut_fewer t v can.0 u in sound.well u (omega arith);

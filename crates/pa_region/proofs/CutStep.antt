@@ -33,7 +33,7 @@ use Rattle.pa_region.proofs.ListPart.{lists_grown}
 use Rattle.pa_region.proofs.ReadsSame.{reads_other}
 use Rattle.pa_region.proofs.OneTitle.{unstepped}
 use Rattle.pa_region.proofs.Entering.{logged_grows}
-use Rattle.pa_region.proofs.Stays.{low_held, stakes_set}
+use Rattle.pa_region.proofs.Stays.{low_held, stakes_set, undone_set}
 use Rattle.pa_region.proofs.Parting.{raws_part}
 use Rattle.pa_region.proofs.Cutting.{outside_none, inside_none, titled_low, low_more, counted_names, uncut_names}
 
@@ -195,6 +195,7 @@ cut_keeps t words views i v k at_i can zero =
           (λ u n. let c = sum_set (λ z. ahead_of z u n) views i v w at_i in omega arith)
           (let c = sum_set unseen_of views i v w at_i in omega arith);
       lists = lists_grown k.list views i v w at_i k.lists (record { keepers = refl; leases = refl; lists = refl; stakes = inl refl; seen = λ u. omega arith; handles = λ u has. inl has }) free_seen;
+      undone = undone_set views i v w at_i refl (λ u. let l = logs (uncuts u) in omega arith) k.undone;
     }
   where
     changes : Changes (total_of (shown words views)) (RawPiece t.start t.len ∷ []) (FreePiece t ∷ []) (total_of (shown words (set views i (titled t v))))

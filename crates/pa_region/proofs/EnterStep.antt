@@ -14,7 +14,7 @@ use Rattle.pa_region.specs.declared.view.Entry.TheVariants.{Entered}
 use Rattle.pa_region.specs.declared.view.View.{View}
 use Rattle.pa_region.specs.Views.{pieces_of, byte_words, shown, idle_of, idle_in, budget_in, low_in, uncut_in, stakes_in, logged_of, logged_in, ahead_of, ahead_in, unseen_by, unseen_of, unseen_in, counted, counted_on, names, uncuts, HasStake}
 use Rattle.pa_region.specs.Rule.{IsKept}
-use Rattle.pa_region.specs.Shares.{IsSound}
+use Rattle.pa_region.specs.Shares.{IsSeatSound}
 use Rattle.pa_region.specs.Entries.{new_entry, after_enter, CanEnter}
 use Rattle.pa_region.proofs.Adding.{sum_set, one_lt}
 use Rattle.pa_region.proofs.Pieces.{total_set}
@@ -26,7 +26,7 @@ use Rattle.pa_region.proofs.LogPart.{chain_other}
 use Rattle.pa_region.proofs.SeenPart.{seen_same}
 use Rattle.pa_region.proofs.Entering.{noted_logs, noted_stakes, logged_set}
 use Rattle.pa_region.proofs.Shown.{map_same}
-use Rattle.pa_region.proofs.Stays.{low_set, stakes_set}
+use Rattle.pa_region.proofs.Stays.{low_set, stakes_set, undone_set}
 use Rattle.pa_region.proofs.EntryReads.{entry_reads}
 use Rattle.pa_region.proofs.SeatStakes.{SameStakes}
 use Rattle.pa_region.proofs.EnterLists.{list_with, enter_lists}
@@ -79,6 +79,7 @@ enter_keeps k numbers words views i v r at_i can =
           (λ u n. let c = sum_set (λ z. ahead_of z u n) views i v w at_i in omega arith)
           (let c = sum_set unseen_of views i v w at_i in let d = logged (unseen_by v.seen) in omega arith);
       lists = enter_lists r.list k numbers views i v at_i can once r.lists;
+      undone = undone_set views i v w at_i refl (λ u. let m = more (uncuts u) in omega arith) r.undone;
     }
   where
     once : (n : ℕ) → stakes_in views n ≤ 1
@@ -100,5 +101,5 @@ enter_allowed k numbers slots id place me can s r homes at_id small = (
 )
 
 -- what a seat's type keeps goes on
-pub enter_sound : (region : TableId) (k : ℕ) (numbers : List ℕ) (v : View) → IsSound region v → IsSound region (after_enter k numbers v)
+pub enter_sound : (region : TableId) (k : ℕ) (numbers : List ℕ) (v : View) → IsSeatSound region v → IsSeatSound region (after_enter k numbers v)
 enter_sound region k numbers v s = record { small = s.small; well = s.well; raw = s.raw; long = s.long }

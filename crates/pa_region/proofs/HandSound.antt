@@ -11,7 +11,7 @@ use Rattle.pa_region.specs.declared.view.View.{View}
 use Rattle.pa_region.specs.Views.{held_of_view, HasTitle}
 use Rattle.pa_region.specs.Rule.{IsKept}
 use Rattle.pa_region.specs.Hands.{Parcel, CanHand, CanTake, left_after, given_after, united, spent_of}
-use Rattle.pa_region.specs.Shares.{IsSound, byte_word_count}
+use Rattle.pa_region.specs.Shares.{IsSeatSound, byte_word_count}
 use Rattle.pa_region.proofs.Pieces.{frees_have, owns_have, refs_have}
 use Rattle.pa_region.proofs.Shown.{put_beside}
 use Rattle.pa_region.proofs.HandStep.{hand_parts, hand_keeps}
@@ -19,7 +19,7 @@ use Rattle.pa_region.proofs.JoinStep.{united_parts, join_keeps}
 use Rattle.pa_region.proofs.Merging.{merged_long}
 
 -- who holds no more, is as sound
-sound_less : (region : TableId) (v w : View) → IsSound region v → ((x : Thing) → held_of_view w x ≤ held_of_view v x) → length w.words ≡ length v.words → IsSound region w
+sound_less : (region : TableId) (v w : View) → IsSeatSound region v → ((x : Thing) → held_of_view w x ≤ held_of_view v x) → length w.words ≡ length v.words → IsSeatSound region w
 sound_less region v w s less long = record {
   small = s.small;
   well = λ t has. s.well t (titles t has);
@@ -34,14 +34,14 @@ sound_less region v w s less long = record {
         let fw = frees_have w t in let ow = owns_have w t in let rw1 = refs_have w t in
         omega arith
 
-pub left_sound : (region : TableId) (p : Parcel) (v : View) → CanHand p v → IsSound region v → IsSound region (left_after p v)
+pub left_sound : (region : TableId) (p : Parcel) (v : View) → CanHand p v → IsSeatSound region v → IsSeatSound region (left_after p v)
 left_sound region p v can s = sound_less region v (left_after p v) s (λ x. let e = (hand_parts p v can).things x in omega arith) (omega arith)
 
-pub given_sound : (region : TableId) (p : Parcel) (v : View) → CanHand p v → IsSound region v → IsSound region (given_after p v)
+pub given_sound : (region : TableId) (p : Parcel) (v : View) → CanHand p v → IsSeatSound region v → IsSeatSound region (given_after p v)
 given_sound region p v can s = sound_less region v (given_after p v) s (λ x. let e = (hand_parts p v can).things x in omega arith) (omega arith)
 
 -- and so are two together
-pub united_sound : (region : TableId) (v w : View) → IsSound region v → IsSound region w → IsSound region (united v w)
+pub united_sound : (region : TableId) (v w : View) → IsSeatSound region v → IsSeatSound region w → IsSeatSound region (united v w)
 united_sound region v w s r = record {
   small = s.small;
   well = λ t has. titles t has;

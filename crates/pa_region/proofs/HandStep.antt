@@ -48,6 +48,7 @@ hand_parts p v can = record {
   logs_by = λ k weight. stakes_part p v (amount_by k (sum_by weight));
   poisoned = λ t. let e = items_owns (λ u a. one (same_title u t && is_poisoned a)) p.items v (empty_of v) can.items in omega arith;
   unclean = let e = items_owns (λ u a. one (is_unclean a)) p.items v (empty_of v) can.items in omega arith;
+  undone = λ t. omega arith;
 }
 
 -- only clean Owns are given

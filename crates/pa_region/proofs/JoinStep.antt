@@ -65,6 +65,7 @@ united_parts v w = record {
   logs_by = λ k weight. sym (sum_by-append (amount_by k (sum_by weight)) v.stakes w.stakes);
   poisoned = λ t. sym (sum_by-append (λ (o : OwnTitle). one (same_title o.title t && is_poisoned o.state)) v.owns w.owns);
   unclean = sym (sum_by-append (λ (o : OwnTitle). one (is_unclean o.state)) v.owns w.owns);
+  undone = λ t. sym (sum_by-append (λ u. one (same_title u t)) v.uncut w.uncut);
 }
 
 -- the least stake of both isn't above that of one
@@ -92,6 +93,7 @@ spent_parts w = record {
   logs_by = λ k weight. refl;
   poisoned = λ t. refl;
   unclean = refl;
+  undone = λ t. refl;
 }
 
 -- who knows a word of the view of both knows it alone

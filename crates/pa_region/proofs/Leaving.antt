@@ -26,7 +26,7 @@ use Rattle.pa_region.proofs.Adding.{first_of, changed_sum}
 use Rattle.pa_region.proofs.Pieces.{frees_have, owns_have, refs_have, owns_as_have, handle_piece, lost_by, gained_by, moved_changes}
 use Rattle.pa_region.proofs.Entering.{with_entry_last, least_there, noted_logs, noted_stakes, least_noted}
 use Rattle.pa_region.proofs.Waitings.{log_changed, last_noted}
-use Rattle.pa_region.proofs.MovedRest.{moved_raws, moved_stakes, moved_seen, entry_of}
+use Rattle.pa_region.proofs.MovedRest.{moved_raws, moved_stakes, moved_uncut, moved_seen, entry_of}
 use Rattle.pa_region.proofs.CountLists.{moved_rest}
 use Rattle.pa_region.proofs.Filled.{filled_long, filled_beside}
 use Rattle.pa_region.proofs.LookStep.{look_holds}
@@ -164,6 +164,7 @@ count_leaves step t word v can =
       keepers = rest.0;
       leases = rest.1;
       lists = rest.2;
+      uncut = moved_uncut step t word v;
     }
 
 -- what a look leaves

@@ -137,6 +137,7 @@ lend_keeps lender done r can there long aware back =
       words = λ q knows. left_known l g q long (knows_less lender l q (λ x. omega arith) knows);
       seen = λ t. seen_left t lender.seen done.seen;
       lists = λ k. left_begins l g k aware;
+      undone = λ t. let e = parts.undone t in let c = cut.undone t in omega arith;
     }
 
 -- and its logs have what was done with it
@@ -189,6 +190,7 @@ keeps_on u v w a b = record {
   words = λ q knows. b.words q (knows_less v u q (λ x. let e = a.things x in omega arith) knows) ∙ a.words q knows;
   seen = λ t. let x = a.seen t in let y = b.seen t in omega arith;
   lists = λ k. begins_on (list_of k u) (list_of k v) (list_of k w) (a.lists k) (b.lists k);
+  undone = λ t. let x = a.undone t in let y = b.undone t in omega arith;
 }
 
 -- who had the stake keeps what it has
@@ -219,6 +221,7 @@ host_keeps host lender done r can there long aware none k =
       words = λ q knows. k.words q (knows_less u host q (λ x. let e = parts.things x in omega arith) knows) ∙ left_known host g q long knows;
       seen = λ t. let a = seen_left t host.seen lender.seen in let f = k.seen t in omega arith;
       lists = λ n. begins_on (list_of n host) (list_of n u) (list_of n l) (left_begins host g n aware) (k.lists n);
+      undone = λ t. let e = parts.undone t in let f = k.undone t in omega arith;
     }
 
 -- who makes an entry keeps what it has
@@ -241,6 +244,7 @@ entering_keeps k numbers v can =
         | inl y ↦ subst (λ (n : ℕ). IsBeginning (list_of n v) (list_of n (after_enter k numbers v))) (sym y.1) (new_entry numbers v ∷ [], e.list)
         | inr n ↦ ([], e.other_lists q n.1 ∙ sym (append-nil (list_of q v)))
       ];
+      undone = λ t. omega arith;
     }
 
 -- who has no unclean Own has no poisoned one

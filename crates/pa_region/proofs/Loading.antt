@@ -19,7 +19,7 @@ use Rattle.pa_region.specs.declared.view.View.{View}
 use Rattle.pa_region.specs.Views.{stake_of, held_of_view, byte_words, shown, free_of, Knows, HasTitle, HasStake}
 use Rattle.pa_region.specs.Rule.{IsKept}
 use Rattle.pa_region.specs.Moves.{IsFound, after_look}
-use Rattle.pa_region.specs.Shares.{IsSound, byte_word_count, IsUser, count_offset}
+use Rattle.pa_region.specs.Shares.{IsSeatSound, byte_word_count, IsUser, count_offset}
 use Rattle.pa_region.specs.Loads.{after_read, content_offset, IsPlain, CanLoad, ReadTells, LoadTells}
 use Rattle.pa_region.proofs.Pieces.{held_within, title_held}
 use Rattle.pa_region.proofs.SeatStakes.{SameStakes, stakes_equal}
@@ -214,14 +214,14 @@ load_allowed at_byte slots id place me at_place can s k homes at_id small =
     )
 
 -- a load leaves what a seat's type keeps
-pub load_keeps : (at_byte : ℕ) (region : TableId) (v after : View) (word : ℕ) → CanLoad at_byte v → LoadTells at_byte v word after → IsSound region v →
-    IsSound region after × SameStakes v after
+pub load_keeps : (at_byte : ℕ) (region : TableId) (v after : View) (word : ℕ) → CanLoad at_byte v → LoadTells at_byte v word after → IsSeatSound region v →
+    IsSeatSound region after × SameStakes v after
 load_keeps at_byte region v after word can told sound = go can.1
   where
-    go : IsPlain v at_byte ⊎ ((t : Title) × Covers t at_byte × IsUser t v × HasStake v) → IsSound region after × SameStakes v after
+    go : IsPlain v at_byte ⊎ ((t : Title) × Covers t at_byte × IsUser t v × HasStake v) → IsSeatSound region after × SameStakes v after
     go (inl plain) =
         let same = (told.plain plain).0 in
-        (subst (λ (w : View). IsSound region w) (sym same) sound, stakes_equal v after (ap (λ (w : View). w.stakes) same))
+        (subst (λ (w : View). IsSeatSound region w) (sym same) sound, stakes_equal v after (ap (λ (w : View). w.stakes) same))
     go (inr user) =
         let t = user.0 in
         let has = user.2 in
@@ -232,19 +232,19 @@ load_keeps at_byte region v after word can told sound = go can.1
         elim (word_cases (byte_word_count region) t (at_byte / 8) well (omega arith, omega arith)) [
           | inl e ↦
               let same = (told.look t (omega arith) user.2).0 in (
-                subst (λ (w : View). IsSound region w) (sym same) (look_sound region t word v sound),
+                subst (λ (w : View). IsSeatSound region w) (sym same) (look_sound region t word v sound),
                 λ k. ap (λ (w : View). stake_of w k) same ∙ noted_stakes _ v.stakes k user.3,
               )
           | inr c ↦
               let place_is = c.2 in
               let same = (told.read t c.0 (omega arith) c.1 user.2).0 in (
-                subst (λ (w : View). IsSound region w) (sym same) (record { small = sound.small; well = sound.well; raw = sound.raw; long = sound.long }),
+                subst (λ (w : View). IsSeatSound region w) (sym same) (record { small = sound.small; well = sound.well; raw = sound.raw; long = sound.long }),
                 λ k. ap (λ (w : View). stake_of w k) same ∙ noted_stakes _ v.stakes k user.3,
               )
         ]
 
 -- the word that is loaded is one of the region's
-pub load_inside : (region table : TableId) (at_byte place : ℕ) (v : View) → region ≡ table → IsSound region v → CanLoad at_byte v → place ≡ at_byte / 8 → place < table.words
+pub load_inside : (region table : TableId) (at_byte place : ℕ) (v : View) → region ≡ table → IsSeatSound region v → CanLoad at_byte v → place ≡ at_byte / 8 → place < table.words
 load_inside region table at_byte place v same sound can e = go can.1
   where
     words_are : region.words ≡ table.words

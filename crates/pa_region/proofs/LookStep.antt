@@ -34,7 +34,7 @@ use Rattle.pa_region.proofs.Idle.{look_idle_other, look_idle_none}
 use Rattle.pa_region.proofs.Bytes.{held_in_all}
 use Rattle.pa_region.proofs.Shown.{shown_actor, map_same}
 use Rattle.pa_region.proofs.CountEvent.{title_in_core}
-use Rattle.pa_region.proofs.Stays.{low_set, stakes_set, low_raw}
+use Rattle.pa_region.proofs.Stays.{low_set, stakes_set, undone_set, low_raw}
 use Rattle.pa_region.proofs.ReadsSame.{reads_look}
 use Rattle.pa_region.proofs.ValuePart.{values_same}
 use Rattle.pa_region.proofs.CountLists.{look_lists}
@@ -165,6 +165,7 @@ look_keeps t words views i v k at_i mine has =
           (fresh (number_of word) (seen_among t (note t (number_of word) ∷ v.seen)) (note_here t (number_of word) v.seen))
           k.seen;
       lists = look_lists t word words views i v k at_i;
+      undone = undone_set views i v w at_i refl (λ u. let m = more (uncuts u) in omega arith) k.undone;
     }
   where
     fresh : (n a : ℕ) → n ≤ a → one (ltb a n) ≡ 0

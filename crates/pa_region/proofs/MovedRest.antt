@@ -24,6 +24,14 @@ moved_stakes Reset t word v = refl
 moved_stakes Free t word v = refl
 moved_stakes Write t word v = refl
 
+-- what it made raw again
+pub moved_uncut : (step : Step) (t : Title) (word : ℕ) (v : View) → (moved step t word v).uncut ≡ v.uncut
+moved_uncut Issue t word v = refl
+moved_uncut Copy t word v = refl
+moved_uncut Reset t word v = refl
+moved_uncut Free t word v = refl
+moved_uncut Write t word v = refl
+
 -- what it has seen
 pub moved_seen : (step : Step) (t : Title) (word : ℕ) (v : View) → (moved step t word v).seen ≡ v.seen
 moved_seen Issue t word v = refl

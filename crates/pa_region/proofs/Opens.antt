@@ -16,7 +16,7 @@ use Rattle.pa_machine.proofs.Cutting.{covered_raw, uncovered_raw}
 use Rattle.pa_region.specs.declared.view.View.{View}
 use Rattle.pa_region.specs.Views.{held_of_view, byte_words, shown}
 use Rattle.pa_region.specs.Rule.{IsKept}
-use Rattle.pa_region.specs.Shares.{IsSound, byte_word_count}
+use Rattle.pa_region.specs.Shares.{IsSeatSound, byte_word_count}
 use Rattle.pa_region.specs.Aware.{IsAware}
 use Rattle.pa_region.proofs.Awareness.{aware_of}
 use Rattle.pa_region.specs.Marks.{AreStakes}
@@ -112,6 +112,7 @@ opens words budget few = record {
     own_logs = refl;
   };
   lists = first_lists words budget;
+  undone = λ t. omega arith;
 }
   where
     all_words : List ℕ
@@ -138,7 +139,7 @@ opens words budget few = record {
     only (suc i) v at_i = absurd (some-ne-none v (sym at_i))
 
 -- the first view is sound, and its seat has every stake
-pub first_sound : (region : TableId) (words budget : ℕ) → byte_word_count region ≡ words → words ≤ 4194304 → IsSound region (first_view words budget)
+pub first_sound : (region : TableId) (words budget : ℕ) → byte_word_count region ≡ words → words ≤ 4194304 → IsSeatSound region (first_view words budget)
 first_sound region words budget e small = record {
   small = rw e small;
   well = λ t has. absurd (omega arith);
@@ -154,13 +155,13 @@ opens_with supers budget words few z = rw z (opens (supers * 262144) budget few)
 -- what the first seat's type keeps
 pub first_keeps : (supers budget : ℕ) (words : List ℕ) (table region : TableId) (me : Me (Unit {0}) View) → supers ≤ 16 → budget ≤ 65536 →
     words ≡ replicate (supers * 262144 + 16) 0 → table.words ≡ length words → region ≡ table → me ≡ (first_view (supers * 262144) budget, []) →
-    (me.1 ≡ []) × IsSound region me.0 × AreStakes (replicate 16 true) me.0 × IsAware me.0
+    (me.1 ≡ []) × IsSeatSound region me.0 × AreStakes (replicate 16 true) me.0 × IsAware me.0
 first_keeps supers budget words table region me few enough z long same is_first =
     let count : length words ≡ supers * 262144 + 16 = ap (λ (ws : List ℕ). length ws) z ∙ length-replicate (supers * 262144 + 16) 0 in
     let n : region.words ≡ length words = ap (λ (x : TableId). x.words) same ∙ long in
     let view : me.0 ≡ first_view (supers * 262144) budget = ap (λ (m : Me (Unit {0}) View). m.0) is_first in (
       ap (λ (m : Me (Unit {0}) View). m.1) is_first,
-      subst (λ (v : View). IsSound region v) (sym view) (first_sound region (supers * 262144) budget (omega arith) (omega arith)),
+      subst (λ (v : View). IsSeatSound region v) (sym view) (first_sound region (supers * 262144) budget (omega arith) (omega arith)),
       subst (λ (v : View). AreStakes (replicate 16 true) v) (sym view) (first_stakes (supers * 262144) budget),
       subst (λ (v : View). IsAware v) (sym view)
           (aware_of words (first_view (supers * 262144) budget ∷ []) 0 (first_view (supers * 262144) budget) (opens_with supers budget words enough z) refl),

@@ -98,6 +98,7 @@ poison_write t j words views i v k at_i can =
       content = λ u other e. content_no_count words views t u (8 * content_place t j) k held covered.1 (let z : (8 * content_place t j) % 8 ≡ 0 = omega arith in z) other (place ∙ e);
       known = refl;
       raws = refl;
+      uncut = refl;
       raw = λ b. poison_holds t j v (RawByte b) (λ o. refl);
       free = λ u. poison_holds t j v (FreeTitle u) (λ o. refl);
       own = λ u. poison_holds t j v (OwnOf u) (λ o. refl);

@@ -27,7 +27,7 @@ use Rattle.pa_region.proofs.LogPart.{chain_other}
 use Rattle.pa_region.proofs.SeenPart.{seen_same}
 use Rattle.pa_region.proofs.Entering.{noted_logs, noted_stakes, logged_set}
 use Rattle.pa_region.proofs.Shown.{shown_actor, map_same}
-use Rattle.pa_region.proofs.Stays.{low_set, stakes_set, low_raw}
+use Rattle.pa_region.proofs.Stays.{low_set, stakes_set, undone_set, low_raw}
 use Rattle.pa_region.proofs.ValuePart.{values_same}
 use Rattle.pa_region.proofs.CountEvent.{content_covered, title_in_core}
 use Rattle.pa_region.proofs.PairSums.{paired_set, paired_by_set, logged_by_set}
@@ -175,4 +175,5 @@ read_keeps words views i v t place k at_i has stake below =
         seen = λ u. omega arith;
         handles = λ u has. inl has;
       }) (k.lists.free_seen i v at_i);
+      undone = undone_set views i v w at_i refl (λ u. let m = more (uncuts u) in omega arith) k.undone;
     }

@@ -17,7 +17,7 @@ use Rattle.pa_region.specs.declared.view.Entry.{Entry}
 use Rattle.pa_region.specs.declared.view.OwnTitle.{OwnTitle}
 use Rattle.pa_region.specs.declared.view.SeenNumber.{SeenNumber}
 use Rattle.pa_region.specs.declared.view.View.{View}
-use Rattle.pa_region.specs.Views.{held_of_view, byte_words, shown, idle_of, idle_in, budget_in, low_of, low_in, uncut_in, stake_of, stakes_in, logged_of, logged_in, ahead_of, ahead_in, unseen_by, unseen_of, own_of, unseen_in, counted, counted_on, names, uncuts}
+use Rattle.pa_region.specs.Views.{held_of_view, byte_words, shown, idle_of, idle_in, budget_in, low_of, low_in, uncut_in, undone_of, undone_in, stake_of, stakes_in, logged_of, logged_in, ahead_of, ahead_in, unseen_by, unseen_of, own_of, unseen_in, counted, counted_on, names, uncuts}
 use Rattle.pa_region.specs.Rule.{Values, Reservations, Logs, IsKept}
 use Rattle.pa_region.specs.Lists.{keeper_of, keepers_in, lease_of, leases_in, IsListed, HasSeenFree}
 use Rattle.pa_region.specs.Hands.{IsParted, CanTake}
@@ -47,6 +47,7 @@ pub record IsRegrouped (before after : List View) : Type 0 where
   pub pairs_by : (k : ℕ) (weight : Entry → Entry → ℕ) → paired_by after k weight ≡ paired_by before k weight
   pub logs_by : (k : ℕ) (weight : Entry → ℕ) → logged_by after k weight ≡ logged_by before k weight
   pub poisoned : (t : Title) (k : ℕ) → poisoned_apart before t k ≤ poisoned_apart after t k
+  pub undone : (t : Title) → undone_in after t ≡ undone_in before t
 
 -- contents stay where the totals do
 content_regrouped : (words : List ℕ) (before after : List View) (last : Title → ℕ) → ((x : Thing) → total_of (shown words after) x ≡ total_of (shown words before) x) →
@@ -100,6 +101,7 @@ kept_regrouped words before after k g values listed free readers =
         each_view = listed;
         free_seen = free;
       };
+      undone = λ t. let a = g.undone t in let b = g.logs (uncuts t) in let c = k.undone t in omega arith;
     }
 
 -- how often a view that doesn't have stake k has the title's Own poisoned
@@ -196,6 +198,7 @@ parted_regroups views i v l r at_i p left right = record {
       let b = sum_set (λ u. apart_of u t k) views i v l at_i in
       let c = apart_parted v l r t k (p.stakes k) (p.poisoned t) in
       omega arith;
+  undone = λ t. part_sum (λ u. undone_of u t) views i v l r at_i (p.undone t);
 }
   where
     sums : unseen_of l + unseen_of r ≡ unseen_of v
@@ -246,6 +249,7 @@ joined_regroups views i j v w both spent at_i at_j p idle none seen no_note can 
       let b = sum_set (λ u. apart_of u t k) (set views i both) j w spent at_j in
       let c = apart_joined v w both t k (sym (p.stakes k)) (sym (p.poisoned t)) can in
       omega arith;
+  undone = λ t. join_sum (λ u. undone_of u t) views i j v w both spent at_i at_j (sym (p.undone t)) (let z = none.undone t in omega arith);
 }
   where
     no_idle : (t : Title) → idle_of spent t ≡ 0

@@ -16,7 +16,7 @@ use Rattle.pa_region.specs.Moves.{moved, after_count}
 use Rattle.pa_region.proofs.Pieces.{HasPiece, lost_by, gained_by, moved_changes, frees_have}
 use Rattle.pa_machine.specs.Run.{IsReturning}
 use Rattle.pa_machine.proofs.Amounts.{free_self}
-use Rattle.pa_region.specs.Shares.{Share, IsMade}
+use Rattle.pa_region.specs.Shares.{Share, IsStepMade}
 
 -- a reset or a free
 abbrev pub IsRelease : Step → Type 0
@@ -72,7 +72,7 @@ busy_word step word (inl e) can f = let c : CanStep Reset word = subst (λ (s : 
 busy_word step word (inr e) can f = let c : CanStep Free word = subst (λ (s : Step). CanStep s word) e can in let p = f.0 in let q = c.0 in absurd (omega arith)
 
 -- after a returning step the seat holds the title free, once
-pub returned_holds : (step : Step) (t : Title) (word : ℕ) (before after : Share) → IsRelease step → HasPiece step t before.view → IsMade step t word before after →
+pub returned_holds : (step : Step) (t : Title) (word : ℕ) (before after : Share) → IsRelease step → HasPiece step t before.view → IsStepMade step t word before after →
     IsReturning step word → free_of after.view t ≡ 1
 returned_holds step t word before after release has made r =
     let f = frees_after step t word before.view release has in
@@ -85,7 +85,7 @@ returned_holds step t word before after release has made r =
     ]
 
 -- after any other release it doesn't
-pub kept_holds : (step : Step) (t : Title) (word : ℕ) (before after : Share) → IsRelease step → HasPiece step t before.view → IsMade step t word before after →
+pub kept_holds : (step : Step) (t : Title) (word : ℕ) (before after : Share) → IsRelease step → HasPiece step t before.view → IsStepMade step t word before after →
     (IsReturning step word → ⊥) → free_of after.view t ≡ 0
 kept_holds step t word before after release has made other =
     let f = frees_after step t word before.view release has in

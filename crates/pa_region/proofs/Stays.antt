@@ -3,11 +3,12 @@ use Rattle.std.proofs.Common.{◌≡◌, ℕ, ◌+◌, ◌≤◌, ◌&&◌, List
 use Rattle.std.proofs.lemmas.List.Sums.{sum_by-le-sum_by}
 use mathlib.Core.Option.{some}
 use lib.ListN.{get_elem?}
+use Rattle.pa_machine.specs.declared.title.Title.{Title}
 use Rattle.pa_machine.specs.Holdings.{RawByte, one, amount}
 use Rattle.pa_machine.specs.Events.{total_of}
 use Rattle.pa_region.specs.declared.view.RawRange.{RawRange}
 use Rattle.pa_region.specs.declared.view.View.{View}
-use Rattle.pa_region.specs.Views.{raw_piece, held_of_view, shown, low_of, low_in, stake_of, stakes_in}
+use Rattle.pa_region.specs.Views.{raw_piece, held_of_view, shown, low_of, low_in, uncut_in, undone_of, undone_in, stake_of, stakes_in}
 use Rattle.pa_region.proofs.Adding.{one_and, sum_set}
 use Rattle.pa_region.proofs.Pieces.{held_split, total_sum}
 
@@ -23,6 +24,17 @@ pub stakes_set : (views : List View) (i : ℕ) (v w : View) → get_elem? views 
 stakes_set views i v w at_i same k =
     let c = sum_set (λ u. stake_of u k) views i v w at_i in
     let s = same k in
+    omega arith
+
+-- what a view's own list says was made raw again, some log says, where the lists stay and no log loses anything
+pub undone_set : (views : List View) (i : ℕ) (v w : View) → get_elem? views i ≡ some v → w.uncut ≡ v.uncut →
+    ((t : Title) → uncut_in views t ≤ uncut_in (set views i w) t) → ((t : Title) → undone_in views t ≤ uncut_in views t) →
+    (t : Title) → undone_in (set views i w) t ≤ uncut_in (set views i w) t
+undone_set views i v w at_i e grows before t =
+    let c = sum_set (λ u. undone_of u t) views i v w at_i in
+    let same : undone_of w t ≡ undone_of v t = rw e refl in
+    let g = grows t in
+    let b = before t in
     omega arith
 
 -- a raw range with a low floor is a raw range, of one view

@@ -156,6 +156,7 @@ store_write at_byte value words views i v k at_i can = record {
   content = λ t held e. no_count can.1 t held e;
   known = refl;
   raws = refl;
+  uncut = refl;
   raw = λ b. store_holds at_byte value v (RawByte b) (λ o. refl);
   free = λ t. store_holds at_byte value v (FreeTitle t) (λ o. refl);
   own = λ t. store_holds at_byte value v (OwnOf t) (λ o. refl);

@@ -22,7 +22,7 @@ use Rattle.pa_region.specs.declared.view.Entry.{Entry}
 use Rattle.pa_region.specs.declared.view.Entry.TheVariants.{Uncut}
 use Rattle.pa_region.specs.declared.view.Stake.{Stake}
 use Rattle.pa_region.specs.declared.view.View.{View}
-use Rattle.pa_region.specs.Views.{raw_piece, held_of_view, byte_words, shown, Knows, free_of, idle_of, idle_in, budget_in, low_of, low_in, uncut_in, logged_of, logged_in, ahead_of, ahead_in, unseen_by, unseen_of, unseen_in, counted, counted_on, names, uncuts}
+use Rattle.pa_region.specs.Views.{raw_piece, held_of_view, byte_words, shown, Knows, free_of, idle_of, idle_in, budget_in, low_of, low_in, uncut_in, undone_of, logged_of, logged_in, ahead_of, ahead_in, unseen_by, unseen_of, unseen_in, counted, counted_on, names, uncuts}
 use Rattle.pa_region.specs.History.{content_of}
 use Rattle.pa_region.specs.Rule.{IsKept}
 use Rattle.pa_region.specs.Moves.{is_title_of}
@@ -135,6 +135,12 @@ uncut_keeps t words views i v k at_i can =
           (let c = sum_set unseen_of views i v w at_i in let d = logged (unseen_by v.seen) in omega arith);
       lists = lists_grown k.list views i v w at_i k.lists (record { keepers = refl; leases = refl; lists = refl; stakes = inr (e, refl, λ n. refl); seen = λ u. omega arith; handles = λ u has. inl has })
           (λ u free. k.lists.free_seen i v at_i u (let l = uncut_fewer t v can.0 u in omega arith));
+      undone = λ u.
+          let c = sum_set (λ (z : View). undone_of z u) views i v w at_i in
+          let one_more = sum_by-cons (λ (x : Title). one (same_title x u)) t v.uncut in
+          let m = more (uncuts u) in
+          let b = k.undone u in
+          omega arith;
     }
   where
     changes : Changes (total_of (shown words views)) (FreePiece t ∷ []) (RawPiece t.start t.len ∷ []) (total_of (shown words (set views i (after_uncut t v))))

@@ -30,7 +30,7 @@ use Rattle.pa_region.proofs.SeenPart.{seen_same}
 use Rattle.pa_region.proofs.Idle.{idle_within}
 use Rattle.pa_region.proofs.Bytes.{bytes_set, bytes_length, held_in_all}
 use Rattle.pa_region.proofs.ListPart.{IsGrown, lists_grown}
-use Rattle.pa_region.proofs.Stays.{low_set, stakes_set}
+use Rattle.pa_region.proofs.Stays.{low_set, stakes_set, undone_set}
 use Rattle.pa_region.proofs.ValuePart.{ShownGood, knows_apart, values_step}
 
 -- The view v knows the word p, which is no held title's count word, and becomes w: it knows the value x there, and holds
@@ -41,6 +41,7 @@ pub record IsWrite (words : List ℕ) (views : List View) (v w : View) (p x : �
   pub content : (t : Title) → IsTitleHeld (total_of (shown words views)) t → p ≡ count_place t → ⊥
   pub known : w.words ≡ set v.words p x
   pub raws : w.raws ≡ v.raws
+  pub uncut : w.uncut ≡ v.uncut
   pub raw : (b : ℕ) → held_of_view w (RawByte b) ≡ held_of_view v (RawByte b)
   pub free : (t : Title) → held_of_view w (FreeTitle t) ≡ held_of_view v (FreeTitle t)
   pub own : (t : Title) → held_of_view w (OwnOf t) ≡ held_of_view v (OwnOf t)
@@ -125,6 +126,7 @@ write_keeps words views i v w p x k at_i h good content =
           let same : count_word w.words t ≡ count_word v.words t = ap (λ ws. count_word ws t) h.known ∙ get_or-set_other v.words p (count_place t) x 0 (λ e. h.content t held (sym e)) in
           let n : number_of (count_word w.words t) ≡ number_of (count_word v.words t) = ap number_of same in
           omega arith);
+      undone = undone_set views i v w at_i h.uncut (λ u. let l = logs (uncuts u) in omega arith) k.undone;
     }
   where
     back : (t : Title) → IsTitleHeld (total_of (shown (set words p x) (set views i w))) t → IsTitleHeld (total_of (shown words views)) t

@@ -10,7 +10,7 @@ use Rattle.pa_machine.specs.Holdings.{RawByte, FreeTitle, OwnOf, RefOf}
 use Rattle.pa_region.specs.declared.view.View.{View}
 use Rattle.pa_region.specs.Views.{held_of_view}
 use Rattle.pa_region.specs.Rule.{IsKept}
-use Rattle.pa_region.specs.Shares.{IsSound, byte_word_count}
+use Rattle.pa_region.specs.Shares.{IsSeatSound, byte_word_count}
 use Rattle.pa_region.specs.Stores.{after_store, HasRawWord, HasFreeContent, HasIdleContent, CanStore, StoreTells, after_poison, CanPoison}
 use Rattle.pa_region.proofs.Pieces.{title_held, held_title, owns_have, idle_owns}
 use Rattle.pa_region.proofs.StoreStep.{store_keeps, store_holds, plain_owns, own_dirty}
@@ -49,9 +49,9 @@ poison_allowed t j slots id place me at_place can s k homes at_id small = (
 )
 
 -- a view that holds the same, with as many words, is sound
-pub same_sound : (region : TableId) (v w : View) → IsSound region v → length w.words ≡ length v.words →
+pub same_sound : (region : TableId) (v w : View) → IsSeatSound region v → length w.words ≡ length v.words →
     ((b : ℕ) → held_of_view w (RawByte b) ≡ held_of_view v (RawByte b)) → ((t : Title) → held_of_view w (FreeTitle t) ≡ held_of_view v (FreeTitle t)) →
-    ((t : Title) → held_of_view w (OwnOf t) ≡ held_of_view v (OwnOf t)) → ((t : Title) → held_of_view w (RefOf t) ≡ held_of_view v (RefOf t)) → IsSound region w
+    ((t : Title) → held_of_view w (OwnOf t) ≡ held_of_view v (OwnOf t)) → ((t : Title) → held_of_view w (RefOf t) ≡ held_of_view v (RefOf t)) → IsSeatSound region w
 same_sound region v w sound long raw free own ref = record {
   small = sound.small;
   well = λ t has.
@@ -63,21 +63,21 @@ same_sound region v w sound long raw free own ref = record {
 }
 
 -- so it is after a store
-pub store_sound : (region : TableId) (at_byte value : ℕ) (v : View) → IsSound region v → IsSound region (after_store at_byte value v)
+pub store_sound : (region : TableId) (at_byte value : ℕ) (v : View) → IsSeatSound region v → IsSeatSound region (after_store at_byte value v)
 store_sound region at_byte value v sound =
     same_sound region v (after_store at_byte value v) sound (length-set v.words (at_byte / 8) value)
     (λ b. store_holds at_byte value v (RawByte b) (λ o. refl)) (λ t. store_holds at_byte value v (FreeTitle t) (λ o. refl))
     (λ t. store_holds at_byte value v (OwnOf t) (λ o. refl)) (λ t. store_holds at_byte value v (RefOf t) (λ o. refl))
 
 -- and after a poisoning
-pub poison_sound : (region : TableId) (t : Title) (j : ℕ) (v : View) → IsSound region v → IsSound region (after_poison t j v)
+pub poison_sound : (region : TableId) (t : Title) (j : ℕ) (v : View) → IsSeatSound region v → IsSeatSound region (after_poison t j v)
 poison_sound region t j v sound =
     same_sound region v (after_poison t j v) sound (length-set v.words (content_place t j) poison)
     (λ b. poison_holds t j v (RawByte b) (λ o. refl)) (λ u. poison_holds t j v (FreeTitle u) (λ o. refl))
     (λ u. poison_holds t j v (OwnOf u) (λ o. refl)) (λ u. poison_holds t j v (RefOf u) (λ o. refl))
 
 -- the word that is stored is one of the region's
-pub store_inside : (region table : TableId) (at_byte place : ℕ) (v : View) → region ≡ table → IsSound region v → CanStore at_byte v → place ≡ at_byte / 8 → place < table.words
+pub store_inside : (region table : TableId) (at_byte place : ℕ) (v : View) → region ≡ table → IsSeatSound region v → CanStore at_byte v → place ≡ at_byte / 8 → place < table.words
 store_inside region table at_byte place v same sound can e = go can.1
   where
     words_are : region.words ≡ table.words
@@ -95,7 +95,7 @@ store_inside region table at_byte place v same sound can e = go can.1
         of_title own.0 own.3 (sound.well own.0 (omega arith))
 
 -- so is the word that is poisoned
-pub poison_inside : (region table : TableId) (t : Title) (j place : ℕ) (v : View) → region ≡ table → IsSound region v → CanPoison t j v → place ≡ content_place t j → place < table.words
+pub poison_inside : (region table : TableId) (t : Title) (j place : ℕ) (v : View) → region ≡ table → IsSeatSound region v → CanPoison t j v → place ≡ content_place t j → place < table.words
 poison_inside region table t j place v same sound can e =
     let w = ap (λ (z : TableId). z.words) same in
     let words_are : region.words ≡ table.words = w in

@@ -6,12 +6,12 @@ use Rattle.pa_machine.specs.Count.{number_of}
 use Rattle.pa_machine.specs.Titles.{Covers, count_word}
 use Rattle.pa_machine.specs.Holdings.{RawByte}
 use Rattle.pa_region.specs.declared.view.View.{View}
-use Rattle.pa_region.specs.Views.{held_of_view, free_of, own_of, ref_of, uncut_of, stake_of, seen_of, unseen_of, logged_of, counted_on, HasTitle, HasEveryStake}
+use Rattle.pa_region.specs.Views.{held_of_view, free_of, own_of, ref_of, uncut_of, undone_of, stake_of, seen_of, unseen_of, logged_of, counted_on, HasTitle, HasEveryStake}
 use Rattle.pa_region.specs.Lists.{keeper_of, lease_of, list_of, made_with, entered_in, IsBeginning, IsKnownTo, Rises, HasSeenHandles}
 use Rattle.pa_region.specs.AllReads.{HasAllLogs}
 
 -- Each thing, stake, keeper and lease is there at most once. A free title isn't used besides, its titles share no byte, and
--- none is raw or was made raw again. It has seen what its own logs say, the number of each title that it holds free, and
+-- none is raw or was made raw again, by what its logs say or by its own list. It has seen what its own logs say, the number of each title that it holds free, and
 -- the issue of each title of which it has a handle.
 -- Each note of a keeper's list is a beginning of what it has seen of the list, and its own keepers' lists are that. What
 -- its stakes made there is what their logs entered; makers had stakes, what they had seen rises, and it has seen it too.
@@ -28,6 +28,7 @@ pub record IsAware (v : View) : Type 0 where
   pub apart : (t u : Title) (b : ℕ) → HasTitle v t → HasTitle v u → Covers t b → Covers u b → t ≡ u
   pub raw_apart : (t : Title) (b : ℕ) → HasTitle v t → Covers t b → held_of_view v (RawByte b) ≡ 0
   pub gone : (t : Title) → 0 < uncut_of v t → HasTitle v t → ⊥
+  pub undone : (t : Title) → 0 < undone_of v t → HasTitle v t → ⊥
   pub own_logs : unseen_of v ≡ 0
   pub free_seen : (t : Title) → 0 < free_of v t → number_of (count_word v.words t) ≡ seen_of v t
   pub notes : Each (λ n. IsBeginning n.entries (list_of n.keeper v)) v.seen_lists

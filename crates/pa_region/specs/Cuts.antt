@@ -29,11 +29,12 @@ after_cut t v = record (titled t v) { words = slice_set v.words (count_place t) 
 abbrev pub raw_again : Title → RawRange
 raw_again t = record { start = t.start; len = t.len; floor = t.born + 1 }
 
--- the view after a free title was made raw again: the entry in its log says so
+-- the view after a free title was made raw again: the entry in its log says so, and so does its own list
 abbrev pub after_uncut : Title → View → View
 after_uncut t v = record v {
   raws = raw_again t ∷ v.raws;
   frees = without (is_title_of t) v.frees;
+  uncut = t ∷ v.uncut;
   stakes = noted (Uncut t) v.stakes;
   since = no_deeds;
 }

@@ -15,7 +15,7 @@ use Rattle.pa_region.specs.declared.view.Stake.{Stake}
 use Rattle.pa_region.specs.declared.view.Keeper.{Keeper}
 use Rattle.pa_region.specs.declared.view.Leases.{Leases}
 use Rattle.pa_region.specs.declared.view.View.{View}
-use Rattle.pa_region.specs.Views.{held_of_view, free_of, own_as, ref_of, idle_of, low_of, stake_of, logged_of}
+use Rattle.pa_region.specs.Views.{held_of_view, free_of, own_as, ref_of, idle_of, low_of, stake_of, logged_of, undone_of}
 use Rattle.pa_region.specs.Moves.{without, is_title_of}
 use Rattle.pa_region.specs.Lists.{keeper_of, lease_of}
 use Rattle.pa_region.specs.Pairs.{paired_of, paired_of_by, logged_of_by}
@@ -145,6 +145,7 @@ abbrev pub empty_of : View → View
 empty_of v = record v {
   raws = [];
   frees = [];
+  uncut = [];
   owns = [];
   refs = [];
   budget = 0;
@@ -154,11 +155,13 @@ empty_of v = record v {
   since = handed v.since;
 }
 
--- the view of who gets the parcel: a stake goes with its log and a keeper with its list, and what was seen is copied
+-- The view of who gets the parcel: a stake goes with its log and a keeper with its list, and what was seen is copied. What
+-- was made raw again stays in the list of who gave.
 abbrev pub given_after : Parcel → View → View
 given_after p v = record v {
   raws = (given_of p.items v (empty_of v)).raws;
   frees = (given_of p.items v (empty_of v)).frees;
+  uncut = [];
   owns = (given_of p.items v (empty_of v)).owns;
   refs = (given_of p.items v (empty_of v)).refs;
   budget = p.budget;
@@ -176,7 +179,8 @@ pub record CanHand (p : Parcel) (v : View) : Type 0 where
   pub clean : (k : ℕ) → p.stakes k ≡ true → unclean_of v ≡ 0
 
 -- What v has is what l and r have together: each thing, floors, the budget, the entries of the logs of any weight,
--- stakes, keepers, leases, and Owns that aren't clean. That no Ref of a title is left may be forgotten.
+-- stakes, keepers, leases, Owns that aren't clean, and what was made raw again. That no Ref of a title is left may be
+-- forgotten.
 pub record IsParted (v l r : View) : Type 0 where
   pub things : (x : Thing) → held_of_view l x + held_of_view r x ≡ held_of_view v x
   pub floors : (b n : ℕ) → low_of l b n + low_of r b n ≡ low_of v b n
@@ -191,6 +195,7 @@ pub record IsParted (v l r : View) : Type 0 where
   pub logs_by : (k : ℕ) (weight : Entry → ℕ) → logged_of_by l k weight + logged_of_by r k weight ≡ logged_of_by v k weight
   pub poisoned : (t : Title) → poisoned_of l t + poisoned_of r t ≡ poisoned_of v t
   pub unclean : unclean_of l + unclean_of r ≡ unclean_of v
+  pub undone : (t : Title) → undone_of l t + undone_of r t ≡ undone_of v t
 
 -- how often a view knows the word with this number: as raw, in a title that it holds free, or as content of an Own
 abbrev pub knowing : View → ℕ → ℕ
@@ -214,6 +219,7 @@ abbrev pub united : View → View → View
 united v w = record {
   raws = v.raws ++ w.raws;
   frees = v.frees ++ w.frees;
+  uncut = v.uncut ++ w.uncut;
   owns = v.owns ++ w.owns;
   refs = v.refs ++ w.refs;
   words = merged v 0 v.words w.words;

@@ -19,7 +19,7 @@ use Rattle.pa_region.specs.Pairs.{last_entry, least_log}
 use Rattle.pa_region.specs.Lists.{keeper_of, list_of}
 use Rattle.pa_region.specs.Stores.{after_store, after_poison}
 use Rattle.pa_region.specs.Entries.{new_entry, CanEnter, after_enter}
-use Rattle.pa_region.specs.Shares.{Share, IsMade}
+use Rattle.pa_region.specs.Shares.{Share, IsStepMade}
 use Rattle.pa_region.specs.Start.{blank}
 use Rattle.pa_region.specs.Takes.{log_of}
 
@@ -91,6 +91,7 @@ pub record LeavesCount (step : Step) (t : Title) (word : ℕ) (v w : View) : Typ
   pub keepers : w.keepers ≡ v.keepers
   pub leases : w.leases ≡ v.leases
   pub lists : w.seen_lists ≡ v.seen_lists
+  pub uncut : w.uncut ≡ v.uncut
 
 abbrev pub CountLeaves : Type 0
 CountLeaves = (step : Step) (t : Title) (word : ℕ) (v : View) → CanCount step t v → LeavesCount step t word v (after_count step t word v)
@@ -99,7 +100,7 @@ CountLeaves = (step : Step) (t : Title) (word : ℕ) (v : View) → CanCount ste
 abbrev pub ReleaseLeaves : Type 0
 ReleaseLeaves =
     (step : Step) (t : Title) (word : ℕ) (before after : Share) → (step ≡ Reset) ⊎ (step ≡ Free) → HasHandle step t before.view →
-    IsMade step t word before after →
+    IsStepMade step t word before after →
     (IsReturning step word → free_of after.view t ≡ 1) × ((IsReturning step word → ⊥) → free_of after.view t ≡ 0)
 
 -- w holds each title as often as v does, also each Own in its state

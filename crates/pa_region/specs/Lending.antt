@@ -8,7 +8,7 @@ use Rattle.pa_region.specs.declared.view.Entry.{Entry}
 use Rattle.pa_region.specs.declared.view.Entry.TheVariants.{Entered}
 use Rattle.pa_region.specs.declared.view.Made.{Made}
 use Rattle.pa_region.specs.declared.view.View.{View}
-use Rattle.pa_region.specs.Views.{held_of_view, Knows, free_of, idle_of, low_of, stake_of, seen_among, seen_of, least_stake, HasStake}
+use Rattle.pa_region.specs.Views.{held_of_view, Knows, free_of, idle_of, low_of, stake_of, undone_of, seen_among, seen_of, least_stake, HasStake}
 use Rattle.pa_region.specs.Waiting.{poisoned_of, unclean_of}
 use Rattle.pa_region.specs.Lists.{keeper_of, lease_of, list_of, IsBeginning}
 use Rattle.pa_region.specs.Hands.{Parcel, CanHand, left_after, given_after, united}
@@ -35,7 +35,7 @@ abbrev pub HostsKeeper : ℕ → View → Type 0
 HostsKeeper k v = CanHost v × (0 < keeper_of v k)
 
 -- The view `after` has what v has: each thing, floors, what it knows of Refs that are left, the budget, stakes, keepers
--- and leases; it knows the words that v knows; and it has seen all that v has seen.
+-- and leases; it knows the words that v knows; it has seen all that v has seen; and what v made raw again stands in its list.
 pub record Keeps (v after : View) : Type 0 where
   pub things : (x : Thing) → held_of_view after x ≡ held_of_view v x
   pub floors : (b n : ℕ) → low_of after b n ≡ low_of v b n
@@ -49,6 +49,7 @@ pub record Keeps (v after : View) : Type 0 where
   pub words : (q : ℕ) → Knows v q → slice_index after.words q ≡ slice_index v.words q
   pub seen : (t : Title) → seen_of v t ≤ seen_of after t
   pub lists : (k : ℕ) → IsBeginning (list_of k v) (list_of k after)
+  pub undone : (t : Title) → undone_of v t ≤ undone_of after t
 
 -- Who lent the stake r and got it back keeps what it has. The stake's log has these entries more, other logs none; and the
 -- lists of its own keepers are as they were, since nobody else can make an entry there.

@@ -12,7 +12,7 @@ use Rattle.pa_machine.specs.Trail.{KeepsContent}
 use Rattle.pa_region.specs.declared.view.Entry.{Entry}
 use Rattle.pa_region.specs.declared.view.Made.{Made}
 use Rattle.pa_region.specs.declared.view.View.{View}
-use Rattle.pa_region.specs.Views.{byte_words, shown, Knows, idle_in, budget_in, low_in, uncut_in, stakes_in, logged_in, ahead_in, unseen_in, counted, counted_on, names}
+use Rattle.pa_region.specs.Views.{byte_words, shown, Knows, idle_in, budget_in, low_in, uncut_in, undone_in, stakes_in, logged_in, ahead_in, unseen_in, counted, counted_on, names}
 use Rattle.pa_region.specs.Waiting.{Reads}
 use Rattle.pa_region.specs.History.{Done, reached, content_of, IsChained}
 use Rattle.pa_region.specs.Waiting.{Reads}
@@ -63,7 +63,7 @@ pub record Seen (logs : (Entry → ℕ) → ℕ) (ahead : Title → ℕ → ℕ)
 
 -- The rule, in five parts, each of what it reads. Each title has a history, and each keeper a list. The third part also
 -- says that the content of each clean Own is that of its title's history, and the rest of an Own that is being poisoned
--- while there are Refs; and what reads gave.
+-- while there are Refs; and what reads gave. And what a view's own list says was made raw again, some log says too.
 pub record IsKept (words : List ℕ) (views : List View) : Type 0 where
   pub history : Title → List Done
   pub list : ℕ → List Made
@@ -76,3 +76,4 @@ pub record IsKept (words : List ℕ) (views : List View) : Type 0 where
   pub reads : Reads history (byte_words words) views
   pub seen : Seen (logged_in views) (ahead_in views) (unseen_in views)
   pub lists : Lists list views
+  pub undone : (t : Title) → undone_in views t ≤ uncut_in views t

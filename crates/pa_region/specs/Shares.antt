@@ -23,7 +23,7 @@ byte_word_count region = region.words - 16
 
 -- What a seat's type keeps: the region has at most 16 super pages; each title and each raw byte that the view holds lies
 -- in it; and the view's list of words is as long as the region's.
-pub record IsSound (region : TableId) (v : View) : Type 0 where
+pub record IsSeatSound (region : TableId) (v : View) : Type 0 where
   pub small : byte_word_count region ≤ 4194304
   pub well : (t : Title) → HasTitle v t → IsWellFormed (byte_word_count region) t
   pub raw : (b : ℕ) → 0 < held_of_view v (RawByte b) → b < 8 * byte_word_count region
@@ -52,7 +52,7 @@ count_offset t = 8 * count_place t
 
 -- A counted step was made that found this word: the seat is of the same region, its view is the one after the step,
 -- the step was enabled at the word, and the word is one that the view could find.
-pub record IsMade (step : Step) (t : Title) (word : ℕ) (before after : Share) : Type 0 where
+pub record IsStepMade (step : Step) (t : Title) (word : ℕ) (before after : Share) : Type 0 where
   pub region : after.region ≡ before.region
   pub view : after.view ≡ after_count step t word before.view
   pub enabled : CanStep step word

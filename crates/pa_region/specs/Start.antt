@@ -26,6 +26,7 @@ abbrev pub first_view : ℕ → ℕ → View
 first_view words budget = record {
   raws = record { start = 0; len = 8 * words; floor = 0 } ∷ [];
   frees = [];
+  uncut = [];
   owns = [];
   refs = [];
   words = blank words;

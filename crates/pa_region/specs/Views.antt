@@ -159,6 +159,14 @@ uncut_of v t = logged_of v (uncuts t)
 abbrev pub uncut_in : List View → Title → ℕ
 uncut_in views t = logged_in views (uncuts t)
 
+-- how often a title stands in a view's own list of those that it made raw again
+abbrev pub undone_of : View → Title → ℕ
+undone_of v t = sum_by (λ u. one (same_title u t)) v.uncut
+
+-- how often in the lists of all views
+abbrev pub undone_in : List View → Title → ℕ
+undone_in views t = sum_by (λ v. undone_of v t) views
+
 -- the greatest number of the title that these notes say was seen, 0 where they say none
 abbrev pub seen_among : Title → List SeenNumber → ℕ
 seen_among t [] = 0

@@ -5,7 +5,7 @@ ghost use Rattle.pa_region.specs.Views.{HasTitle, HasStake, HasEveryStake, least
 ghost use Rattle.pa_region.specs.Moves.{CanCount};
 ghost use Rattle.pa_region.specs.Marks.{AreStakes};
 ghost use Rattle.pa_region.specs.Aware.{IsAware};
-ghost use Rattle.pa_region.specs.Shares.{Share, IsSound, IsMade, byte_word_count, adds};
+ghost use Rattle.pa_region.specs.Shares.{Share, IsSeatSound, IsStepMade, byte_word_count, adds};
 ghost use Rattle.pa_region.specs.Loads.{CanLoad, LoadTells};
 ghost use Rattle.pa_region.specs.Stores.{CanStore, after_store, StoreTells, CanPoison, after_poison};
 ghost use Rattle.pa_region.specs.Start.{first_view};
@@ -50,7 +50,7 @@ impl Model for Seat {
     ghost view = { λ s. record { region = s.seat.table_id; view = s.seat.me.0 } };
 
     ghost invariant = { λ s.
-        (s.seat.me.1 ≡ []) × IsSound s.seat.table_id s.seat.me.0 × AreStakes s.stakes s.seat.me.0 × IsAware s.seat.me.0 };
+        (s.seat.me.1 ≡ []) × IsSeatSound s.seat.table_id s.seat.me.0 × AreStakes s.stakes s.seat.me.0 × IsAware s.seat.me.0 };
 }
 
 impl Seat {
@@ -116,7 +116,7 @@ impl Region {
     pub fn count_step(&self, seat: &mut Seat, title: Title, step: Step) -> Word
         requires region { seat.old.region ≡ self.now }
         requires able { CanCount step title seat.old.view }
-        ensures { IsMade step title result.0 seat.old seat.new }
+        ensures { IsStepMade step title result.0 seat.old seat.new }
     {
         let _ = &seat.seat;
         let word = count_index(title);

@@ -108,6 +108,8 @@ pub struct View {
     pub raws: LinkedList<RawRange>,
     /// The titles that the seat holds free.
     pub frees: LinkedList<Title>,
+    /// The titles that the seat made raw again, with whatever stake.
+    pub uncut: LinkedList<Title>,
     pub owns: LinkedList<OwnTitle>,
     /// Each Ref handle that the seat holds, as often as it holds it.
     pub refs: LinkedList<Title>,

@@ -1,8 +1,7 @@
 -- The pool was asked: where its entry stands, that it is new to the root, and what the log says.
-use Rattle.std.proofs.Common.{◌≡◌, ℕ, ◌+◌, ◌<◌, ◌≤◌, List, [], ◌∷◌, ◌++◌, Option, Some, length, map, refl, sym, ◌∙◌, ap, subst, arith}
+use Rattle.std.proofs.Common.{◌≡◌, ℕ, ◌+◌, ◌<◌, ◌≤◌, List, [], ◌∷◌, ◌++◌, Option, Some, None, length, map, refl, sym, ◌∙◌, ap, subst, arith}
 use Rattle.std.specs.Prelude.{slice_get}
 use Rattle.std.proofs.lemmas.List.{append-nil, length-append, length-map, map-append}
-use Rattle.pa_machine.specs.declared.title.Title.{Title}
 use Rattle.pa_region.specs.declared.view.Entry.TheVariants.{Entered}
 use Rattle.pa_region.specs.declared.view.Made.{Made}
 use Rattle.pa_region.specs.declared.view.View.{View}
@@ -14,16 +13,18 @@ use Rattle.pa_region.specs.Shares.{Share}
 use Rattle.pa_region.proofs.Entering.{least_there}
 use Rattle.pa_region.proofs.LendBack.{lends_again}
 use Rattle.pa_record.specs.declared.pool.PoolEntry.{PoolEntry}
+use Rattle.pa_record.specs.declared.pool.PoolAct.{PoolAct}
+use Rattle.pa_record.specs.declared.pool.PoolAct.TheVariants.{Take, Give}
 use Rattle.pa_record.specs.Numbers.{pool_numbers}
-use Rattle.pa_pool.specs.Pools.{PoolValue, IsPoolKept}
+use Rattle.pa_record.specs.Pool.{PoolState, IsLowest, new_pool, pool_next, pool_replayed}
+use Rattle.pa_pool.specs.Pools.{PoolValue, IsPoolKept, pool_after}
 use Rattle.pa_pool.specs.Calls.{IsTaken, take_entry}
-use Rattle.pa_root.specs.Reading.{pools_seen, pools_read}
 use Rattle.pa_root.specs.Uncutting.{IsShown}
 use Rattle.pa_root.specs.Asking.{IsAskedFor}
 use Rattle.pa_root.proofs.Lists.{pools_are_read}
 use Rattle.pa_root.proofs.Entries.{on, entry_is_new}
 
-begun_length : (a b : List Made) → IsBeginning a b → length a ≤ length b
+pub begun_length : (a b : List Made) → IsBeginning a b → length a ≤ length b
 begun_length a b (rest, e) = let k = length-append a rest in let n = ap length e in omega arith
 
 -- who shows what it has seen can lend its stake still, the same one
@@ -67,3 +68,22 @@ asked_is line p count index found v root root_now mid after pool pool_now shown 
       stands = subst (λ es. slice_get es index ≡ Some e) (sym (pools_are_read.list (list_of 4 after.view) pool_now.entries numbers)) taken.stands;
       later = omega arith;
     }
+
+-- ---- where the run lies
+
+next_supers : (a : PoolAct) (s : PoolState) → (pool_next a s).supers ≡ s.supers
+next_supers (Take count None) s = refl
+next_supers (Take count (Some first)) s = refl
+next_supers (Give count first) s = refl
+
+replayed_supers : (es : List PoolEntry) (s : PoolState) → (pool_replayed es s).supers ≡ s.supers
+replayed_supers [] s = refl
+replayed_supers (e ∷ es) s = replayed_supers es (pool_next e.act s) ∙ next_supers e.act s
+
+-- a region has 16 super pages at most
+pub run_low : (count first : ℕ) (pool : PoolValue) → IsPoolKept pool → IsLowest (pool_after pool.entries pool.supers) count (Some first) → first + count ≤ 16
+run_low count first pool kept lowest =
+    let supers = replayed_supers pool.entries (new_pool pool.supers) in
+    let few = kept.few in
+    let inside = lowest.0.inside in
+    omega arith

@@ -7,7 +7,7 @@ use Rattle.pa_machine.specs.Titles.{same_title, Covers}
 use Rattle.pa_machine.specs.Holdings.{one}
 use Rattle.pa_machine.proofs.Same.{title_one}
 use Rattle.pa_region.specs.declared.view.View.{View}
-use Rattle.pa_region.specs.Views.{free_of, own_of, ref_of, low_of, stake_of, seen_of}
+use Rattle.pa_region.specs.Views.{free_of, own_of, ref_of, low_of, stake_of, undone_of, seen_of}
 use Rattle.pa_region.specs.Waiting.{unclean_of}
 use Rattle.pa_region.specs.Lists.{list_of, lease_of, keeper_of}
 use Rattle.pa_region.specs.Cuts.{CanCut, after_cut}
@@ -29,6 +29,7 @@ pub record IsBesideCuts (v x : View) : Type 0 where
   pub leases : (n : ℕ) → lease_of x n ≡ lease_of v n
   pub seen : (t : Title) → seen_of x t ≡ seen_of v t
   pub lists : (k : ℕ) → list_of k x ≡ list_of k v
+  pub undone : (t : Title) → undone_of x t ≡ undone_of v t
 
 pub beside_cuts : (ts : List Title) (v : View) → IsBesideCuts v (after_cuts ts v)
 beside_cuts [] v = record {
@@ -40,6 +41,7 @@ beside_cuts [] v = record {
   leases = λ n. refl;
   seen = λ t. refl;
   lists = λ k. refl;
+  undone = λ t. refl;
 }
 beside_cuts (t ∷ ts) v =
     let b = beside_cuts ts (after_cut t v) in
@@ -52,6 +54,7 @@ beside_cuts (t ∷ ts) v =
       leases = b.leases;
       seen = b.seen;
       lists = b.lists;
+      undone = b.undone;
     }
 
 -- what was free stays free, what was cut is free, and nothing else

@@ -30,10 +30,12 @@ use Rattle.pa_rules.specs.Holders.{Back, move_of}
 use Rattle.pa_legal.specs.Numbers.{is_of, moves_of, at_end, IsNumbered}
 use Rattle.pa_legal.proofs.Standing.{out_none}
 use Rattle.pa_root.specs.Reading.{pools_seen}
-use Rattle.pa_root.specs.Keeping.{RootState, HasJournal, HoldsMade, KnowsNumbers, HasRest, KeepsLeases, IsRootSound}
+use Rattle.pa_root.specs.Keeping.{RootState, HasJournal, HoldsMade, KnowsNumbers, HasRest, KeepsLeases, KnowsMaps, IsRootSound}
 use Rattle.pa_root.specs.Handing.{at_number_seen, numbered_by, root_entry}
 use Rattle.pa_root.specs.Laws.{HasEntryMore, after_entry, SeenIsInJournal}
 use Rattle.pa_root.specs.Giving.{CanComeBack, AreAllOut, WhatComesIsOut, GivesKeep}
+use Rattle.pa_region.proofs.JoinStep.{united_parts}
+use Rattle.pa_root.proofs.MapsKept.{maps_leave}
 use Rattle.pa_root.proofs.Whole.{made_is_whole}
 use Rattle.pa_root.proofs.Seeing.{root_sound, rest_kept}
 use Rattle.pa_root.proofs.Lists.{hosts_kept, journal_goes_on}
@@ -219,6 +221,15 @@ module _ (p : ℕ) (s : RootState) (w : View) (titles : List Title) (can : CanCo
       maps = λ t among. lease_now s.view w x keeps t.born (can.sound.leases.maps t (subst (λ ts. Contains ts t) back.kept.maps among));
     }
 
+    maps_now : KnowsMaps p (record { view = x; journal = s.journal ++ entry ∷ []; root = after })
+    maps_now =
+        maps_leave p s x entry after can.sound.maps
+        (record {
+          undone = λ t. let a = (united_parts s.view w).undone t in let k = keeps.undone t in omega arith;
+          pool = pool_begins s.view w x keeps can.both_aware;
+        })
+        back.kept.maps (λ asked len slot is. absurd (cc))
+
     -- the root after the entry is the one after the returns
     root_is : root_next (pools_seen x) entry.act s.root ≡ after
     root_is = ap (λ ns. all_returned ns s.root) (names_by w titles)
@@ -243,6 +254,7 @@ module _ (p : ℕ) (s : RootState) (w : View) (titles : List Title) (can : CanCo
           numbers = record { numbered = numbers_now.numbered; known = numbers_now.known };
           rest = subst (λ r. HasRest (record { view = x; journal = s.journal ++ entry ∷ []; root = r })) (sym root_is) rest_now;
           leases = subst (λ r. KeepsLeases (record { view = x; journal = s.journal ++ entry ∷ []; root = r })) (sym root_is) leases_now;
+          maps = subst (λ r. KnowsMaps p (record { view = x; journal = s.journal ++ entry ∷ []; root = r })) (sym root_is) maps_now;
         }
 
 pub what_comes_is_out : WhatComesIsOut

@@ -1,5 +1,6 @@
 pub mod Lists
 pub mod Whole
+pub mod MapsKept
 pub mod Seeing
 pub mod MakingNone
 pub mod Starting
@@ -24,5 +25,16 @@ pub mod Showing
 pub mod MapsLeft
 pub mod Unmapped
 pub mod MapsBack
+pub mod MapsCome
+pub mod TakesSeen
+pub mod BringingBack
+pub mod UnmapEnds
 pub mod Turning
 pub mod Asked
+pub mod RowCuts
+pub mod FillSteps
+pub mod Refusing
+pub mod Opened
+pub mod FillEnds
+pub mod MapEnds
+pub mod Testing

@@ -2,12 +2,12 @@
 use Rattle.std.proofs.Common.{◌≡◌, ℕ, ◌+◌, ◌<◌, ◌≤◌, [], ◌∷◌, ◌++◌, Some, filter, refl, sym, ◌∙◌, ap, subst, arith, ◌⊎◌, inl, inr}
 use Rattle.std.specs.Prelude.{◌≢◌, AllPairs, Contains}
 use Rattle.std.proofs.lemmas.List.{append-nil}
-use Rattle.std.proofs.lemmas.List.Elements.{Contains-append_cases}
+use Rattle.std.proofs.lemmas.List.Elements.{Contains-append_left, Contains-append_right, Contains-append_cases}
 use Rattle.pa_machine.specs.declared.title.Title.{Title}
 use Rattle.pa_machine.specs.declared.word.SlotName.{SlotName}
 use Rattle.pa_machine.specs.Titles.{Covers}
 use Rattle.pa_machine.proofs.Runs.{same_slot_cases, same_slot_yes, same_slot_no}
-use Rattle.pa_layout.specs.Pages.{supers_for}
+use Rattle.pa_layout.specs.Pages.{page_place, supers_for}
 use Rattle.pa_region.specs.declared.view.View.{View}
 use Rattle.pa_region.specs.Views.{free_of, low_of}
 use Rattle.pa_region.specs.Lists.{list_of, lease_of, IsBeginning}
@@ -18,9 +18,10 @@ use Rattle.pa_region.proofs.JoinStep.{united_parts}
 use Rattle.pa_region.proofs.TakeLaws.{left_begins, left_whole, left_number}
 use Rattle.pa_region.proofs.LendBack.{begins_on, kept_number}
 use Rattle.pa_record.specs.declared.root.RootEntry.{RootEntry}
+use Rattle.pa_record.specs.declared.root.RootAct.{RootAct}
 use Rattle.pa_record.specs.declared.root.RootAct.TheVariants.{Map}
 use Rattle.pa_record.specs.Spans.{name_of}
-use Rattle.pa_record.specs.Root.{mapped, RootActFits}
+use Rattle.pa_record.specs.Root.{mapped, map_title, RootActFits}
 use Rattle.pa_record.specs.Sound.{IsSound, IsMade, least_after_all}
 use Rattle.pa_record.proofs.Members.{not_in_none, first_in, in_cases}
 use Rattle.pa_record.proofs.Pairs.{pairs_none, pairs_cons}
@@ -28,13 +29,16 @@ use Rattle.pa_record.proofs.Titles.{made_born}
 use Rattle.pa_record.proofs.Replaying.{fits_more}
 use Rattle.pa_rules.specs.Holders.{Out, Move}
 use Rattle.pa_legal.specs.Numbers.{is_of, moves_of, at_end, IsNumbered}
+use Rattle.pa_pool.specs.Calls.{HasSeenTake}
+use Rattle.pa_pool.proofs.Gave.{seen_stays}
 use Rattle.pa_root.specs.Reading.{pools_seen}
-use Rattle.pa_root.specs.Keeping.{RootState, HasJournal, HoldsMade, KnowsNumbers, HasRest, KeepsLeases, IsRootSound, IsInRun, IsInRest}
+use Rattle.pa_root.specs.Keeping.{RootState, HasJournal, HoldsMade, KnowsNumbers, HasRest, KeepsLeases, KnowsMaps, IsRootSound, IsInRun, IsInRest}
 use Rattle.pa_root.specs.Handing.{root_entry}
 use Rattle.pa_root.specs.Laws.{HasEntryMore, after_entry}
 use Rattle.pa_root.specs.Filling.{frees_parcel, GivesTitles}
 use Rattle.pa_root.specs.Cutting.{map_beside}
 use Rattle.pa_root.specs.Mapping.{IsCutForMap, MapsHandOut, MapsKeep}
+use Rattle.pa_root.proofs.MapsKept.{maps_go_on}
 use Rattle.pa_root.proofs.Whole.{made_is_whole}
 use Rattle.pa_root.proofs.Lists as lists
 use Rattle.pa_root.proofs.Seeing.{root_sound, free_kept, handles_kept}
@@ -46,6 +50,11 @@ use Rattle.pa_root.proofs.Moves.{numbers_without, numbers_with}
 use Rattle.pa_root.proofs.Fresh.{later_unnamed}
 use Rattle.pa_root.proofs.Ready.{root_born, named_seen}
 
+-- the title of an entry that makes a direct map
+abbrev titled_by : Title → RootAct → Title
+titled_by t (Map asked slot len) = map_title slot len
+titled_by t other = t
+
 module _ (p first entry len : ℕ) (s : RootState) (w c : View) (cut : IsCutForMap p first entry len s w c) where
   abbrev t : Title
   t = map_beside first entry len
@@ -53,19 +62,19 @@ module _ (p first entry len : ℕ) (s : RootState) (w c : View) (cut : IsCutForM
   abbrev u : View
   u = united s.view w
 
-  beside : IsBesideCuts u c
+  pub beside : IsBesideCuts u c
   beside = subst (λ v. IsBesideCuts u v) (sym cut.cut) (beside_cuts (t ∷ []) u)
 
   cut_free : 0 < free_of c t
   cut_free = subst (λ v. 0 < free_of v t) (sym cut.cut) (free_cut (t ∷ []) u t (first_in t []))
 
-  once : AllPairs ◌≢◌ (t ∷ [])
+  pub once : AllPairs ◌≢◌ (t ∷ [])
   once = pairs_cons (λ (a : Title) (b : Title). a ≢ b) t [] (λ b none. absurd (not_in_none b none)) (pairs_none (λ (a : Title) (b : Title). a ≢ b))
 
   only_t : (v : Title) → Contains (t ∷ []) v → t ≡ v
   only_t v among = elim (in_cases t v [] among) [ inl e ↦ e | inr none ↦ absurd (not_in_none v none) ]
 
-  taken_free : (v : Title) → Contains (t ∷ []) v → 0 < free_of c v
+  pub taken_free : (v : Title) → Contains (t ∷ []) v → 0 < free_of c v
   taken_free v among = subst (λ x. 0 < free_of c x) (only_t v among) cut_free
 
   pub gives_map : GivesTitles (t ∷ []) c
@@ -258,6 +267,23 @@ module _ (p first entry len : ℕ) (s : RootState) (w c : View) (cut : IsCutForM
         begins_on (list_of 4 u) (list_of 4 y) (list_of 4 x)
         (subst (λ l. IsBeginning (list_of 4 u) l) (sym (beside.lists 4)) ([], sym (append-nil (list_of 4 u)))) (keeps.lists 4)
 
+    maps_now : KnowsMaps p last
+    maps_now =
+        maps_go_on p s x e (mapped t s.root) cut.sound.maps
+        (record {
+          undone = λ v. let a = (united_parts s.view w).undone v in let b = beside.undone v in let k = keeps.undone v in omega arith;
+          pool = begins_on (list_of 4 s.view) (list_of 4 u) (list_of 4 x) (left_begins s.view w 4 cut.both_aware) pool_on;
+        })
+        (λ v among. inl (Contains-append_left s.root.maps (t ∷ []) v among))
+        (λ asked size slot is. subst (λ z. Contains (s.root.maps ++ t ∷ []) z) (ap (titled_by t) is)
+        (Contains-append_right s.root.maps (t ∷ []) t (first_in t [])))
+        (λ v among. elim (Contains-append_cases s.root.maps (t ∷ []) v among) [
+          | inl old ↦ inl old
+          | inr new ↦
+              inr (subst (λ z. (at : ℕ) × (z.start ≡ page_place at 1) × HasSeenTake p z.born at (supers_for z.len) x) (only_t v new)
+              (first, refl, seen_stays p entry first (supers_for len) u x pool_on cut.seen))
+        ])
+
     fits_here : RootActFits (pools_seen u) e.act s.root
     fits_here = (first, cut.found, refl, refl)
 
@@ -280,6 +306,7 @@ module _ (p first entry len : ℕ) (s : RootState) (w c : View) (cut : IsCutForM
       numbers = numbers_now;
       rest = rest_now;
       leases = leases_now;
+      maps = maps_now;
     }
 
 pub maps_hand_out : MapsHandOut

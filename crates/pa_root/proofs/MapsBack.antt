@@ -25,7 +25,7 @@ use Rattle.pa_root.specs.Reading.{pools_seen}
 use Rattle.pa_root.specs.Unmapping.{CameBackIn, MapsStandOrCameBack}
 
 -- a direct map that another name takes out stays
-without_other : (name : SlotName) (t : Title) (ts : List Title) → Contains ts t → Contains (without_map name ts) t ⊎ (name ≡ name_of t)
+pub without_other : (name : SlotName) (t : Title) (ts : List Title) → Contains ts t → Contains (without_map name ts) t ⊎ (name ≡ name_of t)
 without_other name t [] among = absurd (not_in_none t among)
 without_other name t (x ∷ xs) among = elim (cases_Bool (eqb x.start name.start && eqb x.born name.born)) [
   | inl same ↦ elim (in_cases x t xs among) [

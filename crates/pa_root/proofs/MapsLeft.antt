@@ -42,6 +42,22 @@ others_left t u (x ∷ xs) alone among left =
           ]
     ]
 
+-- two of one entry of the pool are one
+pub one_of_entry : (t u : Title) (ts : List Title) → AllPairs (λ (a : Title) (b : Title). a.born ≢ b.born) ts → Contains ts t → Contains ts u → t.born ≡ u.born → t ≡ u
+one_of_entry t u [] alone among other same = absurd (not_in_none t among)
+one_of_entry t u (x ∷ xs) alone among other same =
+    let R : Title → Title → Type 0 = λ a b. a.born ≢ b.born in
+    elim (in_cases x t xs among) [
+      | inl here ↦ elim (in_cases x u xs other) [
+        | inl there ↦ sym here ∙ there
+        | inr later ↦ absurd (pairs_head R x u xs alone later (ap (λ (z : Title). z.born) here ∙ same))
+      ]
+      | inr deeper ↦ elim (in_cases x u xs other) [
+        | inl there ↦ absurd (pairs_head R x t xs alone deeper (ap (λ (z : Title). z.born) there ∙ sym same))
+        | inr later ↦ one_of_entry t u xs (pairs_tail R x xs alone) deeper later same
+      ]
+    ]
+
 -- a higher bound on floors lets more ranges in
 pub low_rises : (v : View) (b m n : ℕ) → m ≤ n → low_of v b m ≤ low_of v b n
 low_rises v b m n le =

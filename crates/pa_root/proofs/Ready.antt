@@ -7,6 +7,7 @@ use Rattle.pa_region.specs.declared.view.View.{View}
 use Rattle.pa_region.specs.Lists.{list_of}
 use Rattle.pa_region.specs.Hands.{united}
 use Rattle.pa_region.specs.Aware.{IsAware}
+use Rattle.pa_region.proofs.JoinStep.{united_parts}
 use Rattle.pa_region.proofs.TakeLaws.{left_begins, left_whole}
 use Rattle.pa_machine.specs.declared.title.Title.{Title}
 use Rattle.pa_machine.specs.declared.word.SlotName.{SlotName}
@@ -42,6 +43,10 @@ module _ (pools : List PoolEntry) where
     | inr new ↦ let e = new.1 in inr (omega arith)
   ]
 
+  pub maps_ready : (asked : Option ℕ) (r : Root) → (opened_by pools asked r).maps ≡ r.maps
+  maps_ready None r = refl
+  maps_ready (Some j) r = refl
+
   pub sound_ready : (n : ℕ) (asked : Option ℕ) (r : Root) → IsSound r → IsBornBelow n r → AsksFrom n asked → IsSound (opened_by pools asked r)
   sound_ready n None r sound old later = sound
   sound_ready n (Some j) r sound old later = opened_sound (super_of (act_at pools j)) j r sound (born_more n j r later old)
@@ -67,6 +72,7 @@ as_it_is p class s sound aware real some = record {
   hosts = sound.journal.hosts;
   own_list = refl;
   pool_list = ([], sym (append-nil (list_of 4 s.view)));
+  undone = λ t. omega arith;
   slots = record {
     titles = record {
       has = sound.titles.has;
@@ -91,7 +97,7 @@ named_seen p s has =
     let e : length (pools_seen s.view) ≡ length (list_of 4 s.view) = length-map (list_of 4 s.view) (λ (m : Made). pool_entry_read m.numbers) in
     omega arith
 
-super_is : (pools : List PoolEntry) (j number : ℕ) → FoundRun pools j 1 number → super_of (act_at pools j) ≡ number
+pub super_is : (pools : List PoolEntry) (j number : ℕ) → FoundRun pools j 1 number → super_of (act_at pools j) ≡ number
 super_is pools j number found = ap super_of found
 
 with_page : (p class number entry : ℕ) (s : RootState) (w : View) → CanTakePage p number entry s w → class < 59 → IsNone (span_for class s.root) →
@@ -105,6 +111,7 @@ with_page p class number entry s w can real none found later =
       hosts = hosts;
       own_list = left_whole s.view w p can.aware can.both_aware can.sound.journal.hosts.1;
       pool_list = left_begins s.view w 4 can.both_aware;
+      undone = λ t. let e = (united_parts s.view w).undone t in omega arith;
       slots = subst (λ n. HasSlots (record { view = u; journal = s.journal; root = opened n entry s.root })) (sym (super_is (pools_seen u) entry number found)) slots;
       class_is = real;
       asked_if = (none, number, found);

@@ -23,6 +23,7 @@ use Rattle.pa_root.specs.Reading.{pools_seen}
 use Rattle.pa_root.specs.Keeping.{RootState, HasJournal, HoldsMade, KnowsNumbers, HasRest, KeepsLeases, IsRootSound, IsInRest}
 use Rattle.pa_root.specs.Laws.{SeeingMoreKeeps, with_view, HasSameSlots, IdleEntriesKeep}
 use Rattle.pa_root.proofs.Lists.{hosts_kept, journal_stays, journal_goes_on}
+use Rattle.pa_root.proofs.MapsKept.{maps_leave, maps_stay}
 use Rattle.pa_root.proofs.Whole.{made_is_whole}
 
 -- who keeps what it has holds the same titles
@@ -111,6 +112,7 @@ seeing_more_keeps p s x sound aware now keeps list = record {
   numbers = numbers_stay p s x sound aware now keeps;
   rest = rest_stays s x s.journal s.root keeps (same_slots s.root) sound.rest;
   leases = leases_stay s x s.journal s.root keeps (same_slots s.root) sound.leases;
+  maps = maps_stay p s x sound.maps (record { undone = keeps.undone; pool = keeps.lists 4 });
 }
 
 -- an entry that moves nothing leaves each slot's moves
@@ -134,4 +136,6 @@ idle_entries_keep p s x e sound aware now keeps more next none same =
       };
       rest = rest_stays s x journal after keeps same sound.rest;
       leases = leases_stay s x journal after keeps same sound.leases;
+      maps = maps_leave p s x e after sound.maps (record { undone = keeps.undone; pool = keeps.lists 4 }) same.maps
+          (λ asked len slot is. let no = ap (λ a. moves_by e.line a) (sym is) ∙ none in absurd (cc));
     }

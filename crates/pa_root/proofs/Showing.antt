@@ -1,5 +1,5 @@
 -- A seat shows another what it has seen, by a note that has nothing.
-use Rattle.std.proofs.Common.{◌≡◌, ℕ, ◌+◌, ◌-◌, ◌<◌, ◌≤◌, ◌&&◌, List, [], ◌∷◌, ◌++◌, Bool, true, false, not, cond, length, filter, refl, sym, ◌∙◌, ap, subst, arith, eqb, inl, inr}
+use Rattle.std.proofs.Common.{◌≡◌, ℕ, ◌<◌, ◌≤◌, ◌&&◌, List, [], ◌∷◌, ◌++◌, Bool, true, false, length, filter, refl, sym, ◌∙◌, ap, subst, arith, eqb, inl, inr}
 use Rattle.std.specs.Prelude.{if◌then◌else◌}
 use Rattle.std.specs.List.{sum_by}
 use Rattle.std.proofs.lemmas.List.{append-nil, length-append}
@@ -17,7 +17,7 @@ use Rattle.pa_region.specs.Pairs.{log_among}
 use Rattle.pa_region.specs.Lists.{list_of, keeper_of, IsBeginning}
 use Rattle.pa_region.specs.Hands.{left_after, given_after, united}
 use Rattle.pa_region.specs.Takes.{log_of, IsLongest}
-use Rattle.pa_region.specs.Lending.{Keeps, Lends}
+use Rattle.pa_region.specs.Lending.{Lends}
 use Rattle.pa_region.specs.Aware.{IsAware}
 use Rattle.pa_region.proofs.JoinLists.{among_append, beginning_whole}
 use Rattle.pa_region.proofs.JoinStep.{united_parts}
@@ -66,6 +66,7 @@ gives_nothing v r =
         words = λ q knows. refl;
         seen = λ t. omega arith;
         lists = λ k. ([], sym (append-nil (list_of k v)));
+        undone = λ t. omega arith;
       };
       own_lists = λ k has. refl;
       logs = λ k. more_none k r (log_of k v) (log_of k (left_after (frees_parcel []) v)) (ap (λ ss. log_among k ss) stakes);
@@ -96,6 +97,7 @@ takes_nothing v w r aware both long =
         words = λ q knows. left_known w g q long knows;
         seen = λ t. seen_left t w.seen g.seen;
         lists = λ k. left_begins w g k both;
+        undone = λ t. let e = parts.undone t in omega arith;
       };
       own_lists = λ k has. left_whole w g k aware both has;
       logs = λ k. more_none k r (log_of k w) (log_of k u) (ap (λ ss. log_among k ss) stakes);

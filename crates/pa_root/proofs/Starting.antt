@@ -36,4 +36,8 @@ first_is_sound p v first = record {
     supers = λ at among. absurd (not_in_none at among);
     maps = λ t among. absurd (not_in_none t among);
   };
+  maps = record {
+    mapped = λ t (e, asked, len, slot, among, is, same). absurd (not_in_none e among);
+    taken = λ t among. absurd (not_in_none t among);
+  };
 }

@@ -26,10 +26,11 @@ use Rattle.pa_record.proofs.Replaying.{fits_more, next_more}
 use Rattle.pa_rules.specs.Holders.{Out, move_of}
 use Rattle.pa_legal.specs.Numbers.{is_of, moves_of, at_end, IsNumbered}
 use Rattle.pa_root.specs.Reading.{pools_seen}
-use Rattle.pa_root.specs.Keeping.{RootState, HasJournal, HoldsMade, KnowsNumbers, HasRest, KeepsLeases, IsRootSound, IsInRest}
+use Rattle.pa_root.specs.Keeping.{RootState, HasJournal, HoldsMade, KnowsNumbers, HasRest, KeepsLeases, KnowsMaps, IsRootSound, IsInRest}
 use Rattle.pa_root.specs.Handing.{at_number_seen, numbered_by, root_entry}
 use Rattle.pa_root.specs.Laws.{HasEntryMore, after_entry}
 use Rattle.pa_root.specs.Filling.{frees_parcel, ready_root, fill_taken, IsCutFor, GivesTitles, FillsHandOut, FillsKeep}
+use Rattle.pa_root.proofs.MapsKept.{maps_leave}
 use Rattle.pa_root.proofs.Whole.{made_is_whole}
 use Rattle.pa_root.proofs.Lists as lists
 use Rattle.pa_root.proofs.Seeing.{root_sound, free_kept, handles_kept, rest_before}
@@ -38,7 +39,7 @@ use Rattle.pa_root.proofs.Moves.{none_moves, one_moves, names_by, numbers_withou
 use Rattle.pa_root.proofs.Batches.{IsBesideCuts, beside_cuts, free_stays, free_cut, free_only, low_stays}
 use Rattle.pa_root.proofs.Parcels.{KeepsBut, hands_out, keeps_but}
 use Rattle.pa_root.proofs.Fresh.{fresh_unnamed}
-use Rattle.pa_root.proofs.Ready.{made_ready, supers_ready, sound_ready, root_born, out_was_made}
+use Rattle.pa_root.proofs.Ready.{made_ready, supers_ready, maps_ready, sound_ready, root_born, out_was_made}
 use Rattle.pa_root.proofs.Filling.{made_lies, was_rest}
 
 module _ (p class : ℕ) (asked : Option ℕ) (s : RootState) (u c : View) (ts : List Title) (cut : IsCutFor p class asked s u c ts) where
@@ -48,17 +49,17 @@ module _ (p class : ℕ) (asked : Option ℕ) (s : RootState) (u c : View) (ts :
   abbrev f : Filled
   f = fill_taken class asked s u
 
-  good : IsSound r0
+  pub good : IsSound r0
   good =
       sound_ready (pools_seen u) (least_after_all 0 s.journal) asked s.root (root_sound p s cut.ready.sound.journal) (root_born p s cut.ready.sound.journal)
       cut.ready.later
 
-  fill : IsFilled class (fill_of class) r0 f
+  pub fill : IsFilled class (fill_of class) r0 f
   fill = takes_filled class (fill_of class) r0 good cut.ready.class_is
 
   -- ---- the view after the cuts
 
-  beside : IsBesideCuts u c
+  pub beside : IsBesideCuts u c
   beside = subst (λ v. IsBesideCuts u v) (sym cut.cut) (beside_cuts ts u)
 
   stays_free : (t : Title) → 0 < free_of u t → 0 < free_of c t
@@ -86,13 +87,13 @@ module _ (p class : ℕ) (asked : Option ℕ) (s : RootState) (u c : View) (ts :
     | inr new ↦ inl (cut_free t new)
   ]
 
-  taken_free : (t : Title) → Contains f.titles t → 0 < free_of c t
+  pub taken_free : (t : Title) → Contains f.titles t → 0 < free_of c t
   taken_free t among = elim (free_or_out t (fill.made t among)) [
     | inl free ↦ free
     | inr out ↦ absurd (fill.fresh t among out)
   ]
 
-  once : AllPairs ◌≢◌ f.titles
+  pub once : AllPairs ◌≢◌ f.titles
   once = λ i j d less within. (λ e. fill.differ i j d less within (ap name_of e))
 
   once_named : AllPairs ◌≢◌ (map name_of f.titles)
@@ -262,7 +263,16 @@ module _ (p class : ℕ) (asked : Option ℕ) (s : RootState) (u c : View) (ts :
     pool_on : IsBeginning (list_of 4 u) (list_of 4 x)
     pool_on = begins_on (list_of 4 u) (list_of 4 y) (list_of 4 x) (subst (λ l. IsBeginning (list_of 4 u) l) (sym (beside.lists 4)) ([], sym (append-nil (list_of 4 u)))) (keeps.lists 4)
 
-    root_is : root_next (pools_seen x) entry.act s.root ≡ f.root
+    maps_now : KnowsMaps p last
+    maps_now =
+        maps_leave p s x entry f.root cut.ready.sound.maps
+        (record {
+          undone = λ t. let z = cut.ready.undone t in let a = beside.undone t in let k = keeps.undone t in omega arith;
+          pool = begins_on (list_of 4 s.view) (list_of 4 u) (list_of 4 x) cut.ready.pool_list pool_on;
+        })
+        (fill.maps ∙ maps_ready (pools_seen u) asked s.root) (λ j len slot is. absurd (cc))
+
+    pub root_is : root_next (pools_seen x) entry.act s.root ≡ f.root
     root_is =
         let (rest, e) = lists.pools_more u x pool_on in
         ap (λ pools. root_next pools entry.act s.root) e ∙ next_more (pools_seen u) rest entry.act s.root fits_here
@@ -286,6 +296,7 @@ module _ (p class : ℕ) (asked : Option ℕ) (s : RootState) (u c : View) (ts :
       numbers = record { numbered = numbers_now.numbered; known = numbers_now.known };
       rest = subst (λ r. HasRest (record { view = x; journal = s.journal ++ entry ∷ []; root = r })) (sym root_is) rest_now;
       leases = subst (λ r. KeepsLeases (record { view = x; journal = s.journal ++ entry ∷ []; root = r })) (sym root_is) leases_now;
+      maps = subst (λ r. KnowsMaps p (record { view = x; journal = s.journal ++ entry ∷ []; root = r })) (sym root_is) maps_now;
     }
 
 pub fills_hand_out : FillsHandOut

@@ -104,6 +104,10 @@ module _ (a h : View) (t : Title) (lends : CanLend a) (host : CanHost h) (free :
             left_number h g n o aware_h aware_u long well (omega arith);
         own_lists = λ k has. left_whole h g k aware_h aware_u has;
         lists = λ k. left_begins h g k aware_u;
+        undone = λ o.
+            let p = parts.undone o in
+            let one_more = sum_by-cons (λ (x : Title). one (same_title x o)) t u.uncut in
+            omega arith;
       }
 
   -- and the lender's log says so

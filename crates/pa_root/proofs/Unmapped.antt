@@ -1,5 +1,5 @@
 -- A direct map that comes back keeps a root sound.
-use Rattle.std.proofs.Common.{◌≡◌, ℕ, ◌+◌, ◌*◌, ◌<◌, ◌≤◌, ◌&&◌, [], ◌∷◌, ◌++◌, Some, None, length, filter, refl, sym, ◌∙◌, ap, subst, arith, inl, inr, eqb, leb}
+use Rattle.std.proofs.Common.{◌≡◌, ℕ, ◌+◌, ◌*◌, ◌<◌, ◌≤◌, ◌&&◌, [], ◌∷◌, ◌++◌, Some, None, length, filter, refl, sym, ◌∙◌, ap, subst, arith, ◌⊎◌, inl, inr, eqb, leb}
 use Rattle.std.specs.Prelude.{◌≢◌, Contains}
 use Rattle.std.proofs.lemmas.Bool.{cases_lt, eq-eqb}
 use Rattle.std.proofs.lemmas.Bool.Decides.{eqb_tells}
@@ -13,7 +13,7 @@ use Rattle.pa_machine.proofs.Cutting.{covers_or}
 use Rattle.pa_machine.proofs.Runs.{same_slot_cases, same_slot_yes, same_slot_no}
 use Rattle.pa_layout.specs.Pages.{supers_for}
 use Rattle.pa_region.specs.declared.view.View.{View}
-use Rattle.pa_region.specs.Views.{free_of, own_of, ref_of, low_of, stake_of}
+use Rattle.pa_region.specs.Views.{free_of, own_of, ref_of, low_of, stake_of, undone_of}
 use Rattle.pa_region.specs.Lists.{list_of, lease_of, keeper_of, IsBeginning}
 use Rattle.pa_region.specs.declared.view.RawRange.{RawRange}
 use Rattle.pa_region.proofs.Adding.{one_and}
@@ -42,12 +42,14 @@ use Rattle.pa_rules.specs.Holders.{Back, move_of}
 use Rattle.pa_legal.specs.Numbers.{is_of, moves_of, at_end, IsNumbered}
 use Rattle.pa_legal.proofs.Standing.{out_none}
 use Rattle.pa_root.specs.Reading.{pools_seen}
-use Rattle.pa_root.specs.Keeping.{RootState, HasJournal, HoldsMade, KnowsNumbers, HasRest, KeepsLeases, IsRootSound, IsInRun, IsInRest}
+use Rattle.pa_root.specs.Keeping.{RootState, HasJournal, HoldsMade, KnowsNumbers, HasRest, KeepsLeases, KnowsMaps, IsRootSound, IsInRun, IsInRest}
 use Rattle.pa_root.specs.Handing.{at_number_seen, root_entry}
 use Rattle.pa_root.specs.Laws.{HasEntryMore, after_entry}
 use Rattle.pa_root.specs.Filling.{HasRunOnly}
 use Rattle.pa_pool.specs.Calls.{run_parcel}
 use Rattle.pa_root.specs.Unmapping.{IsCutBack, HandsBack, UnmapsHandBack, UnmapsKeep}
+use Rattle.pa_root.proofs.MapsKept.{maps_go_on}
+use Rattle.pa_root.proofs.MapsBack.{without_other}
 use Rattle.pa_root.proofs.Whole.{made_is_whole}
 use Rattle.pa_root.proofs.Lists as lists
 use Rattle.pa_root.proofs.Seeing.{root_sound, free_kept, handles_kept}
@@ -56,7 +58,7 @@ use Rattle.pa_root.proofs.Opening.{low_left}
 use Rattle.pa_root.proofs.Parcels.{none_stakes, none_keepers}
 use Rattle.pa_root.proofs.Moves.{numbers_without, numbers_with}
 use Rattle.pa_root.proofs.Ready.{named_seen}
-use Rattle.pa_root.proofs.MapsLeft.{others_left, low_rises}
+use Rattle.pa_root.proofs.MapsLeft.{others_left, one_of_entry, low_rises}
 
 module _ (p first : ℕ) (s : RootState) (w c : View) (t : Title) (cut : IsCutBack p first s w c t) where
   abbrev u : View
@@ -117,7 +119,7 @@ module _ (p first : ℕ) (s : RootState) (w c : View) (t : Title) (cut : IsCutBa
       absurd (omega arith)
 
   -- each byte of the super pages is raw now
-  raw_now : (b : ℕ) → IsInRun first count b → 0 < low_of c b (t.born + 1)
+  pub raw_now : (b : ℕ) → IsInRun first count b → 0 < low_of c b (t.born + 1)
   raw_now b inside = elim (covers_or t b) [
     | inl covers ↦ cut.uncut.raw_here b (t.born + 1) covers (omega arith)
     | inr away ↦
@@ -207,6 +209,17 @@ module _ (p first : ℕ) (s : RootState) (w c : View) (t : Title) (cut : IsCutBa
 
   free_y : (v : Title) → free_of y v ≡ free_of c v
   free_y v = refl
+
+  -- the seat has the keeper still, and can be lent a stake
+  pub hosts_left : HostsKeeper p y
+  hosts_left =
+      let ((none, clean), has) = hosts_both p s.view w cut.sound.journal.hosts cut.has.stakes (no_own_clean w (λ v. let h = cut.has.handles v in omega arith)) in (
+        (
+          (λ k. let f = parts.stakes k in let a = note_stakes k in let b = cut.uncut.stakes k in let d = none k in omega arith),
+          (let f = parts.unclean in let b = cut.uncut.unclean in omega arith),
+        ),
+        (let f = parts.keepers p in let a = note_keepers p in let b = cut.uncut.keepers p in omega arith),
+      )
 
   module _ (line asked : ℕ) (x : View) (later : length (list_of 4 s.view) ≤ asked) (gave : GaveRun (pools_seen x) asked count first) (now : IsAware x)
       (left_aware : IsAware y) (keeps : Keeps y x) (more : HasEntryMore p (root_entry line (Unmap asked (at_number_seen w t))) y x) where
@@ -320,20 +333,35 @@ module _ (p first : ℕ) (s : RootState) (w c : View) (t : Title) (cut : IsCutBa
 
     -- ---- its journal
 
-    hosts_left : HostsKeeper p y
-    hosts_left =
-        let ((none, clean), has) = hosts_both p s.view w cut.sound.journal.hosts cut.has.stakes (no_own_clean w (λ v. let h = cut.has.handles v in omega arith)) in (
-          (
-            (λ k. let f = parts.stakes k in let a = note_stakes k in let b = cut.uncut.stakes k in let d = none k in omega arith),
-            (let f = parts.unclean in let b = cut.uncut.unclean in omega arith),
-          ),
-          (let f = parts.keepers p in let a = note_keepers p in let b = cut.uncut.keepers p in omega arith),
-        )
-
     pool_on : IsBeginning (list_of 4 s.view) (list_of 4 x)
     pool_on =
         begins_on (list_of 4 s.view) (list_of 4 u) (list_of 4 x) (left_begins s.view w 4 cut.both_aware)
         (begins_on (list_of 4 u) (list_of 4 c) (list_of 4 x) (cut.uncut.lists 4) (keeps.lists 4))
+
+    maps_now : KnowsMaps p last
+    maps_now =
+        maps_go_on p s x e (unmapped (name_of t) s.root) cut.sound.maps (record { undone = grows; pool = pool_on }) stays (λ j len slot is. absurd (cc))
+        (λ v among. inl (without_map_in (name_of t) s.root.maps v among))
+      where
+        grows : (v : Title) → undone_of s.view v ≤ undone_of x v
+        grows v =
+            let a = (united_parts s.view w).undone v in let b = cut.uncut.undone v in let d = keeps.undone v in
+            let same : undone_of y v ≡ undone_of c v = refl in
+            omega arith
+
+        -- the one that came back stands in the list
+        here : 0 < undone_of x t
+        here =
+            let b = cut.uncut.undone t in let d = keeps.undone t in
+            let same : undone_of y t ≡ undone_of c t = refl in
+            elim (title_one t t) [ inl k ↦ let k0 = k.0 in omega arith | inr n ↦ absurd (n.1 refl) ]
+
+        stays : (v : Title) → Contains s.root.maps v → Contains (unmapped (name_of t) s.root).maps v ⊎ (0 < undone_of x v)
+        stays v among = elim (without_other (name_of t) v s.root.maps among) [
+          | inl rest ↦ inl rest
+          | inr is ↦
+              inr (subst (λ z. 0 < undone_of x z) (one_of_entry t v s.root.maps good.alone cut.mapped among (ap (λ (n : SlotName). n.born) is)) here)
+        ]
 
     own_list : list_of p y ≡ list_of p s.view
     own_list =
@@ -357,6 +385,7 @@ module _ (p first : ℕ) (s : RootState) (w c : View) (t : Title) (cut : IsCutBa
       numbers = numbers_now;
       rest = rest_now;
       leases = leases_kept;
+      maps = maps_now;
     }
 
 pub unmaps_hand_back : UnmapsHandBack

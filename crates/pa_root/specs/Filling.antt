@@ -5,7 +5,7 @@ use Rattle.pa_machine.specs.declared.event.Item.{Item}
 use Rattle.pa_machine.specs.declared.event.Item.TheVariants as items
 use Rattle.pa_buckets.specs.Bands.{fill_of}
 use Rattle.pa_region.specs.declared.view.View.{View}
-use Rattle.pa_region.specs.Views.{free_of, own_of, ref_of, low_of, stake_of, seen_of}
+use Rattle.pa_region.specs.Views.{free_of, own_of, ref_of, low_of, stake_of, undone_of, seen_of}
 use Rattle.pa_region.specs.Lists.{list_of, lease_of, keeper_of, IsBeginning}
 use Rattle.pa_region.specs.Hands.{Parcel, CanHand, left_after, given_after, united}
 use Rattle.pa_region.specs.Marks.{parcel_of}
@@ -91,13 +91,14 @@ abbrev pub ready_root : Option ℕ → RootState → View → Root
 ready_root asked s u = opened_by (pools_seen u) asked s.root
 
 -- A root is ready for a fill of a class: where its first take has to ask the pool, its seat has the super page, which the pool
--- gave by an entry that is later than those which the journal names.
+-- gave by an entry that is later than those which the journal names. It made raw again what it had, and may have seen more.
 pub record IsReadyFor (p class : ℕ) (asked : Option ℕ) (s : RootState) (u : View) : Type 0 where
   pub sound : IsRootSound p s
   pub aware : IsAware u
   pub hosts : HostsKeeper p u
   pub own_list : list_of p u ≡ list_of p s.view
   pub pool_list : IsBeginning (list_of 4 s.view) (list_of 4 u)
+  pub undone : (t : Title) → undone_of s.view t ≤ undone_of u t
   pub slots : HasSlots (record { view = u; journal = s.journal; root = ready_root asked s u })
   pub class_is : class < 59
   pub asked_if : Asked (pools_seen u) class asked s.root

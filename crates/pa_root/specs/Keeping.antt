@@ -6,7 +6,7 @@ use Rattle.pa_machine.specs.Titles.{Covers}
 use Rattle.pa_layout.specs.Pages.{page_place, supers_for}
 use Rattle.pa_region.specs.declared.view.Made.{Made}
 use Rattle.pa_region.specs.declared.view.View.{View}
-use Rattle.pa_region.specs.Views.{free_of, own_of, ref_of, low_of, seen_of}
+use Rattle.pa_region.specs.Views.{free_of, own_of, ref_of, low_of, undone_of, seen_of}
 use Rattle.pa_region.specs.Lists.{list_of, lease_of}
 use Rattle.pa_region.specs.Lending.{HostsKeeper}
 use Rattle.pa_record.specs.declared.taken.SuperPage.{SuperPage}
@@ -14,8 +14,9 @@ use Rattle.pa_record.specs.declared.root.RootEntry.{RootEntry}
 use Rattle.pa_record.specs.Numbers.{root_numbers}
 use Rattle.pa_record.specs.Spans.{name_of}
 use Rattle.pa_record.specs.Root.{Root, new_root, root_replayed, IsJournal, IsOut}
-use Rattle.pa_record.specs.Sound.{IsMade}
+use Rattle.pa_record.specs.Sound.{IsMade, IsMapBy}
 use Rattle.pa_legal.specs.Numbers.{moves_of, at_end, IsNumbered}
+use Rattle.pa_pool.specs.Calls.{HasSeenTake}
 use Rattle.pa_root.specs.Reading.{pools_seen}
 
 -- The root of a partition, as contracts see it: the view of its seat, its journal, and what it has: super pages, spans and
@@ -81,15 +82,24 @@ pub record KeepsLeases (s : RootState) : Type 0 where
   pub supers : (at : SuperPage) → Contains s.root.supers at → 0 < lease_of s.view at.born
   pub maps : (t : Title) → Contains s.root.maps t → 0 < lease_of s.view t.born
 
+-- What is known of direct maps. Each that the journal made is mapped, or the seat made it raw again. And of each that is mapped
+-- the seat has seen the take of the pool, for this partition, that found its super pages.
+pub record KnowsMaps (p : ℕ) (s : RootState) : Type 0 where
+  pub mapped : (t : Title) → IsMapBy s.journal t → Contains s.root.maps t ⊎ (0 < undone_of s.view t)
+  pub taken : (t : Title) → Contains s.root.maps t →
+      (first : ℕ) × (t.start ≡ page_place first 1) × HasSeenTake p t.born first (supers_for t.len) s.view
+
 -- What the type of the root of partition p keeps.
 --   journal: its journal is its keeper's list, and replays to the root
 --   titles: its seat holds free what was made and isn't out
 --   numbers: each at the number that the journal says
 --   rest: all other bytes of its super pages are raw
 --   leases: it has the lease of each entry of the pool by which it has super pages
+--   maps: each direct map that its journal made is mapped, or its seat made it raw again; and the seat has seen its take
 pub record IsRootSound (p : ℕ) (s : RootState) : Type 0 where
   pub journal : HasJournal p s
   pub titles : HoldsMade s
   pub numbers : KnowsNumbers s
   pub rest : HasRest s
   pub leases : KeepsLeases s
+  pub maps : KnowsMaps p s

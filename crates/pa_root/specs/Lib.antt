@@ -10,3 +10,7 @@ pub mod Cutting
 pub mod Mapping
 pub mod Uncutting
 pub mod Unmapping
+pub mod BringingBack
+pub mod Telling
+pub mod Steps
+pub mod Tests

@@ -12,6 +12,7 @@ use Rattle.pa_record.specs.declared.root.RootEntry.{RootEntry}
 use Rattle.pa_record.specs.declared.root.RootAct.TheVariants.{Map}
 use Rattle.pa_record.specs.Pool.{FoundRun}
 use Rattle.pa_record.specs.Spans.{name_of}
+use Rattle.pa_pool.specs.Calls.{HasSeenTake}
 use Rattle.pa_root.specs.Reading.{pools_seen}
 use Rattle.pa_root.specs.Keeping.{RootState, IsRootSound}
 use Rattle.pa_root.specs.Handing.{root_entry}
@@ -19,8 +20,9 @@ use Rattle.pa_root.specs.Laws.{HasEntryMore, after_entry}
 use Rattle.pa_root.specs.Filling.{HasRunOnly, frees_parcel, GivesTitles}
 use Rattle.pa_root.specs.Cutting.{map_beside}
 
--- A sound root takes in a note of the super pages for a direct map of so many bytes, which the pool gave by an entry behind those
--- that its seat had seen; and cuts the direct map's title, of which nobody has seen a step. Its seat has the view c then.
+-- A sound root takes in a note of the super pages for a direct map of so many bytes, which the pool gave for its partition by an
+-- entry behind those that its seat had seen; and cuts the direct map's title, of which nobody has seen a step. Its seat has the view c
+-- then.
 pub record IsCutForMap (p first entry len : ℕ) (s : RootState) (w c : View) : Type 0 where
   pub sound : IsRootSound p s
   pub aware : IsAware s.view
@@ -28,6 +30,7 @@ pub record IsCutForMap (p first entry len : ℕ) (s : RootState) (w c : View) : 
   pub long : length s.view.words ≡ length w.words
   pub has : HasRunOnly first (supers_for len) entry entry w
   pub found : FoundRun (pools_seen (united s.view w)) entry (supers_for len) first
+  pub seen : HasSeenTake p entry first (supers_for len) (united s.view w)
   pub later : length (list_of 4 s.view) ≤ entry
   pub whole : len % 8 ≡ 0
   pub some : 16 ≤ len

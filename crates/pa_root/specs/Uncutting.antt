@@ -5,14 +5,15 @@ use Rattle.pa_machine.specs.Titles.{same_title, Covers, IsWellFormed}
 use Rattle.pa_machine.specs.Holdings.{one}
 use Rattle.pa_region.specs.declared.view.Entry.TheVariants.{Uncut}
 use Rattle.pa_region.specs.declared.view.View.{View}
-use Rattle.pa_region.specs.Views.{free_of, own_of, ref_of, low_of, stake_of, seen_of}
+use Rattle.pa_region.specs.Views.{free_of, own_of, ref_of, low_of, stake_of, undone_of, seen_of}
 use Rattle.pa_region.specs.Waiting.{unclean_of}
 use Rattle.pa_region.specs.Lists.{list_of, lease_of, keeper_of, IsBeginning}
 use Rattle.pa_region.specs.Takes.{IsLongest}
-use Rattle.pa_region.specs.Lending.{Keeps, Lends}
+use Rattle.pa_region.specs.Lending.{Lends}
 
--- The free title t was made raw again: titles that are born later can be cut out of its bytes. All else is as it was, but that
--- more may have been seen, though no more of a title that is free here, nor of an own list.
+-- The free title t was made raw again, and stands in the view's list of such titles: titles that are born later can be cut out of
+-- its bytes. All else is as it was, but that more may have been seen, though no more of a title that is free here, nor of an own
+-- list.
 pub record IsUncut (t : Title) (v after : View) : Type 0 where
   pub frees : (o : Title) → free_of after o + one (same_title t o) ≡ free_of v o
   pub handles : (o : Title) → own_of after o + ref_of after o ≡ own_of v o + ref_of v o
@@ -26,6 +27,7 @@ pub record IsUncut (t : Title) (v after : View) : Type 0 where
   pub numbers : (n : ℕ) (o : Title) → IsWellFormed n o → 0 < free_of after o → seen_of after o ≡ seen_of v o
   pub own_lists : (k : ℕ) → 0 < keeper_of v k → list_of k after ≡ list_of k v
   pub lists : (k : ℕ) → IsBeginning (list_of k v) (list_of k after)
+  pub undone : (o : Title) → undone_of after o ≡ undone_of v o + one (same_title t o)
 
 -- it was made raw again in the host's view, with the lender's stake r, whose log says so
 pub record IsUncutWith (r : ℕ) (t : Title) (lender lender_now host host_now : View) : Type 0 where

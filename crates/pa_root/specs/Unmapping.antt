@@ -1,13 +1,10 @@
 -- Direct maps that come back to a root.
-use Rattle.std.specs.Prelude.{◌≡◌, ℕ, ◌+◌, ◌*◌, ◌≤◌, ◌⊎◌, List, [], ◌∷◌, length, Contains}
+use Rattle.std.specs.Prelude.{◌≡◌, ℕ, ◌+◌, ◌≤◌, ◌⊎◌, List, [], ◌∷◌, ◌++◌, length, Contains}
 use Rattle.pa_machine.specs.declared.title.Title.{Title}
-use Rattle.pa_machine.specs.declared.event.Item.TheVariants.{Raw}
 use Rattle.pa_layout.specs.Pages.{page_place, supers_for}
-use Rattle.pa_region.specs.declared.marks.Mark.TheVariants.{Lease}
 use Rattle.pa_region.specs.declared.view.View.{View}
 use Rattle.pa_region.specs.Lists.{list_of}
-use Rattle.pa_region.specs.Hands.{Parcel, CanHand, left_after, given_after, united}
-use Rattle.pa_region.specs.Marks.{parcel_of}
+use Rattle.pa_region.specs.Hands.{CanHand, left_after, given_after, united}
 use Rattle.pa_region.specs.Lending.{Keeps}
 use Rattle.pa_region.specs.Aware.{IsAware}
 use Rattle.pa_record.specs.declared.numbered.Numbered.{Numbered}
@@ -20,10 +17,15 @@ use Rattle.pa_record.specs.Spans.{name_of}
 use Rattle.pa_pool.specs.Calls.{run_parcel}
 use Rattle.pa_root.specs.Reading.{pools_seen}
 use Rattle.pa_root.specs.Keeping.{RootState, IsRootSound}
-use Rattle.pa_root.specs.Handing.{HasOnly, at_number_seen, root_entry}
+use Rattle.pa_root.specs.Handing.{HasOnly, HasSeenMap, UnmapTakes, at_number_seen, root_entry}
 use Rattle.pa_root.specs.Laws.{HasEntryMore, after_entry}
 use Rattle.pa_root.specs.Filling.{HasRunOnly}
 use Rattle.pa_root.specs.Uncutting.{IsUncut}
+
+-- What a call that took a direct map back tells: its entries, and that the journal has the root's.
+pub record UnmapTells (r p line : ℕ) (v after note : View) (title : Title) (s s_now : RootState) : Type 0 where
+  pub takes : UnmapTakes r p line v after note title
+  pub journal : s_now.journal ≡ s.journal ++ root_entry line (Unmap takes.asked (at_number_seen note title)) ∷ []
 
 -- a direct map of a sound root stands in the super pages that its entry of the pool took
 abbrev pub MapsStandInRuns : Type 0
@@ -38,6 +40,20 @@ CameBackIn journal t =
 abbrev pub MapsStandOrCameBack : Type 0
 MapsStandOrCameBack =
     (p : ℕ) (s : RootState) (t : Title) → IsRootSound p s → IsMapBy s.journal t → Contains s.root.maps t ⊎ CameBackIn s.journal t
+
+-- A note with the view w comes to a sound root: it holds the title of a direct map and nothing else, and has seen the entry that
+-- names it. The root's seat takes it.
+pub record MapComesBack (p : ℕ) (s : RootState) (w : View) (t : Title) : Type 0 where
+  pub sound : IsRootSound p s
+  pub aware : IsAware s.view
+  pub note_aware : IsAware w
+  pub both_aware : IsAware (united s.view w)
+  pub has : HasOnly (t ∷ []) w
+  pub named : HasSeenMap p w t
+
+-- Then the root still has it mapped: had it made it raw again, its seat would hold no such title.
+abbrev pub WhatComesIsMapped : Type 0
+WhatComesIsMapped = (p : ℕ) (s : RootState) (w : View) (t : Title) → MapComesBack p s w t → Contains s.root.maps t
 
 -- A note with the view w brings the title of a direct map that a sound root has, in the super pages from `first` on, and nothing
 -- else. The root's seat takes it and makes the title raw again: it has the view c then.

@@ -1,5 +1,5 @@
 //! Asking the pool for super pages, for a root.
-ghost use Rattle.std.specs.Prelude.{◌≡◌, ℕ, ◌≤◌, [], IfOk, IfSome, OnErr, option_map};
+ghost use Rattle.std.specs.Prelude.{◌≡◌, ℕ, ◌+◌, ◌≤◌, [], IfOk, IfSome, OnErr, option_map};
 ghost use Rattle.pa_region.specs.Views.{least_stake};
 ghost use Rattle.pa_region.specs.Lists.{list_of};
 ghost use Rattle.pa_region.specs.Lending.{CanLend, Lends};
@@ -35,6 +35,7 @@ pub(crate) fn ask_pool<N: Name, R: Wait>(
     ensures asked { IfOk result (λ a. IsAskedFor (least_stake seat.old.view.stakes) line partition count
         (option_map (λ n. n.0) a.1) a.0 seat.old.view seat.new.view root.new.view) }
     ensures note { IfOk result (λ a. IfSome a.1 (λ n. (n.1.region ≡ N.region) × IsRunNote n.0 count a.0 seat.new.view n.1.view)) }
+    ensures low { IfOk result (λ a. IfSome a.1 (λ n. n.0 + count ≤ 16)) }
 {
     let mut locked = pool.lock(rt);
     let pool = &mut *locked;

@@ -5,7 +5,7 @@ ghost use Rattle.pa_root.specs.Giving.{WhatComesIsOut, GivesKeep};
 ghost use Rattle.pa_root.specs.Laws.{PoolsAreRead, FirstIsSound, SeeingMoreKeeps, MadeIsWhole, IdleEntriesKeep, PurgesKeepSlots, SeenIsInJournal, JournalsFitPool, TurnsAreFew};
 ghost use Rattle.pa_root.specs.Making.{EntriesAreTold, EntriesAreNew};
 ghost use Rattle.pa_root.specs.Mapping.{MapsHandOut, MapsKeep};
-ghost use Rattle.pa_root.specs.Unmapping.{MapsStandInRuns, MapsStandOrCameBack, UnmapsHandBack, UnmapsKeep};
+ghost use Rattle.pa_root.specs.Unmapping.{MapsStandInRuns, MapsStandOrCameBack, WhatComesIsMapped, UnmapsHandBack, UnmapsKeep};
 
 /// What a seat has seen of the pool's list are the pool's entries, where the list is theirs in numbers.
 pub fn pools_are_read()
@@ -130,6 +130,11 @@ pub fn journals_fit_the_pool()
 /// A direct map that a journal made is still mapped, or came back.
 pub fn maps_stand_or_came_back()
     ensures { MapsStandOrCameBack }
+{}
+
+/// A direct map that comes to a root in a note, and whose entry the note has seen, is still mapped.
+pub fn a_map_that_comes_back_is_mapped()
+    ensures { WhatComesIsMapped }
 {}
 
 /// A root has at most 32 turns for each entry of its journal.

@@ -25,9 +25,9 @@ use std::marker::{Model, PhantomData};
 /// its seat, its journal, and what the journal replays to.
 #[derive(Drop)]
 pub struct Root<N: Name, const P: u32> {
-    seat: Seat,
-    placement: PlainRoot,
-    journal: Vec<RootEntry>,
+    pub(crate) seat: Seat,
+    pub(crate) placement: PlainRoot,
+    pub(crate) journal: Vec<RootEntry>,
     of: PhantomData<N>,
 }
 

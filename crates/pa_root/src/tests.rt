@@ -1,4 +1,6 @@
-use crate::{cut_beside, cut_map, number_seen, numbers_seen, show_seen, uncut_with};
+use crate::cuts::{cut_beside, cut_map};
+use crate::lends::{show_seen, uncut_with};
+use crate::numbers::{number_seen, numbers_seen};
 use pa_machine::{Item, Title};
 use pa_region::Region;
 use std::test::Fail;

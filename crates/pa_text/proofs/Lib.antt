@@ -4,3 +4,4 @@ pub mod Numbers
 pub mod Numerals
 pub mod Words
 pub mod Splitting
+pub mod Digits

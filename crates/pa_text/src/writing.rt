@@ -1,4 +1,4 @@
-ghost use Rattle.std.specs.Prelude.{◌≡◌, ◌++◌, OnOk, OnErr};
+ghost use Rattle.std.specs.Prelude.{◌≡◌, ◌<◌, ◌++◌, OnOk, OnErr};
 ghost use Rattle.std.specs.Fmt.{decimal};
 ghost use Rattle.std.specs.Io.{StartsWith};
 ghost use Rattle.pa_text.specs.Hex.{hex, slot_text};
@@ -19,8 +19,22 @@ pub fn push_number(out: &mut Vec<u8>, n: u64) -> Result<(), OutOfMemory>
     ensures pushed { OnOk result (out.new.items ≡ out.old.items ++ decimal n) }
     ensures same { OnErr result (out.new.items ≡ out.old.items) }
 {
+    if n < 10 {
+        return push_digit(out, n as u8);
+    }
     let mut digits = itoa::Buffer::new();
     push_bytes(out, digits.format(n).as_bytes())
+}
+
+// Appends the number, which has one digit.
+#[tactic(auto, using(crate::proofs::Digits::one_digit))]
+fn push_digit(out: &mut Vec<u8>, n: u8) -> Result<(), OutOfMemory>
+    requires { n < 10 }
+    ensures pushed { OnOk result (out.new.items ≡ out.old.items ++ decimal n) }
+    ensures same { OnErr result (out.new.items ≡ out.old.items) }
+{
+    out.push(b'0' + n)?;
+    Ok(())
 }
 
 /// Appends the word as sixteen lower-case hexadecimal digits. After want of memory none of them stands there.

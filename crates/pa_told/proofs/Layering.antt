@@ -65,7 +65,7 @@ module _ (partitions : ℕ) (lists : ℕ → List Made) (pools : List PoolEntry)
       let is = h.lists_are.is p (omega arith) in
       let (m, at_m, says) = place_in root_numbers (lists p) (roots p) j e (h.lists_are.journals p few) at in
       let (x, among, thread, within) = lines_have_theirs.each p (lists p) ts m is (get_in (lists p) j m at_m) in
-      (x.played, (map_in (λ (z : ToldRecord). z.played) ts x among, sym (is.lines x m among within) ∙ ap first_of says), h.makes x p m e among within says)
+      (x.played, (map_in (λ (z : ToldRecord). z.played) ts x among, sym (is.lines x m among within) ∙ ap first_of says), h.makes x p m e few among within says)
 
   order : (p i j : ℕ) (e f : RootEntry) (x y : Played) → IsEntry roots p i e → IsEntry roots p j f → IsOfLine (played_in ts) e.line x → IsOfLine (played_in ts) f.line y → StandsBefore x y → i < j
   order p i j e f x y at_i at_j of_x of_y before =

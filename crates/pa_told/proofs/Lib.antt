@@ -1,9 +1,11 @@
 pub mod Celling
 pub mod Closing
 pub mod Contents
+pub mod Due
 pub mod Ends
 pub mod Filters
 pub mod Histories
+pub mod Homing
 pub mod Indexing
 pub mod Keeping
 pub mod Layering
@@ -18,12 +20,15 @@ pub mod Places
 pub mod Readers
 pub mod Reading
 pub mod Reporting
+pub mod Said
+pub mod Saying
 pub mod Seating
 pub mod Sizing
 pub mod Slots
 pub mod StepMarks
 pub mod Sums
 pub mod Swapping
+pub mod Through
 pub mod Uncutting
 pub mod Usable
 pub mod Viewing

@@ -191,7 +191,7 @@ left_by into out home size p threads xs tally few h =
     record { slots = omega arith; bytes = omega arith }
 
 -- the lists of all threads, from those of each
-leads : (partitions : ℕ) (roots : Journals) (all : Caches) (ps : List Played) (ends : Caches) → ((k : ℕ) → CacheLeadsTo partitions roots (all k) (records_by k ps) (ends k)) →
+pub leads : (partitions : ℕ) (roots : Journals) (all : Caches) (ps : List Played) (ends : Caches) → ((k : ℕ) → CacheLeadsTo partitions roots (all k) (records_by k ps) (ends k)) →
     (after : Caches) × CachesTo partitions roots all ps after × ((k : ℕ) → after k ≡ ends k)
 leads partitions roots all [] ends each = (all, refl, λ k. sym (each k))
 leads partitions roots all (x ∷ xs) ends each =

@@ -51,7 +51,7 @@ length_is (u ∷ us) t among same = elim (cases_Bool (same_slot (name_of u) (nam
 ]
 
 -- a journal's titles are those that it makes
-made_listed : (pools : List PoolEntry) (journal : List RootEntry) (t : Title) → IsMadeBy pools journal t → Contains (titles_by pools journal) t
+pub made_listed : (pools : List PoolEntry) (journal : List RootEntry) (t : Title) → IsMadeBy pools journal t → Contains (titles_by pools journal) t
 made_listed pools journal t (inl (s, among, number, below, is)) =
     let spans = (root_replayed pools journal new_root).spans in
     Contains-append_left (flat_map slots_cut spans) (flat_map (λ (e : RootEntry). maps_by e.act) journal) t
@@ -74,7 +74,7 @@ map_listed (Give slots) t among = absurd (not_in_none t among)
 map_listed (Unmap asked slot) t among = absurd (not_in_none t among)
 map_listed Purge t among = absurd (not_in_none t among)
 
-listed_made : (pools : List PoolEntry) (journal : List RootEntry) (t : Title) → Contains (titles_by pools journal) t → IsMadeBy pools journal t
+pub listed_made : (pools : List PoolEntry) (journal : List RootEntry) (t : Title) → Contains (titles_by pools journal) t → IsMadeBy pools journal t
 listed_made pools journal t among =
     let spans = (root_replayed pools journal new_root).spans in
     elim (Contains-append_cases (flat_map slots_cut spans) (flat_map (λ (e : RootEntry). maps_by e.act) journal) t among) [

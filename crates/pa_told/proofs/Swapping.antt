@@ -22,7 +22,7 @@ use Rattle.pa_told.specs.Swaps.{SwapMade, is_of_cell, place_of, AreSwapped, Swap
 use Rattle.pa_told.proofs.Filters.{get_in}
 use Rattle.pa_told.proofs.Listing.{lines_have_theirs, entries_in_order, one_record}
 
-abbrev Apart : Made → Made → Type 0
+abbrev pub Apart : Made → Made → Type 0
 Apart m n = line_of m ≢ line_of n
 
 -- an entry at a place of a list whose lines differ is the first of its line
@@ -154,7 +154,7 @@ rises_at (h ∷ hs) zero (suc j) m n rises less at_i at_j =
 rises_at (h ∷ hs) (suc i) (suc j) m n rises less at_i at_j = rises_at hs i j m n rises.1 (omega arith) at_i at_j
 
 module _ (list : List Made) (cells : ℕ → List CellEntry) (swaps : List SwapMade) (ts : List ToldRecord) (are : AreSwapped list cells swaps ts) where
-  apart : AllPairs Apart list
+  pub apart : AllPairs Apart list
   apart = few_apart list (λ m among.
       let (x, there, thread, within) = lines_have_theirs.each 5 list ts m are.is among in
       let line = are.is.lines x m there within in

@@ -26,7 +26,7 @@ use Rattle.pa_told.proofs.OneSlot.{step_at}
 use Rattle.pa_told.proofs.StepMarks.{issue_is}
 
 -- only an issue finds the word 0
-issue_first : (p : Step) (w : ℕ) → CanStep p w → w ≡ 0 → p ≡ steps.Issue
+pub issue_first : (p : Step) (w : ℕ) → CanStep p w → w ≡ 0 → p ≡ steps.Issue
 issue_first steps.Issue w can z = refl
 issue_first steps.Copy w can z = absurd (omega (arith, can.0, z))
 issue_first steps.Reset w can z = absurd (omega (arith, can.0, z))

@@ -28,13 +28,13 @@ use Rattle.pa_told.proofs.Slots.{slots_follow}
 use Rattle.pa_told.proofs.Viewing.{seen_follows}
 
 -- looks find words in use
-looks_in_use : (sizes : SlotName → ℕ) (ts : List ToldRecord) → AreTold sizes ts → (x : Played) → Contains (played_in ts) x → FindsInUse x
+pub looks_in_use : (sizes : SlotName → ℕ) (ts : List ToldRecord) → AreTold sizes ts → (x : Played) → Contains (played_in ts) x → FindsInUse x
 looks_in_use sizes ts told x among m is none =
     let (y, there, e) = map_cases (λ (z : ToldRecord). z.played) ts x among in
     ((tells_its_mark sizes y (told y there)).has_look m (ap mark_of e ∙ is) none).1
 
 -- what was seen keeps the phases in order
-in_phases : (cells : ℕ → List CellEntry) (ps : List Played) → IsSeenInOrder cells ps → IsInPhases ps
+pub in_phases : (cells : ℕ → List CellEntry) (ps : List Played) → IsSeenInOrder cells ps → IsInPhases ps
 in_phases cells ps seen x y m n first second late is other same = seen.rising x y m n first second (Standing (inr late)) is other same
 
 module _ (sizes : SlotName → ℕ) (place : ℕ → ℕ) (t : Trace) (r : Told) (v : View) (ts : List ToldRecord) (out : IsPlayedOut sizes place t r v ts) where

@@ -41,7 +41,7 @@ pub record RootsSay (partitions : ℕ) (lists : ℕ → List Made) (pools : List
     Type 0 where
   pub lists_are : AreLists lists pools roots ts
   pub journals : (p : ℕ) → IsJournal pools (roots p)
-  pub makes : (x : ToldRecord) (p : ℕ) (m : Made) (e : RootEntry) → Contains ts x → Contains (entered_in p x.stretch) m →
+  pub makes : (x : ToldRecord) (p : ℕ) (m : Made) (e : RootEntry) → p < 4 → Contains ts x → Contains (entered_in p x.stretch) m →
       m.numbers ≡ root_numbers e → MakesEntry pools p e.act x.played.op
   pub cuts : (p : ℕ) → p < 4 → HasCuts p (lists p) ts
   pub none_past : (p : ℕ) → partitions ≤ p → roots p ≡ []

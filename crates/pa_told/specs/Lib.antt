@@ -1,4 +1,5 @@
 pub mod Ending
+pub mod Homes
 pub mod Indices
 pub mod Layers
 pub mod Lengths
@@ -6,6 +7,7 @@ pub mod Listed
 pub mod Reads
 pub mod Reported
 pub mod Rows
+pub mod Said
 pub mod Seats
 pub mod Standing
 pub mod Steps

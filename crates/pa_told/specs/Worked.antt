@@ -70,6 +70,7 @@ abbrev pub view_of : List ToldRecord → View
 view_of ts = record {
   raws = [];
   frees = [];
+  uncut = [];
   owns = [];
   refs = [];
   words = blank 262144;

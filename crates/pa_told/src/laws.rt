@@ -1,4 +1,5 @@
 ghost use Rattle.pa_told.specs.Ending.{ClosesHolding, HeldFollows};
+ghost use Rattle.pa_told.specs.Homes.{HomesFollow};
 ghost use Rattle.pa_told.specs.Indices.{IndicesFollow};
 ghost use Rattle.pa_told.specs.Layers.{LayersFollow};
 ghost use Rattle.pa_told.specs.Lengths.{LengthsFollow};
@@ -6,6 +7,7 @@ ghost use Rattle.pa_told.specs.Listed.{ActsAreTheirs, EntriesInOrder, LinesHaveT
 ghost use Rattle.pa_told.specs.Reads.{ContentsFollow, ReadsFollow};
 ghost use Rattle.pa_told.specs.Reported.{ReportFollows};
 ghost use Rattle.pa_told.specs.Rows.{ThreadsMerge, UsableFollows};
+ghost use Rattle.pa_told.specs.Said.{LayersTellAll};
 ghost use Rattle.pa_told.specs.Seats.{SeatsKnow};
 ghost use Rattle.pa_told.specs.Standing.{StandsHeld, StandsUncut};
 ghost use Rattle.pa_told.specs.Steps.{ContentFollows, HistoriesFollow, SlotsFollow};
@@ -156,4 +158,14 @@ pub fn stands_held()
 /// each layer says.
 pub fn layers_follow()
     ensures { LayersFollow }
+{}
+
+/// The law that each slot which a record stepped on or looked at has a partition and a length, by the journals.
+pub fn homes_follow()
+    ensures { HomesFollow }
+{}
+
+/// The law that a run is legal, and held by the closed region, of which each layer says what it is asked.
+pub fn layers_tell_all()
+    ensures { LayersTellAll }
 {}

@@ -13,6 +13,7 @@ use Rattle.pa_rules.specs.Roots.{journal_at}
 use Rattle.pa_one_run.proofs.worked.Lists.{passes, all_pairs, pairs_pass}
 use Rattle.pa_told.specs.Told.{ToldRecord, log_of, told_until}
 use Rattle.pa_told.specs.Listed.{line_of, IsListOf, AreRising}
+use Rattle.pa_told.specs.Seats.{AreOfLines}
 use Rattle.pa_told.specs.Indices.{StandsAt, Enters, asks, AskedNone, AskedOnce}
 
 -- what holds of each number below 4, 5 and 6
@@ -38,13 +39,13 @@ below_six P a b c d e f q few = elim (cases_eq 5 q) [ inl same ↦ subst P same 
 abbrev pub lines_fit : ℕ → List ToldRecord → Bool
 lines_fit q ts = list_all (λ (x : ToldRecord). list_all (λ (m : Made). eqb (line_of m) x.played.line) (entered_in q x.stretch)) ts
 
+pub lines_told : (q : ℕ) (ts : List ToldRecord) → lines_fit q ts ≡ true → AreOfLines q ts
+lines_told q ts fit x m among there =
+    let own = passes (λ (y : ToldRecord). list_all (λ (n : Made). eqb (line_of n) y.played.line) (entered_in q y.stretch)) ts x fit among in
+    eqb-true (line_of m) x.played.line (passes (λ (n : Made). eqb (line_of n) x.played.line) (entered_in q x.stretch) m own there)
+
 pub is_list : (q : ℕ) (list : List Made) (ts : List ToldRecord) → ((k : ℕ) → made_with k list ≡ entered_in q (log_of k ts)) → lines_fit q ts ≡ true → IsListOf q list ts
-is_list q list ts made fit = record {
-  made = made;
-  lines = λ x m among there.
-      let own = passes (λ (y : ToldRecord). list_all (λ (n : Made). eqb (line_of n) y.played.line) (entered_in q y.stretch)) ts x fit among in
-      eqb-true (line_of m) x.played.line (passes (λ (n : Made). eqb (line_of n) x.played.line) (entered_in q x.stretch) m own there);
-}
+is_list q list ts made fit = record { made = made; lines = lines_told q ts fit }
 
 pub rising : (ts : List ToldRecord) → all_pairs (λ (x y : ToldRecord). ltb x.played.line y.played.line) ts ≡ true → AreRising ts
 rising ts h = pairs_pass (λ (x y : ToldRecord). x.played.line < y.played.line) (λ x y. ltb x.played.line y.played.line) (λ x y. ltb-true x.played.line y.played.line) ts h

@@ -138,11 +138,11 @@ threads_fit = record {
 }
 
 -- no cell but the first has an exchange
-no_history : (k : ℕ) → (0 ≡ k → ⊥) → threads_cells k ≡ []
+pub no_history : (k : ℕ) → (0 ≡ k → ⊥) → threads_cells k ≡ []
 no_history zero apart = absurd (apart refl)
 no_history (suc k) apart = refl
 
-swaps_are : AreSwaps (threads_lists 5) threads_cells threads_swaps
+pub swaps_are : AreSwaps (threads_lists 5) threads_cells threads_swaps
 swaps_are = record {
   list_is = refl;
   lines = λ e among. each (λ (s : SwapMade). line_of s.made ≡ s.entry.line) threads_swaps (refl, (refl, tt)) e among;
@@ -155,13 +155,13 @@ swaps_are = record {
 abbrev HasSwap : ToldRecord → Type 0
 HasSwap x = IsExchanged x.played → (m : Made) × Contains (threads_lists 5) m × (line_of m ≡ x.played.line)
 
-record GivesSwap (x : ToldRecord) : Type 0 where
-  gives_it : (m : Made) (t : Title) → Contains (entered_in 5 x.stretch) m → x.gives t ≡ seen_among t m.seen
+pub record GivesSwap (x : ToldRecord) : Type 0 where
+  pub gives_it : (m : Made) (t : Title) → Contains (entered_in 5 x.stretch) m → x.gives t ≡ seen_among t m.seen
 
-no_swap : (x : ToldRecord) → entered_in 5 x.stretch ≡ [] → GivesSwap x
+pub no_swap : (x : ToldRecord) → entered_in 5 x.stretch ≡ [] → GivesSwap x
 no_swap x none = record { gives_it = λ m t there. absurd (not_in_none m (subst (λ ms. Contains ms m) none there)) }
 
-one_swap : (x : ToldRecord) (n : Made) → entered_in 5 x.stretch ≡ n ∷ [] → ((t : Title) → x.gives t ≡ seen_among t n.seen) → GivesSwap x
+pub one_swap : (x : ToldRecord) (n : Made) → entered_in 5 x.stretch ≡ n ∷ [] → ((t : Title) → x.gives t ≡ seen_among t n.seen) → GivesSwap x
 one_swap x n one gives = record { gives_it = λ m t there. gives t ∙ ap (λ (z : Made). seen_among t z.seen) (only_one n m (subst (λ ms. Contains ms m) one there)) }
 
 threads_swapped : AreSwapped (threads_lists 5) threads_cells threads_swaps threads_told
@@ -216,7 +216,7 @@ Answers x =
 abbrev IsSwapOf : SwapMade → Type 0
 IsSwapOf s = (x : ToldRecord) × (reg : ℕ) × Contains threads_told x × (x.played.line ≡ s.entry.line) × (x.played.op ≡ ops.Swap s.cell reg)
 
-cell_is : (k l reg other : ℕ) → ops.Swap k reg ≡ ops.Swap l other → k ≡ l
+pub cell_is : (k l reg other : ℕ) → ops.Swap k reg ≡ ops.Swap l other → k ≡ l
 cell_is k l reg other e = cc
 
 threads_answered : AreAnswered threads_cells threads_swaps threads_told

@@ -167,3 +167,12 @@ module _ (ts : List ToldRecord) (steps : List Done) (is : IsOfOne ts steps) wher
     one_name = λ t u mine other start born. sym (named_is t mine) ∙ named_is u other;
     reads = record { freed = is.freed; own = λ t found value held some_pair. absurd (is.own t found value some_pair); ref = ref_read };
   })
+
+  -- the one title's history, and that of another
+  pub history_here : knows_one.all.history its_title ≡ steps
+  unfolding knows knows_one
+  history_here = refl
+
+  pub history_there : (t : Title) → same_title its_title t ≡ false → knows_one.all.history t ≡ []
+  unfolding knows knows_one
+  history_there t other = rw other refl

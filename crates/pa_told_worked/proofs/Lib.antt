@@ -1,9 +1,17 @@
+pub mod AllSaid
 pub mod Alone
+pub mod Closed
+pub mod ClosingSeat
 pub mod Entering
 pub mod Fitting
+pub mod FreeSlots
 pub mod Knowing
+pub mod Layered
 pub mod Maps
 pub mod Otherwise
+pub mod PhaseEnds
+pub mod Played
 pub mod Purge
+pub mod Seats
 pub mod Seen
 pub mod Threads

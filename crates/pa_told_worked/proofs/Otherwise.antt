@@ -50,10 +50,10 @@ found_free t found value held some_pair =
 
 -- ---- the content
 
-abbrev so_content : List ToldRecord
+abbrev pub so_content : List ToldRecord
 so_content = reading_so content_read
 
-abbrev content_second : List ToldRecord
+abbrev pub content_second : List ToldRecord
 content_second = told_until 2 so_content
 
 -- the read gave the content of any history with no write
@@ -88,7 +88,7 @@ content_chain_last = record {
   ];
 }
 
-content_of_second : IsOfOne content_second steps_second
+pub content_of_second : IsOfOne content_second steps_second
 content_of_second = record {
   low = λ x among. each (λ (y : ToldRecord). y.played.thread < 16) content_second (lit< tt, (lit< tt, (lit< tt, (lit< tt, (lit< tt, (lit< tt, tt)))))) x among;
   chained = content_chain_second;
@@ -100,7 +100,7 @@ content_of_second = record {
       (λ mine. gave_content content_second t found value (omega arith));
 }
 
-content_of_last : IsOfOne so_content steps_last
+pub content_of_last : IsOfOne so_content steps_last
 content_of_last = record {
   low = λ x among. each (λ (y : ToldRecord). y.played.thread < 16) so_content (lit< tt, (lit< tt, (lit< tt, (lit< tt, (lit< tt, (lit< tt, (lit< tt, (lit< tt, tt)))))))) x among;
   chained = content_chain_last;
@@ -121,10 +121,10 @@ content_of_last = record {
 
 -- ---- freed
 
-abbrev so_freed : List ToldRecord
+abbrev pub so_freed : List ToldRecord
 so_freed = reading_so freed_read
 
-abbrev freed_second : List ToldRecord
+abbrev pub freed_second : List ToldRecord
 freed_second = told_until 2 so_freed
 
 freed_chain_second : IsChained (told_of freed_second) its_title steps_second
@@ -145,7 +145,7 @@ freed_chain_last = record {
   looks = λ word some_look. inr (inl (sym (eqb-true 50331650 word (one_true _ (omega arith)))));
 }
 
-freed_of_second : IsOfOne freed_second steps_second
+pub freed_of_second : IsOfOne freed_second steps_second
 freed_of_second = record {
   low = λ x among. each (λ (y : ToldRecord). y.played.thread < 16) freed_second (lit< tt, (lit< tt, (lit< tt, (lit< tt, (lit< tt, (lit< tt, tt)))))) x among;
   chained = freed_chain_second;
@@ -157,7 +157,7 @@ freed_of_second = record {
       (λ mine. absurd (found_free t found value held (omega arith)));
 }
 
-freed_of_last : IsOfOne so_freed steps_last
+pub freed_of_last : IsOfOne so_freed steps_last
 freed_of_last = record {
   low = λ x among. each (λ (y : ToldRecord). y.played.thread < 16) so_freed (lit< tt, (lit< tt, (lit< tt, (lit< tt, (lit< tt, (lit< tt, (lit< tt, (lit< tt, tt)))))))) x among;
   chained = freed_chain_last;

@@ -29,7 +29,7 @@ use Rattle.pa_told_worked.specs.Worked.{Worked, told_record, told_records}
 abbrev pub covers : List SeenNumber → List SeenNumber → Bool
 covers a b = list_all (λ (s : SeenNumber). leb s.number (seen_among s.title b)) a
 
-covered : (a b : List SeenNumber) → covers a b ≡ true → (t : Title) → seen_among t a ≤ seen_among t b
+pub covered : (a b : List SeenNumber) → covers a b ≡ true → (t : Title) → seen_among t a ≤ seen_among t b
 covered a b h t = elim (cases_lt (seen_among t b) (seen_among t a)) [
   | inl more ↦
       let ahead : SeenNumber → ℕ = λ (s : SeenNumber). one (same_title s.title t && ltb (seen_among t b) s.number) in

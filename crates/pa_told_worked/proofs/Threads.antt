@@ -85,7 +85,7 @@ steps_last = record { step = Reset; value = 0 } ∷ steps_second
 abbrev pub told_first : List ToldRecord
 told_first = told_until 1 threads_told
 
-abbrev told_second : List ToldRecord
+abbrev pub told_second : List ToldRecord
 told_second = told_until 2 threads_told
 
 pub chained_first : IsChained (told_of told_first) its_title steps_first
@@ -185,7 +185,7 @@ of_first = record {
       (λ mine. absurd (omega arith));
 }
 
-of_second : IsOfOne told_second steps_second
+pub of_second : IsOfOne told_second steps_second
 of_second = record {
   low = λ x among. each (λ (y : ToldRecord). y.played.thread < 16) told_second (lit< tt, (lit< tt, (lit< tt, (lit< tt, (lit< tt, (lit< tt, tt)))))) x among;
   chained = chained_second;
@@ -197,7 +197,7 @@ of_second = record {
       (λ mine. gave told_second steps_second freed_second t found value (omega arith));
 }
 
-of_last : IsOfOne threads_told steps_last
+pub of_last : IsOfOne threads_told steps_last
 of_last = record {
   low = λ x among. each (λ (y : ToldRecord). y.played.thread < 16) threads_told (lit< tt, (lit< tt, (lit< tt, (lit< tt, (lit< tt, (lit< tt, (lit< tt, (lit< tt, tt)))))))) x among;
   chained = chained_last;
@@ -283,7 +283,7 @@ handed x y (suc k, j, e, f, at, at', line, line', gave_one) = absurd (not_some e
 pub hands_so : (x y : Played) → HandsTo cells x y → hands x.line y.line ≡ true
 hands_so x y h = let (a, b) = handed x y h in and_from _ _ (eq-eqb 4 x.line a) (eq-eqb 7 y.line b)
 
-seen_so : AreViewed cells threads_told
+pub seen_so : AreViewed cells threads_told
 seen_so = viewed cells threads_worked hands refl hands_so
 
 handed_on : (x y : Played) → HandsTo cells x y → x.line < y.line

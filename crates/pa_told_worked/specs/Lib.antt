@@ -1,3 +1,4 @@
+pub mod AllSaid
 pub mod Entered
 pub mod Maps
 pub mod OtherReads

@@ -1,3 +1,4 @@
+ghost use Rattle.pa_told_worked.specs.AllSaid.{OtherReadsAreLegal, ThreadsClose, ThreadsSay};
 ghost use Rattle.pa_told_worked.specs.Entered.{DirectMapHasLists, PurgeHasLists, TwoThreadsHaveLists};
 ghost use Rattle.pa_told_worked.specs.Maps.{DirectMapIsPlayedOut};
 ghost use Rattle.pa_told_worked.specs.OtherReads.{OtherReadsFit};
@@ -41,4 +42,21 @@ pub fn direct_map_has_lists()
 /// by both.
 pub fn other_reads_fit()
     ensures { OtherReadsFit }
+{}
+
+/// The run of two threads, with each of the three answers that its read may give, meets at once what all layers are asked.
+pub fn threads_say()
+    ensures { ThreadsSay }
+{}
+
+/// So all that is asked of told records is met with each of them, and each is legal: poison while the free is under way, the
+/// content, and that the slot was freed.
+pub fn other_reads_are_legal()
+    ensures { OtherReadsAreLegal }
+{}
+
+/// The seat that closes the run of two threads is what it is asked to be, with each answer of the read; so the words at the end
+/// hold the run.
+pub fn threads_close()
+    ensures { ThreadsClose }
 {}

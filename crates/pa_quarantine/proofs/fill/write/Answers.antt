@@ -1,6 +1,6 @@
 use Rattle.std.proofs.Common.{◌≡◌, ◌+◌, ◌*◌, ◌∙◌, refl, ap, subst, arith}
 use Rattle.pa_machine.specs.declared.word.Step.TheVariants.{Write}
-use Rattle.pa_region.specs.Shares.{Share, IsMade, byte_word_count}
+use Rattle.pa_region.specs.Shares.{Share, IsStepMade, byte_word_count}
 use Rattle.pa_quarantine.specs.Filling.{filled_share}
 use Rattle.pa_quarantine.proofs.Filling.{open_own}
 use Rattle.pa_quarantine.proofs.Writing.{write_can, write_own, write_next, write_end, write_told}
@@ -40,4 +40,4 @@ returns c =
     let view = write_end c.args.title c.args.value c.loop-word.word c.args.seat.now.view c.loop-word.seat.view (omega arith) (omega arith) c.loop-word.invariant.view in
     let same : c.loop-word.seat ≡ filled_share c.args.title c.args.value c.args.seat.now =
     ap (λ r. record { region = r; view = c.loop-word.seat.view }) c.loop-word.invariant.region ∙ ap (λ v. record { region = c.args.seat.now.region; view = v }) view in
-    subst (λ (s : Share). IsMade Write c.args.title c.wrote.result.0 s c.wrote.new.seat) same c.wrote.ensures
+    subst (λ (s : Share). IsStepMade Write c.args.title c.wrote.result.0 s c.wrote.new.seat) same c.wrote.ensures

@@ -1,7 +1,7 @@
-use Rattle.std.proofs.Common.{◌≡◌, ℕ, Some, None, subst}
+use Rattle.std.proofs.Common.{Some, None, subst}
 use Rattle.pa_pool.specs.declared.fault.PoolFault.{PoolFault}
 use Rattle.pa_pool.specs.Calls.{Refused}
-use Rattle.pa_root.proofs.Asked.{shown_lends, asked_is}
+use Rattle.pa_root.proofs.Asked.{shown_lends, asked_is, run_low}
 use Rattle.pa_root.proofs.asks.ask_pool.Goals as goal
 
 pub take-requires-clause-lender : goal.take-requires-clause-lender
@@ -20,3 +20,6 @@ returns-in-Err-NoRoom-clause-asked g c =
     c.show_seen.new.to c.take.new.seat c.room.new.self c.take.new.self c.show_seen.ensures.shown c.requires.lender c.aware.ensures.aware c.aware-in-Err-NoRoom.ensures.aware
     c.kept.ensures (subst (λ (f : PoolFault). Refused c.args.line c.args.partition c.args.count c.show_seen.new.to c.take.new.seat c.room.new.self c.take.new.self f)
     c.in-Err-NoRoom.field-0-is c.in-Err-NoRoom.ensures.refused)
+
+pub returns-in-Ok-clause-low : goal.returns-in-Ok-clause-low
+returns-in-Ok-clause-low g c = run_low c.args.count c.in-Ok.first c.room.new.self c.kept.ensures c.in-Ok.ensures.took.lowest

@@ -3,7 +3,7 @@ use Rattle.atomic_table.specs.Seated.{TableId}
 use Rattle.pa_region.specs.declared.view.View.{View}
 use Rattle.pa_region.specs.Views.{stake_of}
 use Rattle.pa_region.specs.Moves.{CanCount, IsFound, after_count}
-use Rattle.pa_region.specs.Shares.{Share, IsSound, byte_word_count}
+use Rattle.pa_region.specs.Shares.{Share, IsSeatSound, byte_word_count}
 use Rattle.pa_region.proofs.Found.{handle_held}
 use Rattle.pa_region.proofs.Pieces.{held_title}
 use Rattle.pa_region.proofs.SeatStakes.{stakes_kept}
@@ -35,8 +35,8 @@ invariant_of-seat c =
     let before = c.seat.inside.seat.me.0 in
     let region = c.add_as.ensures.seat.0 in (
       told.1 ∙ c.seat.invariant.0,
-      subst (λ (z : TableId). IsSound z c.add_as.new.seat.me.0) (sym region)
-          (subst (λ (w : View). IsSound c.seat.inside.seat.table_id w) (sym told.0) (count_sound c.seat.inside.seat.table_id c.args.step c.args.title c.add_as.result before can c.seat.invariant.1)),
+      subst (λ (z : TableId). IsSeatSound z c.add_as.new.seat.me.0) (sym region)
+          (subst (λ (w : View). IsSeatSound c.seat.inside.seat.table_id w) (sym told.0) (count_sound c.seat.inside.seat.table_id c.args.step c.args.title c.add_as.result before can c.seat.invariant.1)),
       stakes_kept c.seat.inside.stakes before c.add_as.new.seat.me.0 (λ k. ap (λ (w : View). stake_of w k) told.0 ∙ count_stakes c.args.step c.args.title c.add_as.result before can.1 k) c.seat.invariant.2,
       c.add_as.ensures.aware,
     )

@@ -3,7 +3,7 @@ use Rattle.atomic_table.specs.Seated.{TableId}
 use Rattle.pa_machine.specs.Titles.{IsWellFormed, count_word}
 use Rattle.pa_region.specs.declared.view.View.{View}
 use Rattle.pa_region.specs.Views.{seen_of}
-use Rattle.pa_region.specs.Shares.{Share, IsSound, byte_word_count}
+use Rattle.pa_region.specs.Shares.{Share, IsSeatSound, byte_word_count}
 use Rattle.pa_region.specs.Stores.{after_store, CanStore, StoreTells}
 use Rattle.pa_region.specs.Cuts.{CanCut, titled}
 use Rattle.pa_region.proofs.SeatStakes.{stakes_kept, stakes_equal}
@@ -23,7 +23,7 @@ store-requires-clause-able c =
 pub title_as-requires-clause-region : goal.title_as-requires-clause-region
 title_as-requires-clause-region c =
     let old = c.args.seat.now.view in
-    let first = subst (λ (h : Share). IsSound h.region h.view) c.seat.view_is c.seat.invariant.1 in
+    let first = subst (λ (h : Share). IsSeatSound h.region h.view) c.seat.view_is c.seat.invariant.1 in
     let well = cut_well c.args.seat.now.region c.args.title old first c.requires.able in
     let region : c.args.seat.now.region ≡ c.seat-2.inside.seat.table_id = sym (ap (λ (h : Share). h.region) c.seat-2.view_is ∙ c.store.ensures.region) in
     let same = sym region ∙ (c.requires.region ∙ sym c.self.view_is) in (
@@ -37,7 +37,7 @@ pub title_as-requires-clause-allowed : goal.title_as-requires-clause-allowed
 title_as-requires-clause-allowed c =
     let old = c.args.seat.now.view in
     let t = c.args.title in
-    let first = subst (λ (h : Share). IsSound h.region h.view) c.seat.view_is c.seat.invariant.1 in
+    let first = subst (λ (h : Share). IsSeatSound h.region h.view) c.seat.view_is c.seat.invariant.1 in
     let now : after_store c.count_byte-at.result 0 old ≡ c.seat-2.inside.seat.me.0 = sym (ap (λ (h : Share). h.view) c.seat-2.view_is ∙ c.store.ensures.view) in
     let can = subst (λ (u : View). CanCut t u) now (subst (λ (n : ℕ). CanCut t (after_store n 0 old)) (sym c.count_byte-at.ensures) (cut_still t old c.requires.able)) in
     let zero = subst (λ (u : View). count_word u.words t ≡ 0) now
@@ -52,8 +52,8 @@ invariant_of-seat c =
     let now : after_store c.count_byte-at.result 0 old ≡ c.seat-2.inside.seat.me.0 = sym (ap (λ (h : Share). h.view) c.seat-2.view_is ∙ c.store.ensures.view) in
     let can = subst (λ (u : View). CanCut t u) now (subst (λ (n : ℕ). CanCut t (after_store n 0 old)) (sym c.count_byte-at.ensures) (cut_still t old c.requires.able)) in (
       told.1 ∙ c.seat-2.invariant.0,
-      subst (λ (z : TableId). IsSound z c.title_as.new.seat.me.0) (sym c.title_as.ensures.seat.0)
-          (subst (λ (u : View). IsSound c.seat-2.inside.seat.table_id u) (sym told.0) (titled_sound c.seat-2.inside.seat.table_id t c.seat-2.inside.seat.me.0 c.seat-2.invariant.1 can)),
+      subst (λ (z : TableId). IsSeatSound z c.title_as.new.seat.me.0) (sym c.title_as.ensures.seat.0)
+          (subst (λ (u : View). IsSeatSound c.seat-2.inside.seat.table_id u) (sym told.0) (titled_sound c.seat-2.inside.seat.table_id t c.seat-2.inside.seat.me.0 c.seat-2.invariant.1 can)),
       stakes_kept c.seat-2.inside.stakes c.seat-2.inside.seat.me.0 c.title_as.new.seat.me.0 (stakes_equal c.seat-2.inside.seat.me.0 c.title_as.new.seat.me.0 (ap (λ (u : View). u.stakes) told.0)) c.seat-2.invariant.2,
       c.title_as.ensures.aware,
     )

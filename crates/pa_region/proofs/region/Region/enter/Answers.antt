@@ -3,7 +3,7 @@ use Rattle.atomic_table.specs.Seated.{TableId}
 use Rattle.pa_region.specs.declared.view.View.{View}
 use Rattle.pa_region.specs.Views.{stake_of}
 use Rattle.pa_region.specs.Entries.{CanEnter, after_enter}
-use Rattle.pa_region.specs.Shares.{Share, IsSound}
+use Rattle.pa_region.specs.Shares.{Share, IsSeatSound}
 use Rattle.pa_region.proofs.SeatStakes.{stakes_kept}
 use Rattle.pa_region.proofs.EnterStep.{enter_stakes, enter_allowed, enter_sound}
 use Rattle.pa_region.proofs.region.Region.enter.Goals as goal
@@ -19,8 +19,8 @@ invariant_of-seat c =
     let v = c.seat.inside.seat.me.0 in
     let told = c.enter_as.ensures.told.1 in (
       told.1 ∙ c.seat.invariant.0,
-      subst (λ (z : TableId). IsSound z c.enter_as.new.seat.me.0) (sym c.enter_as.ensures.seat.0)
-          (subst (λ (u : View). IsSound c.seat.inside.seat.table_id u) (sym told.0) (enter_sound c.seat.inside.seat.table_id c.args.keeper c.args.entry.now v c.seat.invariant.1)),
+      subst (λ (z : TableId). IsSeatSound z c.enter_as.new.seat.me.0) (sym c.enter_as.ensures.seat.0)
+          (subst (λ (u : View). IsSeatSound c.seat.inside.seat.table_id u) (sym told.0) (enter_sound c.seat.inside.seat.table_id c.args.keeper c.args.entry.now v c.seat.invariant.1)),
       stakes_kept c.seat.inside.stakes v c.enter_as.new.seat.me.0 (λ k. ap (λ (u : View). stake_of u k) told.0 ∙ enter_stakes c.args.keeper c.args.entry.now v can.1 k) c.seat.invariant.2,
       c.enter_as.ensures.aware,
     )

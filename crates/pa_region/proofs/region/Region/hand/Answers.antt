@@ -4,7 +4,7 @@ use Rattle.pa_region.specs.declared.view.View.{View}
 use Rattle.pa_region.specs.Waiting.{unclean_of}
 use Rattle.pa_region.specs.Hands.{CanHand, IsParted, left_after, given_after}
 use Rattle.pa_region.specs.Marks.{AreStakes, parcel_of}
-use Rattle.pa_region.specs.Shares.{Share, IsSound}
+use Rattle.pa_region.specs.Shares.{Share, IsSeatSound}
 use Rattle.pa_region.specs.Aware.{IsAware}
 use Rattle.pa_region.proofs.AwarePart.{left_aware, given_aware}
 use Rattle.pa_region.proofs.HandStep.{hand_parts, given_clean}
@@ -26,8 +26,8 @@ invariant_of-result c =
     let other = c.hand_as-other.ensures.other in
     let view = ap (λ m. m.0) other.1 in (
       ap (λ m. m.1) other.1,
-      subst (λ (z : TableId). IsSound z c.hand_as-other.result.me.0) (sym other.0)
-          (subst (λ (w : View). IsSound c.seat.inside.seat.table_id w) (sym view) (given_sound c.seat.inside.seat.table_id p v can c.seat.invariant.1)),
+      subst (λ (z : TableId). IsSeatSound z c.hand_as-other.result.me.0) (sym other.0)
+          (subst (λ (w : View). IsSeatSound c.seat.inside.seat.table_id w) (sym view) (given_sound c.seat.inside.seat.table_id p v can c.seat.invariant.1)),
       subst (λ (w : View). AreStakes c.marked-given.result w) (sym view) (given_stakes p v c.seat.inside.stakes c.marked-given.result c.seat.invariant.2 c.marked-given.ensures),
       subst (λ (w : View). IsAware w) (sym view) (given_aware p v can c.seat.invariant.3),
     )
@@ -40,8 +40,8 @@ invariant_of-seat c =
     let mine = c.hand_as-other.ensures.seat in
     let view = ap (λ m. m.0) mine.2 in (
       ap (λ m. m.1) mine.2 ∙ c.seat.invariant.0,
-      subst (λ (z : TableId). IsSound z c.hand_as-other.new.seat.me.0) (sym mine.0)
-          (subst (λ (w : View). IsSound c.seat.inside.seat.table_id w) (sym view) (left_sound c.seat.inside.seat.table_id p v can c.seat.invariant.1)),
+      subst (λ (z : TableId). IsSeatSound z c.hand_as-other.new.seat.me.0) (sym mine.0)
+          (subst (λ (w : View). IsSeatSound c.seat.inside.seat.table_id w) (sym view) (left_sound c.seat.inside.seat.table_id p v can c.seat.invariant.1)),
       subst (λ (w : View). AreStakes c.unmarked-seat-inside.result w) (sym view) (left_stakes p v c.seat.inside.stakes c.unmarked-seat-inside.result c.seat.invariant.2 c.unmarked-seat-inside.ensures),
       subst (λ (w : View). IsAware w) (sym view) (left_aware p v can c.seat.invariant.3),
     )

@@ -1,6 +1,6 @@
 use Rattle.std.proofs.Common.{◌/◌, ◌∙◌, refl, sym, ap, subst}
 use Rattle.atomic_table.specs.Seated.{TableId}
-use Rattle.pa_region.specs.Shares.{Share, IsSound}
+use Rattle.pa_region.specs.Shares.{Share, IsSeatSound}
 use Rattle.pa_region.specs.Loads.{CanLoad, LoadTells}
 use Rattle.pa_region.proofs.SeatStakes.{stakes_kept}
 use Rattle.pa_region.proofs.Loading.{load_allowed, load_keeps, load_inside}
@@ -23,7 +23,7 @@ invariant_of-seat c =
     let told = c.load_as.ensures.told in
     let kept = load_keeps c.args.at c.seat.inside.seat.table_id c.seat.inside.seat.me.0 c.load_as.new.seat.me.0 c.load_as.result can told.0 c.seat.invariant.1 in (
       told.1 ∙ c.seat.invariant.0,
-      subst (λ (z : TableId). IsSound z c.load_as.new.seat.me.0) (sym c.load_as.ensures.seat.0) kept.0,
+      subst (λ (z : TableId). IsSeatSound z c.load_as.new.seat.me.0) (sym c.load_as.ensures.seat.0) kept.0,
       stakes_kept c.seat.inside.stakes c.seat.inside.seat.me.0 c.load_as.new.seat.me.0 kept.1 c.seat.invariant.2,
       c.load_as.ensures.aware,
     )

@@ -3,7 +3,7 @@ use Rattle.atomic_table.specs.Seated.{TableId}
 use Rattle.pa_region.specs.declared.view.View.{View}
 use Rattle.pa_region.proofs.SeatStakes.{stakes_kept, stakes_equal}
 use Rattle.pa_region.specs.Stores.{after_poison, CanPoison}
-use Rattle.pa_region.specs.Shares.{Share, IsSound}
+use Rattle.pa_region.specs.Shares.{Share, IsSeatSound}
 use Rattle.pa_region.proofs.Writing.{poison_allowed, poison_inside, poison_sound}
 use Rattle.pa_region.proofs.region.Region.poison_next.Goals as goal
 
@@ -22,8 +22,8 @@ pub invariant_of-seat : goal.invariant_of-seat
 invariant_of-seat c =
     let told = c.poison_as.ensures.told in (
       told.1 ∙ c.seat.invariant.0,
-      subst (λ (z : TableId). IsSound z c.poison_as.new.seat.me.0) (sym c.poison_as.ensures.seat.0)
-          (subst (λ (w : View). IsSound c.seat.inside.seat.table_id w) (sym told.0) (poison_sound c.seat.inside.seat.table_id c.args.title c.args.word c.seat.inside.seat.me.0 c.seat.invariant.1)),
+      subst (λ (z : TableId). IsSeatSound z c.poison_as.new.seat.me.0) (sym c.poison_as.ensures.seat.0)
+          (subst (λ (w : View). IsSeatSound c.seat.inside.seat.table_id w) (sym told.0) (poison_sound c.seat.inside.seat.table_id c.args.title c.args.word c.seat.inside.seat.me.0 c.seat.invariant.1)),
       stakes_kept c.seat.inside.stakes c.seat.inside.seat.me.0 c.poison_as.new.seat.me.0 (stakes_equal c.seat.inside.seat.me.0 c.poison_as.new.seat.me.0 (ap (λ (w : View). w.stakes) told.0)) c.seat.invariant.2,
       c.poison_as.ensures.aware,
     )

@@ -3,7 +3,7 @@ use Rattle.atomic_table.specs.Seated.{TableId}
 use Rattle.pa_region.specs.declared.view.View.{View}
 use Rattle.pa_region.proofs.SeatStakes.{stakes_kept, stakes_equal}
 use Rattle.pa_region.specs.Stores.{after_store, CanStore, StoreTells}
-use Rattle.pa_region.specs.Shares.{Share, IsSound}
+use Rattle.pa_region.specs.Shares.{Share, IsSeatSound}
 use Rattle.pa_region.proofs.Writing.{store_allowed, store_inside, store_sound}
 use Rattle.pa_region.proofs.region.Region.store.Goals as goal
 
@@ -22,8 +22,8 @@ pub invariant_of-seat : goal.invariant_of-seat
 invariant_of-seat c =
     let told = c.store_as.ensures.told.0 in (
       told.1 ∙ c.seat.invariant.0,
-      subst (λ (z : TableId). IsSound z c.store_as.new.seat.me.0) (sym c.store_as.ensures.seat.0)
-          (subst (λ (w : View). IsSound c.seat.inside.seat.table_id w) (sym told.0) (store_sound c.seat.inside.seat.table_id c.args.at c.args.value c.seat.inside.seat.me.0 c.seat.invariant.1)),
+      subst (λ (z : TableId). IsSeatSound z c.store_as.new.seat.me.0) (sym c.store_as.ensures.seat.0)
+          (subst (λ (w : View). IsSeatSound c.seat.inside.seat.table_id w) (sym told.0) (store_sound c.seat.inside.seat.table_id c.args.at c.args.value c.seat.inside.seat.me.0 c.seat.invariant.1)),
       stakes_kept c.seat.inside.stakes c.seat.inside.seat.me.0 c.store_as.new.seat.me.0 (stakes_equal c.seat.inside.seat.me.0 c.store_as.new.seat.me.0 (ap (λ (w : View). w.stakes) told.0)) c.seat.invariant.2,
       c.store_as.ensures.aware,
     )

@@ -6,7 +6,7 @@ use Rattle.pa_region.specs.Views.{stake_of}
 use Rattle.pa_region.specs.Waiting.{poisoned_of, unclean_of}
 use Rattle.pa_region.specs.Hands.{CanTake, IsParted, united}
 use Rattle.pa_region.specs.Marks.{AreStakes}
-use Rattle.pa_region.specs.Shares.{Share, IsSound}
+use Rattle.pa_region.specs.Shares.{Share, IsSeatSound}
 use Rattle.pa_region.proofs.Awareness.{stays_allowed}
 use Rattle.pa_region.proofs.JoinStep.{united_parts}
 use Rattle.pa_region.proofs.HandSound.{united_sound, take_allowed}
@@ -37,9 +37,9 @@ invariant_of-seat c =
     let same : c.other.inside.seat.table_id ≡ c.seat.inside.seat.table_id =
     ap (λ (h : Share). h.region) (c.other.view_is ∙ c.note.view_is) ∙ (c.requires.region.1 ∙ (sym c.requires.region.0 ∙ sym (ap (λ (h : Share). h.region) c.seat.view_is))) in (
       told.1 ∙ (ap (λ m. m.1) mine.2 ∙ c.seat.invariant.0),
-      subst (λ (z : TableId). IsSound z c.tell_as.new.seat.me.0) (sym (c.tell_as.ensures.seat.0 ∙ mine.0))
-          (subst (λ (u : View). IsSound c.seat.inside.seat.table_id u) (sym view)
-          (united_sound c.seat.inside.seat.table_id v w c.seat.invariant.1 (subst (λ (z : TableId). IsSound z w) same c.other.invariant.1))),
+      subst (λ (z : TableId). IsSeatSound z c.tell_as.new.seat.me.0) (sym (c.tell_as.ensures.seat.0 ∙ mine.0))
+          (subst (λ (u : View). IsSeatSound c.seat.inside.seat.table_id u) (sym view)
+          (united_sound c.seat.inside.seat.table_id v w c.seat.invariant.1 (subst (λ (z : TableId). IsSeatSound z w) same c.other.invariant.1))),
       subst (λ (u : View). AreStakes c.both-seat-inside.result u) (sym view)
           (both_stakes v w c.seat.inside.stakes c.other.inside.stakes c.both-seat-inside.result c.seat.invariant.2 c.other.invariant.2 c.both-seat-inside.ensures),
       c.tell_as.ensures.aware,

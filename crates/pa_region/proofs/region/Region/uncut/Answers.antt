@@ -2,7 +2,7 @@ use Rattle.std.proofs.Common.{◌/◌, ◌∙◌, sym, ap, subst}
 use Rattle.atomic_table.specs.Seated.{TableId}
 use Rattle.pa_region.specs.declared.view.View.{View}
 use Rattle.pa_region.specs.Views.{stake_of}
-use Rattle.pa_region.specs.Shares.{Share, IsSound}
+use Rattle.pa_region.specs.Shares.{Share, IsSeatSound}
 use Rattle.pa_region.specs.Cuts.{CanUncut, after_uncut}
 use Rattle.pa_region.proofs.SeatStakes.{stakes_kept}
 use Rattle.pa_region.proofs.UncutStep.{uncut_stakes}
@@ -20,8 +20,8 @@ invariant_of-seat c =
     let v = c.seat.inside.seat.me.0 in
     let told = c.title_as.ensures.told.1 in (
       told.1 ∙ c.seat.invariant.0,
-      subst (λ (z : TableId). IsSound z c.title_as.new.seat.me.0) (sym c.title_as.ensures.seat.0)
-          (subst (λ (u : View). IsSound c.seat.inside.seat.table_id u) (sym told.0) (uncut_sound c.seat.inside.seat.table_id c.args.title v c.seat.invariant.1 can)),
+      subst (λ (z : TableId). IsSeatSound z c.title_as.new.seat.me.0) (sym c.title_as.ensures.seat.0)
+          (subst (λ (u : View). IsSeatSound c.seat.inside.seat.table_id u) (sym told.0) (uncut_sound c.seat.inside.seat.table_id c.args.title v c.seat.invariant.1 can)),
       stakes_kept c.seat.inside.stakes v c.title_as.new.seat.me.0 (λ k. ap (λ (u : View). stake_of u k) told.0 ∙ uncut_stakes c.args.title v can k) c.seat.invariant.2,
       c.title_as.ensures.aware,
     )

@@ -1,0 +1,9 @@
+pub mod Caching
+pub mod Listing
+pub mod Giving
+pub mod Indexing
+pub mod Housing
+pub mod Acting
+pub mod Purging
+pub mod Leading
+pub mod Homed

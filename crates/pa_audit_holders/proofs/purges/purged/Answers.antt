@@ -1,0 +1,13 @@
+use Rattle.std.proofs.lemmas.Bool.{both_ways}
+use Rattle.pa_rules.specs.Roots.{journal_at}
+use Rattle.pa_audit_holders.specs.Lists.{cache_in}
+use Rattle.pa_audit_holders.proofs.Leading.{purged_row, purged_was}
+use Rattle.pa_audit_holders.proofs.purges.purged.Goals as goal
+
+pub returns-then-not-purges_all : goal.returns-then-not-purges_all
+returns-then-not-purges_all c = λ next row. both_ways _ c.if-not-purges_all.true
+    (c.purges_all.ensures.1 (purged_was c.args.partitions (journal_at c.args.roots.now) c.args.told c.args.slots (cache_in c.args.cache.now) next row))
+
+pub returns : goal.returns
+returns c = purged_row c.args.partitions (journal_at c.args.roots.now) c.args.told c.args.slots (cache_in c.args.cache.now) (cache_in c.in_ok-cache.field-0) c.in_ok-cache.ensures
+    (c.purges_all.ensures.0 c.if-not-purges_all.false)

@@ -1,0 +1,8 @@
+use Rattle.std.proofs.Common.{◌-◌, map}
+use Rattle.pa_audit_holders.specs.Lines.{did_at}
+use Rattle.pa_audit_holders.specs.Lists.{cache_in}
+use Rattle.pa_audit_holders.proofs.Purging.{IsPurging}
+use Rattle.pa_audit_holders.proofs.purges.purges_lists.Given as goal
+
+abbrev pub invariant-loop-number : goal.invariant-loop-number
+invariant-loop-number l = IsPurging (map (did_at l.journal) l.places) (cache_in l.cache l.partition) l.slots l.number (59 - l.number) l.at l.left

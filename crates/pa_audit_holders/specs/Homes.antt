@@ -1,0 +1,79 @@
+-- Where a free slot goes: to the lists of its partition and class, or to its root.
+use Rattle.std.specs.Prelude.{◌≡◌, ℕ, ◌<◌, List, Option, Some, None, IsSome, Contains}
+use Rattle.pa_machine.specs.declared.word.SlotName.{SlotName}
+use Rattle.pa_record.specs.declared.pool.PoolEntry.{PoolEntry}
+use Rattle.pa_record.specs.declared.root.RootEntry.{RootEntry}
+use Rattle.pa_record.specs.declared.root.RootAct.{RootAct}
+use Rattle.pa_record.specs.declared.root.RootAct.TheVariants.{Fill, Map, Full, Give, Unmap, Purge}
+use Rattle.pa_record.specs.Laws.{leaves_by}
+use Rattle.pa_rules.specs.RecordDemands.{IsAbove}
+use Rattle.pa_rules.specs.declared.played.Played.{Played}
+use Rattle.pa_rules.specs.Roots.{Journals, IsEntry, AreRoots, IsPoolOf}
+use Rattle.pa_rules.specs.Caches.{IsOfClass, IsDirect}
+use Rattle.pa_audit_records.specs.Keys.{name_key}
+use Rattle.pa_audit_holders.specs.declared.homes.Home.{Home}
+
+-- a fill gave the slot this partition and class, one of the 59, or it is a direct map of this partition
+abbrev pub IsHomeIn : Journals → SlotName → ℕ → Option ℕ → Type 0
+IsHomeIn roots s p (Some class) = IsOfClass roots s p class × (class < 59)
+IsHomeIn roots s p None = IsDirect roots s p
+
+abbrev pub IsHomeOf : Journals → SlotName → Home → Type 0
+IsHomeOf roots s h = IsHomeIn roots s h.partition h.class
+
+-- The slot has one home: fills give it one partition and class, direct maps one partition, and it isn't both.
+pub record HasOneHome (roots : Journals) (s : SlotName) : Type 0 where
+  pub class : (p q c d : ℕ) → IsOfClass roots s p c → IsOfClass roots s q d → (p ≡ q) × (c ≡ d)
+  pub direct : (p q : ℕ) → IsDirect roots s p → IsDirect roots s q → p ≡ q
+  pub either : (p q c : ℕ) → IsOfClass roots s p c → IsDirect roots s q → ⊥
+
+-- so it is where the clauses of the pool and the roots hold
+abbrev pub OneHome : Type 0
+OneHome =
+    (supers partitions : ℕ) (ps : List Played) (pools : List PoolEntry) (roots : Journals) (s : SlotName) →
+    AreRoots partitions ps pools roots → IsPoolOf supers ps pools roots → HasOneHome roots s
+
+-- no entry of a journal handed the slot out
+pub record IsHomeless (roots : Journals) (s : SlotName) : Type 0 where
+  pub class : (p class : ℕ) → IsOfClass roots s p class → ⊥
+  pub direct : (p : ℕ) → IsDirect roots s p → ⊥
+
+abbrev pub TellsHome : Journals → SlotName → Option Home → Type 0
+TellsHome roots s None = IsHomeless roots s
+TellsHome roots s (Some h) = IsHomeOf roots s h
+
+-- what a table has by the numbers of names are homes
+abbrev pub HasHomes : Journals → (ℕ → Option Home) → Type 0
+HasHomes roots at = (k : ℕ) (h : Home) → at k ≡ Some h → (s : SlotName) × (name_key s ≡ k) × (s.start < 4294967296) × IsHomeOf roots s h
+
+-- it has one for each of these slots
+abbrev pub HasAll : (ℕ → Option Home) → List SlotName → Type 0
+HasAll at slots = (s : SlotName) → Contains slots s → IsSome (at (name_key s))
+
+-- what it had it has, and a home for each of these slots
+pub record EntersSlots (before after : ℕ → Option Home) (slots : List SlotName) : Type 0 where
+  pub kept : (k : ℕ) → IsSome (before k) → IsSome (after k)
+  pub has : HasAll after slots
+
+-- it has a home for the slots that the entries above entry n of partition q's journal handed out
+abbrev pub HasAbove : Journals → ℕ → ℕ → (ℕ → Option Home) → Type 0
+HasAbove roots q n at = (p i : ℕ) (e : RootEntry) → IsAbove p i q n → IsEntry roots p i e → HasAll at (leaves_by e.act)
+
+-- it has the home of each slot that was handed out
+pub record KnowsHomes (roots : Journals) (at : ℕ → Option Home) : Type 0 where
+  pub homes : HasHomes roots at
+  pub all : (p i : ℕ) (e : RootEntry) → IsEntry roots p i e → HasAll at (leaves_by e.act)
+
+-- the home that an entry gives the slots that it hands out
+abbrev pub home_by : ℕ → RootAct → Home
+home_by p (Fill class asked slots) = record { partition = p; class = Some class }
+home_by p (Map asked slot len) = record { partition = p; class = None }
+home_by p (Full class asked) = record { partition = p; class = None }
+home_by p (Give slots) = record { partition = p; class = None }
+home_by p (Unmap asked slot) = record { partition = p; class = None }
+home_by p Purge = record { partition = p; class = None }
+
+-- each slot's home is the one that each entry of the partition's journal gave it that handed it out
+abbrev pub AreHomedIn : Journals → (ℕ → Option Home) → ℕ → Type 0
+AreHomedIn roots at p =
+    (i : ℕ) (e : RootEntry) (s : SlotName) → IsEntry roots p i e → Contains (leaves_by e.act) s → at (name_key s) ≡ Some (home_by p e.act)

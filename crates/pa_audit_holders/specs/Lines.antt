@@ -1,0 +1,43 @@
+-- The entries of a line, by their places in the journals.
+use Rattle.std.specs.Prelude.{◌≡◌, ℕ, ◌<◌, ◌==◌, List, [], map, filter, length, All, slice_index_or}
+use Rattle.pa_record.specs.declared.root.RootEntry.{RootEntry}
+use Rattle.pa_record.specs.declared.root.RootAct.{RootAct}
+use Rattle.pa_record.specs.declared.root.RootAct.TheVariants.{Purge}
+use Rattle.pa_rules.specs.Roots.{Journals, journal_at}
+use Rattle.pa_rules.specs.Caches.{acts_of}
+
+-- what the entry in a place did; a purge fills a place past the end
+abbrev pub no_entry : RootEntry
+no_entry = record { line = 0; act = Purge }
+
+abbrev pub did_at : List RootEntry → ℕ → RootAct
+did_at journal j = (slice_index_or journal j no_entry).act
+
+-- what the entries of a line in one journal did, in order
+abbrev pub acts_on : List RootEntry → ℕ → List RootAct
+acts_on journal line = map (λ (e : RootEntry). e.act) (filter (λ (e : RootEntry). e.line == line) journal)
+
+-- the entries in these places of the journal did this
+pub record ArePlacesOf (journal : List RootEntry) (places : List ℕ) (acts : List RootAct) : Type 0 where
+  pub among : All (λ j. j < length journal) places
+  pub did : map (did_at journal) places ≡ acts
+
+-- for each line below a number, the places of its entries in the journal
+pub record AreOnLines (journal : List RootEntry) (count : ℕ) (table : List (List ℕ)) : Type 0 where
+  pub many : length table ≡ count
+  pub each : (l : ℕ) → l < count → ArePlacesOf journal (slice_index_or table l []) (acts_on journal l)
+
+-- so for each journal
+pub record HaveLines (roots : List (List RootEntry)) (count : ℕ) (tables : List (List (List ℕ))) : Type 0 where
+  pub many : length tables ≡ length roots
+  pub each : (p : ℕ) → p < length roots → AreOnLines (journal_at roots p) count (slice_index_or tables p [])
+
+-- the tables have the places of this line's entries in each journal
+pub record KnowsLine (roots : List (List RootEntry)) (tables : List (List (List ℕ))) (line : ℕ) : Type 0 where
+  pub many : length tables ≡ length roots
+  pub each : (p : ℕ) → p < length roots
+      → ArePlacesOf (journal_at roots p) (slice_index_or (slice_index_or tables p []) line []) (acts_of (journal_at roots) line p)
+
+-- no other journal than this partition's has entries of the line
+abbrev pub NoneBut : Journals → ℕ → ℕ → Type 0
+NoneBut roots line p = (q : ℕ) → (q ≡ p → ⊥) → acts_of roots line q ≡ []

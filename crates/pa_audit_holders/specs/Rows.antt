@@ -1,0 +1,45 @@
+-- What a test of a record's row tells.
+use Rattle.std.specs.Prelude.{◌≡◌, ℕ, ◌<◌, Bool, true, false, List, ◌∷◌}
+use Rattle.pa_trace.specs.declared.script.Op.{Op}
+use Rattle.pa_trace.specs.declared.script.Op.TheVariants as ops
+use Rattle.pa_record.specs.declared.entry.Seen.{Seen}
+use Rattle.pa_record.specs.declared.numbered.Numbered.{Numbered}
+use Rattle.pa_rules.specs.declared.played.Played.{Played}
+use Rattle.pa_rules.specs.Roots.{Journals}
+use Rattle.pa_rules.specs.Caches.{Cache, CacheRow, Caches, FilledFirst, FrontIs, OnlyActs, SameLists, gives, kept, spilled, with_cache, with_list}
+
+-- the row leads to these lists; or it leads to none
+abbrev pub TellsRow : (Cache → Type 0) → Cache → Bool → Type 0
+TellsRow Row after true = Row after
+TellsRow Row after false = (next : Cache) → Row next → ⊥
+
+-- a slot of this class was made: the front leaves its list
+abbrev pub ClassRow : Journals → ℕ → ℕ → ℕ → Seen → Cache → Cache → Type 0
+ClassRow roots line p class seen cache after =
+    (xs rest : List Numbered) × FilledFirst roots line p class (cache p class) xs × FrontIs seen xs rest
+    × SameLists after (with_list cache p class rest)
+
+-- a slot of this class came back: it becomes the front of its list, and what doesn't stay goes back to the root
+abbrev pub BackRow : Journals → ℕ → ℕ → ℕ → Numbered → Cache → Cache → Type 0
+BackRow roots line p class slot cache after =
+    OnlyActs roots line p (gives (spilled class (slot ∷ cache p class)))
+    × SameLists after (with_list cache p class (kept class (slot ∷ cache p class)))
+
+-- the record is of one of 16 threads, and its op names one of four partitions
+abbrev pub NamesPartition : Op → Type 0
+NamesPartition (ops.Alloc reg partition size) = partition < 4
+NamesPartition (ops.Copy from to) = Unit {0}
+NamesPartition (ops.Reset reg) = Unit {0}
+NamesPartition (ops.Free reg) = Unit {0}
+NamesPartition (ops.Write reg value) = Unit {0}
+NamesPartition (ops.Read reg place) = Unit {0}
+NamesPartition (ops.Swap cell reg) = Unit {0}
+NamesPartition ops.Purge = Unit {0}
+
+abbrev pub IsOfThreads : Played → Type 0
+IsOfThreads x = (x.thread < 16) × NamesPartition x.op
+
+-- the record's row leads from these lists to those; or it leads to none
+pub record TellsNext (partitions : ℕ) (roots : Journals) (x : Played) (all after : Caches) (b : Bool) : Type 0 where
+  pub fits : b ≡ true → (next : Cache) × CacheRow partitions roots x x.answer (all x.thread) next × (after ≡ with_cache all x.thread next)
+  pub misfits : b ≡ false → (next : Cache) → CacheRow partitions roots x x.answer (all x.thread) next → ⊥

@@ -1,0 +1,89 @@
+ghost use Rattle.std.specs.Prelude.{◌≡◌, ℕ, [], ◌∷◌, ◌↔◌, IfNone, IfSome, IsTrue, List, Option, Some, None};
+ghost use Rattle.pa_record.specs.declared.numbered.Numbered.{Numbered as Listed};
+ghost use Rattle.pa_record.specs.declared.root.RootAct.TheVariants as acts;
+ghost use Rattle.pa_rules.specs.Caches.{unmap_at};
+
+use pa_buckets::Class;
+use pa_machine::SlotName;
+use pa_record::{Numbered, RootAct};
+
+// The slots that the entry filled from the class.
+pub(crate) fn filled_by(act: &RootAct, class: Class) -> Option<&[Numbered]>
+    ensures some { IfSome result (λ slots. (asked : Option ℕ) × (act.now ≡ acts.Fill class asked slots.now)) }
+    ensures none { IfNone result ((asked : Option ℕ) (slots : List Listed) → act.now ≡ acts.Fill class asked slots → ⊥) }
+{
+    match act {
+        RootAct::Fill {
+            class: filled,
+            slots,
+            ..
+        } => {
+            if filled.number() == class.number() {
+                Some(slots.items())
+            } else {
+                None
+            }
+        }
+        _ => None,
+    }
+}
+
+// Whether the entry made a direct map whose slot this is.
+pub(crate) fn maps(act: &RootAct, slot: SlotName) -> bool
+    ensures { IsTrue result ↔ ((asked len : ℕ) × (act.now ≡ acts.Map asked slot len)) }
+{
+    match act {
+        RootAct::Map { slot: mapped, .. } => is_slot(*mapped, slot),
+        _ => false,
+    }
+}
+
+// Whether the entry found no room for a slot of the class; for a direct map.
+pub(crate) fn lacks_class(act: &RootAct, class: Class) -> bool
+    ensures { IsTrue result ↔ ((asked : ℕ) × (act.now ≡ acts.Full (Some class) asked)) }
+{
+    match act {
+        RootAct::Full {
+            class: Some(lacking),
+            ..
+        } => lacking.number() == class.number(),
+        _ => false,
+    }
+}
+
+pub(crate) fn lacks_map(act: &RootAct) -> bool
+    ensures { IsTrue result ↔ ((asked : ℕ) × (act.now ≡ acts.Full None asked)) }
+{
+    matches!(act, RootAct::Full { class: None, .. })
+}
+
+// Whether the entry gave a direct map back whose slot this is.
+pub(crate) fn unmaps(act: &RootAct, slot: SlotName) -> bool
+    ensures { IsTrue result ↔ ((asked number : ℕ) × (act.now ≡ unmap_at asked slot number)) }
+{
+    match act {
+        RootAct::Unmap { slot: back, .. } => is_slot(back.slot, slot),
+        _ => false,
+    }
+}
+
+// Whether these are one slot.
+pub(crate) fn is_slot(a: SlotName, b: SlotName) -> bool
+    ensures { IsTrue result ↔ (a ≡ b) }
+{
+    a.start == b.start && a.born == b.born
+}
+
+// Whether these are one slot at one number.
+pub(crate) fn is_same(a: Numbered, b: Numbered) -> bool
+    ensures { IsTrue result ↔ (a ≡ b) }
+{
+    is_slot(a.slot, b.slot) && a.number == b.number
+}
+
+// Whether the entry purged its root.
+pub(crate) fn is_purge(act: &RootAct) -> bool
+    ensures { IsTrue result ↔ (act.now ≡ acts.Purge) }
+{
+    matches!(act, RootAct::Purge)
+}

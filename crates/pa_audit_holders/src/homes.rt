@@ -1,0 +1,148 @@
+ghost use Rattle.std.specs.Prelude.{◌≡◌, ℕ, ◌+◌, ◌*◌, ◌<◌, ◌^◌, [], ◌∷◌, Contains, IfOk, OnOk, Some, length};
+ghost use Rattle.std.specs.Ordering.{nat_cmp};
+ghost use Rattle.std.specs.BTreeMap.{get};
+ghost use Rattle.pa_machine.specs.declared.word.SlotName.{SlotName as Name};
+ghost use Rattle.pa_record.specs.Laws.{leaves_by};
+ghost use Rattle.pa_record.specs.Root.{names};
+ghost use Rattle.pa_rules.specs.Roots.{journal_at};
+ghost use Rattle.pa_audit_records.specs.Keys.{name_key};
+ghost use Rattle.pa_audit_holders.specs.Homes.{KnowsHomes, EntersSlots, HasAbove, HasAll, HasHomes, IsHomeIn, IsHomeOf, TellsHome};
+
+use pa_machine::{OutOfMemory, SlotName};
+use pa_record::{Journal, Numbered, RootAct, RootEntry};
+use std::alloc::Global;
+use std::collections::BTreeMap;
+
+// Where a free slot goes: to the lists of its partition and class, by its number, or, where it has none, to the root of its
+// partition.
+#[derive(Clone, Copy)]
+pub(crate) struct Home {
+    pub(crate) partition: u32,
+    pub(crate) class: Option<u32>,
+}
+
+// The number of a slot.
+pub(crate) fn key(slot: SlotName) -> u64
+    ensures key { result ≡ name_key slot }
+    ensures start { slot.start < 4294967296 }
+{
+    u64::from(slot.born) * 4_294_967_296 + u64::from(slot.start)
+}
+
+// The homes of all slots that the journals handed out.
+pub(crate) fn homes_of(alloc: Global, roots: &[Journal]) -> Result<BTreeMap<u64, Home>, OutOfMemory>
+    requires few { length roots.now < 2 ^ 32 }
+    ensures { IfOk result (λ homes. KnowsHomes (journal_at roots.now) (get nat_cmp homes)) }
+{
+    let mut homes = BTreeMap::new(alloc);
+    let mut partition: u32 = 0;
+    for journal in roots {
+        enter_all(&mut homes, roots, partition, journal)?;
+        partition += 1;
+    }
+    Ok(homes)
+}
+
+// EntersSlots the slots that a partition's journal handed out.
+fn enter_all(
+    homes: &mut BTreeMap<u64, Home>,
+    roots: &[Journal],
+    partition: u32,
+    journal: &Journal,
+) -> Result<(), OutOfMemory>
+    requires journal { journal_at roots.now partition ≡ journal.now }
+    requires homes { HasHomes (journal_at roots.now) (get nat_cmp homes.old) }
+    requires above { HasAbove (journal_at roots.now) partition 0 (get nat_cmp homes.old) }
+    ensures homes { OnOk result (HasHomes (journal_at roots.now) (get nat_cmp homes.new)) }
+    ensures above { OnOk result (HasAbove (journal_at roots.now) (partition + 1) 0 (get nat_cmp homes.new)) }
+{
+    for entry in journal.entries() {
+        enter_entry(homes, roots, partition, entry)?;
+    }
+    Ok(())
+}
+
+// EntersSlots the slots that an entry of a partition's journal handed out.
+fn enter_entry(
+    homes: &mut BTreeMap<u64, Home>,
+    roots: &[Journal],
+    partition: u32,
+    entry: &RootEntry,
+) -> Result<(), OutOfMemory>
+    requires among { Contains (journal_at roots.now partition) entry.now }
+    requires homes { HasHomes (journal_at roots.now) (get nat_cmp homes.old) }
+    ensures homes { OnOk result (HasHomes (journal_at roots.now) (get nat_cmp homes.new)) }
+    ensures enters { OnOk result (EntersSlots (get nat_cmp homes.old) (get nat_cmp homes.new) (leaves_by entry.now.act)) }
+{
+    match &entry.act {
+        RootAct::Fill { class, slots, .. } => {
+            enter_slots(homes, roots, partition, class.number(), slots.items())
+        }
+        RootAct::Map { slot, .. } => {
+            let class = None;
+            enter(homes, roots, Home { partition, class }, *slot)
+        }
+        _ => Ok(()),
+    }
+}
+
+// EntersSlots slots of this partition and of the class of this number.
+fn enter_slots(
+    homes: &mut BTreeMap<u64, Home>,
+    roots: &[Journal],
+    partition: u32,
+    class: u32,
+    slots: &[Numbered],
+) -> Result<(), OutOfMemory>
+    requires home { (s : Name) → Contains (names slots.now) s → IsHomeIn (journal_at roots.now) s partition (Some class) }
+    requires homes { HasHomes (journal_at roots.now) (get nat_cmp homes.old) }
+    ensures homes { OnOk result (HasHomes (journal_at roots.now) (get nat_cmp homes.new)) }
+    ensures enters { OnOk result (EntersSlots (get nat_cmp homes.old) (get nat_cmp homes.new) (names slots.now)) }
+{
+    for slot in slots {
+        let home = Home {
+            partition,
+            class: Some(class),
+        };
+        enter(homes, roots, home, slot.slot)?;
+    }
+    Ok(())
+}
+
+// EntersSlots a slot that has this home.
+fn enter(
+    homes: &mut BTreeMap<u64, Home>,
+    roots: &[Journal],
+    home: Home,
+    slot: SlotName,
+) -> Result<(), OutOfMemory>
+    requires home { IsHomeOf (journal_at roots.now) slot home }
+    requires homes { HasHomes (journal_at roots.now) (get nat_cmp homes.old) }
+    ensures homes { OnOk result (HasHomes (journal_at roots.now) (get nat_cmp homes.new)) }
+    ensures enters { OnOk result (EntersSlots (get nat_cmp homes.old) (get nat_cmp homes.new) (slot ∷ [])) }
+{
+    homes.insert(key(slot), home)?;
+    Ok(())
+}
+
+// The home of a slot. None where no entry handed it out.
+pub(crate) fn home_of(
+    roots: &[Journal],
+    homes: &BTreeMap<u64, Home>,
+    slot: SlotName,
+) -> Option<Home>
+    requires homes { KnowsHomes (journal_at roots.now) (get nat_cmp homes.now) }
+    ensures { TellsHome (journal_at roots.now) slot result }
+{
+    match find(homes, key(slot)) {
+        Some(home) => Some(home),
+        None => None,
+    }
+}
+
+// What stands at a key.
+pub(crate) fn find(homes: &BTreeMap<u64, Home>, key: u64) -> Option<Home>
+    ensures { result ≡ get nat_cmp homes.now key }
+{
+    homes.get(&key).copied()
+}

@@ -1,0 +1,20 @@
+//! Checkers for the clauses of a legal run that speak of free slots: who holds them, the threads' caches, and the report. Each
+//! tells the first place at which its clause isn't met, or that there is none.
+#![tactic(auto)]
+
+mod acts;
+mod asks;
+mod caches;
+mod gives;
+mod homes;
+mod laws;
+mod lines;
+mod lists;
+mod purges;
+mod returns;
+mod rows;
+#[cfg(test)]
+mod tests;
+
+pub use caches::caches_meet;
+pub use laws::one_home;

@@ -1,0 +1,215 @@
+ghost use Rattle.std.specs.Prelude.{◌≡◌, ℕ, ◌<◌, ◌↔◌, ◌++◌, [], ◌∷◌, IfNone, IfOk, IfSome, IsTrue, OnOk, length, slice_index_or, slice_set};
+ghost use Rattle.pa_record.specs.declared.root.RootAct.{RootAct as Act};
+ghost use Rattle.pa_rules.specs.Roots.{journal_at};
+ghost use Rattle.pa_rules.specs.Caches.{NoActs, OnlyActs, acts_of};
+ghost use Rattle.pa_audit_holders.specs.Lines.{AreOnLines, ArePlacesOf, HaveLines, KnowsLine, NoneBut};
+
+use pa_machine::OutOfMemory;
+use pa_record::{Journal, RootAct, RootEntry};
+use std::alloc::Global;
+use std::marker::Model;
+
+// Places in a journal. They are seen as the list of them.
+#[derive(Drop)]
+pub(crate) struct Places {
+    of: Vec<u32>,
+}
+
+impl Model for Places {
+    ghost use Rattle.std.specs.Prelude.{ℕ, List};
+
+    ghost Value = { List ℕ };
+
+    ghost view = { λ p. p.of.items };
+}
+
+impl Places {
+    fn new(alloc: Global) -> Places
+        ensures { result ≡ [] }
+    {
+        Places {
+            of: Vec::new(alloc),
+        }
+    }
+
+    fn push(&mut self, place: u32) -> Result<(), OutOfMemory>
+        ensures { OnOk result (self.new ≡ self.old ++ place ∷ []) }
+    {
+        self.of.push(place)?;
+        Ok(())
+    }
+
+    fn items(&self) -> &[u32]
+        ensures { result.now ≡ self.now }
+    {
+        self.of.as_slice()
+    }
+}
+
+// The places of a journal's entries, by their lines. They are seen as the list of these lists.
+#[derive(Drop)]
+pub(crate) struct ByLine {
+    lines: Vec<Places>,
+}
+
+impl Model for ByLine {
+    ghost use Rattle.std.specs.Prelude.{ℕ, List};
+
+    ghost Value = { List (List ℕ) };
+
+    ghost view = { λ b. b.lines.items };
+}
+
+impl ByLine {
+    // So many lines of no entries.
+    fn new(alloc: Global, count: usize) -> Result<ByLine, OutOfMemory>
+        ensures count { IfOk result (λ b. length b ≡ count) }
+        ensures empty { IfOk result (λ b. (l : ℕ) → slice_index_or b l [] ≡ []) }
+    {
+        let mut lines = Vec::new(alloc);
+        for _ in 0..count {
+            lines.push(Places::new(alloc))?;
+        }
+        Ok(ByLine { lines })
+    }
+
+    // Puts a place behind those of its line, where the line is there.
+    fn enter(&mut self, line: usize, place: u32) -> Result<(), OutOfMemory>
+        ensures { OnOk result (self.new ≡ slice_set self.old line (slice_index_or self.old line [] ++ place ∷ [])) }
+    {
+        if line < self.lines.len() {
+            self.lines[line].push(place)?;
+        }
+        Ok(())
+    }
+
+    // The places of the entries of those of the journal's lines that are below this number.
+    fn of(alloc: Global, count: usize, journal: &Journal) -> Result<ByLine, OutOfMemory>
+        requires few { length journal.now < 4294967296 }
+        ensures { IfOk result (AreOnLines journal.now count) }
+    {
+        let mut by_line = ByLine::new(alloc, count)?;
+        let mut place: u32 = 0;
+        for entry in journal.entries() {
+            by_line.enter(entry.line as usize, place)?;
+            place += 1;
+        }
+        Ok(by_line)
+    }
+
+    // The places of the entries of a line; none where there is no such line.
+    fn places(&self, line: u32) -> &[u32]
+        ensures { result.now ≡ slice_index_or self.now line [] }
+    {
+        match self.lines.get(line as usize) {
+            Some(places) => places.items(),
+            None => &[],
+        }
+    }
+}
+
+// The places of the entries of all journals on lines below this number.
+pub(crate) fn lines_of(
+    alloc: Global,
+    count: usize,
+    roots: &[Journal],
+) -> Result<Vec<ByLine>, OutOfMemory>
+    requires few { (p : ℕ) → length (journal_at roots.now p) < 4294967296 }
+    ensures { IfOk result (λ tables. HaveLines roots.now count tables.items) }
+{
+    let mut tables = Vec::new(alloc);
+    for journal in roots {
+        let table = ByLine::of(alloc, count, journal)?;
+        tables.push(table)?;
+    }
+    Ok(tables)
+}
+
+// The entries of a partition's journal; none where it isn't there.
+pub(crate) fn journal_of(roots: &[Journal], partition: u32) -> &[RootEntry]
+    ensures { result.now ≡ journal_at roots.now partition }
+{
+    match roots.get(partition as usize) {
+        Some(journal) => journal.entries(),
+        None => &[],
+    }
+}
+
+// The places of a line's entries in a partition's journal.
+pub(crate) fn places_of<'a>(
+    roots: &[Journal],
+    tables: &'a [ByLine],
+    line: u32,
+    partition: u32,
+) -> &'a [u32]
+    requires known { KnowsLine roots.now tables.now line }
+    ensures { ArePlacesOf (journal_at roots.now partition) result.now (acts_of (journal_at roots.now) line partition) }
+{
+    match tables.get(partition as usize) {
+        Some(table) => table.places(line),
+        None => &[],
+    }
+}
+
+// Whether the line has no entries in this partition's journal.
+fn is_quiet(roots: &[Journal], tables: &[ByLine], line: u32, partition: u32) -> bool
+    requires known { KnowsLine roots.now tables.now line }
+    ensures { IsTrue result ↔ (acts_of (journal_at roots.now) line partition ≡ []) }
+{
+    places_of(roots, tables, line, partition).is_empty()
+}
+
+// Whether this partition is the other one, or the line has no entries in its journal.
+fn is_quiet_but(roots: &[Journal], tables: &[ByLine], line: u32, partition: u32, other: u32) -> bool
+    requires known { KnowsLine roots.now tables.now line }
+    ensures { IsTrue result ↔ ((partition ≡ other → ⊥) → acts_of (journal_at roots.now) line partition ≡ []) }
+{
+    partition == other || is_quiet(roots, tables, line, partition)
+}
+
+// Whether no journal but this partition's has entries of the line.
+pub(crate) fn none_but(roots: &[Journal], tables: &[ByLine], line: u32, partition: u32) -> bool
+    requires known { KnowsLine roots.now tables.now line }
+    requires few { length roots.now < 4294967296 }
+    ensures { IsTrue result ↔ NoneBut (journal_at roots.now) line partition }
+{
+    let mut at: u32 = 0;
+    for _journal in roots {
+        if !is_quiet_but(roots, tables, line, at, partition) {
+            return false;
+        }
+        at += 1;
+    }
+    true
+}
+
+// Whether the line has no entries.
+pub(crate) fn has_none(roots: &[Journal], tables: &[ByLine], line: u32) -> bool
+    requires known { KnowsLine roots.now tables.now line }
+    requires few { length roots.now < 4294967296 }
+    ensures { IsTrue result ↔ NoActs (journal_at roots.now) line }
+{
+    is_quiet(roots, tables, line, 0) && none_but(roots, tables, line, 0)
+}
+
+// Whether the line's only entry, which is of this partition, did this, as the test says.
+pub(crate) fn only_act<'a>(
+    roots: &'a [Journal],
+    tables: &[ByLine],
+    line: u32,
+    partition: u32,
+) -> Option<&'a RootAct>
+    requires known { KnowsLine roots.now tables.now line }
+    requires few { length roots.now < 4294967296 }
+    ensures some { IfSome result (λ a. OnlyActs (journal_at roots.now) line partition (a.now ∷ [])) }
+    ensures none { IfNone result ((a : Act) → OnlyActs (journal_at roots.now) line partition (a ∷ []) → ⊥) }
+{
+    if !none_but(roots, tables, line, partition) {
+        return None;
+    }
+    let places = places_of(roots, tables, line, partition);
+    if places.len() != 1 {
+        return None;
+    }
+    Some(&journal_of(roots, partition)[places[0] as usize].act)
+}

@@ -1,0 +1,233 @@
+ghost use Rattle.std.specs.Prelude.{◌≡◌, ℕ, ◌+◌, ◌<◌, ◌≤◌, ◌^◌, ◌↔◌, [], ◌∷◌, IfNone, IfOk, IfSome, IsTrue, List, length};
+ghost use Rattle.std.specs.Ordering.{nat_cmp};
+ghost use Rattle.std.specs.BTreeMap.{get};
+ghost use Rattle.pa_machine.specs.Run.{IsReturning};
+ghost use Rattle.pa_record.specs.declared.numbered.Numbered.{Numbered as Listed};
+ghost use Rattle.pa_record.specs.declared.root.RootAct.TheVariants as acts;
+ghost use Rattle.pa_machine.specs.declared.word.SlotName.{SlotName as Name};
+ghost use Rattle.pa_rules.specs.Roots.{AsksForClass, AsksForMap, journal_at};
+ghost use Rattle.pa_rules.specs.Caches.{CacheRow, DoneRow, FilledFirst, FrontIs, FullRow, MadeRow, NoActs, OnlyActs, PurgedRow, ReturnRow, acts_of, gives, kept, spilled, unmap_at, with_list};
+ghost use Rattle.pa_audit_holders.specs.Homes.{KnowsHomes, HasOneHome};
+ghost use Rattle.pa_audit_holders.specs.Gives.{TellsPurge};
+ghost use Rattle.pa_audit_holders.specs.Lines.{KnowsLine};
+ghost use Rattle.pa_audit_holders.specs.Lists.{cache_in};
+ghost use Rattle.pa_audit_holders.specs.Rows.{ClassRow, NamesPartition, TellsRow};
+
+use crate::acts::{filled_by, lacks_class, lacks_map, maps};
+use crate::asks::{Bin, class_asked, map_asked, step_of};
+use crate::homes::Home;
+use crate::lines::{ByLine, has_none, only_act};
+use crate::lists::{FreeSlots, ThreadLists};
+use crate::purges::purged;
+use crate::returns::done;
+use pa_machine::{OutOfMemory, SlotName, number};
+use pa_record::{Answer, Journal, Numbered, Seen};
+use pa_rules::Played;
+use std::alloc::Global;
+use std::collections::BTreeMap;
+
+// Whether a record's row leads on from its thread's lists. Where it does they are the next ones.
+pub(crate) fn plays(
+    alloc: Global,
+    partitions: u32,
+    roots: &[Journal],
+    lines: &[ByLine],
+    homes: &BTreeMap<u64, Home>,
+    told: Played,
+    cache: &mut ThreadLists,
+) -> Result<bool, OutOfMemory>
+    requires partitions { partitions ≤ 4 }
+    requires four { length roots.now ≤ 4 }
+    requires known { KnowsLine roots.now lines.now told.line }
+    requires homes { KnowsHomes (journal_at roots.now) (get nat_cmp homes.now) }
+    requires kinds { (s : Name) → HasOneHome (journal_at roots.now) s }
+    requires partition { NamesPartition told.op }
+    ensures { IfOk result
+        (TellsRow (CacheRow partitions (journal_at roots.now) told told.answer (cache_in cache.old)) (cache_in cache.new)) }
+{
+    match told.answer {
+        Answer::Made { seen, .. } => made(alloc, roots, lines, told, seen, cache),
+        Answer::Done { seen } => done(
+            alloc,
+            roots,
+            lines,
+            homes,
+            told,
+            step_of(told.op),
+            seen,
+            cache,
+        ),
+        Answer::Full { .. } => Ok(full(roots, lines, told, cache)),
+        Answer::Purged { slots } => purged(alloc, partitions, roots, lines, told, slots, cache),
+        _ => Ok(has_none(roots, lines, told.line)),
+    }
+}
+
+// A slot was made.
+fn made(
+    alloc: Global,
+    roots: &[Journal],
+    lines: &[ByLine],
+    told: Played,
+    seen: Seen,
+    cache: &mut ThreadLists,
+) -> Result<bool, OutOfMemory>
+    requires four { length roots.now ≤ 4 }
+    requires known { KnowsLine roots.now lines.now told.line }
+    requires partition { NamesPartition told.op }
+    ensures { IfOk result (TellsRow (MadeRow (journal_at roots.now) told seen (cache_in cache.old)) (cache_in cache.new)) }
+{
+    match class_asked(told.op) {
+        Some(bin) => {
+            let fits = made_of_class(alloc, roots, lines, told.line, &bin, seen, cache)?;
+            Ok(fits)
+        }
+        None => match map_asked(told.op) {
+            Some(partition) => Ok(is_mapped(roots, lines, told.line, partition, seen.slot)),
+            None => Ok(false),
+        },
+    }
+}
+
+// A slot of a class was made: it was the front of its list.
+fn made_of_class(
+    alloc: Global,
+    roots: &[Journal],
+    lines: &[ByLine],
+    line: u32,
+    bin: &Bin,
+    seen: Seen,
+    cache: &mut ThreadLists,
+) -> Result<bool, OutOfMemory>
+    requires four { length roots.now ≤ 4 }
+    requires known { KnowsLine roots.now lines.now line }
+    requires partition { bin.now.partition < 4 }
+    ensures { IfOk result
+        (TellsRow (ClassRow (journal_at roots.now) line bin.now.partition bin.now.class seen (cache_in cache.old)) (cache_in cache.new)) }
+{
+    let list = cache.list(bin.partition, bin.class);
+    let Some(slots) = first_filled(roots, lines, line, bin, list) else {
+        return Ok(false);
+    };
+    let Some(rest) = behind_front(slots, seen) else {
+        return Ok(false);
+    };
+    let left = FreeSlots::of(alloc, rest)?;
+    cache.set(bin.partition, bin.class, left);
+    Ok(true)
+}
+
+// The list from which a slot is taken: an empty one is filled first, and at any other the line has no entries.
+fn first_filled<'a>(
+    roots: &'a [Journal],
+    lines: &[ByLine],
+    line: u32,
+    bin: &Bin,
+    list: &'a [Numbered],
+) -> Option<&'a [Numbered]>
+    requires four { length roots.now ≤ 4 }
+    requires known { KnowsLine roots.now lines.now line }
+    ensures some { IfSome result (λ xs. FilledFirst (journal_at roots.now) line bin.now.partition bin.now.class list.now xs.now) }
+    ensures none { IfNone result
+        ((xs : List Listed) → FilledFirst (journal_at roots.now) line bin.now.partition bin.now.class list.now xs → ⊥) }
+{
+    if !list.is_empty() {
+        return if has_none(roots, lines, line) {
+            Some(list)
+        } else {
+            None
+        };
+    }
+    match only_act(roots, lines, line, bin.partition) {
+        Some(act) => filled_by(act, bin.class),
+        None => None,
+    }
+}
+
+// The slots behind the front, where that is the slot that was seen, at the number that was found.
+fn behind_front(slots: &[Numbered], seen: Seen) -> Option<&[Numbered]>
+    ensures some { IfSome result (λ rest. FrontIs seen slots.now rest.now) }
+    ensures none { IfNone result ((rest : List Listed) → FrontIs seen slots.now rest → ⊥) }
+{
+    match slots {
+        [first, rest @ ..] => {
+            if first.slot == seen.slot && first.number == number(seen.found) {
+                Some(rest)
+            } else {
+                None
+            }
+        }
+        [] => None,
+    }
+}
+
+// Whether the line's only entry made a direct map of this partition whose slot this is.
+fn is_mapped(roots: &[Journal], lines: &[ByLine], line: u32, partition: u32, slot: SlotName) -> bool
+    requires four { length roots.now ≤ 4 }
+    requires known { KnowsLine roots.now lines.now line }
+    ensures { IsTrue result ↔ ((asked len : ℕ) × OnlyActs (journal_at roots.now) line partition (acts.Map asked slot len ∷ [])) }
+{
+    match only_act(roots, lines, line, partition) {
+        Some(act) => maps(act, slot),
+        None => false,
+    }
+}
+
+// There was no room.
+fn full(roots: &[Journal], lines: &[ByLine], told: Played, cache: &ThreadLists) -> bool
+    requires four { length roots.now ≤ 4 }
+    requires known { KnowsLine roots.now lines.now told.line }
+    requires partition { NamesPartition told.op }
+    ensures { TellsRow (FullRow (journal_at roots.now) told (cache_in cache.now)) (cache_in cache.now) result }
+{
+    match class_asked(told.op) {
+        Some(bin) => {
+            let list = cache.list(bin.partition, bin.class);
+            is_class_full(roots, lines, told.line, &bin, list)
+        }
+        None => match map_asked(told.op) {
+            Some(partition) => is_map_full(roots, lines, told.line, partition),
+            None => false,
+        },
+    }
+}
+
+// Whether the list is empty, and the line's only entry found no room for a slot of this partition and class.
+fn is_class_full(
+    roots: &[Journal],
+    lines: &[ByLine],
+    line: u32,
+    bin: &Bin,
+    list: &[Numbered],
+) -> bool
+    requires four { length roots.now ≤ 4 }
+    requires known { KnowsLine roots.now lines.now line }
+    ensures { IsTrue result ↔ ((list.now ≡ [])
+        × ((asked : ℕ) × OnlyActs (journal_at roots.now) line bin.now.partition (acts.Full (Some bin.now.class) asked ∷ []))) }
+{
+    list.is_empty() && lacks_room(roots, lines, line, bin)
+}
+
+// Whether the line's only entry found no room for a slot of this partition and class; for a direct map.
+fn lacks_room(roots: &[Journal], lines: &[ByLine], line: u32, bin: &Bin) -> bool
+    requires four { length roots.now ≤ 4 }
+    requires known { KnowsLine roots.now lines.now line }
+    ensures { IsTrue result ↔
+        ((asked : ℕ) × OnlyActs (journal_at roots.now) line bin.now.partition (acts.Full (Some bin.now.class) asked ∷ [])) }
+{
+    match only_act(roots, lines, line, bin.partition) {
+        Some(act) => lacks_class(act, bin.class),
+        None => false,
+    }
+}
+
+fn is_map_full(roots: &[Journal], lines: &[ByLine], line: u32, partition: u32) -> bool
+    requires four { length roots.now ≤ 4 }
+    requires known { KnowsLine roots.now lines.now line }
+    ensures { IsTrue result ↔ ((asked : ℕ) × OnlyActs (journal_at roots.now) line partition (acts.Full None asked ∷ [])) }
+{
+    match only_act(roots, lines, line, partition) {
+        Some(act) => lacks_map(act),
+        None => false,
+    }
+}

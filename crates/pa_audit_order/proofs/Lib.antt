@@ -1,0 +1,11 @@
+pub mod Bounding
+pub mod Stamping
+pub mod Reading
+pub mod Giving
+pub mod Cutting
+pub mod Advancing
+pub mod Handing
+pub mod Leaving
+pub mod Meeting
+pub mod Treading
+pub mod Falling

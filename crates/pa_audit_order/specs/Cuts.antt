@@ -1,0 +1,75 @@
+-- What a walk along the records of a thread knows: the records that are before those from some place on.
+use Rattle.std.specs.Prelude.{◌≡◌, ℕ, ◌<◌, ◌≤◌, ◌⊎◌, if◌then◌else◌, Bool, List, Option, Some, None, Contains, length, min, sum_by}
+use Rattle.pa_machine.specs.Run.{Mark}
+use Rattle.pa_record.specs.declared.history.CellEntry.{CellEntry}
+use Rattle.pa_rules.specs.declared.played.Played.{Played}
+use Rattle.pa_rules.specs.declared.verdict.Place.TheVariants as places
+use Rattle.pa_rules.specs.RecordDemands.{IsRecord, CellsDemand}
+use Rattle.pa_rules.specs.Seen.{IsBefore, HandsTo}
+use Rattle.pa_audit_records.specs.Exchanges.{AreByLine}
+use Rattle.pa_audit_records.specs.Marks.{RiseByLine}
+use Rattle.pa_audit_order.specs.Looks.{IsMarked, AreLeft, FindsEnough}
+use Rattle.pa_audit_order.specs.Steps.{NeverFallsBack, IsLastOf, ArePrevious}
+
+-- x is before each record of the thread from place k on
+abbrev pub IsAhead : (ℕ → List CellEntry) → List Played → ℕ → ℕ → Played → Type 0
+IsAhead cells ps t k x = (j : ℕ) (z : Played) → k ≤ j → IsRecord ps j z → z.thread ≡ t → IsBefore cells ps x z
+
+-- x is before the record at place k and those of its thread behind it
+abbrev pub IsAheadAt : (ℕ → List CellEntry) → List Played → ℕ → Played → Type 0
+IsAheadAt cells ps k x = (y : Played) → IsRecord ps k y → IsAhead cells ps y.thread k x
+
+-- a nearest step leads from record j to record i
+abbrev pub IsNear : (ℕ → List CellEntry) → List Played → ℕ → ℕ → Type 0
+IsNear cells ps j i =
+    (x : Played) × (y : Played) × IsRecord ps j x × IsRecord ps i y
+    × (IsLastOf ps y.thread i (Some j) ⊎ HandsTo cells x y ⊎ (x.phase < y.phase))
+
+-- place i is marked, or on the stack
+abbrev pub IsTakenUp : List Bool → List ℕ → ℕ → Type 0
+IsTakenUp marked stack i = IsMarked marked i ⊎ Contains stack i
+
+-- Each place that is known, all of those below the floor among them, has a record that is ahead. The nearest steps to a marked
+-- record come from places that are known, but for one record. The table has what the marked ones left.
+pub record IsGrown (cells : ℕ → List CellEntry) (ps : List Played) (Ahead : Played → Type 0) (but : ℕ) (marked : List Bool)
+    (stack : List ℕ) (floor : ℕ) (left : ℕ → Option ℕ) : Type 0 where
+  pub long : length marked ≡ length ps
+  pub ground : floor ≤ length ps
+  pub within : (i : ℕ) → Contains stack i → i < length ps
+  pub ahead : (i : ℕ) (x : Played) → IsTakenUp marked stack i → IsRecord ps i x → Ahead x
+  pub below : (i : ℕ) → i < floor → IsTakenUp marked stack i
+  pub near : (i j : ℕ) → (i ≡ but → ⊥) → IsMarked marked i → IsNear cells ps j i → IsTakenUp marked stack j
+  pub numbers : AreLeft ps marked left
+
+-- how many places aren't marked
+abbrev pub unmarked : List Bool → ℕ
+unmarked marked = sum_by (λ b. if b then 0 else 1) marked
+
+-- What the walk finds ready: records in order, the record of each line and the one before each of its thread, and cells that hold.
+pub record IsPrepared (cells : ℕ → List CellEntry) (ps : List Played) (previous : List (Option ℕ)) (by_line : ℕ → Option ℕ) : Type 0 where
+  pub rising : RiseByLine ps
+  pub phases : NeverFallsBack ps
+  pub threads : ArePrevious ps previous (length ps)
+  pub lines : AreByLine ps by_line
+  pub swaps : (i : ℕ) → CellsDemand cells ps (places.Record i)
+  pub exchanges : (k j : ℕ) → CellsDemand cells ps (places.Cell k j)
+
+-- what is told of the records of one thread: as TellsFirst tells of all
+abbrev pub TellsOf : List Played → ℕ → (ℕ → Type 0) → Option ℕ → Type 0
+TellsOf ps t Meets None = (i : ℕ) (x : Played) → IsRecord ps i x → x.thread ≡ t → Meets i
+TellsOf ps t Meets (Some i) = (Meets i → ⊥) × ((j : ℕ) (x : Played) → j < i → IsRecord ps j x → x.thread ≡ t → Meets j)
+
+-- the record at place k isn't marked, and finds no lower number of its slot than is left
+abbrev pub IsOrderly : List Bool → ℕ → (ℕ → Option ℕ) → Option Mark → Type 0
+IsOrderly marked k left mark = (IsMarked marked k → ⊥) × FindsEnough left mark
+
+-- the same of the records of the threads below t
+abbrev pub TellsBelow : List Played → ℕ → (ℕ → Type 0) → Option ℕ → Type 0
+TellsBelow ps t Meets None = (i : ℕ) (x : Played) → IsRecord ps i x → x.thread < t → Meets i
+TellsBelow ps t Meets (Some i) = (Meets i → ⊥) × ((j : ℕ) (x : Played) → j < i → IsRecord ps j x → x.thread < t → Meets j)
+
+-- the lesser of two places, where there are two
+abbrev pub earlier_of : Option ℕ → Option ℕ → Option ℕ
+earlier_of None told = told
+earlier_of (Some a) None = Some a
+earlier_of (Some a) (Some b) = Some (min a b)

@@ -1,0 +1,36 @@
+-- What a read may give, by the registers of its thread.
+use Rattle.std.specs.Prelude.{◌≡◌, ◌≢◌, ℕ, ◌⊎◌, List}
+use Rattle.pa_machine.specs.declared.word.SlotName.{SlotName}
+use Rattle.pa_machine.specs.Count.{number_of}
+use Rattle.pa_machine.specs.Titles.{poison}
+use Rattle.pa_trace.specs.declared.script.Op.{Op}
+use Rattle.pa_trace.specs.declared.script.Op.TheVariants as ops
+use Rattle.pa_record.specs.declared.entry.Answer.{Answer}
+use Rattle.pa_record.specs.declared.entry.Answer.TheVariants.{Value, Dangling}
+use Rattle.pa_rules.specs.declared.register.Reg.TheVariants.{Ref}
+use Rattle.pa_rules.specs.declared.played.Played.{Played}
+use Rattle.pa_rules.specs.Registers.{Regs}
+use Rattle.pa_rules.specs.Contents.{IsContent, IsNextFree}
+
+-- the op reads slot s through a raw_ptr
+abbrev pub ReadsRaw : Regs → Op → SlotName → Type 0
+ReadsRaw regs op s = (reg place : ℕ) × (op ≡ ops.Read reg place) × (regs reg ≡ Ref s)
+
+-- the record y is another thread's than x, in its phase
+abbrev pub IsOther : Played → Played → Type 0
+IsOther y x = (y.thread ≢ x.thread) × (y.phase ≡ x.phase)
+
+-- the next free of slot s from number k on is such a one
+abbrev pub IsFreedMeanwhile : List Played → Played → SlotName → ℕ → Type 0
+IsFreedMeanwhile ps x s k = (y : Played) × IsNextFree ps s k y × IsOther y x
+
+-- poison, read through a raw_ptr while the slot was being freed
+abbrev pub MayFindPoison : List Played → Regs → Played → SlotName → ℕ → ℕ → Type 0
+MayFindPoison ps regs x s k value = (value ≡ poison) × ReadsRaw regs x.op s × IsFreedMeanwhile ps x s k
+
+-- the value that a record's answer says was read is one that it may give
+abbrev pub MayGive : List Played → Regs → Played → Answer → Type 0
+MayGive ps regs x (Value seen value) =
+    IsContent ps seen.slot (number_of seen.found.0) value ⊎ MayFindPoison ps regs x seen.slot (number_of seen.found.0) value
+MayGive ps regs x (Dangling seen value) = value ≡ poison
+MayGive ps regs x answer = Unit {0}

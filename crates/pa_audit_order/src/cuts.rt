@@ -1,0 +1,173 @@
+ghost use Rattle.std.specs.Prelude.{◌≡◌, ◌↔◌, ℕ, ◌+◌, ◌<◌, ◌≤◌, ◌^◌, List, [], ◌++◌, Bool, true, false, IfOk, IsTrue, None, Some, OnOk, length, replicate, set};
+ghost use Rattle.std.specs.Ordering.{nat_cmp};
+ghost use Rattle.std.specs.BTreeMap.{get};
+ghost use Rattle.pa_machine.specs.Run.{Mark};
+ghost use Rattle.pa_rules.specs.Cells.{history_at};
+ghost use Rattle.pa_rules.specs.Played.{mark_of};
+ghost use Rattle.pa_audit_order.specs.Looks.{IsMarked, AreLeft, FindsEnough};
+ghost use Rattle.pa_audit_order.specs.Steps.{Adds, AddsAll, AddsSteps, as_list};
+ghost use Rattle.pa_audit_order.specs.Cuts.{IsAheadAt, IsNear, IsGrown, IsPrepared};
+
+use crate::hands::giver;
+use crate::keys::{key, raise};
+use crate::looks::look_of;
+use pa_machine::OutOfMemory;
+use pa_record::History;
+use pa_rules::Played;
+use std::alloc::Global;
+use std::collections::BTreeMap;
+
+// The records that are before those to come: which are marked, those that are still to be, up to which place all are in, and
+// for each slot the greatest number that a marked record left.
+#[derive(Drop)]
+pub(crate) struct Cut {
+    pub marked: Vec<bool>,
+    pub stack: Vec<u32>,
+    pub floor: usize,
+    pub left: BTreeMap<u128, u64>,
+}
+
+// None of so many records.
+pub(crate) fn no_cut(alloc: Global, length: usize) -> Result<Cut, OutOfMemory>
+    ensures marked { IfOk result (λ c. c.marked.items ≡ replicate length false) }
+    ensures stack { IfOk result (λ c. c.stack.items ≡ []) }
+    ensures floor { IfOk result (λ c. c.floor ≡ 0) }
+    ensures left { IfOk result (λ c. (q : ℕ) → get nat_cmp c.left q ≡ None) }
+{
+    Ok(Cut {
+        marked: vec![in alloc; false; length]?,
+        stack: Vec::new(alloc),
+        floor: 0,
+        left: BTreeMap::new(alloc),
+    })
+}
+
+// Puts a record on the stack, where there is one.
+fn push(stack: &mut Vec<u32>, at: Option<u32>) -> Result<(), OutOfMemory>
+    ensures { OnOk result (stack.new.items ≡ stack.old.items ++ as_list at) }
+{
+    if let Some(at) = at {
+        stack.push(at)?;
+    }
+    Ok(())
+}
+
+// Puts all records of earlier phases on the stack that aren't in yet.
+fn raise_floor(
+    records: &[Played],
+    phase: u32,
+    stack: &mut Vec<u32>,
+    floor: &mut usize,
+) -> Result<(), OutOfMemory>
+    requires few { length records.now < 2 ^ 32 }
+    requires within { floor.old ≤ length records.now }
+    ensures { OnOk result (AddsAll records.now phase stack.old.items floor.old stack.new.items floor.new) }
+{
+    while *floor < records.len() && records[*floor].phase < phase {
+        stack.push(*floor as u32)?;
+        *floor += 1;
+    }
+    Ok(())
+}
+
+// Puts the records on the stack from which the nearest steps lead to this one.
+fn add_steps(
+    records: &[Played],
+    previous: &[Option<u32>],
+    by_line: &BTreeMap<u128, u32>,
+    cells: &[History],
+    at: u32,
+    stack: &mut Vec<u32>,
+    floor: &mut usize,
+) -> Result<(), OutOfMemory>
+    requires few { length records.now < 2 ^ 32 }
+    requires ready { IsPrepared (history_at cells.now) records.now previous.now (get nat_cmp by_line.now) }
+    requires at { at < length records.now }
+    requires within { floor.old ≤ length records.now }
+    ensures { OnOk result (AddsSteps (history_at cells.now) records.now at stack.old.items floor.old stack.new.items floor.new) }
+{
+    let told = records[at as usize];
+    push(stack, previous[at as usize])?;
+    push(stack, giver(records, by_line, cells, told))?;
+    raise_floor(records, told.phase, stack, floor)?;
+    Ok(())
+}
+
+// Marks a record.
+fn mark(
+    records: &[Played],
+    at: u32,
+    marked: &mut Vec<bool>,
+    left: &mut BTreeMap<u128, u64>,
+) -> Result<(), OutOfMemory>
+    requires at { at < length records.now }
+    requires long { length marked.old.items ≡ length records.now }
+    requires left { AreLeft records.now marked.old.items (get nat_cmp left.old) }
+    ensures marked { OnOk result (marked.new.items ≡ set marked.old.items at true) }
+    ensures left { OnOk result (AreLeft records.now (set marked.old.items at true) (get nat_cmp left.new)) }
+{
+    marked[at as usize] = true;
+    if let Some(look) = look_of(records[at as usize]) {
+        raise(left, key(look.slot, 0), look.left)?;
+    }
+    Ok(())
+}
+
+// Marks all records that are before this one.
+pub(crate) fn reach(
+    records: &[Played],
+    previous: &[Option<u32>],
+    by_line: &BTreeMap<u128, u32>,
+    cells: &[History],
+    at: u32,
+    cut: &mut Cut,
+) -> Result<(), OutOfMemory>
+    requires few { length records.now < 2 ^ 32 }
+    requires ready { IsPrepared (history_at cells.now) records.now previous.now (get nat_cmp by_line.now) }
+    requires at { at < length records.now }
+    requires cut { IsGrown (history_at cells.now) records.now (IsAheadAt (history_at cells.now) records.now at) (length records.now)
+        cut.old.marked.items cut.old.stack.items cut.old.floor (get nat_cmp cut.old.left) }
+    ensures cut { OnOk result (IsGrown (history_at cells.now) records.now (IsAheadAt (history_at cells.now) records.now at)
+        (length records.now) cut.new.marked.items [] cut.new.floor (get nat_cmp cut.new.left)) }
+    ensures empty { OnOk result (cut.new.stack.items ≡ []) }
+    ensures near { OnOk result ((j : ℕ) → IsNear (history_at cells.now) records.now j at → IsMarked cut.new.marked.items j) }
+{
+    add_steps(
+        records,
+        previous,
+        by_line,
+        cells,
+        at,
+        &mut cut.stack,
+        &mut cut.floor,
+    )?;
+    while let Some(next) = cut.stack.pop() {
+        if !cut.marked[next as usize] {
+            mark(records, next, &mut cut.marked, &mut cut.left)?;
+            add_steps(
+                records,
+                previous,
+                by_line,
+                cells,
+                next,
+                &mut cut.stack,
+                &mut cut.floor,
+            )?;
+        }
+    }
+    Ok(())
+}
+
+// Whether what a record tells finds no lower number of its slot than is left there.
+pub(crate) fn finds_enough(left: &BTreeMap<u128, u64>, told: Played) -> bool
+    ensures enough { IsTrue result ↔ FindsEnough (get nat_cmp left.now) (mark_of told) }
+    ensures sized { (m : Mark) → mark_of told ≡ Some m → m.slot.start < 4294967296 }
+{
+    match look_of(told) {
+        Some(look) => match left.get(&key(look.slot, 0)) {
+            Some(number) => *number <= look.found,
+            None => true,
+        },
+        None => true,
+    }
+}

@@ -1,0 +1,74 @@
+ghost use Rattle.std.specs.Prelude.{◌≡◌, ◌+◌, IfSome, IfNone, OnOk};
+ghost use Rattle.std.specs.Ordering.{nat_cmp};
+ghost use Rattle.std.specs.BTreeMap.{get};
+ghost use Rattle.pa_audit_records.specs.Keys.{word_key};
+ghost use Rattle.pa_audit_records.specs.Marks.{IsSized};
+ghost use Rattle.pa_audit_records.specs.Tables.{Puts};
+ghost use Rattle.pa_audit_order.specs.Keyed.{HasNoKey, IsGreatest, IsLeast};
+ghost use Rattle.pa_audit_order.specs.Looks.{Raises};
+
+use pa_machine::{OutOfMemory, SlotName};
+use std::collections::BTreeMap;
+
+// The key of a slot at a number.
+pub(crate) fn key(slot: SlotName, number: u64) -> u128
+    ensures key { result ≡ word_key slot number }
+    ensures sized { IsSized slot number }
+{
+    (slot.born as u128 * 4_294_967_296 + slot.start as u128) * 18_446_744_073_709_551_616
+        + number as u128
+}
+
+// Sets a key.
+pub(crate) fn put(map: &mut BTreeMap<u128, u32>, key: u128, value: u32) -> Result<(), OutOfMemory>
+    ensures { OnOk result (Puts (get nat_cmp map.old) (get nat_cmp map.new) key value) }
+{
+    map.insert(key, value)?;
+    Ok(())
+}
+
+// What stands at a key.
+pub(crate) fn find(map: &BTreeMap<u128, u32>, key: u128) -> Option<u32>
+    ensures { result ≡ get nat_cmp map.now key }
+{
+    map.get(&key).copied()
+}
+
+// What stands at the greatest key from `low` on and below `high`.
+pub(crate) fn greatest(map: &BTreeMap<u128, u32>, low: u128, high: u128) -> Option<(u128, u32)>
+    ensures some { IfSome result (λ e. IsGreatest (get nat_cmp map.now) low high e.0 e.1) }
+    ensures none { IfNone result (HasNoKey (get nat_cmp map.now) low high) }
+{
+    let mut below = map.range(..high);
+    let (key, value) = below.next_back()?;
+    if *key < low {
+        return None;
+    }
+    Some((*key, *value))
+}
+
+// What stands at the least key from `low` to `last`.
+pub(crate) fn least(map: &BTreeMap<u128, u32>, low: u128, last: u128) -> Option<(u128, u32)>
+    ensures some { IfSome result (λ e. IsLeast (get nat_cmp map.now) low (last + 1) e.0 e.1) }
+    ensures none { IfNone result (HasNoKey (get nat_cmp map.now) low (last + 1)) }
+{
+    let mut from = map.range(low..);
+    let (key, value) = from.next()?;
+    if *key > last {
+        return None;
+    }
+    Some((*key, *value))
+}
+
+// Raises what stands at a key to the value.
+pub(crate) fn raise(map: &mut BTreeMap<u128, u64>, key: u128, value: u64) -> Result<(), OutOfMemory>
+    ensures { OnOk result (Raises (get nat_cmp map.old) (get nat_cmp map.new) key value) }
+{
+    if let Some(old) = map.get(&key).copied() {
+        if old >= value {
+            return Ok(());
+        }
+    }
+    map.insert(key, value)?;
+    Ok(())
+}

@@ -1,0 +1,20 @@
+//! The clauses of a legal run that compare records along the order of their slots and of time: what was read, and what was
+//! seen. For each, the first record at which it isn't met.
+#![tactic(auto)]
+
+mod changes;
+mod contents;
+mod cuts;
+mod hands;
+mod keys;
+mod looks;
+mod numbers;
+mod registers;
+mod seen;
+#[cfg(test)]
+mod seen_tests;
+#[cfg(test)]
+mod tests;
+
+pub use contents::contents_meet;
+pub use seen::{records_never_fall_back, seen_meets};

@@ -1,0 +1,63 @@
+ghost use Rattle.std.specs.Prelude.{◌≡◌, ◌<◌, ◌^◌, IfOk, length};
+ghost use Rattle.std.specs.Ordering.{nat_cmp};
+ghost use Rattle.std.specs.BTreeMap.{get};
+ghost use Rattle.pa_audit_order.specs.Numbers.{seen_by, IsOneAt, AreByNumber};
+
+use crate::keys::{key, put};
+use pa_machine::{OutOfMemory, number};
+use pa_record::{Answer, Seen};
+use pa_rules::Played;
+use pa_trace::Op;
+use std::alloc::Global;
+use std::collections::BTreeMap;
+
+// What records do with a slot's content: fill it, by making the slot or by a write, or free it.
+#[derive(Clone, Copy)]
+pub(crate) enum Kind {
+    Fill,
+    Free,
+}
+
+// What a record saw of the slot with which it did so.
+fn seen_of(kind: Kind, op: Op, answer: Answer) -> Option<Seen>
+    ensures { result ≡ seen_by kind op answer }
+{
+    match kind {
+        Kind::Fill => match answer {
+            Answer::Made { seen, .. } => Some(seen),
+            Answer::Done { seen } => match op {
+                Op::Write { .. } => Some(seen),
+                _ => None,
+            },
+            _ => None,
+        },
+        Kind::Free => match answer {
+            Answer::Done { seen } => match op {
+                Op::Free { .. } => Some(seen),
+                _ => None,
+            },
+            _ => None,
+        },
+    }
+}
+
+// The records that did so, by slot and number.
+pub(crate) fn by_number(
+    alloc: Global,
+    records: &[Played],
+    kind: Kind,
+) -> Result<BTreeMap<u128, u32>, OutOfMemory>
+    requires few { length records.now < 2 ^ 32 }
+    requires one { IsOneAt kind records.now }
+    ensures { IfOk result (λ m. AreByNumber kind records.now (get nat_cmp m) (length records.now)) }
+{
+    let mut table = BTreeMap::new(alloc);
+    let mut at: u32 = 0;
+    for record in records {
+        if let Some(seen) = seen_of(kind, record.op, record.answer) {
+            put(&mut table, key(seen.slot, number(seen.found)), at)?;
+        }
+        at += 1;
+    }
+    Ok(table)
+}

@@ -1,0 +1,57 @@
+ghost use Rattle.std.specs.Prelude.{◌≡◌, ◌<◌, IfOk};
+ghost use Rattle.pa_rules.specs.Registers.{no_regs};
+ghost use Rattle.pa_audit_records.specs.Tables.{regs_in, AreRegsOf, with_register};
+
+use pa_machine::OutOfMemory;
+use pa_rules::Reg;
+use std::alloc::Global;
+use std::marker::Model;
+
+// The number of registers of 16 threads.
+const REGISTERS: usize = 1024;
+
+// The registers of 16 threads, 64 each. They are seen as a list.
+#[derive(Drop)]
+pub(crate) struct Registers {
+    of: Vec<Reg>,
+}
+
+impl Model for Registers {
+    ghost use Rattle.std.specs.Prelude.{◌≡◌, List, length};
+    ghost use Rattle.pa_rules.specs.declared.register.Reg.{Reg};
+
+    ghost Value = { List Reg };
+
+    ghost view = { λ r. r.of.items };
+
+    ghost invariant = { λ r. length r.of.items ≡ 1024 };
+}
+
+impl Registers {
+    // All empty.
+    pub(crate) fn new(alloc: Global) -> Result<Registers, OutOfMemory>
+        ensures { IfOk result (λ r. AreRegsOf r no_regs) }
+    {
+        Ok(Registers {
+            of: vec![in alloc; Reg::Empty; REGISTERS]?,
+        })
+    }
+
+    // What a register of a thread holds.
+    pub(crate) fn get(&self, thread: u32, reg: u32) -> Reg
+        requires thread { thread < 16 }
+        requires reg { reg < 64 }
+        ensures { result ≡ regs_in self.now thread reg }
+    {
+        self.of[64 * thread as usize + reg as usize]
+    }
+
+    // Sets a register of a thread.
+    pub(crate) fn set(&mut self, thread: u32, reg: u32, holds: Reg)
+        requires thread { thread < 16 }
+        requires reg { reg < 64 }
+        ensures { AreRegsOf self.new (with_register (regs_in self.old) thread reg holds) }
+    {
+        self.of[64 * thread as usize + reg as usize] = holds;
+    }
+}

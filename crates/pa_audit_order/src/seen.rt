@@ -1,0 +1,104 @@
+ghost use Rattle.std.specs.Prelude.{◌≡◌, ◌↔◌, ℕ, ◌<◌, ◌^◌, All, IfOk, IsTrue, Some, length};
+ghost use Rattle.std.specs.Ordering.{nat_cmp};
+ghost use Rattle.std.specs.BTreeMap.{get};
+ghost use Rattle.pa_machine.specs.Run.{Mark};
+ghost use Rattle.pa_rules.specs.declared.verdict.Place.TheVariants as places;
+ghost use Rattle.pa_rules.specs.Cells.{history_at};
+ghost use Rattle.pa_rules.specs.Played.{mark_of};
+ghost use Rattle.pa_rules.specs.RecordDemands.{CellsDemand, SeenDemand};
+ghost use Rattle.pa_rules.specs.Tells.{TellsFirst};
+ghost use Rattle.pa_audit_records.specs.Marks.{RiseByLine};
+ghost use Rattle.pa_audit_records.specs.Rows.{IsPlayedWithin};
+ghost use Rattle.pa_audit_order.specs.Steps.{NeverFallsBack, RecordsNeverFallBack};
+ghost use Rattle.pa_audit_order.specs.Cuts.{IsPrepared, IsOrderly, TellsOf, earlier_of};
+
+use crate::cuts::{Cut, finds_enough, no_cut, reach};
+use crate::hands::{by_line, previous_of};
+use pa_machine::OutOfMemory;
+use pa_record::History;
+use pa_rules::Played;
+use std::alloc::Global;
+use std::collections::BTreeMap;
+
+// Threads of a trace at most.
+const THREADS: u32 = 16;
+
+/// The index of the first record that is before itself, by its thread, by phases and by handles that were handed over, or
+/// finds a lower number of its slot than a record that is before it left; none where no record does.
+pub fn seen_meets(
+    alloc: Global,
+    records: &[Played],
+    cells: &[History],
+) -> Result<Option<u32>, OutOfMemory>
+    requires few { length records.now < 2 ^ 32 }
+    requires rising { RiseByLine records.now }
+    requires phases { NeverFallsBack records.now }
+    requires within { All IsPlayedWithin records.now }
+    requires swaps { (i : ℕ) → CellsDemand (history_at cells.now) records.now (places.Record i) }
+    requires exchanges { (k j : ℕ) → CellsDemand (history_at cells.now) records.now (places.Cell k j) }
+    ensures { IfOk result (TellsFirst (λ i. SeenDemand (history_at cells.now) records.now (places.Record i))) }
+{
+    let previous = previous_of(alloc, records)?;
+    let by_line = by_line(alloc, records)?;
+    let mut first = None;
+    for thread in 0..THREADS {
+        let told = walk(alloc, records, &previous, &by_line, cells, thread)?;
+        first = earlier(first, told);
+    }
+    Ok(first)
+}
+
+// The lesser of two indices, where there are two.
+fn earlier(first: Option<u32>, told: Option<u32>) -> Option<u32>
+    ensures { result ≡ earlier_of first told }
+{
+    match first {
+        Some(a) => match told {
+            Some(b) => Some(a.min(b)),
+            None => Some(a),
+        },
+        None => told,
+    }
+}
+
+// Whether the record isn't before itself, and finds no lower number than is left.
+fn is_fresh(cut: &Cut, at: u32, told: Played) -> bool
+    requires at { at < length cut.now.marked.items }
+    ensures fresh { IsTrue result ↔ IsOrderly cut.now.marked.items at (get nat_cmp cut.now.left) (mark_of told) }
+    ensures sized { (m : Mark) → mark_of told ≡ Some m → m.slot.start < 4294967296 }
+{
+    let enough = finds_enough(&cut.left, told);
+    !cut.marked[at as usize] && enough
+}
+
+// The first record of the thread that is before itself, or finds too low a number.
+fn walk(
+    alloc: Global,
+    records: &[Played],
+    previous: &[Option<u32>],
+    by_line: &BTreeMap<u128, u32>,
+    cells: &[History],
+    thread: u32,
+) -> Result<Option<u32>, OutOfMemory>
+    requires few { length records.now < 2 ^ 32 }
+    requires ready { IsPrepared (history_at cells.now) records.now previous.now (get nat_cmp by_line.now) }
+    ensures { IfOk result (TellsOf records.now thread (λ i. SeenDemand (history_at cells.now) records.now (places.Record i))) }
+{
+    let mut cut = no_cut(alloc, records.len())?;
+    let mut at: u32 = 0;
+    for record in records {
+        if record.thread == thread {
+            reach(records, previous, by_line, cells, at, &mut cut)?;
+            if !is_fresh(&cut, at, *record) {
+                return Ok(Some(at));
+            }
+        }
+        at += 1;
+    }
+    Ok(None)
+}
+
+/// The law that the records beside the ops of a trace's lines stand in the order of its phases.
+pub fn records_never_fall_back()
+    ensures { RecordsNeverFallBack }
+{}

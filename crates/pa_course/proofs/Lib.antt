@@ -1,0 +1,11 @@
+pub mod Merging
+pub mod Lengthening
+pub mod Playing
+pub mod Leading
+pub mod Grouping
+pub mod Chaining
+pub mod Fitting
+pub mod Heaping
+pub mod Keepers
+pub mod Example
+pub mod Recording

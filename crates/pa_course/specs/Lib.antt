@@ -1,0 +1,4 @@
+pub mod Courses
+pub mod Merged
+pub mod Telling
+pub mod Example

@@ -1,0 +1,45 @@
+//! Laws of courses: calls that do nothing, and whose clauses are proved.
+ghost use Rattle.pa_course.specs.Example.{SmallCourseFits};
+ghost use Rattle.pa_course.specs.Telling.{CoursesTellAll, CoursesTellCells, CoursesTellHeap};
+ghost use Rattle.pa_course.specs.Telling.{CoursesTellPool, CoursesTellRoots, CoursesTellRunner, WorkersHaveTheirs};
+
+/// The law that a course says what is asked of the ops of workers.
+pub fn courses_tell_heap()
+    ensures { CoursesTellHeap }
+{}
+
+/// The law that a course says what is asked of the runner.
+pub fn courses_tell_runner()
+    ensures { CoursesTellRunner }
+{}
+
+/// The law that a course says what is asked of the pool, where its type keeps what it does.
+pub fn courses_tell_pool()
+    ensures { CoursesTellPool }
+{}
+
+/// The law that a course says what is asked of the roots, where their types keep what they do.
+pub fn courses_tell_roots()
+    ensures { CoursesTellRoots }
+{}
+
+/// The law that a course says what is asked of the cells, where their type keeps what it does.
+pub fn courses_tell_cells()
+    ensures { CoursesTellCells }
+{}
+
+/// The law that all layers say what they are asked of a course whose report's lines are said.
+pub fn courses_tell_all()
+    ensures { CoursesTellAll }
+{}
+
+/// The law that each worker has the records of its thread, in order, and that only titles which go back are made raw again.
+pub fn workers_have_theirs()
+    ensures { WorkersHaveTheirs }
+{}
+
+/// A small course, which was worked out by hand, meets all that is asked of one, so the laws speak of something: all layers say
+/// what they are asked, and the run is legal.
+pub fn small_course_fits()
+    ensures { SmallCourseFits }
+{}

@@ -1,0 +1,10 @@
+//! How a run of several workers went, phase after phase, and that then each layer says what it is asked. Definitions and laws
+//! alone; nothing here runs.
+#![tactic(auto)]
+
+mod laws;
+
+pub use laws::{
+    courses_tell_all, courses_tell_cells, courses_tell_heap, courses_tell_pool, courses_tell_roots,
+    courses_tell_runner, small_course_fits, workers_have_theirs,
+};

@@ -1,0 +1,151 @@
+-- A copy of a handle: the stock after it, and what it says.
+use Rattle.std.proofs.Common.{◌≡◌, ℕ, ◌<◌, List, [], ◌∷◌, length, Some, refl, sym, ◌∙◌, ap, subst, arith, inl, inr}
+use Rattle.std.specs.Prelude.{slice_set}
+use Rattle.std.proofs.lemmas.List.{length-set}
+use Rattle.pa_machine.specs.declared.title.Title.{Title}
+use Rattle.pa_machine.specs.declared.word.Step.TheVariants as steps
+use Rattle.pa_machine.specs.Holdings.{one}
+use Rattle.pa_trace.specs.declared.script.Op.TheVariants as ops
+use Rattle.pa_record.specs.declared.entry.Seen.{Seen}
+use Rattle.pa_record.specs.declared.entry.Answer.{Answer}
+use Rattle.pa_record.specs.declared.entry.Answer.TheVariants as answers
+use Rattle.pa_record.specs.Spans.{name_of}
+use Rattle.pa_region.specs.declared.view.Entry.TheVariants.{Counted}
+use Rattle.pa_region.specs.declared.view.OwnTitle.{OwnTitle}
+use Rattle.pa_region.specs.Waiting.{is_unclean}
+use Rattle.pa_region.specs.Moves.{CanCount, IsFound, after_count, busy}
+use Rattle.pa_region.specs.Leaves.{CountLeaves, OwnsChange}
+use Rattle.pa_region.specs.Aware.{IsAware}
+use Rattle.pa_rules.specs.Played.{mark_at}
+use Rattle.pa_rules.specs.declared.register.Reg.TheVariants as reg
+use Rattle.pa_rules.specs.Registers.{Regs, with, Becomes, CopyRow, CopyToRow}
+use Rattle.pa_cells.specs.declared.handle.Handle.{Handle}
+use Rattle.pa_heap.specs.declared.register.Register.{Register}
+use Rattle.pa_heap.specs.declared.register.Register.TheVariants.{Empty, Own, Ref, Freed, Cleared}
+use Rattle.pa_heap.specs.Stocks.{StockValue, IsStock, HasHandleTo, HasNoHandle, register_in, as_reg, regs_of, owns_one, refs_one}
+use Rattle.pa_heap.specs.Workers.{HasItsStake}
+use Rattle.pa_heap.specs.Plays.{DoesOp}
+use Rattle.pa_heap.proofs.Registers.{sum_set, regs_set, made_set}
+use Rattle.pa_heap.proofs.Seeing.{made_kept, made_for_kept, slot_in_run, home_of}
+use Rattle.pa_heap.proofs.Leaving.{least_is, clean_own, user_not_free, touched_count}
+use Rattle.pa_heap.proofs.Stocks.{register_has, stock_with}
+use Rattle.pa_heap.proofs.Quiet.{quiet_does}
+use Rattle.pa_heap.proofs.Refusing.{copy_refuses}
+
+-- the stock after a copy that found this word
+abbrev pub copied : StockValue → Handle → ℕ → ℕ → StockValue
+copied s h to word =
+    record s { view = after_count steps.Copy h.title word s.view; registers = slice_set s.registers to (Ref h) }
+
+-- a seat with a handle can make the copy
+pub can_copy : (s : StockValue) (from : ℕ) (h : Handle) → IsStock s → HasItsStake s → 0 < s.view.budget → from < 64 →
+    HasHandleTo h (register_in s.registers from) → CanCount steps.Copy h.title s.view
+can_copy s from h is stake budget below has =
+    let user = (register_has s from h is below has).0 in
+    let clean = clean_own s.view h.title is.handles.clean in
+    (omega arith, (least_is s.thread s.view is.stake stake).1, budget, tt)
+
+-- a register without a handle weighs nothing
+none_owned : (t : Title) (r : Register) → HasNoHandle r → owns_one t r ≡ 0
+none_owned t Empty is = refl
+none_owned t (Own h) is = absurd is
+none_owned t (Ref h) is = absurd is
+none_owned t Freed is = refl
+none_owned t Cleared is = refl
+
+none_pointed : (t : Title) (r : Register) → HasNoHandle r → refs_one t r ≡ 0
+none_pointed t Empty is = refl
+none_pointed t (Own h) is = absurd is
+none_pointed t (Ref h) is = absurd is
+none_pointed t Freed is = refl
+none_pointed t Cleared is = refl
+
+-- the stock stays sound
+pub copied_stock : CountLeaves → OwnsChange → (s : StockValue) (from to word : ℕ) (h : Handle) → IsStock s → HasItsStake s → 0 < s.view.budget →
+    from < 64 → to < 64 → HasHandleTo h (register_in s.registers from) → HasNoHandle (register_in s.registers to) → IsStock (copied s h to word)
+copied_stock counts owns s from to word h is stake budget below within has bare =
+    let t = h.title in
+    let w = after_count steps.Copy t word s.view in
+    let leaves = counts steps.Copy t word s.view (can_copy s from h is stake budget below has) in
+    let rs = s.registers in
+    let inside : to < length rs = let n = is.handles.count in omega arith in
+    let made = (register_has s from h is below has).1 in
+    stock_with s w (slice_set rs to (Ref h)) is
+    (record {
+      count = long rs inside ∙ is.handles.count;
+      owns = λ u. let a = leaves.owns u in let b = is.handles.owns u in let c = sum_set (owns_one u) rs to (Ref h) Empty inside in
+          let d = none_owned u (register_in rs to) bare in omega arith;
+      refs = λ u. let a = leaves.refs u in let b = is.handles.refs u in let c = sum_set (refs_one u) rs to (Ref h) Empty inside in
+          let d = none_pointed u (register_in rs to) bare in omega arith;
+      clean = owns.1 t busy (λ (o : OwnTitle). one (is_unclean o.state)) s.view.owns (λ o. refl) ∙ is.handles.clean;
+      made = made_set w rs to (Ref h) inside (made_kept h s.view w refl made) (λ k. made_for_kept s.view w refl (register_in rs k) (is.handles.made k));
+    })
+    refl (λ u. let a = leaves.frees u in omega arith) leaves.entry.stakes
+  where
+    long : (xs : List Register) → to < length xs → length (slice_set xs to (Ref h)) ≡ length xs
+    long xs inside = length-set xs to (Ref h)
+
+-- the rows: of the first register, by its handle; of the second, which has none
+copy_row : (r : Register) (h : Handle) (regs : Regs) (to : ℕ) (answer : Answer) (after : Regs) → HasHandleTo h r →
+    CopyToRow (regs to) (name_of h.title) regs to answer after → CopyRow (as_reg r) regs to answer after
+copy_row r h regs to answer after (inl own) row = subst (λ x. CopyRow (as_reg x) regs to answer after) (sym own) row
+copy_row r h regs to answer after (inr ref) row = subst (λ x. CopyRow (as_reg x) regs to answer after) (sym ref) row
+
+copy_to_row : (r : Register) (h : Handle) (word : ℕ) (regs : Regs) (to : ℕ) (after : Regs) → HasNoHandle r →
+    Becomes after (with regs to (reg.Ref (name_of h.title))) →
+    CopyToRow (as_reg r) (name_of h.title) regs to (answers.Done (record { slot = name_of h.title; found = record { 0 = word } })) after
+copy_to_row Empty h word regs to after bare becomes = (record { slot = name_of h.title; found = record { 0 = word } }, refl, refl, becomes)
+copy_to_row (Own g) h word regs to after bare becomes = absurd bare
+copy_to_row (Ref g) h word regs to after bare becomes = absurd bare
+copy_to_row Freed h word regs to after bare becomes = (record { slot = name_of h.title; found = record { 0 = word } }, refl, refl, becomes)
+copy_to_row Cleared h word regs to after bare becomes = (record { slot = name_of h.title; found = record { 0 = word } }, refl, refl, becomes)
+
+-- the op does what it should
+pub copied_does : CountLeaves → (s : StockValue) (from to word : ℕ) (h : Handle) → IsStock s → IsAware s.view → HasItsStake s → 0 < s.view.budget →
+    from < 64 → to < 64 → HasHandleTo h (register_in s.registers from) → HasNoHandle (register_in s.registers to) →
+    IsFound h.title word s.view → (line : ℕ) →
+    DoesOp line (ops.Copy from to) (answers.Done (record { slot = name_of h.title; found = record { 0 = word } })) s (copied s h to word)
+copied_does counts s from to word h is aware stake budget below within has bare found =
+    let t = h.title in
+    let w = after_count steps.Copy t word s.view in
+    let can = can_copy s from h is stake budget below has in
+    let knows = register_has s from h is below has in
+    let inside : to < length s.registers = let n = is.handles.count in omega arith in
+    let seen : Seen = record { slot = name_of t; found = record { 0 = word } } in
+    quiet_does s w (slice_set s.registers to (Ref h)) (ops.Copy from to) (answers.Done seen) (Counted t steps.Copy word 0 ∷ []) is.lists
+    (touched_count counts s.thread steps.Copy t word s.view refl can found (least_is s.thread s.view is.stake stake).0 (user_not_free s.view t aware knows.0))
+    (record { room = λ j e. cc; cells = λ list x none. none })
+    (λ line phase o run sees none same.
+    let slot = slot_in_run o w h run sees (made_kept h s.view w refl knows.1) in
+    record {
+      told = ([], tt, ap (λ u. Counted u steps.Copy word 0 ∷ []) (sym slot.title));
+      row = copy_row (register_in s.registers from) h (regs_of s.registers) to
+          (answers.Done seen) (regs_of (slice_set s.registers to (Ref h))) has
+          (copy_to_row (register_in s.registers to) h word (regs_of s.registers) to (regs_of (slice_set s.registers to (Ref h))) bare
+          (λ k. regs_set s.registers to (Ref h) k inside));
+      lists = inr (λ z. z, none, same);
+      reader = tt;
+      home = λ m e. (h.partition, home_of o h.partition (mark_at line seen (Some steps.Copy)) m e slot.size);
+    })
+
+-- the second register has a handle
+abbrev pub HasSome : Register → Type 0
+HasSome Empty = ⊥
+HasSome (Own h) = Unit {0}
+HasSome (Ref h) = Unit {0}
+HasSome Freed = ⊥
+HasSome Cleared = ⊥
+
+filled_row : (r : Register) (h : Handle) (regs : Regs) (to : ℕ) → HasSome r → CopyToRow (as_reg r) (name_of h.title) regs to answers.Filled regs
+filled_row Empty h regs to some = absurd some
+filled_row (Own g) h regs to some = (refl, λ k. refl)
+filled_row (Ref g) h regs to some = (refl, λ k. refl)
+filled_row Freed h regs to some = absurd some
+filled_row Cleared h regs to some = absurd some
+
+pub copy_filled : (s : StockValue) (from to : ℕ) (h : Handle) (r : Register) → IsStock s → HasHandleTo h (register_in s.registers from) →
+    r ≡ register_in s.registers to → HasSome r → (line : ℕ) → DoesOp line (ops.Copy from to) answers.Filled s s
+copy_filled s from to h r is has at some =
+    copy_refuses s from to (register_in s.registers from) answers.Filled is tt refl
+    (copy_row (register_in s.registers from) h (regs_of s.registers) to answers.Filled (regs_of s.registers) has
+    (subst (λ x. CopyToRow (as_reg x) (name_of h.title) (regs_of s.registers) to answers.Filled (regs_of s.registers)) at (filled_row r h (regs_of s.registers) to some)))

@@ -1,0 +1,140 @@
+-- An op that looks at its register's slot, and does no more.
+use Rattle.std.proofs.Common.{◌≡◌, ℕ, ◌+◌, ◌<◌, Bool, true, false, List, [], ◌∷◌, Some, None, refl, sym, ◌∙◌, ap, subst, arith}
+use Rattle.std.specs.Prelude.{◌==◌, if◌then◌else◌}
+use Rattle.pa_machine.specs.declared.title.Title.{Title}
+use Rattle.pa_machine.specs.declared.word.SlotName.{SlotName}
+use Rattle.pa_machine.specs.Count.{held_of, refs_of}
+use Rattle.pa_machine.specs.Holdings.{one}
+use Rattle.pa_trace.specs.declared.script.Op.{Op}
+use Rattle.pa_record.specs.declared.entry.Answer.{Answer}
+use Rattle.pa_record.specs.declared.entry.Answer.TheVariants as answers
+use Rattle.pa_record.specs.declared.entry.Seen.{Seen}
+use Rattle.pa_record.specs.Spans.{name_of}
+use Rattle.pa_region.specs.declared.view.Entry.{Entry}
+use Rattle.pa_region.specs.declared.view.Entry.TheVariants.{Looked}
+use Rattle.pa_region.specs.declared.view.OwnTitle.{OwnTitle}
+use Rattle.pa_region.specs.declared.view.View.{View}
+use Rattle.pa_region.specs.Waiting.{is_unclean}
+use Rattle.pa_region.specs.Moves.{IsFound, after_look, idle_if}
+use Rattle.pa_region.specs.Leaves.{LookLeaves, OwnsChange}
+use Rattle.pa_region.specs.Aware.{IsAware}
+use Rattle.pa_region.specs.Shares.{IsUser}
+use Rattle.pa_rules.specs.declared.played.Played.{Played}
+use Rattle.pa_rules.specs.Played.{mark_at, mark_of_answer}
+use Rattle.pa_rules.specs.Registers.{Row}
+use Rattle.pa_rules.specs.Caches.{Cache, CacheRow, NoActs, SameLists}
+use Rattle.pa_rules.specs.Roots.{Journals}
+use Rattle.pa_told.specs.Touches.{title_of, IsToldBy, IsLookTold}
+use Rattle.pa_cells.specs.declared.handle.Handle.{Handle}
+use Rattle.pa_heap.specs.Stocks.{StockValue, IsStock, HasHandleTo, register_in, regs_of}
+use Rattle.pa_heap.specs.Workers.{HasItsStake}
+use Rattle.pa_heap.specs.Outcomes.{Outcome, row_facts}
+use Rattle.pa_heap.specs.Plays.{DoesOp, ReadsItsRegister}
+use Rattle.pa_heap.proofs.Seeing.{made_kept, made_for_kept, slot_in_run, home_of}
+use Rattle.pa_heap.proofs.Leaving.{least_is, user_not_free, touched_look}
+use Rattle.pa_heap.proofs.Stocks.{register_has, stock_with}
+use Rattle.pa_heap.proofs.Quiet.{quiet_record, quiet_does}
+use Rattle.pa_heap.proofs.Refusing.{IsNoSwap, enters_no_cells}
+
+-- what a look at a handle's slot answers
+abbrev pub seen_at : Handle → ℕ → Seen
+seen_at h word = record { slot = name_of h.title; found = record { 0 = word } }
+
+-- the stock after a look that found this word
+abbrev pub looked : StockValue → Handle → ℕ → StockValue
+looked s h word = record s { view = after_look h.title word s.view }
+
+-- a look leaves the state of Owns
+idle_unclean : (word : ℕ) (o : OwnTitle) → one (is_unclean (idle_if word o).state) ≡ one (is_unclean o.state)
+idle_unclean word o = go (refs_of word == 0)
+  where
+    go : (b : Bool) → one (is_unclean (if b then record o { idle = true } else o).state) ≡ one (is_unclean o.state)
+    go true = refl
+    go false = refl
+
+-- the stock stays sound
+pub looked_stock : LookLeaves → OwnsChange → (s : StockValue) (word : ℕ) (h : Handle) → IsStock s → HasItsStake s → IsStock (looked s h word)
+looked_stock looks owns s word h is stake =
+    let t = h.title in
+    let w = after_look t word s.view in
+    let leaves = looks t word s.view (least_is s.thread s.view is.stake stake).1 in
+    stock_with s w s.registers is
+    (record {
+      count = is.handles.count;
+      owns = λ u. leaves.0.owns u ∙ is.handles.owns u;
+      refs = λ u. leaves.0.refs u ∙ is.handles.refs u;
+      clean = owns.1 t (idle_if word) (λ (o : OwnTitle). one (is_unclean o.state)) s.view.owns (idle_unclean word) ∙ is.handles.clean;
+      made = λ k. made_for_kept s.view w refl (register_in s.registers k) (is.handles.made k);
+    })
+    refl (λ u. let a = leaves.0.frees u in omega arith) leaves.1.stakes
+
+-- the stake is there as before
+pub looked_stake : LookLeaves → (s : StockValue) (word : ℕ) (h : Handle) → IsStock s → HasItsStake s → HasItsStake (looked s h word)
+looked_stake looks s word h is stake =
+    let leaves = looks h.title word s.view (least_is s.thread s.view is.stake stake).1 in
+    let e = leaves.1.stakes s.thread in omega arith
+
+-- the word is one in use
+pub in_use : (t : Title) (word : ℕ) (v : View) → IsUser t v → IsFound t word v → 0 < held_of word + refs_of word
+in_use t word v user found = let a = found.owns in let b = found.refs in omega arith
+
+-- the answer is that of a look that found this
+abbrev pub IsOfLook : Answer → Seen → Type 0
+IsOfLook (answers.SecondFree (Some seen)) s = seen ≡ s
+IsOfLook (answers.NotOwner seen) s = seen ≡ s
+IsOfLook (answers.StaleUse (Some seen)) s = seen ≡ s
+IsOfLook (answers.Shared seen) s = seen ≡ s
+IsOfLook answer s = ⊥
+
+-- what follows for such an answer
+record Lookingly (op : Op) (answer : Answer) (seen : Seen) : Type 0 where
+  room : (j : ℕ) → answer ≡ answers.Full j → ⊥
+  told : (sizes : SlotName → ℕ) (es : List Entry) → IsLookTold (title_of sizes seen.slot) seen.found.0 es → IsToldBy sizes op answer es
+  lists : (partitions : ℕ) (roots : Journals) (x : Played) (cache after : Cache) → NoActs roots x.line → SameLists after cache → CacheRow partitions roots x answer cache after
+  home : (line : ℕ) → mark_of_answer line op answer ≡ Some (mark_at line seen None)
+
+lookingly : (op : Op) (answer : Answer) (seen : Seen) → IsOfLook answer seen → Lookingly op answer seen
+lookingly op (answers.Made s usable) seen is = absurd is
+lookingly op (answers.Done s) seen is = absurd is
+lookingly op (answers.Value s value) seen is = absurd is
+lookingly op (answers.Dangling s value) seen is = absurd is
+lookingly op (answers.SecondFree None) seen is = absurd is
+lookingly op (answers.SecondFree (Some s)) seen is = record { room = λ j e. cc; told = λ sizes es h. subst (λ x. IsToldBy sizes op (answers.SecondFree (Some x)) es) (sym is) h; lists = λ n roots x c d none same. (none, same); home = λ line. ap (λ x. Some (mark_at line x None)) is }
+lookingly op (answers.NotOwner s) seen is = record { room = λ j e. cc; told = λ sizes es h. subst (λ x. IsToldBy sizes op (answers.NotOwner x) es) (sym is) h; lists = λ n roots x c d none same. (none, same); home = λ line. ap (λ x. Some (mark_at line x None)) is }
+lookingly op answers.StaleReset seen is = absurd is
+lookingly op (answers.StaleUse None) seen is = absurd is
+lookingly op (answers.StaleUse (Some s)) seen is = record { room = λ j e. cc; told = λ sizes es h. subst (λ x. IsToldBy sizes op (answers.StaleUse (Some x)) es) (sym is) h; lists = λ n roots x c d none same. (none, same); home = λ line. ap (λ x. Some (mark_at line x None)) is }
+lookingly op answers.Nothing seen is = absurd is
+lookingly op answers.Filled seen is = absurd is
+lookingly op answers.NotRef seen is = absurd is
+lookingly op (answers.Shared s) seen is = record { room = λ j e. cc; told = λ sizes es h. subst (λ x. IsToldBy sizes op (answers.Shared x) es) (sym is) h; lists = λ n roots x c d none same. (none, same); home = λ line. ap (λ x. Some (mark_at line x None)) is }
+lookingly op answers.OutOfRange seen is = absurd is
+lookingly op answers.TooLarge seen is = absurd is
+lookingly op (answers.Full entry) seen is = absurd is
+lookingly op (answers.Swapped entry) seen is = absurd is
+lookingly op (answers.Purged slots) seen is = absurd is
+
+-- the op does what it should, where its row says so
+pub looked_does : LookLeaves → (s : StockValue) (op : Op) (answer : Answer) (reg word : ℕ) (h : Handle) → IsStock s → IsAware s.view → HasItsStake s →
+    reg < 64 → HasHandleTo h (register_in s.registers reg) → IsFound h.title word s.view → IsNoSwap op → IsOfLook answer (seen_at h word) →
+    ((o : Outcome) → Row (row_facts o) op (regs_of s.registers) answer (regs_of s.registers)) →
+    ((o : Outcome) (line phase : ℕ) → ReadsItsRegister o.sizes (regs_of s.registers) op (quiet_record s (after_look h.title word s.view) line phase op answer (Looked h.title word ∷ []))) →
+    (line : ℕ) → DoesOp line op answer s (looked s h word)
+looked_does looks s op answer reg word h is aware stake below has found no_swap of_look row reads =
+    let t = h.title in
+    let w = after_look t word s.view in
+    let l = lookingly op answer (seen_at h word) of_look in
+    let knows = register_has s reg h is below has in
+    let least = least_is s.thread s.view is.stake stake in
+    quiet_does s w s.registers op answer (Looked t word ∷ []) is.lists
+    (touched_look looks s.thread t word s.view least.1 found least.0 (user_not_free s.view t aware knows.0))
+    (record { room = l.room; cells = enters_no_cells op no_swap })
+    (λ line phase o run sees none same.
+    let slot = slot_in_run o w h run sees (made_kept h s.view w refl knows.1) in
+    record {
+      told = l.told o.sizes (Looked t word ∷ []) (ap (λ u. Looked u word ∷ []) (sym slot.title), in_use t word s.view knows.0 found);
+      row = row o;
+      lists = l.lists o.partitions o.roots (quiet_record s w line phase op answer (Looked t word ∷ [])).played _ _ none same;
+      reader = reads o line phase;
+      home = λ m e. (h.partition, home_of o h.partition (mark_at line (seen_at h word) None) m (sym (l.home line) ∙ e) slot.size);
+    })

@@ -1,0 +1,107 @@
+-- A reset of a raw_ptr: the stock after it, and what it says where its step doesn't return the slot.
+use Rattle.std.proofs.Common.{◌≡◌, ℕ, ◌<◌, [], ◌∷◌, length, Some, refl, sym, ◌∙◌, ap, subst, arith, inr}
+use Rattle.std.specs.Prelude.{slice_set}
+use Rattle.std.proofs.lemmas.List.{length-set}
+use Rattle.pa_machine.specs.declared.word.Step.TheVariants as steps
+use Rattle.pa_machine.specs.Titles.{same_title}
+use Rattle.pa_machine.specs.Holdings.{one}
+use Rattle.pa_machine.specs.Run.{IsReturning}
+use Rattle.pa_trace.specs.declared.script.Op.TheVariants as ops
+use Rattle.pa_record.specs.declared.entry.Seen.{Seen}
+use Rattle.pa_record.specs.declared.entry.Answer.TheVariants as answers
+use Rattle.pa_record.specs.Spans.{name_of}
+use Rattle.pa_region.specs.declared.view.Entry.TheVariants.{Counted}
+use Rattle.pa_region.specs.Moves.{CanCount, IsFound, after_count}
+use Rattle.pa_region.specs.Leaves.{CountLeaves}
+use Rattle.pa_region.specs.Aware.{IsAware}
+use Rattle.pa_rules.specs.declared.register.Reg.TheVariants as reg
+use Rattle.pa_rules.specs.Played.{mark_at}
+use Rattle.pa_rules.specs.Registers.{Regs, with, Becomes, ResetRow}
+use Rattle.pa_count.specs.declared.steps.Fate.{Fate}
+use Rattle.pa_count.specs.declared.steps.Fate.TheVariants.{Kept, Last}
+use Rattle.pa_cells.specs.declared.handle.Handle.{Handle}
+use Rattle.pa_heap.specs.declared.register.Register.{Register}
+use Rattle.pa_heap.specs.declared.register.Register.TheVariants.{Empty, Ref, Cleared}
+use Rattle.pa_heap.specs.Stocks.{StockValue, IsStock, register_in, as_reg, regs_of, owns_one, refs_one}
+use Rattle.pa_heap.specs.Workers.{HasItsStake}
+use Rattle.pa_heap.specs.Changes.{LetsGo}
+use Rattle.pa_heap.specs.Plays.{DoesOp}
+use Rattle.pa_heap.proofs.Registers.{sum_set, regs_set, made_set}
+use Rattle.pa_heap.proofs.Seeing.{made_kept, made_for_kept, slot_in_run, home_of}
+use Rattle.pa_heap.proofs.Leaving.{least_is, user_not_free, touched_count}
+use Rattle.pa_heap.proofs.Stocks.{register_has, register_points, stock_with}
+use Rattle.pa_heap.proofs.Looking.{seen_at}
+use Rattle.pa_heap.proofs.Quiet.{quiet_does}
+
+-- the stock after a reset that found this word
+abbrev pub cleared : StockValue → Handle → ℕ → ℕ → StockValue
+cleared s h r word = record s { view = after_count steps.Reset h.title word s.view; registers = slice_set s.registers r Cleared }
+
+pub can_reset : (s : StockValue) (r : ℕ) (h : Handle) → IsStock s → HasItsStake s → 0 < s.view.budget → r < 64 → register_in s.registers r ≡ Ref h →
+    CanCount steps.Reset h.title s.view
+can_reset s r h is stake budget below ref = (register_points s r h is below ref, (least_is s.thread s.view is.stake stake).1, budget, tt)
+
+-- the stock stays sound
+pub cleared_stock : CountLeaves → (s : StockValue) (r word : ℕ) (h : Handle) → IsStock s → HasItsStake s → 0 < s.view.budget → r < 64 → register_in s.registers r ≡ Ref h →
+    IsStock (cleared s h r word)
+cleared_stock counts s r word h is stake budget below ref =
+    let t = h.title in
+    let w = after_count steps.Reset t word s.view in
+    let leaves = counts steps.Reset t word s.view (can_reset s r h is stake budget below ref) in
+    let rs = s.registers in
+    let inside : r < length rs = let n = is.handles.count in omega arith in
+    stock_with s w (slice_set rs r Cleared) is
+    (record {
+      count = length-set rs r Cleared ∙ is.handles.count;
+      owns = λ u. let a = leaves.owns u in let b = is.handles.owns u in let c = sum_set (owns_one u) rs r Cleared Empty inside in
+          let d : owns_one u (register_in rs r) ≡ 0 = ap (owns_one u) ref in omega arith;
+      refs = λ u. let a = leaves.refs u in let b = is.handles.refs u in let c = sum_set (refs_one u) rs r Cleared Empty inside in
+          let d : refs_one u (register_in rs r) ≡ one (same_title t u) = ap (refs_one u) ref in omega arith;
+      clean = is.handles.clean;
+      made = made_set w rs r Cleared inside tt (λ k. made_for_kept s.view w refl (register_in rs k) (is.handles.made k));
+    })
+    refl (λ u. let a = leaves.frees u in omega arith) leaves.entry.stakes
+
+pub reset_row : (q : Register) (h : Handle) (seen : Seen) (regs : Regs) (r : ℕ) (after : Regs) → q ≡ Ref h → seen.slot ≡ name_of h.title → Becomes after (with regs r reg.Cleared) →
+    ResetRow (as_reg q) regs r (answers.Done seen) after
+reset_row q h seen regs r after ref slot becomes = subst (λ x. ResetRow (as_reg x) regs r (answers.Done seen) after) (sym ref) (seen, slot, refl, becomes)
+
+-- The op does what it should where the step doesn't return the slot.
+pub cleared_does : CountLeaves → (s : StockValue) (r word : ℕ) (h : Handle) → IsStock s → IsAware s.view → HasItsStake s → 0 < s.view.budget → r < 64 →
+    register_in s.registers r ≡ Ref h → IsFound h.title word s.view → (IsReturning steps.Reset word → ⊥) → (line : ℕ) →
+    DoesOp line (ops.Reset r) (answers.Done (seen_at h word)) s (cleared s h r word)
+cleared_does counts s r word h is aware stake budget below ref found stays =
+    let t = h.title in
+    let w = after_count steps.Reset t word s.view in
+    let knows = register_has s r h is below (inr ref) in
+    let inside : r < length s.registers = let n = is.handles.count in omega arith in
+    quiet_does s w (slice_set s.registers r Cleared) (ops.Reset r) (answers.Done (seen_at h word)) (Counted t steps.Reset word 0 ∷ []) is.lists
+    (touched_count counts s.thread steps.Reset t word s.view refl (can_reset s r h is stake budget below ref) found (least_is s.thread s.view is.stake stake).0 (user_not_free s.view t aware knows.0))
+    (record { room = λ j e. cc; cells = λ list x none. none })
+    (λ line phase o run sees none same.
+    let slot = slot_in_run o w h run sees (made_kept h s.view w refl knows.1) in
+    record {
+      told = ([], tt, ap (λ u. Counted u steps.Reset word 0 ∷ []) (sym slot.title));
+      row = reset_row (register_in s.registers r) h (seen_at h word) (regs_of s.registers) r (regs_of (slice_set s.registers r Cleared)) ref refl
+          (λ k. regs_set s.registers r Cleared k inside);
+      lists = inr (stays, none, same);
+      reader = tt;
+      home = λ m e. (h.partition, home_of o h.partition (mark_at line (seen_at h word) (Some steps.Reset)) m e slot.size);
+    })
+
+-- the same by what the call says
+pub reset_kept : CountLeaves → (s after : StockValue) (r : ℕ) (h : Handle) (seen : Seen) → IsStock s → IsAware s.view → HasItsStake s → 0 < s.view.budget → r < 64 →
+    register_in s.registers r ≡ Ref h → LetsGo steps.Reset h r Cleared s.view seen s after → (IsReturning steps.Reset seen.found.0 → ⊥) → (line : ℕ) →
+    DoesOp line (ops.Reset r) (answers.Done seen) s after
+reset_kept counts s after r h seen is aware stake budget below ref gone stays line =
+    let e : seen ≡ seen_at h seen.found.0 = ap (λ n. record seen { slot = n }) gone.slot in
+    subst (λ x. DoesOp line (ops.Reset r) (answers.Done x) s after) (sym e)
+    (subst (DoesOp line (ops.Reset r) (answers.Done (seen_at h seen.found.0)) s) (sym gone.after_is)
+    (cleared_does counts s r seen.found.0 h is aware stake budget below ref gone.found stays line))
+
+-- a fate isn't both
+pub not_last : (fate : Fate) → fate ≡ Last → fate ≡ Kept → ⊥
+not_last fate last kept = no (sym last ∙ kept)
+  where
+    no : Last ≡ Kept → ⊥
+    no e = cc

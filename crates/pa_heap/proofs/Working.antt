@@ -1,0 +1,40 @@
+-- A worker's op: the record, and what the op did with its stock.
+use Rattle.std.proofs.Common.{◌≡◌, ℕ, ◌<◌, Bool, List, [], ◌∷◌, ◌++◌, length, refl, sym, ◌∙◌, ap, subst, arith}
+use Rattle.std.proofs.lemmas.List.{length-append}
+use Rattle.pa_trace.specs.declared.script.Op.{Op}
+use Rattle.pa_record.specs.declared.entry.Answer.{Answer}
+use Rattle.pa_record.specs.declared.entry.Entry.{Entry}
+use Rattle.pa_region.specs.Views.{stake_of}
+use Rattle.pa_rules.specs.Played.{entry_of}
+use Rattle.pa_heap.specs.Stocks.{StockValue}
+use Rattle.pa_heap.specs.Workers.{WorkerValue, CanPlayOp, KeepsOn}
+use Rattle.pa_heap.specs.Plays.{DoesOp, PlaysOp}
+
+pub plays_op : (line : ℕ) (op : Op) (answer : Answer) (before after : WorkerValue) →
+    after.records ≡ before.records ++ record { line = line; thread = before.stock.thread; answer = answer } ∷ [] →
+    DoesOp line op answer before.stock after.stock → PlaysOp line op answer before after
+plays_op line op answer before after records does phase =
+    let (x, is, done) = does phase in
+    (x, is, record { records = records ∙ ap (λ p. before.records ++ entry_of p ∷ []) (sym is); does = done })
+
+-- The same by what the calls leave: the stock, and the records with one more.
+pub worker_plays : (line : ℕ) (op : Op) (answer : Answer) (w : WorkerValue) (after : StockValue) (records : List Entry) (thread room : ℕ) (stopped : Bool) →
+    records ≡ w.records ++ record { line = line; thread = thread; answer = answer } ∷ [] → thread ≡ after.thread → DoesOp line op answer w.stock after →
+    PlaysOp line op answer w (record { stock = after; records = records; room = room; stopped = stopped })
+worker_plays line op answer w after records thread room stopped items at does =
+    let (x, is, done) = does 0 in
+    plays_op line op answer w (record { stock = after; records = records; room = room; stopped = stopped })
+    (items ∙ ap (λ k. w.records ++ record { line = line; thread = k; answer = answer } ∷ []) (at ∙ done.same.0)) does
+
+-- and it goes on
+pub worker_goes_on : (line : ℕ) (op : Op) (answer : Answer) (w : WorkerValue) (after : StockValue) (records : List Entry) (e : Entry) → records ≡ w.records ++ e ∷ [] → CanPlayOp w →
+    DoesOp line op answer w.stock after →
+    KeepsOn w (record { stock = after; records = records; room = w.room; stopped = w.stopped })
+worker_goes_on line op answer w after records e items can does =
+    let (x, is, done) = does 0 in
+    record {
+      going = can.going;
+      stake = subst (λ k. 0 < stake_of after.view k) (sym done.same.0) (let e = done.stakes w.stock.thread in let h = can.stake in omega arith);
+      count = ap length items ∙ length-append w.records (e ∷ []);
+      room = refl;
+    }

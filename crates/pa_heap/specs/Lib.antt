@@ -1,0 +1,9 @@
+pub mod Stocks
+pub mod Workers
+pub mod Outcomes
+pub mod Entering
+pub mod Plays
+pub mod Changes
+pub mod Following
+pub mod Starts
+pub mod Exchanging

@@ -1,0 +1,101 @@
+//! What a root does with a direct map that comes back, by steps on seats.
+ghost use Rattle.std.specs.Prelude.{◌≡◌, ℕ, ◌+◌, ◌≤◌, [], ◌∷◌};
+ghost use Rattle.pa_layout.specs.Pages.{super_page_at, supers_for, page_place};
+ghost use Rattle.pa_region.specs.Views.{least_stake};
+ghost use Rattle.pa_region.specs.Aware.{IsAware};
+ghost use Rattle.pa_region.specs.Hands.{CanHand, left_after, given_after};
+ghost use Rattle.pa_region.specs.Lending.{CanLend, CanHost};
+ghost use Rattle.pa_pool.specs.Calls.{ComesBack, run_parcel};
+ghost use Rattle.pa_root.specs.Handing.{HasOnly};
+ghost use Rattle.pa_root.specs.BringingBack.{IsTitleBack, IsGivenFor};
+
+use crate::lends::{show_seen, uncut_with};
+use crate::numbers::number_seen;
+use pa_layout::{PARTITION_PAGE, SUPER_PAGE, supers_for};
+use pa_machine::{Item, Title};
+use pa_pool::Pool;
+use pa_region::{Mark, Name, Note, Region, Seat};
+
+// Shows the seat what the root's has seen, takes in the note, and makes its title raw again with the seat's least stake. It answers
+// the title's number.
+pub(crate) fn take_title(
+    region: &Region,
+    seat: &mut Seat,
+    root: &mut Seat,
+    note: Note,
+    title: Title,
+) -> u64
+    requires regions { (seat.old.region ≡ region.now) × (root.old.region ≡ region.now) × (note.region ≡ region.now) }
+    requires lender { CanLend seat.old.view }
+    requires host { CanHost root.old.view }
+    requires has { HasOnly (title ∷ []) note.view }
+    ensures regions { (seat.new.region ≡ seat.old.region) × (root.new.region ≡ root.old.region) }
+    ensures again { CanLend seat.new.view }
+    ensures back { IsTitleBack (least_stake seat.old.view.stakes) title result
+        seat.old.view seat.new.view root.old.view root.new.view note.view }
+    ensures aware { IsAware root.new.view }
+{
+    show_seen(region, root, seat);
+    root.aware();
+    note.aware();
+    region.take(root, note);
+    root.aware();
+    root.placed(title);
+    let number = number_seen(region, root, title);
+    uncut_with(region, seat, root, title);
+    root.aware();
+    number
+}
+
+// Hands over the super pages of a direct map whose title was made raw again, as raw bytes, with the lease of the entry of the pool
+// that took them.
+pub(crate) fn hand_map(region: &Region, seat: &mut Seat, title: Title) -> Note
+    requires region { seat.old.region ≡ region.now }
+    requires stands { title.start ≡ page_place (super_page_at title.start) 1 }
+    requires inside { title.start + title.len ≤ 33554432 }
+    requires able { CanHand (run_parcel (super_page_at title.start) (supers_for title.len) title.born) seat.old.view }
+    ensures regions { (seat.new.region ≡ seat.old.region) × (result.region ≡ seat.old.region) }
+    ensures left { seat.new.view ≡ left_after (run_parcel (super_page_at title.start) (supers_for title.len) title.born) seat.old.view }
+    ensures given { result.view ≡ given_after (run_parcel (super_page_at title.start) (supers_for title.len) title.born) seat.old.view }
+    ensures aware { IsAware seat.new.view }
+{
+    let run = Item::Raw {
+        start: title.start - PARTITION_PAGE,
+        len: SUPER_PAGE * supers_for(title.len),
+    };
+    let note = region.hand(seat, &[run], 0, &[Mark::Lease(title.born)]);
+    seat.aware();
+    note
+}
+
+// Gives super pages back to the pool, which its entry `taken` took for the partition, by the op of a line with the seat's least stake;
+// and shows the root's seat the new entry, whose index it answers.
+pub(crate) fn give_run<N: Name>(
+    region: &Region,
+    seat: &mut Seat,
+    root: &mut Seat,
+    pool: &mut Pool<N>,
+    line: u32,
+    partition: u32,
+    taken: u32,
+    run: Note,
+) -> u32
+    requires regions { (region.now ≡ N.region) × (seat.old.region ≡ N.region) × (root.old.region ≡ N.region) × (run.region ≡ N.region) }
+    requires lender { CanLend seat.old.view }
+    requires spare { 1 ≤ pool.old.spare }
+    requires back { (first count : ℕ) × ComesBack partition taken first count seat.old.view run.view }
+    ensures regions { (seat.new.region ≡ N.region) × (root.new.region ≡ N.region) }
+    ensures again { CanLend seat.new.view }
+    ensures gave { (first count : ℕ) → ComesBack partition taken first count seat.old.view run.view →
+        IsGivenFor (least_stake seat.old.view.stakes) line partition first count result
+        seat.old.view seat.new.view root.old.view root.new.view }
+{
+    seat.aware();
+    pool.kept();
+    let Ok(index) = pool.give(region, seat, line, partition, taken, run) else {
+        unreachable!()
+    };
+    seat.aware();
+    show_seen(region, seat, root);
+    index
+}

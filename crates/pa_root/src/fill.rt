@@ -1,0 +1,180 @@
+//! Fills: slots of a class go out, each at its number.
+ghost use Rattle.std.specs.Prelude.{◌≡◌, ℕ, ◌+◌, ◌<◌, ◌≤◌, ◌^◌, [], length, true, Some, Option, IfOk, IfErr, OnOk, OnErr};
+ghost use Rattle.std.specs.Vec.{vec_capacity};
+ghost use Rattle.pa_buckets.specs.Bands.{fill_of};
+ghost use Rattle.pa_region.specs.Views.{least_stake};
+ghost use Rattle.pa_region.specs.Aware.{IsAware};
+ghost use Rattle.pa_region.specs.Lending.{CanLend};
+ghost use Rattle.pa_place.specs.Roomy.{HasTakes};
+ghost use Rattle.pa_root.specs.Keeping.{RootState, IsRootSound};
+ghost use Rattle.pa_root.specs.Filling.{IsReadyFor, ready_root};
+ghost use Rattle.pa_root.specs.Steps.{root_of_parts, IsOpenedFor, IsTakenOut};
+ghost use Rattle.pa_root.specs.Telling.{FillTells, NoneGiven};
+
+use crate::append::{append, make_room};
+use crate::fault::FillFault;
+use crate::numbers::numbers_seen;
+use crate::room::ask_room;
+use crate::root::Root;
+use crate::slots::{cut_rows, free_items};
+use arrayvec::ArrayVec;
+use pa_buckets::{Class, fill_count};
+use pa_machine::Title;
+use pa_place::PlainRoot;
+use pa_pool::Pool;
+use pa_record::{Batch, RootAct, RootEntry};
+use pa_region::{Name, Note, Region, Seat};
+use std::sync::{Mutex, Wait};
+
+impl<N: Name, const P: u32> Root<N, P> {
+    /// Hands out as many free slots of the class as a thread asks for at once, or fewer where there aren't so many, but at
+    /// least one, as an op of the line asks. The pool is asked for a super page where no span has a slot of the class left and
+    /// the current super page has no room for one. The note has the titles free, and nothing else. Where there is no
+    /// slot, the journal says so. After want of memory nothing changed. The room for one entry is all that it takes of
+    /// memory for the journal.
+    pub fn fill<R: Wait>(
+        &mut self,
+        rt: &R,
+        region: &Region,
+        seat: &mut Seat,
+        pool: &Mutex<Pool<N>>,
+        line: u32,
+        class: Class,
+    ) -> Result<(Note, ArrayVec<Title, 16>), FillFault>
+        requires regions { (region.now ≡ N.region) × (seat.old.region ≡ N.region) }
+        requires lender { CanLend seat.old.view }
+        ensures region { seat.new.region ≡ N.region }
+        ensures again { CanLend seat.new.view }
+        ensures note { IfOk result (λ a. a.0.region ≡ N.region) }
+        ensures gave { IfOk result (λ a. FillTells (least_stake seat.old.view.stakes) P line class
+            seat.old.view seat.new.view a.0.view a.1.items self.old self.new) }
+        ensures none { IfErr result
+            (NoneGiven (least_stake seat.old.view.stakes) P line 1 (Some class) seat.old seat.new self.old self.new) }
+    {
+        let want = fill_count(class);
+        self.placement.ready(class, want)?;
+        make_room(&mut self.journal)?;
+        let asked = open_page(
+            rt,
+            region,
+            seat,
+            &mut self.seat,
+            &mut self.placement,
+            &mut self.journal,
+            pool,
+            line,
+            P,
+            class,
+        )?;
+        let (note, titles, slots) = take_out(
+            region,
+            &mut self.seat,
+            &mut self.placement,
+            class,
+            want,
+        );
+        let entry = RootEntry {
+            line,
+            act: RootAct::Fill {
+                class,
+                pool: asked,
+                slots,
+            },
+        };
+        append(region, seat, &mut self.seat, P, &mut self.journal, entry);
+        Ok((note, titles))
+    }
+}
+
+// Makes a root ready for a fill of the class: where it has to ask the pool, it opens the super page that the pool gave, whose
+// entry is answered. Where the pool has none, the journal, which has room for an entry, says so.
+fn open_page<N: Name, R: Wait>(
+    rt: &R,
+    region: &Region,
+    seat: &mut Seat,
+    own: &mut Seat,
+    placement: &mut PlainRoot,
+    journal: &mut Vec<RootEntry>,
+    pool: &Mutex<Pool<N>>,
+    line: u32,
+    partition: u32,
+    class: Class,
+) -> Result<Option<u32>, FillFault>
+    requires regions { (region.now ≡ N.region) × (seat.old.region ≡ N.region) × (own.old.region ≡ N.region) }
+    requires lender { CanLend seat.old.view }
+    requires sound { IsRootSound partition (root_of_parts own.old.view journal.old.items placement.old.root) }
+    requires page { placement.old.room.super_page ≡ true }
+    requires room { length journal.old.items < vec_capacity journal.old }
+    requires few { length journal.old.items < 2147483647 }
+    ensures regions { (seat.new.region ≡ N.region) × (own.new.region ≡ N.region) }
+    ensures again { CanLend seat.new.view }
+    ensures journal { OnOk result (journal.new ≡ journal.old) }
+    ensures takes { (want : ℕ) → HasTakes class want placement.old.room → HasTakes class want placement.new.room }
+    ensures opened { IfOk result (λ asked. IsOpenedFor (least_stake seat.old.view.stakes) partition line class asked
+        (root_of_parts own.old.view journal.old.items placement.old.root) seat.old.view seat.new.view own.new.view placement.new.root) }
+    ensures none { IfErr result (NoneGiven (least_stake seat.old.view.stakes) partition line 1 (Some class) seat.old seat.new
+        (root_of_parts own.old.view journal.old.items placement.old.root)
+        (root_of_parts own.new.view journal.new.items placement.new.root)) }
+    ensures sound { OnErr result (IsRootSound partition (root_of_parts own.new.view journal.new.items placement.new.root)) }
+{
+    own.aware();
+    if !placement.asks(class) {
+        return Ok(None);
+    }
+    let room = ask_room(
+        rt,
+        region,
+        seat,
+        own,
+        journal,
+        pool,
+        line,
+        partition,
+        Some(class),
+        1,
+    );
+    let (asked, first, note) = match room {
+        Ok(found) => found,
+        Err(fault) => return Err(fault),
+    };
+    own.aware();
+    note.aware();
+    region.take(own, note);
+    own.aware();
+    placement.open(first, asked);
+    Ok(Some(asked))
+}
+
+// Takes slots of the class from a root that is ready for a fill, cuts those that are new, and hands all of them over in a note.
+// It answers the titles too, and the slots with the numbers at which they go.
+fn take_out(
+    region: &Region,
+    own: &mut Seat,
+    placement: &mut PlainRoot,
+    class: Class,
+    want: u32,
+) -> (Note, ArrayVec<Title, 16>, Batch)
+    requires region { own.old.region ≡ region.now }
+    requires want { want ≡ fill_of class }
+    requires room { HasTakes class want placement.old.room }
+    requires turn { placement.old.root.turn < 2 ^ 62 }
+    requires ready { (p : ℕ) × (asked : Option ℕ) × (s : RootState) × IsReadyFor p class asked s own.old.view
+        × (placement.old.root ≡ ready_root asked s own.old.view) }
+    ensures regions { (own.new.region ≡ own.old.region) × (result.0.region ≡ own.old.region) }
+    ensures aware { IsAware own.new.view }
+    ensures turn { placement.new.root.turn ≤ placement.old.root.turn + 32 }
+    ensures out { (p : ℕ) (asked : Option ℕ) (s : RootState) → IsReadyFor p class asked s own.old.view →
+        placement.old.root ≡ ready_root asked s own.old.view →
+        IsTakenOut p class asked s own.old.view own.new.view result.0.view result.1.items result.2 placement.new.root }
+{
+    placement.is_sound();
+    let given = placement.take(class, want);
+    placement.is_sound();
+    cut_rows(region, own, given.made.as_slice());
+    own.aware();
+    let slots = numbers_seen(region, own, given.titles.as_slice());
+    let items = free_items(given.titles.as_slice());
+    let note = region.hand(own, &items[..given.titles.len()], 0, &[]);
+    own.aware();
+    (note, given.titles, slots)
+}
