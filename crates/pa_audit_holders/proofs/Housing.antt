@@ -19,7 +19,7 @@ use Rattle.pa_audit_records.proofs.Putting.{same_key}
 use Rattle.pa_audit_holders.specs.declared.homes.Home.{Home}
 use Rattle.pa_audit_holders.specs.Homes.{KnowsHomes, EntersSlots, HasHomes, IsHomeless, IsHomeOf}
 
-apart_test : (k q : ℕ) → (k ≡ q → ⊥) → is_eq (nat_cmp k q) ≡ false
+pub apart_test : (k q : ℕ) → (k ≡ q → ⊥) → is_eq (nat_cmp k q) ≡ false
 apart_test k q apart = elim (cases_order k q) [
   | inl same ↦ absurd (apart same)
   | inr (inl less) ↦ ap is_eq (sym (nat_cmp_is k q Less less))

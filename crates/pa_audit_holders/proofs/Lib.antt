@@ -7,3 +7,10 @@ pub mod Acting
 pub mod Purging
 pub mod Leading
 pub mod Homed
+pub mod Owning
+pub mod Threading
+pub mod Moving
+pub mod Going
+pub mod Tabling
+pub mod Holding
+pub mod Placing

@@ -6,15 +6,24 @@ mod acts;
 mod asks;
 mod caches;
 mod gives;
+mod gone;
+mod held;
+mod holders;
+#[cfg(test)]
+mod holders_tests;
 mod homes;
 mod laws;
 mod lines;
 mod lists;
+mod moves;
+mod owners;
 mod purges;
 mod returns;
 mod rows;
+mod tables;
 #[cfg(test)]
 mod tests;
 
 pub use caches::caches_meet;
+pub use holders::holders_meet;
 pub use laws::one_home;

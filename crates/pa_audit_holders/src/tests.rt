@@ -65,7 +65,7 @@ fn is_within(found: Played) -> bool
 }
 
 // Whether each journal has less than 1,000 entries.
-fn are_short(roots: &[Journal]) -> bool
+pub(crate) fn are_short(roots: &[Journal]) -> bool
     ensures { IsTrue result → (p : ℕ) → length (journal_at roots.now p) < 4294967296 }
 {
     for journal in roots {
@@ -163,7 +163,7 @@ fn name(start: u32, born: u32) -> SlotName {
     SlotName { start, born }
 }
 
-fn numbered(start: u32, born: u32, number: u64) -> Numbered {
+pub(crate) fn numbered(start: u32, born: u32, number: u64) -> Numbered {
     let slot = name(start, born);
     Numbered { slot, number }
 }
@@ -185,7 +185,7 @@ fn record(line: u32, op: Op, answer: Answer) -> Played {
     }
 }
 
-fn alloc_of(size: u32) -> Op {
+pub(crate) fn alloc_of(size: u32) -> Op {
     let reg = 0;
     let partition = 0;
     Op::Alloc {
@@ -195,27 +195,27 @@ fn alloc_of(size: u32) -> Op {
     }
 }
 
-fn made(start: u32, born: u32, word: u64) -> Answer {
+pub(crate) fn made(start: u32, born: u32, word: u64) -> Answer {
     let seen = seen(start, born, word);
     let usable = 8;
     Answer::Made { seen, usable }
 }
 
-fn done(start: u32, born: u32, word: u64) -> Answer {
+pub(crate) fn done(start: u32, born: u32, word: u64) -> Answer {
     let seen = seen(start, born, word);
     Answer::Done { seen }
 }
 
-const FREE: Op = Op::Free { reg: 0 };
+pub(crate) const FREE: Op = Op::Free { reg: 0 };
 
-fn fill(line: u32, class: Class, pool: Option<u32>, slots: Batch) -> RootEntry {
+pub(crate) fn fill(line: u32, class: Class, pool: Option<u32>, slots: Batch) -> RootEntry {
     RootEntry {
         line,
         act: RootAct::Fill { class, pool, slots },
     }
 }
 
-fn give(line: u32, slots: Batch) -> RootEntry {
+pub(crate) fn give(line: u32, slots: Batch) -> RootEntry {
     RootEntry {
         line,
         act: RootAct::Give { slots },
@@ -230,7 +230,7 @@ fn purge(line: u32) -> RootEntry {
 }
 
 // Eight slots of 16 bytes, the first at this number, the second starts there.
-fn row(number: u64, second: u32) -> Batch {
+pub(crate) fn row(number: u64, second: u32) -> Batch {
     let mut batch = Batch::new();
     batch.push(numbered(0x4000, 0, number));
     batch.push(numbered(second, 0, 0));
@@ -322,7 +322,7 @@ fn an_entry_too_many(rt: HostRuntime) -> Result<(), Fail> {
 }
 
 // One slot, at this number.
-fn single(number: u64) -> Batch {
+pub(crate) fn single(number: u64) -> Batch {
     let mut batch = Batch::new();
     batch.push(numbered(0x4000, 0, number));
     batch

@@ -74,7 +74,13 @@ module _ {X : Type 0} where
   pairs_head : (R : X → X → Type 0) (x : X) (xs : List X) → AllPairs R (x ∷ xs) → All (R x) xs
   pairs_head R x xs all = λ k d within. all 0 (suc k) d (omega arith) (omega arith)
 
-  pairs_drop : (R : X → X → Type 0) (n : ℕ) (xs : List X) → AllPairs R xs → AllPairs R (drop n xs)
+  pub pairs_take : (R : X → X → Type 0) (n : ℕ) (xs : List X) → AllPairs R xs → AllPairs R (take n xs)
+  pairs_take R zero xs all = λ i j d less within. absurd (omega arith)
+  pairs_take R (suc n) [] all = all
+  pairs_take R (suc n) (x ∷ xs) all =
+      AllPairs-cons R x (take n xs) (All-take (R x) n xs (pairs_head R x xs all)) (pairs_take R n xs (pairs_tail R x xs all))
+
+  pub pairs_drop : (R : X → X → Type 0) (n : ℕ) (xs : List X) → AllPairs R xs → AllPairs R (drop n xs)
   pairs_drop R zero xs all = all
   pairs_drop R (suc n) [] all = all
   pairs_drop R (suc n) (x ∷ xs) all = pairs_drop R n xs (pairs_tail R x xs all)

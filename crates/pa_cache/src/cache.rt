@@ -148,6 +148,35 @@ impl Cache {
         seat.aware();
         take_batch(&mut self.titles, keep as usize)
     }
+
+    /// The titles after the first `keep`, in order, at most 16. They stay in the cache.
+    pub fn batch(&self, keep: u32) -> ArrayVec<Title, 16>
+        ensures batch { result.items ≡ batch_after keep self.now.titles }
+        ensures different { AllPairs ◌≢◌ result.items }
+    {
+        batch_of(&self.titles, keep)
+    }
+
+    /// Takes those titles off the list, whoever holds them by now.
+    pub fn cut(&mut self, keep: u32)
+        ensures class { self.new.class ≡ self.old.class }
+        ensures rest { self.new.titles ≡ rest_after keep self.old.titles }
+    {
+        let _ = take_batch(&mut self.titles, keep as usize);
+    }
+}
+
+// The titles after the first `keep` of the list, at most 16.
+fn batch_of(list: &VecDeque<Title>, keep: u32) -> ArrayVec<Title, 16>
+    ensures { result.items ≡ batch_after keep list.now.items }
+{
+    let mut batch = ArrayVec::new();
+    for place in 0..BATCH {
+        if let Some(title) = list.get(keep as usize + place) {
+            batch.push(*title);
+        }
+    }
+    batch
 }
 
 // Puts the titles behind those of the list, which has room for them.

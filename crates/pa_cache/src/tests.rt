@@ -83,6 +83,13 @@ fn sixty_five_slots_spill_16_16_and_1(rt: HostRuntime) -> Result<(), Fail> {
         cache.pop(&region, &mut seat).map(|title| title.start),
         Some(0x43f0)
     );
+    let behind = cache.batch(20);
+    assert_eq!(rt; behind.len(), 10);
+    assert!(rt; go_down_from(0x42a0, behind.as_slice()));
+    assert_eq!(rt; cache.len(), 30);
+    cache.cut(4);
+    assert_eq!(rt; cache.len(), 14);
+    assert!(rt; go_down_from(0x42a0, cache.batch(4).as_slice()));
     Ok(())
 }
 

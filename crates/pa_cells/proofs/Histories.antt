@@ -13,8 +13,9 @@ use Rattle.pa_region.specs.declared.view.Made.{Made}
 use Rattle.pa_region.specs.declared.view.View.{View}
 use Rattle.pa_region.specs.Lists.{list_of}
 use Rattle.pa_region.specs.Lending.{HostsKeeper}
+use Rattle.pa_rules.specs.Cells.{IsChain}
 use Rattle.pa_cells.specs.Handles.{ParkedHandle, held_as}
-use Rattle.pa_cells.specs.Cells.{Exchange, exchange_numbers, is_with_cell, entries_with, made_with_cell, cell_history, cell_holds, held_after, FindGiven, AreExchanges, CellsHeld, IsCells}
+use Rattle.pa_cells.specs.Cells.{Exchange, exchange_numbers, is_with_cell, entries_with, made_with_cell, cell_history, cell_holds, held_after, AreExchanges, CellsHeld, IsCells}
 
 -- where one member of a list is set
 pub set_at : {A : Type 0} (xs : List A) (c k : ℕ) (y d : A) → c < length xs → slice_index_or (slice_set xs c y) k d ≡ (if c == k then y else slice_index_or xs k d)
@@ -65,7 +66,7 @@ exchanged_more list hs xs c e m within says h = record {
     go k false is = h.cells k
 
 -- one more entry finds what was given, and what the cell has then is what it gave
-pub find_more : (held : Held) (es : List CellEntry) (e : CellEntry) → FindGiven held es → e.found ≡ held_after held es → FindGiven held (es ++ e ∷ [])
+pub find_more : (held : Held) (es : List CellEntry) (e : CellEntry) → IsChain held es → e.found ≡ held_after held es → IsChain held (es ++ e ∷ [])
 find_more held [] e h f = (f, tt)
 find_more held (d ∷ es) e h f = (h.0, find_more d.gave es e h.1 f)
 
@@ -130,7 +131,7 @@ cells_more old w hs ps line c given gave found m small h room hosts list says is
         subst (λ (l : List Made). AreExchanges l (slice_set old.histories c h') (h.exchanged.0 ++ record { cell = c; entry = e } ∷ [])) (sym list)
             (exchanged_more (list_of 5 old.view) old.histories h.exchanged.0 c e m within says h.exchanged.1),
       );
-      chain = λ k. each_set (λ (es : List CellEntry). FindGiven Nothing es) old.histories c k h' [] within
+      chain = λ k. each_set (λ (es : List CellEntry). IsChain Nothing es) old.histories c k h' [] within
           (find_more Nothing (cell_history old.histories c) e (h.chain c) (is_found ∙ h.holds c)) (h.chain k);
       holds = λ k. both_set (λ (o : Option ParkedHandle) (es : List CellEntry). held_as o ≡ held_after Nothing es) old.parked old.histories c k given None h' [] inside within
           (sym is_gave ∙ sym (after_more Nothing (cell_history old.histories c) e)) (h.holds k);

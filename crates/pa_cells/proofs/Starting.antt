@@ -7,8 +7,9 @@ use Rattle.pa_region.specs.declared.view.Made.{Made}
 use Rattle.pa_region.specs.declared.view.View.{View}
 use Rattle.pa_region.specs.Lists.{list_of}
 use Rattle.pa_region.specs.Lending.{HostsKeeper}
+use Rattle.pa_rules.specs.Cells.{IsChain}
 use Rattle.pa_cells.specs.Handles.{ParkedHandle, held_as}
-use Rattle.pa_cells.specs.Cells.{AreExchanges, FindGiven, held_after, cell_history, IsCells, empty_cells}
+use Rattle.pa_cells.specs.Cells.{AreExchanges, held_after, cell_history, IsCells, empty_cells}
 
 -- each member of a list that has one value is it, and so is what lies behind its end
 pub always : {A : Type 0} (n k : ℕ) (y : A) → slice_index_or (replicate n y) k y ≡ y
@@ -25,7 +26,7 @@ starts v hosts empty =
       held = length-replicate {A = Option ParkedHandle} 64 None;
       host = hosts;
       exchanged = ([], subst (λ (l : List Made). AreExchanges l (replicate 64 []) []) (sym empty) (record { numbers = refl; cells = histories }));
-      chain = λ k. subst (λ (es : List CellEntry). FindGiven Nothing es) (sym (histories k)) tt;
+      chain = λ k. subst (λ (es : List CellEntry). IsChain Nothing es) (sym (histories k)) tt;
       holds = λ k. ap held_as (always 64 k None) ∙ sym (ap (λ (es : List CellEntry). held_after Nothing es) (histories k));
       few = λ k. let e = ap length (histories k) in omega arith;
     }

@@ -11,6 +11,7 @@ use Rattle.pa_region.specs.declared.view.View.{View}
 use Rattle.pa_region.specs.Views.{least_stake}
 use Rattle.pa_region.specs.Lists.{list_of}
 use Rattle.pa_region.specs.Lending.{HostsKeeper, IsNoted}
+use Rattle.pa_rules.specs.Cells.{IsChain}
 use Rattle.pa_cells.specs.Handles.{ParkedHandle, held_as}
 
 -- one exchange: the number of its cell, and its entry in the cell's history
@@ -60,11 +61,6 @@ abbrev pub held_after : Held → List CellEntry → Held
 held_after held [] = held
 held_after held (e ∷ es) = held_after e.gave es
 
--- each exchange found what the one before it gave, the first one what the cell had
-abbrev pub FindGiven : Held → List CellEntry → Type 0
-FindGiven held [] = Unit {0}
-FindGiven held (e ∷ es) = (e.found ≡ held) × FindGiven e.gave es
-
 -- The list is that of these exchanges, in numbers, and the history of each cell is its own among them.
 pub record AreExchanges (list : List Made) (histories : List (List CellEntry)) (xs : List Exchange) : Type 0 where
   pub numbers : map (λ (m : Made). m.numbers) list ≡ map exchange_numbers xs
@@ -82,7 +78,7 @@ pub record IsCells (c : CellsHeld) : Type 0 where
   pub held : length c.parked ≡ 64
   pub host : HostsKeeper 5 c.view
   pub exchanged : (xs : List Exchange) × AreExchanges (list_of 5 c.view) c.histories xs
-  pub chain : (k : ℕ) → FindGiven Nothing (cell_history c.histories k)
+  pub chain : (k : ℕ) → IsChain Nothing (cell_history c.histories k)
   pub holds : (k : ℕ) → held_as (cell_holds c.parked k) ≡ held_after Nothing (cell_history c.histories k)
   pub few : (k : ℕ) → length (cell_history c.histories k) ≤ 2147483647
 

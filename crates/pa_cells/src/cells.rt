@@ -70,6 +70,7 @@ impl<N: Name> Cells<N> {
         ensures cells { IsCells self.now }
         ensures notes { AreOf N.region self.now.parked }
     {
+        // Naming the seat hands the proof what its type keeps.
         let _ = &self.seat;
     }
 

@@ -39,6 +39,7 @@ impl Parked {
     pub fn kept(&self)
         ensures { IsParked self.now }
     {
+        // Naming the note hands the proof what its type keeps.
         let _ = &self.note;
     }
 }

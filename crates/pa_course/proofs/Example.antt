@@ -18,14 +18,17 @@ use Rattle.pa_region.proofs.Opens.{opens}
 use Rattle.pa_rules.specs.Caches.{NoActs}
 use Rattle.pa_told.specs.Said.{IsLineSaid, LayersSay}
 use Rattle.pa_told.proofs.Said.{layers_tell_all}
+use Rattle.pa_heap.specs.Counts.{CountsBy}
 use Rattle.pa_heap.specs.Stocks.{titles_in}
 use Rattle.pa_heap.specs.Outcomes.{Outcome, FitsRun}
 use Rattle.pa_heap.specs.Plays.{Does, PlaysAll}
 use Rattle.pa_course.specs.Courses.{IsCourse, Closes, HasSeenAll, HasHeardAll, Hears, BeginsNew, lines_in}
 use Rattle.pa_course.specs.Merged.{told_in, lists_at, IsLeftBehind}
 use Rattle.pa_course.specs.Telling.{IsWholeRun}
+use Rattle.pa_course.specs.Lines.{IsLineBy}
 use Rattle.pa_course.specs.Example.{small_trace, small_view, small_stock, small_worker, small_line, small_record, small_before, small_until, small_seat, small_course, small_report, small_told, SmallCourseFits}
 use Rattle.pa_course.proofs.Keepers.{courses_tell_all}
+use Rattle.pa_course.proofs.Lining.{courses_tell_lines}
 use Rattle.pa_course.proofs.Playing.{sees_itself}
 
 -- ---- an op that does nothing
@@ -63,6 +66,7 @@ does n = record {
     uncuts = λ u among. absurd (not_in_none _ among);
     cells = refl;
   };
+  homes = λ p past low. inl refl;
   answers = λ o fits. record {
     told = refl;
     row = (refl, λ k. refl);
@@ -72,6 +76,15 @@ does n = record {
     makes = λ p m e low among. absurd (not_in_none m among);
     home = λ m is. absurd cc;
   };
+}
+
+-- it counts nothing
+no_counts : (o : Outcome) (n : ℕ) → CountsBy o.homes o.sizes ((small_record n).played ∷ []) [] []
+no_counts o n = record {
+  issued = λ p low. record { slots = refl; bytes = refl };
+  freed = λ p low. record { slots = refl; bytes = refl };
+  entered = λ p low. record { slots = refl; bytes = refl };
+  left = λ p low. record { slots = refl; bytes = refl };
 }
 
 -- ---- the seats
@@ -115,14 +128,15 @@ begins = record {
     records = refl;
     room = refl;
     going = refl;
+    counts = λ p. refl;
   };
   log = refl;
 }
 
 plays : (n : ℕ) → 1 ≤ n → n ≤ 2 → PlaysAll (small_worker (small_before n)) (small_record n ∷ []) (small_worker (small_until n))
 plays = two_phases (λ n. PlaysAll (small_worker (small_before n)) (small_record n ∷ []) (small_worker (small_until n)))
-    (small_worker (small_until 1), record { records = refl; does = does 1 }, refl)
-    (small_worker (small_until 2), record { records = refl; does = does 2 }, refl)
+    (small_worker (small_until 1), record { records = refl; does = does 1; counts = λ o fits. no_counts o 1 }, refl)
+    (small_worker (small_until 2), record { records = refl; does = does 2; counts = λ o fits. no_counts o 2 }, refl)
 
 lines : (n k : ℕ) → 1 ≤ n → n ≤ 2 → k < 1 → record { line = small_line n; thread = 0; phase = n; op = (small_record n).played.op } ∷ [] ≡ lines_in small_trace.lines n k
 lines n k low high few =
@@ -173,7 +187,7 @@ left = record {
   fits = tt;
   lists = λ p low. refl;
   journals = λ p. record { replays = tt; rise = tt };
-  none_past = λ p past. refl;
+  past = λ p far. refl;
   numbers = λ p s. tt;
   exchanges = refl;
   cells = λ k. refl;
@@ -186,37 +200,46 @@ run = record { course = course; closes = closes; left = left }
 
 -- ---- the report
 
-abbrev Said : ℕ → Type 0
-Said n = IsLineSaid small_trace small_told small_seat (told_in small_trace small_course) (lists_at small_trace small_course n) small_seat (small_report n)
+abbrev Counted : ℕ → Type 0
+Counted n = IsLineBy small_trace small_course small_seat (small_report n)
 
-said : (n : ℕ) → 1 ≤ n → n ≤ 2 → Said n
+by_worker : (n : ℕ) → 1 ≤ n → n ≤ 2 → Counted n
 unfolding slot_of row_of rows
-said = two_phases Said
+by_worker = two_phases Counted
     (record {
       live = record { slots = refl; bytes = refl };
       quarantined = record { slots = refl; bytes = refl };
-      cached = (refl, refl);
+      cached = record { slots = refl; bytes = refl };
       root = record { journal = []; journal_is = refl; seen = []; begins = ([], refl); pool = []; pool_is = refl; replays = record { replays = tt; rise = tt }; taken = refl };
     })
     (record {
       live = record { slots = refl; bytes = refl };
       quarantined = record { slots = refl; bytes = refl };
-      cached = (refl, refl);
+      cached = record { slots = refl; bytes = refl };
       root = record { journal = []; journal_is = refl; seen = []; begins = ([], refl); pool = []; pool_is = refl; replays = record { replays = tt; rise = tt }; taken = refl };
     })
 
-lines_said : (l : ReportLine) → Contains small_told.report l →
-    IsLineSaid small_trace small_told small_seat (told_in small_trace small_course) (lists_at small_trace small_course l.phase) (small_course.seats l.phase) l
-lines_said l among = elim (in_cases (small_report 1) l (small_report 2 ∷ []) among) [
-  | inl e ↦ subst (λ (z : ReportLine). IsLineSaid small_trace small_told small_seat (told_in small_trace small_course) (lists_at small_trace small_course z.phase) small_seat z) e (said 1 (omega arith) (omega arith))
+counted : (l : ReportLine) → Contains small_told.report l → IsLineBy small_trace small_course small_seat l
+counted l among = elim (in_cases (small_report 1) l (small_report 2 ∷ []) among) [
+  | inl e ↦ subst (λ (z : ReportLine). IsLineBy small_trace small_course small_seat z) e (by_worker 1 (omega arith) (omega arith))
   | inr later ↦ elim (in_cases (small_report 2) l [] later) [
-    | inl e ↦ subst (λ (z : ReportLine). IsLineSaid small_trace small_told small_seat (told_in small_trace small_course) (lists_at small_trace small_course z.phase) small_seat z) e (said 2 (omega arith) (omega arith))
+    | inl e ↦ subst (λ (z : ReportLine). IsLineBy small_trace small_course small_seat z) e (by_worker 2 (omega arith) (omega arith))
     | inr none ↦ absurd (not_in_none l none)
   ]
 ]
+
+lines_said : (l : ReportLine) → Contains small_told.report l →
+    IsLineSaid small_trace small_told small_seat (told_in small_trace small_course) (lists_at small_trace small_course l.phase) (small_course.seats l.phase) l
+lines_said l among = courses_tell_lines small_trace small_told small_course small_seat [] run l among (counted l among)
 
 says : LayersSay small_trace small_told small_seat (told_in small_trace small_course)
 says = courses_tell_all small_trace small_told small_course small_seat [] run lines_said
 
 pub small_course_fits : SmallCourseFits
-small_course_fits = record { run = run; lines = lines_said; says = says; legal = layers_tell_all.legal small_trace small_told small_seat (told_in small_trace small_course) says }
+small_course_fits = record {
+  run = run;
+  counted = counted;
+  lines = lines_said;
+  says = says;
+  legal = layers_tell_all.legal small_trace small_told small_seat (told_in small_trace small_course) says;
+}

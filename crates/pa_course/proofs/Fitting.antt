@@ -1,9 +1,11 @@
 -- The run that a course became fits each worker: what its seat has seen of the lists stands in it, and the acts of a line are those
 -- that its record entered.
-use Rattle.std.proofs.Common.{◌≡◌, ℕ, zero, suc, ◌<◌, ◌≤◌, List, [], ◌∷◌, ◌++◌, length, map, Some, slice_get, sym, ◌∙◌, ap, arith, inl, inr}
+use Rattle.std.proofs.Common.{◌≡◌, ℕ, zero, suc, ◌<◌, ◌≤◌, List, [], ◌∷◌, ◌++◌, length, map, Some, slice_get, refl, sym, ◌∙◌, ap, arith, inl, inr}
 use Rattle.std.specs.Prelude.{Contains}
+use Rattle.std.proofs.lemmas.Bool.{cases_lt}
 use Rattle.std.proofs.lemmas.List.{append_assoc}
 use Rattle.pa_record.specs.declared.pool.PoolEntry.{PoolEntry}
+use Rattle.pa_record.specs.declared.root.RootEntry.{RootEntry}
 use Rattle.pa_record.specs.Numbers.{root_numbers, pool_numbers}
 use Rattle.pa_record.proofs.OneEntry.{one_root, one_pool, one_cell}
 use Rattle.pa_record.proofs.PoolSteps.{slice_get_at}
@@ -30,10 +32,11 @@ use Rattle.pa_heap.proofs.Following.{seen_before}
 use Rattle.pa_course.specs.Courses.{Course, HasSeenAll}
 use Rattle.pa_course.specs.Merged.{told_in, outcome_of}
 use Rattle.pa_course.specs.Telling.{IsWholeRun}
+use Rattle.pa_course.proofs.Bounding.{courses_leave_none_past}
 use Rattle.pa_course.proofs.Chaining.{starts_of, sees_last, has_last}
 use Rattle.pa_course.proofs.Grouping.{rising, within, in_group, from_group}
 use Rattle.pa_course.proofs.Leading.{answer_of}
-use Rattle.pa_course.proofs.Lengthening.{handed_out}
+use Rattle.pa_course.proofs.Lengthening.{handed_out, handed_home}
 use Rattle.pa_course.proofs.Playing.{HasPlayed, has_played, sees_then}
 
 -- an entry at its place of a list, as what the list is in numbers has it
@@ -42,6 +45,11 @@ numbered_at : {A : Type 0} (numbers : A → List ℕ) (list older rest : List Ma
 numbered_at numbers list older rest es m e one same at says =
     let (f, there, is) = entry_there numbers list es (length older) m same (ap (λ l. slice_get l (length older)) at ∙ slice_get_at older rest m) in
     there ∙ ap Some (one f e (sym is ∙ says))
+
+-- entries that are none in numbers are none
+none_numbered : (es : List RootEntry) → map root_numbers es ≡ [] → es ≡ []
+none_numbered [] none = refl
+none_numbered (e ∷ es) none = absurd cc
 
 -- what stands in a list stands in a longer one
 pub stands_longer : (list longer : List Made) (m : Made) (i : ℕ) → IsBeginning list longer → StandsAt list m i → StandsAt longer m i
@@ -95,12 +103,21 @@ module _ (t : Trace) (r : Told) (c : Course) (v : View) (xs : List Exchange) (ru
   list_is : (q : ℕ) → IsListOf q (list_of q v) ts
   list_is q = seats_know.lists q v ts run.closes.aware are_logs (of_lines q)
 
+  -- no journal is of a partition past the run's
+  pub none_past : (p : ℕ) → t.partitions ≤ p → r.roots p ≡ []
+  none_past p past = elim (cases_lt p 4) [
+    | inl low ↦
+        none_numbered (r.roots p) (sym (run.left.lists p low)
+        ∙ ap (λ l. map (λ (m : Made). m.numbers) l) (courses_leave_none_past t c v run.left.limits run.course run.closes p past low))
+    | inr far ↦ run.left.past p far
+  ]
+
   pub are_lists : AreLists (λ q. list_of q v) r.pools r.roots ts
   are_lists = record {
     is = λ q few. list_is q;
     rising = rising t c run.left.limits run.course;
     journals = run.left.lists;
-    past = λ p four. let most = run.left.limits.head.1.1 in run.left.none_past p (omega arith);
+    past = run.left.past;
     pool = run.left.pool;
   }
 
@@ -135,8 +152,9 @@ module _ (t : Trace) (r : Told) (c : Course) (v : View) (xs : List Exchange) (ru
   is_outcome : IsOutcome (outcome_of t r)
   is_outcome = record {
     few = run.left.limits.head.1.1;
-    past = run.left.none_past;
-    lengths = λ p e class u among out. handed_out t.partitions r.pools r.roots run.left.journals run.left.none_past once p e class u among out;
+    past = none_past;
+    lengths = λ p e class u among out. handed_out t.partitions r.pools r.roots run.left.journals none_past once p e class u among out;
+    homes = λ p e class u among out. handed_home t.partitions r.pools r.roots run.left.journals none_past once p e class u among out;
   }
 
   seen_of_it : IsSeenOf (outcome_of t r) v

@@ -41,11 +41,11 @@ played_filter test (x ∷ xs) = elim (cases_Bool (test x.played)) [
   | inr n ↦ rw n (played_filter test xs)
 ]
 
-played_append : (xs ys : List ToldRecord) → played_in (xs ++ ys) ≡ played_in xs ++ played_in ys
+pub played_append : (xs ys : List ToldRecord) → played_in (xs ++ ys) ≡ played_in xs ++ played_in ys
 played_append [] ys = refl
 played_append (x ∷ xs) ys = ap (λ ps. x.played ∷ ps) (played_append xs ys)
 
-thread_records : (k n : ℕ) (xs : List ToldRecord) → records_by k (until n (played_in xs)) ≡ played_in (filter (is_of_thread k) (told_until n xs))
+pub thread_records : (k n : ℕ) (xs : List ToldRecord) → records_by k (until n (played_in xs)) ≡ played_in (filter (is_of_thread k) (told_until n xs))
 thread_records k n xs = ap (records_by k) (played_filter (λ (p : Played). leb p.phase n) xs) ∙ played_filter (is_by_thread k) (told_until n xs)
 
 module _ (t : Trace) (r : Told) (c : Course) (v : View) (xs : List Exchange) (run : IsWholeRun t r c v xs) where

@@ -22,7 +22,7 @@ use Rattle.pa_heap.specs.Entering.{EntersExchange, EntersCells}
 use Rattle.pa_course.specs.Courses.{Course}
 use Rattle.pa_course.specs.Merged.{told_in, lists_at, swaps_of}
 use Rattle.pa_course.specs.Telling.{IsWholeRun, CoursesTellPool, CoursesTellRoots, CoursesTellCells, CoursesTellAll}
-use Rattle.pa_course.proofs.Fitting.{then_sees, asked, answer, stands_longer}
+use Rattle.pa_course.proofs.Fitting.{then_sees, none_past, asked, answer, stands_longer}
 use Rattle.pa_course.proofs.Fitting.{played as played_so}
 use Rattle.pa_course.proofs.Heaping.{courses_tell_heap, courses_tell_runner}
 
@@ -185,7 +185,7 @@ module _ (t : Trace) (r : Told) (c : Course) (v : View) (xs : List Exchange) (ru
   roots_tell = record {
     lists = run.left.lists;
     journals = run.left.journals;
-    none_past = run.left.none_past;
+    none_past = none_past t r c v xs run;
     makes = λ x p m e few among entered says. (answer t r c v xs run x among).makes p m e few entered says;
     refused = λ x j reg p size among full op.
         let q = played_so t r c v xs run x among in

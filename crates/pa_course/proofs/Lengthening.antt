@@ -1,7 +1,8 @@
--- The journals give each slot one length, by themselves and the pool's entries that they name.
-use Rattle.std.proofs.Common.{◌≡◌, ℕ, zero, suc, ◌<◌, ◌≤◌, List, [], ◌∷◌, Option, Some, None, slice_get, sym, ◌∙◌, ap, subst, arith, inl, inr}
+-- The journals give each slot one length and one partition, by themselves and the pool's entries that they name.
+use Rattle.std.proofs.Common.{◌≡◌, ℕ, zero, suc, ◌<◌, ◌≤◌, true, List, [], ◌∷◌, Option, Some, None, slice_get, refl, sym, ◌∙◌, ap, subst, arith, inl, inr}
 use Rattle.std.specs.Prelude.{Contains}
-use Rattle.std.proofs.lemmas.Bool.{cases_Bool, cases_lt, cases_eq, both_ways}
+use Rattle.std.specs.List.{list_any}
+use Rattle.std.proofs.lemmas.Bool.{true≢false, cases_Bool, cases_lt, cases_eq, or_cases, both_ways}
 use Rattle.std.proofs.lemmas.List.Elements.{Contains-append_left, Contains-append_right, Contains-append_cases}
 use Rattle.pa_machine.specs.declared.title.Title.{Title}
 use Rattle.pa_machine.specs.declared.word.SlotName.{SlotName}
@@ -26,6 +27,7 @@ use Rattle.pa_rules.proofs.Naming.{asked_is}
 use Rattle.pa_rules.proofs.Owned.{title_of, HasLen}
 use Rattle.pa_cells.specs.Handles.{HandsOut}
 use Rattle.pa_told.specs.Lengths.{titles_by, titles_of, length_among, lengths_by}
+use Rattle.pa_told.specs.Homes.{homes_by}
 use Rattle.pa_told.proofs.Filters.{place_at}
 use Rattle.pa_told.proofs.Sizing.{made_listed, listed_made}
 
@@ -55,6 +57,37 @@ map_asked pools (f ∷ es) r e asked len slot fits among act = elim (in_cases f 
 
 map_len : (asked len asked' len' : ℕ) (slot slot' : SlotName) → Map asked slot len ≡ Map asked' slot' len' → len ≡ len'
 map_len asked len asked' len' slot slot' e = cc
+
+-- a list has a title of that name, or none
+named_there : (ts : List Title) (s : SlotName) → list_any (λ (t : Title). same_slot (name_of t) s) ts ≡ true → (t : Title) × Contains ts t × (name_of t ≡ s)
+named_there [] s h = absurd (true≢false (sym h))
+named_there (u ∷ us) s h = elim (or_cases (same_slot (name_of u) s) (list_any (λ (t : Title). same_slot (name_of t) s) us) h) [
+  | inl here ↦ (u, first_in u us, same_slot_eq (name_of u) s here)
+  | inr rest ↦ let (t, among, is) = named_there us s rest in (t, later_in u t us among, is)
+]
+
+there_named : (ts : List Title) (s : SlotName) (t : Title) → Contains ts t → name_of t ≡ s → list_any (λ (t : Title). same_slot (name_of t) s) ts ≡ true
+there_named [] s t among is = absurd (not_in_none t among)
+there_named (u ∷ us) s t among is = elim (cases_Bool (same_slot (name_of u) s)) [
+  | inl y ↦ rw y refl
+  | inr n ↦ rw n (elim (in_cases u t us among) [
+    | inl e ↦ absurd (both_ways _ n (same_slot_yes (name_of u) s (ap name_of e ∙ is)))
+    | inr later ↦ there_named us s t later is
+  ])
+]
+
+module _ (pools : List PoolEntry) (roots : Journals) where
+  -- where no other partition makes a title of the name
+  home_is : (n p : ℕ) (s : SlotName) (t : Title) → p < n → IsMadeBy pools (roots p) t → name_of t ≡ s →
+      ((q : ℕ) (u : Title) → IsMadeBy pools (roots q) u → name_of u ≡ s → q ≡ p) → homes_by n pools roots s ≡ p
+  home_is zero p s t below made is only = absurd (omega arith)
+  home_is (suc n) p s t below made is only = elim (cases_Bool (list_any (λ (t : Title). same_slot (name_of t) s) (titles_by pools (roots n)))) [
+    | inl y ↦ let (u, among, named) = named_there (titles_by pools (roots n)) s y in rw y (only n u (listed_made pools (roots n) u among) named)
+    | inr none ↦ rw none (elim (cases_eq p n) [
+      | inl same ↦ absurd (both_ways _ none (there_named (titles_by pools (roots n)) s t (subst (λ q. Contains (titles_by pools (roots q)) t) same (made_listed pools (roots p) t made)) is))
+      | inr other ↦ home_is n p s t (omega arith) made is only
+    ])
+  ]
 
 module _ (partitions : ℕ) (pools : List PoolEntry) (roots : Journals) (journals : (p : ℕ) → IsJournal pools (roots p)) (none_past : (p : ℕ) → partitions ≤ p → roots p ≡ [])
     (once : (j p q i k : ℕ) (e : PoolEntry) → slice_get pools j ≡ Some e → Names roots p i j → Names roots q k j → (p ≡ q) × (i ≡ k)) where
@@ -163,3 +196,18 @@ module _ (partitions : ℕ) (pools : List PoolEntry) (roots : Journals) (journal
       let (u, by, name, len) = title_of pools (roots p) e (name_of t) (journals p) among (subst (λ a. Contains (leaves_by a) (name_of t)) (sym act) (first_in (name_of t) [])) in
       let long : u.len ≡ t.len = subst (λ a. HasLen a u) act len in
       ap (λ n. lengths_by partitions pools roots n) (sym name) ∙ (made p u by ∙ long)
+
+  -- the partition that the journals give a title's name is that of the journal which makes it
+  home_made : (p : ℕ) (t : Title) → IsMadeBy pools (roots p) t → homes_by partitions pools roots (name_of t) ≡ p
+  home_made p t by =
+      home_is pools roots partitions p (name_of t) t (is_partition p t by) by refl
+      (λ q u by' named. owned q p u t by' by (ap (λ (s : SlotName). s.born) named))
+
+  -- so is that of a slot that an entry hands out
+  pub handed_home : (p : ℕ) (e : RootEntry) (class : Option ℕ) (t : Title) → Contains (roots p) e → HandsOut class t e.act → homes_by partitions pools roots (name_of t) ≡ p
+  handed_home p e (Some class) t among (asked, slots, act, member, size) =
+      let (u, by, name, len) = title_of pools (roots p) e (name_of t) (journals p) among (subst (λ a. Contains (leaves_by a) (name_of t)) (sym act) member) in
+      ap (λ n. homes_by partitions pools roots n) (sym name) ∙ home_made p u by
+  handed_home p e None t among (asked, act) =
+      let (u, by, name, len) = title_of pools (roots p) e (name_of t) (journals p) among (subst (λ a. Contains (leaves_by a) (name_of t)) (sym act) (first_in (name_of t) [])) in
+      ap (λ n. homes_by partitions pools roots n) (sym name) ∙ home_made p u by

@@ -4,8 +4,12 @@ pub mod Playing
 pub mod Leading
 pub mod Grouping
 pub mod Chaining
+pub mod Bounding
 pub mod Fitting
 pub mod Heaping
 pub mod Keepers
 pub mod Example
 pub mod Recording
+pub mod Lining
+pub mod Growing
+pub mod Gathering

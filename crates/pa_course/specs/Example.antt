@@ -19,6 +19,7 @@ use Rattle.pa_heap.specs.Workers.{WorkerValue}
 use Rattle.pa_course.specs.Courses.{Course}
 use Rattle.pa_course.specs.Merged.{told_in, lists_at}
 use Rattle.pa_course.specs.Telling.{IsWholeRun}
+use Rattle.pa_course.specs.Lines.{IsLineBy}
 
 abbrev pub small_trace : Trace
 small_trace = record {
@@ -51,7 +52,7 @@ small_stock = record { thread = 0; partitions = 1; view = small_view; registers 
 
 -- the worker with these records
 abbrev pub small_worker : List Entry → WorkerValue
-small_worker es = record { stock = small_stock; records = es; room = 2; stopped = false }
+small_worker es = record { stock = small_stock; records = es; room = 2; stopped = false; counts = [] }
 
 -- the line of phase 1, and that of phase 2; the record of each
 abbrev pub small_line : ℕ → ℕ
@@ -114,9 +115,11 @@ small_told = record {
   report = small_report 1 ∷ small_report 2 ∷ [];
 }
 
--- It is a whole run's course, its report's lines are said; so all layers say what they are asked, and the run is legal.
+-- It is a whole run's course, and its report's lines are what its worker counted; so they are said, all layers say what they are asked,
+-- and the run is legal.
 pub record SmallCourseFits : Type 0 where
   pub run : IsWholeRun small_trace small_told small_course small_seat []
+  pub counted : (l : ReportLine) → Contains small_told.report l → IsLineBy small_trace small_course small_seat l
   pub lines : (l : ReportLine) → Contains small_told.report l →
       IsLineSaid small_trace small_told small_seat (told_in small_trace small_course) (lists_at small_trace small_course l.phase)
       (small_course.seats l.phase) l

@@ -19,7 +19,7 @@ use Rattle.pa_legal.specs.Numbers.{AreNumbered}
 use Rattle.pa_told.specs.Told.{ToldRecord, played_in}
 use Rattle.pa_told.specs.Listed.{IsJournalOf, IsPoolList}
 use Rattle.pa_told.specs.Swaps.{SwapMade}
-use Rattle.pa_told.specs.Said.{sizes_in}
+use Rattle.pa_told.specs.Said.{sizes_in, homes_in}
 use Rattle.pa_cells.specs.Cells.{Exchange, exchange_numbers, entries_with}
 use Rattle.pa_heap.specs.Stocks.{listed_in}
 use Rattle.pa_heap.specs.Outcomes.{Outcome}
@@ -48,16 +48,17 @@ swaps_of [] xs = []
 swaps_of (m ∷ ms) [] = []
 swaps_of (m ∷ ms) (x ∷ xs) = record { made = m; cell = x.cell; entry = x.entry } ∷ swaps_of ms xs
 
--- What the run became, as the ops of workers see it: a slot is as long as the journals tell.
+-- What the run became, as the ops of workers see it: a slot is as long as the journals tell, and of the partition that they tell.
 abbrev pub outcome_of : Trace → Told → Outcome
-outcome_of t r = record { partitions = t.partitions; roots = r.roots; pools = r.pools; cells = r.cells; sizes = sizes_in t r }
+outcome_of t r =
+    record { partitions = t.partitions; roots = r.roots; pools = r.pools; cells = r.cells; sizes = sizes_in t r; homes = homes_in t r }
 
 -- What is printed is what the course left, where `v` is the seat that closes and `xs` are the exchanges.
 --   limits: the trace is within its limits
 --   entries: the records are those of the course
 --   pool, fits: the pool's list is its entries in numbers, and they replay
---   lists, journals, none_past, numbers: so are the roots' lists, each a journal that replays, with no partition past the trace's;
---     and a root hands a slot out at the number at which it has it
+--   lists, journals, past, numbers: so are the roots' lists, each a journal that replays, and there are four; and a root hands a slot
+--     out at the number at which it has it
 --   exchanges, cells, chain: the cells' list is the exchanges in numbers, each cell's history is those with it, and each found what
 --     the one before gave
 --   places: the report has one line for each phase and partition, in order
@@ -68,7 +69,7 @@ pub record IsLeftBehind (t : Trace) (r : Told) (v : View) (ts : List ToldRecord)
   pub fits : IsPool t.region r.pools
   pub lists : (p : ℕ) → p < 4 → IsJournalOf (list_of p v) (r.roots p)
   pub journals : (p : ℕ) → IsJournal r.pools (r.roots p)
-  pub none_past : (p : ℕ) → t.partitions ≤ p → r.roots p ≡ []
+  pub past : (p : ℕ) → 4 ≤ p → r.roots p ≡ []
   pub numbers : AreNumbered r.roots
   pub exchanges : map (λ (m : Made). m.numbers) (list_of 5 v) ≡ map exchange_numbers xs
   pub cells : (k : ℕ) → r.cells k ≡ entries_with k xs

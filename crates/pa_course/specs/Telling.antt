@@ -1,6 +1,7 @@
 -- What follows of a course: each layer says what it is asked.
-use Rattle.std.specs.Prelude.{◌≡◌, ℕ, ◌<◌, ◌≤◌, List, map, filter, Contains}
+use Rattle.std.specs.Prelude.{◌≡◌, ℕ, ◌<◌, ◌≤◌, List, [], map, filter, Contains}
 use Rattle.pa_trace.specs.declared.script.Trace.{Trace}
+use Rattle.pa_trace.specs.Limits.{IsWithinLimits}
 use Rattle.pa_record.specs.declared.report.ReportLine.{ReportLine}
 use Rattle.pa_region.specs.declared.view.View.{View}
 use Rattle.pa_region.specs.Lists.{list_of}
@@ -43,6 +44,12 @@ abbrev pub CoursesTellCells : Type 0
 CoursesTellCells =
     (t : Trace) (r : Told) (c : Course) (v : View) (xs : List Exchange) → IsWholeRun t r c v xs →
     CellsTell r v (told_in t c) (swaps_of (list_of 5 v) xs)
+
+-- The closing seat has seen nothing of the list of a partition past the trace's.
+abbrev pub CoursesLeaveNonePast : Type 0
+CoursesLeaveNonePast =
+    (t : Trace) (c : Course) (v : View) → IsWithinLimits t → IsCourse t (phases_in t.lines) c → Closes (c.seats (phases_in t.lines)) v →
+    (p : ℕ) → t.partitions ≤ p → p < 4 → list_of p v ≡ []
 
 -- Each worker has the records of its thread so far, in order; and a title that a stretch says was made raw again goes back by an
 -- entry of the same record.

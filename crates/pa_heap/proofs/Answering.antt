@@ -69,7 +69,7 @@ returned_row s w rs roots x h c n is low small numbers seen of none room =
     )
 
 -- the number of the title that a step left, where what was seen of it before wasn't newer than what the step found
-seen_left : (t : Title) (n m k : ℕ) → k ≤ n → m ≡ (if same_title t t then max (n + 1) k else k) → m ≡ n + 1
+pub seen_left : (t : Title) (n m k : ℕ) → k ≤ n → m ≡ (if same_title t t then max (n + 1) k else k) → m ≡ n + 1
 seen_left t n m k older e = elim (title_tells t t) [
   | inl y ↦ (let f : m ≡ max (n + 1) k = rw y.0 at e in omega arith)
   | inr differs ↦ absurd (differs.1 refl)

@@ -165,6 +165,7 @@ swap_does line cell reg index given found s a b d is phase = (
         entered = refl;
       };
     };
+    homes = λ p past low. inl (other_list p m (λ e. omega arith));
     answers = λ o fits.
         let none = no_act o x fits.run fits.acts (λ q other. other_list q m other) in
         record {

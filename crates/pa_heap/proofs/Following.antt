@@ -11,9 +11,11 @@ use Rattle.pa_told.specs.Rows.{HasRows}
 use Rattle.pa_told.specs.Reported.{CacheLeadsTo}
 use Rattle.pa_heap.specs.Stocks.{regs_of, listed_in}
 use Rattle.pa_heap.specs.Workers.{WorkerValue}
-use Rattle.pa_heap.specs.Outcomes.{Outcome, IsSeenOf, row_facts}
+use Rattle.pa_heap.specs.Counts.{CountsBy}
+use Rattle.pa_heap.specs.Outcomes.{Outcome, IsSeenOf, FitsRun, row_facts}
 use Rattle.pa_heap.specs.Plays.{PlaysOne, PlaysAll, AnswersIn}
 use Rattle.pa_heap.specs.Following.{FitsAll}
+use Rattle.pa_heap.proofs.Counting.{counts_none, counts_append}
 
 pub composes : (w u v : WorkerValue) (xs ys : List ToldRecord) → PlaysAll w xs u → PlaysAll u ys v → PlaysAll w (xs ++ ys) v
 composes w u v [] ys same rest = subst (λ z. PlaysAll z ys v) same rest
@@ -38,13 +40,20 @@ seen_before o v w begin seen = record {
   exchanges = λ older rest m e at says. let (more, on) = place_on (list_of 5 v) (list_of 5 w) older rest m (begin 5) at in seen.exchanges older more m e on says;
 }
 
--- the first op's answer, and that the rest fits
-first_answer : (o : Outcome) (w next v : WorkerValue) (x : ToldRecord) (xs : List ToldRecord) → PlaysOne w next x → PlaysAll next xs v → FitsAll o w.stock.partitions v.stock.view (x ∷ xs) →
-    AnswersIn o w.stock next.stock x × FitsAll o next.stock.partitions v.stock.view xs
-first_answer o w next v x xs one more fits = (
-  one.does.answers o (record { many = fits.many; run = fits.run; seen = seen_before o next.stock.view v.stock.view (begins next v xs more) fits.seen; acts = fits.acts x (first_in x xs) }),
+-- the run fits the first op, and the rest
+first_fits : (o : Outcome) (w next v : WorkerValue) (x : ToldRecord) (xs : List ToldRecord) → PlaysOne w next x → PlaysAll next xs v → FitsAll o w.stock.partitions v.stock.view (x ∷ xs) →
+    FitsRun o w.stock.partitions next.stock.view x × FitsAll o next.stock.partitions v.stock.view xs
+first_fits o w next v x xs one more fits = (
+  record { many = fits.many; run = fits.run; seen = seen_before o next.stock.view v.stock.view (begins next v xs more) fits.seen; acts = fits.acts x (first_in x xs) },
   record { many = fits.many ∙ sym one.does.same.1; run = fits.run; seen = fits.seen; acts = λ y among. fits.acts y (later_in x y xs among) },
 )
+
+-- the first op's answer, and that the rest fits
+pub first_answer : (o : Outcome) (w next v : WorkerValue) (x : ToldRecord) (xs : List ToldRecord) → PlaysOne w next x → PlaysAll next xs v → FitsAll o w.stock.partitions v.stock.view (x ∷ xs) →
+    AnswersIn o w.stock next.stock x × FitsAll o next.stock.partitions v.stock.view xs
+first_answer o w next v x xs one more fits =
+    let (first, rest) = first_fits o w next v x xs one more fits in
+    (one.does.answers o first, rest)
 
 pub rows : (o : Outcome) (w v : WorkerValue) (xs : List ToldRecord) → PlaysAll w xs v → FitsAll o w.stock.partitions v.stock.view xs →
     HasRows (row_facts o) (regs_of w.stock.registers) (played_in xs)
@@ -68,3 +77,9 @@ told o w v (y ∷ ys) (next, one, more) fits = λ x among.
       | inl same ↦ subst (IsTold o.sizes) same answer.told
       | inr later ↦ told o next v ys more rest x later
     ]
+
+pub counts : (o : Outcome) (w v : WorkerValue) (xs : List ToldRecord) → PlaysAll w xs v → FitsAll o w.stock.partitions v.stock.view xs → CountsBy o.homes o.sizes (played_in xs) w.counts v.counts
+counts o w v [] same fits = subst (λ (z : WorkerValue). CountsBy o.homes o.sizes [] w.counts z.counts) (sym same) (counts_none o.homes o.sizes w.counts)
+counts o w v (x ∷ xs) (next, one, more) fits =
+    let (first, rest) = first_fits o w next v x xs one more fits in
+    counts_append o.homes o.sizes (x.played ∷ []) (played_in xs) w.counts next.counts v.counts (one.counts o first) (counts o next v xs more rest)

@@ -129,17 +129,20 @@ titles_at caches p c small = go (nat_lt c 59) refl
     go true is = refl
     go false is = absurd (let far : 59 ≤ c = grind (arith, nat_tests) in omega arith)
 
-pub cache_at : (s : StockValue) (h : Handle) (c place : ℕ) (cache : CacheList) → IsStock s → CanList h c s → c < 59 → place ≡ 59 * h.partition + c →
-    cache ≡ slice_index_or s.caches place cache → CacheAt s h.partition c place cache
-cache_at s h c place cache is can small at value =
-    let low = can.made.partition in
+pub cache_of : (s : StockValue) (p c place : ℕ) (cache : CacheList) → IsStock s → p < 4 → c < 59 → place ≡ 59 * p + c →
+    cache ≡ slice_index_or s.caches place cache → CacheAt s p c place cache
+cache_of s p c place cache is low small at value =
     let long = is.lists.count in
     let e : cache ≡ slice_index_or s.caches place no_cache = value ∙ get_or_default s.caches place cache no_cache (omega arith) in
     record {
       is = e;
-      class_is = ap (λ (x : CacheList). x.class) (e ∙ ap (λ k. slice_index_or s.caches k no_cache) at) ∙ is.lists.classes h.partition c low small;
-      titles_are = ap (λ (x : CacheList). x.titles) (e ∙ ap (λ k. slice_index_or s.caches k no_cache) at) ∙ titles_at s.caches h.partition c small;
+      class_is = ap (λ (x : CacheList). x.class) (e ∙ ap (λ k. slice_index_or s.caches k no_cache) at) ∙ is.lists.classes p c low small;
+      titles_are = ap (λ (x : CacheList). x.titles) (e ∙ ap (λ k. slice_index_or s.caches k no_cache) at) ∙ titles_at s.caches p c small;
     }
+
+pub cache_at : (s : StockValue) (h : Handle) (c place : ℕ) (cache : CacheList) → IsStock s → CanList h c s → c < 59 → place ≡ 59 * h.partition + c →
+    cache ≡ slice_index_or s.caches place cache → CacheAt s h.partition c place cache
+cache_at s h c place cache is can small at value = cache_of s h.partition c place cache is can.made.partition small at value
 
 -- each of its titles is free
 pub listed_all : (s : StockValue) (p c : ℕ) (cache : CacheList) → IsStock s → cache.titles ≡ titles_in s.caches p c → HoldsFree s.view cache.titles

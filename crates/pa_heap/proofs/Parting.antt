@@ -1,5 +1,5 @@
 -- What the first seat of a region is parted into.
-use Rattle.std.proofs.Common.{◌≡◌, ℕ, zero, suc, ◌+◌, ◌-◌, ◌*◌, ◌<◌, ◌≤◌, [], ◌∷◌, refl, sym, ap, arith, inl, inr}
+use Rattle.std.proofs.Common.{◌≡◌, ℕ, zero, suc, ◌+◌, ◌-◌, ◌*◌, ◌<◌, ◌≤◌, [], ◌∷◌, refl, sym, ◌∙◌, ap, arith, inl, inr, length}
 use Rattle.std.specs.Prelude.{◌==◌, ◌&&◌, nat_le, nat_lt, Bool, true, false, if◌then◌else◌}
 use Rattle.std.specs.List.{sum_by}
 use Rattle.std.proofs.lemmas.Bool.{le-leb, lt-ltb}
@@ -15,7 +15,9 @@ use Rattle.pa_region.specs.Lists.{keeper_of, lease_of, list_of}
 use Rattle.pa_region.specs.Lending.{HostsKeeper}
 use Rattle.pa_region.specs.Hands.{left_after, given_after}
 use Rattle.pa_region.specs.Start.{first_view, stakes_from}
+use Rattle.pa_region.specs.Shares.{Share, byte_word_count}
 use Rattle.pa_region.proofs.FirstLists.{stake_count}
+use Rattle.pa_region.proofs.Opens.{blank_long}
 use Rattle.pa_pool.specs.Pools.{CanOpen}
 use Rattle.pa_root.specs.Laws.{IsFirstView}
 use Rattle.pa_heap.specs.Starts.{HasAllStakes, keeper_parcel, stakes_parcel}
@@ -111,6 +113,11 @@ pool_opens supers words budget long few =
       stakes = λ k. refl;
       more = record { titles = λ t. refl; budget = spent budget; keepers = one_keeper words budget };
     }
+
+-- a region has as many words as the first view has of it
+pub whole_region : (supers budget : ℕ) (s : Share) → s.view ≡ first_view (262144 * supers) budget →
+    length s.view.words ≡ byte_word_count s.region → byte_word_count s.region ≡ 262144 * supers
+whole_region supers budget s is long = sym long ∙ (ap (λ (v : View). length v.words) is ∙ blank_long (262144 * supers))
 
 -- the budget goes with the stakes
 pub budget_there : (words budget : ℕ) → budget ≤ (without_cells words budget).budget

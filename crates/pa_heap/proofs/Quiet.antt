@@ -127,6 +127,7 @@ touched_does s w registers caches op answer es touched quiet says line phase = (
       uncuts = λ t among. absurd (touched.each (Uncut t) among);
       cells = quiet.cells (list_of 5 w) x (none 5);
     };
+    homes = λ p past low. inl (none p);
     answers = λ o fits. let here = no_acts o x fits.run fits.acts none in let say = says line phase o fits.run fits.seen here in
         record {
           told = say.told;

@@ -44,9 +44,10 @@ size_by : (roots : Journals) (p : ℕ) (e : RootEntry) (class : Option ℕ) (t :
 size_by roots p e (Some c) t among out = inl (c, (e, out.0, out.1, among, out.2, out.3), out.4)
 size_by roots p e None t among out = inr (e, out.0, among, out.1)
 
--- A slot of which it was seen how it was made has the length of its title in any run that fits.
+-- A slot of which it was seen how it was made has the length of its title, and its handle's partition, in any run that fits.
 pub record IsSlotIn (o : Outcome) (h : Handle) : Type 0 where
   pub length : o.sizes (name_of h.title) ≡ h.title.len
+  pub home : o.homes (name_of h.title) ≡ h.partition
   pub title : title_of o.sizes (name_of h.title) ≡ h.title
   pub size : HasSize o.roots h.partition (name_of h.title) (o.sizes (name_of h.title))
   pub class : (c : ℕ) → h.class ≡ Some c → IsOfClass o.roots (name_of h.title) h.partition c
@@ -69,6 +70,7 @@ slot_in_run o v h is seen made =
     let long : o.sizes (name_of h.title) ≡ h.title.len = is.lengths h.partition e h.class h.title there out in
     record {
       length = long;
+      home = is.homes h.partition e h.class h.title there out;
       title = title_by h.title (o.sizes (name_of h.title)) long;
       size = subst (λ n. HasSize o.roots h.partition (name_of h.title) n) (sym long) (size_by o.roots h.partition e h.class h.title there out);
       class = λ c is_class. class_by o.roots h.partition e h.class h.title c there out is_class;

@@ -1,5 +1,5 @@
 -- What an op entered in the lists of roots, pool and cells, as the lists say that its seat has seen then.
-use Rattle.std.specs.Prelude.{◌≡◌, ℕ, ◌<◌, ◌⊎◌, List, [], ◌∷◌, ◌++◌, length, Contains}
+use Rattle.std.specs.Prelude.{◌≡◌, ℕ, ◌<◌, ◌≤◌, ◌⊎◌, List, [], ◌∷◌, ◌++◌, length, Contains}
 use Rattle.pa_machine.specs.declared.title.Title.{Title}
 use Rattle.pa_trace.specs.declared.script.Op.{Op}
 use Rattle.pa_trace.specs.declared.script.Op.TheVariants as ops
@@ -7,12 +7,15 @@ use Rattle.pa_record.specs.declared.entry.Answer.TheVariants as answers
 use Rattle.pa_record.specs.declared.history.CellEntry.{CellEntry}
 use Rattle.pa_region.specs.declared.view.Entry.TheVariants.{Uncut}
 use Rattle.pa_region.specs.declared.view.Made.{Made}
-use Rattle.pa_region.specs.Lists.{entered_in}
+use Rattle.pa_region.specs.declared.view.View.{View}
+use Rattle.pa_region.specs.Lists.{list_of, made_with, entered_in}
+use Rattle.pa_region.specs.Takes.{log_of}
 use Rattle.pa_cells.specs.Cells.{exchange_numbers, made_with_cell}
 use Rattle.pa_told.specs.Told.{ToldRecord}
 use Rattle.pa_told.specs.Listed.{line_of}
 use Rattle.pa_told.specs.Indices.{Enters, AskedNone, AskedOnce, IsFullAt}
 use Rattle.pa_told.specs.Standing.{Unmaps}
+use Rattle.pa_heap.specs.Stocks.{StockValue}
 
 -- An exchange with cell k made one entry in the cells' list, which is of its line, and answers how many exchanges of the cell
 -- stand before it.
@@ -51,3 +54,13 @@ pub record EntersOwn (lists : ℕ → List Made) (x : ToldRecord) : Type 0 where
       (p < 4) × IsFullAt (lists p) x j
   pub uncuts : (t : Title) → Contains x.stretch (Uncut t) → Unmaps x t
   pub cells : EntersCells x.played.op (lists 5) x
+
+-- The view has seen an entry of list q; and what it has seen there of the stake's is what that's log entered.
+pub record HasSeenSome (stake q : ℕ) (v : View) : Type 0 where
+  pub some : (m : Made) × Contains (list_of q v) m
+  pub own : made_with stake (list_of q v) ≡ entered_in q (log_of stake v)
+
+-- In the list of a partition past the run's it entered nothing, or its seat had seen an entry there before.
+abbrev pub EntersAtHome : StockValue → ToldRecord → Type 0
+EntersAtHome before x =
+    (p : ℕ) → before.partitions ≤ p → p < 4 → (entered_in p x.stretch ≡ []) ⊎ HasSeenSome before.thread p before.view

@@ -1,5 +1,5 @@
 -- What follows of ops that a worker played one after the other: in every run that fits, the rows of its registers and of its
--- lists, and that each stretch is what its answer asks for.
+-- lists, that each stretch is what its answer asks for, and what it counted.
 use Rattle.std.specs.Prelude.{◌≡◌, ℕ, List, ◌++◌, Contains}
 use Rattle.pa_region.specs.declared.view.View.{View}
 use Rattle.pa_told.specs.Told.{ToldRecord, played_in}
@@ -7,6 +7,7 @@ use Rattle.pa_told.specs.Touches.{AreTold}
 use Rattle.pa_told.specs.Rows.{HasRows}
 use Rattle.pa_told.specs.Reported.{CacheLeadsTo}
 use Rattle.pa_heap.specs.Stocks.{regs_of, listed_in}
+use Rattle.pa_heap.specs.Counts.{CountsBy}
 use Rattle.pa_heap.specs.Workers.{WorkerValue}
 use Rattle.pa_heap.specs.Outcomes.{Outcome, IsOutcome, IsSeenOf, ActsAreOf, row_facts}
 use Rattle.pa_heap.specs.Plays.{PlaysAll}
@@ -26,3 +27,5 @@ pub record PlaysFollow : Type 0 where
       CacheLeadsTo o.partitions o.roots (listed_in w.stock) (played_in xs) (listed_in v.stock)
   pub told : (o : Outcome) (w v : WorkerValue) (xs : List ToldRecord) → PlaysAll w xs v → FitsAll o w.stock.partitions v.stock.view xs →
       AreTold o.sizes xs
+  pub counts : (o : Outcome) (w v : WorkerValue) (xs : List ToldRecord) → PlaysAll w xs v →
+      FitsAll o w.stock.partitions v.stock.view xs → CountsBy o.homes o.sizes (played_in xs) w.counts v.counts

@@ -1,4 +1,5 @@
 pub mod Stocks
+pub mod Counts
 pub mod Workers
 pub mod Outcomes
 pub mod Entering
@@ -7,3 +8,9 @@ pub mod Changes
 pub mod Following
 pub mod Starts
 pub mod Exchanging
+pub mod Closing
+pub mod Censuses
+pub mod Giving
+pub mod Homing
+pub mod Purging
+pub mod Allocating

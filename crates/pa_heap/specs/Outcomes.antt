@@ -19,24 +19,28 @@ use Rattle.pa_cells.specs.Cells.{Exchange, exchange_numbers, made_with_cell}
 use Rattle.pa_cells.specs.Handles.{HandsOut}
 
 -- What a run became: how many partitions it has, their journals, the pool's entries, the history of each cell, and the length
--- of each slot.
+-- and the partition of each slot.
 pub record Outcome : Type 0 where
   pub partitions : ℕ
   pub roots : Journals
   pub pools : List PoolEntry
   pub cells : ℕ → List CellEntry
   pub sizes : SlotName → ℕ
+  pub homes : SlotName → ℕ
 
 -- what the rows of registers ask of it: all bytes of a slot but its count word are usable
 abbrev pub row_facts : Outcome → Facts
 row_facts o = record { usable_of = usable_of; usable_at = λ s. o.sizes s - 8; cells = o.cells }
 
--- It is one of a run: no partition past its own has a journal, and a slot has the length with which a journal hands it out.
+-- It is one of a run: no partition past its own has a journal, and a slot has the length with which a journal hands it out, and
+-- that journal's partition.
 pub record IsOutcome (o : Outcome) : Type 0 where
   pub few : o.partitions ≤ 4
   pub past : (p : ℕ) → o.partitions ≤ p → o.roots p ≡ []
   pub lengths : (p : ℕ) (e : RootEntry) (class : Option ℕ) (t : Title) → Contains (o.roots p) e → HandsOut class t e.act →
       o.sizes (name_of t) ≡ t.len
+  pub homes : (p : ℕ) (e : RootEntry) (class : Option ℕ) (t : Title) → Contains (o.roots p) e → HandsOut class t e.act →
+      o.homes (name_of t) ≡ p
 
 -- What a view has seen stands in it: an entry of a journal or of the pool's list at its place, and an exchange in its cell's
 -- history behind those of the cell before it.

@@ -28,9 +28,10 @@ use Rattle.pa_legal.specs.Known.{UnmapsNext}
 use Rattle.pa_told.specs.Told.{ToldRecord}
 use Rattle.pa_told.specs.Touches.{IsTold, title_of}
 use Rattle.pa_heap.specs.Stocks.{StockValue, regs_of, listed_in}
+use Rattle.pa_heap.specs.Counts.{CountsBy}
 use Rattle.pa_heap.specs.Workers.{WorkerValue}
 use Rattle.pa_heap.specs.Outcomes.{Outcome, FitsRun, row_facts}
-use Rattle.pa_heap.specs.Entering.{EntersOwn}
+use Rattle.pa_heap.specs.Entering.{EntersOwn, EntersAtHome}
 
 -- What the seat had seen before the op, and after it. What the record hands on isn't more than it has seen then, and for an
 -- exchange it is what its entry carries.
@@ -87,6 +88,7 @@ pub record AnswersIn (o : Outcome) (before after : StockValue) (x : ToldRecord) 
 --   logs: the log of its stake has the stretch more, and no other log
 --   lists: it forgets nothing of any list
 --   seen, enters: what its seat had seen, and what it entered
+--   homes: in the list of a partition past the run's nothing, or its seat had seen an entry there before
 --   answers: in every run that fits, all is as the rules ask
 pub record Does (before after : StockValue) (x : ToldRecord) : Type 0 where
   pub thread : x.played.thread ≡ before.thread
@@ -96,6 +98,7 @@ pub record Does (before after : StockValue) (x : ToldRecord) : Type 0 where
   pub lists : (k : ℕ) → IsBeginning (list_of k before.view) (list_of k after.view)
   pub seen : HasSeenFor before.view after.view x
   pub enters : EntersOwn (λ k. list_of k after.view) x
+  pub homes : EntersAtHome before x
   pub answers : (o : Outcome) → FitsRun o before.partitions after.view x → AnswersIn o before after x
 
 -- so an op on this line does, with this answer, in whatever phase the line stands
@@ -104,10 +107,13 @@ DoesOp line op answer before after =
     (phase : ℕ) → (x : ToldRecord)
     × (x.played ≡ record { line = line; thread = before.thread; phase = phase; op = op; answer = answer }) × Does before after x
 
--- An op was played: the worker has its record besides, and all else is what the op did with its stock.
+-- An op was played: the worker has its record besides; its counts grew by the record's step, in every run that fits; and all else is
+-- what the op did with its stock.
 pub record PlaysOne (before after : WorkerValue) (x : ToldRecord) : Type 0 where
   pub records : after.records ≡ before.records ++ entry_of x.played ∷ []
   pub does : Does before.stock after.stock x
+  pub counts : (o : Outcome) → FitsRun o before.stock.partitions after.stock.view x →
+      CountsBy o.homes o.sizes (x.played ∷ []) before.counts after.counts
 
 abbrev pub PlaysOp : (line : ℕ) → Op → Answer → (before after : WorkerValue) → Type 0
 PlaysOp line op answer before after =

@@ -3,19 +3,25 @@ use Rattle.std.specs.Prelude.{◌≡◌, ℕ, ◌+◌, ◌<◌, ◌≤◌, List,
 use Rattle.pa_record.specs.declared.entry.Entry.{Entry}
 use Rattle.pa_region.specs.declared.view.View.{View}
 use Rattle.pa_region.specs.Views.{stake_of}
+use Rattle.pa_heap.specs.declared.counts.Count.{Count}
+use Rattle.pa_heap.specs.Counts.{AreOfSteps, counted_in, no_count}
 use Rattle.pa_heap.specs.Stocks.{StockValue, IsStock, IsNewStock}
 
--- A worker: its stock; its records so far, and for how many in all there is room; and whether an op answered want of memory.
+-- A worker: its stock; its records so far, and for how many in all there is room; whether an op answered want of memory; and what
+-- it counted of its steps, for each of 4 partitions.
 pub record WorkerValue : Type 0 where
   pub stock : StockValue
   pub records : List Entry
   pub room : ℕ
   pub stopped : Bool
+  pub counts : List Count
 
--- What is always true of it. There is a counted step in its budget for each record to come.
+-- What is always true of it. There is a counted step in its budget for each record to come, and it counted at most one step for each
+-- record.
 pub record IsWorker (w : WorkerValue) : Type 0 where
   pub stock : IsStock w.stock
   pub budget : w.room ≤ length w.records + w.stock.view.budget
+  pub counts : AreOfSteps (length w.records) w.counts
 
 -- it has its stake
 abbrev pub HasItsStake : StockValue → Type 0
@@ -45,3 +51,4 @@ pub record IsNewWorker (thread partitions lines : ℕ) (v : View) (w : WorkerVal
   pub records : w.records ≡ []
   pub room : w.room ≡ lines
   pub going : w.stopped ≡ false
+  pub counts : (p : ℕ) → counted_in w.counts p ≡ no_count

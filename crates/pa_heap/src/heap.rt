@@ -3,6 +3,7 @@ ghost use Rattle.pa_region.specs.Start.{first_view};
 ghost use Rattle.pa_region.specs.Waiting.{unclean_of};
 ghost use Rattle.pa_region.specs.Lists.{list_of};
 ghost use Rattle.pa_region.specs.Lending.{HostsKeeper};
+ghost use Rattle.pa_region.specs.Shares.{byte_word_count};
 ghost use Rattle.pa_pool.specs.Pools.{CanOpen};
 ghost use Rattle.pa_root.specs.Laws.{IsFirstView};
 ghost use Rattle.pa_region.specs.Hands.{left_after, given_after};
@@ -78,12 +79,14 @@ impl<N: Name> Heap<N> {
         ensures stakes { IfOk result (λ r. HasAllStakes budget r.1.view) }
     {
         let mut seat = seat;
+        is_whole(&seat, supers, budget);
         let (first, second, third, fourth, cells, workers) = part_all(
             &region, &mut seat, supers, budget,
         );
+        let pool = Pool::open(alloc, seat.note(), supers)?;
         let heap = Heap {
             region,
-            pool: Mutex::new(Pool::open(alloc, seat.note(), supers)?),
+            pool: Mutex::new(pool),
             first: Mutex::new(Root::open(alloc, first)?),
             second: Mutex::new(Root::open(alloc, second)?),
             third: Mutex::new(Root::open(alloc, third)?),
@@ -99,6 +102,15 @@ impl<N: Name> Heap<N> {
     {
         &self.region
     }
+}
+
+// A region with this first seat has the words of so many super pages.
+fn is_whole(seat: &Seat, supers: u32, budget: u32)
+    requires { seat.now.view ≡ first_view (262144 * supers) budget }
+    ensures { byte_word_count seat.now.region ≡ 262144 * supers }
+{
+    let _ = (supers, budget);
+    seat.aware();
 }
 
 // Parts the first seat of a region of so many super pages: a note for each root, one for the cells, and one with all stakes and

@@ -7,6 +7,7 @@ ghost use Rattle.pa_heap.specs.declared.register.Register.TheVariants.{Empty};
 ghost use Rattle.pa_heap.specs.Stocks.{AreNoLists, IsForThread, IsNewStock, listed_in};
 ghost use Rattle.pa_heap.specs.Workers.{HasItsStake};
 
+use crate::listing::{CLASSES, class_numbered};
 use crate::register::Register;
 use crate::stock::Stock;
 use pa_buckets::Class;
@@ -19,9 +20,6 @@ use std::marker::PhantomData;
 
 // How many lists there are: one for each of 59 classes in each of 4 partitions.
 const LISTS: u32 = 236;
-
-// How many classes there are.
-const CLASSES: u32 = 59;
 
 impl<N: Name> Stock<N> {
     /// The stock of a thread's worker at the start: its registers and lists are empty, and it has what the note has.
@@ -104,5 +102,5 @@ fn no_lists(alloc: Global) -> Result<Vec<Cache>, OutOfMemory>
 fn class_at(place: u32) -> Class
     ensures { result ≡ place % 59 }
 {
-    Class::of(place % CLASSES).unwrap()
+    class_numbered(place % CLASSES)
 }

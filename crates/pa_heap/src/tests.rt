@@ -5,11 +5,13 @@ ghost use Rattle.pa_heap.specs.Starts.{HasAllStakes};
 ghost use Rattle.pa_heap.specs.Stocks.{IsForThread};
 
 use crate::{Heap, Worker};
-use pa_record::{Answer, Entry};
+use pa_record::{Answer, Entry, RootAct, RootEntry, Tally};
 use pa_region::{Mark, Name, Note, Region, Seat};
+use pa_root::Root;
 use std::alloc::Global;
 use std::marker::Brand;
 use std::process::Abort;
+use std::sync::{Mutex, Wait};
 use std::test::Fail;
 
 // The note of thread 2, out of the seat with which a heap's workers begin.
@@ -50,6 +52,8 @@ fn play<N: Name, R: Abort>(rt: &R, alloc: Global, region: Region, seat: Seat) ->
         entry(5, Answer::Nothing),
     ];
     assert!(rt; worker.records() == records.as_slice());
+    assert!(rt; worker.cached(0) == Tally { slots: 0, bytes: 0 });
+    assert!(rt; worker.counts()[0].issued == Tally { slots: 0, bytes: 0 });
     let told = worker.tell(&heap);
     worker.hear(&heap, told);
     assert!(rt; worker.records().len() == 3);
@@ -60,4 +64,61 @@ fn play<N: Name, R: Abort>(rt: &R, alloc: Global, region: Region, seat: Seat) ->
 fn a_worker_without_handles_plays(rt: HostRuntime) -> Result<(), Fail> {
     let (region, seat) = Region::new(rt.alloc(), 1, 3)?;
     play::<Brand, _>(&rt, rt.alloc(), region, seat)
+}
+
+// Whether the root behind this lock has been purged on these lines, and nothing else was done.
+fn was_purged<N: Name, R: Wait, const P: u32>(
+    rt: &R,
+    root: &Mutex<Root<N, P>>,
+    lines: &[u32],
+) -> bool {
+    let locked = root.lock(rt);
+    let mut place = 0;
+    for entry in locked.journal() {
+        if place >= lines.len() || *entry != purged(lines[place]) {
+            return false;
+        }
+        place += 1;
+    }
+    place == lines.len()
+}
+
+// The entry of a purge.
+fn purged(line: u32) -> RootEntry {
+    RootEntry {
+        line,
+        act: RootAct::Purge,
+    }
+}
+
+// Two purges of a worker without lists: they say so, and the roots of the run's two partitions have an entry of each.
+fn purge_twice<N: Name, R: Abort + Wait>(
+    rt: &R,
+    alloc: Global,
+    region: Region,
+    seat: Seat,
+) -> Result<(), Fail>
+    requires regions { (region ≡ N.region) × (seat.region ≡ N.region) }
+    requires first { seat.view ≡ first_view 262144 3 }
+{
+    let (heap, mut seat) = Heap::<N>::open(alloc, 1, region, seat, 3)?;
+    let note = hand_over(&heap.region, &mut seat);
+    let mut worker = Worker::<N>::open(alloc, note, 2, 2, 3)?;
+    let first = worker.purge(rt, &heap, 4)?;
+    let second = worker.purge(rt, &heap, 7)?;
+    assert!(rt; first == Answer::Purged { slots: 0 });
+    assert!(rt; second == Answer::Purged { slots: 0 });
+    assert!(rt; was_purged(rt, &heap.first, &[4, 7]));
+    assert!(rt; was_purged(rt, &heap.second, &[4, 7]));
+    assert!(rt; was_purged(rt, &heap.third, &[]));
+    assert!(rt; was_purged(rt, &heap.fourth, &[]));
+    assert!(rt; worker.records().len() == 2);
+    assert!(rt; !worker.stopped());
+    Ok(())
+}
+
+#[test]
+fn a_worker_without_lists_purges(rt: HostRuntime) -> Result<(), Fail> {
+    let (region, seat) = Region::new(rt.alloc(), 1, 3)?;
+    purge_twice::<Brand, _>(&rt, rt.alloc(), region, seat)
 }

@@ -1,41 +1,50 @@
-ghost use Rattle.std.specs.Prelude.{◌≡◌, ℕ, ◌+◌, ◌<◌, ◌≤◌, ◌∷◌, ◌++◌, [], length, IfOk, vec_capacity};
+ghost use Rattle.std.specs.Prelude.{◌≡◌, ℕ, ◌+◌, ◌<◌, ◌≤◌, ◌∷◌, ◌++◌, [], length, IfOk, OnOk, OnErr, true, vec_capacity};
 ghost use Rattle.pa_region.specs.Views.{stake_of};
 ghost use Rattle.pa_region.specs.Hands.{left_after, given_after, united};
-ghost use Rattle.pa_region.specs.Lending.{stake_parcel};
-ghost use Rattle.pa_rules.specs.Caches.{SameLists};
+ghost use Rattle.pa_region.specs.Lending.{CanHost, stake_parcel};
+ghost use Rattle.pa_rules.specs.Caches.{SameLists, listed_slots};
+ghost use Rattle.pa_rules.specs.Report.{listed_bytes};
 ghost use Rattle.pa_trace.specs.declared.script.Op.TheVariants as ops;
 ghost use Rattle.pa_heap.specs.Stocks.{IsForThread, listed_in};
 ghost use Rattle.pa_heap.specs.Workers.{IsWorker, IsNewWorker, HasItsStake, CanPlayOp, KeepsOn, worker_with_view};
+ghost use Rattle.pa_heap.specs.Exchanging.{IsUndone};
+ghost use Rattle.pa_heap.specs.Closing.{HasTold};
 ghost use Rattle.pa_heap.specs.Plays.{PlaysOp};
 
+use crate::counts::{Count, START, count_step, done, made, owned, pointed};
 use crate::heap::Heap;
 use crate::stock::Stock;
-use pa_machine::OutOfMemory;
-use pa_record::{Answer, Entry};
+use pa_machine::{OutOfMemory, Step};
+use pa_record::{Answer, Entry, Tally};
 use pa_region::{Name, Note};
 use std::alloc::Global;
 use std::marker::Model;
+use std::sync::Wait;
 
 /// A worker: what plays the lines of one thread. Contracts see its stock, its records so far, for how many in all there is
-/// room, and whether an op of it answered want of memory.
+/// room, whether an op of it answered want of memory, and what it counted.
 #[derive(Drop)]
 pub struct Worker<N: Name> {
     stock: Stock<N>,
     records: Vec<Entry>,
     room: u32,
     stopped: bool,
+    counts: [Count; 4],
 }
 
 impl<N: Name> Model for Worker<N> {
     ghost use Rattle.std.specs.Prelude.{◌+◌, ◌≤◌, length, vec_capacity};
+    ghost use Rattle.pa_heap.specs.Counts.{AreOfSteps};
     ghost use Rattle.pa_heap.specs.Workers.{WorkerValue};
 
     ghost Value = { WorkerValue };
 
-    ghost view = { λ w. record { stock = w.stock; records = w.records.items; room = w.room; stopped = w.stopped } };
+    ghost view = { λ w.
+        record { stock = w.stock; records = w.records.items; room = w.room; stopped = w.stopped; counts = w.counts } };
 
     ghost invariant = { λ w. (w.room ≤ vec_capacity w.records)
-        × (w.room ≤ length w.records.items + w.stock.view.budget) };
+        × (w.room ≤ length w.records.items + w.stock.view.budget)
+        × AreOfSteps (length w.records.items) w.counts };
 }
 
 impl<N: Name> Worker<N> {
@@ -61,6 +70,7 @@ impl<N: Name> Worker<N> {
             records,
             room: lines,
             stopped: false,
+            counts: [START; 4],
         })
     }
 
@@ -108,6 +118,47 @@ impl<N: Name> Worker<N> {
         &self.records
     }
 
+    // Its seat, once it has told.
+    pub(crate) fn into_note(self) -> Note
+        requires { HasTold self }
+        ensures region { result.region ≡ N.region }
+        ensures same { result.view ≡ self.stock.view }
+        ensures host { CanHost result.view }
+    {
+        let Worker {
+            stock,
+            records: _,
+            room: _,
+            stopped: _,
+            counts: _,
+        } = self;
+        let Stock {
+            thread: _,
+            partitions: _,
+            seat,
+            registers: _,
+            caches: _,
+            of: _,
+        } = stock;
+        seat.note()
+    }
+
+    /// What it counted of its steps so far, for each partition.
+    pub fn counts(&self) -> [Count; 4]
+        ensures { result ≡ self.now.counts }
+    {
+        self.counts
+    }
+
+    /// How many slots its lists of a partition have, and their bytes.
+    pub fn cached(&self, partition: u32) -> Tally
+        requires partition { partition < 4 }
+        ensures slots { result.slots ≡ listed_slots (listed_in self.now.stock partition) 0 59 }
+        ensures bytes { result.bytes ≡ listed_bytes (λ class. length (listed_in self.now.stock partition class)) 0 59 }
+    {
+        self.stock.cached(partition)
+    }
+
     /// A copy of a handle of register `from` into `to`, on this line. It waits for nobody.
     pub fn copy(&mut self, heap: &Heap<N>, line: u32, from: u32, to: u32) -> Answer
         requires ready { CanPlayOp self.old }
@@ -143,6 +194,158 @@ impl<N: Name> Worker<N> {
         let answer = self.stock.deref(heap.region(), reg, place);
         enter(&mut self.records, self.stock.thread(), line, answer);
         answer
+    }
+
+    /// An allocation of so many bytes in a partition, on this line: the register owns the slot then. It waits for the lock of the
+    /// partition's root, where it needs that. After want of memory the worker is stopped, and all else is as before.
+    pub fn alloc<R: Wait>(
+        &mut self,
+        rt: &R,
+        heap: &Heap<N>,
+        line: u32,
+        reg: u32,
+        partition: u32,
+        size: u32,
+    ) -> Result<Answer, OutOfMemory>
+        requires ready { CanPlayOp self.old }
+        requires reg { reg < 64 }
+        requires partition { partition < self.old.stock.partitions }
+        ensures plays { IfOk result (λ answer. PlaysOp line (ops.Alloc reg partition size) answer self.old self.new) }
+        ensures goes_on { OnOk result (KeepsOn self.old self.new) }
+        ensures stops { OnErr result (self.new.stopped ≡ true) }
+        ensures undone { OnErr result (IsUndone self.old.stock self.new.stock) }
+        ensures same { OnErr result ((self.new.records ≡ self.old.records) × (self.new.room ≡ self.old.room)) }
+    {
+        match self.stock.alloc(rt, heap, line, reg, partition, size) {
+            Ok(answer) => {
+                self.stock.kept();
+                let handle = owned(self.stock.register(reg));
+                count_step(&mut self.counts, Step::Issue, handle, made(&answer));
+                enter(&mut self.records, self.stock.thread(), line, answer);
+                Ok(answer)
+            }
+            Err(OutOfMemory) => {
+                self.stopped = true;
+                Err(OutOfMemory)
+            }
+        }
+    }
+
+    /// A reset of the register's `raw_ptr`, on this line. It waits for locks only where its step returns a slot. After want of
+    /// memory the worker is stopped.
+    pub fn reset<R: Wait>(
+        &mut self,
+        rt: &R,
+        heap: &Heap<N>,
+        line: u32,
+        reg: u32,
+    ) -> Result<Answer, OutOfMemory>
+        requires ready { CanPlayOp self.old }
+        requires reg { reg < 64 }
+        ensures plays { IfOk result (λ answer. PlaysOp line (ops.Reset reg) answer self.old self.new) }
+        ensures goes_on { OnOk result (KeepsOn self.old self.new) }
+        ensures stops { OnErr result (self.new.stopped ≡ true) }
+    {
+        self.stock.kept();
+        let handle = pointed(self.stock.register(reg));
+        match self.stock.play_reset(rt, heap, line, reg) {
+            Ok(answer) => {
+                count_step(&mut self.counts, Step::Reset, handle, done(&answer));
+                enter(&mut self.records, self.stock.thread(), line, answer);
+                Ok(answer)
+            }
+            Err(OutOfMemory) => {
+                self.stopped = true;
+                self.room = self.records.len() as u32;
+                Err(OutOfMemory)
+            }
+        }
+    }
+
+    /// A free of what the register owns, on this line. It waits for locks only where its step returns a slot. After want of
+    /// memory the worker is stopped.
+    pub fn free<R: Wait>(
+        &mut self,
+        rt: &R,
+        heap: &Heap<N>,
+        line: u32,
+        reg: u32,
+    ) -> Result<Answer, OutOfMemory>
+        requires ready { CanPlayOp self.old }
+        requires reg { reg < 64 }
+        ensures plays { IfOk result (λ answer. PlaysOp line (ops.Free reg) answer self.old self.new) }
+        ensures goes_on { OnOk result (KeepsOn self.old self.new) }
+        ensures stops { OnErr result (self.new.stopped ≡ true) }
+    {
+        self.stock.kept();
+        let handle = owned(self.stock.register(reg));
+        match self.stock.play_free(rt, heap, line, reg) {
+            Ok(answer) => {
+                count_step(&mut self.counts, Step::Free, handle, done(&answer));
+                enter(&mut self.records, self.stock.thread(), line, answer);
+                Ok(answer)
+            }
+            Err(OutOfMemory) => {
+                self.stopped = true;
+                self.room = self.records.len() as u32;
+                Err(OutOfMemory)
+            }
+        }
+    }
+
+    /// A purge, on this line: of each partition of the run all lists of the worker go back to the root, which then decommits
+    /// its empty spans. After want of memory it is stopped, and what was given stays given.
+    pub fn purge<R: Wait>(
+        &mut self,
+        rt: &R,
+        heap: &Heap<N>,
+        line: u32,
+    ) -> Result<Answer, OutOfMemory>
+        requires ready { CanPlayOp self.old }
+        ensures plays { IfOk result (λ answer. PlaysOp line ops.Purge answer self.old self.new) }
+        ensures goes_on { OnOk result (KeepsOn self.old self.new) }
+        ensures stops { OnErr result (self.new.stopped ≡ true) }
+    {
+        match self.stock.purge(rt, heap, line) {
+            Ok(answer) => {
+                enter(&mut self.records, self.stock.thread(), line, answer);
+                Ok(answer)
+            }
+            Err(OutOfMemory) => {
+                self.stopped = true;
+                Err(OutOfMemory)
+            }
+        }
+    }
+
+    /// An exchange of the register with a cell, on this line. It waits for the lock of the cells. After want of memory the worker
+    /// is stopped, and all else is as before.
+    pub fn exchange<R: Wait>(
+        &mut self,
+        rt: &R,
+        heap: &Heap<N>,
+        line: u32,
+        cell: u32,
+        reg: u32,
+    ) -> Result<Answer, OutOfMemory>
+        requires ready { CanPlayOp self.old }
+        requires numbers { (cell < 64) × (reg < 64) }
+        ensures plays { IfOk result (λ answer. PlaysOp line (ops.Swap cell reg) answer self.old self.new) }
+        ensures goes_on { OnOk result (KeepsOn self.old self.new) }
+        ensures stops { OnErr result (self.new.stopped ≡ true) }
+        ensures undone { OnErr result (IsUndone self.old.stock self.new.stock) }
+        ensures kept { OnErr result ((self.new.records ≡ self.old.records) × (self.new.room ≡ self.old.room)) }
+    {
+        match self.stock.exchange(rt, heap, line, cell, reg) {
+            Ok(answer) => {
+                enter(&mut self.records, self.stock.thread(), line, answer);
+                Ok(answer)
+            }
+            Err(OutOfMemory) => {
+                self.stopped = true;
+                Err(OutOfMemory)
+            }
+        }
     }
 }
 

@@ -1,7 +1,8 @@
-ghost use Rattle.std.specs.Prelude.{◌≡◌, ◌≢◌, ℕ, ◌+◌, ◌<◌, ◌≤◌, [], ◌∷◌, ◌++◌, length, Some, IfOk, IfErr, IsOk};
+ghost use Rattle.std.specs.Prelude.{◌≡◌, ◌≢◌, ℕ, ◌+◌, ◌*◌, ◌<◌, ◌≤◌, [], ◌∷◌, ◌++◌, length, Some, IfOk, IfErr, IsOk};
 ghost use Rattle.std.specs.Vec.{vec_capacity};
 ghost use Rattle.pa_record.specs.Numbers.{pool_numbers};
 ghost use Rattle.pa_region.specs.Lending.{CanLend, HostsKeeper, MakesEntry};
+ghost use Rattle.pa_region.specs.Shares.{byte_word_count};
 ghost use Rattle.pa_pool.specs.Pools.{IsPoolKept, CanOpen};
 ghost use Rattle.pa_pool.specs.Calls.{IsTaken, IsNoteOf, IsAsBefore, Refused, HasSeenTake, ComesBack, IsGivenBack};
 
@@ -31,8 +32,9 @@ pub struct Pool<N: Name> {
 }
 
 impl<N: Name> Model for Pool<N> {
-    ghost use Rattle.std.specs.Prelude.{◌≡◌, ◌-◌, length, min};
+    ghost use Rattle.std.specs.Prelude.{◌≡◌, ◌-◌, ◌*◌, length, min};
     ghost use Rattle.std.specs.Vec.{vec_capacity};
+    ghost use Rattle.pa_region.specs.Shares.{byte_word_count};
     ghost use Rattle.pa_pool.specs.Pools.{PoolValue, IsPoolSound, pool_after};
 
     ghost Value = { PoolValue };
@@ -46,14 +48,16 @@ impl<N: Name> Model for Pool<N> {
 
     ghost invariant = { λ p. (p.seat.region ≡ N.region)
         × (p.plan ≡ pool_after p.entries.items p.plan.supers)
-        × IsPoolSound p.plan.supers p.entries.items p.seat.view };
+        × IsPoolSound p.plan.supers p.entries.items p.seat.view
+        × (byte_word_count N.region ≡ 262144 * p.plan.supers) };
 }
 
 impl<N: Name> Pool<N> {
-    /// The pool of so many super pages, at most 16, none of which is taken. The note has them as raw, the pool's keeper, and
-    /// every lease.
+    /// The pool of the region's super pages, at most 16, none of which is taken. The note has them as raw, the pool's keeper,
+    /// and every lease.
     pub fn open(alloc: Global, note: Note, supers: u32) -> Result<Pool<N>, OutOfMemory>
         requires region { note.region ≡ N.region }
+        requires whole { byte_word_count N.region ≡ 262144 * supers }
         requires able { CanOpen supers note.view }
         ensures view { IfOk result (λ p. p.view ≡ note.view) }
         ensures entries { IfOk result (λ p. p.entries ≡ []) }
@@ -72,6 +76,7 @@ impl<N: Name> Pool<N> {
     pub fn kept(&self)
         ensures { IsPoolKept self.now }
     {
+        // Naming the seat hands the proof what its type keeps.
         let _ = &self.seat;
     }
 
@@ -179,9 +184,10 @@ impl<N: Name> Pool<N> {
         &self.entries
     }
 
-    /// The pool's entries, and its whole seat.
+    /// The pool's entries, and its whole seat. Its super pages are all that the region has.
     pub fn close(self) -> (Vec<PoolEntry>, Note)
         ensures kept { IsPoolKept self }
+        ensures whole { byte_word_count N.region ≡ 262144 * self.supers }
         ensures entries { result.0.items ≡ self.entries }
         ensures note { (result.1.region ≡ N.region) × (result.1.view ≡ self.view) }
     {

@@ -1,7 +1,8 @@
 //! Super pages are taken and given back, on one thread.
-ghost use Rattle.std.specs.Prelude.{◌≡◌, ℕ, ◌≤◌, IfSome};
+ghost use Rattle.std.specs.Prelude.{◌≡◌, ℕ, ◌*◌, ◌≤◌, IfSome};
 ghost use Rattle.pa_region.specs.Lists.{list_of, IsBeginning};
 ghost use Rattle.pa_region.specs.Lending.{CanLend};
+ghost use Rattle.pa_region.specs.Shares.{byte_word_count};
 ghost use Rattle.pa_pool.specs.Pools.{CanOpen};
 ghost use Rattle.pa_pool.specs.Calls.{ComesBack};
 
@@ -116,6 +117,7 @@ fn play<N: Name>(
 ) -> Option<(Answers, Vec<PoolEntry>)>
     requires regions { (region.now ≡ N.region) × (seat.old.region ≡ N.region) × (note.region ≡ N.region) }
     requires lender { CanLend seat.old.view }
+    requires whole { byte_word_count N.region ≡ 262144 * 4 }
     requires able { CanOpen 4 note.view }
 {
     let mut pool = Pool::<N>::open(alloc, note, 4).ok()?;

@@ -40,8 +40,10 @@ pub record IsRefusedBy (j r p line count : ℕ) (class : Option ℕ) (v after w 
   pub now_aware : IsAware w_now
 
 -- why there are no super pages: none are free; or there was no memory, and nothing changed
-abbrev pub RefusesRoom : (r p line count : ℕ) → Option ℕ → (seat seat_now own own_now : Share) → (js js_now : List RootEntry) → FillFault → Type 0
-RefusesRoom r p line count class a b w w_now js js_now (Full j) = IsRefusedBy j r p line count class a.view b.view w.view w_now.view js js_now
+abbrev pub RefusesRoom :
+    (r p line count : ℕ) → Option ℕ → (seat seat_now own own_now : Share) → (js js_now : List RootEntry) → FillFault → Type 0
+RefusesRoom r p line count class a b w w_now js js_now (Full j) =
+    IsRefusedBy j r p line count class a.view b.view w.view w_now.view js js_now
 RefusesRoom r p line count class a b w w_now js js_now OutOfMemory = (b ≡ a) × (w_now ≡ w) × (js_now ≡ js)
 
 -- a root's state, of its parts

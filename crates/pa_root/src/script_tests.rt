@@ -1,6 +1,7 @@
 //! Scripts of calls, played on a root over a region.
-ghost use Rattle.std.specs.Prelude.{◌≡◌, ◌<◌, ◌≤◌, length};
+ghost use Rattle.std.specs.Prelude.{◌≡◌, ◌*◌, ◌<◌, ◌≤◌, length};
 ghost use Rattle.pa_region.specs.Lending.{CanLend};
+ghost use Rattle.pa_region.specs.Shares.{byte_word_count};
 ghost use Rattle.pa_pool.specs.Pools.{CanOpen};
 ghost use Rattle.pa_root.specs.Laws.{IsFirstView};
 
@@ -216,6 +217,7 @@ fn play_by<N: Name, R: Wait>(
     requires notes { (notes.0.region ≡ N.region) × (notes.1.region ≡ N.region) }
     requires lender { CanLend seat.old.view }
     requires first { IsFirstView 0 notes.0.view }
+    requires whole { byte_word_count N.region ≡ 262144 * supers }
     requires able { CanOpen supers notes.1.view }
 {
     let mut stage = Stage::<N> {

@@ -1,6 +1,6 @@
 -- The worked run of two threads, with each of the three answers of its read, meets at once what all layers are asked.
 use Rattle.std.proofs.Common.{◌≡◌, ℕ, ◌<◌, ◌≤◌, false, List, [], rules, refl, sym, ap, subst, arith, inl, inr}
-use Rattle.std.specs.Prelude.{◌++◌, take, drop, Contains}
+use Rattle.std.specs.Prelude.{Some, None, ◌++◌, take, drop, Contains}
 use Rattle.std.specs.List.{AllByRecursion as Each}
 use Rattle.std.proofs.lemmas.Bool.{cases_eq}
 use Rattle.pa_machine.specs.declared.title.Title.{Title}
@@ -17,6 +17,7 @@ use Rattle.pa_record.specs.declared.entry.Answer.TheVariants as answers
 use Rattle.pa_record.specs.declared.report.ReportLine.{ReportLine}
 use Rattle.pa_record.specs.declared.report.Tally.{Tally}
 use Rattle.pa_rules.specs.declared.played.Played.{Played}
+use Rattle.pa_rules.specs.Played.{mark_of}
 use Rattle.pa_rules.specs.Registers.{Row}
 use Rattle.pa_rules.specs.Report.{until}
 use Rattle.pa_legal.specs.Tallies.{issues, frees, enters, leaves}
@@ -30,7 +31,7 @@ use Rattle.pa_told.specs.Touches.{IsTold, AreTold}
 use Rattle.pa_told.specs.Reported.{IsLeftBy}
 use Rattle.pa_told.specs.Seats.{AreOfLines}
 use Rattle.pa_told.specs.Viewed.{AreViewed}
-use Rattle.pa_told.specs.Said.{sizes_in, homes_in, HaveSeen, EndsPhase, RunnerSays, HeapTells, IsLineSaid}
+use Rattle.pa_told.specs.Said.{sizes_in, homes_in, EndsPhase, RunnerSays, HeapTells, IsLineSaid}
 use Rattle.pa_told.proofs.Through.{by_length}
 use Rattle.pa_told.proofs.Said.{layers_tell_all}
 use Rattle.pa_told_worked.specs.Worked.{Worked, told_record, told_records}
@@ -45,7 +46,7 @@ use Rattle.pa_told_worked.proofs.Layered.{size_is, home_is, pool_tells, roots_te
 use Rattle.pa_told_worked.proofs.Otherwise.{so_content, content_second, content_of_second, content_of_last, so_freed, freed_second, freed_of_second, freed_of_last, other_reads_fit}
 use Rattle.pa_told_worked.proofs.PhaseEnds.{KnowsUntil, ends_1, ends_2, ends_3}
 use Rattle.pa_told_worked.proofs.Played.{so_read, held_row, freed_row, rows_of, caches_until, ReadsOnly, leads_of}
-use Rattle.pa_told_worked.proofs.Seen.{covered}
+use Rattle.pa_told_worked.proofs.Seen.{covered, have_seen}
 use Rattle.pa_told_worked.proofs.Threads.{steps_first, steps_second, steps_last, told_first, told_second, of_first, of_second, of_last, seen_so}
 
 -- by how many steps slots became live or quarantined, or ended that, until a phase
@@ -167,14 +168,6 @@ module _ (answer : Answer) (word value after : ℕ) (fits : ReadFits answer word
     places = refl;
   }
 
-  have_seen : HaveSeen ts
-  have_seen = record {
-    steps = fits.viewed.steps;
-    looks = fits.viewed.looks;
-    grows = fits.viewed.grows;
-    thread = λ x y u first second thread less. fits.viewed.stands x y u first second (inl (thread, less));
-  }
-
   -- each record entered only what is of its line
   of_lines : (q : ℕ) → q < 6 → AreOfLines q ts
   of_lines = below_six (λ p. AreOfLines p ts) (lines_told 0 ts refl) (lines_told 1 ts refl) (lines_told 2 ts refl) (lines_told 3 ts refl) (lines_told 4 ts refl) (lines_told 5 ts refl)
@@ -184,7 +177,7 @@ module _ (answer : Answer) (word value after : ℕ) (fits : ReadFits answer word
     told = told;
     lines = of_lines;
     rows = rows_of sizes (size_is so) answer word value after (fits.row sizes (size_is so));
-    seen = have_seen;
+    seen = have_seen threads_cells ts fits.viewed;
     caches = λ n k some_phase few. leads_of answer word value after fits.cached n k (omega arith);
   }
 
@@ -242,92 +235,73 @@ module _ (answer : Answer) (word value after : ℕ) (fits : ReadFits answer word
 
 -- ---- the three answers
 
-abbrev poison_read : Worked
-poison_read = the_read
+-- a read whose record tells of a look at the slot
+abbrev IsLook : Answer → ℕ → Type 0
+IsLook answer word = mark_of (record { line = 8; thread = 1; phase = 2; op = ops.Read 0 0; answer = answer }) ≡ Some (record { line = 8; slot = the_slot; found = word; step = None })
 
-pub poison_fits : ReadFits (answers.Value (seen_at 16384 0 0x2000003) poison) 0x2000003 poison 2 (reading_so poison_read)
-poison_fits = record {
-  told = λ sizes long. subst (λ n. IsTold (λ s. n) (told_record poison_read)) (sym long) (refl, (0, 0, false, refl, record { since = no_deeds; unclean = false; pair = refl; quiet = refl; clean = refl; in_use = omega arith }));
-  viewed = seen_so;
-  first = record { knows = knows_one told_first steps_first of_first; own_logs = refl };
-  second = record { knows = knows_one told_second steps_second of_second; own_logs = refl };
-  last = record {
-    until = record { knows = knows_one threads_told steps_last of_last; own_logs = refl };
-    first = ap reached (history_here threads_told steps_last of_last);
-    others = history_there threads_told steps_last of_last;
-  };
-  row = λ sizes long. held_row sizes long 0x2000003 poison refl;
-  cached = (none_on two_threads_journal 8 refl, λ p c. refl);
+-- What is asked of the answer by itself: it is a look, and in a register's row and in the lists it changes nothing. The rest follows
+-- from what is known of logs and of what was seen.
+pub fits : (answer : Answer) (word value after : ℕ) → IsLook answer word →
+    ((sizes : SlotName → ℕ) → sizes the_slot ≡ 16 → IsTold sizes (told_record (so_read answer word value after))) →
+    ((sizes : SlotName → ℕ) → sizes the_slot ≡ 16 → Row (by_length sizes threads_cells) (ops.Read 0 0) after_take answer after_take) → ReadsOnly answer →
+    AreViewed threads_cells (reading_so (so_read answer word value after)) → KnowsUntil (reading_so (so_read answer word value after)) 1 →
+    KnowsUntil (reading_so (so_read answer word value after)) 2 → KnowsLast (reading_so (so_read answer word value after)) →
+    ((u : Title) → seen_among u (seen_number after) ≤ seen_among u (seen_number 4)) → ReadFits answer word value after (reading_so (so_read answer word value after))
+fits answer word value after look told row cached viewed first second last heard = record {
+  told = told;
+  viewed = viewed;
+  first = first;
+  second = second;
+  last = last;
+  row = row;
+  cached = cached;
   until_1 = record {
     lives = λ homes sizes home long. record { slots = rw home refl; bytes = rw (home, long) refl };
     waits = λ homes sizes home long. record { slots = refl; bytes = refl };
   };
   until_2 = record {
-    lives = λ homes sizes home long. record { slots = rw home refl; bytes = rw (home, long) refl };
-    waits = λ homes sizes home long. record { slots = rw home refl; bytes = rw (home, long) refl };
+    lives = λ homes sizes home long. record { slots = rw (look, home) refl; bytes = rw (look, home, long) refl };
+    waits = λ homes sizes home long. record { slots = rw (look, home) refl; bytes = rw (look, home, long) refl };
   };
   until_3 = record {
-    lives = λ homes sizes home long. record { slots = rw home refl; bytes = rw (home, long) refl };
-    waits = λ homes sizes home long. record { slots = rw home refl; bytes = rw (home, long) refl };
+    lives = λ homes sizes home long. record { slots = rw (look, home) refl; bytes = rw (look, home, long) refl };
+    waits = λ homes sizes home long. record { slots = rw (look, home) refl; bytes = rw (look, home, long) refl };
   };
-  heard = λ u. covered (seen_number 2) (seen_number 4) refl u;
+  heard = heard;
 }
+
+pub poison_fits : ReadFits (answers.Value (seen_at 16384 0 0x2000003) poison) 0x2000003 poison 2 (reading_so the_read)
+poison_fits = fits (answers.Value (seen_at 16384 0 0x2000003) poison) 0x2000003 poison 2 refl
+    (λ sizes long. subst (λ n. IsTold (λ s. n) (told_record the_read)) (sym long) (refl, (0, 0, false, refl, record { since = no_deeds; unclean = false; pair = refl; quiet = refl; clean = refl; in_use = omega arith })))
+    (λ sizes long. held_row sizes long 0x2000003 poison refl) (none_on two_threads_journal 8 refl, λ p c. refl) seen_so
+    (record { knows = knows_one told_first steps_first of_first; own_logs = refl }) (record { knows = knows_one told_second steps_second of_second; own_logs = refl }) (record {
+      until = record { knows = knows_one threads_told steps_last of_last; own_logs = refl };
+      first = ap reached (history_here threads_told steps_last of_last);
+      others = history_there threads_told steps_last of_last;
+    })
+    (covered (seen_number 2) (seen_number 4) refl)
 
 pub content_fits : ReadFits (answers.Value (seen_at 16384 0 0x2000003) 0) 0x2000003 0 2 (reading_so content_read)
-content_fits = record {
-  told = λ sizes long. subst (λ n. IsTold (λ s. n) (told_record content_read)) (sym long) (refl, (0, 0, false, refl, record { since = no_deeds; unclean = false; pair = refl; quiet = refl; clean = refl; in_use = omega arith }));
-  viewed = other_reads_fit.content.viewed;
-  first = record { knows = knows_one told_first steps_first of_first; own_logs = refl };
-  second = record { knows = knows_one content_second steps_second content_of_second; own_logs = refl };
-  last = record {
-    until = record { knows = knows_one so_content steps_last content_of_last; own_logs = refl };
-    first = ap reached (history_here so_content steps_last content_of_last);
-    others = history_there so_content steps_last content_of_last;
-  };
-  row = λ sizes long. held_row sizes long 0x2000003 0 refl;
-  cached = (none_on two_threads_journal 8 refl, λ p c. refl);
-  until_1 = record {
-    lives = λ homes sizes home long. record { slots = rw home refl; bytes = rw (home, long) refl };
-    waits = λ homes sizes home long. record { slots = refl; bytes = refl };
-  };
-  until_2 = record {
-    lives = λ homes sizes home long. record { slots = rw home refl; bytes = rw (home, long) refl };
-    waits = λ homes sizes home long. record { slots = rw home refl; bytes = rw (home, long) refl };
-  };
-  until_3 = record {
-    lives = λ homes sizes home long. record { slots = rw home refl; bytes = rw (home, long) refl };
-    waits = λ homes sizes home long. record { slots = rw home refl; bytes = rw (home, long) refl };
-  };
-  heard = λ u. covered (seen_number 2) (seen_number 4) refl u;
-}
+content_fits = fits (answers.Value (seen_at 16384 0 0x2000003) 0) 0x2000003 0 2 refl
+    (λ sizes long. subst (λ n. IsTold (λ s. n) (told_record content_read)) (sym long) (refl, (0, 0, false, refl, record { since = no_deeds; unclean = false; pair = refl; quiet = refl; clean = refl; in_use = omega arith })))
+    (λ sizes long. held_row sizes long 0x2000003 0 refl) (none_on two_threads_journal 8 refl, λ p c. refl) other_reads_fit.content.viewed
+    (record { knows = knows_one told_first steps_first of_first; own_logs = refl }) (record { knows = knows_one content_second steps_second content_of_second; own_logs = refl }) (record {
+      until = record { knows = knows_one so_content steps_last content_of_last; own_logs = refl };
+      first = ap reached (history_here so_content steps_last content_of_last);
+      others = history_there so_content steps_last content_of_last;
+    })
+    (covered (seen_number 2) (seen_number 4) refl)
 
 pub freed_fits : ReadFits (answers.Dangling (seen_at 16384 0 0x3000002) poison) 0x3000002 poison 3 (reading_so freed_read)
-freed_fits = record {
-  told = λ sizes long. subst (λ n. IsTold (λ s. n) (told_record freed_read)) (sym long) (refl, (0, 0, false, refl, record { since = no_deeds; unclean = false; pair = refl; quiet = refl; clean = refl; in_use = omega arith }));
-  viewed = other_reads_fit.freed.viewed;
-  first = record { knows = knows_one told_first steps_first of_first; own_logs = refl };
-  second = record { knows = knows_one freed_second steps_second freed_of_second; own_logs = refl };
-  last = record {
-    until = record { knows = knows_one so_freed steps_last freed_of_last; own_logs = refl };
-    first = ap reached (history_here so_freed steps_last freed_of_last);
-    others = history_there so_freed steps_last freed_of_last;
-  };
-  row = λ sizes long. freed_row sizes long 0x3000002 poison refl;
-  cached = (none_on two_threads_journal 8 refl, λ p c. refl);
-  until_1 = record {
-    lives = λ homes sizes home long. record { slots = rw home refl; bytes = rw (home, long) refl };
-    waits = λ homes sizes home long. record { slots = refl; bytes = refl };
-  };
-  until_2 = record {
-    lives = λ homes sizes home long. record { slots = rw home refl; bytes = rw (home, long) refl };
-    waits = λ homes sizes home long. record { slots = rw home refl; bytes = rw (home, long) refl };
-  };
-  until_3 = record {
-    lives = λ homes sizes home long. record { slots = rw home refl; bytes = rw (home, long) refl };
-    waits = λ homes sizes home long. record { slots = rw home refl; bytes = rw (home, long) refl };
-  };
-  heard = λ u. covered (seen_number 3) (seen_number 4) refl u;
-}
+freed_fits = fits (answers.Dangling (seen_at 16384 0 0x3000002) poison) 0x3000002 poison 3 refl
+    (λ sizes long. subst (λ n. IsTold (λ s. n) (told_record freed_read)) (sym long) (refl, (0, 0, false, refl, record { since = no_deeds; unclean = false; pair = refl; quiet = refl; clean = refl; in_use = omega arith })))
+    (λ sizes long. freed_row sizes long 0x3000002 poison refl) (none_on two_threads_journal 8 refl, λ p c. refl) other_reads_fit.freed.viewed
+    (record { knows = knows_one told_first steps_first of_first; own_logs = refl }) (record { knows = knows_one freed_second steps_second freed_of_second; own_logs = refl }) (record {
+      until = record { knows = knows_one so_freed steps_last freed_of_last; own_logs = refl };
+      first = ap reached (history_here so_freed steps_last freed_of_last);
+      others = history_there so_freed steps_last freed_of_last;
+    })
+    (covered (seen_number 3) (seen_number 4) refl)
 
 pub threads_say : ThreadsSay
 threads_say = record {

@@ -1,14 +1,11 @@
 -- The worked run of two threads is closed: its seat is what it is asked to be, so the words at the end hold the run.
-use Rattle.std.proofs.Common.{◌≡◌, ℕ, zero, suc, ◌+◌, ◌*◌, ◌<◌, Bool, true, false, not, List, [], ◌∷◌, map, refl, sym, ◌∙◌, ap, subst, arith, inl, inr}
+use Rattle.std.proofs.Common.{◌≡◌, ℕ, zero, suc, ◌<◌, List, [], ◌∷◌, map, refl, sym, ◌∙◌, ap, subst, arith, inl, inr}
 use Rattle.std.specs.Prelude.{Contains}
-use Rattle.std.specs.List.{list_all}
-use Rattle.std.proofs.lemmas.Bool.{true≢false, cases_eq}
+use Rattle.std.proofs.lemmas.Bool.{cases_eq}
 use Rattle.pa_machine.specs.declared.title.Title.{Title}
 use Rattle.pa_machine.specs.declared.word.SlotName.{SlotName}
 use Rattle.pa_buckets.specs.Table.{rows, row_of, slot_of, pages_of, slots_of}
 use Rattle.pa_buckets.specs.Bands.{fill_of}
-use Rattle.pa_region.specs.declared.view.Entry.{Entry}
-use Rattle.pa_region.specs.declared.view.Entry.TheVariants.{Counted, Looked, Read, Added, Entered, Uncut}
 use Rattle.pa_record.specs.declared.entry.Answer.{Answer}
 use Rattle.pa_record.specs.declared.entry.Answer.TheVariants as answers
 use Rattle.pa_record.specs.declared.numbered.Numbered.{Numbered}
@@ -16,15 +13,13 @@ use Rattle.pa_record.specs.declared.root.RootEntry.{RootEntry}
 use Rattle.pa_record.specs.declared.root.RootAct.TheVariants.{Map}
 use Rattle.pa_record.specs.Root.{new_root, root_replayed}
 use Rattle.pa_record.specs.Sound.{IsMade, IsMadeBy}
-use Rattle.pa_record.specs.Spans.{Span, title_at, name_of}
-use Rattle.pa_record.proofs.Joined.{map_in}
+use Rattle.pa_record.specs.Spans.{name_of}
 use Rattle.pa_record.proofs.Members.{not_in_none}
 use Rattle.pa_rules.specs.Caches.{no_caches}
 use Rattle.pa_rules.specs.Report.{until}
 use Rattle.pa_rules.proofs.Known.{IsKnown, all_known}
 use Rattle.pa_machine.specs.Titles.{poison}
 use Rattle.pa_one_run.specs.Worked.{seen_at, two_threads_trace, two_threads_records, two_threads_journal, two_threads_pool}
-use Rattle.pa_one_run.proofs.worked.Lists.{each, passes}
 use Rattle.pa_one_run.proofs.worked.OneFill.{roots}
 use Rattle.pa_one_run.proofs.worked.ThreadsHeld.{rooted, pooled, after_3, cached_3}
 use Rattle.pa_told.specs.Told.{ToldRecord}
@@ -38,46 +33,28 @@ use Rattle.pa_told.proofs.Sizing.{lengths_follow}
 use Rattle.pa_told_worked.specs.Worked.{Worked}
 use Rattle.pa_told_worked.specs.Threads.{the_fill}
 use Rattle.pa_told_worked.specs.OtherReads.{reading_so}
-use Rattle.pa_told_worked.specs.AllSaid.{title_number, span_slots, last_words, seat_last, told_with, SaysWith, ClosesWith, ThreadsClose}
+use Rattle.pa_told_worked.specs.AllSaid.{span_slots, last_words, seat_last, told_with, SaysWith, ClosesWith, ThreadsClose}
 use Rattle.pa_told_worked.proofs.AllSaid.{ReadFits, says, says_lists, poison_fits, content_fits, freed_fits}
 use Rattle.pa_told_worked.proofs.ClosingSeat.{KnowsLast, is_end}
-use Rattle.pa_told_worked.proofs.FreeSlots.{times_in, stands_in, slot_has}
+use Rattle.pa_told_worked.proofs.FreeSlots.{times_in, shape_of, made_free}
 use Rattle.pa_told_worked.proofs.Played.{so_read, caches_until}
+use Rattle.pa_told_worked.proofs.Uncuts.{unmaps_none, only_unmaps}
 
 -- ---- the slots of the journal
-
--- the place, the entry of the pool, the class and the slots made of a span
-abbrev shape_of : Span → ℕ × ℕ × ℕ × ℕ
-shape_of s = (s.place, s.born, s.class, s.made)
 
 spans_are : map shape_of (root_replayed two_threads_pool two_threads_journal new_root).spans ≡ (16384, 0, 0, 256) ∷ []
 unfolding rows row_of slot_of pages_of slots_of fill_of
 spans_are = refl
 
-sixteen_bytes : slot_of 0 ≡ 16
-unfolding rows row_of slot_of
-sixteen_bytes = refl
-
--- a slot that was made is one of the first 256
-made_free : (u : Title) → IsMade (root_replayed two_threads_pool two_threads_journal new_root) u → 0 < times_in (span_slots 256) u
-made_free u (s, among, number, below, is) =
-    let shape = only_one (16384, 0, 0, 256) (shape_of s) (subst (λ xs. Contains xs (shape_of s)) spans_are (map_in shape_of (root_replayed two_threads_pool two_threads_journal new_root).spans s among)) in
-    let place : 16384 ≡ s.place = ap (λ (x : ℕ × ℕ × ℕ × ℕ). x.0) shape in
-    let born : 0 ≡ s.born = ap (λ (x : ℕ × ℕ × ℕ × ℕ). x.1) shape in
-    let class : 0 ≡ s.class = ap (λ (x : ℕ × ℕ × ℕ × ℕ). x.2) shape in
-    let made : 256 ≡ s.made = ap (λ (x : ℕ × ℕ × ℕ × ℕ). x.3) shape in
-    let size : 16 ≡ slot_of s.class = sym sixteen_bytes ∙ ap slot_of class in
-    let named : title_number number ≡ title_at s number =
-    ap (λ (n : ℕ). record { start = n + 16 * number; len = 16; born = 0 }) place
-    ∙ (ap (λ (n : ℕ). record { start = s.place + n * number; len = n; born = 0 }) size ∙ ap (λ (n : ℕ). record { start = s.place + slot_of s.class * number; len = slot_of s.class; born = n }) born) in
-    stands_in (span_slots 256) u (subst (λ t. Contains (span_slots 256) t) (named ∙ sym is) (slot_has 256 number (omega arith)))
+made_by_root : (u : Title) → IsMade (root_replayed two_threads_pool two_threads_journal new_root) u → 0 < times_in (span_slots 256) u
+made_by_root u made = made_free (root_replayed two_threads_pool two_threads_journal new_root) spans_are u made
 
 -- the journal makes no direct map
 not_map : (asked len : ℕ) (slot : SlotName) → the_fill.act ≡ Map asked slot len → ⊥
 not_map asked len slot e = cc
 
 made_by_free : (u : Title) → IsMadeBy two_threads_pool (roots 0) u → 0 < times_in (span_slots 256) u
-made_by_free u (inl made) = made_free u made
+made_by_free u (inl made) = made_by_root u made
 made_by_free u (inr (e, asked, len, slot, among, act, is)) = absurd (not_map asked len slot (ap (λ (z : RootEntry). z.act) (only_one the_fill e among) ∙ act))
 
 -- the slots of the threads' lists are of their lists' classes
@@ -95,14 +72,6 @@ known_at k few = elim (cases_eq 0 k) [
 
 -- ---- the close
 
-is_uncut : Entry → Bool
-is_uncut (Counted t step found value) = false
-is_uncut (Looked t found) = false
-is_uncut (Read t place value since owned unclean) = false
-is_uncut (Added word bytes) = false
-is_uncut (Entered keeper made) = false
-is_uncut (Uncut t) = true
-
 module _ (answer : Answer) (word value after : ℕ) (last : KnowsLast (reading_so (so_read answer word value after))) where
   abbrev so : Worked
   so = so_read answer word value after
@@ -113,14 +82,14 @@ module _ (answer : Answer) (word value after : ℕ) (last : KnowsLast (reading_s
   abbrev sizes : SlotName → ℕ
   sizes = sizes_in two_threads_trace (told_with so)
 
-  abbrev CutsNone : ToldRecord → Type 0
-  CutsNone x = list_all (λ (e : Entry). not (is_uncut e)) x.stretch ≡ true
-
   unmaps : OnlyUnmapsUncut ts
-  unfolding is_uncut
-  unmaps x t among cut =
-      let none = each CutsNone ts (refl, (refl, (refl, (refl, (refl, (refl, (refl, (refl, tt)))))))) x among in
-      absurd (true≢false (sym (passes (λ (e : Entry). not (is_uncut e)) x.stretch (Uncut t) none cut)))
+  unmaps = only_unmaps ts (
+    unmaps_none _ refl,
+    (
+      unmaps_none _ refl,
+      (unmaps_none _ refl, (unmaps_none _ refl, (unmaps_none _ refl, (unmaps_none _ refl, (unmaps_none _ refl, (unmaps_none _ refl, tt)))))),
+    ),
+  )
 
   listed : (k p class : ℕ) (m : Numbered) → k < 2 → p < 1 → class < 59 → Contains (caches_until 3 k p class) m → 0 < times_in (span_slots 256) (title_of sizes m.slot)
   listed k p class m few one real among =
@@ -133,7 +102,7 @@ module _ (answer : Answer) (word value after : ℕ) (last : KnowsLast (reading_s
       subst (λ (s : SlotName). 0 < times_in (span_slots 256) (title_of sizes s)) name (subst (λ u. 0 < times_in (span_slots 256) u) titled (made_by_free t here))
 
   made_there : (p : ℕ) (u : Title) → IsMade (root_replayed two_threads_pool (roots p) new_root) u → 0 < times_in (span_slots 256) u
-  made_there zero u made = made_free u made
+  made_there zero u made = made_by_root u made
   made_there (suc p) u (s, among, number, below, is) = absurd (not_in_none s among)
 
   closes : CloseSays two_threads_trace (told_with so) (seat_last so) ts (caches_until 3)

@@ -251,7 +251,7 @@ pub two_threads_have_lists : TwoThreadsHaveLists
 two_threads_have_lists = record { lists = threads_fit; swapped = threads_swapped; answered = threads_answered }
 
 -- the runs of one thread, which are of one phase
-purge_asked : AreAsked (map in_pool purge_pool) purge_told
+pub purge_asked : AreAsked (map in_pool purge_pool) purge_told
 purge_asked x among = each (Asked (map in_pool purge_pool)) purge_told (
   asked_once (map in_pool purge_pool) _ (the_fill ∷ []) (in_pool the_take) the_take the_fill 0 refl refl refl refl refl refl refl refl refl
       (record { older = []; rest = []; begins = refl; index_is = refl }),
@@ -279,10 +279,10 @@ purge_has_lists = record {
   asked = purge_asked;
 }
 
-abbrev maps_pool : List Made
+abbrev pub maps_pool : List Made
 maps_pool = map in_pool direct_map_again_pool
 
-maps_asked : AreAsked maps_pool maps_told
+pub maps_asked : AreAsked maps_pool maps_told
 maps_asked x among = each (Asked maps_pool) maps_told (
   asked_once maps_pool _ (map_made 2 0 16384 2002944 ∷ []) (in_pool (pool_take 2 0 1 (Some 0))) (pool_take 2 0 1 (Some 0)) (map_made 2 0 16384 2002944) 0 refl refl refl refl refl refl refl refl refl
       (record { older = take 0 maps_pool; rest = drop 1 maps_pool; begins = refl; index_is = refl }),

@@ -6,20 +6,24 @@ use Rattle.std.proofs.lemmas.Bool.{true≢false}
 use Rattle.std.proofs.lemmas.List.{length-append}
 use Rattle.std.proofs.lemmas.List.Sums.{sum_by-cons}
 use Rattle.pa_machine.specs.declared.title.Title.{Title}
-use Rattle.pa_machine.specs.Titles.{same_title, count_word, count_place}
-use Rattle.pa_machine.specs.Holdings.{one, FreePiece, RawByte, held_in, amount}
+use Rattle.pa_machine.specs.Titles.{same_title, Covers, count_word, count_place}
+use Rattle.pa_machine.specs.Holdings.{one, Piece, FreePiece, RawByte, held_in, amount}
 use Rattle.pa_machine.proofs.Same.{title_tells}
+use Rattle.pa_buckets.specs.Table.{rows, row_of, slot_of}
 use Rattle.pa_region.specs.Start.{blank}
 use Rattle.pa_region.proofs.FirstLists.{blank_at}
 use Rattle.pa_region.proofs.OneRead.{one_true}
 use Rattle.pa_region.proofs.Opens.{blank_long}
-use Rattle.pa_record.specs.Spans.{numbers}
+use Rattle.pa_record.specs.Root.{Root}
+use Rattle.pa_record.specs.Sound.{IsMade}
+use Rattle.pa_record.specs.Spans.{Span, title_at, numbers}
 use Rattle.pa_record.proofs.Counting.{numbers_in, numbers_has}
 use Rattle.pa_record.proofs.Joined.{map_cases, map_in}
 use Rattle.pa_record.proofs.Members.{not_in_none, in_cases}
+use Rattle.pa_told.proofs.Filters.{only_one}
 use Rattle.pa_told.proofs.Sums.{sum_some}
 use Rattle.pa_told.specs.Worked.{its_title}
-use Rattle.pa_told_worked.specs.AllSaid.{title_number, span_slots, last_words}
+use Rattle.pa_told_worked.specs.AllSaid.{title_number, span_slots, one_word}
 
 -- how often a title stands in a list
 abbrev pub times_in : List Title → Title → ℕ
@@ -85,16 +89,50 @@ slot_is count t among =
     (n, omega arith, is)
 
 -- none of their bytes is raw
-pub none_raw : (ts : List Title) (b : ℕ) → held_in (map FreePiece ts ++ []) (RawByte b) ≡ 0
-none_raw [] b = refl
-none_raw (t ∷ ts) b =
-    let c = sum_by-cons (amount (RawByte b)) (FreePiece t) (map FreePiece ts ++ []) in
-    let again = none_raw ts b in
+pub none_raw : (ts : List Title) (rest : List Piece) (b : ℕ) → held_in (map FreePiece ts ++ rest) (RawByte b) ≡ held_in rest (RawByte b)
+none_raw [] rest b = refl
+none_raw (t ∷ ts) rest b =
+    let c = sum_by-cons (amount (RawByte b)) (FreePiece t) (map FreePiece ts ++ rest) in
+    let again = none_raw ts rest b in
     omega arith
+
+-- two slots that cover a byte are one
+pub slots_apart : (t u : Title) (b : ℕ) → 0 < times_in (span_slots 256) t → 0 < times_in (span_slots 256) u → Covers t b → Covers u b → t ≡ u
+slots_apart t u b first second here there =
+    let (m, few, is) = slot_is 256 t (one_of_them (span_slots 256) t first) in
+    let (n, few', is') = slot_is 256 u (one_of_them (span_slots 256) u second) in
+    let low : 16384 + 16 * m ≤ b = subst (λ (w : Title). w.start ≤ b) (sym is) here.0 in
+    let high : b < 16384 + 16 * m + 16 = subst (λ (w : Title). b < w.start + w.len) (sym is) here.1 in
+    let low' : 16384 + 16 * n ≤ b = subst (λ (w : Title). w.start ≤ b) (sym is') there.0 in
+    let high' : b < 16384 + 16 * n + 16 = subst (λ (w : Title). b < w.start + w.len) (sym is') there.1 in
+    let same : m ≡ n = omega arith in
+    sym is ∙ (ap title_number same ∙ is')
+
+-- the span, whose slots were all made: its place, the entry of the pool, its class and how many slots were made
+abbrev pub shape_of : Span → ℕ × ℕ × ℕ × ℕ
+shape_of s = (s.place, s.born, s.class, s.made)
+
+sixteen_bytes : slot_of 0 ≡ 16
+unfolding rows row_of slot_of
+sixteen_bytes = refl
+
+-- a slot that was made is one of the first 256
+pub made_free : (r : Root) → map shape_of r.spans ≡ (16384, 0, 0, 256) ∷ [] → (u : Title) → IsMade r u → 0 < times_in (span_slots 256) u
+made_free r spans_are u (s, among, number, below, is) =
+    let shape = only_one (16384, 0, 0, 256) (shape_of s) (subst (λ xs. Contains xs (shape_of s)) spans_are (map_in shape_of r.spans s among)) in
+    let place : 16384 ≡ s.place = ap (λ (x : ℕ × ℕ × ℕ × ℕ). x.0) shape in
+    let born : 0 ≡ s.born = ap (λ (x : ℕ × ℕ × ℕ × ℕ). x.1) shape in
+    let class : 0 ≡ s.class = ap (λ (x : ℕ × ℕ × ℕ × ℕ). x.2) shape in
+    let made : 256 ≡ s.made = ap (λ (x : ℕ × ℕ × ℕ × ℕ). x.3) shape in
+    let size : 16 ≡ slot_of s.class = sym sixteen_bytes ∙ ap slot_of class in
+    let named : title_number number ≡ title_at s number =
+    ap (λ (n : ℕ). record { start = n + 16 * number; len = 16; born = 0 }) place
+    ∙ (ap (λ (n : ℕ). record { start = s.place + n * number; len = n; born = 0 }) size ∙ ap (λ (n : ℕ). record { start = s.place + slot_of s.class * number; len = slot_of s.class; born = n }) born) in
+    stands_in (span_slots 256) u (subst (λ t. Contains (span_slots 256) t) (named ∙ sym is) (slot_has 256 number (omega arith)))
 
 -- ---- the words
 
-words_at : (before after word i : ℕ) → (i ≡ before → slice_index (blank before ++ word ∷ blank after) i ≡ word) × ((i ≡ before → ⊥) → slice_index (blank before ++ word ∷ blank after) i ≡ 0)
+pub words_at : (before after word i : ℕ) → (i ≡ before → slice_index (one_word before word after) i ≡ word) × ((i ≡ before → ⊥) → slice_index (one_word before word after) i ≡ 0)
 unfolding blank
 words_at zero after word zero = (λ e. refl, λ ne. absurd (ne refl))
 words_at zero after word (suc i) = (λ e. absurd (omega arith), λ ne. blank_at after i)
@@ -103,32 +141,37 @@ words_at (suc before) after word (suc i) =
     let again = words_at before after word i in
     (λ e. again.0 (omega arith), λ ne. again.1 (λ e. ne (omega arith)))
 
-pub words_long : length last_words ≡ 262144
-words_long =
-    let a = blank_long 2049 in
-    let b = blank_long 260094 in
-    let c = length-append (blank 2049) (0x4000000 ∷ blank 260094) in
+pub words_long : (before after word : ℕ) → length (one_word before word after) ≡ before + 1 + after
+words_long before after word =
+    let a = blank_long before in
+    let b = blank_long after in
+    let c = length-append (blank before) (word ∷ blank after) in
     omega arith
 
 -- where the count word of a slot stands
 place_of : (n : ℕ) → count_place (title_number n) ≡ 2049 + 2 * n
 place_of n = omega arith
 
-pub first_word : count_word last_words its_title ≡ 0x4000000
-first_word = (words_at 2049 260094 0x4000000 2049).0 refl
+-- where the first slot's count word is the only one that isn't 0
+module _ (word : ℕ) where
+  abbrev words : List ℕ
+  words = one_word 2049 word 260094
 
-pub other_word : (n : ℕ) → 0 < n → count_word last_words (title_number n) ≡ 0
-other_word n some_number = let at = place_of n in (words_at 2049 260094 0x4000000 (count_place (title_number n))).1 (λ e. omega arith)
+  pub first_word : count_word words its_title ≡ word
+  first_word = (words_at 2049 260094 word 2049).0 refl
 
--- what holds of the first slot, and of each other slot that the seat has
-pub by_slot : (P : Title → Type 0) → P its_title → ((t : Title) → same_title its_title t ≡ false → count_word last_words t ≡ 0 → P t) → (t : Title) → 0 < times_in (span_slots 256) t → P t
-by_slot P first others t free =
-    let (n, below, is) = slot_is 256 t (one_of_them (span_slots 256) t free) in
-    subst P is (by_number n)
-  where
-    by_number : (n : ℕ) → P (title_number n)
-    by_number zero = first
-    by_number (suc n) = elim (title_tells its_title (title_number (suc n))) [
-      | inl y ↦ let start : 16384 ≡ 16384 + 16 * suc n = ap (λ (u : Title). u.start) y.1 in absurd (omega arith)
-      | inr other ↦ others (title_number (suc n)) other.0 (other_word (suc n) (omega arith))
-    ]
+  other_word : (n : ℕ) → 0 < n → count_word words (title_number n) ≡ 0
+  other_word n some_number = let at = place_of n in (words_at 2049 260094 word (count_place (title_number n))).1 (λ e. omega arith)
+
+  -- what holds of the first slot, and of each other slot that the seat has
+  pub by_slot : (P : Title → Type 0) → P its_title → ((t : Title) → same_title its_title t ≡ false → count_word words t ≡ 0 → P t) → (t : Title) → 0 < times_in (span_slots 256) t → P t
+  by_slot P first others t free =
+      let (n, below, is) = slot_is 256 t (one_of_them (span_slots 256) t free) in
+      subst P is (by_number n)
+    where
+      by_number : (n : ℕ) → P (title_number n)
+      by_number zero = first
+      by_number (suc n) = elim (title_tells its_title (title_number (suc n))) [
+        | inl y ↦ let start : 16384 ≡ 16384 + 16 * suc n = ap (λ (u : Title). u.start) y.1 in absurd (omega arith)
+        | inr other ↦ others (title_number (suc n)) other.0 (other_word (suc n) (omega arith))
+      ]

@@ -99,6 +99,10 @@ module _ (ts : List ToldRecord) (history : Title → List Done) (is : AreKnown t
     };
   }
 
+  pub history_known : (t : Title) → knows.all.history t ≡ history t
+  unfolding knows
+  history_known t = refl
+
 -- a title that isn't named has no history
 pub record IsOther (ts : List ToldRecord) (t : Title) : Type 0 where
   pub at : (k : ℕ) → told_of ts (counted_at t k) ≡ 0

@@ -1,7 +1,6 @@
 -- What pool, roots, cells, workers and the report are asked is met by the worked run of two threads, with any answer of its read.
 use Rattle.std.proofs.Common.{◌≡◌, ℕ, zero, suc, ◌≤◌, List, [], ◌∷◌, length, lit≤, refl, sym, ◌∙◌, ap, subst, filter}
 use Rattle.std.specs.Prelude.{Contains}
-use Rattle.std.specs.List.{AllByRecursion as Each}
 use Rattle.pa_region.specs.declared.view.Made.{Made}
 use Rattle.pa_region.specs.Lists.{list_of, entered_in}
 use Rattle.pa_trace.specs.declared.script.Op.TheVariants as ops
@@ -11,12 +10,9 @@ use Rattle.pa_record.specs.declared.history.Held.TheVariants as held
 use Rattle.pa_record.specs.declared.numbered.Numbered.{Numbered}
 use Rattle.pa_record.specs.declared.root.RootEntry.{RootEntry}
 use Rattle.pa_record.specs.declared.root.RootAct.TheVariants.{Unmap}
-use Rattle.pa_record.specs.Numbers.{root_numbers}
 use Rattle.pa_record.proofs.Members.{not_in_none}
-use Rattle.pa_record.proofs.OneEntry.{one_root}
 use Rattle.pa_rules.specs.declared.played.Played.{Played}
 use Rattle.pa_rules.specs.Cells.{IsChain}
-use Rattle.pa_rules.specs.Roots.{MakesEntry}
 use Rattle.pa_rules.specs.Legal.{IsLegalTold}
 use Rattle.pa_legal.specs.Known.{UnmapsNext}
 use Rattle.pa_legal.specs.Numbers.{AreNumbered}
@@ -40,11 +36,12 @@ use Rattle.pa_told.proofs.Homing.{homes_follow}
 use Rattle.pa_told.proofs.Sizing.{lengths_follow}
 use Rattle.pa_told_worked.specs.Worked.{Worked}
 use Rattle.pa_told_worked.specs.Threads.{the_take, the_fill, the_read}
-use Rattle.pa_told_worked.specs.Entered.{in_root, in_pool, gift_made, taking_made, threads_swaps, threads_cells}
+use Rattle.pa_told_worked.specs.Entered.{in_pool, gift_made, taking_made, threads_swaps, threads_cells}
 use Rattle.pa_told_worked.specs.OtherReads.{reading_so}
 use Rattle.pa_told_worked.specs.AllSaid.{seat_until, seat_last, told_with}
 use Rattle.pa_told_worked.proofs.Entering.{below_four, Asked, asked_none, asked_once}
 use Rattle.pa_told_worked.proofs.Fitting.{swaps_are, cell_is, GivesSwap, no_swap, one_swap}
+use Rattle.pa_told_worked.proofs.Making.{Makes, makes_none, makes_all, none_makes}
 use Rattle.pa_told_worked.proofs.Played.{so_read}
 
 -- ---- the slot's length and partition, and the root's numbers
@@ -75,20 +72,6 @@ numbered : AreNumbered roots
 numbered = (legal_is_known two_threads_trace (told_with the_read) legal (all_used two_threads_records refl)).numbers
 
 -- ---- entries of the roots
-
-record Makes (p : ℕ) (x : ToldRecord) : Type 0 where
-  makes_it : (m : Made) (e : RootEntry) → Contains (entered_in p x.stretch) m → m.numbers ≡ root_numbers e → MakesEntry two_threads_pool p e.act x.played.op
-
-makes_none : (p : ℕ) (x : ToldRecord) → entered_in p x.stretch ≡ [] → Makes p x
-makes_none p x none = record { makes_it = λ m e within same. absurd (not_in_none m (subst (λ ms. Contains ms m) none within)) }
-
-makes_fill : (x : ToldRecord) → x.played.op ≡ ops.Alloc 0 0 8 → entered_in 0 x.stretch ≡ in_root the_fill ∷ [] → Makes 0 x
-makes_fill x op one = record {
-  makes_it = λ m e within same.
-      let is : in_root the_fill ≡ m = only_one (in_root the_fill) m (subst (λ ms. Contains ms m) one within) in
-      let fill : the_fill ≡ e = one_root the_fill e (ap (λ (z : Made). z.numbers) is ∙ same) in
-      subst (λ (z : RootEntry). MakesEntry two_threads_pool 0 z.act x.played.op) fill (subst (λ o. MakesEntry two_threads_pool 0 the_fill.act o) (sym op) (0, 8, refl, class_0));
-}
 
 -- nothing goes back
 not_unmap : (asked : ℕ) (slot : Numbered) → the_fill.act ≡ Unmap asked slot → ⊥
@@ -141,16 +124,12 @@ module _ (answer : Answer) (word value after : ℕ) where
     ) x among;
   }
 
-  -- no record enters anything in another root's list
-  none_made : (p : ℕ) → Each (λ (x : ToldRecord). entered_in p x.stretch ≡ []) ts → (x : ToldRecord) → Contains ts x → Makes p x
-  none_made p none x among = makes_none p x (each (λ (y : ToldRecord). entered_in p y.stretch ≡ []) ts none x among)
-
-  fill_made : (x : ToldRecord) → Contains ts x → Makes 0 x
-  fill_made x among = each (Makes 0) ts (
-    makes_fill _ refl refl,
+  fill_made : (x : ToldRecord) → Contains ts x → Makes two_threads_pool 0 x
+  fill_made x among = each (Makes two_threads_pool 0) ts (
+    makes_all two_threads_pool _ (the_fill ∷ []) refl ((0, 8, refl, class_0), tt),
     (
-      makes_none 0 _ refl,
-      (makes_none 0 _ refl, (makes_none 0 _ refl, (makes_none 0 _ refl, (makes_none 0 _ refl, (makes_none 0 _ refl, (makes_none 0 _ refl, tt)))))),
+      makes_none two_threads_pool 0 _ refl,
+      (makes_none two_threads_pool 0 _ refl, (makes_none two_threads_pool 0 _ refl, (makes_none two_threads_pool 0 _ refl, (makes_none two_threads_pool 0 _ refl, (makes_none two_threads_pool 0 _ refl, (makes_none two_threads_pool 0 _ refl, tt)))))),
     ),
   ) x among
 
@@ -179,9 +158,9 @@ module _ (answer : Answer) (word value after : ℕ) where
     journals = used.rooted.journals;
     none_past = used.rooted.none_past;
     makes = λ x p m e few among.
-        (below_four (λ q. Makes q x) (fill_made x among) (none_made 1 (refl, (refl, (refl, (refl, (refl, (refl, (refl, (refl, tt)))))))) x among)
-        (none_made 2 (refl, (refl, (refl, (refl, (refl, (refl, (refl, (refl, tt)))))))) x among)
-        (none_made 3 (refl, (refl, (refl, (refl, (refl, (refl, (refl, (refl, tt)))))))) x among) p few).makes_it m e;
+        (below_four (λ q. Makes two_threads_pool q x) (fill_made x among) (none_makes two_threads_pool 1 ts (refl, (refl, (refl, (refl, (refl, (refl, (refl, (refl, tt)))))))) x among)
+        (none_makes two_threads_pool 2 ts (refl, (refl, (refl, (refl, (refl, (refl, (refl, (refl, tt)))))))) x among)
+        (none_makes two_threads_pool 3 ts (refl, (refl, (refl, (refl, (refl, (refl, (refl, (refl, tt)))))))) x among) p few).makes_it m e;
     refused = λ x j reg p size among full op. absurd (none_refused x among j reg p size full op);
     numbers = numbered;
     unmaps = λ x among. no_unmap x.played;

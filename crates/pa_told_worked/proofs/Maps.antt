@@ -29,7 +29,7 @@ use Rattle.pa_told.specs.Whole.{IsPlayedOut}
 use Rattle.pa_told.specs.Worked.{view_of}
 use Rattle.pa_told_worked.specs.Maps.{map_long, map_title, maps_worked, maps_told, DirectMapIsPlayedOut}
 use Rattle.pa_told_worked.proofs.Alone.{NoValue, no_hands, no_reads, no_readers, of_run}
-use Rattle.pa_told_worked.proofs.Knowing.{below, chain_there, IsOther, knows}
+use Rattle.pa_told_worked.proofs.Knowing.{below, chain_there, AreKnown, IsOther, knows, history_known}
 use Rattle.pa_told_worked.proofs.Seen.{viewed}
 
 told : AreTold map_long maps_told
@@ -54,16 +54,16 @@ told x among = each (IsTold map_long) maps_told (
 ) x among
 
 -- the histories of the three maps
-abbrev steps_first : List Done
+abbrev pub steps_first : List Done
 steps_first = record { step = Free; value = 0 } ∷ record { step = Issue; value = 0 } ∷ []
 
 abbrev steps_second : List Done
 steps_second = record { step = Reset; value = 0 } ∷ record { step = Free; value = 0 } ∷ record { step = Copy; value = 0 } ∷ record { step = Issue; value = 0 } ∷ []
 
-abbrev steps_third : List Done
+abbrev pub steps_third : List Done
 steps_third = record { step = Issue; value = 0 } ∷ []
 
-abbrev history : Title → List Done
+abbrev pub history : Title → List Done
 history t =
     if same_title (map_title 0) t then steps_first else (if same_title (map_title 2) t then steps_second else (if same_title (map_title 5) t then steps_third else []))
 
@@ -129,7 +129,7 @@ chained t = elim (which t) [
 ]
 
 -- what holds of the three holds of each title that an entry names
-by_name : (P : Title → Type 0) → P (map_title 0) → P (map_title 2) → P (map_title 5) → (t : Title) → 0 < told_of maps_told (names t) → P t
+pub by_name : (P : Title → Type 0) → P (map_title 0) → P (map_title 2) → P (map_title 5) → (t : Title) → 0 < told_of maps_told (names t) → P t
 by_name P a b c t mine = elim (which t) [
   | inl e ↦ subst P e a
   | inr rest ↦ elim rest [
@@ -150,14 +150,21 @@ same_by a b start len born = λ i. record { start = start i; len = len i; born =
 long_as : (t : Title) → 0 < told_of maps_told (names t) → t.len ≡ 2002944
 long_as t mine = by_name (λ (u : Title). u.len ≡ 2002944) refl refl refl t mine
 
-last : KnowsAll (view_of maps_told) maps_told
-last = knows maps_told history (record {
+are_known : AreKnown maps_told history
+are_known = record {
   low = λ x among. each (λ (y : ToldRecord). y.played.thread < 16) maps_told (lit< tt, (lit< tt, (lit< tt, (lit< tt, (lit< tt, (lit< tt, (lit< tt, (lit< tt, tt)))))))) x among;
   chained = chained;
   well = by_name (λ (u : Title). IsWellFormed 262144 u) (well_formed 0) (well_formed 2) (well_formed 5);
   one_name = λ t u mine other start born. same_by t u start (long_as t mine ∙ sym (long_as u other)) born;
   reads = no_reads maps_told (λ t found value. refl) (λ r e. rw e refl) history refl (λ t found value. refl);
-})
+}
+
+pub last : KnowsAll (view_of maps_told) maps_told
+last = knows maps_told history are_known
+
+pub last_history : (t : Title) → last.all.history t ≡ history t
+unfolding last
+last_history t = history_known maps_told history are_known t
 
 abbrev Ended : ℕ → Type 0
 Ended n = (v : View) × KnowsAll v (told_until n maps_told)
@@ -173,7 +180,7 @@ no_value x among = each NoValue maps_told ((λ s v e. absurd cc), ((λ s v e. ab
 abbrev none : ℕ → ℕ → Bool
 none m n = false
 
-seen_so : AreViewed (history_at []) maps_told
+pub seen_so : AreViewed (history_at []) maps_told
 seen_so = viewed (history_at []) maps_worked none refl (λ x y h. absurd (no_hands x y h))
 
 module _ (r : Run) (is : IsRunOf r (map entry_of direct_map_records) (direct_map_again_journal ∷ []) direct_map_again_pool [] direct_map_report) where

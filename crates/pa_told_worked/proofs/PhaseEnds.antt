@@ -4,12 +4,13 @@ use Rattle.std.specs.List.{AllByRecursion as Each}
 use Rattle.std.proofs.lemmas.Bool.{cases_eq, ne_eqb}
 use Rattle.pa_machine.proofs.Same.{title_tells}
 use Rattle.pa_region.specs.declared.view.Made.{Made}
+use Rattle.pa_region.specs.declared.view.SeenNumber.{SeenNumber}
 use Rattle.pa_region.specs.Views.{seen_among, unseen_by, counted_on}
 use Rattle.pa_region.specs.Lists.{list_of, made_with, entered_in, IsBeginning, IsKnownTo, Rises}
 use Rattle.pa_record.specs.declared.entry.Answer.{Answer}
 use Rattle.pa_told.specs.Told.{ToldRecord, told_of, told_until, log_of}
 use Rattle.pa_told.specs.Reads.{KnowsAll}
-use Rattle.pa_told.specs.Said.{EndsPhase}
+use Rattle.pa_told.specs.Said.{HasLogs, EndsPhase}
 use Rattle.pa_told.specs.Worked.{its_title, view_of}
 use Rattle.pa_told_worked.specs.Threads.{seen_number}
 use Rattle.pa_told_worked.specs.Entered.{taking_made}
@@ -17,7 +18,7 @@ use Rattle.pa_told_worked.specs.OtherReads.{reading_so}
 use Rattle.pa_told_worked.specs.AllSaid.{seat_of, lists_until, seat_until}
 use Rattle.pa_told_worked.proofs.Entering.{below_six}
 use Rattle.pa_told_worked.proofs.Played.{so_read}
-use Rattle.pa_told_worked.proofs.Seats.{list_cases, FitsSeat, has_logs}
+use Rattle.pa_told_worked.proofs.Seats.{list_cases, FitsSeat, has_logs, fits_nothing}
 use Rattle.pa_told_worked.proofs.Seen.{covered}
 
 -- each of two threads, and the others
@@ -31,6 +32,10 @@ by_two P first second others k = elim (cases_eq 0 k) [
 pub record KnowsUntil (ts : List ToldRecord) (n : ℕ) : Type 0 where
   pub knows : KnowsAll (view_of (told_until n ts)) (told_until n ts)
   pub own_logs : told_of (told_until n ts) (unseen_by (seen_number (suc n))) ≡ 0
+
+-- a seat that holds nothing has all logs
+holds_none : (ts : List ToldRecord) (notes : List SeenNumber) (lists : ℕ → List Made) → FitsSeat ts notes lists → HasLogs (seat_of ts notes lists) ts
+holds_none ts notes lists fits = has_logs ts notes lists _ fits (fits_nothing ts notes lists)
 
 -- what the lists of a phase's end say, whatever the logs
 module _ (ts : List ToldRecord) (n : ℕ) where
@@ -124,24 +129,28 @@ module _ (answer : Answer) (word value after : ℕ) where
     ];
   }
 
+  pub knows_3 : (h : KnowsUntil ts 3) → (fits_3 h).knows ≡ h.knows
+  unfolding fits_3
+  knows_3 h = refl
+
   -- a seat's lists are beginnings of the last one's
   abbrev Begins : ℕ → ℕ → Type 0
   Begins n q = IsBeginning (list_of q (seat_until ts n)) (list_of q (seat_until ts 3))
 
   pub ends_1 : KnowsUntil ts 1 → EndsPhase 1 (seat_until ts 1) (seat_until ts 3) ts
   ends_1 h = record {
-    has = has_logs (told_until 1 ts) (seen_number 2) (lists_until 1) (fits_1 h);
+    has = holds_none (told_until 1 ts) (seen_number 2) (lists_until 1) (fits_1 h);
     begins = below_six (Begins 1) ([], refl) ([], refl) ([], refl) ([], refl) ([], refl) (taking_made.made ∷ [], refl);
   }
 
   pub ends_2 : KnowsUntil ts 2 → EndsPhase 2 (seat_until ts 2) (seat_until ts 3) ts
   ends_2 h = record {
-    has = has_logs (told_until 2 ts) (seen_number 3) (lists_until 2) (fits_2 h);
+    has = holds_none (told_until 2 ts) (seen_number 3) (lists_until 2) (fits_2 h);
     begins = below_six (Begins 2) ([], refl) ([], refl) ([], refl) ([], refl) ([], refl) ([], refl);
   }
 
   pub ends_3 : KnowsUntil ts 3 → EndsPhase 3 (seat_until ts 3) (seat_until ts 3) ts
   ends_3 h = record {
-    has = has_logs (told_until 3 ts) (seen_number 4) (lists_until 3) (fits_3 h);
+    has = holds_none (told_until 3 ts) (seen_number 4) (lists_until 3) (fits_3 h);
     begins = below_six (Begins 3) ([], refl) ([], refl) ([], refl) ([], refl) ([], refl) ([], refl);
   }

@@ -1,7 +1,9 @@
 -- The worked run with a purge meets all that is asked of told records.
 use Rattle.std.proofs.Common.{◌≡◌, ℕ, ◌<◌, Bool, false, List, [], ◌∷◌, map, lit<, refl, sym, ◌∙◌, ap, subst, arith}
 use Rattle.std.specs.Prelude.{Contains}
+use Rattle.pa_machine.specs.declared.title.Title.{Title}
 use Rattle.pa_machine.specs.declared.word.Step.TheVariants.{Issue, Free}
+use Rattle.pa_machine.specs.Titles.{same_title}
 use Rattle.pa_region.specs.declared.view.View.{View}
 use Rattle.pa_region.specs.History.{Done, IsChained}
 use Rattle.pa_region.specs.Pairs.{pairs}
@@ -30,14 +32,14 @@ use Rattle.pa_told.specs.Whole.{IsPlayedOut}
 use Rattle.pa_told.specs.Worked.{sixteen, its_title, view_of}
 use Rattle.pa_told_worked.specs.Purge.{purge_worked, purge_told, PurgeIsPlayedOut}
 use Rattle.pa_told_worked.proofs.Alone.{NoValue, no_hands, no_pair, no_readers, of_run}
-use Rattle.pa_told_worked.proofs.Knowing.{below, of_thread, IsOfOne, knows_one}
+use Rattle.pa_told_worked.proofs.Knowing.{below, of_thread, IsOfOne, knows_one, history_here, history_there}
 use Rattle.pa_told_worked.proofs.Seen.{viewed}
 
 told : AreTold sixteen purge_told
 told x among = each (IsTold sixteen) purge_told ((([], tt, refl), refl), (([], tt, refl), (refl, ((([], tt, refl), refl), tt)))) x among
 
 -- the slot's history
-abbrev steps : List Done
+abbrev pub steps : List Done
 steps = record { step = Issue; value = 0 } ∷ record { step = Free; value = 0 } ∷ record { step = Issue; value = 0 } ∷ []
 
 chained : IsChained (told_of purge_told) its_title steps
@@ -49,7 +51,7 @@ chained = record {
   looks = λ word some_look. absurd (omega arith);
 }
 
-of_one : IsOfOne purge_told steps
+pub of_one : IsOfOne purge_told steps
 of_one = record {
   low = λ x among. each (λ (y : ToldRecord). y.played.thread < 16) purge_told (lit< tt, (lit< tt, (lit< tt, (lit< tt, tt)))) x among;
   chained = chained;
@@ -59,8 +61,16 @@ of_one = record {
   ref = λ r t found value held some_pair. let gone = no_pair purge_told (λ t found value. refl) (λ q e. rw e refl) r t found value in let mine = of_thread purge_told r (pairs (quiet_read false t found value)) some_pair in absurd (omega arith);
 }
 
-last : KnowsAll (view_of purge_told) purge_told
+pub last : KnowsAll (view_of purge_told) purge_told
 last = knows_one purge_told steps of_one
+
+pub last_history : last.all.history its_title ≡ steps
+unfolding last
+last_history = history_here purge_told steps of_one
+
+pub last_other : (t : Title) → same_title its_title t ≡ false → last.all.history t ≡ []
+unfolding last
+last_other t other = history_there purge_told steps of_one t other
 
 abbrev Ended : ℕ → Type 0
 Ended n = (v : View) × KnowsAll v (told_until n purge_told)
@@ -76,7 +86,7 @@ no_value x among = each NoValue purge_told ((λ s v e. absurd cc), ((λ s v e. a
 abbrev none : ℕ → ℕ → Bool
 none m n = false
 
-seen_so : AreViewed (history_at []) purge_told
+pub seen_so : AreViewed (history_at []) purge_told
 seen_so = viewed (history_at []) purge_worked none refl (λ x y h. absurd (no_hands x y h))
 
 module _ (r : Run) (is : IsRunOf r (map entry_of purge_records) (purge_journal ∷ []) purge_pool [] purge_report) where

@@ -21,6 +21,7 @@ use Rattle.pa_rules.specs.Order.{StandsBefore}
 use Rattle.pa_rules.specs.Seen.{HandsTo}
 use Rattle.pa_one_run.proofs.worked.Lists.{all_both, both_pass, passes, implies, implied, stands, stands-from}
 use Rattle.pa_told.specs.Told.{ToldRecord}
+use Rattle.pa_told.specs.Said.{HaveSeen}
 use Rattle.pa_told.specs.Viewed.{AreViewed}
 use Rattle.pa_told.proofs.Sums.{sum_some}
 use Rattle.pa_told_worked.specs.Worked.{Worked, told_record, told_records}
@@ -44,6 +45,13 @@ covered a b h t = elim (cases_lt (seen_among t b) (seen_among t a)) [
   where
     is_title : (u t : Title) → same_title u t ≡ true → u ≡ t
     is_title u t e = elim (title_tells u t) [ inl y ↦ y.1 | inr n ↦ absurd (true≢false (sym e ∙ n.0)) ]
+
+-- a seat with these notes has seen what each record hands on
+pub heard_by : (ws : List Worked) (notes : List SeenNumber) → list_all (λ (w : Worked). covers w.gives notes) ws ≡ true →
+    (x : ToldRecord) (u : Title) → Contains (told_records ws) x → x.gives u ≤ seen_among u notes
+heard_by ws notes h x u among =
+    let (w, mine, e) = map_cases told_record ws x among in
+    subst (λ (z : ToldRecord). z.gives u ≤ seen_among u notes) e (covered w.gives notes (passes (λ (y : Worked). covers y.gives notes) ws w h mine) u)
 
 -- a step or look found no less than these notes say, and what it left those notes do
 abbrev pub fits : List SeenNumber → List SeenNumber → Entry → Bool
@@ -101,3 +109,12 @@ module _ (cells : ℕ → List CellEntry) (ws : List Worked) (hands : ℕ → �
         let here = implied _ _ (both_pass test ws w u (and_parts _ _ (and_parts _ _ seen).1).1 mine mine') (handed w.played u.played hand') in
         subst (λ (z : ToldRecord). z.gives t ≤ y.gives t) e (subst (λ (z : ToldRecord). seen_among t w.gives ≤ z.gives t) f (covered w.gives u.gives here t));
   }
+
+-- what seats had seen, each by its own, is a part of it
+pub have_seen : (cells : ℕ → List CellEntry) (ts : List ToldRecord) → AreViewed cells ts → HaveSeen ts
+have_seen cells ts viewed = record {
+  steps = viewed.steps;
+  looks = viewed.looks;
+  grows = viewed.grows;
+  thread = λ x y t first second thread less. viewed.stands x y t first second (inl (thread, less));
+}

@@ -1,6 +1,7 @@
 pub mod AllSaid
 pub mod Entered
 pub mod Maps
+pub mod OneThread
 pub mod OtherReads
 pub mod Purge
 pub mod Threads

@@ -1,6 +1,7 @@
 ghost use Rattle.pa_told_worked.specs.AllSaid.{OtherReadsAreLegal, ThreadsClose, ThreadsSay};
 ghost use Rattle.pa_told_worked.specs.Entered.{DirectMapHasLists, PurgeHasLists, TwoThreadsHaveLists};
 ghost use Rattle.pa_told_worked.specs.Maps.{DirectMapIsPlayedOut};
+ghost use Rattle.pa_told_worked.specs.OneThread.{DirectMapIsClosed, PurgeIsClosed};
 ghost use Rattle.pa_told_worked.specs.OtherReads.{OtherReadsFit};
 ghost use Rattle.pa_told_worked.specs.Purge.{PurgeIsPlayedOut};
 ghost use Rattle.pa_told_worked.specs.Threads.{TwoThreadsArePlayedOut};
@@ -59,4 +60,15 @@ pub fn other_reads_are_legal()
 /// hold the run.
 pub fn threads_close()
     ensures { ThreadsClose }
+{}
+
+/// The run with a purge meets at once what all layers are asked, and the seat that closes it is what it is asked to be: it owns
+/// the slot that was taken again, and has the others free. So the words at the end hold the run.
+pub fn purge_closes()
+    ensures { PurgeIsClosed }
+{}
+
+/// So does the run of direct maps: the seat that closes it owns the last map, and made the two raw again that went back.
+pub fn direct_map_closes()
+    ensures { DirectMapIsClosed }
 {}

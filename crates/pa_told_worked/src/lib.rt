@@ -5,7 +5,7 @@
 mod laws;
 
 pub use laws::{
-    direct_map_has_lists, direct_map_is_told, other_reads_are_legal, other_reads_fit,
-    purge_has_lists, purge_is_told, threads_close, threads_say, two_threads_are_told,
-    two_threads_have_lists,
+    direct_map_closes, direct_map_has_lists, direct_map_is_told, other_reads_are_legal,
+    other_reads_fit, purge_closes, purge_has_lists, purge_is_told, threads_close, threads_say,
+    two_threads_are_told, two_threads_have_lists,
 };

@@ -23,7 +23,7 @@ is_swap op = false
 no_exchange : (k j : ℕ) (e : CellEntry) → IsExchange no_cells k j e → ⊥
 no_exchange k j e at = not_some e at
 
-no_swap : (ps : List Played) → list_all (λ (x : Played). not (is_swap x.op)) ps ≡ true → (x : Played) (k reg : ℕ) → Contains ps x → x.op ≡ ops.Swap k reg → ⊥
+pub no_swap : (ps : List Played) → list_all (λ (x : Played). not (is_swap x.op)) ps ≡ true → (x : Played) (k reg : ℕ) → Contains ps x → x.op ≡ ops.Swap k reg → ⊥
 no_swap ps h x k reg among is = both_ways _ (not-true _ (passes (λ (y : Played). not (is_swap y.op)) ps x h among)) (subst (λ o. is_swap o ≡ true) (sym is) refl)
 
 pub no_cell_used : (ps : List Played) → list_all (λ (x : Played). not (is_swap x.op)) ps ≡ true → AreCells no_cells ps

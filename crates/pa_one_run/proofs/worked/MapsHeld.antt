@@ -61,7 +61,7 @@ held = holders_of_one direct_map_records direct_map_again_journal refl refl refl
 abbrev again : Caches → Caches
 again all = with_cache all 0 (no_caches 0)
 
-abbrev at_end : Caches
+abbrev pub at_end : Caches
 at_end = again (again (again (again (again (again (again (again no_caches)))))))
 
 first_map : IsDirect roots (slot_by 0) 0
@@ -70,7 +70,7 @@ first_map = (_, 0, 2002944, (0, lit< tt, refl), refl)
 second_map : IsDirect roots (slot_by 2) 0
 second_map = (_, 2, 2002944, (2, lit< tt, refl), refl)
 
-cached_to : CachesTo 1 roots no_caches direct_map_records at_end
+pub cached_to : CachesTo 1 roots no_caches direct_map_records at_end
 cached_to = (
   no_caches 0,
   inr (0, 2000000, 0, 2002944, direct 0, (refl, no_other direct_map_again_journal 2), λ p c. refl),

@@ -182,7 +182,7 @@ listed_free = with_list listed_made 0 0 (freed ∷ rest)
 abbrev listed_again : Cache
 listed_again = with_list (no_caches 0) 0 0 rest
 
-abbrev at_end : Caches
+abbrev pub at_end : Caches
 at_end = with_cache (with_cache (with_cache (with_cache no_caches 0 listed_made) 0 listed_free) 0 (no_caches 0)) 0 listed_again
 
 of_class : IsOfClass roots the_slot 0 0
@@ -202,7 +202,7 @@ purged_acts (suc p) below = absurd (omega arith)
 again_row : MadeRow roots (of_first_thread 5 (ops.Alloc 1 0 8) (answers.Made (first_slot 33554432) 8)) (first_slot 33554432) (no_caches 0) listed_again
 again_row = inl (0, 0, freed ∷ rest, rest, (1, 8, refl, class_0), (None, (refl, no_other purge_journal 5)), refl, λ p c. refl)
 
-cached_to : CachesTo 1 roots no_caches purge_records at_end
+pub cached_to : CachesTo 1 roots no_caches purge_records at_end
 cached_to = (listed_made, made_row, (listed_free, free_row, (no_caches 0, (purged_acts, refl, λ p c. refl), (listed_again, again_row, refl))))
 
 pub cached : AreCaches 1 roots purge_records

@@ -1,4 +1,4 @@
-use Rattle.std.proofs.Common.{◌<◌, rules, length, sym, ◌∙◌, ap, subst, arith, refl}
+use Rattle.std.proofs.Common.{◌*◌, ◌<◌, rules, length, sym, ◌∙◌, ap, subst, arith, refl}
 use Rattle.std.specs.Prelude.{min, ◌-◌}
 use Rattle.std.specs.Vec.{vec_capacity}
 use Rattle.std.proofs.lemmas.Option.{get_or_from_slice_get}
@@ -57,8 +57,12 @@ invariant_of-self g c =
     let ends = give_ends c.args.line c.args.partition x.plan.supers c.args.taken first count c.requires.back.0 c.requires.back.1 _ x.entries.items x.seat.view c.args.note.view
     c.take.new.seat.view c.append.new.host.view c.args.seat.now.view c.append.new.lender.view noted.0 c.self.invariant.2 c.aware.ensures.aware c.aware-2.ensures.aware c.take.ensures.view c.take.ensures.parted
     c.requires.back.2 found noted.1 c.append.ensures.again.1 in
-    let plan = plan_follows x.plan c.give.new.self x.entries.items c.append.new.entries.items entry c.append.new.host.view c.self.invariant.1 c.give.ensures c.append.ensures.entries ends.0 in
-    (c.append.ensures.regions.1 ∙ (c.take.ensures.region ∙ c.self.invariant.0), plan.0, plan.1)
+    let plan = plan_follows x.plan c.give.new.self x.entries.items c.append.new.entries.items entry c.append.new.host.view c.self.invariant.1 c.give.ensures c.append.ensures.entries ends.0 in (
+      c.append.ensures.regions.1 ∙ (c.take.ensures.region ∙ c.self.invariant.0),
+      plan.0,
+      plan.1,
+      c.self.invariant.3 ∙ ap (λ (s : PoolState). 262144 * s.supers) (sym c.give.ensures),
+    )
 
 pub returns-clause-gave : goal.returns-clause-gave
 returns-clause-gave g c from of back =

@@ -1,4 +1,4 @@
-use Rattle.std.proofs.Common.{◌≡◌, ◌<◌, rules, [], ◌∷◌, ◌++◌, length, sym, ◌∙◌, ap, subst, arith, refl, Some, None}
+use Rattle.std.proofs.Common.{◌≡◌, ◌*◌, ◌<◌, rules, [], ◌∷◌, ◌++◌, length, sym, ◌∙◌, ap, subst, arith, refl, Some, None}
 use Rattle.std.specs.Prelude.{min, ◌-◌}
 use Rattle.std.specs.Vec.{vec_capacity}
 use Rattle.pa_record.specs.Pool.{PoolState, IsLowest}
@@ -41,8 +41,12 @@ invariant_of-self g c =
     let ends = take_ends c.args.line c.args.partition c.args.count x.plan.supers x.entries.items x.seat.view c.append-index.new.host.view noted.0 c.in-Some.first c.append-index.result
     c.hand_run.new.seat.view c.hand_run.result.view c.hand_run.ensures.left c.hand_run.ensures.given c.append-index.ensures.index c.hand_run.ensures.parted c.self.invariant.2 c.requires.count.0 lowest made c.aware.ensures.aware in
     let plan = plan_follows x.plan c.take-found.new.self x.entries.items c.append-index.new.entries.items (entry found) c.hand_run.new.seat.view c.self.invariant.1 c.in-Some.ensures.after
-    (subst (λ f. c.append-index.new.entries.items ≡ x.entries.items ++ entry f ∷ []) c.in-Some.is c.append-index.ensures.entries) ends.0 in
-    (c.hand_run.ensures.regions.0 ∙ (c.append-index.ensures.regions.1 ∙ c.self.invariant.0), plan.0, plan.1)
+    (subst (λ f. c.append-index.new.entries.items ≡ x.entries.items ++ entry f ∷ []) c.in-Some.is c.append-index.ensures.entries) ends.0 in (
+      c.hand_run.ensures.regions.0 ∙ (c.append-index.ensures.regions.1 ∙ c.self.invariant.0),
+      plan.0,
+      plan.1,
+      c.self.invariant.3 ∙ ap (λ (s : PoolState). 262144 * s.supers) (sym c.in-Some.ensures.after),
+    )
 
 pub invariant_of-self-in-None : goal.invariant_of-self-in-None
 invariant_of-self-in-None g c =
@@ -53,8 +57,12 @@ invariant_of-self-in-None g c =
     let made = made_by _ (entry None) _ _ x.seat.view c.append-index.new.host.view noted.0 noted.1 c.append-index.ensures.again.1 in
     let sound = took_none c.args.line c.args.partition c.args.count x.plan.supers x.entries.items x.seat.view c.append-index.new.host.view noted.0 c.self.invariant.2 c.requires.count.0 lowest made in
     let plan = plan_follows x.plan c.take-found.new.self x.entries.items c.append-index.new.entries.items (entry None) c.append-index.new.host.view c.self.invariant.1 c.in-None.ensures.after
-    (subst (λ f. c.append-index.new.entries.items ≡ x.entries.items ++ entry f ∷ []) c.in-None.is c.append-index.ensures.entries) sound in
-    (c.append-index.ensures.regions.1 ∙ c.self.invariant.0, plan.0, plan.1)
+    (subst (λ f. c.append-index.new.entries.items ≡ x.entries.items ++ entry f ∷ []) c.in-None.is c.append-index.ensures.entries) sound in (
+      c.append-index.ensures.regions.1 ∙ c.self.invariant.0,
+      plan.0,
+      plan.1,
+      c.self.invariant.3 ∙ ap (λ (s : PoolState). 262144 * s.supers) (sym c.in-None.ensures.after),
+    )
 
 pub returns-in-Some-clause-took : goal.returns-in-Some-clause-took
 returns-in-Some-clause-took g c =

@@ -1,0 +1,66 @@
+ghost use Rattle.std.specs.Prelude.{◌≡◌, ◌+◌, ◌<◌, ◌-◌, ◌^◌, IfOk, IfSome, length};
+ghost use Rattle.std.specs.Option.{option_map};
+ghost use Rattle.pa_trace.specs.Limits.{IsWithinLimits};
+ghost use Rattle.pa_rules.specs.declared.verdict.Clause.TheVariants as clauses;
+ghost use Rattle.pa_audit_records.specs.Marks.{RiseByLine};
+ghost use Rattle.pa_audit.specs.Lined.{AreRecordsOf, HasLines32, TellsLine};
+
+use pa_audit_records::{lines_meet, records_are_within, registers_meet, slots_meet};
+use pa_machine::OutOfMemory;
+use pa_record::Run;
+use pa_rules::Played;
+use pa_trace::Trace;
+use std::alloc::Global;
+
+// The line of a record.
+pub(crate) fn record_line(at: Option<u32>) -> Option<u32>
+    requires { IfSome at (λ i. i < 2 ^ 32 - 2) }
+    ensures { result ≡ option_map (λ i. 2 + i) at }
+{
+    match at {
+        Some(at) => Some(at + 2),
+        None => None,
+    }
+}
+
+/// The first line at which the records aren't those that are due.
+pub fn lines_fail(trace: &Trace, run: &Run) -> Option<u32>
+    requires limits { IsWithinLimits trace.now }
+    requires short { HasLines32 run.now }
+    ensures { TellsLine clauses.Lines trace.now run.now result }
+{
+    record_line(lines_meet(trace.lines.as_slice(), run.entries.as_slice()))
+}
+
+/// The first line at which a record's answer isn't one that its thread's registers ask for.
+pub fn registers_fail(
+    alloc: Global,
+    trace: &Trace,
+    run: &Run,
+    records: &[Played],
+) -> Result<Option<u32>, OutOfMemory>
+    requires limits { IsWithinLimits trace.now }
+    requires records { AreRecordsOf trace.now run.now records.now }
+    requires few { length records.now < 65536 }
+    ensures { IfOk result (TellsLine clauses.Registers trace.now run.now) }
+{
+    records_are_within();
+    let at = registers_meet(alloc, records, run.cells.as_slice())?;
+    Ok(record_line(at))
+}
+
+/// The first line at which a record found a word that isn't of its slot's run, or made another step than the run.
+pub fn slots_fail(
+    alloc: Global,
+    trace: &Trace,
+    run: &Run,
+    records: &[Played],
+) -> Result<Option<u32>, OutOfMemory>
+    requires records { AreRecordsOf trace.now run.now records.now }
+    requires few { length records.now < 65536 }
+    requires rising { RiseByLine records.now }
+    ensures { IfOk result (TellsLine clauses.Slots trace.now run.now) }
+{
+    let at = slots_meet(alloc, records)?;
+    Ok(record_line(at))
+}

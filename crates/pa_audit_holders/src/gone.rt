@@ -1,0 +1,119 @@
+ghost use Rattle.std.specs.Prelude.{◌≡◌, ℕ, ◌+◌, ◌<◌, ◌↔◌, [], ◌∷◌, ◌++◌, IfNone, IfSome, IsTrue, List, OnOk, take};
+ghost use Rattle.std.specs.Ordering.{nat_cmp};
+ghost use Rattle.std.specs.BTreeMap.{get};
+ghost use Rattle.pa_record.specs.declared.root.RootAct.TheVariants as acts;
+ghost use Rattle.pa_record.specs.declared.numbered.Numbered.{Numbered as Slot};
+ghost use Rattle.pa_record.specs.declared.root.RootEntry.{RootEntry as Line};
+ghost use Rattle.pa_audit_records.specs.Keys.{name_key};
+ghost use Rattle.pa_audit_records.specs.Tables.{Puts};
+ghost use Rattle.pa_audit_holders.specs.Gone.{HasGone, IsUnmapped, NoneGone, lesser_of};
+
+use crate::homes::key;
+use pa_machine::{OutOfMemory, SlotName};
+use pa_record::{Numbered, RootAct, RootEntry};
+use std::collections::BTreeMap;
+
+// What stands at a key.
+fn find(gone: &BTreeMap<u64, u64>, key: u64) -> Option<u64>
+    ensures { result ≡ get nat_cmp gone.now key }
+{
+    gone.get(&key).copied()
+}
+
+// Sets a key.
+fn put(gone: &mut BTreeMap<u64, u64>, key: u64, number: u64) -> Result<(), OutOfMemory>
+    ensures { OnOk result (Puts (get nat_cmp gone.old) (get nat_cmp gone.new) key number) }
+{
+    gone.insert(key, number)?;
+    Ok(())
+}
+
+// Whether the table has the slot.
+fn has(gone: &BTreeMap<u64, u64>, slot: SlotName) -> bool
+    ensures { (before : List Line) → HasGone before (get nat_cmp gone.now)
+        → IsTrue result ↔ ((n : ℕ) × IsUnmapped before slot n) }
+{
+    match find(gone, key(slot)) {
+        Some(_number) => true,
+        None => false,
+    }
+}
+
+// Whether the number is below all at which an entry took the slot away.
+pub(crate) fn is_there(gone: &BTreeMap<u64, u64>, slot: Numbered) -> bool
+    ensures { (before : List Line) → HasGone before (get nat_cmp gone.now)
+        → IsTrue result ↔ ((n : ℕ) → IsUnmapped before slot.slot n → slot.number < n) }
+{
+    match find(gone, key(slot.slot)) {
+        Some(least) => is_below(slot.number, least),
+        None => true,
+    }
+}
+
+fn is_below(number: u64, other: u64) -> bool
+    ensures { IsTrue result ↔ (number < other) }
+{
+    number < other
+}
+
+// Whether the table has none of the slots.
+pub(crate) fn none_gone(gone: &BTreeMap<u64, u64>, slots: &[Numbered]) -> bool
+    ensures { (before : List Line) → HasGone before (get nat_cmp gone.now) → IsTrue result ↔ NoneGone before slots.now }
+{
+    for slot in slots {
+        if has(gone, slot.slot) {
+            return false;
+        }
+    }
+    true
+}
+
+// The slot that an entry of this act takes away for good.
+fn unmapped(act: &RootAct) -> Option<Numbered>
+    ensures some { IfSome result (λ slot. (asked : ℕ) × (act.now ≡ acts.Unmap asked slot)) }
+    ensures none { IfNone result ((asked : ℕ) (slot : Slot) → act.now ≡ acts.Unmap asked slot → ⊥) }
+{
+    match act {
+        RootAct::Unmap { slot, .. } => Some(*slot),
+        _ => None,
+    }
+}
+
+// Enters the slot that an entry takes away for good.
+pub(crate) fn enter_gone(
+    gone: &mut BTreeMap<u64, u64>,
+    entry: &RootEntry,
+) -> Result<(), OutOfMemory>
+    ensures { OnOk result ((before : List Line) → HasGone before (get nat_cmp gone.old)
+        → HasGone (before ++ entry.now ∷ []) (get nat_cmp gone.new)) }
+{
+    match unmapped(&entry.act) {
+        Some(slot) => enter_unmapped(gone, entry, slot),
+        None => Ok(()),
+    }
+}
+
+fn enter_unmapped(
+    gone: &mut BTreeMap<u64, u64>,
+    entry: &RootEntry,
+    slot: Numbered,
+) -> Result<(), OutOfMemory>
+    requires { (asked : ℕ) × (entry.now.act ≡ acts.Unmap asked slot) }
+    ensures { OnOk result ((before : List Line) → HasGone before (get nat_cmp gone.old)
+        → HasGone (before ++ entry.now ∷ []) (get nat_cmp gone.new)) }
+{
+    let key = key(slot.slot);
+    let least = lesser(find(gone, key), slot.number);
+    put(gone, key, least)?;
+    Ok(())
+}
+
+// The lesser of two numbers, where there are two.
+fn lesser(found: Option<u64>, number: u64) -> u64
+    ensures { result ≡ lesser_of found number }
+{
+    match found {
+        Some(least) => least.min(number),
+        None => number,
+    }
+}

@@ -1,0 +1,170 @@
+-- Allocations by what the calls of a stock say: where their titles come from, and that the op does what it should.
+use Rattle.std.proofs.Common.{◌≡◌, ℕ, ◌+◌, ◌<◌, ◌≤◌, List, [], ◌∷◌, max, sym, ◌∙◌, ap, subst, arith}
+use Rattle.std.specs.Prelude.{◌==◌, slice_index_or}
+use Rattle.std.specs.List.{remove}
+use Rattle.std.proofs.lemmas.List.Sums.{sum_by-append}
+use Rattle.pa_machine.specs.Holdings.{one}
+use Rattle.pa_machine.specs.declared.title.Title.{Title}
+use Rattle.pa_machine.specs.Titles.{IsWellFormed}
+use Rattle.pa_buckets.specs.Classes.{IsClassOf}
+use Rattle.pa_buckets.specs.Bands.{fill_of}
+use Rattle.pa_direct.specs.Shapes.{greatest_size, shape_of, IsDirectSize}
+use Rattle.pa_trace.specs.declared.script.Op.TheVariants as ops
+use Rattle.pa_record.specs.declared.entry.Answer.{Answer}
+use Rattle.pa_region.specs.declared.view.Stake.{Stake}
+use Rattle.pa_region.specs.declared.view.View.{View}
+use Rattle.pa_region.specs.Views.{stake_of}
+use Rattle.pa_region.specs.Hands.{united}
+use Rattle.pa_region.specs.Aware.{IsAware}
+use Rattle.pa_region.specs.Leaves.{CountLeaves}
+use Rattle.pa_root.specs.Handing.{FillGives, MapGives}
+use Rattle.pa_cells.specs.declared.handle.Handle.{Handle}
+use Rattle.pa_heap.specs.Stocks.{StockValue, IsStock, HasNoHandle, register_in, titles_in, listed_slot}
+use Rattle.pa_heap.specs.Workers.{HasItsStake}
+use Rattle.pa_heap.specs.Changes.{IsBack}
+use Rattle.pa_heap.specs.Allocating.{TakesFront, Receives, CanLoad, FillsList, MapsTitle, Issues, with_listed}
+use Rattle.pa_heap.specs.Plays.{DoesOp}
+use Rattle.pa_heap.proofs.Issuing.{issued_does}
+use Rattle.pa_heap.proofs.Taking.{front_back, front_brings}
+use Rattle.pa_heap.proofs.Fetching.{fill_asking, fill_loads, fill_back, fill_brings, mapped_slot, map_asking, map_back, map_brings}
+use Rattle.pa_heap.proofs.Receiving.{first_rest}
+
+-- What is known of a stock to which a title came, as it was before and is then.
+pub record Came (s mid : StockValue) (r : ℕ) : Type 0 where
+  pub stock : IsStock s
+  pub aware : IsAware s.view
+  pub stake : HasItsStake s
+  pub bare : HasNoHandle (register_in s.registers r)
+  pub below : r < 64
+  pub now : IsStock mid
+  pub now_aware : IsAware mid.view
+
+-- so it can issue it to the register
+pub record CanIssueTo (h : Handle) (s mid : StockValue) (r : ℕ) : Type 0 where
+  pub back : IsBack h mid
+  pub stake : HasItsStake mid
+  pub bare : HasNoHandle (register_in mid.registers r)
+  pub budget : s.view.budget ≤ mid.view.budget
+
+-- two together have the stakes of both
+united_stakes : (v n : View) (k : ℕ) → stake_of v k ≤ stake_of (united v n) k
+united_stakes v n k = omega (arith, sum_by-append (λ (x : Stake). one (x.number == k)) v.stakes n.stakes)
+
+-- ---- the front of a list
+
+pub front_issues : (p c r : ℕ) (t : Title) (s mid : StockValue) → TakesFront p c t s mid → p < 4 → Came s mid r → CanIssueTo (listed_slot p c t) s mid r
+front_issues p c r t s mid front low came = record {
+  back = front_back s mid p c t came.stock low front;
+  stake = subst (λ (z : StockValue). HasItsStake z) (sym front.after_is) came.stake;
+  bare = subst (λ (z : StockValue). HasNoHandle (register_in z.registers r)) (sym front.after_is) came.bare;
+  budget = let e : mid.view.budget ≡ s.view.budget = ap (λ (z : StockValue). z.view.budget) front.after_is in omega arith;
+}
+
+pub front_does : CountLeaves → (line size p c r : ℕ) (t : Title) (s mid after : StockValue) (answer : Answer) → TakesFront p c t s mid → p < s.partitions → Came s mid r →
+    size ≤ greatest_size → IsClassOf (max size 1 + 8) c → Issues (listed_slot p c t) r answer mid after → DoesOp line (ops.Alloc r p size) answer s after
+front_does counts line size p c r t s mid after answer front inner came few class issue =
+    let low : p < 4 = let most = came.stock.partitions in omega arith in
+    let can = front_issues p c r t s mid front low came in
+    issued_does counts line size r (listed_slot p c t) [] [] s mid after s.view (with_listed p c front.rest s.caches) answer
+    (front_brings line size p c t s mid front came.stock low class) front.after_is came.now can.stake can.back issue inner came.below came.bare few
+
+-- ---- a fill
+
+-- what the seat is aware of in between
+abbrev pub Awares : View → View → View → Type 0
+Awares v u n = IsAware v × IsAware u × IsAware n × IsAware (united u n)
+
+pub fill_awares : (line p c : ℕ) (t : Title) (s mid : StockValue) (f : FillsList line p c t s mid) → IsAware s.view → IsAware mid.view → Awares s.view f.asked f.note
+fill_awares line p c t s mid f aware now = (aware, f.awares.0, f.awares.1, subst (λ (z : StockValue). IsAware z.view) f.after_is now)
+
+pub fill_issues : (line p c r : ℕ) (t : Title) (s mid : StockValue) → FillsList line p c t s mid → p < 4 → Came s mid r → CanIssueTo (listed_slot p c t) s mid r
+fill_issues line p c r t s mid f low came =
+    let awares = fill_awares line p c t s mid f came.aware came.now_aware in
+    let asking = fill_asking line p c (fill_of c) s f.asked f.note (t ∷ f.rest) f.gives came.stock awares f.long low in
+    record {
+      back = subst (λ (z : StockValue). IsBack (listed_slot p c t) z) (sym f.after_is) (fill_back line p c s f.asked f.note t f.rest f.gives came.stock awares f.long low f.small);
+      stake = subst (λ (z : StockValue). HasItsStake z) (sym f.after_is)
+          (let e = asking.keeps.stakes s.thread in let h = came.stake in let both = united_stakes f.asked f.note s.thread in omega arith);
+      bare = subst (λ (z : StockValue). HasNoHandle (register_in z.registers r)) (sym f.after_is) came.bare;
+      budget =
+          let e : mid.view.budget ≡ f.asked.budget + f.note.budget = ap (λ (z : StockValue). z.view.budget) f.after_is in
+          let k = asking.keeps.budget in omega arith;
+    }
+
+pub fill_does : CountLeaves → (line size p c r words : ℕ) (t : Title) (s mid after : StockValue) (answer : Answer) → FillsList line p c t s mid → p < s.partitions → Came s mid r →
+    size ≤ greatest_size → IsClassOf (max size 1 + 8) c → IsWellFormed words t → Issues (listed_slot p c t) r answer mid after → DoesOp line (ops.Alloc r p size) answer s after
+fill_does counts line size p c r words t s mid after answer f inner came few class well issue =
+    let low : p < 4 = let most = came.stock.partitions in omega arith in
+    let can = fill_issues line p c r t s mid f low came in
+    let awares = fill_awares line p c t s mid f came.aware came.now_aware in
+    issued_does counts line size r (listed_slot p c t) _ _ s mid after (united f.asked f.note) (with_listed p c f.rest s.caches) answer
+    (fill_brings line size p c s f.asked f.note t f.rest f.gives came.stock awares f.long low f.small f.empty class (subst (λ (z : StockValue). IsStock z) f.after_is came.now) words well)
+    f.after_is came.now can.stake can.back issue inner came.below came.bare few
+
+-- the fill of a list, by what its parts say: the root gave titles; the note was taken in; the others can be loaded, and were
+pub fill_received : (s a b : StockValue) (n : View) → a ≡ record s { view = a.view } → Receives n a b → b ≡ record s { view = united a.view n }
+fill_received s a b n asked receives = receives.after_is ∙ ap (λ (z : StockValue). record z { view = united a.view n }) asked
+
+pub fill_can_load : (line p c : ℕ) (s a b : StockValue) (n : View) (ts : List Title) (t : Title) (rest : List Title) → a ≡ record s { view = a.view } →
+    FillGives s.thread p line c (fill_of c) s.view a.view n ts → t ≡ slice_index_or ts 0 t → rest ≡ remove ts 0 → Receives n a b → IsStock s →
+    IsAware s.view → IsAware a.view → IsAware b.view → p < 4 → c < 59 → titles_in s.caches p c ≡ [] → CanLoad p c rest b
+fill_can_load line p c s a b n ts t rest asked gives first others receives is aware one two low small empty =
+    let e = fill_received s a b n asked receives in
+    let all = first_rest ts t rest gives.some first others in
+    subst (λ (z : StockValue). CanLoad p c rest z) (sym e)
+    (fill_loads line p c s a.view n t rest (subst (λ xs. FillGives s.thread p line c (fill_of c) s.view a.view n xs) all gives) is
+    (aware, one, receives.aware, subst (λ (z : StockValue). IsAware z.view) e two) receives.long low small empty)
+
+pub fills_list : (line p c : ℕ) (s a b d : StockValue) (n : View) (ts : List Title) (t : Title) (rest : List Title) → a ≡ record s { view = a.view } →
+    FillGives s.thread p line c (fill_of c) s.view a.view n ts → t ≡ slice_index_or ts 0 t → rest ≡ remove ts 0 → Receives n a b → IsAware a.view → c < 59 →
+    titles_in s.caches p c ≡ [] → d ≡ record b { caches = with_listed p c rest b.caches } → FillsList line p c t s d
+fills_list line p c s a b d n ts t rest asked gives first others receives one small empty loaded = record {
+  asked = a.view;
+  note = n;
+  rest = rest;
+  gives = subst (λ xs. FillGives s.thread p line c (fill_of c) s.view a.view n xs) (first_rest ts t rest gives.some first others) gives;
+  awares = (one, receives.aware);
+  long = receives.long;
+  small = small;
+  empty = empty;
+  after_is = loaded ∙ ap (λ (z : StockValue). record z { caches = with_listed p c rest z.caches }) (fill_received s a b n asked receives);
+}
+
+-- ---- a direct map
+
+pub map_awares : (line p len : ℕ) (t : Title) (s mid : StockValue) (m : MapsTitle line p len t s mid) → IsAware s.view → IsAware mid.view → Awares s.view m.asked m.note
+map_awares line p len t s mid m aware now = (aware, m.awares.0, m.awares.1, subst (λ (z : StockValue). IsAware z.view) m.after_is now)
+
+pub map_issues : (line p len r : ℕ) (t : Title) (s mid : StockValue) → MapsTitle line p len t s mid → p < 4 → Came s mid r → CanIssueTo (mapped_slot p t) s mid r
+map_issues line p len r t s mid m low came =
+    let awares = map_awares line p len t s mid m came.aware came.now_aware in
+    let asking = map_asking line p len s m.asked m.note t m.gives came.stock awares m.long low in
+    record {
+      back = subst (λ (z : StockValue). IsBack (mapped_slot p t) z) (sym m.after_is) (map_back line p len s m.asked m.note t m.gives came.stock awares m.long low);
+      stake = subst (λ (z : StockValue). HasItsStake z) (sym m.after_is)
+          (let e = asking.keeps.stakes s.thread in let h = came.stake in let both = united_stakes m.asked m.note s.thread in omega arith);
+      bare = subst (λ (z : StockValue). HasNoHandle (register_in z.registers r)) (sym m.after_is) came.bare;
+      budget =
+          let e : mid.view.budget ≡ m.asked.budget + m.note.budget = ap (λ (z : StockValue). z.view.budget) m.after_is in
+          let k = asking.keeps.budget in omega arith;
+    }
+
+pub map_does : CountLeaves → (line size p len r : ℕ) (t : Title) (s mid after : StockValue) (answer : Answer) → MapsTitle line p len t s mid → p < s.partitions → Came s mid r →
+    IsDirectSize size → len ≡ (shape_of size).slot → Issues (mapped_slot p t) r answer mid after → DoesOp line (ops.Alloc r p size) answer s after
+map_does counts line size p len r t s mid after answer m inner came direct shape issue =
+    let low : p < 4 = let most = came.stock.partitions in omega arith in
+    let can = map_issues line p len r t s mid m low came in
+    let awares = map_awares line p len t s mid m came.aware came.now_aware in
+    issued_does counts line size r (mapped_slot p t) _ _ s mid after (united m.asked m.note) s.caches answer
+    (map_brings line size p len s m.asked m.note t m.gives came.stock awares m.long low direct shape) m.after_is came.now can.stake can.back issue inner came.below came.bare direct.1
+
+pub maps_title : (line p len : ℕ) (s a b : StockValue) (n : View) (t : Title) → a ≡ record s { view = a.view } → MapGives s.thread p line len s.view a.view n t →
+    Receives n a b → IsAware a.view → MapsTitle line p len t s b
+maps_title line p len s a b n t asked gives receives one = record {
+  asked = a.view;
+  note = n;
+  gives = gives;
+  awares = (one, receives.aware);
+  long = receives.long;
+  after_is = fill_received s a b n asked receives;
+}

@@ -1,0 +1,222 @@
+-- A reset or a free after whose step slots were given back does what it should.
+use Rattle.std.proofs.Common.{◌≡◌, ℕ, zero, suc, ◌+◌, ◌-◌, ◌/◌, ◌<◌, ◌≤◌, Bool, true, false, List, [], ◌∷◌, ◌++◌, length, map, take, drop, Option, Some, None, refl, sym, ◌∙◌, ap, subst, arith, ◌⊎◌, inl, inr}
+use Rattle.std.specs.Prelude.{◌==◌, ◌≢◌, Contains, filter, nat_lt, if◌then◌else◌}
+use Rattle.std.proofs.lemmas.Bool.Decides.{nat_tests, eqb_tells}
+use Rattle.pa_machine.specs.declared.title.Title.{Title}
+use Rattle.pa_machine.specs.declared.word.SlotName.{SlotName}
+use Rattle.pa_machine.specs.declared.word.Step.{Step}
+use Rattle.pa_machine.specs.Count.{number_of}
+use Rattle.pa_trace.specs.declared.script.Op.{Op}
+use Rattle.pa_record.specs.declared.entry.Seen.{Seen}
+use Rattle.pa_record.specs.declared.entry.Answer.TheVariants as answers
+use Rattle.pa_record.specs.declared.numbered.Numbered.{Numbered}
+use Rattle.pa_record.specs.declared.pool.PoolEntry.{PoolEntry}
+use Rattle.pa_record.specs.declared.root.RootEntry.{RootEntry}
+use Rattle.pa_record.specs.declared.root.RootAct.{RootAct}
+use Rattle.pa_record.specs.declared.root.RootAct.TheVariants.{Give, Unmap}
+use Rattle.pa_record.specs.Numbers.{root_numbers}
+use Rattle.pa_record.specs.Spans.{name_of}
+use Rattle.pa_record.proofs.Joined.{map_cases}
+use Rattle.pa_record.proofs.Members.{in_cases, not_in_none, first_in, later_in}
+use Rattle.pa_region.specs.declared.view.Entry.{Entry}
+use Rattle.pa_region.specs.declared.view.Entry.TheVariants.{Counted, Entered, Uncut}
+use Rattle.pa_region.specs.declared.view.Made.{Made}
+use Rattle.pa_region.specs.declared.view.View.{View}
+use Rattle.pa_region.specs.Views.{seen_of}
+use Rattle.pa_region.specs.Lists.{list_of, entered_in}
+use Rattle.pa_rules.specs.declared.played.Played.{Played}
+use Rattle.pa_rules.specs.Played.{mark_of_answer, mark_at}
+use Rattle.pa_rules.specs.Registers.{Row}
+use Rattle.pa_rules.specs.Caches.{Cache, CacheRow, IsDirect, ReturnRow, SameLists, acts_of, batches, gives, kept, spilled, with_list}
+use Rattle.pa_rules.specs.Roots.{Journals, IsFreeing, MakesEntry}
+use Rattle.pa_told.specs.Told.{ToldRecord}
+use Rattle.pa_told.specs.Touches.{IsStepTold, IsToldBy, is_touch, title_of}
+use Rattle.pa_told.specs.Indices.{Enters, asks, is_asked}
+use Rattle.pa_record.specs.Root.{asked_by}
+use Rattle.pa_root.specs.Handing.{root_entry}
+use Rattle.pa_cells.specs.declared.handle.Handle.{Handle}
+use Rattle.pa_cells.specs.Handles.{HandsOut, HasSeenMade, SlotsStaySeen}
+use Rattle.pa_heap.specs.declared.register.Register.{Register}
+use Rattle.pa_heap.specs.Stocks.{StockValue, regs_of, listed_in}
+use Rattle.pa_heap.specs.Outcomes.{Outcome, IsOutcome, IsSeenOf, row_facts}
+use Rattle.pa_heap.specs.Entering.{EntersCells, HasSeenSome}
+use Rattle.pa_heap.specs.Plays.{DoesOp, AnswersIn, ReadsItsRegister}
+use Rattle.pa_heap.proofs.Seeing.{slot_in_run, home_of}
+use Rattle.pa_heap.proofs.Looking.{seen_at}
+use Rattle.pa_heap.proofs.Touching.{Touched}
+use Rattle.pa_heap.proofs.Quiet.{quiet_record}
+use Rattle.pa_heap.proofs.Batches.{in_gives, gives_ask_none, acts_back, act_among}
+use Rattle.pa_heap.proofs.Entered.{Entering, LineActs, SaysEntered, acts_in, entered_does, entered_here, entered_elsewhere, entering_both, makes_each, none_here, touched_enters, unmaps_next}
+
+-- the slot of a handle, at the number that its step left
+abbrev pub left_at : Handle → ℕ → Numbered
+left_at h word = record { slot = name_of h.title; number = number_of word + 1 }
+
+-- What a reset or a free knows whose step returned its slot: its seat had the view w then, and these registers.
+pub record HasReturned (op : Op) (step : Step) (h : Handle) (word : ℕ) (s : StockValue) (w : View) (rs : List Register) : Type 0 where
+  pub freeing : IsFreeing op
+  pub cells : (list : List Made) (x : ToldRecord) → entered_in 5 x.stretch ≡ [] → EntersCells op list x
+  pub told : (sizes : SlotName → ℕ) (es : List Entry) → IsStepTold (title_of sizes (name_of h.title)) step word 0 es →
+      IsToldBy sizes op (answers.Done (seen_at h word)) es
+  pub row : (o : Outcome) → Row (row_facts o) op (regs_of s.registers) (answers.Done (seen_at h word)) (regs_of rs)
+  pub lists : (partitions line phase : ℕ) (roots : Journals) (cache after : Cache) →
+      ReturnRow roots (record { line = line; thread = s.thread; phase = phase; op = op; answer = answers.Done (seen_at h word) }) (left_at h word) cache after →
+      CacheRow partitions roots (record { line = line; thread = s.thread; phase = phase; op = op; answer = answers.Done (seen_at h word) })
+      (answers.Done (seen_at h word)) cache after
+  pub reader : (o : Outcome) (x : ToldRecord) → ReadsItsRegister o.sizes (regs_of s.registers) op x
+  pub mark : (line : ℕ) → mark_of_answer line op (answers.Done (seen_at h word)) ≡ Some (mark_at line (seen_at h word) (Some step))
+  pub touched : Touched s.thread (Counted h.title step word 0 ∷ []) s.view w
+  pub number : seen_of w h.title ≡ number_of word + 1
+  pub made : HasSeenMade h w
+  pub entries : HasSeenSome s.thread h.partition s.view
+
+-- it is no refusal
+pub not_full : (seen : Seen) (j : ℕ) → answers.Done seen ≡ answers.Full j → ⊥
+not_full seen j e = cc
+
+-- what was found is what the answer says
+pub same_found : (h : Handle) (word : ℕ) (seen : Seen) → answers.Done (seen_at h word) ≡ answers.Done seen → word ≡ seen.found.0
+same_found h word seen e = let same : seen_at h word ≡ seen = cc in ap (λ (z : Seen). z.found.0) same
+
+-- entries of lists touch nothing, and none says that a title was made raw again
+none_touches : (p : ℕ) (ms : List Made) → filter is_touch (map (Entered p) ms) ≡ []
+none_touches p [] = refl
+none_touches p (m ∷ ms) = none_touches p ms
+
+no_uncut : (p : ℕ) (ms : List Made) (t : Title) → Contains (map (Entered p) ms) (Uncut t) → ⊥
+no_uncut p ms t among = let (m, there, is) = map_cases (Entered p) ms (Uncut t) among in differ m is
+  where
+    differ : (m : Made) → Entered p m ≡ Uncut t → ⊥
+    differ m e = cc
+
+pub step_no_uncut : (t u : Title) (step : Step) (word value : ℕ) → Counted t step word value ≡ Uncut u → ⊥
+step_no_uncut t u step word value e = cc
+
+-- ---- slots are given
+
+-- Where slots were given, and the lists are as the row asks.
+pub gives_does : SlotsStaySeen → (op : Op) (step : Step) (h : Handle) (class word line : ℕ) (s after : StockValue) (w : View) (rs : List Register)
+    (ms : List Made) → HasReturned op step h word s w rs → h.class ≡ Some class →
+    after.thread ≡ s.thread → after.partitions ≡ s.partitions → after.registers ≡ rs →
+    Entering s.thread line (map (Entered h.partition) ms) w after.view →
+    map (λ (m : Made). m.numbers) ms ≡ map root_numbers (map (root_entry line) (gives (spilled class (left_at h word ∷ listed_in s h.partition class)))) →
+    SameLists (listed_in after) (with_list (listed_in s) h.partition class (kept class (left_at h word ∷ listed_in s h.partition class))) →
+    DoesOp line op (answers.Done (seen_at h word)) s after
+gives_does stays op step h class word line s after w rs ms is of thread partitions registers came says lists =
+    entered_does s after line op (answers.Done (seen_at h word)) es thread partitions
+    (entering_both s.thread line (c ∷ []) (map (Entered p) ms) s.view w after.view (touched_enters s.thread line (c ∷ []) s.view w is.touched) came)
+    (λ phase. record {
+      cells = λ list none. is.cells list (x phase) none;
+      it = it phase;
+      asked = inl (record { pools = refl; roots = λ q. asked_in q (q == p) });
+      refused = λ j r q size full asks. absurd (not_full (seen_at h word) j full);
+      uncuts = λ t among. elim (in_cases c (Uncut t) (map (Entered p) ms) among) [
+        | inl same ↦ absurd (step_no_uncut h.title t step word 0 same)
+        | inr later ↦ absurd (no_uncut p ms t later)
+      ];
+      homes = λ q past. elim (eqb_tells q h.partition) [
+        | inl same ↦ inr (subst (λ k. HasSeenSome s.thread k s.view) (sym same.1) is.entries)
+        | inr differs ↦ inl (other q (q == h.partition) refl differs.1)
+      ];
+      answers = λ o run many sees line_acts. answers_in phase o run sees line_acts;
+    })
+  where
+    p : ℕ
+    p = h.partition
+
+    low : h.partition < 4
+    low = is.made.partition
+
+    c : Entry
+    c = Counted h.title step word 0
+
+    es : List Entry
+    es = Counted h.title step word 0 ∷ map (Entered h.partition) ms
+
+    x : ℕ → ToldRecord
+    x phase = quiet_record s after.view line phase op (answers.Done (seen_at h word)) (Counted h.title step word 0 ∷ map (Entered h.partition) ms)
+
+    gone : List Numbered
+    gone = spilled class (left_at h word ∷ listed_in s h.partition class)
+
+    acts : List RootEntry
+    acts = map (root_entry line) (gives (spilled class (left_at h word ∷ listed_in s h.partition class)))
+
+    entries : ℕ → List RootEntry
+    entries q = if q == h.partition then acts else []
+
+    entered : (q : ℕ) (b : Bool) → (q == h.partition) ≡ b →
+        map (λ (m : Made). m.numbers) (entered_in q (map (Entered h.partition) ms)) ≡ map root_numbers (if b then acts else [])
+    entered q true e =
+        let same : q ≡ h.partition = grind (arith, nat_tests) in
+        ap (λ (l : List Made). map (λ (m : Made). m.numbers) l) (ap (λ k. entered_in k (map (Entered h.partition) ms)) same ∙ entered_here h.partition ms) ∙ says
+    entered q false e = ap (λ (l : List Made). map (λ (m : Made). m.numbers) l) (entered_elsewhere h.partition q ms (λ same. grind (arith, nat_tests)))
+
+    it : (phase : ℕ) → Enters (x phase)
+    it phase = record {
+      roots = entries;
+      pools = [];
+      roots_are = λ q lower. entered q (q == h.partition) refl;
+      pools_are = ap (λ (l : List Made). map (λ (m : Made). m.numbers) l) (entered_elsewhere h.partition 4 ms (λ same. omega arith));
+    }
+
+    give_each : (e : RootEntry) → Contains acts e → (slots : List Numbered) × (e.act ≡ Give slots)
+    give_each e among = in_gives gone e.act (act_among line (gives gone) e among)
+
+    give_all : (q : ℕ) (b : Bool) (e : RootEntry) → Contains (if b then acts else []) e → (slots : List Numbered) × (e.act ≡ Give slots)
+    give_all q true e among = give_each e among
+    give_all q false e among = absurd (not_in_none e among)
+
+    asked_in : (q : ℕ) (b : Bool) → filter asks (if b then acts else []) ≡ []
+    asked_in q true = gives_ask_none line gone
+    asked_in q false = refl
+
+    own : (b : Bool) → (h.partition == h.partition) ≡ b → acts_in (if b then acts else []) ≡ acts_in acts
+    own true e = refl
+    own false e = absurd (grind (arith, nat_tests))
+
+    other : (q : ℕ) (b : Bool) → (q == h.partition) ≡ b → (q ≡ h.partition → ⊥) → (if b then acts else []) ≡ []
+    other q true e differs = absurd (differs (grind (arith, nat_tests)))
+    other q false e differs = refl
+
+    no_unmap : (e : RootEntry) (slots : List Numbered) (asked : ℕ) (slot : Numbered) → e.act ≡ Give slots → e.act ≡ Unmap asked slot → ⊥
+    no_unmap e slots asked slot a b = differ (sym a ∙ b)
+      where
+        differ : Give slots ≡ Unmap asked slot → ⊥
+        differ e = cc
+
+    none_unmaps : (phase : ℕ) (o : Outcome) → LineActs o (x phase) (it phase) → (q asked : ℕ) (slot : Numbered) →
+        Contains (acts_of o.roots line q) (Unmap asked slot) → ⊥
+    none_unmaps phase o line_acts q asked slot among = go (nat_lt q 4) refl
+      where
+        go : (b : Bool) → nat_lt q 4 ≡ b → ⊥
+        go true lower =
+            let there = subst (λ done. Contains done (Unmap asked slot)) (line_acts.here q (grind (arith, nat_tests))) among in
+            let (e, inside, act) = map_cases (λ (f : RootEntry). f.act) (entries q) (Unmap asked slot) there in
+            let (slots, give) = give_all q (q == h.partition) e inside in
+            no_unmap e slots asked slot give act
+        go false higher =
+            not_in_none (Unmap asked slot) (subst (λ done. Contains done (Unmap asked slot)) (line_acts.past q (grind (arith, nat_tests))) among)
+
+    answers_in : (phase : ℕ) (o : Outcome) → IsOutcome o → IsSeenOf o after.view → LineActs o (x phase) (it phase) → AnswersIn o s after (x phase)
+    answers_in phase o run sees line_acts =
+        let slot = slot_in_run o after.view h run sees (stays h w after.view is.made (came.lists h.partition)) in
+        record {
+          told = is.told o.sizes es ([], tt, ap (λ fs. Counted h.title step word 0 ∷ fs) (none_touches h.partition ms) ∙ ap (λ u. Counted u step word 0 ∷ []) (sym slot.title));
+          row = subst (λ r. Row (row_facts o) op (regs_of s.registers) (answers.Done (seen_at h word)) (regs_of r)) (sym registers) (is.row o);
+          lists = is.lists o.partitions line phase o.roots (listed_in s) (listed_in after) (inl (
+            h.partition,
+            class,
+            slot.class class of,
+            (
+              line_acts.here h.partition low ∙ (own (h.partition == h.partition) refl ∙ acts_back line (gives gone)),
+              λ q differs. none_here o (x phase) (it phase) line_acts q (other q (q == h.partition) refl differs),
+            ),
+            lists,
+          ));
+          reader = is.reader o (x phase);
+          unmaps = unmaps_next o.roots (x phase).played (λ q asked slot among seen done. absurd (none_unmaps phase o line_acts q asked slot among));
+          makes = makes_each (x phase) (it phase) o.pools
+              (λ q e lower among. let (slots, give) = give_all q (q == h.partition) e among in subst (λ act. MakesEntry o.pools q act op) (sym give) (inl is.freeing));
+          home = λ m e. (h.partition, home_of o h.partition (mark_at line (seen_at h word) (Some step)) m (sym (is.mark line) ∙ e) slot.size);
+        }

@@ -1,0 +1,301 @@
+-- An issue of a free title to a register: the stock after it, and what the op says whatever came before.
+use Rattle.std.proofs.Common.{◌≡◌, ℕ, ◌+◌, ◌-◌, ◌<◌, ◌≤◌, true, List, [], ◌∷◌, ◌++◌, length, Some, refl, sym, ◌∙◌, ap, subst, arith, inl, inr}
+use Rattle.std.specs.Prelude.{Contains, slice_set}
+use Rattle.std.specs.List.{sum_by}
+use Rattle.std.proofs.lemmas.List.{length-set, append-nil}
+use Rattle.std.proofs.lemmas.List.Elements.{Contains-append_cases, filter-append}
+use Rattle.std.proofs.lemmas.List.Sums.{sum_by-cons}
+use Rattle.pa_machine.specs.declared.title.Title.{Title}
+use Rattle.pa_machine.specs.declared.title.OwnState.TheVariants.{Clean}
+use Rattle.pa_machine.specs.declared.word.Step.TheVariants as steps
+use Rattle.pa_machine.specs.Count.{number_of}
+use Rattle.pa_machine.specs.Titles.{same_title, HasContentFrom}
+use Rattle.pa_machine.specs.Holdings.{one}
+use Rattle.pa_machine.proofs.Same.{title_tells}
+use Rattle.pa_direct.specs.Shapes.{greatest_size}
+use Rattle.pa_trace.specs.declared.script.Op.{Op}
+use Rattle.pa_trace.specs.declared.script.Op.TheVariants as ops
+use Rattle.pa_record.specs.declared.entry.Seen.{Seen}
+use Rattle.pa_record.specs.declared.entry.Answer.{Answer}
+use Rattle.pa_record.specs.declared.entry.Answer.TheVariants as answers
+use Rattle.pa_record.specs.declared.pool.PoolEntry.{PoolEntry}
+use Rattle.pa_record.specs.declared.root.RootAct.{RootAct}
+use Rattle.pa_record.specs.Spans.{name_of}
+use Rattle.pa_record.proofs.Members.{in_cases, not_in_none}
+use Rattle.pa_region.specs.declared.view.Entry.{Entry}
+use Rattle.pa_region.specs.declared.view.Entry.TheVariants.{Counted, Uncut}
+use Rattle.pa_region.specs.declared.view.OwnTitle.{OwnTitle}
+use Rattle.pa_region.specs.declared.view.View.{View}
+use Rattle.pa_region.specs.Views.{HasStake, free_of, seen_of}
+use Rattle.pa_region.specs.Waiting.{is_unclean}
+use Rattle.pa_region.specs.Lists.{list_of, list_among, entered_in}
+use Rattle.pa_region.specs.Aware.{IsAware}
+use Rattle.pa_region.specs.Moves.{CanCount, IsFound, after_count}
+use Rattle.pa_region.specs.Leaves.{CountLeaves, LeavesCount}
+use Rattle.pa_quarantine.specs.Filling.{zeroed}
+use Rattle.pa_rules.specs.declared.played.Played.{Played}
+use Rattle.pa_rules.specs.declared.register.Reg.TheVariants as reg
+use Rattle.pa_rules.specs.Played.{mark_at}
+use Rattle.pa_rules.specs.Registers.{Facts, Regs, with, Becomes, AllocRow, RequestRow}
+use Rattle.pa_rules.specs.Caches.{Cache, SameLists, OnlyActs, MadeRow}
+use Rattle.pa_rules.specs.Roots.{Journals, MakesEntry}
+use Rattle.pa_rules.specs.Sizes.{usable_of}
+use Rattle.pa_told.specs.Touches.{is_touch, touches}
+use Rattle.pa_cells.specs.declared.handle.Handle.{Handle}
+use Rattle.pa_cache.specs.Caches.{CacheList}
+use Rattle.pa_heap.specs.declared.register.Register.{Register}
+use Rattle.pa_heap.specs.declared.register.Register.TheVariants.{Empty, Own, Ref, Freed, Cleared}
+use Rattle.pa_heap.specs.Stocks.{StockValue, IsStock, HasNoHandle, register_in, as_reg, regs_of, owns_one, refs_one, titles_in, listed_in, listed_slot}
+use Rattle.pa_heap.specs.Workers.{HasItsStake}
+use Rattle.pa_heap.specs.Outcomes.{row_facts}
+use Rattle.pa_heap.specs.Changes.{IsBack}
+use Rattle.pa_heap.specs.Allocating.{Issues}
+use Rattle.pa_heap.specs.Plays.{DoesOp}
+use Rattle.pa_heap.proofs.Registers.{sum_set, regs_set, made_set}
+use Rattle.pa_heap.proofs.Seeing.{made_kept, made_for_kept, slot_in_run, home_of, more_seen, same_seen, now_seen}
+use Rattle.pa_heap.proofs.Touching.{entry_logs}
+use Rattle.pa_heap.proofs.Leaving.{least_is}
+use Rattle.pa_heap.proofs.Looking.{seen_at}
+use Rattle.pa_heap.proofs.Quiet.{quiet_record, same_titles}
+use Rattle.pa_heap.proofs.Parking.{none_owned, none_pointed}
+use Rattle.pa_heap.proofs.Entered.{Entering, TellsOf, entering_both, entered_append, entered_does, makes_each}
+use Rattle.pa_heap.proofs.AskedFor.{Asks, it_asks, only_acts, act_at, root_elsewhere}
+
+-- the view after the content was zeroed and an issue found this word
+abbrev pub issued_view : View → Title → ℕ → View
+issued_view v t word = after_count steps.Issue t word (zeroed t v)
+
+abbrev pub issued : StockValue → Handle → ℕ → ℕ → StockValue
+issued s h r word = record s { view = issued_view s.view h.title word; registers = slice_set s.registers r (Own h) }
+
+-- it can be made
+pub can_issue : (s : StockValue) (t : Title) (z : View) → z ≡ zeroed t s.view → IsStock s → HasItsStake s → 0 < s.view.budget → 0 < free_of s.view t →
+    HasContentFrom z.words t 0 0 → CanCount steps.Issue t z
+can_issue s t z e is stake budget free content = (
+  subst (λ (v : View). 0 < free_of v t) (sym e) free,
+  subst (λ (v : View). HasStake v) (sym e) (least_is s.thread s.view is.stake stake).1,
+  subst (λ (v : View). 0 < v.budget) (sym e) budget,
+  content,
+)
+
+-- a title that is on no list isn't one that is
+not_listed : (s : StockValue) (h : Handle) → IsBack h s → (p c : ℕ) (u : Title) → Contains (titles_in s.caches p c) u → h.title ≡ u → ⊥
+not_listed s h back p c u among same = back.new p c (subst (λ x. Contains (titles_in s.caches p c) x) (sym same) among)
+
+-- an Own that is new is clean
+own_clean : (t : Title) (os : List OwnTitle) → sum_by (λ (o : OwnTitle). one (is_unclean o.state)) os ≡ 0 →
+    sum_by (λ (o : OwnTitle). one (is_unclean o.state)) (record { title = t; state = Clean; idle = true } ∷ os) ≡ 0
+own_clean t os none = let e = sum_by-cons (λ (o : OwnTitle). one (is_unclean o.state)) (record { title = t; state = Clean; idle = true }) os in omega arith
+
+-- the stock stays sound
+pub issued_stock : CountLeaves → (s : StockValue) (r word : ℕ) (h : Handle) → IsStock s → CanCount steps.Issue h.title (zeroed h.title s.view) → r < 64 →
+    HasNoHandle (register_in s.registers r) → IsBack h s → IsStock (issued s h r word)
+issued_stock counts s r word h is can below bare back = record {
+  partitions = is.partitions;
+  handles = record {
+    count = length-set rs r (Own h) ∙ is.handles.count;
+    owns = λ u. let a = leaves.owns u in let b = is.handles.owns u in let c = sum_set (owns_one u) rs r (Own h) Empty inside in
+        let d = none_owned u (register_in rs r) bare in omega arith;
+    refs = λ u. let a = leaves.refs u in let b = is.handles.refs u in let c = sum_set (refs_one u) rs r (Own h) Empty inside in
+        let d = none_pointed u (register_in rs r) bare in omega arith;
+    clean = own_clean t s.view.owns is.handles.clean;
+    made = made_set w rs r (Own h) inside (made_kept h s.view w refl back.made) (λ k. made_for_kept s.view w refl (register_in rs k) (is.handles.made k));
+  };
+  lists = record {
+    count = is.lists.count;
+    sound = is.lists.sound;
+    classes = is.lists.classes;
+    few = is.lists.few;
+    free = λ p c u among. still u (not_listed s h back p c u among) (is.lists.free p c u among);
+    apart = is.lists.apart;
+    made = λ p c u among. made_kept (listed_slot p c u) s.view w refl (is.lists.made p c u among);
+    well = is.lists.well;
+  };
+  stake = record { small = is.stake.small; only = λ k other. leaves.entry.stakes k ∙ is.stake.only k other };
+}
+  where
+    t : Title
+    t = h.title
+
+    w : View
+    w = issued_view s.view t word
+
+    leaves : LeavesCount steps.Issue h.title word (zeroed h.title s.view) (issued_view s.view h.title word)
+    leaves = counts steps.Issue t word (zeroed t s.view) can
+
+    rs : List Register
+    rs = s.registers
+
+    inside : r < length rs
+    inside = let n = is.handles.count in omega arith
+
+    still : (u : Title) → (t ≡ u → ⊥) → 0 < free_of s.view u → 0 < free_of w u
+    still u other free = elim (title_tells t u) [
+      | inl y ↦ absurd (other y.1)
+      | inr n ↦ (let e = leaves.frees u in let f : one (same_title t u) ≡ 0 = ap one n.0 in omega arith)
+    ]
+
+-- what the step leaves of the view before the zeros
+pub issued_enters : CountLeaves → (s : StockValue) (line word : ℕ) (t : Title) → IsStock s → HasItsStake s → CanCount steps.Issue t (zeroed t s.view) → IsFound t word (zeroed t s.view) →
+    Entering s.thread line (Counted t steps.Issue word 0 ∷ []) s.view (issued_view s.view t word)
+issued_enters counts s line word t is stake can found =
+    let w = issued_view s.view t word in
+    let leaves = counts steps.Issue t word (zeroed t s.view) can in
+    record {
+      logs = λ k. entry_logs s.thread k (Counted t steps.Issue word 0) (zeroed t s.view) w leaves.entry (least_is s.thread s.view is.stake stake).0;
+      stakes = leaves.entry.stakes;
+      lists = λ k. ([], ap (list_among k) leaves.lists ∙ sym (append-nil (list_of k s.view)));
+      grows = λ u. more_seen t u (number_of word + 1) (seen_of w u) (seen_of s.view u) (leaves.seen u);
+      each = λ e among. elim (in_cases (Counted t steps.Issue word 0) e [] among) [
+        | inl same ↦ subst (λ f. TellsOf line s.view w f) same (found.not_older, now_seen t (number_of word + 1) (seen_of w t) (seen_of s.view t) (leaves.seen t))
+        | inr none ↦ absurd (not_in_none e none)
+      ];
+    }
+
+-- the lists stay as they are, each title at its number
+pub issued_lists : CountLeaves → (s : StockValue) (r word : ℕ) (h : Handle) → CanCount steps.Issue h.title (zeroed h.title s.view) → IsBack h s →
+    SameLists (listed_in (issued s h r word)) (listed_in s)
+issued_lists counts s r word h can back p c =
+    let t = h.title in
+    let w = issued_view s.view t word in
+    let leaves = counts steps.Issue t word (zeroed t s.view) can in
+    same_titles s.view w (titles_in s.caches p c)
+    (λ u among. same_seen t u (number_of word + 1) (seen_of w u) (seen_of s.view u) (not_listed s h back p c u among) (leaves.seen u))
+
+-- ---- the row of the registers
+
+request_row : (facts : Facts) (regs : Regs) (r size : ℕ) (seen : Seen) (usable : ℕ) (after : Regs) → size ≤ greatest_size → usable ≡ facts.usable_of size →
+    Becomes after (with regs r (reg.Own seen.slot)) → RequestRow facts regs r size (answers.Made seen usable) after
+request_row facts regs r size seen usable after few is becomes = inr (inl (few, seen, ap (answers.Made seen) is, becomes))
+
+pub alloc_row : (q : Register) (facts : Facts) (regs : Regs) (r size : ℕ) (answer : Answer) (after : Regs) → HasNoHandle q →
+    RequestRow facts regs r size answer after → AllocRow (as_reg q) facts regs r size answer after
+alloc_row Empty facts regs r size answer after bare row = row
+alloc_row (Own h) facts regs r size answer after bare row = absurd bare
+alloc_row (Ref h) facts regs r size answer after bare row = absurd bare
+alloc_row Freed facts regs r size answer after bare row = row
+alloc_row Cleared facts regs r size answer after bare row = row
+
+-- ---- the op
+
+-- What came before the issue: of the stock `s` the view and the lists changed to `v` and `cs`, and `es` are the entries of it, which did
+-- these acts in the journal of the handle's partition.
+pub record Bringing (line size : ℕ) (h : Handle) (acts : List RootAct) (es : List Entry) (s : StockValue) (v : View) (cs : List CacheList) : Type 0 where
+  pub entering : Entering s.thread line es s.view v
+  pub quiet : touches es ≡ []
+  pub uncut : (t : Title) → Contains es (Uncut t) → ⊥
+  pub asks : Asks line h.partition acts es v
+  pub makes : (pools : List PoolEntry) (a : RootAct) (r : ℕ) → Contains acts a → MakesEntry pools h.partition a (ops.Alloc r h.partition size)
+  pub usable : h.title.len - 8 ≡ usable_of size
+  pub rows : (roots : Journals) (x : Played) (r : ℕ) (seen : Seen) (after : Cache) → x.op ≡ ops.Alloc r h.partition size → OnlyActs roots x.line h.partition acts →
+      seen.slot ≡ name_of h.title → number_of seen.found.0 ≡ seen_of v h.title → SameLists after (listed_in (record s { view = v; caches = cs })) →
+      MadeRow roots x seen (listed_in s) after
+
+not_uncut : (t u : Title) (word : ℕ) → Counted t steps.Issue word 0 ≡ Uncut u → ⊥
+not_uncut t u word e = cc
+
+not_full : (seen : Seen) (usable j : ℕ) → answers.Made seen usable ≡ answers.Full j → ⊥
+not_full seen usable j e = cc
+
+not_done : (seen : Seen) (usable : ℕ) (other : Seen) → answers.Made seen usable ≡ answers.Done other → ⊥
+not_done seen usable other e = cc
+
+pub made_does : CountLeaves → (line size r word : ℕ) (h : Handle) (acts : List RootAct) (es : List Entry) (s : StockValue) (v : View) (cs : List CacheList) →
+    Bringing line size h acts es s v cs → IsStock (record s { view = v; caches = cs }) → HasItsStake (record s { view = v; caches = cs }) →
+    CanCount steps.Issue h.title (zeroed h.title v) → IsFound h.title word (zeroed h.title v) → number_of word ≡ seen_of v h.title →
+    IsBack h (record s { view = v; caches = cs }) → h.partition < s.partitions → r < 64 → HasNoHandle (register_in s.registers r) → 16 ≤ h.title.len →
+    size ≤ greatest_size → DoesOp line (ops.Alloc r h.partition size) (answers.Made (seen_at h word) (h.title.len - 8)) s (issued (record s { view = v; caches = cs }) h r word)
+made_does counts line size r word h acts es s v cs before is stake can found number back inner below bare long few =
+    entered_does s (issued mid h r word) line op answer all refl refl
+    (entering_both s.thread line es (Counted t steps.Issue word 0 ∷ []) s.view v w before.entering (issued_enters counts mid line word t is stake can found))
+    (λ phase. let x = quiet_record s w line phase op answer all in let it = it_asks line h.partition acts es v x before.asks same in
+    record {
+      cells = λ list none. none;
+      it = it;
+      asked = before.asks.asked x it (same 4) refl refl;
+      refused = λ j q p n full is_op. absurd (not_full (seen_at h word) (h.title.len - 8) j full);
+      uncuts = λ u among. absurd (elim (Contains-append_cases es (Counted t steps.Issue word 0 ∷ []) (Uncut u) among) [
+        | inl first ↦ before.uncut u first
+        | inr last ↦ elim (in_cases (Counted t steps.Issue word 0) (Uncut u) [] last) [ inl e ↦ not_uncut t u word e | inr none ↦ not_in_none (Uncut u) none ]
+      ]);
+      homes = λ q past. inl (root_elsewhere line h.partition q acts (λ e. omega arith));
+      answers = λ o run many sees line_acts.
+          let slot = slot_in_run o w h run sees (made_kept h v w refl back.made) in
+          let only = only_acts o x it line h.partition acts line_acts back.made.partition refl in
+          record {
+            told = (
+              ([], tt, filter-append is_touch es (Counted t steps.Issue word 0 ∷ []) ∙ (ap (λ ys. ys ++ Counted t steps.Issue word 0 ∷ []) before.quiet ∙ ap (λ u. Counted u steps.Issue word 0 ∷ []) (sym slot.title))),
+              (let e = slot.length in omega arith),
+            );
+            row = alloc_row (register_in s.registers r) (row_facts o) (regs_of s.registers) r size answer (regs_of (slice_set s.registers r (Own h))) bare
+                (request_row (row_facts o) (regs_of s.registers) r size (seen_at h word) (h.title.len - 8) (regs_of (slice_set s.registers r (Own h))) few before.usable
+                (λ k. regs_set s.registers r (Own h) k inside));
+            lists = before.rows o.roots x.played r (seen_at h word) (listed_in (issued mid h r word)) refl only refl number (issued_lists counts mid r word h can back);
+            reader = tt;
+            unmaps = λ seen p asked n e done among on act. absurd (not_done (seen_at h word) (h.title.len - 8) seen done);
+            makes = makes_each x it o.pools (λ p e low among.
+                let at = act_at line h.partition p acts e among in
+                subst (λ q. MakesEntry o.pools q e.act op) (sym at.0) (before.makes o.pools e.act r at.1));
+            home = λ m e. (h.partition, home_of o h.partition (mark_at line (seen_at h word) (Some steps.Issue)) m e slot.size);
+          };
+    })
+  where
+    t : Title
+    t = h.title
+
+    mid : StockValue
+    mid = record s { view = v; caches = cs }
+
+    w : View
+    w = issued_view v h.title word
+
+    op : Op
+    op = ops.Alloc r h.partition size
+
+    answer : Answer
+    answer = answers.Made (seen_at h word) (h.title.len - 8)
+
+    all : List Entry
+    all = es ++ Counted h.title steps.Issue word 0 ∷ []
+
+    inside : r < length s.registers
+    inside = let n = is.handles.count in omega arith
+
+    same : (q : ℕ) → entered_in q (es ++ Counted h.title steps.Issue word 0 ∷ []) ≡ entered_in q es
+    same q = entered_append q es (Counted h.title steps.Issue word 0 ∷ []) ∙ append-nil (entered_in q es)
+
+-- ---- by what the calls say
+
+-- what an issue is, by what the calls of the seat say of its view
+pub issues : (s : StockValue) (r word : ℕ) (h : Handle) (z w : View) → z ≡ zeroed h.title s.view → w ≡ after_count steps.Issue h.title word z →
+    CanCount steps.Issue h.title z → IsFound h.title word z → IsAware z → 16 ≤ h.title.len →
+    Issues h r (answers.Made (seen_at h word) (h.title.len - 8)) s (record s { view = w; registers = slice_set s.registers r (Own h) })
+issues s r word h z w zeros is can found aware long = record {
+  seen = seen_at h word;
+  answer_is = refl;
+  long = long;
+  slot = refl;
+  after_is = ap (λ v. record s { view = v; registers = slice_set s.registers r (Own h) }) (is ∙ ap (after_count steps.Issue h.title word) zeros);
+  able = subst (CanCount steps.Issue h.title) zeros can;
+  found = subst (IsFound h.title word) zeros found;
+  number = ap number_of (found.known can.0) ∙ (aware.free_seen h.title can.0 ∙ ap (λ v. seen_of v h.title) zeros);
+}
+
+-- the budget is one less
+pub issued_budget : (h : Handle) (r n : ℕ) (answer : Answer) (mid after : StockValue) → Issues h r answer mid after → n ≤ mid.view.budget → n ≤ after.view.budget + 1
+issued_budget h r n answer mid after is more = let e : after.view.budget ≡ mid.view.budget - 1 = ap (λ (z : StockValue). z.view.budget) is.after_is in omega arith
+
+-- the op that was played then
+pub issued_does : CountLeaves → (line size r : ℕ) (h : Handle) (acts : List RootAct) (es : List Entry) (s mid after : StockValue) (v : View) (cs : List CacheList) (answer : Answer) →
+    Bringing line size h acts es s v cs → mid ≡ record s { view = v; caches = cs } → IsStock mid → HasItsStake mid → IsBack h mid →
+    Issues h r answer mid after → h.partition < s.partitions → r < 64 →
+    HasNoHandle (register_in s.registers r) → size ≤ greatest_size → DoesOp line (ops.Alloc r h.partition size) answer s after
+issued_does counts line size r h acts es s mid after v cs answer before mid_is is stake back issue inner below bare few =
+    let base : StockValue = record s { view = v; caches = cs } in
+    let j : Issues h r answer base after = subst (λ (z : StockValue). Issues h r answer z after) mid_is issue in
+    let word = j.seen.found.0 in
+    let seen_is : j.seen ≡ seen_at h word = ap (λ n. record j.seen { slot = n }) j.slot in
+    subst (λ (z : StockValue). DoesOp line (ops.Alloc r h.partition size) answer s z) (sym j.after_is)
+    (subst (λ a. DoesOp line (ops.Alloc r h.partition size) a s (issued base h r word)) (sym (j.answer_is ∙ ap (λ x. answers.Made x (h.title.len - 8)) seen_is))
+    (made_does counts line size r word h acts es s v cs before (subst (λ (z : StockValue). IsStock z) mid_is is) (subst (λ (z : StockValue). HasItsStake z) mid_is stake)
+    j.able j.found j.number (subst (λ (z : StockValue). IsBack h z) mid_is back) inner below bare j.long few))

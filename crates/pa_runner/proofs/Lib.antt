@@ -1,0 +1,11 @@
+mod Lines
+mod Opened
+mod Summed
+mod Reported
+mod Tracing
+mod PlayedLines
+mod MergedRecords
+mod Gathered
+mod Passing
+mod Coursing
+mod Counted

@@ -1,0 +1,125 @@
+-- The lines of a phase's report, partition by partition.
+use Rattle.std.proofs.Common.{◌≡◌, ℕ, zero, suc, ◌+◌, List, [], ◌∷◌, ◌++◌, refl, sym, ◌∙◌, ap, subst, arith, inl, inr, append-nil, append_assoc}
+use Rattle.std.proofs.lemmas.Bool.{cases_eq, eq-eqb, ne_eqb}
+use Rattle.std.proofs.lemmas.List.{map-append}
+use Rattle.std.proofs.lemmas.List.Elements.{Contains-push_cases}
+use Rattle.pa_record.specs.declared.census.Census.{Census}
+use Rattle.pa_record.specs.declared.report.ReportLine.{ReportLine}
+use Rattle.pa_record.specs.declared.report.Tally.{Tally}
+use Rattle.pa_region.specs.declared.view.Made.{Made}
+use Rattle.pa_region.specs.declared.view.View.{View}
+use Rattle.pa_region.specs.Views.{HasEveryStake}
+use Rattle.pa_region.specs.Lists.{list_of, IsBeginning}
+use Rattle.pa_region.specs.Takes.{log_of}
+use Rattle.pa_region.specs.Lending.{Keeps, Lends}
+use Rattle.pa_region.proofs.LendBack.{keeps_on}
+use Rattle.pa_rules.specs.Report.{partitions_of, census_of}
+use Rattle.pa_told.specs.Said.{IsCensusBy}
+use Rattle.pa_heap.specs.declared.counts.Count.{Count}
+use Rattle.pa_heap.specs.Censuses.{TellsCensus, HasSameLists}
+use Rattle.pa_heap.specs.Workers.{WorkerValue}
+use Rattle.pa_course.specs.Lines.{IsLeftOf}
+use Rattle.pa_runner.specs.Reporting.{IsCountedBy, IsLineFor, HasAsked, IsReported}
+
+-- ---- what went in and didn't go out
+
+pub left_by : (into out : Count → Tally) (p threads : ℕ) (workers : ℕ → WorkerValue) (a b t : Tally) → IsCountedBy into p threads workers a → IsCountedBy out p threads workers b →
+    (t.slots + b.slots ≡ a.slots) × (t.bytes + b.bytes ≡ a.bytes) → IsLeftOf into out p threads workers t
+left_by into out p threads workers a b t of_a of_b left =
+    let x = of_a.slots in
+    let y = of_a.bytes in
+    let u = of_b.slots in
+    let v = of_b.bytes in
+    let s = left.0 in
+    let z = left.1 in
+    record { slots = omega arith; bytes = omega arith }
+
+-- ---- a seat that asks
+
+keeps_itself : (v : View) → Keeps v v
+keeps_itself v = record {
+  things = λ x. refl;
+  floors = λ b n. refl;
+  idle = λ t. refl;
+  poisoned = λ t. refl;
+  unclean = refl;
+  budget = refl;
+  stakes = λ k. refl;
+  keepers = λ k. refl;
+  leases = λ n. refl;
+  words = λ q knows. refl;
+  seen = λ t. omega arith;
+  lists = λ k. ([], sym (append-nil (list_of k v)));
+  undone = λ t. omega arith;
+}
+
+asked_nothing : (v : View) → HasAsked v v
+asked_nothing v = record { keeps = keeps_itself v; logs = λ k. refl; lists = λ k. refl }
+
+pub asked_every : (first seat : View) → HasAsked first seat → HasEveryStake first → HasEveryStake seat
+asked_every first seat asked every k small = let s = asked.keeps.stakes k in let e = every k small in omega arith
+
+asked_more : (r : ℕ) (first seat next : View) → HasAsked first seat → Lends r [] seat next → HasSameLists seat next → HasAsked first next
+asked_more r first seat next asked lends same = record {
+  keeps = keeps_on first seat next asked.keeps lends.keeps;
+  logs = λ k. same_log k ∙ asked.logs k;
+  lists = λ k. same k ∙ asked.lists k;
+}
+  where
+    same_log : (k : ℕ) → log_of k next ≡ log_of k seat
+    same_log k = elim (cases_eq k r) [
+      | inl e ↦ lends.logs k ∙ (rw (eq-eqb k r e) (append-nil (log_of k seat)))
+      | inr ne ↦ lends.logs k ∙ (rw (ne_eqb k r ne) (append-nil (log_of k seat)))
+    ]
+
+-- ---- lines
+
+-- a census says the same of a seat that has the same lists
+census_still : (p : ℕ) (c : Census) (seat next : View) → HasSameLists seat next → TellsCensus p seat c → TellsCensus p next c
+census_still p c seat next same tells list pools begins pool =
+    subst (λ (journal : List Made). IsCensusBy journal list c) (sym (same p))
+    (tells list pools (subst (λ (ms : List Made). IsBeginning ms list) (same 4) begins) pool)
+
+line_still : (phase threads : ℕ) (workers : ℕ → WorkerValue) (seat next : View) (l : ReportLine) → HasSameLists seat next → IsLineFor phase threads workers seat l → IsLineFor phase threads workers next l
+line_still phase threads workers seat next l same line = record {
+  phase_is = line.phase_is;
+  live = line.live;
+  quarantined = line.quarantined;
+  cached = line.cached;
+  root = census_still l.partition (census_of l) seat next same line.root;
+}
+
+one_place : (phase p n : ℕ) → partitions_of phase p (n + 1) ≡ partitions_of phase p n ++ (phase, p + n) ∷ []
+one_place phase p zero = let e : p ≡ p + 0 = omega arith in ap (λ q. (phase, q) ∷ []) e
+one_place phase p (suc n) =
+    let e : suc n + 1 ≡ suc (n + 1) = omega arith in
+    let f : p + 1 + n ≡ p + suc n = omega arith in
+    ap (partitions_of phase p) e ∙ (ap (λ qs. (phase, p) ∷ qs) (one_place phase (p + 1) n) ∙ ap (λ q. (phase, p) ∷ (partitions_of phase (p + 1) n ++ (phase, q) ∷ [])) f)
+
+pub report_none : (phase threads : ℕ) (workers : ℕ → WorkerValue) (seat : View) (before : List ReportLine) → IsReported phase 0 threads workers seat seat before before
+report_none phase threads workers seat before = record {
+  asked = asked_nothing seat;
+  lines = [];
+  behind = sym (append-nil before);
+  places = refl;
+  right = λ l has. let low = has.1 in absurd (omega arith);
+}
+
+pub report_more : (phase p r threads : ℕ) (workers : ℕ → WorkerValue) (first seat next : View) (before now after : List ReportLine) (l : ReportLine) → IsReported phase p threads workers first seat before now →
+    HasEveryStake first → Lends r [] seat next → (HasEveryStake seat → HasSameLists seat next) → IsLineFor phase threads workers next l → l.partition ≡ p → after ≡ now ++ l ∷ [] →
+    IsReported phase (p + 1) threads workers first next before after
+report_more phase p r threads workers first seat next before now after l so every lends lists line at behind =
+    let same = lists (asked_every first seat so.asked every) in
+    let place : (l.phase, l.partition) ≡ (phase, 0 + p) = (let f : l.partition ≡ 0 + p = omega arith in ap (λ n. (n, l.partition)) line.phase_is ∙ ap (λ q. (phase, q)) f) in
+    record {
+      asked = asked_more r first seat next so.asked lends same;
+      lines = so.lines ++ l ∷ [];
+      behind = behind ∙ (ap (λ ls. ls ++ l ∷ []) so.behind ∙ append_assoc before so.lines (l ∷ []));
+      places =
+          map-append (λ (x : ReportLine). (x.phase, x.partition)) so.lines (l ∷ [])
+          ∙ (ap (λ qs. qs ++ (l.phase, l.partition) ∷ []) so.places ∙ (ap (λ q. partitions_of phase 0 p ++ q ∷ []) place ∙ sym (one_place phase 0 p)));
+      right = λ x has. elim (Contains-push_cases so.lines l x has) [
+        | inl old ↦ line_still phase threads workers seat next x same (so.right x old)
+        | inr e ↦ subst (IsLineFor phase threads workers next) e line
+      ];
+    }

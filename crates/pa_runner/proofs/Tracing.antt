@@ -1,0 +1,172 @@
+-- The lines of a trace up to a place, by their phases and threads.
+use Rattle.std.proofs.Common.{◌≡◌, ℕ, zero, suc, ◌+◌, ◌<◌, ◌≤◌, true, false, List, [], ◌∷◌, ◌++◌, length, filter, take, drop, get_or, refl, sym, ap, ◌∙◌, arith, append-nil, cond}
+use Rattle.std.specs.Prelude.{if◌then◌else◌}
+use Rattle.std.proofs.lemmas.Bool.{eq-eqb, ne_eqb}
+use Rattle.std.proofs.lemmas.List.{take_more}
+use Rattle.std.proofs.lemmas.List.Elements.{filter-append}
+use Rattle.std.proofs.lemmas.List.Sums.{sum_by-cons}
+use Rattle.std.proofs.Math.Seq.{take_all}
+use Rattle.pa_trace.specs.declared.script.Line.{Line}
+use Rattle.pa_trace.specs.declared.script.Line.TheVariants.{Phase, Do}
+use Rattle.pa_trace.specs.declared.script.Op.{Op}
+use Rattle.pa_rules.specs.Played.{OpLine, op_lines}
+use Rattle.pa_rules.specs.Legal.{phases_in}
+use Rattle.pa_runner.proofs.Lines.{phase_after, lines_push, lines_phase, phases_are}
+use Rattle.pa_course.specs.Courses.{is_line_of, lines_in}
+use Rattle.pa_runner.specs.Tracing.{is_by, lines_by}
+
+-- ---- the lines behind others
+
+-- a list before a place, the element there, and what is behind it
+pub parts_at : {X : Type 0} (xs : List X) (i : ℕ) (d : X) → i < length xs → xs ≡ take i xs ++ get_or xs i d ∷ drop (suc i) xs
+parts_at [] i d low = absurd (omega arith)
+parts_at (x ∷ xs) zero d low = refl
+parts_at (x ∷ xs) (suc i) d low = ap (λ ys. x ∷ ys) (parts_at xs i d (omega arith))
+
+lines_over : (n phase : ℕ) (xs ys : List Line) →
+    op_lines n phase (xs ++ ys) ≡ op_lines n phase xs ++ op_lines (n + length xs) (phase_after phase xs) ys
+lines_over n phase [] ys = let e : n ≡ n + 0 = omega arith in ap (λ m. op_lines m phase ys) e
+lines_over n phase (Phase ∷ xs) ys =
+    let e : n + 1 + length xs ≡ n + suc (length xs) = omega arith in
+    lines_over (n + 1) (phase + 1) xs ys ∙ ap (λ m. op_lines (n + 1) (phase + 1) xs ++ op_lines m (phase_after (phase + 1) xs) ys) e
+lines_over n phase (Do thread op ∷ xs) ys =
+    let e : n + 1 + length xs ≡ n + suc (length xs) = omega arith in
+    let first : OpLine = record { line = n; thread = thread; phase = phase; op = op } in
+    ap (λ os. first ∷ os) (lines_over (n + 1) phase xs ys ∙ ap (λ m. op_lines (n + 1) phase xs ++ op_lines m (phase_after phase xs) ys) e)
+
+-- a line isn't of another phase
+other_phase : (n k : ℕ) (o : OpLine) → (o.phase ≡ n → ⊥) → is_line_of n k o ≡ false
+other_phase n k o ne = rw (ne_eqb o.phase n ne) refl
+
+-- none of these is of a phase before their first, nor of one behind their last
+none_before : (n phase m k : ℕ) (ls : List Line) → m < phase → filter (is_line_of m k) (op_lines n phase ls) ≡ []
+none_before n phase m k [] low = refl
+none_before n phase m k (Phase ∷ ls) low = none_before (n + 1) (phase + 1) m k ls (omega arith)
+none_before n phase m k (Do thread op ∷ ls) low =
+    rw (other_phase m k (record { line = n; thread = thread; phase = phase; op = op }) (λ e. omega arith)) (none_before (n + 1) phase m k ls low)
+
+grows : (phase : ℕ) (ls : List Line) → phase ≤ phase_after phase ls
+grows phase [] = omega arith
+grows phase (Phase ∷ ls) = let again = grows (phase + 1) ls in omega arith
+grows phase (Do thread op ∷ ls) = grows phase ls
+
+none_behind : (n phase m k : ℕ) (ls : List Line) → phase_after phase ls < m → filter (is_line_of m k) (op_lines n phase ls) ≡ []
+none_behind n phase m k [] high = refl
+none_behind n phase m k (Phase ∷ ls) high = none_behind (n + 1) (phase + 1) m k ls high
+none_behind n phase m k (Do thread op ∷ ls) high =
+    let up = grows phase ls in
+    rw (other_phase m k (record { line = n; thread = thread; phase = phase; op = op }) (λ e. omega arith)) (none_behind (n + 1) phase m k ls high)
+
+-- ---- up to a place of the trace
+
+-- the phase in which the line at place i stands
+abbrev pub phase_at : ℕ → List Line → ℕ
+phase_at i ls = phases_in (take i ls)
+
+module _ (ls : List Line) (i : ℕ) (low : i < length ls) where
+  -- where a new phase begins, all lines of the phase that ends were seen
+  pub phase_whole : (k : ℕ) → get_or ls i Phase ≡ Phase → lines_in ls (phase_at i ls) k ≡ lines_in (take i ls) (phase_at i ls) k
+  phase_whole k is =
+      let xs = take i ls in
+      let ys = drop (suc i) ls in
+      let n = phase_at i ls in
+      let at = phases_are xs in
+      let whole : ls ≡ xs ++ Phase ∷ ys = parts_at ls i Phase low ∙ ap (λ l. xs ++ l ∷ ys) is in
+      ap (λ zs. lines_in zs n k) whole
+      ∙ (ap (filter (is_line_of n k)) (lines_over 2 1 xs (Phase ∷ ys))
+      ∙ (filter-append (is_line_of n k) (op_lines 2 1 xs) (op_lines (2 + length xs) (phase_after 1 xs) (Phase ∷ ys))
+      ∙ (ap (λ os. lines_in xs n k ++ os) (none_before (2 + length xs + 1) (phase_after 1 xs + 1) n k ys (omega arith))
+      ∙ append-nil (lines_in xs n k))))
+
+  pub phase_next : get_or ls i Phase ≡ Phase → phase_at (i + 1) ls ≡ phase_at i ls + 1
+  phase_next is =
+      let more : take (i + 1) ls ≡ take i ls ++ Phase ∷ [] = take_more ls i Phase low ∙ ap (λ l. take i ls ++ l ∷ []) is in
+      ap phases_in more ∙ counted (take i ls)
+    where
+      counted : (xs : List Line) → phases_in (xs ++ Phase ∷ []) ≡ phases_in xs + 1
+      counted xs = let a = phases_are (xs ++ Phase ∷ []) in let b = phases_are xs in let c = after 1 xs in omega arith
+        where
+          after : (phase : ℕ) (zs : List Line) → phase_after phase (zs ++ Phase ∷ []) ≡ phase_after phase zs + 1
+          after phase [] = refl
+          after phase (Phase ∷ zs) = after (phase + 1) zs
+          after phase (Do thread op ∷ zs) = after phase zs
+
+  -- and of the next one none
+  pub phase_new : (k : ℕ) → get_or ls i Phase ≡ Phase → lines_in (take (i + 1) ls) (phase_at (i + 1) ls) k ≡ []
+  phase_new k is =
+      let more : take (i + 1) ls ≡ take i ls ++ Phase ∷ [] = take_more ls i Phase low ∙ ap (λ l. take i ls ++ l ∷ []) is in
+      let at = phases_are (take i ls) in
+      let next = phase_next is in
+      ap (λ zs. filter (is_line_of (phase_at (i + 1) ls) k) (op_lines 2 1 zs)) more
+      ∙ (ap (filter (is_line_of (phase_at (i + 1) ls) k)) (lines_phase 2 1 (take i ls)) ∙ none_behind 2 1 (phase_at (i + 1) ls) k (take i ls) (omega arith))
+
+  -- a line of a thread stands in the same phase, behind those of its thread
+  module _ (thread : ℕ) (op : Op) (is : get_or ls i Phase ≡ Do thread op) where
+    more_is : take (i + 1) ls ≡ take i ls ++ Do thread op ∷ []
+    more_is = take_more ls i Phase low ∙ ap (λ l. take i ls ++ l ∷ []) is
+
+    pub phase_same : phase_at (i + 1) ls ≡ phase_at i ls
+    phase_same = ap phases_in more_is ∙ counted (take i ls)
+      where
+        after : (phase : ℕ) (zs : List Line) → phase_after phase (zs ++ Do thread op ∷ []) ≡ phase_after phase zs
+        after phase [] = refl
+        after phase (Phase ∷ zs) = after (phase + 1) zs
+        after phase (Do j o ∷ zs) = after phase zs
+
+        counted : (xs : List Line) → phases_in (xs ++ Do thread op ∷ []) ≡ phases_in xs
+        counted xs = let a = phases_are (xs ++ Do thread op ∷ []) in let b = phases_are xs in let c = after 1 xs in omega arith
+
+    abbrev pub here : OpLine
+    here = record { line = i + 2; thread = thread; phase = phase_at i ls; op = op }
+
+    lines_are : op_lines 2 1 (take (i + 1) ls) ≡ op_lines 2 1 (take i ls) ++ here ∷ []
+    lines_are =
+        let long : length (take i ls) ≡ i = long_take ls i low in
+        let number : 2 + length (take i ls) ≡ i + 2 = omega arith in
+        ap (op_lines 2 1) more_is
+        ∙ (lines_push 2 1 (take i ls) thread op
+        ∙ (ap (λ m. op_lines 2 1 (take i ls) ++ record { line = m; thread = thread; phase = phase_after 1 (take i ls); op = op } ∷ []) number
+        ∙ ap (λ p. op_lines 2 1 (take i ls) ++ record { line = i + 2; thread = thread; phase = p; op = op } ∷ []) (phases_are (take i ls))))
+      where
+        long_take : (zs : List Line) (j : ℕ) → j < length zs → length (take j zs) ≡ j
+        long_take [] j short = absurd (omega arith)
+        long_take (z ∷ zs) zero short = refl
+        long_take (z ∷ zs) (suc j) short = let again = long_take zs j (omega arith) in omega arith
+
+    pub line_mine : lines_in (take (i + 1) ls) (phase_at i ls) thread ≡ lines_in (take i ls) (phase_at i ls) thread ++ here ∷ []
+    line_mine =
+        let own : is_line_of (phase_at i ls) thread here ≡ true = rw (eq-eqb (phase_at i ls) (phase_at i ls) refl, eq-eqb thread thread refl) refl in
+        let last : filter (is_line_of (phase_at i ls) thread) (here ∷ []) ≡ here ∷ [] = rw own refl in
+        ap (filter (is_line_of (phase_at i ls) thread)) lines_are
+        ∙ (filter-append (is_line_of (phase_at i ls) thread) (op_lines 2 1 (take i ls)) (here ∷ []) ∙ ap (λ os. lines_in (take i ls) (phase_at i ls) thread ++ os) last)
+
+    pub line_other : (k : ℕ) → (k ≡ thread → ⊥) → lines_in (take (i + 1) ls) (phase_at i ls) k ≡ lines_in (take i ls) (phase_at i ls) k
+    line_other k ne =
+        let other : is_line_of (phase_at i ls) k here ≡ false = rw (eq-eqb (phase_at i ls) (phase_at i ls) refl, ne_eqb thread k (λ e. ne (sym e))) refl in
+        let last : filter (is_line_of (phase_at i ls) k) (here ∷ []) ≡ [] = rw other refl in
+        ap (filter (is_line_of (phase_at i ls) k)) lines_are
+        ∙ (filter-append (is_line_of (phase_at i ls) k) (op_lines 2 1 (take i ls)) (here ∷ [])
+        ∙ (ap (λ os. lines_in (take i ls) (phase_at i ls) k ++ os) last ∙ append-nil (lines_in (take i ls) (phase_at i ls) k)))
+
+-- at the end all lines of the last phase were seen
+pub all_seen : (ls : List Line) (i k : ℕ) → length ls ≤ i → lines_in ls (phases_in ls) k ≡ lines_in (take i ls) (phase_at i ls) k
+all_seen ls i k past = let all = take_all i ls past in ap (λ zs. lines_in zs (phases_in zs) k) (sym all)
+
+-- ---- how many lines a thread has
+
+pub lines_by_more : (k : ℕ) (xs : List Line) (l : Line) → lines_by k (xs ++ l ∷ []) ≡ lines_by k xs + (if is_by k l then 1 else 0)
+lines_by_more k [] l = let c = sum_by-cons (λ x. cond (is_by k x) 1 0) l [] in omega arith
+lines_by_more k (x ∷ xs) l =
+    let a = sum_by-cons (λ z. cond (is_by k z) 1 0) x (xs ++ l ∷ []) in
+    let b = sum_by-cons (λ z. cond (is_by k z) 1 0) x xs in
+    let again = lines_by_more k xs l in
+    omega arith
+
+pub lines_by_start : (k i : ℕ) (ls : List Line) → lines_by k (take i ls) ≤ lines_by k ls
+lines_by_start k zero ls = omega arith
+lines_by_start k (suc i) [] = omega arith
+lines_by_start k (suc i) (x ∷ xs) =
+    let a = sum_by-cons (λ z. cond (is_by k z) 1 0) x (take i xs) in
+    let b = sum_by-cons (λ z. cond (is_by k z) 1 0) x xs in
+    let again = lines_by_start k i xs in
+    omega arith

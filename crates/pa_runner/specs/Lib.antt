@@ -1,0 +1,6 @@
+pub mod Playing
+pub mod Phases
+pub mod Tracing
+pub mod Merging
+pub mod Opening
+pub mod Reporting

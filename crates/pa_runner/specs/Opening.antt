@@ -1,0 +1,21 @@
+-- The workers of all threads as they begin.
+use Rattle.std.specs.Prelude.{◌≡◌, ℕ, ◌<◌, List, [], length}
+use Rattle.pa_region.specs.declared.view.View.{View}
+use Rattle.pa_region.specs.Views.{stake_of}
+use Rattle.pa_region.specs.Takes.{log_of}
+use Rattle.pa_trace.specs.declared.script.Trace.{Trace}
+use Rattle.pa_heap.specs.Workers.{WorkerValue, IsNewWorker}
+use Rattle.pa_runner.specs.Phases.{worker_in}
+use Rattle.pa_runner.specs.Tracing.{lines_by}
+
+-- A worker before its first line: it has its thread's stake, with an empty log, and room for so many records.
+pub record IsNewFor (thread partitions lines : ℕ) (w : WorkerValue) : Type 0 where
+  pub view : View
+  pub new : IsNewWorker thread partitions lines view w
+  pub stake : 0 < stake_of view thread
+  pub log : log_of thread view ≡ []
+
+-- so is the worker of each thread of a trace, with room for a record of each line of its thread
+pub record AreNew (t : Trace) (workers : List WorkerValue) : Type 0 where
+  pub count : length workers ≡ t.threads
+  pub each : (k : ℕ) → k < t.threads → IsNewFor k t.partitions (lines_by k t.lines) (worker_in workers k)

@@ -1,0 +1,83 @@
+-- The workers of all threads in a phase: which can play, which have played, told and heard.
+use Rattle.std.specs.Prelude.{◌≡◌, ℕ, ◌<◌, ◌≤◌, List, [], true, false, length, slice_index_or}
+use Rattle.pa_region.specs.declared.view.View.{View}
+use Rattle.pa_region.specs.Start.{first_view}
+use Rattle.pa_region.specs.Views.{stake_of}
+use Rattle.pa_region.specs.Hands.{given_after, united}
+use Rattle.pa_region.specs.Lending.{stake_parcel}
+use Rattle.pa_rules.specs.Caches.{SameLists}
+use Rattle.pa_heap.specs.Stocks.{listed_in}
+use Rattle.pa_heap.specs.Workers.{WorkerValue, HasItsStake, worker_with_view}
+use Rattle.pa_course.specs.Gathering.{HasHeardSome, HasAnswered, told_worker}
+use Rattle.pa_runner.specs.declared.playing.LineOp.{LineOp}
+use Rattle.pa_runner.specs.Playing.{CanPlay, PlaysLines}
+
+-- a worker that isn't there; the worker of a thread, and its lines
+abbrev pub no_worker : WorkerValue
+no_worker = record {
+  stock = record { thread = 0; partitions = 0; view = first_view 0 0; registers = []; caches = [] };
+  records = [];
+  room = 0;
+  stopped = true;
+  counts = [];
+}
+
+abbrev pub worker_in : List WorkerValue → ℕ → WorkerValue
+worker_in workers k = slice_index_or workers k no_worker
+
+abbrev pub queue_in : List (List LineOp) → ℕ → List LineOp
+queue_in queues k = slice_index_or queues k []
+
+-- each worker is of the thread whose number is its place, and can play its lines
+pub record AreReady (queues : List (List LineOp)) (workers : List WorkerValue) : Type 0 where
+  pub count : length queues ≡ length workers
+  pub thread : (k : ℕ) → k < length workers → (worker_in workers k).stock.thread ≡ k
+  pub each : (k : ℕ) → k < length workers → CanPlay (queue_in queues k) (worker_in workers k)
+
+-- a worker played its lines, or wanted for memory
+abbrev pub IsPlayed : List LineOp → (before after : WorkerValue) → Type 0
+IsPlayed lines before after = after.stopped ≡ false → PlaysLines lines before after
+
+abbrev pub ArePlayed : List (List LineOp) → (before after : List WorkerValue) → Type 0
+ArePlayed queues before after = (k : ℕ) → k < length before → IsPlayed (queue_in queues k) (worker_in before k) (worker_in after k)
+
+-- no op of a worker wanted for memory
+abbrev pub AreGoing : List WorkerValue → Type 0
+AreGoing workers = (k : ℕ) → k < length workers → (worker_in workers k).stopped ≡ false
+
+-- each worker has its thread's stake
+pub record HaveStakes (workers : List WorkerValue) : Type 0 where
+  pub thread : (k : ℕ) → k < length workers → (worker_in workers k).stock.thread ≡ k
+  pub each : (k : ℕ) → k < length workers → HasItsStake (worker_in workers k).stock
+
+-- each worker has told, and has no stake
+pub record HaveNone (workers : List WorkerValue) : Type 0 where
+  pub thread : (k : ℕ) → k < length workers → (worker_in workers k).stock.thread ≡ k
+  pub each : (k : ℕ) → k < length workers → (j : ℕ) → stake_of (worker_in workers k).stock.view j ≡ 0
+
+-- the first `count` workers told, and the others are as they were
+pub record HaveTold (count : ℕ) (before after : List WorkerValue) : Type 0 where
+  pub told : (k : ℕ) → k < count → worker_in after k ≡ told_worker k (worker_in before k)
+  pub none : (k : ℕ) → k < count → (j : ℕ) → stake_of (worker_in after k).stock.view j ≡ 0
+  pub others : (k : ℕ) → count ≤ k → worker_in after k ≡ worker_in before k
+
+-- The worker of thread k heard from the main seat, which was `whole` before and had answered those in front of it.
+pub record HeardFrom (threads k : ℕ) (whole : View) (before after : WorkerValue) : Type 0 where
+  pub seat : View
+  pub answered : HasAnswered threads k whole seat
+  pub heard : after ≡ worker_with_view (united before.stock.view (given_after (stake_parcel k) seat)) before
+  pub lists : SameLists (listed_in after.stock) (listed_in before.stock)
+
+-- so did the first `count` workers, and the others are as they were
+pub record HaveHeard (threads count : ℕ) (whole : View) (before after : List WorkerValue) : Type 0 where
+  pub heard : (k : ℕ) → k < count → HeardFrom threads k whole (worker_in before k) (worker_in after k)
+  pub others : (k : ℕ) → count ≤ k → worker_in after k ≡ worker_in before k
+
+-- A phase passed, in which these lines were played: each worker played its own and was as `ends` then, and all told the main seat,
+-- which was `first` before.
+pub record HasPassed (queues : List (List LineOp)) (before after : List WorkerValue) (first seat : View) : Type 0 where
+  pub ends : List WorkerValue
+  pub count : length ends ≡ length before
+  pub played : (k : ℕ) → k < length before → PlaysLines (queue_in queues k) (worker_in before k) (worker_in ends k)
+  pub heard : HasHeardSome (length before) (length before) (worker_in ends) first seat
+  pub told : HaveTold (length before) ends after

@@ -1,0 +1,47 @@
+-- The lines of one thread in one phase, and what a worker did that played them.
+use Rattle.std.specs.Prelude.{◌≡◌, ℕ, ◌+◌, ◌<◌, ◌≤◌, List, [], ◌∷◌, ◌++◌, false, map, length, Contains}
+use Rattle.std.specs.List.{AllByRecursion}
+use Rattle.pa_trace.specs.Limits.{IsOpWithin}
+use Rattle.pa_record.specs.declared.entry.Entry.{Entry}
+use Rattle.pa_rules.specs.Played.{OpLine, op_line_of}
+use Rattle.pa_told.specs.Told.{ToldRecord, played_in}
+use Rattle.pa_heap.specs.Workers.{WorkerValue, HasItsStake}
+use Rattle.pa_heap.specs.Plays.{PlaysAll}
+use Rattle.pa_runner.specs.declared.playing.LineOp.{LineOp}
+
+-- the op line that this is, of a thread in a phase
+abbrev pub in_phase : (phase thread : ℕ) → LineOp → OpLine
+in_phase phase thread due = record { line = due.line; thread = thread; phase = phase; op = due.op }
+
+-- the lines rise, from line n on
+abbrev pub RiseFrom : ℕ → List LineOp → Type 0
+RiseFrom n [] = Unit {0}
+RiseFrom n (due ∷ rest) = (n ≤ due.line) × RiseFrom (due.line + 1) rest
+
+-- all records are of lines before line n
+abbrev pub AreBefore : ℕ → List Entry → Type 0
+AreBefore n es = (e : Entry) → Contains es e → e.line < n
+
+-- the records end with this one
+abbrev pub EndsWith : Entry → List Entry → Type 0
+EndsWith e es = (rest : List Entry) × (es ≡ rest ++ e ∷ [])
+
+-- A worker can play these lines: it isn't stopped, has its stake, and room for their records; each is within the limits; and they rise,
+-- behind those of its records.
+pub record CanPlay (lines : List LineOp) (w : WorkerValue) : Type 0 where
+  pub going : w.stopped ≡ false
+  pub stake : HasItsStake w.stock
+  pub room : length w.records + length lines ≤ w.room
+  pub limits : AllByRecursion (λ (due : LineOp). IsOpWithin w.stock.partitions due.op) lines
+  pub rise : (n : ℕ) × AreBefore n w.records × RiseFrom n lines
+
+-- It played them, in order, in whatever phase they stand. It has a record more for each, isn't stopped, has its stake, and room for as
+-- many records in all as before.
+pub record PlaysLines (lines : List LineOp) (before after : WorkerValue) : Type 0 where
+  pub plays : (phase : ℕ) → (xs : List ToldRecord) × PlaysAll before xs after
+      × (map op_line_of (played_in xs) ≡ map (in_phase phase before.stock.thread) lines)
+  pub going : after.stopped ≡ false
+  pub stake : HasItsStake after.stock
+  pub records : (es : List Entry) × (after.records ≡ before.records ++ es)
+      × (map (λ (e : Entry). e.line) es ≡ map (λ (due : LineOp). due.line) lines)
+  pub room : after.room ≡ before.room

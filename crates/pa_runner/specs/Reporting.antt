@@ -1,0 +1,47 @@
+-- The lines of the report at the end of a phase, of the workers when all have told and of a main seat that has every stake.
+use Rattle.std.specs.Prelude.{◌≡◌, ℕ, List, ◌++◌, map, Contains}
+use Rattle.pa_record.specs.declared.report.ReportLine.{ReportLine}
+use Rattle.pa_record.specs.declared.report.Tally.{Tally}
+use Rattle.pa_region.specs.declared.view.View.{View}
+use Rattle.pa_region.specs.Lending.{Keeps}
+use Rattle.pa_region.specs.Takes.{log_of}
+use Rattle.pa_rules.specs.Report.{partitions_of, census_of}
+use Rattle.pa_heap.specs.declared.counts.Count.{Count}
+use Rattle.pa_heap.specs.Counts.{counted_in}
+use Rattle.pa_heap.specs.Censuses.{TellsCensus, HasSameLists}
+use Rattle.pa_heap.specs.Workers.{WorkerValue}
+use Rattle.pa_course.specs.Lines.{sum_over, IsLeftOf, IsCachedBy}
+
+-- The tally is what the first so many workers counted of partition p.
+pub record IsCountedBy (part : Count → Tally) (p threads : ℕ) (workers : ℕ → WorkerValue) (tally : Tally) : Type 0 where
+  pub slots : tally.slots ≡ sum_over (λ k. (part (counted_in (workers k).counts p)).slots) threads
+  pub bytes : tally.bytes ≡ sum_over (λ k. (part (counted_in (workers k).counts p)).bytes) threads
+
+-- so is each of four tallies
+pub record AreCountedBy (p threads : ℕ) (workers : ℕ → WorkerValue) (count : Count) : Type 0 where
+  pub issued : IsCountedBy (λ (n : Count). n.issued) p threads workers count.issued
+  pub freed : IsCountedBy (λ (n : Count). n.freed) p threads workers count.freed
+  pub entered : IsCountedBy (λ (n : Count). n.entered) p threads workers count.entered
+  pub left : IsCountedBy (λ (n : Count). n.left) p threads workers count.left
+
+-- The line is of this phase, and says what the workers counted and have cached, and the census of its root, as a seat has seen it.
+pub record IsLineFor (phase threads : ℕ) (workers : ℕ → WorkerValue) (seat : View) (l : ReportLine) : Type 0 where
+  pub phase_is : l.phase ≡ phase
+  pub live : IsLeftOf (λ (n : Count). n.issued) (λ (n : Count). n.freed) l.partition threads workers l.live
+  pub quarantined : IsLeftOf (λ (n : Count). n.entered) (λ (n : Count). n.left) l.partition threads workers l.quarantined
+  pub cached : IsCachedBy l.partition threads workers l.cached
+  pub root : TellsCensus l.partition seat (census_of l)
+
+-- A seat asked roots: it has what it had, with the same logs, and has seen nothing new of any list.
+pub record HasAsked (before after : View) : Type 0 where
+  pub keeps : Keeps before after
+  pub logs : (k : ℕ) → log_of k after ≡ log_of k before
+  pub lists : HasSameLists before after
+
+-- Lines were put behind those of a report: one for each partition in order, each of this phase and right.
+pub record IsReported (phase partitions threads : ℕ) (workers : ℕ → WorkerValue) (first seat : View) (before after : List ReportLine) : Type 0 where
+  pub asked : HasAsked first seat
+  pub lines : List ReportLine
+  pub behind : after ≡ before ++ lines
+  pub places : map (λ (l : ReportLine). (l.phase, l.partition)) lines ≡ partitions_of phase 0 partitions
+  pub right : (l : ReportLine) → Contains lines l → IsLineFor phase threads workers seat l

@@ -1,0 +1,66 @@
+//! The workers of all threads, as they begin.
+ghost use Rattle.std.specs.Prelude.{◌≡◌, ℕ, ◌<◌, ◌≤◌, ◌∷◌, [], IfOk, OnOk, length};
+ghost use Rattle.pa_region.specs.declared.marks.Mark.TheVariants.{Stake};
+ghost use Rattle.pa_region.specs.Views.{stake_of};
+ghost use Rattle.pa_region.specs.Waiting.{unclean_of};
+ghost use Rattle.pa_region.specs.Takes.{log_of};
+ghost use Rattle.pa_region.specs.Hands.{left_after};
+ghost use Rattle.pa_region.specs.Marks.{parcel_of};
+ghost use Rattle.pa_trace.specs.Limits.{IsWithinLimits};
+ghost use Rattle.pa_heap.specs.Starts.{HasAllStakes};
+ghost use Rattle.pa_course.specs.Gathering.{IsMain};
+ghost use Rattle.pa_runner.specs.Opening.{IsNewFor, AreNew};
+
+use crate::counting::count_lines;
+use pa_heap::{Heap, Worker};
+use pa_machine::OutOfMemory;
+use pa_region::{Mark, Name, Seat};
+use pa_trace::Trace;
+use std::alloc::Global;
+
+/// The workers of all threads of a trace, of a seat that has every stake: each gets its thread's, and a counted step for each
+/// line of its thread.
+pub fn open_workers<N: Name>(
+    alloc: Global,
+    heap: &Heap<N>,
+    trace: &Trace,
+    seat: &mut Seat,
+) -> Result<Vec<Worker<N>>, OutOfMemory>
+    requires region { seat.old.region ≡ N.region }
+    requires limits { IsWithinLimits trace.now }
+    requires stakes { (budget : ℕ) × (length trace.now.lines ≤ budget) × HasAllStakes budget seat.old.view }
+    ensures region { seat.new.region ≡ N.region }
+    ensures main { OnOk result (IsMain trace.now.threads seat.new.view) }
+    ensures new { IfOk result (λ workers. AreNew trace.now workers.items) }
+{
+    let counts = count_lines(trace.lines.as_slice());
+    let mut workers = Vec::new(alloc);
+    for k in 0..trace.threads {
+        let lines = counts[k as usize];
+        workers.push(open_worker(alloc, heap, seat, k, trace.partitions, lines)?)?;
+    }
+    Ok(workers)
+}
+
+// The worker of one thread gets its stake, and so many counted steps.
+fn open_worker<N: Name>(
+    alloc: Global,
+    heap: &Heap<N>,
+    seat: &mut Seat,
+    thread: u32,
+    partitions: u32,
+    lines: u32,
+) -> Result<Worker<N>, OutOfMemory>
+    requires region { seat.old.region ≡ N.region }
+    requires small { (thread < 16) × (partitions ≤ 4) }
+    requires stake { 0 < stake_of seat.old.view thread }
+    requires log { log_of thread seat.old.view ≡ [] }
+    requires clean { unclean_of seat.old.view ≡ 0 }
+    requires budget { lines ≤ seat.old.view.budget }
+    ensures region { seat.new.region ≡ N.region }
+    ensures left { seat.new.view ≡ left_after (parcel_of [] lines (Stake thread ∷ [])) seat.old.view }
+    ensures new { IfOk result (IsNewFor thread partitions lines) }
+{
+    let note = heap.region().hand(seat, &[], lines, &[Mark::Stake(thread)]);
+    Worker::open(alloc, note, thread, partitions, lines)
+}

@@ -1,0 +1,141 @@
+//! The lines of the report at the end of a phase.
+ghost use Rattle.std.specs.Prelude.{◌≡◌, ℕ, ◌+◌, ◌^◌, ◌<◌, ◌≤◌, ◌⊎◌, IfOk, OnOk, OnErr, length};
+ghost use Rattle.pa_region.specs.declared.view.View.{View};
+ghost use Rattle.pa_region.specs.Views.{HasEveryStake};
+ghost use Rattle.pa_rules.specs.Report.{census_of};
+ghost use Rattle.pa_heap.specs.Censuses.{TellsCensus};
+ghost use Rattle.pa_course.specs.Lines.{IsCachedBy};
+ghost use Rattle.pa_runner.specs.Phases.{worker_in};
+ghost use Rattle.pa_runner.specs.Reporting.{AreCountedBy, IsLineFor, IsReported};
+
+use crate::failure::Failure;
+use pa_heap::{Count, Heap, Worker};
+use pa_record::{Census, ReportLine, Tally};
+use pa_region::{Name, Seat};
+use std::sync::Wait;
+
+/// Puts the lines of a phase behind those of a report: for each partition what the workers counted and have cached, and the
+/// census of its root.
+pub fn report_phase<R: Wait, N: Name>(
+    rt: &R,
+    heap: &Heap<N>,
+    workers: &[Worker<N>],
+    seat: &mut Seat,
+    phase: u32,
+    partitions: u32,
+    report: &mut Vec<ReportLine>,
+) -> Result<(), Failure>
+    requires region { seat.old.region ≡ N.region }
+    requires every { HasEveryStake seat.old.view }
+    requires partitions { partitions ≤ 4 }
+    requires many { length workers.now ≤ 16 }
+    requires few { (k : ℕ) → k < length workers.now → length (worker_in workers.now k).records ≤ 65536 }
+    ensures region { seat.new.region ≡ N.region }
+    ensures reported { OnOk result (IsReported phase partitions (length workers.now) (worker_in workers.now)
+        seat.old.view seat.new.view report.old.items report.new.items) }
+{
+    for partition in 0..partitions {
+        let census = heap.census(rt, seat, partition);
+        let line = line_of(workers, phase, partition, &census)?;
+        report.push(line)?;
+    }
+    Ok(())
+}
+
+// The line of a partition, whose root has this.
+fn line_of<N: Name>(
+    workers: &[Worker<N>],
+    phase: u32,
+    partition: u32,
+    census: &Census,
+) -> Result<ReportLine, Failure>
+    requires partition { partition < 4 }
+    requires many { length workers.now ≤ 16 }
+    requires few { (k : ℕ) → k < length workers.now → length (worker_in workers.now k).records ≤ 65536 }
+    ensures { IfOk result (λ line. (line.partition ≡ partition) × (census_of line ≡ census.now)
+        × ((seat : View) → TellsCensus partition seat census.now → IsLineFor phase (length workers.now) (worker_in workers.now) seat line)) }
+{
+    let count = counted_by(workers, partition);
+    Ok(ReportLine {
+        phase,
+        partition,
+        live: left_of(count.issued, count.freed)?,
+        quarantined: left_of(count.entered, count.left)?,
+        cached: cached_by(workers, partition),
+        root: census.root,
+        committed: census.committed,
+        reserved: census.reserved,
+        full: census.full,
+        active: census.active,
+        empty: census.empty,
+        decommitted: census.decommitted,
+    })
+}
+
+// What went in and didn't go out.
+fn left_of(into: Tally, out: Tally) -> Result<Tally, Failure>
+    ensures left { IfOk result (λ tally. (tally.slots + out.slots ≡ into.slots) × (tally.bytes + out.bytes ≡ into.bytes)) }
+    ensures more { OnErr result ((into.slots < out.slots) ⊎ (into.bytes < out.bytes)) }
+{
+    if into.slots < out.slots || into.bytes < out.bytes {
+        return Err(Failure::Miscounted);
+    }
+    Ok(Tally {
+        slots: into.slots - out.slots,
+        bytes: into.bytes - out.bytes,
+    })
+}
+
+// What the workers counted of a partition.
+fn counted_by<N: Name>(workers: &[Worker<N>], partition: u32) -> Count
+    requires partition { partition < 4 }
+    requires many { length workers.now ≤ 16 }
+    requires few { (k : ℕ) → k < length workers.now → length (worker_in workers.now k).records ≤ 65536 }
+    ensures { AreCountedBy partition (length workers.now) (worker_in workers.now) result }
+{
+    let mut sum = Count {
+        issued: NONE,
+        freed: NONE,
+        entered: NONE,
+        left: NONE,
+    };
+    for worker in workers {
+        worker.kept();
+        let counts = worker.counts();
+        let count = counts[partition as usize];
+        sum.issued = both(sum.issued, count.issued);
+        sum.freed = both(sum.freed, count.freed);
+        sum.entered = both(sum.entered, count.entered);
+        sum.left = both(sum.left, count.left);
+    }
+    sum
+}
+
+// What the lists of the workers have of a partition.
+fn cached_by<N: Name>(workers: &[Worker<N>], partition: u32) -> Tally
+    requires partition { partition < 4 }
+    requires many { length workers.now ≤ 16 }
+    ensures { IsCachedBy partition (length workers.now) (worker_in workers.now) result }
+{
+    let mut sum = NONE;
+    for worker in workers {
+        worker.kept();
+        sum = both(sum, worker.cached(partition));
+    }
+    sum
+}
+
+// No slots.
+const NONE: Tally = Tally { slots: 0, bytes: 0 };
+
+// Two tallies together.
+fn both(a: Tally, b: Tally) -> Tally
+    requires slots { a.slots + b.slots < 2 ^ 64 }
+    requires bytes { a.bytes + b.bytes < 2 ^ 64 }
+    ensures { result ≡ record { slots = a.slots + b.slots; bytes = a.bytes + b.bytes } }
+{
+    Tally {
+        slots: a.slots + b.slots,
+        bytes: a.bytes + b.bytes,
+    }
+}
