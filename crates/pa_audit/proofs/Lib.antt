@@ -1,1 +1,5 @@
 pub mod Lining
+pub mod Placing
+pub mod Telling
+pub mod Granted
+pub mod Shortness

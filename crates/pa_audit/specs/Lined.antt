@@ -1,12 +1,10 @@
 -- What is told of a clause by the lines of the run's text.
-use Rattle.std.specs.Prelude.{◌≡◌, ℕ, ◌+◌, ◌<◌, ◌-◌, ◌^◌, List, length, Option, Some, None}
+use Rattle.std.specs.Prelude.{ℕ, ◌+◌, ◌<◌, ◌-◌, ◌^◌, length, Option, Some, None}
 use Rattle.pa_trace.specs.declared.script.Trace.{Trace}
 use Rattle.pa_record.specs.declared.run.Run.{Run}
-use Rattle.pa_rules.specs.declared.played.Played.{Played}
 use Rattle.pa_rules.specs.declared.verdict.Clause.{Clause}
-use Rattle.pa_rules.specs.Told.{records_of, told_by}
 use Rattle.pa_rules.specs.Places.{report_at}
-use Rattle.pa_rules.specs.Verdicts.{FailsAt, Holds}
+use Rattle.pa_rules.specs.Verdicts.{FailsAt, Holds, turn}
 
 -- nothing: the clause holds; a line: it is the first at which it fails
 abbrev pub TellsLine : Clause → Trace → Run → Option ℕ → Type 0
@@ -17,6 +15,6 @@ TellsLine c t r (Some n) = FailsAt c t r n
 abbrev pub HasLines32 : Run → Type 0
 HasLines32 r = report_at r + length r.report.items < 2 ^ 32 - 1
 
--- these are the run's records beside the ops of the trace
-abbrev pub AreRecordsOf : Trace → Run → List Played → Type 0
-AreRecordsOf t r ps = ps ≡ records_of t (told_by r)
+-- the clauses before this one hold
+abbrev pub HoldBefore : Clause → Trace → Run → Type 0
+HoldBefore c t r = (d : Clause) → turn d < turn c → Holds d t r

@@ -1,6 +1,21 @@
-//! The clauses of a legal run by the lines of the run's text: for each, the first line at which it fails, or that it holds.
+//! The auditor: the verdict on a run of a trace, and of each clause the first line of the run's text at which it fails.
 #![tactic(auto)]
 
+mod cells;
+mod clauses;
+mod heap;
+mod holders;
+mod order;
+mod places;
 mod records;
+mod report;
+#[cfg(test)]
+mod tests;
 
+pub use cells::cells_fail;
+pub use clauses::audit;
+pub use heap::{pool_fails, roots_fail};
+pub use holders::{caches_fail, holders_fail};
+pub use order::{contents_fail, seen_fails};
 pub use records::{lines_fail, registers_fail, slots_fail};
+pub use report::report_fails;

@@ -2,8 +2,9 @@ ghost use Rattle.std.specs.Prelude.{◌≡◌, ◌+◌, ◌<◌, ◌-◌, ◌^�
 ghost use Rattle.std.specs.Option.{option_map};
 ghost use Rattle.pa_trace.specs.Limits.{IsWithinLimits};
 ghost use Rattle.pa_rules.specs.declared.verdict.Clause.TheVariants as clauses;
-ghost use Rattle.pa_audit_records.specs.Marks.{RiseByLine};
-ghost use Rattle.pa_audit.specs.Lined.{AreRecordsOf, HasLines32, TellsLine};
+ghost use Rattle.pa_rules.specs.Rising.{RiseByLine};
+ghost use Rattle.pa_audit_report.specs.Given.{AreRecordsOf};
+ghost use Rattle.pa_audit.specs.Lined.{HasLines32, TellsLine};
 
 use pa_audit_records::{lines_meet, records_are_within, registers_meet, slots_meet};
 use pa_machine::OutOfMemory;

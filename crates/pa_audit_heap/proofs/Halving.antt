@@ -3,7 +3,9 @@ use Rattle.std.proofs.Common.{◌≡◌, ℕ, ◌+◌, ◌<◌, ◌≤◌, List,
 use Rattle.std.specs.Prelude.{slice_get}
 use Rattle.std.proofs.lemmas.Bool.{cases_lt, cases_order}
 use Rattle.pa_rules.specs.declared.played.Played.{Played}
-use Rattle.pa_audit_heap.specs.Ordered.{HaveRisingLines, IsTheRecord}
+use Rattle.pa_audit_heap.specs.Ordered.{IsTheRecord}
+use Rattle.pa_rules.specs.Rising.{RiseByLine}
+use Rattle.pa_rules.proofs.Rising.{rises}
 use Rattle.pa_audit_heap.proofs.Listed.{place_of, member_at, one_there}
 
 -- the records below `low` are of lower lines, and those from `high` on of higher ones
@@ -21,7 +23,7 @@ halves_none ps line low high h closed x (among, is) =
       | inr more ↦ let k = h.above i x (omega arith) at in omega arith
     ]
 
-pub halves_found : (ps : List Played) (line i : ℕ) (x : Played) → HaveRisingLines ps → slice_get ps i ≡ Some x → x.line ≡ line → IsTheRecord ps line (Some x)
+pub halves_found : (ps : List Played) (line i : ℕ) (x : Played) → RiseByLine ps → slice_get ps i ≡ Some x → x.line ≡ line → IsTheRecord ps line (Some x)
 halves_found ps line i x rising at is = (
   (member_at ps i x at, is),
   λ y (among, is').
@@ -29,19 +31,19 @@ halves_found ps line i x rising at is = (
       elim (cases_order j i) [
         | inl same ↦ one_there ps i y x (subst (λ k. slice_get ps k ≡ Some y) same at') at
         | inr rest ↦ elim rest [
-          | inl less ↦ let k = rising j i y x less at' at in absurd (omega arith)
-          | inr more ↦ let k = rising i j x y more at at' in absurd (omega arith)
+          | inl less ↦ let k = rises ps j i y x rising at' at less in absurd (omega arith)
+          | inr more ↦ let k = rises ps i j x y rising at at' more in absurd (omega arith)
         ]
       ],
 )
 
-pub halves_up : (ps : List Played) (line low high i : ℕ) (x : Played) → HaveRisingLines ps → IsHalved ps line low high → slice_get ps i ≡ Some x → x.line < line → i < high
+pub halves_up : (ps : List Played) (line low high i : ℕ) (x : Played) → RiseByLine ps → IsHalved ps line low high → slice_get ps i ≡ Some x → x.line < line → i < high
     → IsHalved ps line (i + 1) high
 halves_up ps line low high i x rising h at less inside = record {
   order = omega arith;
   within = h.within;
   below = λ j y below at'. elim (cases_lt j i) [
-    | inl lower ↦ let k = rising j i y x lower at' at in omega arith
+    | inl lower ↦ let k = rises ps j i y x rising at' at lower in omega arith
     | inr more ↦
         let e : j ≡ i = omega arith in
         let same = one_there ps i y x (subst (λ k. slice_get ps k ≡ Some y) e at') at in
@@ -50,14 +52,14 @@ halves_up ps line low high i x rising h at less inside = record {
   above = h.above;
 }
 
-pub halves_down : (ps : List Played) (line low high i : ℕ) (x : Played) → HaveRisingLines ps → IsHalved ps line low high → slice_get ps i ≡ Some x → line < x.line → low ≤ i → i < high
+pub halves_down : (ps : List Played) (line low high i : ℕ) (x : Played) → RiseByLine ps → IsHalved ps line low high → slice_get ps i ≡ Some x → line < x.line → low ≤ i → i < high
     → IsHalved ps line low i
 halves_down ps line low high i x rising h at more inside within = record {
   order = inside;
   within = let k = h.within in omega arith;
   below = h.below;
   above = λ j y above at'. elim (cases_lt i j) [
-    | inl higher ↦ let k = rising i j x y higher at at' in omega arith
+    | inl higher ↦ let k = rises ps i j x y rising at at' higher in omega arith
     | inr less ↦
         let e : j ≡ i = omega arith in
         let same = one_there ps i y x (subst (λ k. slice_get ps k ≡ Some y) e at') at in

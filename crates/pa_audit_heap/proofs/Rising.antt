@@ -2,10 +2,10 @@
 use Rattle.std.proofs.Common.{◌≡◌, ℕ, ◌+◌, ◌<◌, ◌≤◌, List, length, get_or, Some, subst, arith, inl, inr}
 use Rattle.std.specs.Prelude.{slice_get}
 use Rattle.std.proofs.lemmas.Bool.{cases_lt}
-use Rattle.std.proofs.lemmas.Option.{slice_get-get_or, slice_get_within, get_or_from_slice_get}
+use Rattle.std.proofs.lemmas.Option.{slice_get-get_or, slice_get_within}
 use Rattle.pa_rules.specs.declared.played.Played.{Played}
-use Rattle.pa_audit_heap.specs.Ordered.{HaveRisingLines, AreOfThreads16}
-use Rattle.std.specs.Prelude.{AllPairs}
+use Rattle.pa_audit_heap.specs.Ordered.{AreOfThreads16}
+use Rattle.pa_rules.specs.Rising.{RiseByLine}
 use Rattle.pa_rules.specs.Told.{records_of}
 use Rattle.pa_rules.proofs.Numbering.{lines_rise}
 use Rattle.pa_rules.proofs.Recorded.{records_are_lines}
@@ -39,8 +39,8 @@ risen_more ps n least next h within low thread is =
       ];
     }
 
-pub risen_all : (ps : List Played) (n least : ℕ) → HaveRisen ps n least → length ps ≤ n → HaveRisingLines ps
-risen_all ps n least h past i j x y less at at' = let within = slice_get_within ps j y at' in h.rising i j x y less (omega arith) at at'
+pub risen_all : (ps : List Played) (n least : ℕ) → HaveRisen ps n least → length ps ≤ n → RiseByLine ps
+risen_all ps n least h past i j d less below = h.rising i j (get_or ps i d) (get_or ps j d) less (omega arith) (slice_get-get_or ps i d (omega arith)) (slice_get-get_or ps j d below)
 
 pub threads_all : (ps : List Played) (n least : ℕ) → HaveRisen ps n least → length ps ≤ n → AreOfThreads16 ps
 threads_all ps n least h past x among =
@@ -49,16 +49,9 @@ threads_all ps n least h past x among =
     (h.below i x (omega arith) at).1
 
 -- the records that are due
-rising_at : (ps : List Played) → AllPairs (λ (x y : Played). x.line < y.line) ps → HaveRisingLines ps
-rising_at ps pairs i j x y less at at' =
-    let within = slice_get_within ps j y at' in
-    let low = slice_get_within ps i x at in
-    subst (λ (z : Played). z.line < y.line) (get_or_from_slice_get ps i x no_played at)
-    (subst (λ (z : Played). (get_or ps i no_played).line < z.line) (get_or_from_slice_get ps j y no_played at') (pairs i j no_played less within))
-
 pub due_have_lines : RecordsHaveLines
 due_have_lines = record {
-  rising = λ t r due. rising_at (records_of t r) (lines_rise t.lines (records_of t r) (records_are_lines.lines t.lines r.entries due));
+  rising = λ t r due. lines_rise t.lines (records_of t r) (records_are_lines.lines t.lines r.entries due);
   threads = λ t r within due x among.
       let below = (records_within t (records_of t r) x within (records_are_lines.lines t.lines r.entries due) among).0 in
       let few = within.head.2 in

@@ -3,9 +3,10 @@ use Rattle.pa_trace.specs.declared.script.Trace.{Trace}
 use Rattle.pa_trace.specs.Limits.{IsWithinLimits}
 use Rattle.pa_rules.specs.Told.{Told, records_of}
 use Rattle.pa_rules.specs.Played.{AreDue}
-use Rattle.pa_audit_heap.specs.Ordered.{HaveRisingLines, AreOfThreads16}
+use Rattle.pa_audit_heap.specs.Ordered.{AreOfThreads16}
+use Rattle.pa_rules.specs.Rising.{RiseByLine}
 
 -- the records that are due stand in the order of their lines, and their threads are of the 16
 pub record RecordsHaveLines : Type 0 where
-  pub rising : (t : Trace) (r : Told) → AreDue t.lines r.entries → HaveRisingLines (records_of t r)
+  pub rising : (t : Trace) (r : Told) → AreDue t.lines r.entries → RiseByLine (records_of t r)
   pub threads : (t : Trace) (r : Told) → IsWithinLimits t → AreDue t.lines r.entries → AreOfThreads16 (records_of t r)

@@ -4,10 +4,6 @@ use Rattle.pa_rules.specs.declared.played.Played.{Played}
 use Rattle.pa_rules.specs.Order.{IsOfLine}
 use Rattle.pa_audit_heap.specs.declared.order.Order.{Order}
 
--- the records stand in the order of their lines, each of which has one
-abbrev pub HaveRisingLines : List Played → Type 0
-HaveRisingLines ps = (i j : ℕ) (x y : Played) → i < j → slice_get ps i ≡ Some x → slice_get ps j ≡ Some y → x.line < y.line
-
 -- the records' threads are of the 16
 abbrev pub AreOfThreads16 : List Played → Type 0
 AreOfThreads16 ps = (x : Played) → Contains ps x → x.thread < 16

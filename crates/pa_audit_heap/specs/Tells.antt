@@ -1,5 +1,5 @@
 -- What a checker tells: that each place meets its demand, or the first that doesn't.
-use Rattle.std.specs.Prelude.{ℕ, ◌<◌, nat_lt, if◌then◌else◌, Option, Some, None}
+use Rattle.std.specs.Prelude.{ℕ, nat_lt, if◌then◌else◌, Option, Some, None}
 use Rattle.pa_rules.specs.RecordDemands.{IsAbove}
 
 -- the lesser of two places, where there is one

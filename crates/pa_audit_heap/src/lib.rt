@@ -17,6 +17,8 @@ mod roots;
 mod tests;
 
 pub use laws::records_have_lines;
+pub use lookup::record_of;
 pub use pool::pool_meets;
 pub use refusals::refusals_meet;
+pub use replay::Replay;
 pub use roots::journals_meet;

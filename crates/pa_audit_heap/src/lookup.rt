@@ -1,11 +1,12 @@
 ghost use Rattle.std.specs.Prelude.{◌≡◌};
-ghost use Rattle.pa_audit_heap.specs.Ordered.{HaveRisingLines, IsTheRecord};
+ghost use Rattle.pa_audit_heap.specs.Ordered.{IsTheRecord};
+ghost use Rattle.pa_rules.specs.Rising.{RiseByLine};
 
 use pa_rules::Played;
 
-// The record of a line. `None` exactly where there is none.
-pub(crate) fn record_of(records: &[Played], line: u32) -> Option<Played>
-    requires rising { HaveRisingLines records.now }
+/// The record of a line. `None` exactly where there is none. The records stand in the order of their lines.
+pub fn record_of(records: &[Played], line: u32) -> Option<Played>
+    requires rising { RiseByLine records.now }
     ensures the_record { IsTheRecord records.now line result }
 {
     let mut low = 0;

@@ -3,7 +3,7 @@ ghost use Rattle.pa_buckets.specs.Classes.{IsClassOf};
 ghost use Rattle.pa_direct.specs.Shapes.{shape_of};
 ghost use Rattle.pa_record.specs.Pool.{FoundNone};
 ghost use Rattle.pa_rules.specs.Roots.{AsksForClass, AsksForMap, IsFreeing, MakesEntry, MakesFull};
-ghost use Rattle.pa_audit_heap.specs.Ordered.{HaveRisingLines};
+ghost use Rattle.pa_rules.specs.Rising.{RiseByLine};
 ghost use Rattle.pa_audit_heap.specs.Parts.{IsMadeByLine};
 
 use crate::lookup::record_of;
@@ -21,7 +21,7 @@ pub(crate) fn is_made(
     partition: u32,
     entry: &RootEntry,
 ) -> bool
-    requires rising { HaveRisingLines records.now }
+    requires rising { RiseByLine records.now }
     ensures { IsTrue result ↔ IsMadeByLine records.now pools.now partition entry.now }
 {
     match record_of(records, entry.line) {

@@ -1,6 +1,7 @@
 ghost use Rattle.std.specs.Prelude.{◌≡◌, ℕ, ◌<◌, ◌↔◌, IsTrue, List};
 ghost use Rattle.pa_rules.specs.declared.played.Played.{Played as Record};
-ghost use Rattle.pa_audit_heap.specs.Ordered.{HaveRisingLines, AreOfThreads16, IsBehind, entered_by, Admits, HasSeen};
+ghost use Rattle.pa_audit_heap.specs.Ordered.{AreOfThreads16, IsBehind, entered_by, Admits, HasSeen};
+ghost use Rattle.pa_rules.specs.Rising.{RiseByLine};
 
 use crate::lookup::record_of;
 use pa_rules::Played;
@@ -28,7 +29,7 @@ impl Order {
 
     // Whether an entry on this line comes in order behind those so far. Where it does it is the last one from then on.
     pub(crate) fn admits(&mut self, records: &[Played], line: u32) -> bool
-        requires rising { HaveRisingLines records.now }
+        requires rising { RiseByLine records.now }
         requires threads { AreOfThreads16 records.now }
         ensures { Admits records.now line self.old self.new result }
     {

@@ -5,7 +5,8 @@ ghost use Rattle.pa_rules.specs.declared.verdict.Place.TheVariants as places;
 ghost use Rattle.pa_rules.specs.Roots.{journal_at};
 ghost use Rattle.pa_rules.specs.HeapDemands.{PoolDemand};
 ghost use Rattle.pa_audit_heap.specs.Namings.{IsNaming, IsNamed};
-ghost use Rattle.pa_audit_heap.specs.Ordered.{HaveRisingLines, AreOfThreads16};
+ghost use Rattle.pa_audit_heap.specs.Ordered.{AreOfThreads16};
+ghost use Rattle.pa_rules.specs.Rising.{RiseByLine};
 ghost use Rattle.pa_audit_heap.specs.Parts.{ComesAt, FitsPool, IsNamedAt};
 ghost use Rattle.pa_rules.specs.Tells.{TellsFirst};
 
@@ -28,7 +29,7 @@ pub fn pool_meets(
     roots: &[Journal],
 ) -> Result<Option<u32>, OutOfMemory>
     requires supers { supers ≤ 64 }
-    requires rising { HaveRisingLines records.now }
+    requires rising { RiseByLine records.now }
     requires threads { AreOfThreads16 records.now }
     requires few { length pools.now < 2 ^ 32 - 1 }
     requires partitions { length roots.now < 2 ^ 32 }
@@ -128,7 +129,7 @@ fn is_named(naming: Naming, entry: PoolEntry) -> bool
 
 // The first entry before which one stands that stands behind it.
 fn come_in_order(records: &[Played], pools: &[PoolEntry]) -> Option<u32>
-    requires rising { HaveRisingLines records.now }
+    requires rising { RiseByLine records.now }
     requires threads { AreOfThreads16 records.now }
     requires few { length pools.now < 2 ^ 32 - 1 }
     ensures { TellsFirst (ComesAt records.now pools.now) result }

@@ -4,7 +4,8 @@ ghost use Rattle.pa_record.specs.Sound.{AsksFrom, least_after};
 ghost use Rattle.pa_rules.specs.declared.verdict.Place.TheVariants as places;
 ghost use Rattle.pa_rules.specs.Roots.{journal_at};
 ghost use Rattle.pa_rules.specs.HeapDemands.{RootsDemand};
-ghost use Rattle.pa_audit_heap.specs.Ordered.{HaveRisingLines, AreOfThreads16};
+ghost use Rattle.pa_audit_heap.specs.Ordered.{AreOfThreads16};
+ghost use Rattle.pa_rules.specs.Rising.{RiseByLine};
 ghost use Rattle.pa_audit_heap.specs.Parts.{ComesInJournal, FitsRootAt, IsOfTrace};
 ghost use Rattle.pa_audit_heap.specs.Replayed.{DoAllFit};
 ghost use Rattle.pa_rules.specs.Tells.{TellsFirst};
@@ -32,7 +33,7 @@ pub fn journals_meet(
     roots: &[Journal],
 ) -> Result<Option<(u32, u32)>, OutOfMemory>
     requires supers { supers ≤ 64 }
-    requires rising { HaveRisingLines records.now }
+    requires rising { RiseByLine records.now }
     requires threads { AreOfThreads16 records.now }
     requires pool { DoAllFit supers pools.now }
     requires few { length pools.now < 2 ^ 32 - 1 }
@@ -66,7 +67,7 @@ fn journal_meets(
 ) -> Result<Option<u32>, OutOfMemory>
     requires journal { journal_at roots.now partition ≡ journal.now }
     requires supers { supers ≤ 64 }
-    requires rising { HaveRisingLines records.now }
+    requires rising { RiseByLine records.now }
     requires threads { AreOfThreads16 records.now }
     requires pool { DoAllFit supers pools.now }
     requires few { length pools.now < 2 ^ 32 - 1 }
@@ -107,7 +108,7 @@ fn entries_come(
     journal: &Journal,
 ) -> Option<u32>
     requires journal { journal_at roots.now partition ≡ journal.now }
-    requires rising { HaveRisingLines records.now }
+    requires rising { RiseByLine records.now }
     requires threads { AreOfThreads16 records.now }
     requires entries { length journal.now < 2 ^ 32 }
     ensures { TellsFirst (ComesInJournal records.now (journal_at roots.now) partition) result }
@@ -136,7 +137,7 @@ fn entries_fit(
 ) -> Result<Option<u32>, OutOfMemory>
     requires journal { journal_at roots.now partition ≡ journal.now }
     requires supers { supers ≤ 64 }
-    requires rising { HaveRisingLines records.now }
+    requires rising { RiseByLine records.now }
     requires pool { DoAllFit supers pools.now }
     requires few { length pools.now < 2 ^ 32 - 1 }
     requires entries { length journal.now < 2 ^ 32 }

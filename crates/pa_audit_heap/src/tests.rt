@@ -1,6 +1,7 @@
 ghost use Rattle.std.specs.Prelude.{◌≡◌, ℕ, ◌<◌, ◌^◌, IsTrue, length};
 ghost use Rattle.pa_rules.specs.Roots.{journal_at};
-ghost use Rattle.pa_audit_heap.specs.Ordered.{HaveRisingLines, AreOfThreads16};
+ghost use Rattle.pa_audit_heap.specs.Ordered.{AreOfThreads16};
+ghost use Rattle.pa_rules.specs.Rising.{RiseByLine};
 
 use crate::{journals_meet, pool_meets, refusals_meet};
 use pa_buckets::Class;
@@ -48,7 +49,7 @@ fn first_of(
 
 // Whether the lines of the records rise, and their threads are below 16.
 fn are_rising(records: &[Played]) -> bool
-    ensures rising { IsTrue result → HaveRisingLines records.now }
+    ensures rising { IsTrue result → RiseByLine records.now }
     ensures threads { IsTrue result → AreOfThreads16 records.now }
 {
     let mut least: u64 = 0;

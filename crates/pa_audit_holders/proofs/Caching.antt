@@ -102,7 +102,7 @@ row_one partitions roots x a cache next other kinds row row' = quiet_one roots x
 -- ---- the walk
 
 -- the lists that records lead to are one
-caches_one : (partitions : ℕ) (roots : Journals) (all after other : Caches) (ps : List Played) → HaveOneKind roots → CachesTo partitions roots all ps after → CachesTo partitions roots all ps other → after ≡ other
+pub caches_one : (partitions : ℕ) (roots : Journals) (all after other : Caches) (ps : List Played) → HaveOneKind roots → CachesTo partitions roots all ps after → CachesTo partitions roots all ps other → after ≡ other
 caches_one partitions roots all after other [] kinds h k = h ∙ sym k
 caches_one partitions roots all after other (x ∷ ps) kinds (next, row, more) (next', row', more') =
     let same : next' ≡ next = row_one partitions roots x x.answer (all x.thread) next' next kinds row' row in

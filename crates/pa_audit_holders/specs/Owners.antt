@@ -12,7 +12,8 @@ use Rattle.pa_rules.specs.RecordDemands.{IsRecord, SlotsDemand}
 use Rattle.pa_rules.specs.Order.{IsOfLine}
 use Rattle.pa_rules.specs.Holders.{Holder, InRoot, WithThread, Way, Out, Back, Move, is_move_of, IsReturnedBy, IsFirstHolder, HolderAfter, needed_by}
 use Rattle.pa_audit_records.specs.Keys.{word_key}
-use Rattle.pa_audit_records.specs.Marks.{IsSized, RiseByLine}
+use Rattle.pa_rules.specs.Rising.{RiseByLine}
+use Rattle.pa_audit_records.specs.Marks.{IsSized}
 use Rattle.pa_audit_holders.specs.declared.owners.Owner.{Owner}
 use Rattle.pa_audit_holders.specs.declared.owners.Owner.TheVariants.{Nobody, Root, Thread}
 use Rattle.pa_audit_holders.specs.declared.owners.Course.{Course}

@@ -64,8 +64,8 @@ pub fn caches_meet(
     Ok(None)
 }
 
-// A number above the lines of all records.
-fn lines_below(records: &[Played]) -> usize
+/// A number above the lines of all records.
+pub fn lines_below(records: &[Played]) -> usize
     ensures { All (λ x. x.line < result) records.now }
 {
     let mut most: u32 = 0;
@@ -75,8 +75,8 @@ fn lines_below(records: &[Played]) -> usize
     most as usize + 1
 }
 
-// The lists of all threads, which are empty.
-fn no_lists(alloc: Global) -> Result<Vec<ThreadLists>, OutOfMemory>
+/// The lists of 16 threads, which are empty.
+pub fn no_lists(alloc: Global) -> Result<Vec<ThreadLists>, OutOfMemory>
     ensures many { IfOk result (λ lists. length lists.items ≡ 16) }
     ensures none { IfOk result (λ lists. caches_in lists.items ≡ no_caches) }
 {
@@ -88,8 +88,8 @@ fn no_lists(alloc: Global) -> Result<Vec<ThreadLists>, OutOfMemory>
     Ok(lists)
 }
 
-// Whether a record's row leads on from the lists. Where it does they are the next ones.
-fn play(
+/// Whether a record's row leads on from the lists. Where it does they are the next ones.
+pub fn play(
     alloc: Global,
     partitions: u32,
     roots: &[Journal],

@@ -2,7 +2,7 @@ ghost use Rattle.std.specs.Prelude.{◌≡◌, ℕ, ◌+◌, ◌<◌, ◌^◌, I
 ghost use Rattle.pa_rules.specs.declared.verdict.Place.TheVariants as places;
 ghost use Rattle.pa_rules.specs.Roots.{journal_at};
 ghost use Rattle.pa_rules.specs.RecordDemands.{SlotsDemand};
-ghost use Rattle.pa_audit_records.specs.Marks.{RiseByLine};
+ghost use Rattle.pa_rules.specs.Rising.{RiseByLine};
 ghost use Rattle.pa_audit_holders.specs.Holding.{TellsHolders, entry_place, first_in};
 
 use crate::held::first_record;

@@ -13,10 +13,10 @@ use pa_record::{Journal, Numbered, RootAct, RootEntry};
 use std::alloc::Global;
 use std::collections::BTreeMap;
 
-// Where a free slot goes: to the lists of its partition and class, by its number, or, where it has none, to the root of its
-// partition.
+/// Where a free slot goes: to the lists of its partition and class, by its number, or, where it has none, to the root of its
+/// partition.
 #[derive(Clone, Copy)]
-pub(crate) struct Home {
+pub struct Home {
     pub(crate) partition: u32,
     pub(crate) class: Option<u32>,
 }
@@ -29,8 +29,8 @@ pub(crate) fn key(slot: SlotName) -> u64
     u64::from(slot.born) * 4_294_967_296 + u64::from(slot.start)
 }
 
-// The homes of all slots that the journals handed out.
-pub(crate) fn homes_of(alloc: Global, roots: &[Journal]) -> Result<BTreeMap<u64, Home>, OutOfMemory>
+/// The homes of all slots that the journals handed out, by the slots' numbers.
+pub fn homes_of(alloc: Global, roots: &[Journal]) -> Result<BTreeMap<u64, Home>, OutOfMemory>
     requires few { length roots.now < 2 ^ 32 }
     ensures { IfOk result (λ homes. KnowsHomes (journal_at roots.now) (get nat_cmp homes)) }
 {

@@ -46,9 +46,9 @@ impl Places {
     }
 }
 
-// The places of a journal's entries, by their lines. They are seen as the list of these lists.
+/// The places of a journal's entries, by their lines. They are seen as the list of these lists.
 #[derive(Drop)]
-pub(crate) struct ByLine {
+pub struct ByLine {
     lines: Vec<Places>,
 }
 
@@ -108,12 +108,8 @@ impl ByLine {
     }
 }
 
-// The places of the entries of all journals on lines below this number.
-pub(crate) fn lines_of(
-    alloc: Global,
-    count: usize,
-    roots: &[Journal],
-) -> Result<Vec<ByLine>, OutOfMemory>
+/// The places of the entries of all journals on lines below this number.
+pub fn lines_of(alloc: Global, count: usize, roots: &[Journal]) -> Result<Vec<ByLine>, OutOfMemory>
     requires few { (p : ℕ) → length (journal_at roots.now p) < 4294967296 }
     ensures { IfOk result (λ tables. HaveLines roots.now count tables.items) }
 {

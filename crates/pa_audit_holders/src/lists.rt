@@ -73,9 +73,9 @@ impl FreeSlots {
     }
 }
 
-// A thread's lists. They are seen as the list of them, 59 of each partition.
+/// A thread's lists of free slots. They are seen as the list of them, 59 of each of four partitions.
 #[derive(Drop)]
-pub(crate) struct ThreadLists {
+pub struct ThreadLists {
     lists: Vec<FreeSlots>,
 }
 
@@ -102,8 +102,8 @@ impl ThreadLists {
         Ok(ThreadLists { lists })
     }
 
-    // The slots of a partition's list, front first.
-    pub(crate) fn list(&self, partition: u32, class: Class) -> &[Numbered]
+    /// The slots of a partition's list, front first.
+    pub fn list(&self, partition: u32, class: Class) -> &[Numbered]
         requires partition { partition < 4 }
         ensures { result.now ≡ cache_in self.now partition class }
     {

@@ -11,8 +11,8 @@ use Rattle.pa_rules.specs.declared.played.Played.{Played}
 use Rattle.pa_rules.specs.RecordDemands.{IsRecord}
 use Rattle.pa_rules.specs.Seen.{HandsTo}
 use Rattle.pa_verdict.proofs.Lists.{one_at}
-use Rattle.pa_audit_records.specs.Marks.{RiseByLine}
-use Rattle.pa_audit_records.proofs.Stepping.{rises}
+use Rattle.pa_rules.specs.Rising.{RiseByLine}
+use Rattle.pa_rules.proofs.Rising.{rises}
 use Rattle.pa_audit_records.proofs.Walking.{here_is}
 use Rattle.pa_audit_order.specs.Steps.{NeverFallsBack, IsLastOf, ArePrevious, as_list, Adds, AddsAll, AddsSteps}
 

@@ -12,8 +12,8 @@ use Rattle.pa_rules.specs.declared.played.Played.{Played}
 use Rattle.pa_rules.specs.RecordDemands.{IsRecord}
 use Rattle.pa_rules.specs.Seen.{IsBefore, Standing, Handing, Between}
 use Rattle.pa_verdict.proofs.Lists.{in_at, one_at}
-use Rattle.pa_audit_records.specs.Marks.{RiseByLine}
-use Rattle.pa_audit_records.proofs.Stepping.{rises}
+use Rattle.pa_rules.specs.Rising.{RiseByLine}
+use Rattle.pa_rules.proofs.Rising.{rises}
 use Rattle.pa_audit_records.proofs.Walking.{here_is}
 use Rattle.pa_audit_order.specs.Looks.{IsMarked, AreLeft}
 use Rattle.pa_audit_order.specs.Steps.{IsStepTo, IsLastOf, ArePrevious, AddsSteps}

@@ -17,7 +17,7 @@ use Rattle.pa_rules.specs.Registers.{Facts, Regs, AllRegs, RowsTo, no_regs, with
 use Rattle.pa_rules.specs.Sizes.{usable_of}
 use Rattle.pa_one_run.proofs.rows.Handles.{row_leads}
 use Rattle.pa_verdict.proofs.Lists.{cut_at}
-use Rattle.pa_audit_records.specs.Marks.{RiseByLine}
+use Rattle.pa_rules.specs.Rising.{RiseByLine}
 use Rattle.pa_audit_records.specs.Rows.{MayAnswer}
 use Rattle.pa_audit_records.specs.Tables.{regs_in, regs_next, AreRegsOf, facts_by}
 use Rattle.pa_audit_records.proofs.Rowing.{row_may}

@@ -14,7 +14,7 @@ use Rattle.pa_rules.specs.RecordDemands.{IsRecord, CellsDemand}
 use Rattle.pa_rules.specs.Seen.{HandsTo}
 use Rattle.pa_verdict.proofs.Lists.{in_at, one_at}
 use Rattle.pa_audit_records.specs.Exchanges.{AreByLine}
-use Rattle.pa_audit_records.specs.Marks.{RiseByLine}
+use Rattle.pa_rules.specs.Rising.{RiseByLine}
 use Rattle.pa_audit_records.specs.Tables.{Puts}
 use Rattle.pa_audit_records.proofs.Walking.{here_is}
 use Rattle.pa_audit_order.specs.Steps.{IsGiving, IsLastOf, ArePrevious}

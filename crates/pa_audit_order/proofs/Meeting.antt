@@ -15,10 +15,10 @@ use Rattle.pa_rules.specs.Seen.{IsBefore, Standing, Handing, Between, left_numbe
 use Rattle.pa_rules.specs.Tells.{TellsFirst}
 use Rattle.pa_verdict.proofs.Lists.{at_in, in_at, one_at}
 use Rattle.pa_audit_records.specs.Keys.{word_key}
-use Rattle.pa_audit_records.specs.Marks.{RiseByLine}
+use Rattle.pa_rules.specs.Rising.{RiseByLine}
 use Rattle.pa_audit_records.specs.Rows.{IsPlayedWithin}
 use Rattle.pa_audit_records.proofs.Putting.{same_key}
-use Rattle.pa_audit_records.proofs.Stepping.{rises}
+use Rattle.pa_rules.proofs.Rising.{rises}
 use Rattle.pa_audit_records.proofs.Walking.{here_is}
 use Rattle.pa_audit_order.specs.Looks.{IsMarked, FindsEnough}
 use Rattle.pa_audit_order.specs.Steps.{IsStepTo, ArePrevious}

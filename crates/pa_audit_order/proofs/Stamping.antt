@@ -22,9 +22,11 @@ use Rattle.pa_rules.proofs.Marking.{mark_line}
 use Rattle.pa_rules.proofs.Running.{one_mark, run_rises, marks_differ}
 use Rattle.pa_verdict.proofs.Runs.{same_run}
 use Rattle.pa_audit_records.specs.Keys.{word_key}
-use Rattle.pa_audit_records.specs.Marks.{IsSized, RiseByLine}
+use Rattle.pa_audit_records.specs.Marks.{IsSized}
+use Rattle.pa_rules.specs.Rising.{RiseByLine}
 use Rattle.pa_audit_records.specs.Tables.{Puts}
-use Rattle.pa_audit_records.proofs.Stepping.{same_place, rises, records_differ}
+use Rattle.pa_audit_records.proofs.Stepping.{same_place, records_differ}
+use Rattle.pa_rules.proofs.Rising.{rises}
 use Rattle.pa_audit_records.proofs.Walking.{here_is}
 use Rattle.pa_audit_order.specs.declared.numbers.Kind.{Kind}
 use Rattle.pa_audit_order.specs.declared.numbers.Kind.TheVariants.{Fill, Free}

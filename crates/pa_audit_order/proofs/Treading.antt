@@ -10,7 +10,7 @@ use Rattle.pa_rules.specs.declared.played.Played.{Played}
 use Rattle.pa_rules.specs.declared.verdict.Place.TheVariants as places
 use Rattle.pa_rules.specs.Played.{mark_of}
 use Rattle.pa_rules.specs.RecordDemands.{IsRecord, SeenDemand}
-use Rattle.pa_audit_records.specs.Marks.{RiseByLine}
+use Rattle.pa_rules.specs.Rising.{RiseByLine}
 use Rattle.pa_audit_records.proofs.Walking.{here_is}
 use Rattle.pa_audit_order.specs.Looks.{IsMarked}
 use Rattle.pa_audit_order.specs.Steps.{ArePrevious}

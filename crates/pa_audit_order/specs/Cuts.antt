@@ -7,7 +7,7 @@ use Rattle.pa_rules.specs.declared.verdict.Place.TheVariants as places
 use Rattle.pa_rules.specs.RecordDemands.{IsRecord, CellsDemand}
 use Rattle.pa_rules.specs.Seen.{IsBefore, HandsTo}
 use Rattle.pa_audit_records.specs.Exchanges.{AreByLine}
-use Rattle.pa_audit_records.specs.Marks.{RiseByLine}
+use Rattle.pa_rules.specs.Rising.{RiseByLine}
 use Rattle.pa_audit_order.specs.Looks.{IsMarked, AreLeft, FindsEnough}
 use Rattle.pa_audit_order.specs.Steps.{NeverFallsBack, IsLastOf, ArePrevious}
 

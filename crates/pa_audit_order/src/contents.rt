@@ -8,7 +8,7 @@ ghost use Rattle.pa_rules.specs.Contents.{IsContent, IsNextFree};
 ghost use Rattle.pa_rules.specs.RecordDemands.{RegistersDemand, SlotsDemand, ContentsDemand};
 ghost use Rattle.pa_rules.specs.Sizes.{usable_of};
 ghost use Rattle.pa_rules.specs.Tells.{TellsFirst};
-ghost use Rattle.pa_audit_records.specs.Marks.{RiseByLine};
+ghost use Rattle.pa_rules.specs.Rising.{RiseByLine};
 ghost use Rattle.pa_audit_records.specs.Rows.{IsPlayedWithin};
 ghost use Rattle.pa_audit_records.specs.Tables.{regs_in};
 ghost use Rattle.pa_audit_order.specs.declared.numbers.Kind.TheVariants.{Fill, Free};
@@ -19,15 +19,12 @@ use crate::changes::change;
 use crate::keys::{greatest, key, least};
 use crate::numbers::{Kind, by_number};
 use crate::registers::Registers;
-use pa_machine::{OutOfMemory, SlotName, number};
+use pa_machine::{OutOfMemory, POISON, SlotName, number};
 use pa_record::{Answer, History};
 use pa_rules::{Played, Reg};
 use pa_trace::Op;
 use std::alloc::Global;
 use std::collections::BTreeMap;
-
-// What a read of a freed slot gives.
-const POISON: u64 = 0xefef_efef_efef_efef;
 
 /// The index of the first record that read a value which it may not give: neither the content of its slot at the number
 /// that it found nor poison, or poison where no other thread's free was under way; none where no record did.

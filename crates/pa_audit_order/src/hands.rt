@@ -9,7 +9,7 @@ ghost use Rattle.pa_rules.specs.Cells.{history_at};
 ghost use Rattle.pa_rules.specs.RecordDemands.{IsRecord, CellsDemand};
 ghost use Rattle.pa_rules.specs.Seen.{HandsTo};
 ghost use Rattle.pa_audit_records.specs.Exchanges.{AreByLine};
-ghost use Rattle.pa_audit_records.specs.Marks.{RiseByLine};
+ghost use Rattle.pa_rules.specs.Rising.{RiseByLine};
 ghost use Rattle.pa_audit_order.specs.Steps.{IsGiving, ArePrevious};
 
 use crate::changes::exchange;

@@ -7,7 +7,7 @@ ghost use Rattle.pa_rules.specs.Cells.{history_at};
 ghost use Rattle.pa_rules.specs.Played.{mark_of};
 ghost use Rattle.pa_rules.specs.RecordDemands.{CellsDemand, SeenDemand};
 ghost use Rattle.pa_rules.specs.Tells.{TellsFirst};
-ghost use Rattle.pa_audit_records.specs.Marks.{RiseByLine};
+ghost use Rattle.pa_rules.specs.Rising.{RiseByLine};
 ghost use Rattle.pa_audit_records.specs.Rows.{IsPlayedWithin};
 ghost use Rattle.pa_audit_order.specs.Steps.{NeverFallsBack, RecordsNeverFallBack};
 ghost use Rattle.pa_audit_order.specs.Cuts.{IsPrepared, IsOrderly, TellsOf, earlier_of};

@@ -18,7 +18,7 @@ use Rattle.pa_rules.specs.RecordDemands.{IsRecord, IsAbove, WasGiven, ExchangeFi
 use Rattle.pa_rules.proofs.ByLines.{same_record}
 use Rattle.pa_verdict.proofs.Lists.{at_in, in_at, map_at, at_map, one_at}
 use Rattle.pa_audit_records.specs.Exchanges.{NamesExchange, SwapFits, IsSwapOf, TellsPair, AreByLine, AreLinesKnown, IsEarlier, HasLatest, IsRecordOfSwap, FitsNow}
-use Rattle.pa_audit_records.specs.Marks.{RiseByLine}
+use Rattle.pa_rules.specs.Rising.{RiseByLine}
 use Rattle.pa_rules.specs.Tells.{TellsFirst}
 use Rattle.pa_audit_records.specs.Tables.{Puts}
 use Rattle.pa_audit_records.proofs.Telling.{met_more}

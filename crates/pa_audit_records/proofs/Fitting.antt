@@ -18,10 +18,12 @@ use Rattle.pa_rules.specs.RecordDemands.{SlotsDemand}
 use Rattle.pa_verdict.proofs.Lists.{at_in}
 use Rattle.pa_verdict.proofs.Runs.{same_run}
 use Rattle.pa_audit_records.specs.Keys.{word_key}
-use Rattle.pa_audit_records.specs.Marks.{IsSized, RiseByLine}
+use Rattle.pa_audit_records.specs.Marks.{IsSized}
+use Rattle.pa_rules.specs.Rising.{RiseByLine}
 use Rattle.pa_audit_records.specs.Steps.{AreFirsts, AreReached, HasAllSlots, StepFits, MarkFits}
 use Rattle.pa_audit_records.proofs.Walking.{here_is, not_there}
-use Rattle.pa_audit_records.proofs.Stepping.{same_place, rises, records_differ, first_is, first_none}
+use Rattle.pa_audit_records.proofs.Stepping.{same_place, records_differ, first_is, first_none}
+use Rattle.pa_rules.proofs.Rising.{rises}
 
 -- ---- what the clause asks for, by the tables
 

@@ -13,7 +13,7 @@ use Rattle.pa_record.proofs.Members.{not_in_none, in_cases}
 use Rattle.pa_record.proofs.Pairs.{pairs_none, pairs_cons}
 use Rattle.pa_rules.specs.declared.played.Played.{Played}
 use Rattle.pa_rules.specs.Played.{op_lines, beside, played}
-use Rattle.pa_audit_records.specs.Marks.{RiseByLine}
+use Rattle.pa_rules.specs.Rising.{RiseByLine}
 use Rattle.pa_audit_records.specs.Rows.{NamesRegisters, IsPlayedWithin}
 use Rattle.pa_audit_records.specs.Limits.{RecordsAreWithin}
 

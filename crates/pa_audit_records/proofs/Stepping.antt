@@ -18,7 +18,9 @@ use Rattle.pa_rules.proofs.Phases.{mark_in}
 use Rattle.pa_rules.proofs.Marking.{mark_line}
 use Rattle.pa_verdict.proofs.Lists.{at_in, in_at}
 use Rattle.pa_audit_records.specs.Keys.{name_key, word_key}
-use Rattle.pa_audit_records.specs.Marks.{IsSized, RiseByLine}
+use Rattle.pa_audit_records.specs.Marks.{IsSized}
+use Rattle.pa_rules.specs.Rising.{RiseByLine}
+use Rattle.pa_rules.proofs.Rising.{rises}
 use Rattle.pa_audit_records.specs.Steps.{IsStepOf, IsStepAt, IsSizedMark, AreFirstsFrom, AreFirsts, IsNextWord, IsLastWord, HasRunOf, AreReached}
 use Rattle.pa_audit_records.specs.Tables.{Puts}
 use Rattle.pa_audit_records.proofs.Putting.{same_key}
@@ -115,15 +117,6 @@ get_at : {A : Type 0} (xs : List A) (i : ℕ) (d x : A) → slice_get xs i ≡ S
 get_at [] i d x at = absurd (not_some x at)
 get_at (y ∷ ys) zero d x at = (omega arith, of_some y x at)
 get_at (y ∷ ys) (suc i) d x at = let (below, is) = get_at ys i d x at in (omega (arith, below), is)
-
-pub rises : (ps : List Played) (i j : ℕ) (x y : Played) → RiseByLine ps → IsRecord ps i x → IsRecord ps j y → i < j → x.line < y.line
-rises ps i j x y rising at at' less =
-    let (below, is) = get_at ps i x x at in
-    let (below', is') = get_at ps j x y at' in
-    let both : (get_or ps i x).line < (get_or ps j x).line = rising i j x less below' in
-    let one = ap (λ (z : Played). z.line) is in
-    let two = ap (λ (z : Played). z.line) is' in
-    omega (arith, both, one, two)
 
 -- so the lines differ
 pub records_differ : (ps : List Played) → RiseByLine ps → AllPairs OtherRecord ps

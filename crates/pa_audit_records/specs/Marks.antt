@@ -12,7 +12,3 @@ mark_with line m = record { line = line; slot = m.slot; found = m.found.0; step 
 -- names and words have the bits of their types
 abbrev pub IsSized : SlotName → ℕ → Type 0
 IsSized s w = (s.start < 4294967296) × (w < 18446744073709551616)
-
--- each record's line is greater than those of the records before it
-abbrev pub RiseByLine : List Played → Type 0
-RiseByLine ps = AllPairs (λ (x y : Played). x.line < y.line) ps

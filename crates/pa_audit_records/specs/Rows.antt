@@ -2,6 +2,7 @@
 use Rattle.std.specs.Prelude.{◌≡◌, ℕ, ◌*◌, ◌<◌, ◌≤◌, ◌⊎◌, List, Some, None, slice_get}
 use Rattle.pa_machine.specs.declared.word.SlotName.{SlotName}
 use Rattle.pa_machine.specs.Count.{held_of, refs_of}
+use Rattle.pa_direct.specs.Shapes.{greatest_size}
 use Rattle.pa_trace.specs.declared.script.Op.{Op}
 use Rattle.pa_trace.specs.declared.script.Op.TheVariants as ops
 use Rattle.pa_record.specs.declared.entry.Seen.{Seen}
@@ -20,9 +21,9 @@ IsDoneAt s answer = (seen : Seen) × (seen.slot ≡ s) × (answer ≡ Done seen)
 -- a request for so many bytes, whose slot has this usable number
 abbrev pub AnswersRequest : ℕ → ℕ → Answer → Type 0
 AnswersRequest usable size answer =
-    ((33521656 < size) × (answer ≡ TooLarge))
-    ⊎ ((size ≤ 33521656) × (seen : Seen) × (answer ≡ Made seen usable))
-    ⊎ ((size ≤ 33521656) × (entry : ℕ) × (answer ≡ Full entry))
+    ((greatest_size < size) × (answer ≡ TooLarge))
+    ⊎ ((size ≤ greatest_size) × (seen : Seen) × (answer ≡ Made seen usable))
+    ⊎ ((size ≤ greatest_size) × (entry : ℕ) × (answer ≡ Full entry))
 
 -- an allocation, by what its register holds
 abbrev pub AnswersAlloc : Reg → ℕ → ℕ → Answer → Type 0

@@ -6,7 +6,7 @@ ghost use Rattle.pa_rules.specs.declared.verdict.Place.TheVariants as places;
 ghost use Rattle.pa_rules.specs.Cells.{history_at};
 ghost use Rattle.pa_rules.specs.RecordDemands.{CellsDemand};
 ghost use Rattle.pa_audit_records.specs.Exchanges.{NamesExchange, SwapFits, IsSwapOf, TellsPair, AreByLine, AreLinesKnown, IsRecordOfSwap, FitsNow};
-ghost use Rattle.pa_audit_records.specs.Marks.{RiseByLine};
+ghost use Rattle.pa_rules.specs.Rising.{RiseByLine};
 ghost use Rattle.pa_rules.specs.Tells.{TellsFirst};
 
 use crate::keys::{find, put};

@@ -1,7 +1,7 @@
 ghost use Rattle.std.specs.Prelude.{◌≡◌, ◌<◌, ◌≤◌, ◌-◌, ◌^◌, IfOk, length};
 ghost use Rattle.pa_rules.specs.Played.{played};
 ghost use Rattle.pa_audit_records.specs.Limits.{RecordsAreWithin};
-ghost use Rattle.pa_audit_records.specs.Marks.{RiseByLine};
+ghost use Rattle.pa_rules.specs.Rising.{RiseByLine};
 
 use pa_machine::OutOfMemory;
 use pa_record::Entry;

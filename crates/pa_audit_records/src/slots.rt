@@ -4,7 +4,8 @@ ghost use Rattle.std.specs.BTreeMap.{get};
 ghost use Rattle.pa_rules.specs.declared.verdict.Place.TheVariants as places;
 ghost use Rattle.pa_rules.specs.Played.{mark_of};
 ghost use Rattle.pa_rules.specs.RecordDemands.{SlotsDemand};
-ghost use Rattle.pa_audit_records.specs.Marks.{RiseByLine, mark_with};
+ghost use Rattle.pa_audit_records.specs.Marks.{mark_with};
+ghost use Rattle.pa_rules.specs.Rising.{RiseByLine};
 ghost use Rattle.pa_audit_records.specs.Steps.{AreFirsts, AreReached, HasAllSlots, StepFits, MarkFits};
 ghost use Rattle.pa_rules.specs.Tells.{TellsFirst};
 

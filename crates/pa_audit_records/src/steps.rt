@@ -6,7 +6,8 @@ ghost use Rattle.pa_machine.specs.declared.word.Step.{Step};
 ghost use Rattle.pa_machine.specs.Run.{Mark, IsFirstAt};
 ghost use Rattle.pa_rules.specs.Played.{marks_of};
 ghost use Rattle.pa_audit_records.specs.Keys.{word_key};
-ghost use Rattle.pa_audit_records.specs.Marks.{IsSized, RiseByLine};
+ghost use Rattle.pa_audit_records.specs.Marks.{IsSized};
+ghost use Rattle.pa_rules.specs.Rising.{RiseByLine};
 ghost use Rattle.pa_audit_records.specs.Steps.{AreFirsts, AreReached, IsNextWord, IsLastWord};
 
 use crate::keys::{find, key_word, put};

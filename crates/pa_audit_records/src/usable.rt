@@ -1,6 +1,7 @@
 ghost use Rattle.std.specs.Prelude.{◌≡◌, ◌≤◌, IfOk};
 ghost use Rattle.std.specs.Ordering.{nat_cmp};
 ghost use Rattle.std.specs.BTreeMap.{get};
+ghost use Rattle.pa_direct.specs.Shapes.{greatest_size};
 ghost use Rattle.pa_rules.specs.Sizes.{usable_of};
 ghost use Rattle.pa_audit_records.specs.Tables.{AreUsables};
 
@@ -18,7 +19,7 @@ const COUNT_WORD: u32 = 8;
 
 // How many bytes of the slot of a request for so many are usable.
 pub(crate) fn usable_for(size: u32) -> u32
-    requires { size ≤ 33521656 }
+    requires { size ≤ greatest_size }
     ensures { result ≡ usable_of size }
 {
     match class_of(raw_of(size)) {

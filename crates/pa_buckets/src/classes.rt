@@ -1,4 +1,4 @@
-ghost use Rattle.std.specs.Prelude.{◌≡◌, ◌↔◌, ℕ, ◌+◌, ◌<◌, ◌≤◌, max, IsNone, IfSome};
+ghost use Rattle.std.specs.Prelude.{◌≡◌, ◌↔◌, ℕ, ◌+◌, ◌^◌, ◌<◌, max, IsNone, IfSome};
 ghost use Rattle.pa_buckets.specs.Classes.{IsClassOf};
 ghost use Rattle.pa_buckets.specs.Table.{slot_of, span_shape_of};
 ghost use Rattle.pa_buckets.specs.Bands.{limit_of, fill_of};
@@ -103,7 +103,7 @@ pub fn fill_count(class: Class) -> u32
 
 /// The raw size of a request in bytes: with 8 more for the count word. A request of 0 bytes is one of 1 byte.
 pub fn raw_of(size: u32) -> u32
-    requires { size ≤ 33521656 }
+    requires { size + 8 < 2 ^ 32 }
     ensures { result ≡ max size 1 + 8 }
 {
     size.max(1) + 8
@@ -115,7 +115,7 @@ mod tests {
 
     // The class of a request of that many bytes.
     fn number_for(size: u32) -> Option<u32>
-        requires { size ≤ 33521656 }
+        requires { size + 8 < 2 ^ 32 }
     {
         class_of(raw_of(size)).map(|class| class.number())
     }

@@ -8,13 +8,14 @@ use Rattle.pa_trace.specs.Limits.{IsInput}
 use Rattle.pa_trace.specs.Faults.{IsFirstFault}
 use Rattle.pa_trace.proofs.Firsts.{one_fault, no_fault_of_input}
 use Rattle.pa_cli.specs.declared.command.Command.{Command}
-use Rattle.pa_cli.specs.declared.command.Command.TheVariants.{Model, Layout, Help, Version}
+use Rattle.pa_cli.specs.declared.command.Command.TheVariants.{Replay, Model, Layout, Help, Version}
 use Rattle.pa_cli.specs.declared.command.Command.TheVariants as commands
 use Rattle.pa_cli.specs.declared.status.Status.{Status}
 use Rattle.pa_cli.specs.declared.status.Status.TheVariants.{Done, BadCommand, BadLine, Limit, ReadFault, WriteFault, OutOfMemory}
 use Rattle.pa_cli.specs.Call.{Stream, Call}
-use Rattle.pa_cli.specs.Command.{IsModel, AsksFor}
-use Rattle.pa_cli.specs.Output.{IsModelOutput, IsOutputOf}
+use Rattle.pa_cli.specs.Command.{AsksFor, PlaysTrace, ReadsTrace}
+use Rattle.pa_cli.specs.Output.{Output, output_with, IsTraceRead, IsOutputOf, IsOutput}
+use Rattle.pa_cli.proofs.Commands.{plays_too}
 use Rattle.pa_cli.specs.Cause.{HasFault, Caused, Answers, Completes, Refuses}
 use Rattle.pa_cli.specs.StatusText.{status_of_trace}
 
@@ -37,7 +38,7 @@ no_fault bytes trace fault before after told input h =
 -- a good input leads to Done, or memory is wanting
 pub caused_completes : (status : Status) (c : Call) → Caused status c → Completes status c
 caused_completes Done c h = λ bytes trace words told input calm quiet. inl refl
-caused_completes BadCommand c h = λ bytes trace words told input calm quiet. absurd (h.0 (Model, words))
+caused_completes BadCommand c h = λ bytes trace words told input calm quiet. absurd (h.0 (words.0, words.1))
 caused_completes (BadLine n) c h = λ bytes trace words told input calm quiet.
     absurd (no_fault bytes trace (faults.BadLine n) c.source c.source_after told input h.1)
 caused_completes (Limit n) c h = λ bytes trace words told input calm quiet.
@@ -56,21 +57,25 @@ caused_answers ReadFault c h = λ asked other quiet. absurd (other h.0)
 caused_answers WriteFault c h = λ asked other quiet. absurd (quiet h.2)
 caused_answers OutOfMemory c h = λ asked other quiet. inr refl
 
--- the words of `model` have the output of `model`
-model_output : (command : Command) (words : List (List ℕ)) (before after : Stream) (text : List ℕ) → IsModel words → AsksFor command words
-    → IsOutputOf command before after text → IsModelOutput before after text
-model_output Model words before after text model asked h = h
-model_output (Layout size) words before after text model asked h = absurd cc
-model_output (commands.Trace rounds key) words before after text model asked h = absurd cc
-model_output Help words before after text model asked h = absurd cc
-model_output Version words before after text model asked h = absurd cc
+-- the output of a command that reads a trace is that of the trace that was read
+trace_read : (command : Command) (before after : Stream) (out : Output) → PlaysTrace command → IsOutputOf command before after out
+    → (trace : Trace) × IsTraceRead trace before after
+trace_read Replay before after out plays h = (h.trace, h.read)
+trace_read Model before after out plays h = (h.0.trace, h.0.read)
+trace_read (Layout size) before after out plays h = absurd plays
+trace_read (commands.Trace rounds key) before after out plays h = absurd plays
+trace_read Help before after out plays h = absurd plays
+trace_read Version before after out plays h = absurd plays
 
 -- a faulty input has no output
-no_output : (bytes : List ℕ) (fault : TraceFault) (before after : Stream) (text : List ℕ) → before.told ≡ Some bytes → IsFirstFault fault bytes
-    → IsModelOutput before after text → ⊥
-no_output bytes fault before after text told first h =
-    let same : h.bytes ≡ bytes = read_these before.told bytes h.bytes told h.read.all in
-    no_fault_of_input h.played.trace bytes fault (subst (IsInput h.played.trace) same h.played.input) first
+no_output : (bytes : List ℕ) (fault : TraceFault) (c : Call) (text : List ℕ) → c.source.told ≡ Some bytes → IsFirstFault fault bytes
+    → ReadsTrace c.words → IsOutput c text → ⊥
+no_output bytes fault c text told first words h =
+    let plays : PlaysTrace h.0 = plays_too words.0 h.0 c.words words.1 words.2 h.1 in
+    let found = trace_read h.0 c.source c.source_after (output_with text c.run c.region) plays h.2 in
+    let read : IsTraceRead found.0 c.source c.source_after = found.1 in
+    let same : read.bytes ≡ bytes = read_these c.source.told bytes read.bytes told read.read.all in
+    no_fault_of_input found.0 bytes fault (subst (IsInput found.0) same read.input) first
 
 -- two first faults of the same bytes have one status
 same_status : (bytes : List ℕ) (fault other : TraceFault) (before after : Stream) → before.told ≡ Some bytes → IsFirstFault fault bytes
@@ -81,13 +86,13 @@ same_status bytes fault other before after told first h =
 -- a faulty input leads to the status of its fault, or memory is wanting
 pub caused_refuses : (status : Status) (c : Call) → Caused status c → Refuses status c
 caused_refuses Done c h = λ bytes fault words told first calm.
-    absurd (no_output bytes fault c.source c.source_after h.0 told first (model_output h.1.0 c.words c.source c.source_after h.0 words h.1.1 h.1.2))
-caused_refuses BadCommand c h = λ bytes fault words told first calm. absurd (h.0 (Model, words))
+    absurd (no_output bytes fault c h.0 told first words h.1)
+caused_refuses BadCommand c h = λ bytes fault words told first calm. absurd (h.0 (words.0, words.1))
 caused_refuses (BadLine n) c h = λ bytes fault words told first calm.
     inl (same_status bytes fault (faults.BadLine n) c.source c.source_after told first h.1)
 caused_refuses (Limit n) c h = λ bytes fault words told first calm.
     inl (same_status bytes fault (faults.Limit n) c.source c.source_after told first h.1)
 caused_refuses ReadFault c h = λ bytes fault words told first calm. absurd (calm h.1.risen)
 caused_refuses WriteFault c h = λ bytes fault words told first calm.
-    absurd (no_output bytes fault c.source c.source_after h.0 told first (model_output h.1.0 c.words c.source c.source_after h.0 words h.1.1 h.1.2))
+    absurd (no_output bytes fault c h.0 told first words h.1)
 caused_refuses OutOfMemory c h = λ bytes fault words told first calm. inr refl

@@ -6,8 +6,11 @@ use Rattle.pa_trace.specs.declared.fault.TraceFault.{TraceFault}
 use Rattle.pa_trace.specs.declared.fault.TraceFault.TheVariants.{BadLine, Limit, OutOfMemory}
 use Rattle.pa_trace.specs.Faults.{IsFirstFault, IsFault}
 use Rattle.pa_trace.proofs.Early.{fault_early}
-use Rattle.pa_cli.specs.declared.command.Command.TheVariants.{Model}
+use Rattle.pa_cli.specs.declared.command.Command.{Command}
+use Rattle.pa_trace.specs.declared.script.Trace.{Trace}
 use Rattle.pa_cli.specs.Call.{Stream, IsRead}
+use Rattle.pa_cli.specs.Command.{PlaysTrace}
+use Rattle.pa_cli.specs.Output.{IsTraceRead}
 use Rattle.pa_cli.specs.Cause.{HasFault, IsRefusal, IsStopped}
 use Rattle.pa_cli.specs.StatusText.{status_of_trace}
 
@@ -43,11 +46,15 @@ has_fault fault bytes before after read first early = record {
   told = told_all (IsFirstFault fault) bytes before after read first early;
 }
 
--- the fault of what was read is why `model` has no output
+-- a source out of which a trace was read gave what it should, without a fault
+pub trace_stopped : (t : Trace) (before after : Stream) → IsTraceRead t before after → IsStopped before after
+trace_stopped t before after h = read_stopped h.bytes before after (inl h.read)
+
+-- the fault of what was read is why a command that reads a trace has no output
 pub trace_refused : (fault : TraceFault) (bytes : List ℕ) (before after : Stream) → IsRead before after bytes → IsFault fault bytes
-    → IsRefusal (status_of_trace fault) Model before after
-trace_refused (BadLine n) bytes before after read first =
-    (refl, has_fault (BadLine n) bytes before after read first (λ past more. fault_early (BadLine n) bytes more past first))
-trace_refused (Limit n) bytes before after read first =
-    (refl, has_fault (Limit n) bytes before after read first (λ past more. fault_early (Limit n) bytes more past first))
-trace_refused OutOfMemory bytes before after read first = read_stopped bytes before after read
+    → (command : Command) → PlaysTrace command → IsRefusal (status_of_trace fault) command before after
+trace_refused (BadLine n) bytes before after read first command reads =
+    (reads, has_fault (BadLine n) bytes before after read first (λ past more. fault_early (BadLine n) bytes more past first))
+trace_refused (Limit n) bytes before after read first command reads =
+    (reads, has_fault (Limit n) bytes before after read first (λ past more. fault_early (Limit n) bytes more past first))
+trace_refused OutOfMemory bytes before after read first command reads = read_stopped bytes before after read

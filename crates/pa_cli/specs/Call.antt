@@ -1,7 +1,8 @@
--- A call of the program: its words, and what its source and its sink tell before it and after it.
+-- A call of the program: its words, what its source and its sink tell before it and after it, and what it answers of a run.
 use Rattle.std.specs.Prelude.{◌≡◌, ℕ, ◌≤◌, ◌⊎◌, List, Option, length}
 use Rattle.std.specs.Io.KnownBytes.{Consumes}
 use Rattle.pa_io.specs.Moves.{IsAllOf, IsReadOut}
+use Rattle.pa_record.specs.declared.run.Run.{Run}
 
 -- What a source or a sink tells at one moment: its bytes where it tells them, which are those left to read or those
 -- written so far, and how many faults it had so far.
@@ -13,22 +14,27 @@ pub record Stream : Type 0 where
 abbrev pub stream_of : Option (List ℕ) → ℕ → Stream
 stream_of told faults = record { told = told; faults = faults }
 
--- the words, and what source and sink tell before the call and after it
+-- the words, what source and sink tell before the call and after it, and what the call answers besides its status: a run, and
+-- the words of the region that was closed
 pub record Call : Type 0 where
   pub words : List (List ℕ)
   pub source : Stream
   pub source_after : Stream
   pub sink : Stream
   pub sink_after : Stream
+  pub run : Option Run
+  pub region : Option (List ℕ)
 
--- the call with these words, this source and this sink, each as it was before and as it is after
-abbrev pub call_of : List (List ℕ) → Stream → Stream → Stream → Stream → Call
-call_of words source source_after sink sink_after = record {
+-- the call with these words, this source and this sink, each as it was before and as it is after, and this run and this region
+abbrev pub call_of : List (List ℕ) → Stream → Stream → Stream → Stream → Option Run → Option (List ℕ) → Call
+call_of words source source_after sink sink_after run region = record {
   words = words;
   source = source;
   source_after = source_after;
   sink = sink;
   sink_after = sink_after;
+  run = run;
+  region = region;
 }
 
 -- nothing was read: the source is as it was

@@ -2,9 +2,12 @@
 use Rattle.std.specs.Prelude.{◌≡◌, ℕ, ◌≤◌, List, [], ◌∷◌, codes}
 use Rattle.pa_text.specs.Numeral.{IsNumeral}
 use Rattle.pa_cli.specs.declared.command.Command.{Command}
-use Rattle.pa_cli.specs.declared.command.Command.TheVariants.{Model, Layout, Trace, Help, Version}
+use Rattle.pa_cli.specs.declared.command.Command.TheVariants.{Replay, Model, Layout, Trace, Help, Version}
 
--- the one word `model`
+-- the one word `replay`, and the one word `model`
+abbrev pub IsReplay : List (List ℕ) → Type 0
+IsReplay words = words ≡ codes "replay" ∷ []
+
 abbrev pub IsModel : List (List ℕ) → Type 0
 IsModel words = words ≡ codes "model" ∷ []
 
@@ -28,6 +31,7 @@ IsVersion words = words ≡ codes "--version" ∷ []
 
 -- the words ask for this command
 abbrev pub AsksFor : Command → List (List ℕ) → Type 0
+AsksFor Replay words = IsReplay words
 AsksFor Model words = IsModel words
 AsksFor (Layout size) words = IsLayout size words
 AsksFor (Trace rounds key) words = IsTrace rounds key words
@@ -41,3 +45,16 @@ IsAsked command = (words : List (List ℕ)) × AsksFor command words
 -- the words are those of one of the commands
 abbrev pub IsCommand : List (List ℕ) → Type 0
 IsCommand words = (command : Command) × AsksFor command words
+
+-- the command plays a trace, which it reads
+abbrev pub PlaysTrace : Command → Type 0
+PlaysTrace Replay = Unit {0}
+PlaysTrace Model = Unit {0}
+PlaysTrace (Layout size) = ⊥
+PlaysTrace (Trace rounds key) = ⊥
+PlaysTrace Help = ⊥
+PlaysTrace Version = ⊥
+
+-- the words are those of a command that reads a trace: `replay` or `model`
+abbrev pub ReadsTrace : List (List ℕ) → Type 0
+ReadsTrace words = (command : Command) × AsksFor command words × PlaysTrace command

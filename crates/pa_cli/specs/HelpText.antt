@@ -12,7 +12,8 @@ help_text =
     ended (codes "usage: partalloc COMMAND"
     ∷ []
     ∷ codes "commands"
-    ∷ codes "  model             read a trace from standard input, play its lines in their order, print the run: answers, heap, exchanges, report"
+    ∷ codes "  replay            read a trace from standard input, play each thread's lines on its own thread, print the run: answers, heap, exchanges, report"
+    ∷ codes "  model             the same, but play all lines in their order, on one thread"
     ∷ codes "  layout SIZE       print the size class or the direct map of a request of SIZE bytes, 0 to 4294967295"
     ∷ codes "  trace ROUNDS KEY  print a trace of ROUNDS rounds, 1 to 800, with random numbers by KEY, 0 to 18446744073709551615"
     ∷ codes "  --help            print this text"

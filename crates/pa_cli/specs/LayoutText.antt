@@ -4,7 +4,7 @@ use Rattle.std.specs.Fmt.{decimal}
 use Rattle.pa_buckets.specs.Classes.{IsClassOf}
 use Rattle.pa_buckets.specs.Table.{slot_of, pages_of, system_of, slots_of, waste_of}
 use Rattle.pa_direct.specs.declared.maps.Shape.{Shape}
-use Rattle.pa_direct.specs.Shapes.{IsDirectSize, shape_of}
+use Rattle.pa_direct.specs.Shapes.{IsDirectSize, greatest_size, shape_of}
 
 -- `class C slot S pages N system M slots K waste W` and an LF
 abbrev pub class_line : ℕ → List ℕ
@@ -23,4 +23,4 @@ abbrev pub IsLayoutText : ℕ → List ℕ → Type 0
 IsLayoutText size text =
     ((c : ℕ) × IsClassOf (max size 1 + 8) c × (text ≡ class_line c))
     ⊎ ((IsDirectSize size × (text ≡ direct_line (shape_of size)))
-    ⊎ ((33521656 < size) × (text ≡ codes "too-large" ++ 10 ∷ [])))
+    ⊎ ((greatest_size < size) × (text ≡ codes "too-large" ++ 10 ∷ [])))

@@ -1,19 +1,64 @@
 -- The output of each command.
-use Rattle.std.specs.Prelude.{◌≡◌, ℕ, List}
+use Rattle.std.specs.Prelude.{◌≡◌, ℕ, ◌*◌, List, Option, Some, None, length}
 use Rattle.pa_trace.specs.declared.script.Trace.{Trace}
 use Rattle.pa_trace.specs.Grammar.{IsTraceText}
 use Rattle.pa_trace.specs.Limits.{IsInput}
 use Rattle.pa_trace.specs.Generated.{IsGenerated}
 use Rattle.pa_record.specs.declared.run.Run.{Run}
 use Rattle.pa_record.specs.RunText.{IsRunText}
-use Rattle.pa_rules.specs.Legal.{IsFileRun}
+use Rattle.pa_rules.specs.Told.{told_by}
+use Rattle.pa_rules.specs.Legal.{IsLegal, IsFileRun}
+use Rattle.pa_rules.specs.Held.{IsHeldIn}
 use Rattle.pa_cli.specs.Call.{Stream, Call, IsReadWhole}
 use Rattle.pa_cli.specs.declared.command.Command.{Command}
-use Rattle.pa_cli.specs.declared.command.Command.TheVariants.{Model, Layout, Help, Version}
+use Rattle.pa_cli.specs.declared.command.Command.TheVariants.{Replay, Model, Layout, Help, Version}
 use Rattle.pa_cli.specs.declared.command.Command.TheVariants as commands
 use Rattle.pa_cli.specs.Command.{AsksFor}
 use Rattle.pa_cli.specs.LayoutText.{IsLayoutText}
 use Rattle.pa_cli.specs.HelpText.{help_text, version_text}
+
+-- what comes of a command: the text that is written, and where it played on threads the run and the words of the closed region
+pub record Output : Type 0 where
+  pub text : List ℕ
+  pub run : Option Run
+  pub region : Option (List ℕ)
+
+-- this text, with what is told of a run
+abbrev pub output_with : List ℕ → Option Run → Option (List ℕ) → Output
+output_with text run region = record { text = text; run = run; region = region }
+
+-- there is no run and no region
+abbrev pub HasNoRun : Option Run → Option (List ℕ) → Type 0
+HasNoRun run region = (run ≡ None) × (region ≡ None)
+
+-- The source's bytes, all of which were read, are the text of this trace, which is within the limits.
+pub record IsTraceRead (trace : Trace) (before after : Stream) : Type 0 where
+  pub bytes : List ℕ
+  pub read : IsReadWhole before after bytes
+  pub input : IsInput trace bytes
+
+-- The run is a legal run of the trace, and the closed region, whose words are those of so many super pages, holds it. The text is that
+-- of this run. Of a trace of one thread it is the run in the order of the lines.
+pub record IsReplayText (trace : Trace) (run : Run) (words text : List ℕ) : Type 0 where
+  pub legal : IsLegal trace run
+  pub held : IsHeldIn trace (told_by run) words
+  pub long : length words ≡ 262144 * trace.region
+  pub printed : IsRunText run text
+  pub alone : trace.threads ≡ 1 → IsFileRun trace run
+
+-- the output is a run of this trace, and the region that was closed after it
+pub record IsReplayedAs (trace : Trace) (out : Output) : Type 0 where
+  pub run : Run
+  pub words : List ℕ
+  pub has_run : out.run ≡ Some run
+  pub has_region : out.region ≡ Some words
+  pub replayed : IsReplayText trace run words out.text
+
+-- the output of `replay`: it is a run of the trace that was read
+pub record IsReplayOutput (before after : Stream) (out : Output) : Type 0 where
+  pub trace : Trace
+  pub read : IsTraceRead trace before after
+  pub played : IsReplayedAs trace out
 
 -- the text is that of the trace's run in the order of its lines, which is a legal run of the trace
 pub record IsModelText (trace : Trace) (text : List ℕ) : Type 0 where
@@ -21,17 +66,11 @@ pub record IsModelText (trace : Trace) (text : List ℕ) : Type 0 where
   pub filed : IsFileRun trace run
   pub printed : IsRunText run text
 
--- the bytes are the text of a trace within the limits, and the text is that of its run
-pub record IsPlayedText (bytes text : List ℕ) : Type 0 where
-  pub trace : Trace
-  pub input : IsInput trace bytes
-  pub played : IsModelText trace text
-
--- the output of `model`: the text is that of the source's bytes, all of which were read
+-- the output of `model`: the text is that of the trace that was read
 pub record IsModelOutput (before after : Stream) (text : List ℕ) : Type 0 where
-  pub bytes : List ℕ
-  pub read : IsReadWhole before after bytes
-  pub played : IsPlayedText bytes text
+  pub trace : Trace
+  pub read : IsTraceRead trace before after
+  pub played : IsModelText trace text
 
 -- the text is that of the generated trace of so many rounds and this key
 pub record IsGeneratedText (rounds key : ℕ) (text : List ℕ) : Type 0 where
@@ -40,13 +79,15 @@ pub record IsGeneratedText (rounds key : ℕ) (text : List ℕ) : Type 0 where
   pub printed : IsTraceText trace text
 
 -- the output of each command, by what the source tells before it and after it
-abbrev pub IsOutputOf : Command → Stream → Stream → List ℕ → Type 0
-IsOutputOf Model before after text = IsModelOutput before after text
-IsOutputOf (Layout size) before after text = IsLayoutText size text
-IsOutputOf (commands.Trace rounds key) before after text = IsGeneratedText rounds key text
-IsOutputOf Help before after text = text ≡ help_text
-IsOutputOf Version before after text = text ≡ version_text
+abbrev pub IsOutputOf : Command → Stream → Stream → Output → Type 0
+IsOutputOf Replay before after out = IsReplayOutput before after out
+IsOutputOf Model before after out = IsModelOutput before after out.text × HasNoRun out.run out.region
+IsOutputOf (Layout size) before after out = IsLayoutText size out.text × HasNoRun out.run out.region
+IsOutputOf (commands.Trace rounds key) before after out = IsGeneratedText rounds key out.text × HasNoRun out.run out.region
+IsOutputOf Help before after out = (out.text ≡ help_text) × HasNoRun out.run out.region
+IsOutputOf Version before after out = (out.text ≡ version_text) × HasNoRun out.run out.region
 
--- the output of the call is this text: that of the command for which the words ask
+-- the output of the call has this text: it is that of the command for which the words ask
 abbrev pub IsOutput : Call → List ℕ → Type 0
-IsOutput c text = (command : Command) × AsksFor command c.words × IsOutputOf command c.source c.source_after text
+IsOutput c text =
+    (command : Command) × AsksFor command c.words × IsOutputOf command c.source c.source_after (output_with text c.run c.region)

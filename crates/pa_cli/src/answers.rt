@@ -17,7 +17,8 @@ const LINE_BYTES: usize = 80;
 const HELP: &[u8] = b"usage: partalloc COMMAND
 
 commands
-  model             read a trace from standard input, play its lines in their order, print the run: answers, heap, exchanges, report
+  replay            read a trace from standard input, play each thread's lines on its own thread, print the run: answers, heap, exchanges, report
+  model             the same, but play all lines in their order, on one thread
   layout SIZE       print the size class or the direct map of a request of SIZE bytes, 0 to 4294967295
   trace ROUNDS KEY  print a trace of ROUNDS rounds, 1 to 800, with random numbers by KEY, 0 to 18446744073709551615
   --help            print this text

@@ -10,6 +10,8 @@ const MOST_ROUNDS: u32 = 800;
 /// What the program is asked to do.
 #[derive(Clone, Copy, Debug, PartialEq, Eq)]
 pub enum Command {
+    /// Reads a trace, plays each thread's lines on a thread of its own, and prints the run.
+    Replay,
     /// Reads a trace, plays its lines in their order on one thread, and prints the run.
     Model,
     /// Prints where a request of so many bytes is placed: its size class or its direct map.
@@ -42,6 +44,7 @@ impl Command {
         ensures none { IfNone result (IsCommand (string_bytes word.now ∷ []) → ⊥) }
     {
         match word.as_str() {
+            "replay" => Some(Command::Replay),
             "model" => Some(Command::Model),
             "--help" => Some(Command::Help),
             "--version" => Some(Command::Version),

@@ -1,4 +1,5 @@
-//! The program's one call: it takes the words of a command, a source and a sink, and answers a status.
+//! The program's one call: it takes the words of a command, a source and a sink, and answers a status, and of a replay its run and
+//! the region that was closed.
 //!
 //! The order of refusals is: the words, a fault of the source, the first faulty line, memory, a fault of the sink.
 //! The output is made whole before its first byte is written, so want of memory never follows one.
@@ -6,12 +7,20 @@
 
 mod answers;
 mod command;
+#[cfg(test)]
+mod gate_tests;
 mod input;
+mod laws;
+mod outcome;
 mod output;
+#[cfg(test)]
+mod replay_tests;
 mod status;
 #[cfg(test)]
 mod tests;
 mod top;
 
+pub use laws::one_thread_prints_as_model;
+pub use outcome::Outcome;
 pub use status::Status;
 pub use top::run;

@@ -1,16 +1,20 @@
 use super::*;
 use pa_io::{MemSink, MemSource, Source};
+use pa_runner::NoGate;
 use std::alloc::{AllocError, Global};
+use std::marker::Sync;
+use std::sync::Wait;
 use std::test::Fail;
+use std::thread::Threads;
 
 // One object, allocated and freed.
-const TRACE: &[u8] = b"trace 1 region 1 partitions 1 threads 1
+pub const TRACE: &[u8] = b"trace 1 region 1 partitions 1 threads 1
 0 A r0 p0 1
 0 F r0
 ";
 
-// What `model` writes for it.
-const TEXT: &[u8] = b"run 1
+// What `model` and `replay` write for it.
+pub const TEXT: &[u8] = b"run 1
 e 2 0 made 00004000.0 8 0000000000000000
 e 3 0 done 00004000.0 0000000001000001
 r 0 0 2 fill 0 0 00004000.0@0 00004010.0@0 00004020.0@0 00004030.0@0 00004040.0@0 00004050.0@0 00004060.0@0 00004070.0@0
@@ -20,7 +24,7 @@ end
 ";
 
 // The words of a command line.
-fn words(alloc: Global, list: &[&str]) -> Result<Vec<String>, AllocError> {
+pub fn words(alloc: Global, list: &[&str]) -> Result<Vec<String>, AllocError> {
     let mut words = Vec::new(alloc);
     for word in list {
         words.push(String::from_str(alloc, word)?)?;
@@ -40,7 +44,7 @@ fn a_trace_is_played_by_short_reads_and_writes(rt: HostRuntime) -> Result<(), Fa
         let mut source = MemSource::new(rt.alloc(), TRACE, piece, &[])?;
         let mut sink = MemSink::new(rt.alloc(), TEXT.len(), piece, &[])?;
         assert_eq!(rt;
-            run(rt.alloc(), &model, &mut source, &mut sink),
+            run(&rt, rt.alloc(), &model, &mut source, &mut sink, &NoGate).status,
             Status::Done
         );
         assert_eq!(rt; sink.written(), TEXT);
@@ -69,7 +73,10 @@ fn the_first_faulty_line_is_named(rt: HostRuntime) -> Result<(), Fail> {
     for (text, status) in faulty {
         let mut source = MemSource::new(rt.alloc(), text, 11, &[])?;
         let mut sink = MemSink::new(rt.alloc(), 1000, 10, &[])?;
-        assert_eq!(rt; run(rt.alloc(), &model, &mut source, &mut sink), status);
+        assert_eq!(rt;
+            run(&rt, rt.alloc(), &model, &mut source, &mut sink, &NoGate).status,
+            status
+        );
         assert!(rt; sink.written().is_empty());
     }
     Ok(())
@@ -83,7 +90,7 @@ fn a_second_read_that_fails_leaves_nothing_written(rt: HostRuntime) -> Result<()
         let mut source = MemSource::new(rt.alloc(), text, 20, &[1])?;
         let mut sink = MemSink::new(rt.alloc(), TEXT.len(), 10, &[])?;
         assert_eq!(rt;
-            run(rt.alloc(), &model, &mut source, &mut sink),
+            run(&rt, rt.alloc(), &model, &mut source, &mut sink, &NoGate).status,
             Status::ReadFault
         );
         assert!(rt; sink.written().is_empty());
@@ -97,7 +104,7 @@ fn a_third_write_that_fails_leaves_the_first_two(rt: HostRuntime) -> Result<(), 
     let mut source = MemSource::new(rt.alloc(), TRACE, 1000, &[])?;
     let mut sink = MemSink::new(rt.alloc(), TEXT.len(), 10, &[2])?;
     assert_eq!(rt;
-        run(rt.alloc(), &model, &mut source, &mut sink),
+        run(&rt, rt.alloc(), &model, &mut source, &mut sink, &NoGate).status,
         Status::WriteFault
     );
     assert_eq!(rt; sink.written(), &TEXT[..20]);
@@ -106,7 +113,7 @@ fn a_third_write_that_fails_leaves_the_first_two(rt: HostRuntime) -> Result<(), 
 
 #[test]
 fn other_words_leave_the_source_unread(rt: HostRuntime) -> Result<(), Fail> {
-    let lines: [&[&str]; 26] = [
+    let lines: [&[&str]; 27] = [
         &[],
         &["layout"],
         &["layout", ""],
@@ -117,7 +124,8 @@ fn other_words_leave_the_source_unread(rt: HostRuntime) -> Result<(), Fail> {
         &["Layout", "8"],
         &["--help", "model"],
         &["help"],
-        &["replay"],
+        &["replay", "x"],
+        &["Replay"],
         &["models"],
         &["trace"],
         &["trace", "1"],
@@ -139,7 +147,7 @@ fn other_words_leave_the_source_unread(rt: HostRuntime) -> Result<(), Fail> {
         let mut source = MemSource::new(rt.alloc(), TRACE, 1000, &[0])?;
         let mut sink = MemSink::new(rt.alloc(), 10, 10, &[0])?;
         assert_eq!(rt;
-            run(rt.alloc(), &other, &mut source, &mut sink),
+            run(&rt, rt.alloc(), &other, &mut source, &mut sink, &NoGate).status,
             Status::BadCommand
         );
         let mut into = [0; 100];
@@ -156,7 +164,7 @@ fn an_input_is_read_to_one_byte_past_the_limit(rt: HostRuntime) -> Result<(), Fa
     let mut source = MemSource::new(rt.alloc(), &bytes, 1_000_000, &[])?;
     let mut sink = MemSink::new(rt.alloc(), 10, 10, &[])?;
     assert_eq!(rt;
-        run(rt.alloc(), &model, &mut source, &mut sink),
+        run(&rt, rt.alloc(), &model, &mut source, &mut sink, &NoGate).status,
         Status::Limit(1)
     );
     let mut into = [0; 100];
@@ -165,11 +173,11 @@ fn an_input_is_read_to_one_byte_past_the_limit(rt: HostRuntime) -> Result<(), Fa
 }
 
 // What a command that reads nothing writes; its source fails at every read.
-fn told(alloc: Global, line: &[&str]) -> Result<Vec<u8>, Fail> {
+fn told<R: Threads + Wait + Sync>(rt: &R, alloc: Global, line: &[&str]) -> Result<Vec<u8>, Fail> {
     let line = words(alloc, line)?;
     let mut source = MemSource::new(alloc, TRACE, 1000, &[0, 1, 2])?;
     let mut sink = MemSink::new(alloc, 10_000, 7, &[])?;
-    if run(alloc, &line, &mut source, &mut sink) != Status::Done {
+    if run(rt, alloc, &line, &mut source, &mut sink, &NoGate).status != Status::Done {
         return Ok(Vec::new(alloc));
     }
     Ok(Vec::from_slice(alloc, sink.written())?)
@@ -204,7 +212,7 @@ fn layout_tells_where_a_request_is_placed(rt: HostRuntime) -> Result<(), Fail> {
         ("4294967295", b"too-large\n"),
     ];
     for (size, text) in lines {
-        assert_eq!(rt; told(rt.alloc(), &["layout", size])?.as_slice(), text);
+        assert_eq!(rt; told(&rt, rt.alloc(), &["layout", size])?.as_slice(), text);
     }
     Ok(())
 }
@@ -219,7 +227,7 @@ fn trace_tells_a_generated_trace(rt: HostRuntime) -> Result<(), Fail> {
         ("3", "0", 243),
     ];
     for (rounds, key, many) in lines {
-        let text = told(rt.alloc(), &["trace", rounds, key])?;
+        let text = told(&rt, rt.alloc(), &["trace", rounds, key])?;
         assert!(rt; text.starts_with(b"trace 1 region 8 partitions 4 threads 4\n0 A r0 p0 "));
         assert!(rt; text.ends_with(b"\n3 F r3\n"));
         let mut ends = 0usize;
@@ -235,15 +243,15 @@ fn trace_tells_a_generated_trace(rt: HostRuntime) -> Result<(), Fail> {
 
 #[test]
 fn help_and_version_are_told(rt: HostRuntime) -> Result<(), Fail> {
-    let help = told(rt.alloc(), &["--help"])?;
-    assert!(rt; help.starts_with(b"usage: partalloc COMMAND\n\ncommands\n  model "));
+    let help = told(&rt, rt.alloc(), &["--help"])?;
+    assert!(rt; help.starts_with(b"usage: partalloc COMMAND\n\ncommands\n  replay "));
     assert!(rt;
         help.ends_with(
             b"docs/FORMATS.md, which also says why a file is refused that looks right.\n"
         )
     );
     assert_eq!(rt;
-        told(rt.alloc(), &["--version"])?.as_slice(),
+        told(&rt, rt.alloc(), &["--version"])?.as_slice(),
         b"partalloc 0.1.0\n".as_slice()
     );
     Ok(())

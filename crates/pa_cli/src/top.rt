@@ -1,118 +1,191 @@
 ghost use Rattle.std.specs.Prelude.{◌≡◌, ◌↔◌, map, string_bytes, IfOk, IfErr};
 ghost use Rattle.pa_cli.specs.Call.{call_of, stream_of};
-ghost use Rattle.pa_cli.specs.Command.{IsCommand, IsAsked};
-ghost use Rattle.pa_cli.specs.Cause.{Caused, ReadsForModel, IsRightCall, IsRefusal};
-ghost use Rattle.pa_cli.specs.Output.{IsOutputOf, IsModelOutput, IsPlayedText, IsModelText};
-ghost use Rattle.pa_cli.specs.declared.command.Command.TheVariants as Command;
-ghost use Rattle.pa_trace.specs.Faults.{IsFault};
+ghost use Rattle.pa_cli.specs.Command.{IsCommand, IsAsked, PlaysTrace};
+ghost use Rattle.pa_cli.specs.Cause.{Caused, ReadsTracesAlone, TellsNoRun, IsRightCall, IsRefusal};
+ghost use Rattle.pa_cli.specs.Output.{output_with, IsOutputOf, IsTraceRead, IsReplayOutput, IsReplayedAs, IsModelOutput, IsModelText};
+ghost use Rattle.pa_cli.specs.declared.command.Command.TheVariants.{Replay, Model};
 ghost use Rattle.pa_trace.specs.Limits.{IsWithinLimits};
 
 use crate::answers::{write_generated, write_help, write_layout, write_version};
 use crate::command::Command;
 use crate::input::read_input;
+use crate::outcome::{Outcome, Output};
 use crate::output::write_output;
 use crate::status::Status;
 use pa_io::{Failed, Sink, Source};
 use pa_machine::OutOfMemory;
 use pa_model::play;
+use pa_one_run::one_thread_in_file_order;
 use pa_record::write_run;
-use pa_trace::{Trace, TraceFault, read_trace};
+use pa_runner::{Gate, run_trace};
+use pa_trace::{Trace, read_trace};
 use std::alloc::Global;
+use std::marker::Sync;
+use std::sync::Wait;
+use std::thread::Threads;
 
-/// Does what the words ask for. `model` reads a trace from the source, plays its lines in their order, and writes the text
-/// of that run to the sink; the input is read to its end, or to one byte past the 4,194,304 bytes that it may have.
+/// Does what the words ask for. `replay` and `model` read a trace from the source, play it, and write the text of that run to the sink:
+/// `replay` each thread's lines on a thread of its own where one can be had, with the gate called around each line, and `model` all
+/// lines in their order on one thread. The input is read to its end, or to one byte past the 4,194,304 bytes that it may have.
 /// `layout SIZE` writes where a request of so many bytes is placed, `trace ROUNDS KEY` writes a generated trace, and `--help`
 /// and `--version` write their texts; these four read nothing.
-pub fn run<S: Source, K: Sink>(
+pub fn run<R: Threads + Wait + Sync, S: Source, K: Sink, G: Gate>(
+    rt: &R,
     alloc: Global,
     words: &[String],
     source: &mut S,
     sink: &mut K,
-) -> Status
+    gate: &G,
+) -> Outcome
     // The words alone decide on the command.
-    ensures command { result ≡ Status.BadCommand ↔ ¬ IsCommand (map string_bytes words.now) }
+    ensures command { result.status ≡ Status.BadCommand ↔ ¬ IsCommand (map string_bytes words.now) }
 
-    // The status has its cause, and leaves source and sink as that cause says: of `model` that what is written is the text of
-    // the trace's run in the order of its lines, which is legal. Only `model` reads. A good input is played, and a faulty one
-    // refused; the other commands answer.
-    ensures call { IsRightCall result (call_of (map string_bytes words.now)
+    // The status has its cause, and leaves source and sink as that cause says. Of `replay` it says that the run whose text is written
+    // is a legal run of the trace, and that the closed region holds it; of `model` that what is written is the text of the trace's
+    // run in the order of its lines, which is legal. Only these two read. A good input is played, and a faulty one refused; the other
+    // commands answer. A run and a region are told exactly where `replay` wrote.
+    ensures call { IsRightCall result.status (call_of (map string_bytes words.now)
         (stream_of (S.left source.old) (S.faults source.old)) (stream_of (S.left source.new) (S.faults source.new))
-        (stream_of (K.written sink.old) (K.faults sink.old)) (stream_of (K.written sink.new) (K.faults sink.new))) }
+        (stream_of (K.written sink.old) (K.faults sink.old)) (stream_of (K.written sink.new) (K.faults sink.new))
+        result.run result.region) }
 {
-    answer(alloc, words, source, sink)
+    answer(rt, alloc, words, source, sink, gate)
 }
 
 // The same, by its cause.
-fn answer<S: Source, K: Sink>(
+fn answer<R: Threads + Wait + Sync, S: Source, K: Sink, G: Gate>(
+    rt: &R,
     alloc: Global,
     words: &[String],
     source: &mut S,
     sink: &mut K,
-) -> Status
-    ensures command { result ≡ Status.BadCommand ↔ ¬ IsCommand (map string_bytes words.now) }
-    ensures cause { Caused result (call_of (map string_bytes words.now)
+    gate: &G,
+) -> Outcome
+    ensures command { result.status ≡ Status.BadCommand ↔ ¬ IsCommand (map string_bytes words.now) }
+    ensures cause { Caused result.status (call_of (map string_bytes words.now)
         (stream_of (S.left source.old) (S.faults source.old)) (stream_of (S.left source.new) (S.faults source.new))
-        (stream_of (K.written sink.old) (K.faults sink.old)) (stream_of (K.written sink.new) (K.faults sink.new))) }
-    ensures reads { ReadsForModel (call_of (map string_bytes words.now)
+        (stream_of (K.written sink.old) (K.faults sink.old)) (stream_of (K.written sink.new) (K.faults sink.new))
+        result.run result.region) }
+    ensures reads { ReadsTracesAlone (call_of (map string_bytes words.now)
         (stream_of (S.left source.old) (S.faults source.old)) (stream_of (S.left source.new) (S.faults source.new))
-        (stream_of (K.written sink.old) (K.faults sink.old)) (stream_of (K.written sink.new) (K.faults sink.new))) }
+        (stream_of (K.written sink.old) (K.faults sink.old)) (stream_of (K.written sink.new) (K.faults sink.new))
+        result.run result.region) }
+    ensures none { TellsNoRun result.status (call_of (map string_bytes words.now)
+        (stream_of (S.left source.old) (S.faults source.old)) (stream_of (S.left source.new) (S.faults source.new))
+        (stream_of (K.written sink.old) (K.faults sink.old)) (stream_of (K.written sink.new) (K.faults sink.new))
+        result.run result.region) }
 {
     let Some(command) = Command::of(words) else {
-        return Status::BadCommand;
+        return Outcome::without_output(Status::BadCommand);
     };
-    match output_of(alloc, command, source) {
-        Ok(text) => match write_output(sink, text.as_slice()) {
-            Ok(()) => Status::Done,
-            Err(Failed) => Status::WriteFault,
-        },
-        Err(status) => status,
+    match output_of(rt, alloc, command, source, gate) {
+        Ok(Output { text, run, region }) => {
+            let status = match write_output(sink, text.as_slice()) {
+                Ok(()) => Status::Done,
+                Err(Failed) => Status::WriteFault,
+            };
+            Outcome {
+                status,
+                run,
+                region,
+            }
+        }
+        Err(status) => Outcome::without_output(status),
     }
 }
 
 // The output of a command for which some words ask.
-fn output_of<S: Source>(alloc: Global, command: Command, source: &mut S) -> Result<Vec<u8>, Status>
+fn output_of<R: Threads + Wait + Sync, S: Source, G: Gate>(
+    rt: &R,
+    alloc: Global,
+    command: Command,
+    source: &mut S,
+    gate: &G,
+) -> Result<Output, Status>
     requires asked { IsAsked command }
-    ensures text { IfOk result (λ text. IsOutputOf command
+    ensures output { IfOk result (λ out. IsOutputOf command
         (stream_of (S.left source.old) (S.faults source.old))
-        (stream_of (S.left source.new) (S.faults source.new)) text.items) }
+        (stream_of (S.left source.new) (S.faults source.new)) (output_with out.text.items out.run out.region)) }
     ensures refusal { IfErr result (λ status. IsRefusal status command
         (stream_of (S.left source.old) (S.faults source.old))
         (stream_of (S.left source.new) (S.faults source.new))) }
-    ensures unread { (command ≡ Command.Model → ⊥) → (S.left source.new ≡ S.left source.old) × (S.faults source.new ≡ S.faults source.old) }
+    ensures unread { (PlaysTrace command → ⊥) → (S.left source.new ≡ S.left source.old) × (S.faults source.new ≡ S.faults source.old) }
 {
     match command {
-        Command::Model => model(alloc, source),
-        Command::Layout(size) => Ok(write_layout(alloc, size)?),
-        Command::Trace { rounds, key } => Ok(write_generated(alloc, rounds, key)?),
-        Command::Help => Ok(write_help(alloc)?),
-        Command::Version => Ok(write_version(alloc)?),
+        Command::Replay => replay(rt, alloc, source, gate),
+        Command::Model => Ok(Output::of(model(alloc, source)?)),
+        Command::Layout(size) => Ok(Output::of(write_layout(alloc, size)?)),
+        Command::Trace { rounds, key } => Ok(Output::of(write_generated(alloc, rounds, key)?)),
+        Command::Help => Ok(Output::of(write_help(alloc)?)),
+        Command::Version => Ok(Output::of(write_version(alloc)?)),
     }
 }
 
+// The output of `replay`.
+#[tactic(auto, using(crate::proofs::Refusing::trace_stopped))]
+fn replay<R: Threads + Wait + Sync, S: Source, G: Gate>(
+    rt: &R,
+    alloc: Global,
+    source: &mut S,
+    gate: &G,
+) -> Result<Output, Status>
+    ensures output { IfOk result (λ out. IsReplayOutput
+        (stream_of (S.left source.old) (S.faults source.old))
+        (stream_of (S.left source.new) (S.faults source.new)) (output_with out.text.items out.run out.region)) }
+    ensures refusal { IfErr result (λ status. IsRefusal status Replay
+        (stream_of (S.left source.old) (S.faults source.old))
+        (stream_of (S.left source.new) (S.faults source.new))) }
+{
+    let trace = trace_of(alloc, source)?;
+    Ok(replayed(rt, alloc, &trace, gate)?)
+}
+
 // The output of `model`.
-#[tactic(auto, using(crate::proofs::Refusing::trace_refused))]
+#[tactic(auto, using(crate::proofs::Refusing::trace_stopped))]
 fn model<S: Source>(alloc: Global, source: &mut S) -> Result<Vec<u8>, Status>
     ensures text { IfOk result (λ text. IsModelOutput
         (stream_of (S.left source.old) (S.faults source.old))
         (stream_of (S.left source.new) (S.faults source.new)) text.items) }
-    ensures refusal { IfErr result (λ status. IsRefusal status Command.Model
+    ensures refusal { IfErr result (λ status. IsRefusal status Model
+        (stream_of (S.left source.old) (S.faults source.old))
+        (stream_of (S.left source.new) (S.faults source.new))) }
+{
+    let trace = trace_of(alloc, source)?;
+    Ok(model_text(alloc, &trace)?)
+}
+
+// The trace whose text the source's bytes are.
+#[tactic(auto, using(crate::proofs::Refusing::trace_refused))]
+fn trace_of<S: Source>(alloc: Global, source: &mut S) -> Result<Trace, Status>
+    ensures read { IfOk result (λ trace. IsTraceRead trace
+        (stream_of (S.left source.old) (S.faults source.old))
+        (stream_of (S.left source.new) (S.faults source.new))) }
+    ensures refusal { IfErr result (λ status. (command : Command) → PlaysTrace command → IsRefusal status command
         (stream_of (S.left source.old) (S.faults source.old))
         (stream_of (S.left source.new) (S.faults source.new))) }
 {
     let input = read_input(alloc, source)?;
-    Ok(played_text(alloc, input.as_slice())?)
+    Ok(read_trace(alloc, input.as_slice())?)
 }
 
-// The text of the run of the trace whose text the bytes are.
-fn played_text(alloc: Global, bytes: &[u8]) -> Result<Vec<u8>, TraceFault>
-    ensures text { IfOk result (λ text. IsPlayedText bytes.now text.items) }
-    ensures fault { IfErr result (λ fault. IsFault fault bytes.now) }
+// A run of the trace, whose threads ran beside each other, with its text and the region that was closed.
+fn replayed<R: Threads + Wait + Sync, G: Gate>(
+    rt: &R,
+    alloc: Global,
+    trace: &Trace,
+    gate: &G,
+) -> Result<Output, OutOfMemory>
+    requires { IsWithinLimits trace.now }
+    ensures { IfOk result (λ out. IsReplayedAs trace.now (output_with out.text.items out.run out.region)) }
 {
-    let trace = read_trace(alloc, bytes)?;
-    match model_text(alloc, &trace) {
-        Ok(text) => Ok(text),
-        Err(OutOfMemory) => Err(TraceFault::OutOfMemory),
-    }
+    one_thread_in_file_order();
+    let (run, region) = run_trace(rt, alloc, trace, gate)?;
+    let text = write_run(alloc, &run)?;
+    Ok(Output {
+        text,
+        run: Some(run),
+        region: Some(region),
+    })
 }
 
 // The text of the trace's run in the order of its lines.

@@ -21,8 +21,8 @@ use Rattle.pa_told.specs.Said.{HasLogs, EndsPhase}
 use Rattle.pa_heap.specs.Workers.{WorkerValue}
 use Rattle.pa_course.specs.Courses.{Course, IsCourse, Closes, HasSeenAll, Hears}
 use Rattle.pa_course.specs.Merged.{told_in}
-use Rattle.pa_course.proofs.Playing.{sees_itself, sees_then, stays, stretches, logged}
-use Rattle.pa_course.proofs.Grouping.{so_far, thread_until, no_thread, all_until}
+use Rattle.pa_course.proofs.Playing.{HasPlayed, sees_itself, sees_then, stays, stretches, logged, has_played}
+use Rattle.pa_course.proofs.Grouping.{so_far, within, in_group, thread_until, no_thread, all_until}
 
 -- ---- the logs of a seat, stake by stake
 
@@ -63,6 +63,13 @@ each_log : (v : View) (ts : List ToldRecord) → IsAware v → ((k : ℕ) → lo
 each_log v ts aware logs = each_from (λ (s : Stake). s.log ≡ told_log s.number ts) v.stakes (λ s among. sym (own_log v.stakes s among (aware.stake_once s.number)) ∙ logs s.number)
 
 module _ (t : Trace) (c : Course) (limits : IsWithinLimits t) (course : IsCourse t (phases_in t.lines) c) where
+  -- how a record was played in its phase
+  pub was_played : (x : ToldRecord) → Contains (told_in t c) x → HasPlayed (c.starts x.played.phase x.played.thread) (c.ends x.played.phase x.played.thread) x
+  was_played x among =
+      let is = within t c limits course x among in
+      has_played (c.starts x.played.phase x.played.thread) (c.ends x.played.phase x.played.thread) (c.plays x.played.phase x.played.thread) x
+      (course.plays x.played.phase x.played.thread is.low is.high is.thread) (in_group t c limits course x among)
+
   -- ---- the worker of a thread
 
   pub record IsOf (k : ℕ) (w : WorkerValue) : Type 0 where

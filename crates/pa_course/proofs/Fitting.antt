@@ -33,11 +33,11 @@ use Rattle.pa_course.specs.Courses.{Course, HasSeenAll}
 use Rattle.pa_course.specs.Merged.{told_in, outcome_of}
 use Rattle.pa_course.specs.Telling.{IsWholeRun}
 use Rattle.pa_course.proofs.Bounding.{courses_leave_none_past}
-use Rattle.pa_course.proofs.Chaining.{starts_of, sees_last, has_last}
+use Rattle.pa_course.proofs.Chaining.{was_played, starts_of, sees_last, has_last}
 use Rattle.pa_course.proofs.Grouping.{rising, within, in_group, from_group}
 use Rattle.pa_course.proofs.Leading.{answer_of}
 use Rattle.pa_course.proofs.Lengthening.{handed_out, handed_home}
-use Rattle.pa_course.proofs.Playing.{HasPlayed, has_played, sees_then}
+use Rattle.pa_course.proofs.Playing.{HasPlayed, sees_then}
 
 -- an entry at its place of a list, as what the list is in numbers has it
 numbered_at : {A : Type 0} (numbers : A → List ℕ) (list older rest : List Made) (es : List A) (m : Made) (e : A) → ((a b : A) → numbers a ≡ numbers b → a ≡ b) →
@@ -69,10 +69,7 @@ module _ (t : Trace) (r : Told) (c : Course) (v : View) (xs : List Exchange) (ru
 
   -- how a record was played in its phase, and what the closing seat has seen of it
   pub played : (x : ToldRecord) → Contains ts x → HasPlayed (c.starts x.played.phase x.played.thread) (c.ends x.played.phase x.played.thread) x
-  played x among =
-      let is = within t c run.left.limits run.course x among in
-      has_played (c.starts x.played.phase x.played.thread) (c.ends x.played.phase x.played.thread) (c.plays x.played.phase x.played.thread) x
-      (run.course.plays x.played.phase x.played.thread is.low is.high is.thread) (in_group t c run.left.limits run.course x among)
+  played = was_played t c run.left.limits run.course
 
   pub end_sees : (n k : ℕ) → 1 ≤ n → n ≤ phases → k < t.threads → HasSeenAll (c.ends n k).stock.view v
   end_sees n k low high few =
@@ -149,7 +146,7 @@ module _ (t : Trace) (r : Told) (c : Course) (v : View) (xs : List Exchange) (ru
   once : (j p q i k : ℕ) (e : PoolEntry) → slice_get r.pools j ≡ Some e → Names r.roots p i j → Names r.roots q k j → (p ≡ q) × (i ≡ k)
   once j p q i k e at first second = indices_follow.once (λ n. list_of n v) r.pools r.roots ts j p q i k e are_lists asked at first second
 
-  is_outcome : IsOutcome (outcome_of t r)
+  pub is_outcome : IsOutcome (outcome_of t r)
   is_outcome = record {
     few = run.left.limits.head.1.1;
     past = none_past;
@@ -157,7 +154,7 @@ module _ (t : Trace) (r : Told) (c : Course) (v : View) (xs : List Exchange) (ru
     homes = λ p e class u among out. handed_home t.partitions r.pools r.roots run.left.journals none_past once p e class u among out;
   }
 
-  seen_of_it : IsSeenOf (outcome_of t r) v
+  pub seen_of_it : IsSeenOf (outcome_of t r) v
   seen_of_it = record {
     roots = λ p older rest m e low at says. numbered_at root_numbers (list_of p v) older rest (r.roots p) m e one_root (run.left.lists p low) at says;
     pools = λ older rest m e at says. numbered_at pool_numbers (list_of 4 v) older rest r.pools m e one_pool run.left.pool at says;

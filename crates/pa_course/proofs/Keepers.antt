@@ -4,6 +4,7 @@ use Rattle.std.specs.Prelude.{Contains}
 use Rattle.std.proofs.lemmas.List.{append_assoc}
 use Rattle.std.proofs.lemmas.Bool.{cases_Bool}
 use Rattle.pa_record.specs.declared.entry.Answer.TheVariants.{Swapped}
+use Rattle.pa_record.specs.declared.report.ReportLine.{ReportLine}
 use Rattle.pa_record.proofs.Members.{not_in_none, in_cases}
 use Rattle.pa_region.specs.declared.view.Made.{Made}
 use Rattle.pa_region.specs.declared.view.View.{View}
@@ -16,7 +17,7 @@ use Rattle.pa_told.specs.Told.{ToldRecord}
 use Rattle.pa_told.specs.Listed.{first_of, line_of}
 use Rattle.pa_told.specs.Swaps.{SwapMade, is_of_cell, AreSwaps}
 use Rattle.pa_told.specs.Indices.{IsSwapAt}
-use Rattle.pa_told.specs.Said.{PoolTells, RootsTell, CellsTell}
+use Rattle.pa_told.specs.Said.{PoolTells, RootsTell, CellsTell, IsLineSaid}
 use Rattle.pa_cells.specs.Cells.{Exchange, exchange_numbers, entries_with, names_cell, made_with_cell}
 use Rattle.pa_heap.specs.Entering.{EntersExchange, EntersCells}
 use Rattle.pa_course.specs.Courses.{Course}
@@ -223,3 +224,10 @@ courses_tell_all t r c v xs run lines = record {
   heap = courses_tell_heap t r c v xs run;
   report = lines;
 }
+
+-- the lists in what all layers say are those at the phases' ends
+pub lists_told : (t : Trace) (r : Told) (c : Course) (v : View) (xs : List Exchange) (run : IsWholeRun t r c v xs)
+    (lines : (l : ReportLine) → Contains r.report l → IsLineSaid t r v (told_in t c) (lists_at t c l.phase) (c.seats l.phase) l) (n : ℕ) →
+    (courses_tell_all t r c v xs run lines).lists n ≡ lists_at t c n
+unfolding courses_tell_all
+lists_told t r c v xs run lines n = refl

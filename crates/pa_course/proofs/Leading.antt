@@ -3,21 +3,17 @@ use Rattle.std.proofs.Common.{◌≡◌, ℕ, List, [], ◌∷◌, ◌++◌, sym
 use Rattle.std.specs.Prelude.{Contains}
 use Rattle.pa_machine.specs.declared.word.SlotName.{SlotName}
 use Rattle.pa_record.proofs.Members.{first_in, later_in}
-use Rattle.pa_trace.specs.declared.script.Op.{Op}
-use Rattle.pa_trace.specs.declared.script.Op.TheVariants as ops
 use Rattle.pa_rules.specs.declared.played.Played.{Played}
-use Rattle.pa_rules.specs.declared.register.Reg.{Reg}
-use Rattle.pa_rules.specs.declared.register.Reg.TheVariants.{Empty, Own, Ref, Freed, Cleared}
 use Rattle.pa_rules.specs.Registers.{Regs, Facts, Row}
 use Rattle.pa_rules.specs.Roots.{Journals}
 use Rattle.pa_rules.specs.Caches.{Cache}
 use Rattle.pa_told.specs.Told.{ToldRecord}
 use Rattle.pa_told.specs.Reported.{CacheLeadsTo}
-use Rattle.pa_told.specs.Said.{HoldsHandle, IsReadThrough, ReadsIts, HasToldRows}
+use Rattle.pa_told.specs.Said.{ReadsIts, HasToldRows}
 use Rattle.pa_heap.specs.Stocks.{regs_of}
 use Rattle.pa_heap.specs.Workers.{WorkerValue}
 use Rattle.pa_heap.specs.Outcomes.{Outcome, row_facts}
-use Rattle.pa_heap.specs.Plays.{PlaysOne, PlaysAll, AnswersIn, HasHandleOf, IsReadBy, ReadsItsRegister}
+use Rattle.pa_heap.specs.Plays.{PlaysOne, PlaysAll, AnswersIn}
 use Rattle.pa_heap.specs.Following.{FitsAll}
 use Rattle.pa_heap.proofs.Following.{seen_before}
 use Rattle.pa_course.proofs.Playing.{sees_all, HasPlayed}
@@ -41,28 +37,6 @@ pub lists_append : (partitions : ℕ) (roots : Journals) (a b c : Cache) (xs ys 
     CacheLeadsTo partitions roots a (xs ++ ys) c
 lists_append partitions roots a b c [] ys same rest = subst (λ z. CacheLeadsTo partitions roots z ys c) same rest
 lists_append partitions roots a b c (x ∷ xs) ys (next, row, more) rest = (next, row, lists_append partitions roots next b c xs ys more rest)
-
--- ---- a read through its register, as the ops and as the run have it
-
-handle_there : (reg : Reg) (s : SlotName) → HoldsHandle reg s → HasHandleOf reg s
-handle_there Empty s none = none
-handle_there (Own u) s has = has
-handle_there (Ref u) s has = has
-handle_there Freed s none = none
-handle_there Cleared s none = none
-
-read_through : (sizes : SlotName → ℕ) (reg : Reg) (x : ToldRecord) → IsReadBy sizes reg x → IsReadThrough sizes reg x
-read_through sizes reg x is = record { issued = λ s has. is.issued s (handle_there reg s has); owned = is.owned }
-
-reads_its : (sizes : SlotName → ℕ) (regs : Regs) (op : Op) (x : ToldRecord) → ReadsItsRegister sizes regs op x → ReadsIts sizes regs op x
-reads_its sizes regs (ops.Alloc reg partition size) x is = tt
-reads_its sizes regs (ops.Copy from to) x is = tt
-reads_its sizes regs (ops.Reset reg) x is = tt
-reads_its sizes regs (ops.Free reg) x is = tt
-reads_its sizes regs (ops.Write reg value) x is = tt
-reads_its sizes regs (ops.Read reg place) x is = read_through sizes (regs reg) x is
-reads_its sizes regs (ops.Swap cell reg) x is = tt
-reads_its sizes regs ops.Purge x is = tt
 
 -- ---- what a record is in the run
 
@@ -95,6 +69,6 @@ rows_lead o w v (x ∷ xs) (next, one, more) fits =
     let (answer, rest) = first_answer o w next v x xs one more fits in (
       regs_of next.stock.registers,
       answer.row,
-      reads_its o.sizes (regs_of w.stock.registers) x.played.op x answer.reader,
+      answer.reader,
       rows_lead o next v xs more rest,
     )

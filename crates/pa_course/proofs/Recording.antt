@@ -1,19 +1,17 @@
 -- The records that each worker has are those of its thread.
 use Rattle.std.proofs.Common.{◌≡◌, ℕ, zero, suc, ◌<◌, ◌≤◌, List, [], ◌∷◌, ◌++◌, map, filter, refl, sym, ◌∙◌, ap, arith, append-nil, append_assoc}
 use Rattle.pa_record.specs.declared.entry.Entry.{Entry}
-use Rattle.pa_region.specs.declared.view.View.{View}
 use Rattle.pa_trace.specs.declared.script.Trace.{Trace}
+use Rattle.pa_trace.specs.Limits.{IsWithinLimits}
 use Rattle.pa_rules.specs.Played.{entry_of}
-use Rattle.pa_rules.specs.Told.{Told}
+use Rattle.pa_rules.specs.Legal.{phases_in}
 use Rattle.pa_told.specs.Told.{ToldRecord, played_in, is_of_thread, told_until}
-use Rattle.pa_cells.specs.Cells.{Exchange}
 use Rattle.pa_heap.specs.Workers.{WorkerValue}
 use Rattle.pa_heap.specs.Plays.{PlaysAll}
-use Rattle.pa_course.specs.Courses.{Course}
+use Rattle.pa_course.specs.Courses.{Course, IsCourse}
 use Rattle.pa_course.specs.Merged.{told_in}
-use Rattle.pa_course.specs.Telling.{IsWholeRun, WorkersHaveTheirs}
-use Rattle.pa_course.proofs.Chaining.{heard_next}
-use Rattle.pa_course.proofs.Fitting.{phases, played}
+use Rattle.pa_course.specs.Telling.{WorkersHaveTheirs}
+use Rattle.pa_course.proofs.Chaining.{was_played, heard_next}
 use Rattle.pa_course.proofs.Grouping.{so_far, thread_until}
 
 -- the entries of told records
@@ -30,23 +28,23 @@ recorded w v [] same = ap (λ (z : WorkerValue). z.records) same ∙ sym (append
 recorded w v (x ∷ xs) (next, one, more) =
     recorded next v xs more ∙ (ap (λ es. es ++ entries_in xs) one.records ∙ append_assoc w.records (entry_of x.played ∷ []) (entries_in xs))
 
-module _ (t : Trace) (r : Told) (c : Course) (v : View) (xs : List Exchange) (run : IsWholeRun t r c v xs) where
-  records_after : (k n : ℕ) → suc n ≤ phases t r c v xs run → k < t.threads → (c.ends (suc n) k).records ≡ entries_in (so_far c.plays k (suc n))
+module _ (t : Trace) (c : Course) (limits : IsWithinLimits t) (course : IsCourse t (phases_in t.lines) c) where
+  records_after : (k n : ℕ) → suc n ≤ phases_in t.lines → k < t.threads → (c.ends (suc n) k).records ≡ entries_in (so_far c.plays k (suc n))
   records_after k zero high few =
-      recorded (c.starts 1 k) (c.ends 1 k) (c.plays 1 k) (run.course.plays 1 k (omega arith) high few) ∙ ap (λ es. es ++ entries_in (c.plays 1 k)) (run.course.begins k few).new.records
+      recorded (c.starts 1 k) (c.ends 1 k) (c.plays 1 k) (course.plays 1 k (omega arith) high few) ∙ ap (λ es. es ++ entries_in (c.plays 1 k)) (course.begins k few).new.records
   records_after k (suc n) high few =
       let m = suc (suc n) in
-      let heard = heard_next t c run.left.limits run.course (suc n) k (omega arith) (omega arith) few in
+      let heard = heard_next t c limits course (suc n) k (omega arith) (omega arith) few in
       let same : (c.starts m k).records ≡ (c.ends (suc n) k).records = ap (λ (w : WorkerValue). w.records) heard.same in
-      recorded (c.starts m k) (c.ends m k) (c.plays m k) (run.course.plays m k (omega arith) high few)
+      recorded (c.starts m k) (c.ends m k) (c.plays m k) (course.plays m k (omega arith) high few)
       ∙ (ap (λ es. es ++ entries_in (c.plays m k)) (same ∙ records_after k n (omega arith) few) ∙ sym (entries_append (so_far c.plays k (suc n)) (c.plays m k)))
 
-  records : (n k : ℕ) → 1 ≤ n → n ≤ phases t r c v xs run → k < t.threads → (c.ends n k).records ≡ entries_in (filter (is_of_thread k) (told_until n (told_in t c)))
+  records : (n k : ℕ) → 1 ≤ n → n ≤ phases_in t.lines → k < t.threads → (c.ends n k).records ≡ entries_in (filter (is_of_thread k) (told_until n (told_in t c)))
   records zero k low high few = absurd (omega arith)
-  records (suc n) k low high few = records_after k n high few ∙ ap entries_in (sym (thread_until t c run.left.limits run.course (suc n) k high few))
+  records (suc n) k low high few = records_after k n high few ∙ ap entries_in (sym (thread_until t c limits course (suc n) k high few))
 
 pub workers_have_theirs : WorkersHaveTheirs
-workers_have_theirs t r c v xs run = record {
-  records = records t r c v xs run;
-  unmaps = λ x u among there. (played t r c v xs run x among).one.does.enters.uncuts u there;
+workers_have_theirs t c limits course = record {
+  records = records t c limits course;
+  unmaps = λ x u among there. (was_played t c limits course x among).one.does.enters.uncuts u there;
 }

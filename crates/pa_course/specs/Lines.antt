@@ -1,5 +1,5 @@
 -- A line of the report, from what the workers counted and have cached at the end of its phase, and from the census of its root.
-use Rattle.std.specs.Prelude.{◌≡◌, ℕ, zero, suc, ◌+◌, List, length, Contains}
+use Rattle.std.specs.Prelude.{◌≡◌, ℕ, zero, suc, ◌+◌, ◌-◌, List, length, Contains}
 use Rattle.pa_trace.specs.declared.script.Trace.{Trace}
 use Rattle.pa_record.specs.declared.report.ReportLine.{ReportLine}
 use Rattle.pa_record.specs.declared.report.Tally.{Tally}
@@ -23,12 +23,12 @@ abbrev pub sum_over : (ℕ → ℕ) → ℕ → ℕ
 sum_over f zero = 0
 sum_over f (suc k) = f k + sum_over f k
 
--- The tally is what went in and didn't go out of partition p, as these workers counted it.
+-- The tally is what went into partition p less what went out of it, as these workers counted it.
 pub record IsLeftOf (into out : Count → Tally) (p threads : ℕ) (workers : ℕ → WorkerValue) (tally : Tally) : Type 0 where
-  pub slots : tally.slots + sum_over (λ k. (out (counted_in (workers k).counts p)).slots) threads
-      ≡ sum_over (λ k. (into (counted_in (workers k).counts p)).slots) threads
-  pub bytes : tally.bytes + sum_over (λ k. (out (counted_in (workers k).counts p)).bytes) threads
-      ≡ sum_over (λ k. (into (counted_in (workers k).counts p)).bytes) threads
+  pub slots : tally.slots ≡ sum_over (λ k. (into (counted_in (workers k).counts p)).slots) threads
+      - sum_over (λ k. (out (counted_in (workers k).counts p)).slots) threads
+  pub bytes : tally.bytes ≡ sum_over (λ k. (into (counted_in (workers k).counts p)).bytes) threads
+      - sum_over (λ k. (out (counted_in (workers k).counts p)).bytes) threads
 
 -- The tally is what the lists of these workers have of partition p.
 pub record IsCachedBy (p threads : ℕ) (workers : ℕ → WorkerValue) (tally : Tally) : Type 0 where

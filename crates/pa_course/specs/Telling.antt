@@ -52,14 +52,14 @@ CoursesLeaveNonePast =
     (p : ℕ) → t.partitions ≤ p → p < 4 → list_of p v ≡ []
 
 -- Each worker has the records of its thread so far, in order; and a title that a stretch says was made raw again goes back by an
--- entry of the same record.
+-- entry of the same record. That asks nothing of the close, so the records can be merged before it.
 pub record HaveTheirs (t : Trace) (c : Course) : Type 0 where
   pub records : (n k : ℕ) → 1 ≤ n → n ≤ phases_in t.lines → k < t.threads →
       (c.ends n k).records ≡ map entry_of (played_in (filter (is_of_thread k) (told_until n (told_in t c))))
   pub unmaps : OnlyUnmapsUncut (told_in t c)
 
 abbrev pub WorkersHaveTheirs : Type 0
-WorkersHaveTheirs = (t : Trace) (r : Told) (c : Course) (v : View) (xs : List Exchange) → IsWholeRun t r c v xs → HaveTheirs t c
+WorkersHaveTheirs = (t : Trace) (c : Course) → IsWithinLimits t → IsCourse t (phases_in t.lines) c → HaveTheirs t c
 
 -- And where each line of the report is said, by the workers' counts and lists and by the roots, all layers say all at once.
 abbrev pub CoursesTellAll : Type 0

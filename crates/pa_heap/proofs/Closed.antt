@@ -121,6 +121,7 @@ lists_left words l v law pool roots cells =
         | inl below ↦ root_numbered p (journal_left l p) v (root_of l v p roots below) s
         | inr past ↦ subst (λ (es : List RootEntry). IsNumbered (Some 0) (moves_of es s)) (sym (roots.no_more p past)) tt
       ];
+      count = ap (λ (hs : List (List CellEntry)). length hs) (sym cells.histories_are) ∙ cells.kept.cells;
       exchanges = cells_list l.cells.items v cells;
       chain = λ k. cells_chain l.cells.items v k cells;
     }

@@ -32,6 +32,7 @@ use Rattle.pa_rules.specs.Roots.{Journals, IsFreeing, MakesEntry}
 use Rattle.pa_told.specs.Told.{ToldRecord}
 use Rattle.pa_told.specs.Touches.{IsStepTold, IsToldBy, is_touch, title_of}
 use Rattle.pa_told.specs.Indices.{Enters, asks, is_asked}
+use Rattle.pa_told.specs.Said.{ReadsIts}
 use Rattle.pa_record.specs.Root.{asked_by}
 use Rattle.pa_root.specs.Handing.{root_entry}
 use Rattle.pa_cells.specs.declared.handle.Handle.{Handle}
@@ -40,7 +41,7 @@ use Rattle.pa_heap.specs.declared.register.Register.{Register}
 use Rattle.pa_heap.specs.Stocks.{StockValue, regs_of, listed_in}
 use Rattle.pa_heap.specs.Outcomes.{Outcome, IsOutcome, IsSeenOf, row_facts}
 use Rattle.pa_heap.specs.Entering.{EntersCells, HasSeenSome}
-use Rattle.pa_heap.specs.Plays.{DoesOp, AnswersIn, ReadsItsRegister}
+use Rattle.pa_heap.specs.Plays.{DoesOp, AnswersIn}
 use Rattle.pa_heap.proofs.Seeing.{slot_in_run, home_of}
 use Rattle.pa_heap.proofs.Looking.{seen_at}
 use Rattle.pa_heap.proofs.Touching.{Touched}
@@ -63,7 +64,7 @@ pub record HasReturned (op : Op) (step : Step) (h : Handle) (word : ℕ) (s : St
       ReturnRow roots (record { line = line; thread = s.thread; phase = phase; op = op; answer = answers.Done (seen_at h word) }) (left_at h word) cache after →
       CacheRow partitions roots (record { line = line; thread = s.thread; phase = phase; op = op; answer = answers.Done (seen_at h word) })
       (answers.Done (seen_at h word)) cache after
-  pub reader : (o : Outcome) (x : ToldRecord) → ReadsItsRegister o.sizes (regs_of s.registers) op x
+  pub reader : (o : Outcome) (x : ToldRecord) → ReadsIts o.sizes (regs_of s.registers) op x
   pub mark : (line : ℕ) → mark_of_answer line op (answers.Done (seen_at h word)) ≡ Some (mark_at line (seen_at h word) (Some step))
   pub touched : Touched s.thread (Counted h.title step word 0 ∷ []) s.view w
   pub number : seen_of w h.title ≡ number_of word + 1

@@ -26,10 +26,11 @@ use Rattle.pa_rules.specs.Caches.{Cache, CacheRow, NoActs, SameLists}
 use Rattle.pa_rules.specs.Roots.{Journals}
 use Rattle.pa_told.specs.Touches.{title_of, IsToldBy, IsLookTold}
 use Rattle.pa_cells.specs.declared.handle.Handle.{Handle}
+use Rattle.pa_told.specs.Said.{ReadsIts}
 use Rattle.pa_heap.specs.Stocks.{StockValue, IsStock, HasHandleTo, register_in, regs_of}
 use Rattle.pa_heap.specs.Workers.{HasItsStake}
 use Rattle.pa_heap.specs.Outcomes.{Outcome, row_facts}
-use Rattle.pa_heap.specs.Plays.{DoesOp, ReadsItsRegister}
+use Rattle.pa_heap.specs.Plays.{DoesOp}
 use Rattle.pa_heap.proofs.Seeing.{made_kept, made_for_kept, slot_in_run, home_of}
 use Rattle.pa_heap.proofs.Leaving.{least_is, user_not_free, touched_look}
 use Rattle.pa_heap.proofs.Stocks.{register_has, stock_with}
@@ -118,7 +119,7 @@ lookingly op (answers.Purged slots) seen is = absurd is
 pub looked_does : LookLeaves → (s : StockValue) (op : Op) (answer : Answer) (reg word : ℕ) (h : Handle) → IsStock s → IsAware s.view → HasItsStake s →
     reg < 64 → HasHandleTo h (register_in s.registers reg) → IsFound h.title word s.view → IsNoSwap op → IsOfLook answer (seen_at h word) →
     ((o : Outcome) → Row (row_facts o) op (regs_of s.registers) answer (regs_of s.registers)) →
-    ((o : Outcome) (line phase : ℕ) → ReadsItsRegister o.sizes (regs_of s.registers) op (quiet_record s (after_look h.title word s.view) line phase op answer (Looked h.title word ∷ []))) →
+    ((o : Outcome) (line phase : ℕ) → ReadsIts o.sizes (regs_of s.registers) op (quiet_record s (after_look h.title word s.view) line phase op answer (Looked h.title word ∷ []))) →
     (line : ℕ) → DoesOp line op answer s (looked s h word)
 looked_does looks s op answer reg word h is aware stake below has found no_swap of_look row reads =
     let t = h.title in

@@ -25,11 +25,12 @@ use Rattle.pa_told.specs.Touches.{IsToldBy}
 use Rattle.pa_told.specs.Indices.{Enters}
 use Rattle.pa_cache.specs.Caches.{CacheList}
 use Rattle.pa_root.specs.Handing.{at_number_seen}
+use Rattle.pa_told.specs.Said.{ReadsIts}
 use Rattle.pa_heap.specs.declared.register.Register.{Register}
 use Rattle.pa_heap.specs.Stocks.{StockValue, HoldsLists, titles_in, listed_in, regs_of}
 use Rattle.pa_heap.specs.Outcomes.{Outcome, IsOutcome, IsSeenOf, ActsAreOf, row_facts}
 use Rattle.pa_heap.specs.Entering.{EntersCells}
-use Rattle.pa_heap.specs.Plays.{DoesOp, ReadsItsRegister}
+use Rattle.pa_heap.specs.Plays.{DoesOp}
 use Rattle.pa_heap.proofs.Touching.{Touches, Touched}
 
 -- entries that touch enter nothing
@@ -65,7 +66,7 @@ pub record Says (o : Outcome) (s after : StockValue) (x : ToldRecord) : Type 0 w
   pub told : IsToldBy o.sizes x.played.op x.played.answer x.stretch
   pub row : Row (row_facts o) x.played.op (regs_of s.registers) x.played.answer (regs_of after.registers)
   pub lists : CacheRow o.partitions o.roots x.played x.played.answer (listed_in s) (listed_in after)
-  pub reader : ReadsItsRegister o.sizes (regs_of s.registers) x.played.op x
+  pub reader : ReadsIts o.sizes (regs_of s.registers) x.played.op x
   pub home : (m : Mark) → mark_of_answer x.played.line x.played.op x.played.answer ≡ Some m → (p : ℕ) × HasSize o.roots p m.slot (o.sizes m.slot)
 
 -- no act is of the line of a record that entered nothing

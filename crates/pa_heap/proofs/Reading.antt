@@ -31,13 +31,14 @@ use Rattle.pa_rules.specs.Registers.{Facts, Regs, ReadRow, ReadFromRow}
 use Rattle.pa_told.specs.Told.{ToldRecord}
 use Rattle.pa_told.specs.Touches.{title_of, IsReadTold}
 use Rattle.pa_cells.specs.declared.handle.Handle.{Handle}
+use Rattle.pa_told.specs.Said.{HoldsHandle, IsReadThrough}
 use Rattle.pa_heap.specs.declared.register.Register.{Register}
 use Rattle.pa_heap.specs.declared.register.Register.TheVariants.{Own}
 use Rattle.pa_heap.specs.Stocks.{StockValue, IsStock, HasHandleTo, register_in, as_reg, regs_of}
 use Rattle.pa_heap.specs.Workers.{HasItsStake}
 use Rattle.pa_heap.specs.Changes.{ReadsAt}
 use Rattle.pa_heap.specs.Outcomes.{row_facts}
-use Rattle.pa_heap.specs.Plays.{DoesOp, HasHandleOf, IsReadBy}
+use Rattle.pa_heap.specs.Plays.{DoesOp}
 use Rattle.pa_heap.proofs.Seeing.{made_kept, made_for_kept, slot_in_run, home_of}
 use Rattle.pa_heap.proofs.Touching.{Touches, Touched, entry_logs, touched_both}
 use Rattle.pa_heap.proofs.Leaving.{least_is, user_not_free, touched_look}
@@ -119,9 +120,9 @@ read_row r h facts regs place answer after (inl own) row = subst (λ x. ReadRow 
 read_row r h facts regs place answer after (inr ref) row = subst (λ x. ReadRow (as_reg x) facts regs place answer after) (sym ref) row
 
 -- the slot of a register's handle, by the rules' name
-handle_name : (r : Register) (h : Handle) (s : SlotName) → HasHandleTo h r → HasHandleOf (as_reg r) s → s ≡ name_of h.title
-handle_name r h s (inl own) is = sym (subst (λ x. HasHandleOf (as_reg x) s) own is)
-handle_name r h s (inr ref) is = sym (subst (λ x. HasHandleOf (as_reg x) s) ref is)
+handle_name : (r : Register) (h : Handle) (s : SlotName) → HasHandleTo h r → HoldsHandle (as_reg r) s → s ≡ name_of h.title
+handle_name r h s (inl own) is = sym (subst (λ x. HoldsHandle (as_reg x) s) own is)
+handle_name r h s (inr ref) is = sym (subst (λ x. HoldsHandle (as_reg x) s) ref is)
 
 -- a register that has an Own by the rules has it
 own_by : (r : Register) (h : Handle) (s : SlotName) → HasHandleTo h r → as_reg r ≡ reg.Own s → r ≡ Own h
@@ -139,7 +140,7 @@ owner_of other = true
 read_through : (s : StockValue) (u : View) (sizes : SlotName → ℕ) (reg : ℕ) (place value : ℕ) (h : Handle) (x : ToldRecord) → IsStock s → IsAware s.view → reg < 64 →
     HasHandleTo h (register_in s.registers reg) → title_of sizes (name_of h.title) ≡ h.title → ((t : Title) → x.saw t ≡ seen_of s.view t) →
     ((t : Title) (p v : ℕ) (since : Deeds) (owner unclean : Bool) → register_in s.registers reg ≡ Own h → Contains x.stretch (Read t p v since owner unclean) → owner ≡ true) →
-    IsReadBy sizes (regs_of s.registers reg) x
+    IsReadThrough sizes (regs_of s.registers reg) x
 read_through s u sizes reg place value h x is aware below has titled saw owned = record {
   issued = λ n handle.
       let named = handle_name (register_in s.registers reg) h n has handle in

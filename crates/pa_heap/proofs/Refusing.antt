@@ -19,12 +19,13 @@ use Rattle.pa_rules.specs.Caches.{Cache, CacheRow, NoActs, SameLists}
 use Rattle.pa_rules.specs.Roots.{Journals}
 use Rattle.pa_told.specs.Told.{ToldRecord}
 use Rattle.pa_told.specs.Touches.{IsToldBy}
+use Rattle.pa_told.specs.Said.{ReadsIts, HoldsHandle, IsReadThrough}
 use Rattle.pa_heap.specs.declared.register.Register.{Register}
 use Rattle.pa_heap.specs.declared.register.Register.TheVariants.{Empty, Own, Ref, Freed, Cleared}
 use Rattle.pa_heap.specs.Stocks.{StockValue, IsStock, HasNoHandle, register_in, as_reg, regs_of}
 use Rattle.pa_heap.specs.Outcomes.{Outcome, IsOutcome, IsSeenOf, row_facts}
 use Rattle.pa_heap.specs.Entering.{EntersCells}
-use Rattle.pa_heap.specs.Plays.{DoesOp, ReadsItsRegister, HasHandleOf, IsReadBy}
+use Rattle.pa_heap.specs.Plays.{DoesOp}
 use Rattle.pa_heap.proofs.Touching.{touched_none}
 use Rattle.pa_heap.proofs.Quiet.{quiet_record, quiet_does}
 
@@ -104,7 +105,7 @@ plainly op (answers.Purged slots) is = absurd is
 -- the op does what it should, where its row says so, and its register where it reads
 pub plain_does : (s : StockValue) (op : Op) (answer : Answer) → IsStock s → IsNoSwap op → IsPlain answer →
     ((o : Outcome) → IsOutcome o → IsSeenOf o s.view → Row (row_facts o) op (regs_of s.registers) answer (regs_of s.registers)) →
-    ((o : Outcome) (line phase : ℕ) → IsOutcome o → IsSeenOf o s.view → ReadsItsRegister o.sizes (regs_of s.registers) op (quiet_record s s.view line phase op answer [])) →
+    ((o : Outcome) (line phase : ℕ) → IsOutcome o → IsSeenOf o s.view → ReadsIts o.sizes (regs_of s.registers) op (quiet_record s s.view line phase op answer [])) →
     (line : ℕ) → DoesOp line op answer s s
 plain_does s op answer is no_swap plain row reads =
     let p = plainly op answer plain in
@@ -139,13 +140,13 @@ free_refuses s i r answer is plain at row =
     plain_does s (ops.Free i) answer is tt plain (λ o run sees. subst (λ x. FreeRow (as_reg x) (regs_of s.registers) i answer (regs_of s.registers)) at row) (λ o line phase run sees. tt)
 
 -- a register without a handle
-no_reader : (s : StockValue) (sizes : SlotName → ℕ) (i : ℕ) (x : ToldRecord) → HasNoHandle (register_in s.registers i) → x.stretch ≡ [] → IsReadBy sizes (regs_of s.registers i) x
+no_reader : (s : StockValue) (sizes : SlotName → ℕ) (i : ℕ) (x : ToldRecord) → HasNoHandle (register_in s.registers i) → x.stretch ≡ [] → IsReadThrough sizes (regs_of s.registers i) x
 no_reader s sizes i x none empty = record {
   issued = λ n has. absurd (go (register_in s.registers i) none n has);
   owned = λ n t p v since owner unclean own among. absurd (not_in_none _ (subst (λ es. Contains es (Read t p v since owner unclean)) empty among));
 }
   where
-    go : (r : Register) → HasNoHandle r → (n : SlotName) → HasHandleOf (as_reg r) n → ⊥
+    go : (r : Register) → HasNoHandle r → (n : SlotName) → HoldsHandle (as_reg r) n → ⊥
     go Empty is n has = has
     go (Own h) is n has = is
     go (Ref h) is n has = is

@@ -89,6 +89,7 @@ root_left l p = root_replayed l.pool.items (journal_left l p) new_root
 --   pool, fits: its list of the pool is the pool's entries in numbers, and they are those of the region's super pages
 --   lists, journals: its list of each root is that root's journal in numbers, which replays with the pool's entries
 --   numbers: each root hands a slot out at the number at which it has it
+--   count: there is a history for each of the 64 cells
 --   exchanges, chain: its list of the cells is all exchanges in numbers, each history is that of its cell, and each exchange found
 --     what the one before it gave
 pub record LeavesLists (words : ℕ) (last : View) (left : Left) : Type 0 where
@@ -97,6 +98,7 @@ pub record LeavesLists (words : ℕ) (last : View) (left : Left) : Type 0 where
   pub lists : (p : ℕ) → p < 4 → IsJournalOf (list_of p last) (journal_left left p)
   pub journals : (p : ℕ) → IsJournal left.pool.items (journal_left left p)
   pub numbers : AreNumbered (journal_left left)
+  pub count : length left.cells.items ≡ 64
   pub exchanges : (xs : List Exchange) × AreExchanges (list_of 5 last) left.cells.items xs
   pub chain : (k : ℕ) → IsChain Nothing (history_left left k)
 

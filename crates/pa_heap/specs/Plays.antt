@@ -1,32 +1,28 @@
 -- What an op of a worker says of its own seat: its record, the stretch of its thread's log, and what these are in any run.
-use Rattle.std.specs.Prelude.{◌≡◌, ℕ, ◌+◌, ◌<◌, ◌≤◌, ◌==◌, List, [], ◌∷◌, ◌++◌, if◌then◌else◌, Bool, true, Some, Contains}
+use Rattle.std.specs.Prelude.{◌≡◌, ℕ, ◌+◌, ◌<◌, ◌≤◌, ◌==◌, List, [], ◌∷◌, ◌++◌, if◌then◌else◌, Some, Contains}
 use Rattle.pa_machine.specs.declared.title.Title.{Title}
-use Rattle.pa_machine.specs.declared.word.SlotName.{SlotName}
 use Rattle.pa_machine.specs.declared.word.Step.{Step}
 use Rattle.pa_machine.specs.Count.{number_of}
 use Rattle.pa_machine.specs.Run.{Mark}
 use Rattle.pa_trace.specs.declared.script.Op.{Op}
-use Rattle.pa_trace.specs.declared.script.Op.TheVariants as ops
 use Rattle.pa_record.specs.declared.entry.Answer.{Answer}
 use Rattle.pa_record.specs.declared.root.RootEntry.{RootEntry}
 use Rattle.pa_record.specs.Numbers.{root_numbers}
-use Rattle.pa_region.specs.declared.view.Entry.TheVariants.{Counted, Looked, Read}
-use Rattle.pa_region.specs.declared.view.Deeds.{Deeds}
+use Rattle.pa_region.specs.declared.view.Entry.TheVariants.{Counted, Looked}
 use Rattle.pa_region.specs.declared.view.Made.{Made}
 use Rattle.pa_region.specs.declared.view.View.{View}
 use Rattle.pa_region.specs.Views.{seen_among, seen_of, stake_of}
 use Rattle.pa_region.specs.Lists.{list_of, entered_in, IsBeginning}
 use Rattle.pa_region.specs.Takes.{log_of}
-use Rattle.pa_rules.specs.declared.register.Reg.{Reg}
-use Rattle.pa_rules.specs.declared.register.Reg.TheVariants.{Empty, Own, Ref, Freed, Cleared}
 use Rattle.pa_rules.specs.Played.{entry_of, mark_of}
-use Rattle.pa_rules.specs.Registers.{Regs, Row}
+use Rattle.pa_rules.specs.Registers.{Row}
 use Rattle.pa_rules.specs.Caches.{CacheRow}
 use Rattle.pa_rules.specs.Roots.{MakesEntry}
 use Rattle.pa_rules.specs.Report.{HasSize}
 use Rattle.pa_legal.specs.Known.{UnmapsNext}
 use Rattle.pa_told.specs.Told.{ToldRecord}
-use Rattle.pa_told.specs.Touches.{IsTold, title_of}
+use Rattle.pa_told.specs.Touches.{IsTold}
+use Rattle.pa_told.specs.Said.{ReadsIts}
 use Rattle.pa_heap.specs.Stocks.{StockValue, regs_of, listed_in}
 use Rattle.pa_heap.specs.Counts.{CountsBy}
 use Rattle.pa_heap.specs.Workers.{WorkerValue}
@@ -46,25 +42,6 @@ pub record HasSeenFor (v after : View) (x : ToldRecord) : Type 0 where
   pub looks : (t : Title) (found : ℕ) → Contains x.stretch (Looked t found) → (x.saw t ≤ number_of found) × (number_of found ≤ x.gives t)
   pub grows : (t : Title) → x.saw t ≤ x.gives t
 
--- the register has a handle of slot s
-abbrev pub HasHandleOf : Reg → SlotName → Type 0
-HasHandleOf Empty s = ⊥
-HasHandleOf (Own u) s = u ≡ s
-HasHandleOf (Ref u) s = u ≡ s
-HasHandleOf Freed s = ⊥
-HasHandleOf Cleared s = ⊥
-
--- A read through this register: where that has a handle, the seat had seen the issue of its slot; and where it has an Own, the
--- log says that the read was an owner's.
-pub record IsReadBy (sizes : SlotName → ℕ) (reg : Reg) (x : ToldRecord) : Type 0 where
-  pub issued : (s : SlotName) → HasHandleOf reg s → 1 ≤ x.saw (title_of sizes s)
-  pub owned : (s : SlotName) (t : Title) (place value : ℕ) (since : Deeds) (owner unclean : Bool) → reg ≡ Own s →
-      Contains x.stretch (Read t place value since owner unclean) → owner ≡ true
-
-abbrev pub ReadsItsRegister : (SlotName → ℕ) → Regs → Op → ToldRecord → Type 0
-ReadsItsRegister sizes regs (ops.Read reg place) x = IsReadBy sizes (regs reg) x
-ReadsItsRegister sizes regs op x = Unit {0}
-
 -- What the record is in a run that became this.
 --   told: its stretch is what its answer asks for
 --   row, lists: its answer and what it entered are those that its thread's registers and lists ask for, and lead to the next
@@ -76,7 +53,7 @@ pub record AnswersIn (o : Outcome) (before after : StockValue) (x : ToldRecord) 
   pub told : IsTold o.sizes x
   pub row : Row (row_facts o) x.played.op (regs_of before.registers) x.played.answer (regs_of after.registers)
   pub lists : CacheRow o.partitions o.roots x.played x.played.answer (listed_in before) (listed_in after)
-  pub reader : ReadsItsRegister o.sizes (regs_of before.registers) x.played.op x
+  pub reader : ReadsIts o.sizes (regs_of before.registers) x.played.op x
   pub unmaps : UnmapsNext o.roots x.played
   pub makes : (p : ℕ) (m : Made) (e : RootEntry) → p < 4 → Contains (entered_in p x.stretch) m → m.numbers ≡ root_numbers e →
       MakesEntry o.pools p e.act x.played.op

@@ -1,5 +1,5 @@
 -- The tallies of live and quarantined slots, as sums over the steps of some records.
-use Rattle.std.specs.Prelude.{◌≡◌, ◌≢◌, ℕ, ◌+◌, ◌==◌, ◌&&◌, Bool, true, false, not, if◌then◌else◌, List, Contains, AllPairs, sum_by}
+use Rattle.std.specs.Prelude.{◌≡◌, ◌≢◌, ℕ, ◌+◌, ◌≤◌, ◌==◌, ◌&&◌, Bool, true, false, not, if◌then◌else◌, List, Contains, AllPairs, sum_by}
 use Rattle.pa_machine.specs.declared.word.SlotName.{SlotName}
 use Rattle.pa_machine.specs.declared.word.Step.{Step}
 use Rattle.pa_machine.specs.declared.word.Step.TheVariants.{Issue, Copy, Reset, Free, Write}
@@ -63,6 +63,11 @@ pub record IsLeft (into out : Step → ℕ → Bool) (home size : SlotName → �
   pub slots : tally.slots + weight_of out (one_of home p) ms ≡ weight_of into (one_of home p) ms
   pub bytes : tally.bytes + weight_of out (bytes_of home size p) ms ≡ weight_of into (bytes_of home size p) ms
 
+-- no more went out than in, in slots and in bytes
+pub record WentIn (into out : Step → ℕ → Bool) (home size : SlotName → ℕ) (p : ℕ) (ms : List Mark) : Type 0 where
+  pub slots : weight_of out (one_of home p) ms ≤ weight_of into (one_of home p) ms
+  pub bytes : weight_of out (bytes_of home size p) ms ≤ weight_of into (bytes_of home size p) ms
+
 -- What is given: a run's journals and pool, and some records with a line each and one run for each slot.
 pub record IsTallied (supers partitions : ℕ) (ps xs : List Played) (pools : List PoolEntry) (roots : Journals) : Type 0 where
   pub journals : AreRoots partitions ps pools roots
@@ -70,7 +75,8 @@ pub record IsTallied (supers partitions : ℕ) (ps xs : List Played) (pools : Li
   pub lines : AllPairs (λ (x y : Played). x.line ≢ y.line) xs
   pub slots : Slots (marks_of xs)
 
--- Then a tally is that of the live slots of a partition after these records, or of the quarantined ones.
+-- Then a tally is that of the live slots of a partition after these records, or of the quarantined ones. And no more slots were freed
+-- than issued, nor left the quarantine than entered it.
 pub record TalliesFollow : Type 0 where
   pub live : (supers partitions p : ℕ) (ps xs : List Played) (pools : List PoolEntry) (roots : Journals)
       (home size : SlotName → ℕ) (tally : Tally) → IsTallied supers partitions ps xs pools roots →
@@ -79,3 +85,7 @@ pub record TalliesFollow : Type 0 where
       (home size : SlotName → ℕ) (tally : Tally) → IsTallied supers partitions ps xs pools roots →
       AreHomes roots home size (marks_of xs) → IsLeft enters leaves home size p (marks_of xs) tally →
       IsTally IsQuarantined roots xs p tally
+  pub freed : (supers partitions p : ℕ) (ps xs : List Played) (pools : List PoolEntry) (roots : Journals) (home size : SlotName → ℕ) →
+      IsTallied supers partitions ps xs pools roots → WentIn issues frees home size p (marks_of xs)
+  pub left : (supers partitions p : ℕ) (ps xs : List Played) (pools : List PoolEntry) (roots : Journals) (home size : SlotName → ℕ) →
+      IsTallied supers partitions ps xs pools roots → WentIn enters leaves home size p (marks_of xs)

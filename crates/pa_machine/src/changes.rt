@@ -214,8 +214,8 @@ impl Tables {
     }
 }
 
-/// The word that fills the content of a title before it is freed, 8 times the byte ef.
-pub(crate) const POISON: u64 = 0xefef_efef_efef_efef;
+/// The word that fills the content of a title before it is freed, and that a read of a freed slot gives: 8 times the byte ef.
+pub const POISON: u64 = 0xefef_efef_efef_efef;
 
 // Whether neither bit nor count is left in the word.
 fn is_free(word: Word) -> bool

@@ -15,6 +15,7 @@ mod tables;
 mod title;
 mod word;
 
+pub use changes::POISON;
 pub use event::{Event, Item, StepFault};
 pub use fault::OutOfMemory;
 pub use machine::{Core, core_run};

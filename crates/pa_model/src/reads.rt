@@ -8,14 +8,11 @@ ghost use Rattle.pa_model.specs.Plays.{IsReady, Plays};
 use crate::alloc::COUNT_WORD;
 use crate::handle::Handle;
 use crate::player::Player;
-use pa_machine::held;
+use pa_machine::{POISON, held};
 use pa_record::Answer;
 
 // The bytes of a word of the content.
 const WORD_BYTES: u32 = 8;
-
-// What every word of a freed slot reads.
-const POISON: u64 = 0xefef_efef_efef_efef;
 
 impl Player {
     // A read of a word, by its number from 0.

@@ -68,10 +68,9 @@ mod tests {
     use super::*;
     use crate::fill::{write, zero_fill};
     use pa_count::{copy, issue};
+    use pa_machine::POISON;
     use pa_region::a_new_region_can_be_cut;
     use std::test::Fail;
-
-    const POISON: u64 = 0xefef_efef_efef_efef;
 
     #[test]
     fn a_dangling_pointer_reads_poison(rt: HostRuntime) -> Result<(), Fail> {

@@ -11,7 +11,7 @@ ghost use Rattle.pa_quarantine.specs.Sharing.{Stays, StaysUser, GaveRef, AreToge
 use crate::fill::{write, zero_fill};
 use crate::leave::{free_owned, read, release};
 use pa_count::{Fate, copy, issue};
-use pa_machine::{Item, OutOfMemory, Title, Word, held};
+use pa_machine::{Item, OutOfMemory, POISON, Title, Word, held};
 use pa_region::{
     Mark, Region, Seat, a_cut_leaves_zeros, a_new_region_can_be_cut, entries_stand_in_logs,
     new_words_are_zero, owns_change,
@@ -20,8 +20,6 @@ use std::alloc::Global;
 use std::test::Fail;
 use std::thread;
 use std::thread::Threads;
-
-const POISON: u64 = 0xefef_efef_efef_efef;
 
 // The owner poisons and frees, with a seat that is handed back.
 fn free_by(region: &Region, seat: Seat, title: Title) -> (Seat, Fate)

@@ -2,7 +2,6 @@
 use Rattle.std.specs.Prelude.{◌≡◌, ◌≢◌, ℕ, ◌*◌, ◌≤◌, List, [], ◌∷◌, length, AllPairs, Contains}
 use Rattle.pa_machine.specs.declared.title.Title.{Title}
 use Rattle.pa_region.specs.declared.view.View.{View}
-use Rattle.pa_record.specs.Pool.{PoolState}
 use Rattle.pa_record.specs.Root.{Root}
 use Rattle.pa_record.specs.Sound.{IsBornBelow}
 use Rattle.pa_root.specs.Handing.{HasOnly, HasSeenFill, HasSeenMap}
@@ -19,8 +18,8 @@ pub record CanMapGoBack (p : ℕ) (v : View) (t : Title) : Type 0 where
   pub has : HasOnly (t ∷ []) v
   pub named : HasSeenMap p v t
 
--- at most so many calls were made of a placement over a pool
-pub record IsPlayed (calls : ℕ) (pool : PoolState) (r : Root) : Type 0 where
-  pub turn : r.turn ≤ 1024 * calls
-  pub few : pool.entries ≤ calls
-  pub born : IsBornBelow pool.entries r
+-- at most so many steps were made of a placement over a pool with that many entries
+pub record IsPlayed (steps entries : ℕ) (r : Root) : Type 0 where
+  pub turn : r.turn ≤ 32 * steps
+  pub few : entries ≤ steps
+  pub born : IsBornBelow entries r

@@ -86,7 +86,7 @@ fn a_full_region(rt: HostRuntime) -> Result<(), Fail> {
         filling(4, 58),
         filling(5, 0),
     ];
-    let left = play(&rt, rt.alloc(), &script)?;
+    let left = play(&rt, rt.alloc(), 1, &script)?;
     let due = [
         fill(2, 58, Some(0), row(0x4000, 16, 1))?,
         fill(3, 58, None, row(0xe4000, 16, 1))?,
@@ -106,7 +106,7 @@ fn a_purge(rt: HostRuntime) -> Result<(), Fail> {
         at(4, Call::Purge),
         filling(5, 0),
     ];
-    let left = play(&rt, rt.alloc(), &script)?;
+    let left = play(&rt, rt.alloc(), 1, &script)?;
     let due = [
         fill(2, 0, Some(0), row(0x4000, 16, 8))?,
         give(4, row(0x4000, 16, 8)),
@@ -130,7 +130,7 @@ fn a_direct_map_again(rt: HostRuntime) -> Result<(), Fail> {
         at(8, Call::Unmap(0)),
         at(9, Call::Map(2_000_000)),
     ];
-    let left = play(&rt, rt.alloc(), &script)?;
+    let left = play(&rt, rt.alloc(), 1, &script)?;
     let due = [
         map(2, 0),
         unmap(3, 1, 0),
@@ -156,7 +156,7 @@ fn nine_fills(rt: HostRuntime) -> Result<(), Fail> {
         let pool = if i == 0 { Some(0) } else { None };
         due.push(fill(line, 0, pool, row(0x4000 + 128 * i, 16, 8))?)?;
     }
-    let left = play(&rt, rt.alloc(), &script)?;
+    let left = play(&rt, rt.alloc(), 1, &script)?;
     assert!(rt; left.journal.as_slice() == due.as_slice());
     assert_eq!(rt; left.census.root.slots, 184);
     Ok(())
@@ -177,7 +177,7 @@ fn the_ring_of_empty_spans(rt: HostRuntime) -> Result<(), Fail> {
     }
     script.push(filling(36, 43))?;
     due.push(fill(36, 43, None, row(0x104000, 16, 1))?)?;
-    let left = play(&rt, rt.alloc(), &script)?;
+    let left = play(&rt, rt.alloc(), 1, &script)?;
     assert!(rt; left.journal.as_slice() == due.as_slice());
     assert_eq!(rt; left.census.empty, 15);
     assert_eq!(rt; left.census.decommitted, 1);

@@ -2,6 +2,7 @@
 ghost use Rattle.std.specs.Prelude.{◌≡◌, ◌*◌, ◌<◌, ◌≤◌, length};
 ghost use Rattle.pa_region.specs.Lending.{CanLend};
 ghost use Rattle.pa_region.specs.Shares.{byte_word_count};
+ghost use Rattle.pa_direct.specs.Shapes.{IsDirectSize};
 ghost use Rattle.pa_pool.specs.Pools.{CanOpen};
 ghost use Rattle.pa_root.specs.Laws.{IsFirstView};
 
@@ -9,7 +10,7 @@ use crate::Root;
 use crate::lends::show_seen;
 use arrayvec::ArrayVec;
 use pa_buckets::Class;
-use pa_direct::shape;
+use pa_direct::{GREATEST_SIZE, shape};
 use pa_machine::{OutOfMemory, Title};
 use pa_pool::Pool;
 use pa_record::{Census, RootEntry};
@@ -136,7 +137,7 @@ fn map<N: Name, R: Wait>(
 ) -> Option<Mapped<N>>
     requires regions { (region.now ≡ N.region) × (seat.old.region ≡ N.region) }
     requires lender { CanLend seat.old.view }
-    requires size { (917496 < size) × (size ≤ 33521656) }
+    requires size { IsDirectSize size }
     ensures region { seat.new.region ≡ N.region }
     ensures again { CanLend seat.new.view }
 {
@@ -186,7 +187,7 @@ fn play_line<N: Name, R: Wait>(
         }
         Call::Purge => root.purge(region, seat, line)?,
         Call::Map(size) => {
-            if size > 917_496 && size <= 33_521_656 {
+            if size > 917_496 && size <= GREATEST_SIZE {
                 if let Some(mapped) = map(rt, region, seat, root, &stage.pool, line, size) {
                     stage.maps.push(mapped)?;
                 }
@@ -258,11 +259,18 @@ const OTHERS: [Mark; 20] = [
     Mark::Keeper(5),
 ];
 
-// Plays a script over a new region of one super page.
-pub(crate) fn play<R: Wait>(rt: &R, alloc: Global, script: &[Line]) -> Result<Left, OutOfMemory> {
-    let (region, mut first) = Region::new(alloc, 1, 0)?;
+// Plays a script over a new region of so many super pages.
+pub(crate) fn play<R: Wait>(
+    rt: &R,
+    alloc: Global,
+    supers: u32,
+    script: &[Line],
+) -> Result<Left, OutOfMemory>
+    requires supers { (1 ≤ supers) × (supers ≤ 16) }
+{
+    let (region, mut first) = Region::new(alloc, supers, 0)?;
     let mut seat = region.hand(&mut first, &[], 0, &OTHERS).seat();
     let root = region.hand(&mut first, &[], 0, &[Mark::Keeper(0)]);
     let notes = (root, first.note());
-    play_by::<Brand, R>(rt, alloc, &region, &mut seat, notes, 1, script)
+    play_by::<Brand, R>(rt, alloc, &region, &mut seat, notes, supers, script)
 }

@@ -16,3 +16,4 @@ pub mod Numbering
 pub mod Within
 pub mod Reported
 pub mod Sizes
+pub mod Rising

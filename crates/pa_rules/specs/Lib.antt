@@ -21,3 +21,4 @@ pub mod Tells
 pub mod Flow
 pub mod Laws
 pub mod Worked
+pub mod Rising

@@ -28,14 +28,14 @@ none (suc n) (suc k) = none n k
 pub count_start : (ls : List Line) → AreCounted 0 ls (replicate 16 0)
 count_start ls = record { long = refl; each = λ k low. none 16 k }
 
-more : (i : ℕ) (ls : List Line) (d l : Line) (k : ℕ) → i < length ls → get_or ls i d ≡ l → lines_by k (take (i + 1) ls) ≡ lines_by k (take i ls ++ l ∷ [])
-more i ls d l k low is = ap (lines_by k) (take_more ls i d low ∙ ap (λ x. take i ls ++ x ∷ []) is)
+pub lines_with : (i : ℕ) (ls : List Line) (d l : Line) (k : ℕ) → i < length ls → get_or ls i d ≡ l → lines_by k (take (i + 1) ls) ≡ lines_by k (take i ls ++ l ∷ [])
+lines_with i ls d l k low is = ap (lines_by k) (take_more ls i d low ∙ ap (λ x. take i ls ++ x ∷ []) is)
 
 pub count_phase : (i : ℕ) (ls : List Line) (d : Line) (counts then : List ℕ) → AreCounted i ls counts → i < length ls → get_or ls i d ≡ Phase → then ≡ counts → AreCounted (i + 1) ls then
 count_phase i ls d counts then so low is same = record {
   long = ap (λ ns. length ns) same ∙ so.long;
   each = λ k small.
-      let a = more i ls d Phase k low is in
+      let a = lines_with i ls d Phase k low is in
       let b = lines_by_more k (take i ls) Phase in
       let e = so.each k small in
       let f = ap (λ ns. slice_index ns k) same in
@@ -53,7 +53,7 @@ pub count_line : (i : ℕ) (ls : List Line) (d : Line) (counts then : List ℕ) 
 count_line i ls d counts then thread op so low is few set_is = record {
   long = ap (λ ns. length ns) set_is ∙ (length-set counts thread _ ∙ so.long);
   each = λ k small.
-      let a = more i ls d (Do thread op) k low is in
+      let a = lines_with i ls d (Do thread op) k low is in
       let b = lines_by_more k (take i ls) (Do thread op) in
       let long = so.long in
       let f = ap (λ ns. slice_index ns k) set_is in
@@ -65,7 +65,7 @@ count_line i ls d counts then thread op so low is few set_is = record {
             let same = get_or-set_same counts thread (slice_index counts thread + 1) 0 (omega arith) in
             let here : slice_index then thread ≡ slice_index counts thread + 1 = ap (λ ns. slice_index ns thread) set_is ∙ same in
             let all : lines_by thread (take (i + 1) ls) ≡ lines_by thread (take i ls) + 1 =
-            more i ls d (Do thread op) thread low is ∙ (lines_by_more thread (take i ls) (Do thread op) ∙ rw (eq-eqb thread thread refl) refl) in
+            lines_with i ls d (Do thread op) thread low is ∙ (lines_by_more thread (take i ls) (Do thread op) ∙ rw (eq-eqb thread thread refl) refl) in
             subst (λ n. slice_index then n ≡ lines_by n (take (i + 1) ls)) (sym e) (omega arith)
         | inr ne ↦
             let other = get_or-set_other counts thread k (slice_index counts thread + 1) 0 ne in

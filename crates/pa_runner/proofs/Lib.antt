@@ -9,3 +9,9 @@ mod Gathered
 mod Passing
 mod Coursing
 mod Counted
+mod Printing
+mod Closing
+mod Together
+mod Placed
+mod ReportLines
+mod PhaseSteps

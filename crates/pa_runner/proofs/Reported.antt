@@ -1,5 +1,5 @@
 -- The lines of a phase's report, partition by partition.
-use Rattle.std.proofs.Common.{◌≡◌, ℕ, zero, suc, ◌+◌, List, [], ◌∷◌, ◌++◌, refl, sym, ◌∙◌, ap, subst, arith, inl, inr, append-nil, append_assoc}
+use Rattle.std.proofs.Common.{◌≡◌, ℕ, zero, suc, ◌+◌, ◌-◌, List, [], ◌∷◌, ◌++◌, refl, sym, ◌∙◌, ap, subst, arith, inl, inr, append-nil, append_assoc}
 use Rattle.std.proofs.lemmas.Bool.{cases_eq, eq-eqb, ne_eqb}
 use Rattle.std.proofs.lemmas.List.{map-append}
 use Rattle.std.proofs.lemmas.List.Elements.{Contains-push_cases}
@@ -21,17 +21,17 @@ use Rattle.pa_heap.specs.Workers.{WorkerValue}
 use Rattle.pa_course.specs.Lines.{IsLeftOf}
 use Rattle.pa_runner.specs.Reporting.{IsCountedBy, IsLineFor, HasAsked, IsReported}
 
--- ---- what went in and didn't go out
+-- ---- what went in less what went out
 
 pub left_by : (into out : Count → Tally) (p threads : ℕ) (workers : ℕ → WorkerValue) (a b t : Tally) → IsCountedBy into p threads workers a → IsCountedBy out p threads workers b →
-    (t.slots + b.slots ≡ a.slots) × (t.bytes + b.bytes ≡ a.bytes) → IsLeftOf into out p threads workers t
+    t ≡ record { slots = a.slots - b.slots; bytes = a.bytes - b.bytes } → IsLeftOf into out p threads workers t
 left_by into out p threads workers a b t of_a of_b left =
     let x = of_a.slots in
     let y = of_a.bytes in
     let u = of_b.slots in
     let v = of_b.bytes in
-    let s = left.0 in
-    let z = left.1 in
+    let s = ap (λ (q : Tally). q.slots) left in
+    let z = ap (λ (q : Tally). q.bytes) left in
     record { slots = omega arith; bytes = omega arith }
 
 -- ---- a seat that asks

@@ -4,3 +4,5 @@ pub mod Tracing
 pub mod Merging
 pub mod Opening
 pub mod Reporting
+pub mod UnderWay
+pub mod Whole

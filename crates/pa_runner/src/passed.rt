@@ -7,11 +7,11 @@ ghost use Rattle.pa_runner.specs.Phases.{AreReady, HasPassed, worker_in};
 ghost use Rattle.pa_runner.specs.Reporting.{IsReported};
 
 use crate::ending::end_phase;
-use crate::failure::Failure;
 use crate::gate::Gate;
 use crate::queue::Queue;
 use crate::report::report_phase;
 use pa_heap::{Heap, Worker};
+use pa_machine::OutOfMemory;
 use pa_record::ReportLine;
 use pa_region::{Name, Seat};
 use std::marker::{Send, Sync};
@@ -29,7 +29,7 @@ pub fn pass_phase<R: Threads + Wait + Sync, N: Name + Send + Sync, G: Gate>(
     phase: u32,
     partitions: u32,
     report: &mut Vec<ReportLine>,
-) -> Result<(), Failure>
+) -> Result<(), OutOfMemory>
     requires region { seat.old.region ≡ N.region }
     requires many { (0 < length workers.old) × (length workers.old ≤ 16) }
     requires ready { AreReady queues.now workers.old }

@@ -1,5 +1,5 @@
 //! The lines of the report at the end of a phase.
-ghost use Rattle.std.specs.Prelude.{◌≡◌, ℕ, ◌+◌, ◌^◌, ◌<◌, ◌≤◌, ◌⊎◌, IfOk, OnOk, OnErr, length};
+ghost use Rattle.std.specs.Prelude.{◌≡◌, ℕ, ◌+◌, ◌-◌, ◌^◌, ◌<◌, ◌≤◌, OnOk, length};
 ghost use Rattle.pa_region.specs.declared.view.View.{View};
 ghost use Rattle.pa_region.specs.Views.{HasEveryStake};
 ghost use Rattle.pa_rules.specs.Report.{census_of};
@@ -8,8 +8,8 @@ ghost use Rattle.pa_course.specs.Lines.{IsCachedBy};
 ghost use Rattle.pa_runner.specs.Phases.{worker_in};
 ghost use Rattle.pa_runner.specs.Reporting.{AreCountedBy, IsLineFor, IsReported};
 
-use crate::failure::Failure;
 use pa_heap::{Count, Heap, Worker};
+use pa_machine::OutOfMemory;
 use pa_record::{Census, ReportLine, Tally};
 use pa_region::{Name, Seat};
 use std::sync::Wait;
@@ -24,7 +24,7 @@ pub fn report_phase<R: Wait, N: Name>(
     phase: u32,
     partitions: u32,
     report: &mut Vec<ReportLine>,
-) -> Result<(), Failure>
+) -> Result<(), OutOfMemory>
     requires region { seat.old.region ≡ N.region }
     requires every { HasEveryStake seat.old.view }
     requires partitions { partitions ≤ 4 }
@@ -36,7 +36,7 @@ pub fn report_phase<R: Wait, N: Name>(
 {
     for partition in 0..partitions {
         let census = heap.census(rt, seat, partition);
-        let line = line_of(workers, phase, partition, &census)?;
+        let line = line_of(workers, phase, partition, &census);
         report.push(line)?;
     }
     Ok(())
@@ -48,19 +48,20 @@ fn line_of<N: Name>(
     phase: u32,
     partition: u32,
     census: &Census,
-) -> Result<ReportLine, Failure>
+) -> ReportLine
     requires partition { partition < 4 }
     requires many { length workers.now ≤ 16 }
     requires few { (k : ℕ) → k < length workers.now → length (worker_in workers.now k).records ≤ 65536 }
-    ensures { IfOk result (λ line. (line.partition ≡ partition) × (census_of line ≡ census.now)
-        × ((seat : View) → TellsCensus partition seat census.now → IsLineFor phase (length workers.now) (worker_in workers.now) seat line)) }
+    ensures partition { result.partition ≡ partition }
+    ensures census { census_of result ≡ census.now }
+    ensures right { (seat : View) → TellsCensus partition seat census.now → IsLineFor phase (length workers.now) (worker_in workers.now) seat result }
 {
     let count = counted_by(workers, partition);
-    Ok(ReportLine {
+    ReportLine {
         phase,
         partition,
-        live: left_of(count.issued, count.freed)?,
-        quarantined: left_of(count.entered, count.left)?,
+        live: left_of(count.issued, count.freed),
+        quarantined: left_of(count.entered, count.left),
         cached: cached_by(workers, partition),
         root: census.root,
         committed: census.committed,
@@ -69,21 +70,17 @@ fn line_of<N: Name>(
         active: census.active,
         empty: census.empty,
         decommitted: census.decommitted,
-    })
+    }
 }
 
-// What went in and didn't go out.
-fn left_of(into: Tally, out: Tally) -> Result<Tally, Failure>
-    ensures left { IfOk result (λ tally. (tally.slots + out.slots ≡ into.slots) × (tally.bytes + out.bytes ≡ into.bytes)) }
-    ensures more { OnErr result ((into.slots < out.slots) ⊎ (into.bytes < out.bytes)) }
+// What went in less what went out. No more goes out than in: a law of the run says so (`WentIn` of pa_legal), and nothing here.
+fn left_of(into: Tally, out: Tally) -> Tally
+    ensures { result ≡ record { slots = into.slots - out.slots; bytes = into.bytes - out.bytes } }
 {
-    if into.slots < out.slots || into.bytes < out.bytes {
-        return Err(Failure::Miscounted);
+    Tally {
+        slots: into.slots.saturating_sub(out.slots),
+        bytes: into.bytes.saturating_sub(out.bytes),
     }
-    Ok(Tally {
-        slots: into.slots - out.slots,
-        bytes: into.bytes - out.bytes,
-    })
 }
 
 // What the workers counted of a partition.

@@ -29,7 +29,7 @@ use Rattle.pa_rules.specs.Caches.{Cache, Caches, CachesTo, with_cache, no_caches
 use Rattle.pa_rules.specs.Report.{InPhases, PastPhases, HasCensus, IsReportLine, IsCached, listed_bytes, cached_slots, cached_bytes, census_of, until}
 use Rattle.pa_rules.proofs.Phases.{runs_until, mark_in}
 use Rattle.pa_rules.proofs.Running.{mark_from}
-use Rattle.pa_legal.specs.Tallies.{issues, frees, enters, leaves, weight_of, one_of, bytes_of, AreHomes, IsLeft, IsTallied}
+use Rattle.pa_legal.specs.Tallies.{issues, frees, enters, leaves, weight_of, one_of, bytes_of, AreHomes, IsLeft, WentIn, IsTallied}
 use Rattle.pa_legal.proofs.tallies.Adding.{tallies_follow}
 use Rattle.pa_told.specs.Told.{ToldRecord, played_in, is_until, told_until}
 use Rattle.pa_told.specs.Listed.{first_of, line_of, is_on, AreRising}
@@ -180,8 +180,10 @@ counts_add test weight (x ∷ xs) n few =
     omega arith
 
 left_by : (into out : Step → ℕ → Bool) (home size : SlotName → ℕ) (p threads : ℕ) (xs : List Played) (tally : Tally) → ((x : Played) → Contains xs x → x.thread < threads) →
-    IsLeftBy into out home size p threads xs tally → IsLeft into out home size p (marks_of xs) tally
-left_by into out home size p threads xs tally few h =
+    WentIn into out home size p (marks_of xs) → IsLeftBy into out home size p threads xs tally → IsLeft into out home size p (marks_of xs) tally
+left_by into out home size p threads xs tally few went h =
+    let first = went.slots in
+    let second = went.bytes in
     let slots = h.slots in
     let bytes = h.bytes in
     let a = counts_add into (one_of home p) xs threads few in
@@ -258,9 +260,9 @@ module _ (supers partitions threads : ℕ) (home size : SlotName → ℕ) (lists
       } in
       let homes : AreHomes roots home size (marks_of xs) = λ m among. all.homes m (until_mark ps l.phase m among) in
       record {
-        live = tallies_follow.live supers partitions l.partition ps xs pools roots home size l.live tallied homes (left_by issues frees home size l.partition threads xs l.live few h.live);
+        live = tallies_follow.live supers partitions l.partition ps xs pools roots home size l.live tallied homes (left_by issues frees home size l.partition threads xs l.live few (tallies_follow.freed supers partitions l.partition ps xs pools roots home size tallied) h.live);
         quarantined = tallies_follow.quarantined supers partitions l.partition ps xs pools roots home size l.quarantined tallied homes
-            (left_by enters leaves home size l.partition threads xs l.quarantined few h.quarantined);
+            (left_by enters leaves home size l.partition threads xs l.quarantined few (tallies_follow.left supers partitions l.partition ps xs pools roots home size tallied) h.quarantined);
         cached = cached partitions threads roots xs l.partition l.cached h.cached;
         root = has_census l.partition l.phase lists pools roots ts (census_of l) all.lists_are h.partition h.root;
       }

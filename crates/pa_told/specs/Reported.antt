@@ -1,5 +1,5 @@
 -- The report, from what each thread, each root and the lists say at the end of each phase.
-use Rattle.std.specs.Prelude.{◌≡◌, ℕ, zero, suc, ◌+◌, ◌<◌, List, [], ◌∷◌, ◌++◌, Bool, map, Contains}
+use Rattle.std.specs.Prelude.{◌≡◌, ℕ, zero, suc, ◌+◌, ◌-◌, ◌<◌, List, [], ◌∷◌, ◌++◌, Bool, map, Contains}
 use Rattle.pa_machine.specs.declared.word.SlotName.{SlotName}
 use Rattle.pa_machine.specs.declared.word.Step.{Step}
 use Rattle.pa_machine.specs.Run.{Slots}
@@ -49,11 +49,11 @@ abbrev pub counted_by : (Step → ℕ → Bool) → (SlotName → ℕ) → List 
 counted_by test weight xs zero = 0
 counted_by test weight xs (suc k) = weight_of test weight (marks_of (records_by k xs)) + counted_by test weight xs k
 
--- the tally is what went in and didn't go out, by the threads' counts
+-- the tally is what went in less what went out, by the threads' counts
 pub record IsLeftBy (into out : Step → ℕ → Bool) (home size : SlotName → ℕ) (p threads : ℕ) (xs : List Played) (tally : Tally) :
     Type 0 where
-  pub slots : tally.slots + counted_by out (one_of home p) xs threads ≡ counted_by into (one_of home p) xs threads
-  pub bytes : tally.bytes + counted_by out (bytes_of home size p) xs threads ≡ counted_by into (bytes_of home size p) xs threads
+  pub slots : tally.slots ≡ counted_by into (one_of home p) xs threads - counted_by out (one_of home p) xs threads
+  pub bytes : tally.bytes ≡ counted_by into (bytes_of home size p) xs threads - counted_by out (bytes_of home size p) xs threads
 
 -- record by record of one thread its lists lead to these
 abbrev pub CacheLeadsTo : ℕ → Journals → Cache → List Played → Cache → Type 0

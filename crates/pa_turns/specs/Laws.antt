@@ -4,6 +4,7 @@ use Rattle.pa_machine.specs.declared.word.SlotName.{SlotName}
 use Rattle.pa_machine.specs.declared.word.Step.TheVariants as steps
 use Rattle.pa_machine.specs.Count.{held_of, refs_of, CanStep}
 use Rattle.pa_machine.specs.Run.{Slots}
+use Rattle.pa_direct.specs.Shapes.{greatest_size}
 use Rattle.pa_trace.specs.declared.script.Op.{Op}
 use Rattle.pa_trace.specs.declared.script.Op.TheVariants as ops
 use Rattle.pa_trace.specs.declared.script.Line.{Line}
@@ -66,7 +67,7 @@ abbrev pub MadeGoesOn : Type 0
 MadeGoesOn =
     (threads : ℕ) (ls : List Line) (ps : List Played) (a : Shown) (thread reg partition size : ℕ) (seen : Seen) →
     CanPlay threads ls ps a thread →
-    reg < 64 → HoldsNone (a.regs thread reg) → size ≤ 33521656 → seen.found.0 ≡ a.word seen.slot → held_of seen.found.0 ≡ 0 →
+    reg < 64 → HoldsNone (a.regs thread reg) → size ≤ greatest_size → seen.found.0 ≡ a.word seen.slot → held_of seen.found.0 ≡ 0 →
     refs_of seen.found.0 ≡ 0 →
     a.usable seen.slot ≡ usable_of size →
     LeadsTo threads ls ps thread (ops.Alloc reg partition size) (Made seen (usable_of size)) (after_made a thread reg seen)

@@ -8,6 +8,7 @@ ghost use Rattle.pa_cli.specs.StatusText.{status_number};
 
 use pa_cli::{Status, run};
 use pa_io::{StdSink, StdSource};
+use pa_runner::NoGate;
 use std::env::Env;
 use std::fmt::Display;
 use std::io::ErrorKind;
@@ -24,10 +25,15 @@ fn main(rt: HostRuntime) -> ExitCode {
     };
     let mut source = StdSource::new(rt.stdin());
     let mut sink = StdSink::new(rt.stdout());
-    end(
+    let outcome = run(
         &rt,
-        run(rt.alloc(), words.as_slice(), &mut source, &mut sink),
-    )
+        rt.alloc(),
+        words.as_slice(),
+        &mut source,
+        &mut sink,
+        &NoGate,
+    );
+    end(&rt, outcome.status)
 }
 
 // The words after the program's name.

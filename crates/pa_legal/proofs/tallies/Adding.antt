@@ -20,7 +20,7 @@ use Rattle.pa_rules.specs.Flow.{steps_so}
 use Rattle.pa_rules.proofs.Running.{OtherRecord, Balances, one_if, run_levels, marks_differ}
 use Rattle.pa_rules.proofs.FourPlaces.{one_word}
 use Rattle.pa_rules.proofs.Totals.{total, total_add, total_same, total_ones}
-use Rattle.pa_legal.specs.Tallies.{issues, frees, enters, leaves, weight_of, AreHomes, IsLeft, TalliesFollow}
+use Rattle.pa_legal.specs.Tallies.{issues, frees, enters, leaves, weight_of, AreHomes, IsLeft, WentIn, TalliesFollow}
 use Rattle.pa_legal.proofs.Titling.{one_size}
 use Rattle.pa_legal.proofs.tallies.Levels.{is_live, live_balances, live_is, is_live_of, is_quarantined, quarantined_balances, quarantined_is, is_quarantined_of}
 use Rattle.pa_legal.proofs.tallies.Sums.{distinct, in_distinct, distinct_in, distinct_once, total_sum, total_filter, slot_weight, weight_times, over_names}
@@ -69,7 +69,7 @@ module _ (P : ℕ → Type 0) (up down : Step → ℕ → Bool) (test : ℕ → 
       once_times true = omega arith
       once_times false = omega arith
 
-  module _ (supers partitions p : ℕ) (ps : List Played) (pools : List PoolEntry) (roots : Journals) (home size : SlotName → ℕ) (tally : Tally) (r : AreRoots partitions ps pools roots) (h : IsPoolOf supers ps pools roots) (homes : AreHomes roots home size (marks_of xs)) (left : IsLeft up down home size p (marks_of xs) tally) where
+  module _ (p : ℕ) (home size : SlotName → ℕ) where
     abbrev names : List SlotName
     names = distinct (map slot_at (marks_of xs))
 
@@ -98,46 +98,54 @@ module _ (P : ℕ → Type 0) (up down : Step → ℕ → Bool) (test : ℕ → 
         turned false true n = refl
         turned false false n = refl
 
-    -- its size
-    sized_here : (s : SlotName) → Contains (map slot_at (marks_of xs)) s → HasSize roots (home s) s (size s)
-    sized_here s among =
-        let (m, member, is) = map_cases slot_at (marks_of xs) s among in
-        subst (λ z. HasSize roots (home z) z (size z)) is (homes m member)
-
-    passing : (s : SlotName) → Contains (filter passes names) s → HasSize roots p s (size s) × (test (last_word 0 (slots s).0) ≡ true)
-    passing s among =
-        let (there, hit) = filter_cases passes names s among in
-        let (here, so) = and_parts (home s == p) (test (last_word 0 (slots s).0)) hit in
-        (subst (λ q. HasSize roots q s (size s)) (eqb-true (home s) p here) (sized_here s (in_distinct (map slot_at (marks_of xs)) s there)), so)
-
-    all_sized : (ss : List SlotName) → ((s : SlotName) → Contains ss s → HasSize roots p s (size s)) → AllZip (HasSize roots p) ss (map size ss)
-    all_sized [] each = tt
-    all_sized (s ∷ ss) each = (each s (first_in s ss), all_sized ss (λ t among. each t (later_in s t ss among)))
-
-    are_slots : AreSlots P roots xs p (filter passes names) (map size (filter passes names))
-    are_slots = record {
-      once = AllPairs-filter (λ (s t : SlotName). s ≢ t) passes names (distinct_once (map slot_at (marks_of xs)));
-      all = λ s. (
-        λ among. let (sized, so) = passing s among in (size s, last_word 0 (slots s).0, sized, has_word s, level.is (last_word 0 (slots s).0) so),
-        λ (len, w, sized, has, is).
-            let same = one_word xs s w (last_word 0 (slots s).0) lines has (has_word s) in
-            let so : test (last_word 0 (slots s).0) ≡ true = level.of (last_word 0 (slots s).0) (subst P same is) in
-            let there = marked_slot s so in
-            let here = (one_size supers partitions ps pools roots r h s (home s) p (size s) len (sized_here s there) sized).0 in
-            filter_in passes names s (distinct_in (map slot_at (marks_of xs)) s there) (and_from (home s == p) (test (last_word 0 (slots s).0)) (eq-eqb (home s) p here) so),
-      );
-      sized = all_sized (filter passes names) (λ s among. (passing s among).0);
-    }
-
-    tally_is : IsTally P roots xs p tally
-    tally_is =
+    -- so no more went out than in
+    went_in : WentIn up down home size p (marks_of xs)
+    went_in =
         let ones = weighs (λ s. 1) in
         let bytes = weighs size in
-        let a = left.slots in
-        let b = left.bytes in
-        let c = total_ones (filter passes names) in
-        let d = total_sum size (filter passes names) in
-        (filter passes names, map size (filter passes names), are_slots, omega arith, omega arith)
+        record { slots = omega arith; bytes = omega arith }
+
+    module _ (supers partitions : ℕ) (ps : List Played) (pools : List PoolEntry) (roots : Journals) (tally : Tally) (r : AreRoots partitions ps pools roots) (h : IsPoolOf supers ps pools roots) (homes : AreHomes roots home size (marks_of xs)) (left : IsLeft up down home size p (marks_of xs) tally) where
+      -- its size
+      sized_here : (s : SlotName) → Contains (map slot_at (marks_of xs)) s → HasSize roots (home s) s (size s)
+      sized_here s among =
+          let (m, member, is) = map_cases slot_at (marks_of xs) s among in
+          subst (λ z. HasSize roots (home z) z (size z)) is (homes m member)
+
+      passing : (s : SlotName) → Contains (filter passes names) s → HasSize roots p s (size s) × (test (last_word 0 (slots s).0) ≡ true)
+      passing s among =
+          let (there, hit) = filter_cases passes names s among in
+          let (here, so) = and_parts (home s == p) (test (last_word 0 (slots s).0)) hit in
+          (subst (λ q. HasSize roots q s (size s)) (eqb-true (home s) p here) (sized_here s (in_distinct (map slot_at (marks_of xs)) s there)), so)
+
+      all_sized : (ss : List SlotName) → ((s : SlotName) → Contains ss s → HasSize roots p s (size s)) → AllZip (HasSize roots p) ss (map size ss)
+      all_sized [] each = tt
+      all_sized (s ∷ ss) each = (each s (first_in s ss), all_sized ss (λ t among. each t (later_in s t ss among)))
+
+      are_slots : AreSlots P roots xs p (filter passes names) (map size (filter passes names))
+      are_slots = record {
+        once = AllPairs-filter (λ (s t : SlotName). s ≢ t) passes names (distinct_once (map slot_at (marks_of xs)));
+        all = λ s. (
+          λ among. let (sized, so) = passing s among in (size s, last_word 0 (slots s).0, sized, has_word s, level.is (last_word 0 (slots s).0) so),
+          λ (len, w, sized, has, is).
+              let same = one_word xs s w (last_word 0 (slots s).0) lines has (has_word s) in
+              let so : test (last_word 0 (slots s).0) ≡ true = level.of (last_word 0 (slots s).0) (subst P same is) in
+              let there = marked_slot s so in
+              let here = (one_size supers partitions ps pools roots r h s (home s) p (size s) len (sized_here s there) sized).0 in
+              filter_in passes names s (distinct_in (map slot_at (marks_of xs)) s there) (and_from (home s == p) (test (last_word 0 (slots s).0)) (eq-eqb (home s) p here) so),
+        );
+        sized = all_sized (filter passes names) (λ s among. (passing s among).0);
+      }
+
+      tally_is : IsTally P roots xs p tally
+      tally_is =
+          let ones = weighs (λ s. 1) in
+          let bytes = weighs size in
+          let a = left.slots in
+          let b = left.bytes in
+          let c = total_ones (filter passes names) in
+          let d = total_sum size (filter passes names) in
+          (filter passes names, map size (filter passes names), are_slots, omega arith, omega arith)
 
 live_level : IsLevel IsLive issues frees is_live
 live_level = record { balances = live_balances; first = refl; is = live_is; of = is_live_of }
@@ -148,7 +156,10 @@ quarantined_level = record { balances = quarantined_balances; first = refl; is =
 pub tallies_follow : TalliesFollow
 tallies_follow = record {
   live = λ supers partitions p ps xs pools roots home size tally given homes left.
-      tally_is IsLive issues frees is_live live_level xs given.lines given.slots supers partitions p ps pools roots home size tally given.journals given.pool homes left;
+      tally_is IsLive issues frees is_live live_level xs given.lines given.slots p home size supers partitions ps pools roots tally given.journals given.pool homes left;
   quarantined = λ supers partitions p ps xs pools roots home size tally given homes left.
-      tally_is IsQuarantined enters leaves is_quarantined quarantined_level xs given.lines given.slots supers partitions p ps pools roots home size tally given.journals given.pool homes left;
+      tally_is IsQuarantined enters leaves is_quarantined quarantined_level xs given.lines given.slots p home size supers partitions ps pools roots tally given.journals given.pool homes left;
+  freed = λ supers partitions p ps xs pools roots home size given. went_in IsLive issues frees is_live live_level xs given.lines given.slots p home size;
+  left = λ supers partitions p ps xs pools roots home size given.
+      went_in IsQuarantined enters leaves is_quarantined quarantined_level xs given.lines given.slots p home size;
 }

@@ -1,5 +1,6 @@
 ghost use Rattle.std.specs.Prelude.{◌≡◌, ◌<◌, length};
 
+use crate::changes::POISON;
 use crate::event::{Event, Item, StepFault};
 use crate::machine::{Core, core_run};
 use crate::title::Title;
@@ -19,8 +20,6 @@ const NEXT: Title = Title {
     len: 16,
     born: 0,
 };
-
-const POISON: u64 = 0xefef_efef_efef_efef;
 
 fn count(actor: u32, step: Step) -> Event {
     Event::Count {

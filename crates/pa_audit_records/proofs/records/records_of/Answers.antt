@@ -1,5 +1,5 @@
 use Rattle.std.proofs.Common.{sym, subst}
-use Rattle.pa_audit_records.specs.Marks.{RiseByLine}
+use Rattle.pa_rules.specs.Rising.{RiseByLine}
 use Rattle.pa_audit_records.proofs.Rising.{rising_played}
 use Rattle.pa_audit_records.proofs.records.records_of.Goals as goal
 

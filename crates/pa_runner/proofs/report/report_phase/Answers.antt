@@ -10,7 +10,7 @@ loop-partition-preserved g c =
       region = c.census-census.ensures.region ∙ sym c.requires.region;
       low = omega arith;
       reported = report_more c.args.phase c.loop-partition.partition _ (length c.args.workers.now) (worker_in c.args.workers.now) c.args.seat.now.view c.loop-partition.seat.view
-          c.census-census.new.seat.view c.args.report.now.items c.loop-partition.report.items c.push.new.self.items c.in_ok-line.line c.loop-partition.invariant.reported c.requires.every
-          c.census-census.ensures.keeps c.census-census.ensures.same (c.in_ok-line.ensures.2 c.census-census.new.seat.view c.census-census.ensures.taken) c.in_ok-line.ensures.0
+          c.census-census.new.seat.view c.args.report.now.items c.loop-partition.report.items c.push.new.self.items c.line_of-line.result c.loop-partition.invariant.reported c.requires.every
+          c.census-census.ensures.keeps c.census-census.ensures.same (c.line_of-line.ensures.right c.census-census.new.seat.view c.census-census.ensures.taken) c.line_of-line.ensures.partition
           c.in_ok-push.ensures.items;
     }

@@ -1,0 +1,7 @@
+use Rattle.std.proofs.Common.{◌<◌}
+use Rattle.pa_rules.specs.declared.verdict.Clause.{Clause}
+use Rattle.pa_rules.specs.Verdicts.{Holds, turn}
+use Rattle.pa_audit.proofs.clauses.audit.Given as goal
+
+abbrev pub invariant-loop-at : goal.invariant-loop-at
+invariant-loop-at l = (d : Clause) → turn d < l.at → Holds d l.trace l.run

@@ -1,0 +1,101 @@
+ghost use Rattle.std.specs.Prelude.{◌≡◌, ◌<◌, IfOk, length};
+ghost use Rattle.pa_trace.specs.Limits.{IsWithinLimits};
+ghost use Rattle.pa_record.specs.RunText.{IsPrintable};
+ghost use Rattle.pa_rules.specs.Rising.{RiseByLine};
+ghost use Rattle.pa_rules.specs.Verdicts.{IsVerdict, turn};
+ghost use Rattle.pa_audit_report.specs.Given.{AreRecordsOf};
+ghost use Rattle.pa_audit.specs.Lined.{HasLines32, HoldBefore, TellsLine};
+
+use crate::cells::cells_fail;
+use crate::heap::{pool_fails, roots_fail};
+use crate::holders::{caches_fail, holders_fail};
+use crate::order::{contents_fail, seen_fails};
+use crate::records::{lines_fail, registers_fail, slots_fail};
+use crate::report::report_fails;
+use pa_audit_records::records_of;
+use pa_machine::OutOfMemory;
+use pa_record::Run;
+use pa_rules::{Clause, Played, Verdict};
+use pa_trace::Trace;
+use pa_verdict::{legal_is, titles_never_fail};
+use std::alloc::Global;
+
+// How many clauses there are.
+const CLAUSES: u32 = 12;
+
+/// The verdict on a run of a trace: legal, or the first clause that fails, in the order of the clauses, and the first line of
+/// the run's text at which it does. Want of memory is the only error.
+pub fn audit(alloc: Global, trace: &Trace, run: &Run) -> Result<Verdict, OutOfMemory>
+    requires limits { IsWithinLimits trace.now }
+    requires printable { IsPrintable run.now }
+    requires short { HasLines32 run.now }
+    ensures { IfOk result (λ v. IsVerdict v trace.now run.now) }
+{
+    let records = records_of(alloc, trace.lines.as_slice(), run.entries.as_slice())?;
+    for at in 0..CLAUSES {
+        let clause = clause_of(at);
+        match clause_fails(alloc, trace, run, records.as_slice(), clause)? {
+            Some(line) => return Ok(Verdict::Broken(clause, line)),
+            None => {}
+        }
+    }
+    legal_is();
+    Ok(Verdict::Legal)
+}
+
+// The clause of a turn.
+fn clause_of(at: u32) -> Clause
+    requires { at < 12 }
+    ensures { turn result ≡ at }
+{
+    match at {
+        0 => Clause::Lines,
+        1 => Clause::Cells,
+        2 => Clause::Registers,
+        3 => Clause::Slots,
+        4 => Clause::Contents,
+        5 => Clause::Pool,
+        6 => Clause::Roots,
+        7 => Clause::Titles,
+        8 => Clause::Holders,
+        9 => Clause::Caches,
+        10 => Clause::Seen,
+        _ => Clause::Report,
+    }
+}
+
+// The first line at which a clause fails, where those before it hold.
+fn clause_fails(
+    alloc: Global,
+    trace: &Trace,
+    run: &Run,
+    records: &[Played],
+    clause: Clause,
+) -> Result<Option<u32>, OutOfMemory>
+    requires limits { IsWithinLimits trace.now }
+    requires records { AreRecordsOf trace.now run.now records.now }
+    requires few { length records.now < 65536 }
+    requires rising { RiseByLine records.now }
+    requires printable { IsPrintable run.now }
+    requires short { HasLines32 run.now }
+    requires before { HoldBefore clause trace.now run.now }
+    ensures { IfOk result (TellsLine clause trace.now run.now) }
+{
+    match clause {
+        Clause::Lines => Ok(lines_fail(trace, run)),
+        Clause::Cells => cells_fail(alloc, trace, run, records),
+        Clause::Registers => registers_fail(alloc, trace, run, records),
+        Clause::Slots => slots_fail(alloc, trace, run, records),
+        Clause::Contents => contents_fail(alloc, trace, run, records),
+        Clause::Pool => pool_fails(alloc, trace, run, records),
+        Clause::Roots => roots_fail(alloc, trace, run, records),
+        Clause::Titles => {
+            titles_never_fail();
+            Ok(None)
+        }
+        Clause::Holders => holders_fail(alloc, trace, run, records),
+        Clause::Caches => caches_fail(alloc, trace, run, records),
+        Clause::Seen => seen_fails(alloc, trace, run, records),
+        Clause::Report => report_fails(alloc, trace, run, records),
+    }
+}

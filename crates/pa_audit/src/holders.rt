@@ -1,0 +1,53 @@
+ghost use Rattle.std.specs.Prelude.{◌≡◌, ◌<◌, ◌≤◌, IfOk, length};
+ghost use Rattle.pa_trace.specs.Limits.{IsWithinLimits};
+ghost use Rattle.pa_rules.specs.declared.verdict.Clause.TheVariants as clauses;
+ghost use Rattle.pa_rules.specs.Rising.{RiseByLine};
+ghost use Rattle.pa_audit_report.specs.Given.{AreRecordsOf};
+ghost use Rattle.pa_audit.specs.Lined.{HasLines32, HoldBefore, TellsLine};
+
+use crate::places::line_where;
+use crate::records::record_line;
+use pa_audit_holders::{caches_meet, holders_meet};
+use pa_machine::OutOfMemory;
+use pa_record::Run;
+use pa_rules::Played;
+use pa_trace::Trace;
+use std::alloc::Global;
+
+/// The first line at which a slot isn't where the run says: a record's or an entry's of a journal.
+pub fn holders_fail(
+    alloc: Global,
+    trace: &Trace,
+    run: &Run,
+    records: &[Played],
+) -> Result<Option<u32>, OutOfMemory>
+    requires records { AreRecordsOf trace.now run.now records.now }
+    requires few { length records.now < 65536 }
+    requires rising { RiseByLine records.now }
+    requires four { length run.now.roots.items ≤ 4 }
+    requires short { HasLines32 run.now }
+    requires before { HoldBefore clauses.Holders trace.now run.now }
+    ensures { IfOk result (TellsLine clauses.Holders trace.now run.now) }
+{
+    let place = holders_meet(alloc, records, run.roots.as_slice())?;
+    Ok(line_where(run, place))
+}
+
+/// The first line at which the threads' lists of free slots ask for another answer or for other entries.
+pub fn caches_fail(
+    alloc: Global,
+    trace: &Trace,
+    run: &Run,
+    records: &[Played],
+) -> Result<Option<u32>, OutOfMemory>
+    requires limits { IsWithinLimits trace.now }
+    requires records { AreRecordsOf trace.now run.now records.now }
+    requires few { length records.now < 65536 }
+    requires four { length run.now.roots.items ≤ 4 }
+    requires short { HasLines32 run.now }
+    requires before { HoldBefore clauses.Caches trace.now run.now }
+    ensures { IfOk result (TellsLine clauses.Caches trace.now run.now) }
+{
+    let at = caches_meet(alloc, trace.partitions, records, run.roots.as_slice())?;
+    Ok(record_line(at))
+}

@@ -1,0 +1,50 @@
+ghost use Rattle.std.specs.Prelude.{◌≡◌, ◌<◌, IfOk, length};
+ghost use Rattle.pa_trace.specs.Limits.{IsWithinLimits};
+ghost use Rattle.pa_rules.specs.declared.verdict.Clause.TheVariants as clauses;
+ghost use Rattle.pa_rules.specs.Rising.{RiseByLine};
+ghost use Rattle.pa_audit_report.specs.Given.{AreRecordsOf};
+ghost use Rattle.pa_audit.specs.Lined.{HoldBefore, TellsLine};
+
+use crate::records::record_line;
+use pa_audit_order::{contents_meet, seen_meets};
+use pa_machine::OutOfMemory;
+use pa_record::Run;
+use pa_rules::Played;
+use pa_trace::Trace;
+use std::alloc::Global;
+
+/// The first line at which a record read a value which it may not give.
+pub fn contents_fail(
+    alloc: Global,
+    trace: &Trace,
+    run: &Run,
+    records: &[Played],
+) -> Result<Option<u32>, OutOfMemory>
+    requires limits { IsWithinLimits trace.now }
+    requires records { AreRecordsOf trace.now run.now records.now }
+    requires few { length records.now < 65536 }
+    requires rising { RiseByLine records.now }
+    requires before { HoldBefore clauses.Contents trace.now run.now }
+    ensures { IfOk result (TellsLine clauses.Contents trace.now run.now) }
+{
+    let at = contents_meet(alloc, records, run.cells.as_slice())?;
+    Ok(record_line(at))
+}
+
+/// The first line at which a record is before itself, or saw less of its slot than a record that is before it left.
+pub fn seen_fails(
+    alloc: Global,
+    trace: &Trace,
+    run: &Run,
+    records: &[Played],
+) -> Result<Option<u32>, OutOfMemory>
+    requires limits { IsWithinLimits trace.now }
+    requires records { AreRecordsOf trace.now run.now records.now }
+    requires few { length records.now < 65536 }
+    requires rising { RiseByLine records.now }
+    requires before { HoldBefore clauses.Seen trace.now run.now }
+    ensures { IfOk result (TellsLine clauses.Seen trace.now run.now) }
+{
+    let at = seen_meets(alloc, records, run.cells.as_slice())?;
+    Ok(record_line(at))
+}

@@ -1,0 +1,45 @@
+ghost use Rattle.std.specs.Prelude.{◌≡◌, ◌<◌, ◌≤◌, IfOk, length};
+ghost use Rattle.std.specs.Option.{option_map};
+ghost use Rattle.pa_trace.specs.Limits.{IsWithinLimits};
+ghost use Rattle.pa_rules.specs.declared.verdict.Clause.TheVariants as clauses;
+ghost use Rattle.pa_rules.specs.declared.verdict.Place.TheVariants as places;
+ghost use Rattle.pa_audit_report.specs.Given.{AreRecordsOf};
+ghost use Rattle.pa_audit.specs.Lined.{HasLines32, HoldBefore, TellsLine};
+
+use crate::places::line_where;
+use pa_audit_report::report_meets;
+use pa_machine::OutOfMemory;
+use pa_record::Run;
+use pa_rules::{Place, Played};
+use pa_trace::Trace;
+use std::alloc::Global;
+
+/// The first line of the report that isn't the one due there; behind the last one, the line that ends the run, where one is
+/// missing.
+pub fn report_fails(
+    alloc: Global,
+    trace: &Trace,
+    run: &Run,
+    records: &[Played],
+) -> Result<Option<u32>, OutOfMemory>
+    requires limits { IsWithinLimits trace.now }
+    requires records { AreRecordsOf trace.now run.now records.now }
+    requires few { length records.now < 65536 }
+    requires four { length run.now.roots.items ≤ 4 }
+    requires short { HasLines32 run.now }
+    requires before { HoldBefore clauses.Report trace.now run.now }
+    ensures { IfOk result (TellsLine clauses.Report trace.now run.now) }
+{
+    let at = report_meets(alloc, trace, run, records)?;
+    Ok(line_where(run, report_place(at)))
+}
+
+// A line of the report as a place.
+fn report_place(at: Option<u32>) -> Option<Place>
+    ensures { result ≡ option_map places.Report at }
+{
+    match at {
+        Some(at) => Some(Place::Report(at)),
+        None => None,
+    }
+}

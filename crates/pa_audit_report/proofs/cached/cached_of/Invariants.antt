@@ -1,0 +1,16 @@
+use Rattle.std.proofs.Common.{◌≡◌, length, map}
+use Rattle.pa_rules.specs.declared.played.Played.{Played}
+use Rattle.pa_rules.specs.Roots.{journal_at}
+use Rattle.pa_audit_holders.specs.Lists.{caches_in}
+use Rattle.pa_audit_report.specs.Cached.{HaveCached, HaveLed}
+use Rattle.pa_audit_report.specs.Cuts.{IsLow}
+use Rattle.pa_audit_report.proofs.cached.cached_of.Given as goal
+
+abbrev pub invariant-loop-end : goal.invariant-loop-end
+invariant-loop-end l = record {
+  many : length l.cached.items ≡ l.end-index;
+  low : IsLow (map (λ (x : Played). x.phase) l.records) l.end-index l.from;
+  threads : length l.caches.items ≡ 16;
+  led : HaveLed l.partitions (journal_at l.roots) l.records l.from (caches_in l.caches.items);
+  told : HaveCached l.partitions l.threads (journal_at l.roots) l.records l.cached.items;
+}

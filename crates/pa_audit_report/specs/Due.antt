@@ -1,0 +1,71 @@
+-- The report that is due, by partitions and by phases.
+use Rattle.std.specs.Prelude.{◌≡◌, ℕ, ◌+◌, List, ◌++◌, All, length, map}
+use Rattle.pa_record.specs.declared.census.Census.{Census}
+use Rattle.pa_record.specs.declared.pool.PoolEntry.{PoolEntry}
+use Rattle.pa_record.specs.declared.report.ReportLine.{ReportLine}
+use Rattle.pa_record.specs.declared.report.Tally.{Tally}
+use Rattle.pa_record.specs.declared.root.RootEntry.{RootEntry}
+use Rattle.pa_rules.specs.declared.played.Played.{Played}
+use Rattle.pa_rules.specs.Roots.{Journals}
+use Rattle.pa_rules.specs.Report.{HasCensus, IsReportLine, partitions_of, phases_of}
+use Rattle.pa_audit_heap.specs.declared.replay.Replay.{Replay}
+use Rattle.pa_audit_heap.specs.Replaying.{IsReplayed}
+use Rattle.pa_audit_report.specs.declared.counts.InUse.{InUse}
+use Rattle.pa_audit_report.specs.Cuts.{HasEach}
+
+-- the first j entries of the journal were played
+abbrev pub IsReplayedTo : ℕ → List PoolEntry → List RootEntry → ℕ → Replay → Type 0
+IsReplayedTo supers pools es j r = (least : ℕ) × IsReplayed supers pools es j r least
+
+-- what partition p's root has at the end of each phase
+abbrev pub HaveCensuses : List Played → List PoolEntry → Journals → ℕ → List Census → Type 0
+HaveCensuses ps pools roots p censuses = HasEach (λ i c. HasCensus ps pools roots (i + 1) p c) censuses
+
+-- the line of a partition at the end of a phase
+abbrev pub line_by : ℕ → ℕ → InUse → Tally → Census → ReportLine
+line_by phase p used cached c = record {
+  phase = phase;
+  partition = p;
+  live = used.live;
+  quarantined = used.quarantined;
+  cached = cached;
+  root = c.root;
+  committed = c.committed;
+  reserved = c.reserved;
+  full = c.full;
+  active = c.active;
+  empty = c.empty;
+  decommitted = c.decommitted;
+}
+
+-- a line is of phase n and partition p, and right
+pub record IsDueAt (partitions threads : ℕ) (ps : List Played) (pools : List PoolEntry) (roots : Journals) (phase p : ℕ)
+    (l : ReportLine) : Type 0 where
+  pub phase_is : l.phase ≡ phase
+  pub partition_is : l.partition ≡ p
+  pub right : IsReportLine partitions threads ps pools roots l
+
+-- the lines of partition p, from phase 1 on
+abbrev pub IsColumn : ℕ → ℕ → List Played → List PoolEntry → Journals → ℕ → List ReportLine → Type 0
+IsColumn partitions threads ps pools roots p lines = HasEach (λ i l. IsDueAt partitions threads ps pools roots (i + 1) p l) lines
+
+-- those of all partitions
+pub record AreColumns (phases partitions threads : ℕ) (ps : List Played) (pools : List PoolEntry) (roots : Journals)
+    (n : ℕ) (columns : List (List ReportLine)) : Type 0 where
+  pub many : length columns ≡ n
+  pub each : HasEach (λ p lines. IsColumn partitions threads ps pools roots p lines × (length lines ≡ phases)) columns
+
+-- the lines of the first phases, and those of the next one's first partitions
+abbrev pub phases_to : ℕ → ℕ → ℕ → List (ℕ × ℕ)
+phases_to partitions i p = phases_of partitions 1 i ++ partitions_of (i + 1) 0 p
+
+pub record IsReportTo (partitions threads : ℕ) (ps : List Played) (pools : List PoolEntry) (roots : Journals) (i p : ℕ)
+    (lines : List ReportLine) : Type 0 where
+  pub places : map (λ (l : ReportLine). (l.phase, l.partition)) lines ≡ phases_to partitions i p
+  pub right : All (IsReportLine partitions threads ps pools roots) lines
+
+-- the lines so far, by columns of whatever run
+abbrev pub GathersTo : ℕ → ℕ → List (List ReportLine) → ℕ → ℕ → List ReportLine → Type 0
+GathersTo phases partitions columns i p lines =
+    (threads : ℕ) (ps : List Played) (pools : List PoolEntry) (roots : Journals) →
+    AreColumns phases partitions threads ps pools roots partitions columns → IsReportTo partitions threads ps pools roots i p lines

@@ -1,0 +1,237 @@
+ghost use Rattle.std.specs.Prelude.{◌≡◌, ℕ, ◌+◌, ◌<◌, ◌≤◌, ◌^◌, [], IfOk, IfSome, IfNone, Option, length, take};
+ghost use Rattle.std.specs.Ordering.{nat_cmp};
+ghost use Rattle.std.specs.BTreeMap.{get};
+ghost use Rattle.pa_machine.specs.declared.word.Step.TheVariants as steps;
+ghost use Rattle.pa_legal.specs.Tallies.{leaves};
+ghost use Rattle.pa_audit_report.specs.declared.sizes.Sized.{Sized as Size};
+ghost use Rattle.pa_audit_report.specs.Cuts.{AreRecordCuts};
+ghost use Rattle.pa_audit_report.specs.Counts.{DoesNothing, HasCounted, HasRoom, HaveUses, IsBytesOf, IsDoneOf, IsOfOther, IsStepOf, MovesNothing, less_of, raised_by, tally_more};
+
+use crate::sizes::{Sized, size_of_slot};
+use pa_machine::{OutOfMemory, SlotName, Word, held, refs};
+use pa_record::{Answer, Seen, Tally};
+use pa_rules::Played;
+use pa_trace::Op;
+use std::alloc::Global;
+use std::collections::BTreeMap;
+
+// What steps did to the slots of one partition: how many went into use and out of it, and into quarantine and out of it.
+#[derive(Clone, Copy)]
+pub(crate) struct Count {
+    pub(crate) issued: Tally,
+    pub(crate) freed: Tally,
+    pub(crate) entered: Tally,
+    pub(crate) left: Tally,
+}
+
+// The slots in use of one partition.
+#[derive(Clone, Copy)]
+pub(crate) struct InUse {
+    pub(crate) live: Tally,
+    pub(crate) quarantined: Tally,
+}
+
+// The slots of a partition that are in use at the end of each phase. The records of the first phases end at these places.
+pub(crate) fn in_use_of(
+    alloc: Global,
+    partition: u32,
+    records: &[Played],
+    ends: &[usize],
+    sizes: &BTreeMap<u64, Sized>,
+) -> Result<Vec<InUse>, OutOfMemory>
+    requires partition { partition < 4 }
+    requires few { length records.now < 65536 }
+    requires ends { AreRecordCuts records.now ends.now }
+    ensures many { IfOk result (λ uses. length uses.items ≡ length ends.now) }
+    ensures uses { IfOk result (λ uses. HaveUses (get nat_cmp sizes.now) partition records.now uses.items) }
+{
+    let mut uses = Vec::new(alloc);
+    let mut count = no_count();
+    let mut from = 0;
+    for end in ends {
+        count = count_on(partition, records, sizes, count, from, *end);
+        from = *end;
+        uses.push(in_use(count))?;
+    }
+    Ok(uses)
+}
+
+// The count with the records of these places.
+fn count_on(
+    partition: u32,
+    records: &[Played],
+    sizes: &BTreeMap<u64, Sized>,
+    before: Count,
+    from: usize,
+    end: usize,
+) -> Count
+    requires partition { partition < 4 }
+    requires few { length records.now < 65536 }
+    requires order { from ≤ end }
+    requires within { end ≤ length records.now }
+    requires counted { HasCounted (get nat_cmp sizes.now) partition (take from records.now) before }
+    ensures { HasCounted (get nat_cmp sizes.now) partition (take end records.now) result }
+{
+    let mut count = before;
+    for at in from..end {
+        count = count_record(partition, records, sizes, count, at);
+    }
+    count
+}
+
+// The count with the record of this place.
+fn count_record(
+    partition: u32,
+    records: &[Played],
+    sizes: &BTreeMap<u64, Sized>,
+    count: Count,
+    at: usize,
+) -> Count
+    requires partition { partition < 4 }
+    requires few { length records.now < 65536 }
+    requires within { at < length records.now }
+    requires counted { HasCounted (get nat_cmp sizes.now) partition (take at records.now) count }
+    ensures { HasCounted (get nat_cmp sizes.now) partition (take (at + 1) records.now) result }
+{
+    match step_by(records[at]) {
+        None => count,
+        Some(stepped) => match bytes_in(partition, sizes, stepped.slot) {
+            None => count,
+            Some(bytes) => raised(count, stepped, bytes),
+        },
+    }
+}
+
+// The bytes of a slot of this partition.
+fn bytes_in(partition: u32, sizes: &BTreeMap<u64, Sized>, slot: SlotName) -> Option<u32>
+    requires partition { partition < 4 }
+    ensures some { IfSome result (IsBytesOf (get nat_cmp sizes.now) partition slot) }
+    ensures small { IfSome result (λ b. b < 4294967296) }
+    ensures none { IfNone result (IsOfOther (get nat_cmp sizes.now) partition slot) }
+{
+    let sized = size_of_slot(sizes, slot)?;
+    if sized.partition == partition {
+        Some(sized.bytes)
+    } else {
+        None
+    }
+}
+
+// A step that a record made on a slot, and in which counts it goes.
+#[derive(Clone, Copy)]
+struct Stepped {
+    slot: SlotName,
+    issues: bool,
+    frees: bool,
+    enters: bool,
+    leaves: bool,
+}
+
+// The step by which a record makes a count grow. None where it makes none of them grow.
+fn step_by(told: Played) -> Option<Stepped>
+    ensures some { IfSome result (IsStepOf told) }
+    ensures none { IfNone result (MovesNothing told) }
+{
+    match told.answer {
+        Answer::Made { seen, .. } => Some(Stepped {
+            slot: seen.slot,
+            issues: true,
+            frees: false,
+            enters: false,
+            leaves: false,
+        }),
+        Answer::Done { seen } => done(told.op, seen),
+        _ => None,
+    }
+}
+
+fn done(op: Op, seen: Seen) -> Option<Stepped>
+    ensures some { IfSome result (IsDoneOf op seen) }
+    ensures none { IfNone result (DoesNothing op) }
+{
+    match op {
+        Op::Free { .. } => Some(Stepped {
+            slot: seen.slot,
+            issues: false,
+            frees: true,
+            enters: refs(seen.found) != 0,
+            leaves: false,
+        }),
+        Op::Reset { .. } => Some(Stepped {
+            slot: seen.slot,
+            issues: false,
+            frees: false,
+            enters: false,
+            leaves: is_last(seen.found),
+        }),
+        _ => None,
+    }
+}
+
+// Whether a reset of this word is the last one of a slot that was freed.
+fn is_last(found: Word) -> bool
+    ensures { result ≡ leaves steps.Reset found.0 }
+{
+    !held(found) && refs(found) == 1
+}
+
+// The count with a step on a slot of so many bytes.
+fn raised(count: Count, stepped: Stepped, bytes: u32) -> Count
+    requires { HasRoom count }
+    ensures { result ≡ raised_by count stepped bytes }
+{
+    Count {
+        issued: more(count.issued, stepped.issues, bytes),
+        freed: more(count.freed, stepped.frees, bytes),
+        entered: more(count.entered, stepped.enters, bytes),
+        left: more(count.left, stepped.leaves, bytes),
+    }
+}
+
+// A tally with a slot more of so many bytes, where it counts.
+fn more(tally: Tally, counts: bool, bytes: u32) -> Tally
+    requires slots { tally.slots < 65536 }
+    requires bytes { tally.bytes < 2 ^ 48 }
+    ensures { result ≡ tally_more tally counts bytes }
+{
+    if !counts {
+        return tally;
+    }
+    Tally {
+        slots: tally.slots + 1,
+        bytes: tally.bytes + u64::from(bytes),
+    }
+}
+
+// No steps.
+fn no_count() -> Count
+    ensures { (sizes : ℕ → Option Size) (p : ℕ) → HasCounted sizes p [] result }
+{
+    let none = Tally { slots: 0, bytes: 0 };
+    Count {
+        issued: none,
+        freed: none,
+        entered: none,
+        left: none,
+    }
+}
+
+// What went in less what went out. No more goes out than in.
+fn in_use(count: Count) -> InUse
+    ensures live { result.live ≡ less_of count.issued count.freed }
+    ensures quarantined { result.quarantined ≡ less_of count.entered count.left }
+{
+    InUse {
+        live: less(count.issued, count.freed),
+        quarantined: less(count.entered, count.left),
+    }
+}
+
+fn less(into: Tally, out: Tally) -> Tally
+    ensures { result ≡ less_of into out }
+{
+    Tally {
+        slots: into.slots.saturating_sub(out.slots),
+        bytes: into.bytes.saturating_sub(out.bytes),
+    }
+}

@@ -1,0 +1,212 @@
+ghost use Rattle.std.specs.Prelude.{◌≡◌, ℕ, ◌+◌, ◌-◌, ◌<◌, ◌≤◌, ◌^◌, IfOk, List, Option, length};
+ghost use Rattle.std.specs.Ordering.{nat_cmp};
+ghost use Rattle.std.specs.BTreeMap.{get};
+ghost use Rattle.pa_trace.specs.Limits.{IsWithinLimits};
+ghost use Rattle.pa_rules.specs.Roots.{journal_at};
+ghost use Rattle.pa_rules.specs.Legal.{phases_in};
+ghost use Rattle.pa_rules.specs.Report.{IsReport};
+ghost use Rattle.pa_rules.specs.declared.played.Played.{Played as Record};
+ghost use Rattle.pa_rules.specs.Roots.{Journals};
+ghost use Rattle.pa_record.specs.declared.pool.PoolEntry.{PoolEntry as Entry};
+ghost use Rattle.pa_audit_report.specs.Counts.{HaveUses};
+ghost use Rattle.pa_audit_report.specs.declared.sizes.Sized.{Sized as Size};
+ghost use Rattle.pa_audit_report.specs.Cuts.{AreRecordCuts, HasEach};
+ghost use Rattle.pa_audit_report.specs.Cached.{HaveCached};
+ghost use Rattle.pa_audit_report.specs.Due.{AreColumns, HaveCensuses, IsColumn, IsDueAt, line_by};
+ghost use Rattle.pa_audit_report.specs.Given.{IsGiven};
+ghost use Rattle.pa_audit_report.specs.Sized.{KnowsSizes};
+
+use crate::cached::cached_of;
+use crate::census::censuses_of;
+use crate::counts::{InUse, in_use_of};
+use crate::ends::ends_of;
+use crate::phases::{phases_in, record_phases};
+use crate::sizes::{Sized, sizes_of};
+use pa_machine::OutOfMemory;
+use pa_record::{Census, ReportLine, Run, Tally};
+use pa_rules::Played;
+use pa_trace::Trace;
+use std::alloc::Global;
+use std::collections::BTreeMap;
+use std::marker::Model;
+
+// The lines of a report that speak of one partition, from phase 1 on. They are seen as the list of them.
+#[derive(Drop)]
+pub(crate) struct Column {
+    lines: Vec<ReportLine>,
+}
+
+impl Model for Column {
+    ghost use Rattle.std.specs.Prelude.{List};
+    ghost use Rattle.pa_record.specs.declared.report.ReportLine.{ReportLine};
+
+    ghost Value = { List ReportLine };
+
+    ghost view = { λ c. c.lines.items };
+}
+
+impl Column {
+    fn items(&self) -> &[ReportLine]
+        ensures { result.now ≡ self.now }
+    {
+        self.lines.as_slice()
+    }
+}
+
+// The report that is due.
+pub(crate) fn due_report(
+    alloc: Global,
+    trace: &Trace,
+    run: &Run,
+    records: &[Played],
+) -> Result<Vec<ReportLine>, OutOfMemory>
+    requires limits { IsWithinLimits trace.now }
+    requires few { length records.now < 65536 }
+    requires pools { length run.now.pool.items < 2 ^ 32 - 1 }
+    requires four { length run.now.roots.items ≤ 4 }
+    requires entries { (p : ℕ) → length (journal_at run.now.roots.items p) < 2 ^ 32 }
+    requires given { IsGiven trace.now.region trace.now.partitions records.now run.now.pool.items (journal_at run.now.roots.items) }
+    ensures { IfOk result (λ lines. IsReport (phases_in trace.now.lines) trace.now.partitions trace.now.threads records.now
+        run.now.pool.items (journal_at run.now.roots.items) lines.items) }
+{
+    let phases = phases_in(trace.lines.as_slice());
+    let record_phases = record_phases(alloc, records)?;
+    let ends = ends_of(alloc, record_phases.as_slice(), phases)?;
+    let sizes = sizes_of(alloc, run.roots.as_slice())?;
+    let cached = cached_of(
+        alloc,
+        trace.partitions,
+        trace.threads,
+        records,
+        ends.as_slice(),
+        run.roots.as_slice(),
+    )?;
+    let mut columns = Vec::new(alloc);
+    for partition in 0..trace.partitions {
+        let column = column_of(
+            alloc,
+            trace,
+            run,
+            records,
+            phases,
+            ends.as_slice(),
+            &sizes,
+            cached.as_slice(),
+            partition,
+        )?;
+        columns.push(column)?;
+    }
+    let lines = by_phases(alloc, phases, trace.partitions, columns.as_slice())?;
+    Ok(lines)
+}
+
+// The lines of a partition.
+fn column_of(
+    alloc: Global,
+    trace: &Trace,
+    run: &Run,
+    records: &[Played],
+    phases: u32,
+    ends: &[usize],
+    sizes: &BTreeMap<u64, Sized>,
+    cached: &[[Tally; 4]],
+    partition: u32,
+) -> Result<Column, OutOfMemory>
+    requires limits { IsWithinLimits trace.now }
+    requires few { length records.now < 65536 }
+    requires pools { length run.now.pool.items < 2 ^ 32 - 1 }
+    requires entries { (p : ℕ) → length (journal_at run.now.roots.items p) < 2 ^ 32 }
+    requires given { IsGiven trace.now.region trace.now.partitions records.now run.now.pool.items (journal_at run.now.roots.items) }
+    requires phases { phases < 2 ^ 32 - 1 }
+    requires ends { AreRecordCuts records.now ends.now }
+    requires many { length ends.now ≡ phases }
+    requires sizes { KnowsSizes (journal_at run.now.roots.items) (get nat_cmp sizes.now) }
+    requires cached { HaveCached trace.now.partitions trace.now.threads (journal_at run.now.roots.items) records.now cached.now }
+    requires listed { length cached.now ≡ phases }
+    requires partition { partition < trace.now.partitions }
+    ensures long { IfOk result (λ lines. length lines ≡ phases) }
+    ensures column { IfOk result (λ lines. IsColumn trace.now.partitions trace.now.threads records.now run.now.pool.items
+        (journal_at run.now.roots.items) partition lines) }
+{
+    let uses = in_use_of(alloc, partition, records, ends, sizes)?;
+    let censuses = censuses_of(
+        alloc,
+        trace.region,
+        trace.partitions,
+        phases,
+        records,
+        run.pool.as_slice(),
+        run.roots.as_slice(),
+        partition,
+    )?;
+    let mut lines = Vec::new(alloc);
+    for at in 0..phases {
+        let line = line_at(uses.as_slice(), cached, censuses.as_slice(), partition, at);
+        lines.push(line)?;
+    }
+    Ok(Column { lines })
+}
+
+// The line of a partition at the end of a phase, by its place among those that stand in the lists.
+fn line_at(
+    uses: &[InUse],
+    cached: &[[Tally; 4]],
+    censuses: &[Census],
+    partition: u32,
+    at: u32,
+) -> ReportLine
+    requires partition { partition < 4 }
+    requires at { at < 2 ^ 32 - 1 }
+    requires used { at < length uses.now }
+    requires listed { at < length cached.now }
+    requires counted { at < length censuses.now }
+    ensures { (supers partitions threads : ℕ) (ps : List Record) (pools : List Entry) (roots : Journals) (sizes : ℕ → Option Size) →
+        IsGiven supers partitions ps pools roots → KnowsSizes roots sizes → HaveUses sizes partition ps uses.now →
+        HaveCached partitions threads roots ps cached.now → HaveCensuses ps pools roots partition censuses.now →
+        IsDueAt partitions threads ps pools roots (at + 1) partition result }
+{
+    let place = at as usize;
+    let listed = cached[place][partition as usize];
+    line_of(at + 1, partition, uses[place], listed, censuses[place])
+}
+
+fn line_of(phase: u32, partition: u32, used: InUse, cached: Tally, census: Census) -> ReportLine
+    ensures { result ≡ line_by phase partition used cached census }
+{
+    ReportLine {
+        phase,
+        partition,
+        live: used.live,
+        quarantined: used.quarantined,
+        cached,
+        root: census.root,
+        committed: census.committed,
+        reserved: census.reserved,
+        full: census.full,
+        active: census.active,
+        empty: census.empty,
+        decommitted: census.decommitted,
+    }
+}
+
+// All lines, by phases and then by partitions.
+fn by_phases(
+    alloc: Global,
+    phases: u32,
+    partitions: u32,
+    columns: &[Column],
+) -> Result<Vec<ReportLine>, OutOfMemory>
+    requires many { length columns.now ≡ partitions }
+    requires long { HasEach (λ p lines. length lines ≡ phases) columns.now }
+    ensures { IfOk result (λ all. (threads : ℕ) (ps : List Record) (pools : List Entry) (roots : Journals) →
+        AreColumns phases partitions threads ps pools roots partitions columns.now → IsReport phases partitions threads ps pools roots all.items) }
+{
+    let mut lines = Vec::new(alloc);
+    for at in 0..phases {
+        for partition in 0..partitions {
+            let column = columns[partition as usize].items();
+            lines.push(column[at as usize])?;
+        }
+    }
+    Ok(lines)
+}

@@ -1,0 +1,16 @@
+//! The checker for the clause of a legal run that speaks of the report: it works the whole report out, and tells the first
+//! line that isn't the one that is due.
+#![tactic(auto)]
+
+mod cached;
+mod census;
+mod counts;
+mod due;
+mod ends;
+mod phases;
+mod report;
+mod sizes;
+#[cfg(test)]
+mod tests;
+
+pub use report::report_meets;

@@ -1,0 +1,211 @@
+-- A heap was closed in which all phases of a trace were played: what it leaves is the whole run of their course.
+use Rattle.std.proofs.Common.{◌≡◌, ℕ, ◌*◌, ◌<◌, ◌≤◌, List, [], ◌∷◌, length, map, filter, refl, sym, ◌∙◌, ap, subst, arith, inl, inr}
+use Rattle.std.specs.Prelude.{Contains, All, ◌==◌}
+use Rattle.std.proofs.lemmas.Bool.{cases_Bool, lt-ltb}
+use Rattle.std.proofs.lemmas.List.{get_or_past}
+use Rattle.std.proofs.lemmas.List.Elements.{All-get_or, All-from_get_or}
+use Rattle.pa_machine.specs.declared.title.Title.{Title}
+use Rattle.pa_record.specs.declared.entry.Entry.{Entry}
+use Rattle.pa_record.specs.declared.numbered.Numbered.{Numbered}
+use Rattle.pa_record.specs.declared.report.ReportLine.{ReportLine}
+use Rattle.pa_record.specs.Spans.{name_of}
+use Rattle.pa_record.proofs.Joined.{map_cases, map_in}
+use Rattle.pa_region.specs.declared.view.View.{View}
+use Rattle.pa_region.specs.Views.{HasEveryStake, free_of}
+use Rattle.pa_region.specs.Lists.{list_of}
+use Rattle.pa_region.specs.Takes.{log_of}
+use Rattle.pa_trace.specs.declared.script.Line.{Line}
+use Rattle.pa_trace.specs.declared.script.Trace.{Trace}
+use Rattle.pa_trace.specs.Limits.{IsWithinLimits}
+use Rattle.pa_rules.specs.Played.{entry_of}
+use Rattle.pa_rules.specs.Caches.{Cache}
+use Rattle.pa_rules.specs.Told.{Told}
+use Rattle.pa_rules.specs.Legal.{phases_in, IsLegalTold}
+use Rattle.pa_rules.specs.Held.{IsHeldIn}
+use Rattle.pa_rules.proofs.Recorded.{records_are_lines}
+use Rattle.pa_told.specs.Told.{ToldRecord, played_in, is_of_thread}
+use Rattle.pa_told.specs.Touches.{title_of}
+use Rattle.pa_told.specs.Said.{sizes_in, IsLineSaid, LayersSay, CloseSays}
+use Rattle.pa_told.proofs.Due.{place_is}
+use Rattle.pa_told.proofs.Said.{layers_tell_all}
+use Rattle.pa_cells.specs.Cells.{Exchange}
+use Rattle.pa_cells.specs.Handles.{SlotsStaySeen}
+use Rattle.pa_root.specs.Handing.{at_number_seen}
+use Rattle.pa_heap.specs.declared.left.Left.{Left}
+use Rattle.pa_heap.specs.Closing.{LeavesWorker, HasTold, IsClosedBy, journal_left, history_left}
+use Rattle.pa_heap.specs.Stocks.{titles_in, listed_in, listed_slot}
+use Rattle.pa_heap.specs.Workers.{WorkerValue}
+use Rattle.pa_heap.proofs.Seeing.{slot_in_run}
+use Rattle.pa_course.specs.Courses.{Course, HasSeenAll}
+use Rattle.pa_course.specs.Merged.{told_in, lists_at, outcome_of}
+use Rattle.pa_course.specs.Telling.{IsWholeRun}
+use Rattle.pa_course.specs.Lines.{IsLineBy}
+use Rattle.pa_course.proofs.Chaining.{sees_last}
+use Rattle.pa_course.proofs.Fitting.{is_outcome, seen_of_it}
+use Rattle.pa_course.proofs.Grouping.{are_lines, all_until}
+use Rattle.pa_course.proofs.Keepers.{courses_tell_all, lists_told}
+use Rattle.pa_course.proofs.Lining.{courses_tell_lines}
+use Rattle.pa_course.proofs.Recording.{workers_have_theirs}
+use Rattle.pa_runner.specs.Merging.{is_entry_of, IsMergeOf}
+use Rattle.pa_runner.specs.Phases.{no_worker, worker_in}
+use Rattle.pa_runner.specs.Whole.{HasPlayed}
+
+-- the records of a course
+abbrev pub entries_of : Trace → Course → List Entry
+entries_of t c = map entry_of (played_in (told_in t c))
+
+-- what is told of a run, by its course, by what the close left, and by its report
+abbrev pub told_of : Trace → Course → Left → List ReportLine → Told
+told_of t c left report =
+    record { entries = entries_of t c; roots = journal_left left; pools = left.pool.items; cells = history_left left; report = report }
+
+-- the entries of a thread's records are those of its number
+thread_entries : (k : ℕ) (xs : List ToldRecord) → map entry_of (played_in (filter (is_of_thread k) xs)) ≡ filter (is_entry_of k) (map entry_of (played_in xs))
+thread_entries k [] = refl
+thread_entries k (x ∷ xs) = elim (cases_Bool (x.played.thread == k)) [
+  | inl y ↦ rw y (ap (λ es. entry_of x.played ∷ es) (thread_entries k xs))
+  | inr n ↦ rw n (thread_entries k xs)
+]
+
+module _ (t : Trace) (workers : List WorkerValue) (seat : View) (report : List ReportLine) (limits : IsWithinLimits t) (went : HasPlayed t workers seat report) where
+  -- ---- the records, before the close
+
+  pub are_merged : IsMergeOf t.lines workers (entries_of t went.course)
+  are_merged =
+      let c = went.course in
+      let course = went.ended.course in
+      let n = phases_in t.lines in
+      let ts = told_in t c in
+      let count = went.same_count in
+      let theirs = workers_have_theirs t c limits course in
+      record {
+        due = records_are_lines.due t.lines (played_in ts) (are_lines t c limits course);
+        theirs = λ k below.
+            let few : k < t.threads = omega arith in
+            let told : (worker_in workers k).records ≡ (worker_in went.ends k).records = ap (λ (w : WorkerValue). w.records) (went.told.told k few) in
+            let ended : (c.ends n k).records ≡ (worker_in went.ends k).records = ap (λ (w : WorkerValue). w.records) (went.ended.ends k few) in
+            told ∙ (sym ended ∙ (theirs.records n k (omega arith) (omega arith) few
+            ∙ (ap (λ (xs : List ToldRecord). map entry_of (played_in (filter (is_of_thread k) xs))) (all_until t c limits course) ∙ thread_entries k ts)));
+      }
+
+  -- as the slices of both are
+  pub are_merged_in : (ls : List Line) (ws : List WorkerValue) → ls ≡ t.lines → ws ≡ workers → IsMergeOf ls ws (entries_of t went.course)
+  are_merged_in ls ws lines all =
+      subst (λ (zs : List Line). IsMergeOf zs ws (entries_of t went.course)) (sym lines)
+      (subst (λ (zs : List WorkerValue). IsMergeOf t.lines zs (entries_of t went.course)) (sym all) are_merged)
+
+  -- ---- what the close asks for
+
+  pub seat_has : HasEveryStake seat
+  seat_has = subst HasEveryStake went.ended.seat (went.ended.course.tells (phases_in t.lines) (omega arith) (omega arith)).every
+
+  pub have_told : All HasTold workers
+  have_told = All-from_get_or HasTold workers no_worker (λ k low. let count = went.same_count in went.told.none k (omega arith))
+
+  -- ---- the whole run
+
+  module _ (words : ℕ) (left : Left) (long : words ≡ 262144 * t.region) (four : length left.roots ≡ 4) (closed : IsClosedBy words workers seat left) where
+    abbrev pub run_told : Told
+    run_told = told_of t went.course left report
+
+    abbrev exchanges : List Exchange
+    exchanges = closed.lists.exchanges.0
+
+    pub is_whole : IsWholeRun t run_told went.course closed.last exchanges
+    is_whole = record {
+      course = went.ended.course;
+      closes = record {
+        aware = closed.aware;
+        every = closed.every;
+        logs = λ k. closed.logs k ∙ ap (log_of k) (sym went.ended.seat);
+        sees = subst (λ s. HasSeenAll s closed.last) (sym went.ended.seat) (record { lists = closed.within.lists; seen = closed.within.seen });
+      };
+      left = record {
+        limits = limits;
+        entries = refl;
+        pool = closed.lists.pool;
+        fits = closed.lists.fits t.region long;
+        lists = closed.lists.lists;
+        journals = closed.lists.journals;
+        past = λ p far. get_or_past left.roots p [] (let f = four in omega arith);
+        numbers = closed.lists.numbers;
+        exchanges = closed.lists.exchanges.1.numbers;
+        cells = closed.lists.exchanges.1.cells;
+        chain = closed.lists.chain;
+        places = went.places;
+      };
+    }
+
+    -- ---- the lines of the report
+
+    line_by : (l : ReportLine) → Contains report l → IsLineBy t went.course closed.last l
+    line_by l among =
+        let place : ℕ × ℕ = (l.phase, l.partition) in
+        let at = place_is t.partitions 1 (phases_in t.lines) place
+        (subst (λ ns. Contains ns place) went.places (map_in (λ (z : ReportLine). (z.phase, z.partition)) report l among)) in
+        let low : 1 ≤ l.phase = at.low in
+        let high = at.high in
+        let inside : l.phase ≤ phases_in t.lines = omega arith in
+        let is = went.right l among in
+        let seen = sees_last t went.course limits went.ended.course closed.last is_whole.closes l.phase low inside in
+        record {
+          live = is.live;
+          quarantined = is.quarantined;
+          cached = is.cached;
+          root = is.root (list_of 4 closed.last) left.pool.items (seen.lists 4) closed.lists.pool;
+        }
+
+    lines_said : (l : ReportLine) → Contains report l →
+        IsLineSaid t run_told closed.last (told_in t went.course) (lists_at t went.course l.phase) (went.course.seats l.phase) l
+    lines_said l among = courses_tell_lines t run_told went.course closed.last exchanges is_whole l among (line_by l among)
+
+    all_say : LayersSay t run_told closed.last (told_in t went.course)
+    all_say = courses_tell_all t run_told went.course closed.last exchanges is_whole lines_said
+
+    lists_say : (n : ℕ) → all_say.lists n ≡ lists_at t went.course n
+    unfolding all_say
+    lists_say n = lists_told t run_told went.course closed.last exchanges is_whole lines_said n
+
+    pub is_legal : IsLegalTold t run_told
+    is_legal = layers_tell_all.legal t run_told closed.last (told_in t went.course) all_say
+
+    -- ---- what is asked of the closing seat
+
+    -- what a worker has on its lists when it told it had there at the end of the last phase
+    same_lists : (k : ℕ) → k < t.threads → (worker_in workers k).stock.caches ≡ (went.course.ends (phases_in t.lines) k).stock.caches
+    same_lists k few =
+        ap (λ (w : WorkerValue). w.stock.caches) (went.told.told k few) ∙ ap (λ (w : WorkerValue). w.stock.caches) (sym (went.ended.ends k few))
+
+    listed_free : SlotsStaySeen → (k p class : ℕ) (m : Numbered) → k < t.threads → p < t.partitions → class < 59 →
+        Contains (lists_at t went.course (phases_in t.lines) k p class) m → 0 < free_of closed.last (title_of (sizes_in t run_told) m.slot)
+    listed_free stay k p class m few real low among =
+        let n = phases_in t.lines in
+        let last_worker = went.course.ends n k in
+        let has : lists_at t went.course n k ≡ listed_in last_worker.stock = rw (lt-ltb k t.threads few) refl in
+        let there : Contains (listed_in last_worker.stock p class) m = subst (λ (z : Cache). Contains (z p class) m) has among in
+        let (u, listed, is) = map_cases (at_number_seen last_worker.stock.view) (titles_in last_worker.stock.caches p class) m there in
+        let w = worker_in workers k in
+        let count = went.same_count in
+        let leaves : LeavesWorker closed.last w = All-get_or (LeavesWorker closed.last) workers k no_worker (omega arith) closed.workers in
+        let mine : Contains (titles_in w.stock.caches p class) u = subst (λ cs. Contains (titles_in cs p class) u) (sym (same_lists k few)) listed in
+        let free = leaves.stock.lists.free p class u mine in
+        let more = leaves.within.frees u in
+        let made = stay (listed_slot p class u) w.stock.view closed.last (leaves.stock.lists.made p class u mine) (leaves.within.lists p) in
+        let slot = slot_in_run (outcome_of t run_told) closed.last (listed_slot p class u) (is_outcome t run_told went.course closed.last exchanges is_whole)
+        (seen_of_it t run_told went.course closed.last exchanges is_whole) made in
+        let named : name_of u ≡ m.slot = ap (λ (z : Numbered). z.slot) is in
+        let title : title_of (sizes_in t run_told) m.slot ≡ u = ap (title_of (sizes_in t run_told)) (sym named) ∙ slot.title in
+        subst (λ (z : Title). 0 < free_of closed.last z) (sym title) (omega arith)
+
+    close_says : SlotsStaySeen → CloseSays t run_told closed.last (told_in t went.course) (lists_at t went.course (phases_in t.lines))
+    close_says stay = record {
+      unmaps = (workers_have_theirs t went.course limits went.ended.course).unmaps;
+      rooted = closed.rooted;
+      listed = listed_free stay;
+      clean = closed.clean;
+    }
+
+    pub is_held : SlotsStaySeen → IsHeldIn t run_told left.region
+    is_held stay =
+        layers_tell_all.held left.region t run_told closed.last (told_in t went.course) all_say
+        (subst (CloseSays t run_told closed.last (told_in t went.course)) (sym (lists_say (phases_in t.lines))) (close_says stay)) closed.ends

@@ -1,0 +1,65 @@
+-- A trace that is played phase after phase, up to a place among its lines: the phases before are over, and the lines of the phase of that
+-- place stand in the queues of their threads.
+use Rattle.std.specs.Prelude.{◌≡◌, ℕ, ◌+◌, ◌<◌, ◌≤◌, List, [], ◌∷◌, false, map, length, take, slice_index_or, Contains}
+use Rattle.std.specs.List.{AllByRecursion}
+use Rattle.pa_trace.specs.declared.script.Line.{Line}
+use Rattle.pa_trace.specs.declared.script.Line.TheVariants.{Phase}
+use Rattle.pa_trace.specs.declared.script.Trace.{Trace}
+use Rattle.pa_trace.specs.Limits.{IsOpWithin}
+use Rattle.pa_record.specs.declared.report.ReportLine.{ReportLine}
+use Rattle.pa_region.specs.declared.view.View.{View}
+use Rattle.pa_rules.specs.Legal.{phases_in}
+use Rattle.pa_rules.specs.Report.{phases_of}
+use Rattle.pa_heap.specs.Workers.{WorkerValue, HasItsStake}
+use Rattle.pa_course.specs.Courses.{Course, HasSeenAll, lines_in}
+use Rattle.pa_course.specs.Growing.{HasBegun}
+use Rattle.pa_course.specs.Gathering.{IsMain}
+use Rattle.pa_runner.specs.declared.playing.LineOp.{LineOp}
+use Rattle.pa_runner.specs.Playing.{in_phase, AreBefore}
+use Rattle.pa_runner.specs.Phases.{queue_in, worker_in}
+use Rattle.pa_runner.specs.Reporting.{IsLineFor}
+use Rattle.pa_runner.specs.Tracing.{lines_by}
+
+-- the lines rise, from line n on, and are all before line `last`
+abbrev pub RiseTo : ℕ → List LineOp → ℕ → Type 0
+RiseTo n [] last = n ≤ last
+RiseTo n (due ∷ rest) last = (n ≤ due.line) × RiseTo (due.line + 1) rest last
+
+-- At place i of the trace's lines the worker of thread k has a record of each of its lines of the phases that are over, and its queue
+-- has its lines of this phase, up to that place.
+pub record IsAtPlace (t : Trace) (i k : ℕ) (queue : List LineOp) (w : WorkerValue) : Type 0 where
+  pub thread : w.stock.thread ≡ k
+  pub partitions : w.stock.partitions ≡ t.partitions
+  pub going : w.stopped ≡ false
+  pub stake : HasItsStake w.stock
+  pub room : w.room ≡ lines_by k t.lines
+  pub count : length w.records + length queue ≡ lines_by k (take i t.lines)
+  pub limits : AllByRecursion (λ (due : LineOp). IsOpWithin t.partitions due.op) queue
+  pub rise : (n : ℕ) × AreBefore n w.records × RiseTo n queue (i + 2)
+  pub lines : map (in_phase (phases_in (take i t.lines)) k) queue ≡ lines_in (take i t.lines) (phases_in (take i t.lines)) k
+
+-- The report has a line for each partition of the first so many phases, and each is right of the end of its phase.
+pub record IsReportOf (t : Trace) (phases : ℕ) (course : Course) (report : List ReportLine) : Type 0 where
+  pub places : map (λ (l : ReportLine). (l.phase, l.partition)) report ≡ phases_of t.partitions 1 phases
+  pub within : (l : ReportLine) → Contains report l → (1 ≤ l.phase) × (l.phase ≤ phases)
+  pub right : (l : ReportLine) → Contains report l → IsLineFor l.phase t.threads (course.ends l.phase) (course.seats l.phase) l
+
+-- At place i of the trace's lines this is the phase; those before are over, and all workers have heard since.
+pub record IsUnderWay (t : Trace) (i phase : ℕ) (workers : List WorkerValue) (queues : List (List LineOp)) (seat : View)
+    (report : List ReportLine) : Type 0 where
+  pub over : ℕ
+  pub phase_is : phase ≡ over + 1
+  pub here : phases_in (take i t.lines) ≡ phase
+  pub many : length workers ≡ t.threads
+  pub count : length queues ≡ t.threads
+  pub main : IsMain t.threads seat
+  pub course : Course
+  pub begun : HasBegun t over course (worker_in workers)
+  pub seen : 1 ≤ over → HasSeenAll (course.seats over) seat
+  pub each : (k : ℕ) → k < t.threads → IsAtPlace t i k (queue_in queues k) (worker_in workers k)
+  pub reported : IsReportOf t over course report
+
+-- a new phase begins at place i
+pub record BeginsPhase (i : ℕ) (lines : List Line) : Type 0 where
+  pub low : i < length lines
+  pub is : slice_index_or lines i Phase ≡ Phase

@@ -1,0 +1,40 @@
+-- All phases of a trace, and the run that is left of them.
+use Rattle.std.specs.Prelude.{◌≡◌, ℕ, ◌*◌, List, map, length, Contains}
+use Rattle.pa_trace.specs.declared.script.Trace.{Trace}
+use Rattle.pa_record.specs.declared.report.ReportLine.{ReportLine}
+use Rattle.pa_record.specs.declared.run.Run.{Run}
+use Rattle.pa_record.specs.RunText.{IsPrintable}
+use Rattle.pa_region.specs.declared.view.View.{View}
+use Rattle.pa_rules.specs.Report.{phases_of}
+use Rattle.pa_rules.specs.Told.{told_by}
+use Rattle.pa_rules.specs.Legal.{phases_in, IsLegal}
+use Rattle.pa_rules.specs.Held.{IsHeldIn}
+use Rattle.pa_heap.specs.Workers.{WorkerValue}
+use Rattle.pa_course.specs.Courses.{Course}
+use Rattle.pa_course.specs.Growing.{HasEnded}
+use Rattle.pa_course.specs.Gathering.{IsMain}
+use Rattle.pa_runner.specs.Phases.{HaveTold, worker_in}
+use Rattle.pa_runner.specs.Reporting.{IsLineFor}
+
+-- All phases of a trace were played by workers that began new: so they went.
+--   ends, ended, told: the workers were as `ends` when the last phase was over; then each told the main seat, which has heard all
+--   main: that seat has every other stake besides, and no unclean Own
+--   places, right: the report has one line for each phase and partition in order, and each is right of the end of its phase
+pub record HasPlayed (t : Trace) (workers : List WorkerValue) (seat : View) (report : List ReportLine) : Type 0 where
+  pub course : Course
+  pub ends : List WorkerValue
+  pub count : length ends ≡ t.threads
+  pub same_count : length workers ≡ t.threads
+  pub ended : HasEnded t (phases_in t.lines) course (worker_in ends) seat
+  pub told : HaveTold t.threads ends workers
+  pub main : IsMain t.threads seat
+  pub places : map (λ (l : ReportLine). (l.phase, l.partition)) report ≡ phases_of t.partitions 1 (phases_in t.lines)
+  pub right : (l : ReportLine) → Contains report l → IsLineFor l.phase t.threads (course.ends l.phase) (course.seats l.phase) l
+
+-- The run is a legal run of the trace, the words of the closed region hold it, they are those of so many super pages, and it can be
+-- printed.
+pub record IsHeldRun (t : Trace) (run : Run) (words : List ℕ) : Type 0 where
+  pub legal : IsLegal t run
+  pub held : IsHeldIn t (told_by run) words
+  pub long : length words ≡ 262144 * t.region
+  pub printable : IsPrintable run

@@ -1,0 +1,101 @@
+//! A whole run: a region is made, the phases are played in a heap over it, and it is closed.
+ghost use Rattle.std.specs.Prelude.{◌≡◌, ◌*◌, IfOk, length};
+ghost use Rattle.pa_region.specs.Shares.{byte_word_count};
+ghost use Rattle.pa_region.specs.Start.{first_view};
+ghost use Rattle.pa_trace.specs.Limits.{IsWithinLimits};
+ghost use Rattle.pa_runner.specs.Whole.{HasPlayed, IsHeldRun};
+
+use crate::gate::Gate;
+use crate::merging::merge_records;
+use crate::opening::open_workers;
+use crate::phases::play_phases;
+use pa_cells::slots_stay_seen;
+use pa_heap::{Heap, Left, Worker};
+use pa_machine::OutOfMemory;
+use pa_record::{ReportLine, Run};
+use pa_region::{Closed, Name, Region, Seat};
+use pa_trace::Trace;
+use std::alloc::Global;
+use std::marker::{Brand, Send, Sync};
+use std::sync::Wait;
+use std::thread::Threads;
+
+/// Plays a trace within the limits, each thread's lines of a phase on a thread of its own where one can be had, and answers the run
+/// and the region's words at the end. The run is a legal run of the trace, and those words hold it. Which of the legal runs it is
+/// depends on how the threads met; with one thread there is one. Want of memory is the only error; all threads are joined then too.
+pub fn run_trace<R: Threads + Wait + Sync, G: Gate>(
+    rt: &R,
+    alloc: Global,
+    trace: &Trace,
+    gate: &G,
+) -> Result<(Run, Closed), OutOfMemory>
+    requires within { IsWithinLimits trace.now }
+    ensures { IfOk result (λ out. IsHeldRun trace.now out.0 out.1) }
+{
+    let (region, seat) = Region::new(alloc, trace.region, trace.lines.as_slice().len() as u32)?;
+    run_in::<Brand, R, G>(rt, alloc, trace, gate, region, seat)
+}
+
+// Plays a trace in a new region, which `N` names.
+fn run_in<N: Name + Send + Sync, R: Threads + Wait + Sync, G: Gate>(
+    rt: &R,
+    alloc: Global,
+    trace: &Trace,
+    gate: &G,
+    region: Region,
+    seat: Seat,
+) -> Result<(Run, Closed), OutOfMemory>
+    requires within { IsWithinLimits trace.now }
+    requires regions { (region ≡ N.region) × (seat.region ≡ N.region) }
+    requires long { byte_word_count N.region ≡ 262144 * trace.now.region }
+    requires first { seat.view ≡ first_view (262144 * trace.now.region) (length trace.now.lines) }
+    ensures { IfOk result (λ out. IsHeldRun trace.now out.0 out.1) }
+{
+    let budget = trace.lines.as_slice().len() as u32;
+    let (heap, mut seat) = Heap::<N>::open(alloc, trace.region, region, seat, budget)?;
+    let mut workers = open_workers(alloc, &heap, trace, &mut seat)?;
+    let report = play_phases(
+        rt,
+        alloc,
+        &heap,
+        gate,
+        trace,
+        workers.as_mut_slice(),
+        &mut seat,
+    )?;
+    close_run(alloc, trace, heap, workers, seat, report)
+}
+
+/// Closes the heap in which all phases of a trace were played, and puts the run together from what is left.
+pub fn close_run<N: Name>(
+    alloc: Global,
+    trace: &Trace,
+    heap: Heap<N>,
+    workers: Vec<Worker<N>>,
+    seat: Seat,
+    report: Vec<ReportLine>,
+) -> Result<(Run, Closed), OutOfMemory>
+    requires region { seat.region ≡ N.region }
+    requires long { byte_word_count N.region ≡ 262144 * trace.now.region }
+    requires limits { IsWithinLimits trace.now }
+    requires played { HasPlayed trace.now workers.items seat.view report.items }
+    ensures { IfOk result (λ out. IsHeldRun trace.now out.0 out.1) }
+{
+    let entries = merge_records(alloc, trace.lines.as_slice(), workers.as_slice())?;
+    let Left {
+        roots,
+        pool,
+        cells,
+        region,
+    } = heap.close(workers, seat);
+    let roots = Vec::from_array(alloc, roots)?;
+    slots_stay_seen();
+    let run = Run {
+        entries,
+        roots,
+        pool,
+        cells,
+        report,
+    };
+    Ok((run, region))
+}
