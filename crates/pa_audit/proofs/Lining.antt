@@ -22,77 +22,64 @@ use Rattle.pa_audit.specs.Placed.{IsThere}
 
 -- ---- clauses that speak of records alone
 
--- places that are no record's
-abbrev pub IsElsewhere : Place → Type 0
-IsElsewhere (places.Record i) = ⊥
-IsElsewhere (places.Root p j) = Unit {0}
-IsElsewhere (places.Pool j) = Unit {0}
-IsElsewhere (places.Cell k j) = Unit {0}
-IsElsewhere (places.Report i) = Unit {0}
+abbrev pub IsOfRecords : Clause → Type 0
+IsOfRecords clauses.Lines = Unit {0}
+IsOfRecords clauses.Cells = ⊥
+IsOfRecords clauses.Registers = Unit {0}
+IsOfRecords clauses.Slots = Unit {0}
+IsOfRecords clauses.Contents = Unit {0}
+IsOfRecords clauses.Pool = ⊥
+IsOfRecords clauses.Roots = ⊥
+IsOfRecords clauses.Titles = ⊥
+IsOfRecords clauses.Holders = ⊥
+IsOfRecords clauses.Caches = Unit {0}
+IsOfRecords clauses.Seen = Unit {0}
+IsOfRecords clauses.Report = ⊥
 
--- the clause says nothing of them
-abbrev pub AsksRecords : Clause → Trace → Run → Type 0
-AsksRecords c t r = (place : Place) → IsElsewhere place → Demand c t (told_by r) place
+-- of places that are no record's the clause asks nothing
+pub record AsksRecords (c : Clause) (t : Trace) (r : Run) : Type 0 where
+  pub roots : (p j : ℕ) → Demand c t (told_by r) (places.Root p j)
+  pub pools : (j : ℕ) → Demand c t (told_by r) (places.Pool j)
+  pub cells : (k j : ℕ) → Demand c t (told_by r) (places.Cell k j)
+  pub report : (i : ℕ) → Demand c t (told_by r) (places.Report i)
 
-pub line_told : (c : Clause) (t : Trace) (r : Run) (o : Option ℕ) → AsksRecords c t r → TellsFirst (λ i. Demand c t (told_by r) (places.Record i)) o → TellsLine c t r (option_map (λ i. 2 + i) o)
-line_told c t r None rest tells = each
+pub asks_records : (c : Clause) (t : Trace) (r : Run) → IsOfRecords c → AsksRecords c t r
+asks_records clauses.Lines t r of = record { roots = λ p j. tt; pools = λ j. tt; cells = λ k j. tt; report = λ i. tt }
+asks_records clauses.Registers t r of = record { roots = λ p j. tt; pools = λ j. tt; cells = λ k j. tt; report = λ i. tt }
+asks_records clauses.Slots t r of = record { roots = λ p j. tt; pools = λ j. tt; cells = λ k j. tt; report = λ i. tt }
+asks_records clauses.Contents t r of = record { roots = λ p j. tt; pools = λ j. tt; cells = λ k j. tt; report = λ i. tt }
+asks_records clauses.Caches t r of = record { roots = λ p j. tt; pools = λ j. tt; cells = λ k j. tt; report = λ i. tt }
+asks_records clauses.Seen t r of = record { roots = λ p j. tt; pools = λ j. tt; cells = λ k j. tt; report = λ i. tt }
+asks_records clauses.Cells t r of = absurd of
+asks_records clauses.Pool t r of = absurd of
+asks_records clauses.Roots t r of = absurd of
+asks_records clauses.Titles t r of = absurd of
+asks_records clauses.Holders t r of = absurd of
+asks_records clauses.Report t r of = absurd of
+
+pub line_told : (c : Clause) (t : Trace) (r : Run) (o : Option ℕ) → IsOfRecords c → TellsFirst (λ i. Demand c t (told_by r) (places.Record i)) o → TellsLine c t r (option_map (λ i. 2 + i) o)
+line_told c t r None of tells = each
   where
+    rest : AsksRecords c t r
+    rest = asks_records c t r of
+
     each : (place : Place) → Demand c t (told_by r) place
     each (places.Record i) = tells i
-    each (places.Root p j) = rest (places.Root p j) tt
-    each (places.Pool j) = rest (places.Pool j) tt
-    each (places.Cell k j) = rest (places.Cell k j) tt
-    each (places.Report i) = rest (places.Report i) tt
-line_told c t r (Some i) rest (unmet, before) = record { place = places.Record i; line = refl; unmet = unmet; before = above }
+    each (places.Root p j) = rest.roots p j
+    each (places.Pool j) = rest.pools j
+    each (places.Cell k j) = rest.cells k j
+    each (places.Report i) = rest.report i
+line_told c t r (Some i) of (unmet, before) = record { place = places.Record i; line = refl; unmet = unmet; before = above }
   where
+    rest : AsksRecords c t r
+    rest = asks_records c t r of
+
     above : (other : Place) → line_at r other < 2 + i → Demand c t (told_by r) other
     above (places.Record j) less = before j (omega (arith, less))
-    above (places.Root p j) less = rest (places.Root p j) tt
-    above (places.Pool j) less = rest (places.Pool j) tt
-    above (places.Cell k j) less = rest (places.Cell k j) tt
-    above (places.Report j) less = rest (places.Report j) tt
-
-pub lines_rest : (t : Trace) (r : Run) → AsksRecords clauses.Lines t r
-lines_rest t r (places.Record i) there = absurd there
-lines_rest t r (places.Root p j) there = tt
-lines_rest t r (places.Pool j) there = tt
-lines_rest t r (places.Cell k j) there = tt
-lines_rest t r (places.Report i) there = tt
-
-pub registers_rest : (t : Trace) (r : Run) → AsksRecords clauses.Registers t r
-registers_rest t r (places.Record i) there = absurd there
-registers_rest t r (places.Root p j) there = tt
-registers_rest t r (places.Pool j) there = tt
-registers_rest t r (places.Cell k j) there = tt
-registers_rest t r (places.Report i) there = tt
-
-pub slots_rest : (t : Trace) (r : Run) → AsksRecords clauses.Slots t r
-slots_rest t r (places.Record i) there = absurd there
-slots_rest t r (places.Root p j) there = tt
-slots_rest t r (places.Pool j) there = tt
-slots_rest t r (places.Cell k j) there = tt
-slots_rest t r (places.Report i) there = tt
-
-pub contents_rest : (t : Trace) (r : Run) → AsksRecords clauses.Contents t r
-contents_rest t r (places.Record i) there = absurd there
-contents_rest t r (places.Root p j) there = tt
-contents_rest t r (places.Pool j) there = tt
-contents_rest t r (places.Cell k j) there = tt
-contents_rest t r (places.Report i) there = tt
-
-pub caches_rest : (t : Trace) (r : Run) → AsksRecords clauses.Caches t r
-caches_rest t r (places.Record i) there = absurd there
-caches_rest t r (places.Root p j) there = tt
-caches_rest t r (places.Pool j) there = tt
-caches_rest t r (places.Cell k j) there = tt
-caches_rest t r (places.Report i) there = tt
-
-pub seen_rest : (t : Trace) (r : Run) → AsksRecords clauses.Seen t r
-seen_rest t r (places.Record i) there = absurd there
-seen_rest t r (places.Root p j) there = tt
-seen_rest t r (places.Pool j) there = tt
-seen_rest t r (places.Cell k j) there = tt
-seen_rest t r (places.Report i) there = tt
+    above (places.Root p j) less = rest.roots p j
+    above (places.Pool j) less = rest.pools j
+    above (places.Cell k j) less = rest.cells k j
+    above (places.Report j) less = rest.report j
 
 -- ---- a record that doesn't meet its demand is there
 

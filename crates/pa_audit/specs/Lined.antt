@@ -1,10 +1,15 @@
--- What is told of a clause by the lines of the run's text.
-use Rattle.std.specs.Prelude.{ℕ, ◌+◌, ◌<◌, ◌-◌, ◌^◌, length, Option, Some, None}
+-- What is asked before a clause is tested, and what is told of it by the lines of the run's text.
+use Rattle.std.specs.Prelude.{ℕ, ◌+◌, ◌<◌, ◌-◌, ◌^◌, List, length, Option, Some, None}
 use Rattle.pa_trace.specs.declared.script.Trace.{Trace}
+use Rattle.pa_trace.specs.Limits.{IsWithinLimits}
 use Rattle.pa_record.specs.declared.run.Run.{Run}
+use Rattle.pa_record.specs.RunText.{IsPrintable}
+use Rattle.pa_rules.specs.declared.played.Played.{Played}
 use Rattle.pa_rules.specs.declared.verdict.Clause.{Clause}
 use Rattle.pa_rules.specs.Places.{report_at}
+use Rattle.pa_rules.specs.Rising.{RiseByLine}
 use Rattle.pa_rules.specs.Verdicts.{FailsAt, Holds, turn}
+use Rattle.pa_audit_report.specs.Given.{AreRecordsOf}
 
 -- nothing: the clause holds; a line: it is the first at which it fails
 abbrev pub TellsLine : Clause → Trace → Run → Option ℕ → Type 0
@@ -18,3 +23,14 @@ HasLines32 r = report_at r + length r.report.items < 2 ^ 32 - 1
 -- the clauses before this one hold
 abbrev pub HoldBefore : Clause → Trace → Run → Type 0
 HoldBefore c t r = (d : Clause) → turn d < turn c → Holds d t r
+
+-- What the test of a clause is given: a trace within its limits; a run that has a text, whose lines have numbers of 32 bits; the
+-- run's records beside the ops of the trace, few and in the order of their lines; and that the clauses before this one hold.
+pub record CanBeAudited (c : Clause) (t : Trace) (r : Run) (ps : List Played) : Type 0 where
+  pub limits : IsWithinLimits t
+  pub printable : IsPrintable r
+  pub short : HasLines32 r
+  pub records : AreRecordsOf t r ps
+  pub few : length ps < 65536
+  pub rising : RiseByLine ps
+  pub before : HoldBefore c t r

@@ -1,10 +1,9 @@
-ghost use Rattle.std.specs.Prelude.{◌≡◌, ◌<◌, ◌≤◌, ◌^◌, IfOk, length};
+ghost use Rattle.std.specs.Prelude.{◌<◌, ◌≤◌, IfOk, length};
 ghost use Rattle.pa_record.specs.RunText.{history_of};
 ghost use Rattle.pa_rules.specs.declared.verdict.Clause.TheVariants as clauses;
 ghost use Rattle.pa_rules.specs.RecordDemands.{CellsDemand};
 ghost use Rattle.pa_rules.specs.Rising.{RiseByLine};
-ghost use Rattle.pa_audit_report.specs.Given.{AreRecordsOf};
-ghost use Rattle.pa_audit.specs.Lined.{HasLines32, TellsLine};
+ghost use Rattle.pa_audit.specs.Lined.{CanBeAudited, HasLines32, TellsLine};
 ghost use Rattle.pa_audit.specs.Placed.{TellsPlace};
 
 use crate::places::line_where;
@@ -22,11 +21,7 @@ pub fn cells_fail(
     run: &Run,
     records: &[Played],
 ) -> Result<Option<u32>, OutOfMemory>
-    requires records { AreRecordsOf trace.now run.now records.now }
-    requires few { length records.now < 65536 }
-    requires rising { RiseByLine records.now }
-    requires cells { length run.now.cells.items ≤ 64 }
-    requires short { HasLines32 run.now }
+    requires { CanBeAudited clauses.Cells trace.now run.now records.now }
     ensures { IfOk result (TellsLine clauses.Cells trace.now run.now) }
 {
     let place = first_place(alloc, run, records)?;

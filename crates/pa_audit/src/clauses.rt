@@ -1,10 +1,8 @@
-ghost use Rattle.std.specs.Prelude.{◌≡◌, ◌<◌, IfOk, length};
+ghost use Rattle.std.specs.Prelude.{◌≡◌, ◌<◌, IfOk};
 ghost use Rattle.pa_trace.specs.Limits.{IsWithinLimits};
 ghost use Rattle.pa_record.specs.RunText.{IsPrintable};
-ghost use Rattle.pa_rules.specs.Rising.{RiseByLine};
 ghost use Rattle.pa_rules.specs.Verdicts.{IsVerdict, turn};
-ghost use Rattle.pa_audit_report.specs.Given.{AreRecordsOf};
-ghost use Rattle.pa_audit.specs.Lined.{HasLines32, HoldBefore, TellsLine};
+ghost use Rattle.pa_audit.specs.Lined.{CanBeAudited, HasLines32, TellsLine};
 
 use crate::cells::cells_fail;
 use crate::heap::{pool_fails, roots_fail};
@@ -72,13 +70,7 @@ fn clause_fails(
     records: &[Played],
     clause: Clause,
 ) -> Result<Option<u32>, OutOfMemory>
-    requires limits { IsWithinLimits trace.now }
-    requires records { AreRecordsOf trace.now run.now records.now }
-    requires few { length records.now < 65536 }
-    requires rising { RiseByLine records.now }
-    requires printable { IsPrintable run.now }
-    requires short { HasLines32 run.now }
-    requires before { HoldBefore clause trace.now run.now }
+    requires { CanBeAudited clause trace.now run.now records.now }
     ensures { IfOk result (TellsLine clause trace.now run.now) }
 {
     match clause {

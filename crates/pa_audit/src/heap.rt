@@ -1,13 +1,10 @@
-ghost use Rattle.std.specs.Prelude.{◌≡◌, ◌<◌, ◌≤◌, ◌^◌, IfOk, length};
+ghost use Rattle.std.specs.Prelude.{◌≡◌, IfOk};
 ghost use Rattle.std.specs.Option.{option_map};
-ghost use Rattle.pa_trace.specs.Limits.{IsWithinLimits};
 ghost use Rattle.pa_record.specs.RunText.{journal_of};
 ghost use Rattle.pa_rules.specs.declared.verdict.Clause.TheVariants as clauses;
 ghost use Rattle.pa_rules.specs.declared.verdict.Place.TheVariants as places;
 ghost use Rattle.pa_rules.specs.HeapDemands.{RootsDemand};
-ghost use Rattle.pa_rules.specs.Rising.{RiseByLine};
-ghost use Rattle.pa_audit_report.specs.Given.{AreRecordsOf};
-ghost use Rattle.pa_audit.specs.Lined.{HasLines32, HoldBefore, TellsLine};
+ghost use Rattle.pa_audit.specs.Lined.{CanBeAudited, TellsLine};
 ghost use Rattle.pa_audit.specs.Placed.{TellsPlace};
 
 use crate::places::line_where;
@@ -25,12 +22,7 @@ pub fn pool_fails(
     run: &Run,
     records: &[Played],
 ) -> Result<Option<u32>, OutOfMemory>
-    requires limits { IsWithinLimits trace.now }
-    requires records { AreRecordsOf trace.now run.now records.now }
-    requires rising { RiseByLine records.now }
-    requires four { length run.now.roots.items ≤ 4 }
-    requires short { HasLines32 run.now }
-    requires before { HoldBefore clauses.Pool trace.now run.now }
+    requires { CanBeAudited clauses.Pool trace.now run.now records.now }
     ensures { IfOk result (TellsLine clauses.Pool trace.now run.now) }
 {
     let pools = run.pool.as_slice();
@@ -55,13 +47,7 @@ pub fn roots_fail(
     run: &Run,
     records: &[Played],
 ) -> Result<Option<u32>, OutOfMemory>
-    requires limits { IsWithinLimits trace.now }
-    requires records { AreRecordsOf trace.now run.now records.now }
-    requires few { length records.now < 65536 }
-    requires rising { RiseByLine records.now }
-    requires four { length run.now.roots.items ≤ 4 }
-    requires short { HasLines32 run.now }
-    requires before { HoldBefore clauses.Roots trace.now run.now }
+    requires { CanBeAudited clauses.Roots trace.now run.now records.now }
     ensures { IfOk result (TellsLine clauses.Roots trace.now run.now) }
 {
     let place = first_place(alloc, trace, run, records)?;
@@ -75,13 +61,7 @@ fn first_place(
     run: &Run,
     records: &[Played],
 ) -> Result<Option<Place>, OutOfMemory>
-    requires limits { IsWithinLimits trace.now }
-    requires records { AreRecordsOf trace.now run.now records.now }
-    requires few { length records.now < 65536 }
-    requires rising { RiseByLine records.now }
-    requires four { length run.now.roots.items ≤ 4 }
-    requires short { HasLines32 run.now }
-    requires before { HoldBefore clauses.Roots trace.now run.now }
+    requires { CanBeAudited clauses.Roots trace.now run.now records.now }
     ensures { IfOk result
         (TellsPlace (RootsDemand trace.now.partitions records.now run.now.pool.items (journal_of run.now))) }
 {

@@ -1,9 +1,6 @@
-ghost use Rattle.std.specs.Prelude.{◌≡◌, ◌<◌, ◌≤◌, IfOk, length};
-ghost use Rattle.pa_trace.specs.Limits.{IsWithinLimits};
+ghost use Rattle.std.specs.Prelude.{IfOk};
 ghost use Rattle.pa_rules.specs.declared.verdict.Clause.TheVariants as clauses;
-ghost use Rattle.pa_rules.specs.Rising.{RiseByLine};
-ghost use Rattle.pa_audit_report.specs.Given.{AreRecordsOf};
-ghost use Rattle.pa_audit.specs.Lined.{HasLines32, HoldBefore, TellsLine};
+ghost use Rattle.pa_audit.specs.Lined.{CanBeAudited, TellsLine};
 
 use crate::places::line_where;
 use crate::records::record_line;
@@ -21,12 +18,7 @@ pub fn holders_fail(
     run: &Run,
     records: &[Played],
 ) -> Result<Option<u32>, OutOfMemory>
-    requires records { AreRecordsOf trace.now run.now records.now }
-    requires few { length records.now < 65536 }
-    requires rising { RiseByLine records.now }
-    requires four { length run.now.roots.items ≤ 4 }
-    requires short { HasLines32 run.now }
-    requires before { HoldBefore clauses.Holders trace.now run.now }
+    requires { CanBeAudited clauses.Holders trace.now run.now records.now }
     ensures { IfOk result (TellsLine clauses.Holders trace.now run.now) }
 {
     let place = holders_meet(alloc, records, run.roots.as_slice())?;
@@ -40,12 +32,7 @@ pub fn caches_fail(
     run: &Run,
     records: &[Played],
 ) -> Result<Option<u32>, OutOfMemory>
-    requires limits { IsWithinLimits trace.now }
-    requires records { AreRecordsOf trace.now run.now records.now }
-    requires few { length records.now < 65536 }
-    requires four { length run.now.roots.items ≤ 4 }
-    requires short { HasLines32 run.now }
-    requires before { HoldBefore clauses.Caches trace.now run.now }
+    requires { CanBeAudited clauses.Caches trace.now run.now records.now }
     ensures { IfOk result (TellsLine clauses.Caches trace.now run.now) }
 {
     let at = caches_meet(alloc, trace.partitions, records, run.roots.as_slice())?;

@@ -1,9 +1,6 @@
-ghost use Rattle.std.specs.Prelude.{◌≡◌, ◌<◌, IfOk, length};
-ghost use Rattle.pa_trace.specs.Limits.{IsWithinLimits};
+ghost use Rattle.std.specs.Prelude.{IfOk};
 ghost use Rattle.pa_rules.specs.declared.verdict.Clause.TheVariants as clauses;
-ghost use Rattle.pa_rules.specs.Rising.{RiseByLine};
-ghost use Rattle.pa_audit_report.specs.Given.{AreRecordsOf};
-ghost use Rattle.pa_audit.specs.Lined.{HoldBefore, TellsLine};
+ghost use Rattle.pa_audit.specs.Lined.{CanBeAudited, TellsLine};
 
 use crate::records::record_line;
 use pa_audit_order::{contents_meet, seen_meets};
@@ -20,11 +17,7 @@ pub fn contents_fail(
     run: &Run,
     records: &[Played],
 ) -> Result<Option<u32>, OutOfMemory>
-    requires limits { IsWithinLimits trace.now }
-    requires records { AreRecordsOf trace.now run.now records.now }
-    requires few { length records.now < 65536 }
-    requires rising { RiseByLine records.now }
-    requires before { HoldBefore clauses.Contents trace.now run.now }
+    requires { CanBeAudited clauses.Contents trace.now run.now records.now }
     ensures { IfOk result (TellsLine clauses.Contents trace.now run.now) }
 {
     let at = contents_meet(alloc, records, run.cells.as_slice())?;
@@ -38,11 +31,7 @@ pub fn seen_fails(
     run: &Run,
     records: &[Played],
 ) -> Result<Option<u32>, OutOfMemory>
-    requires limits { IsWithinLimits trace.now }
-    requires records { AreRecordsOf trace.now run.now records.now }
-    requires few { length records.now < 65536 }
-    requires rising { RiseByLine records.now }
-    requires before { HoldBefore clauses.Seen trace.now run.now }
+    requires { CanBeAudited clauses.Seen trace.now run.now records.now }
     ensures { IfOk result (TellsLine clauses.Seen trace.now run.now) }
 {
     let at = seen_meets(alloc, records, run.cells.as_slice())?;

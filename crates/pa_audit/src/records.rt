@@ -1,10 +1,8 @@
-ghost use Rattle.std.specs.Prelude.{◌≡◌, ◌+◌, ◌<◌, ◌-◌, ◌^◌, IfOk, IfSome, length};
+ghost use Rattle.std.specs.Prelude.{◌≡◌, ◌+◌, ◌<◌, ◌-◌, ◌^◌, IfOk, IfSome};
 ghost use Rattle.std.specs.Option.{option_map};
 ghost use Rattle.pa_trace.specs.Limits.{IsWithinLimits};
 ghost use Rattle.pa_rules.specs.declared.verdict.Clause.TheVariants as clauses;
-ghost use Rattle.pa_rules.specs.Rising.{RiseByLine};
-ghost use Rattle.pa_audit_report.specs.Given.{AreRecordsOf};
-ghost use Rattle.pa_audit.specs.Lined.{HasLines32, TellsLine};
+ghost use Rattle.pa_audit.specs.Lined.{CanBeAudited, HasLines32, TellsLine};
 
 use pa_audit_records::{lines_meet, records_are_within, registers_meet, slots_meet};
 use pa_machine::OutOfMemory;
@@ -40,9 +38,7 @@ pub fn registers_fail(
     run: &Run,
     records: &[Played],
 ) -> Result<Option<u32>, OutOfMemory>
-    requires limits { IsWithinLimits trace.now }
-    requires records { AreRecordsOf trace.now run.now records.now }
-    requires few { length records.now < 65536 }
+    requires { CanBeAudited clauses.Registers trace.now run.now records.now }
     ensures { IfOk result (TellsLine clauses.Registers trace.now run.now) }
 {
     records_are_within();
@@ -57,9 +53,7 @@ pub fn slots_fail(
     run: &Run,
     records: &[Played],
 ) -> Result<Option<u32>, OutOfMemory>
-    requires records { AreRecordsOf trace.now run.now records.now }
-    requires few { length records.now < 65536 }
-    requires rising { RiseByLine records.now }
+    requires { CanBeAudited clauses.Slots trace.now run.now records.now }
     ensures { IfOk result (TellsLine clauses.Slots trace.now run.now) }
 {
     let at = slots_meet(alloc, records)?;

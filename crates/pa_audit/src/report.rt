@@ -1,10 +1,8 @@
-ghost use Rattle.std.specs.Prelude.{◌≡◌, ◌<◌, ◌≤◌, IfOk, length};
+ghost use Rattle.std.specs.Prelude.{◌≡◌, IfOk};
 ghost use Rattle.std.specs.Option.{option_map};
-ghost use Rattle.pa_trace.specs.Limits.{IsWithinLimits};
 ghost use Rattle.pa_rules.specs.declared.verdict.Clause.TheVariants as clauses;
 ghost use Rattle.pa_rules.specs.declared.verdict.Place.TheVariants as places;
-ghost use Rattle.pa_audit_report.specs.Given.{AreRecordsOf};
-ghost use Rattle.pa_audit.specs.Lined.{HasLines32, HoldBefore, TellsLine};
+ghost use Rattle.pa_audit.specs.Lined.{CanBeAudited, TellsLine};
 
 use crate::places::line_where;
 use pa_audit_report::report_meets;
@@ -22,12 +20,7 @@ pub fn report_fails(
     run: &Run,
     records: &[Played],
 ) -> Result<Option<u32>, OutOfMemory>
-    requires limits { IsWithinLimits trace.now }
-    requires records { AreRecordsOf trace.now run.now records.now }
-    requires few { length records.now < 65536 }
-    requires four { length run.now.roots.items ≤ 4 }
-    requires short { HasLines32 run.now }
-    requires before { HoldBefore clauses.Report trace.now run.now }
+    requires { CanBeAudited clauses.Report trace.now run.now records.now }
     ensures { IfOk result (TellsLine clauses.Report trace.now run.now) }
 {
     let at = report_meets(alloc, trace, run, records)?;

@@ -1,5 +1,6 @@
 pub mod Caching
 pub mod Listing
+pub mod Summing
 pub mod Giving
 pub mod Indexing
 pub mod Housing

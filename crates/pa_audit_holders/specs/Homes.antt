@@ -1,5 +1,6 @@
 -- Where a free slot goes: to the lists of its partition and class, or to its root.
-use Rattle.std.specs.Prelude.{◌≡◌, ℕ, ◌<◌, List, Option, Some, None, IsSome, Contains}
+use Rattle.std.specs.Prelude.{◌≡◌, ℕ, ◌<◌, nat_lt, if◌then◌else◌, List, Option, Some, None, IsSome, Contains}
+use Rattle.pa_buckets.specs.Table.{slot_of}
 use Rattle.pa_machine.specs.declared.word.SlotName.{SlotName}
 use Rattle.pa_record.specs.declared.pool.PoolEntry.{PoolEntry}
 use Rattle.pa_record.specs.declared.root.RootEntry.{RootEntry}
@@ -10,6 +11,7 @@ use Rattle.pa_rules.specs.RecordDemands.{IsAbove}
 use Rattle.pa_rules.specs.declared.played.Played.{Played}
 use Rattle.pa_rules.specs.Roots.{Journals, IsEntry, AreRoots, IsPoolOf}
 use Rattle.pa_rules.specs.Caches.{IsOfClass, IsDirect}
+use Rattle.pa_rules.specs.Report.{HasSize}
 use Rattle.pa_audit_records.specs.Keys.{name_key}
 use Rattle.pa_audit_holders.specs.declared.homes.Home.{Home}
 
@@ -18,8 +20,10 @@ abbrev pub IsHomeIn : Journals → SlotName → ℕ → Option ℕ → Type 0
 IsHomeIn roots s p (Some class) = IsOfClass roots s p class × (class < 59)
 IsHomeIn roots s p None = IsDirect roots s p
 
-abbrev pub IsHomeOf : Journals → SlotName → Home → Type 0
-IsHomeOf roots s h = IsHomeIn roots s h.partition h.class
+-- so it is of this home, and its bytes are those
+pub record IsHomeOf (roots : Journals) (s : SlotName) (h : Home) : Type 0 where
+  pub goes : IsHomeIn roots s h.partition h.class
+  pub size : HasSize roots h.partition s h.bytes
 
 -- The slot has one home: fills give it one partition and class, direct maps one partition, and it isn't both.
 pub record HasOneHome (roots : Journals) (s : SlotName) : Type 0 where
@@ -48,7 +52,7 @@ HasHomes roots at = (k : ℕ) (h : Home) → at k ≡ Some h → (s : SlotName) 
 
 -- it has one for each of these slots
 abbrev pub HasAll : (ℕ → Option Home) → List SlotName → Type 0
-HasAll at slots = (s : SlotName) → Contains slots s → IsSome (at (name_key s))
+HasAll at slots = (s : SlotName) → Contains slots s → IsSome (at (name_key s)) × (s.start < 4294967296)
 
 -- what it had it has, and a home for each of these slots
 pub record EntersSlots (before after : ℕ → Option Home) (slots : List SlotName) : Type 0 where
@@ -64,14 +68,18 @@ pub record KnowsHomes (roots : Journals) (at : ℕ → Option Home) : Type 0 whe
   pub homes : HasHomes roots at
   pub all : (p i : ℕ) (e : RootEntry) → IsEntry roots p i e → HasAll at (leaves_by e.act)
 
+-- what the table has of a slot; names start below 2^32
+abbrev pub home_at : (ℕ → Option Home) → SlotName → Option Home
+home_at at s = if nat_lt s.start 4294967296 then at (name_key s) else None
+
 -- the home that an entry gives the slots that it hands out
 abbrev pub home_by : ℕ → RootAct → Home
-home_by p (Fill class asked slots) = record { partition = p; class = Some class }
-home_by p (Map asked slot len) = record { partition = p; class = None }
-home_by p (Full class asked) = record { partition = p; class = None }
-home_by p (Give slots) = record { partition = p; class = None }
-home_by p (Unmap asked slot) = record { partition = p; class = None }
-home_by p Purge = record { partition = p; class = None }
+home_by p (Fill class asked slots) = record { partition = p; class = Some class; bytes = slot_of class }
+home_by p (Map asked slot len) = record { partition = p; class = None; bytes = len }
+home_by p (Full class asked) = record { partition = p; class = None; bytes = 0 }
+home_by p (Give slots) = record { partition = p; class = None; bytes = 0 }
+home_by p (Unmap asked slot) = record { partition = p; class = None; bytes = 0 }
+home_by p Purge = record { partition = p; class = None; bytes = 0 }
 
 -- each slot's home is the one that each entry of the partition's journal gave it that handed it out
 abbrev pub AreHomedIn : Journals → (ℕ → Option Home) → ℕ → Type 0

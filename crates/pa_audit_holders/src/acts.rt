@@ -1,4 +1,4 @@
-ghost use Rattle.std.specs.Prelude.{◌≡◌, ℕ, [], ◌∷◌, ◌↔◌, IfNone, IfSome, IsTrue, List, Option, Some, None};
+ghost use Rattle.std.specs.Prelude.{◌≡◌, ℕ, ◌≤◌, [], ◌∷◌, ◌↔◌, IfNone, IfSome, IsTrue, List, Option, Some, None, length};
 ghost use Rattle.pa_record.specs.declared.numbered.Numbered.{Numbered as Listed};
 ghost use Rattle.pa_record.specs.declared.root.RootAct.TheVariants as acts;
 ghost use Rattle.pa_rules.specs.Caches.{unmap_at};
@@ -11,6 +11,7 @@ use pa_record::{Numbered, RootAct};
 pub(crate) fn filled_by(act: &RootAct, class: Class) -> Option<&[Numbered]>
     ensures some { IfSome result (λ slots. (asked : Option ℕ) × (act.now ≡ acts.Fill class asked slots.now)) }
     ensures none { IfNone result ((asked : Option ℕ) (slots : List Listed) → act.now ≡ acts.Fill class asked slots → ⊥) }
+    ensures few { IfSome result (λ slots. length slots.now ≤ 16) }
 {
     match act {
         RootAct::Fill {

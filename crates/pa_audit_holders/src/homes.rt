@@ -1,4 +1,4 @@
-ghost use Rattle.std.specs.Prelude.{◌≡◌, ℕ, ◌+◌, ◌*◌, ◌<◌, ◌^◌, [], ◌∷◌, Contains, IfOk, OnOk, Some, length};
+ghost use Rattle.std.specs.Prelude.{◌≡◌, ℕ, ◌+◌, ◌*◌, ◌<◌, ◌^◌, [], ◌∷◌, Contains, IfOk, OnOk, length};
 ghost use Rattle.std.specs.Ordering.{nat_cmp};
 ghost use Rattle.std.specs.BTreeMap.{get};
 ghost use Rattle.pa_machine.specs.declared.word.SlotName.{SlotName as Name};
@@ -6,19 +6,21 @@ ghost use Rattle.pa_record.specs.Laws.{leaves_by};
 ghost use Rattle.pa_record.specs.Root.{names};
 ghost use Rattle.pa_rules.specs.Roots.{journal_at};
 ghost use Rattle.pa_audit_records.specs.Keys.{name_key};
-ghost use Rattle.pa_audit_holders.specs.Homes.{KnowsHomes, EntersSlots, HasAbove, HasAll, HasHomes, IsHomeIn, IsHomeOf, TellsHome};
+ghost use Rattle.pa_audit_holders.specs.Homes.{KnowsHomes, EntersSlots, HasAbove, HasHomes, IsHomeOf, TellsHome, home_at};
 
+use pa_buckets::slot_size;
 use pa_machine::{OutOfMemory, SlotName};
 use pa_record::{Journal, Numbered, RootAct, RootEntry};
 use std::alloc::Global;
 use std::collections::BTreeMap;
 
 /// Where a free slot goes: to the lists of its partition and class, by its number, or, where it has none, to the root of its
-/// partition.
+/// partition; and the slot's bytes.
 #[derive(Clone, Copy)]
 pub struct Home {
-    pub(crate) partition: u32,
+    pub partition: u32,
     pub(crate) class: Option<u32>,
+    pub bytes: u32,
 }
 
 // The number of a slot.
@@ -43,7 +45,7 @@ pub fn homes_of(alloc: Global, roots: &[Journal]) -> Result<BTreeMap<u64, Home>,
     Ok(homes)
 }
 
-// EntersSlots the slots that a partition's journal handed out.
+// Enters the slots that a partition's journal handed out.
 fn enter_all(
     homes: &mut BTreeMap<u64, Home>,
     roots: &[Journal],
@@ -62,7 +64,7 @@ fn enter_all(
     Ok(())
 }
 
-// EntersSlots the slots that an entry of a partition's journal handed out.
+// Enters the slots that an entry of a partition's journal handed out.
 fn enter_entry(
     homes: &mut BTreeMap<u64, Home>,
     roots: &[Journal],
@@ -76,40 +78,44 @@ fn enter_entry(
 {
     match &entry.act {
         RootAct::Fill { class, slots, .. } => {
-            enter_slots(homes, roots, partition, class.number(), slots.items())
+            let home = Home {
+                partition,
+                class: Some(class.number()),
+                bytes: slot_size(*class),
+            };
+            enter_slots(homes, roots, home, slots.items())
         }
-        RootAct::Map { slot, .. } => {
-            let class = None;
-            enter(homes, roots, Home { partition, class }, *slot)
+        RootAct::Map { slot, len, .. } => {
+            let home = Home {
+                partition,
+                class: None,
+                bytes: *len,
+            };
+            enter(homes, roots, home, *slot)
         }
         _ => Ok(()),
     }
 }
 
-// EntersSlots slots of this partition and of the class of this number.
+// Enters slots that have this home.
 fn enter_slots(
     homes: &mut BTreeMap<u64, Home>,
     roots: &[Journal],
-    partition: u32,
-    class: u32,
+    home: Home,
     slots: &[Numbered],
 ) -> Result<(), OutOfMemory>
-    requires home { (s : Name) → Contains (names slots.now) s → IsHomeIn (journal_at roots.now) s partition (Some class) }
+    requires home { (s : Name) → Contains (names slots.now) s → IsHomeOf (journal_at roots.now) s home }
     requires homes { HasHomes (journal_at roots.now) (get nat_cmp homes.old) }
     ensures homes { OnOk result (HasHomes (journal_at roots.now) (get nat_cmp homes.new)) }
     ensures enters { OnOk result (EntersSlots (get nat_cmp homes.old) (get nat_cmp homes.new) (names slots.now)) }
 {
     for slot in slots {
-        let home = Home {
-            partition,
-            class: Some(class),
-        };
         enter(homes, roots, home, slot.slot)?;
     }
     Ok(())
 }
 
-// EntersSlots a slot that has this home.
+// Enters a slot that has this home.
 fn enter(
     homes: &mut BTreeMap<u64, Home>,
     roots: &[Journal],
@@ -138,6 +144,13 @@ pub(crate) fn home_of(
         Some(home) => Some(home),
         None => None,
     }
+}
+
+/// The home of a slot, where the table has one.
+pub fn found_home(homes: &BTreeMap<u64, Home>, slot: SlotName) -> Option<Home>
+    ensures { result ≡ home_at (get nat_cmp homes.now) slot }
+{
+    find(homes, key(slot))
 }
 
 // What stands at a key.

@@ -26,7 +26,7 @@ mod tests;
 
 pub use caches::{caches_meet, lines_below, no_lists, play};
 pub use holders::holders_meet;
-pub use homes::{Home, homes_of};
+pub use homes::{Home, found_home, homes_of};
 pub use laws::one_home;
 pub use lines::{ByLine, lines_of};
 pub use lists::ThreadLists;

@@ -1,10 +1,10 @@
 ghost use Rattle.std.specs.Prelude.{◌≡◌, ◌<◌, ◌≤◌, [], ◌∷◌, IfOk, OnOk, length, take};
 ghost use Rattle.pa_rules.specs.Caches.{with_list};
-ghost use Rattle.pa_audit_holders.specs.Lists.{cache_in};
+ghost use Rattle.pa_audit_holders.specs.Lists.{HasPart, IsListedBy, cache_in, changed_by};
 
-use pa_buckets::Class;
+use pa_buckets::{Class, slot_size};
 use pa_machine::OutOfMemory;
-use pa_record::Numbered;
+use pa_record::{Numbered, Tally};
 use std::alloc::Global;
 use std::marker::Model;
 
@@ -65,6 +65,12 @@ impl FreeSlots {
         self.slots.as_slice()
     }
 
+    fn len(&self) -> usize
+        ensures { result ≡ length self.now }
+    {
+        self.slots.len()
+    }
+
     // Keeps so many from the front on.
     pub(crate) fn keep(&mut self, count: usize)
         ensures { self.new ≡ take count self.old }
@@ -73,21 +79,24 @@ impl FreeSlots {
     }
 }
 
-/// A thread's lists of free slots. They are seen as the list of them, 59 of each of four partitions.
+/// A thread's lists of free slots, at most 64 each. They are seen as the list of them, 59 of each of four partitions. Beside them
+/// stands what those of each partition have together.
 #[derive(Drop)]
 pub struct ThreadLists {
     lists: Vec<FreeSlots>,
+    sums: [Tally; 4],
 }
 
 impl Model for ThreadLists {
-    ghost use Rattle.std.specs.Prelude.{◌≡◌, List, length};
+    ghost use Rattle.std.specs.Prelude.{List};
     ghost use Rattle.pa_record.specs.declared.numbered.Numbered.{Numbered};
+    ghost use Rattle.pa_audit_holders.specs.Lists.{AreSummed};
 
     ghost Value = { List (List Numbered) };
 
     ghost view = { λ t. t.lists.items };
 
-    ghost invariant = { λ t. length t.lists.items ≡ 236 };
+    ghost invariant = { λ t. AreSummed t.lists.items t.sums };
 }
 
 impl ThreadLists {
@@ -99,22 +108,53 @@ impl ThreadLists {
         for _ in 0..LISTS {
             lists.push(FreeSlots::new(alloc))?;
         }
-        Ok(ThreadLists { lists })
+        let none = Tally { slots: 0, bytes: 0 };
+        let sums = [none, none, none, none];
+        Ok(ThreadLists { lists, sums })
     }
 
-    /// The slots of a partition's list, front first.
-    pub fn list(&self, partition: u32, class: Class) -> &[Numbered]
+    // The slots of a partition's list, front first.
+    pub(crate) fn list(&self, partition: u32, class: Class) -> &[Numbered]
         requires partition { partition < 4 }
-        ensures { result.now ≡ cache_in self.now partition class }
+        ensures slots { result.now ≡ cache_in self.now partition class }
+        ensures few { length result.now ≤ 64 }
     {
         self.lists[59 * partition as usize + class.number() as usize].items()
     }
 
-    // Puts other slots into a partition's list.
+    // Puts other slots into a partition's list, at most 64.
     pub(crate) fn set(&mut self, partition: u32, class: Class, slots: FreeSlots)
         requires partition { partition < 4 }
+        requires few { length slots ≤ 64 }
         ensures { cache_in self.new ≡ with_list (cache_in self.old) partition class slots }
     {
-        self.lists[59 * partition as usize + class.number() as usize] = slots;
+        let at = 59 * partition as usize + class.number() as usize;
+        let before = self.lists[at].len();
+        let after = slots.len();
+        let sum = changed(self.sums[partition as usize], class, before, after);
+        self.lists[at] = slots;
+        self.sums[partition as usize] = sum;
+    }
+
+    /// What the lists of a partition have together.
+    pub fn sum(&self, partition: u32) -> Tally
+        requires partition { partition < 4 }
+        ensures listed { IsListedBy (cache_in self.now) partition result }
+        ensures few { result.slots ≤ 3776 }
+        ensures small { result.bytes ≤ 3464495104 }
+    {
+        self.sums[partition as usize]
+    }
+}
+
+// The tally of lists of which one of this class had so many slots and has so many now.
+fn changed(sum: Tally, class: Class, before: usize, after: usize) -> Tally
+    requires { HasPart sum class before after }
+    ensures { result ≡ changed_by sum class before after }
+{
+    let bytes = u64::from(slot_size(class));
+    Tally {
+        slots: sum.slots - before as u64 + after as u64,
+        bytes: sum.bytes - bytes * before as u64 + bytes * after as u64,
     }
 }

@@ -154,6 +154,7 @@ fn put_in_list(
 // How many of a list's slots stay when one came to its front.
 fn how_many_stay(class: Class, slots: &[Numbered]) -> usize
     ensures few { result ≤ length slots.now }
+    ensures short { result ≤ 64 }
     ensures kept { take result slots.now ≡ kept class slots.now }
     ensures spilled { drop result slots.now ≡ spilled class slots.now }
 {

@@ -127,7 +127,9 @@ fn first_filled<'a>(
 ) -> Option<&'a [Numbered]>
     requires four { length roots.now ≤ 4 }
     requires known { KnowsLine roots.now lines.now line }
+    requires few { length list.now ≤ 64 }
     ensures some { IfSome result (λ xs. FilledFirst (journal_at roots.now) line bin.now.partition bin.now.class list.now xs.now) }
+    ensures few { IfSome result (λ xs. length xs.now ≤ 64) }
     ensures none { IfNone result
         ((xs : List Listed) → FilledFirst (journal_at roots.now) line bin.now.partition bin.now.class list.now xs → ⊥) }
 {

@@ -11,7 +11,7 @@ ghost use Rattle.pa_audit_holders.specs.Rows.{IsOfThreads};
 
 use crate::caches_meet;
 use crate::homes::{Home, find, homes_of, key};
-use pa_buckets::Class;
+use pa_buckets::{Class, slot_size};
 use pa_machine::{OutOfMemory, SlotName, Word};
 use pa_record::{Answer, Batch, Journal, Numbered, RootAct, RootEntry, Seen};
 use pa_rules::Played;
@@ -82,7 +82,9 @@ fn is_homed(homes: &BTreeMap<u64, Home>, home: Home, slot: SlotName) -> bool
 {
     match find(homes, key(slot)) {
         Some(found) => {
-            found.partition == home.partition && is_same_class(found.class, home.class)
+            found.partition == home.partition
+                && found.bytes == home.bytes
+                && is_same_class(found.class, home.class)
         }
         None => false,
     }
@@ -116,12 +118,20 @@ fn is_entry_homed(homes: &BTreeMap<u64, Home>, partition: u32, entry: &RootEntry
 {
     match &entry.act {
         RootAct::Fill { class, slots, .. } => {
-            let class = Some(class.number());
-            are_slots_homed(homes, Home { partition, class }, slots.items())
+            let home = Home {
+                partition,
+                class: Some(class.number()),
+                bytes: slot_size(*class),
+            };
+            are_slots_homed(homes, home, slots.items())
         }
-        RootAct::Map { slot, .. } => {
-            let class = None;
-            is_homed(homes, Home { partition, class }, *slot)
+        RootAct::Map { slot, len, .. } => {
+            let home = Home {
+                partition,
+                class: None,
+                bytes: *len,
+            };
+            is_homed(homes, home, *slot)
         }
         _ => true,
     }

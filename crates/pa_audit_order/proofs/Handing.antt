@@ -17,7 +17,7 @@ use Rattle.pa_audit_records.specs.Exchanges.{AreByLine}
 use Rattle.pa_rules.specs.Rising.{RiseByLine}
 use Rattle.pa_audit_records.specs.Tables.{Puts}
 use Rattle.pa_audit_records.proofs.Walking.{here_is}
-use Rattle.pa_audit_order.specs.Steps.{IsGiving, IsLastOf, ArePrevious}
+use Rattle.pa_audit_order.specs.Steps.{AreGivers, ArePrevious, IsGiverOf, IsGiving, IsLastOf}
 use Rattle.pa_audit_order.proofs.Stamping.{one_place}
 
 -- ---- the record before, of the same thread
@@ -83,6 +83,25 @@ previous_more ps table f k d o below is last h = record {
         let one : get_or ps k d ≡ y = of_some (get_or ps k d) y (sym (here_is ps k d below) ∙ ap (slice_get ps) index ∙ here) in
         let there : IsLastOf ps (get_or ps k d).thread k w = subst (IsLastOf ps (get_or ps k d).thread k) (sym is ∙ same) (last (get_or ps k d).thread) in
         subst (λ n. IsLastOf ps y.thread n w) index (subst (λ (z : Played). IsLastOf ps z.thread k w) one there)
+  ];
+}
+
+-- ---- the record that handed over to each one
+
+pub givers_start : (cells : ℕ → List CellEntry) (ps : List Played) → AreGivers cells ps [] 0
+givers_start cells ps = record { long = refl; hands = λ i y o is here. absurd (not_some o is) }
+
+pub givers_more : (cells : ℕ → List CellEntry) (ps : List Played) (table : List (Option ℕ)) (k : ℕ) (d : Played) (o : Option ℕ) → k < length ps → IsGiverOf cells ps (get_or ps k d) o → AreGivers cells ps table k
+    → AreGivers cells ps (table ++ o ∷ []) (k + 1)
+givers_more cells ps table k d o below giver h = record {
+  long = let long = h.long in let push = length_push table o in omega (arith, long, push);
+  hands = λ i y w at here. elim (push_at table o w i at) [
+    | inl early ↦ h.hands i y w early here
+    | inr (end, same) ↦
+        let long = h.long in
+        let index : k ≡ i = omega (arith, end, long) in
+        let one : get_or ps k d ≡ y = of_some (get_or ps k d) y (sym (here_is ps k d below) ∙ ap (slice_get ps) index ∙ here) in
+        subst (λ (z : Played). IsGiverOf cells ps z w) one (subst (λ z. IsGiverOf cells ps (get_or ps k d) z) same giver)
   ];
 }
 

@@ -3,13 +3,11 @@ use Rattle.std.specs.Prelude.{◌≡◌, ℕ, ◌<◌, ◌≤◌, ◌⊎◌, if�
 use Rattle.pa_machine.specs.Run.{Mark}
 use Rattle.pa_record.specs.declared.history.CellEntry.{CellEntry}
 use Rattle.pa_rules.specs.declared.played.Played.{Played}
-use Rattle.pa_rules.specs.declared.verdict.Place.TheVariants as places
-use Rattle.pa_rules.specs.RecordDemands.{IsRecord, CellsDemand}
+use Rattle.pa_rules.specs.RecordDemands.{IsRecord}
 use Rattle.pa_rules.specs.Seen.{IsBefore, HandsTo}
-use Rattle.pa_audit_records.specs.Exchanges.{AreByLine}
 use Rattle.pa_rules.specs.Rising.{RiseByLine}
 use Rattle.pa_audit_order.specs.Looks.{IsMarked, AreLeft, FindsEnough}
-use Rattle.pa_audit_order.specs.Steps.{NeverFallsBack, IsLastOf, ArePrevious}
+use Rattle.pa_audit_order.specs.Steps.{NeverFallsBack, IsLastOf, ArePrevious, AreGivers}
 
 -- x is before each record of the thread from place k on
 abbrev pub IsAhead : (ℕ → List CellEntry) → List Played → ℕ → ℕ → Played → Type 0
@@ -45,14 +43,12 @@ pub record IsGrown (cells : ℕ → List CellEntry) (ps : List Played) (Ahead : 
 abbrev pub unmarked : List Bool → ℕ
 unmarked marked = sum_by (λ b. if b then 0 else 1) marked
 
--- What the walk finds ready: records in order, the record of each line and the one before each of its thread, and cells that hold.
-pub record IsPrepared (cells : ℕ → List CellEntry) (ps : List Played) (previous : List (Option ℕ)) (by_line : ℕ → Option ℕ) : Type 0 where
+-- What the walk finds ready: records in order, and for each record the one before it of its thread and the one that handed over to it.
+pub record IsPrepared (cells : ℕ → List CellEntry) (ps : List Played) (previous givers : List (Option ℕ)) : Type 0 where
   pub rising : RiseByLine ps
   pub phases : NeverFallsBack ps
   pub threads : ArePrevious ps previous (length ps)
-  pub lines : AreByLine ps by_line
-  pub swaps : (i : ℕ) → CellsDemand cells ps (places.Record i)
-  pub exchanges : (k j : ℕ) → CellsDemand cells ps (places.Cell k j)
+  pub hands : AreGivers cells ps givers (length ps)
 
 -- what is told of the records of one thread: as TellsFirst tells of all
 abbrev pub TellsOf : List Played → ℕ → (ℕ → Type 0) → Option ℕ → Type 0

@@ -1,5 +1,5 @@
 -- The steps that lead to a record from those before it, as a walk goes them.
-use Rattle.std.specs.Prelude.{◌≡◌, ◌≢◌, ℕ, ◌+◌, ◌<◌, ◌≤◌, ◌⊎◌, AllPairs, List, [], ◌∷◌, Option, Some, None, Contains, length, slice_get}
+use Rattle.std.specs.Prelude.{◌≡◌, ◌≢◌, ℕ, ◌+◌, ◌<◌, ◌≤◌, ◌⊎◌, AllPairs, List, [], ◌∷◌, Option, Some, None, IfSome, Contains, length, slice_get}
 use Rattle.pa_trace.specs.declared.script.Line.{Line}
 use Rattle.pa_record.specs.declared.entry.Entry.{Entry}
 use Rattle.pa_record.specs.declared.history.CellEntry.{CellEntry}
@@ -33,6 +33,16 @@ IsLastOf ps t k (Some i) =
 pub record ArePrevious (ps : List Played) (table : List (Option ℕ)) (k : ℕ) : Type 0 where
   pub long : length table ≡ k
   pub last : (i : ℕ) (y : Played) (o : Option ℕ) → slice_get table i ≡ Some o → IsRecord ps i y → IsLastOf ps y.thread i o
+
+-- a handle was handed over to this record by that one, or by none
+pub record IsGiverOf (cells : ℕ → List CellEntry) (ps : List Played) (y : Played) (o : Option ℕ) : Type 0 where
+  pub some : IfSome o (λ j. (x : Played) × IsRecord ps j x × HandsTo cells x y)
+  pub all : (j : ℕ) (x : Played) → IsRecord ps j x → HandsTo cells x y → o ≡ Some j
+
+-- the table has for each of so many records the one that handed over to it
+pub record AreGivers (cells : ℕ → List CellEntry) (ps : List Played) (table : List (Option ℕ)) (k : ℕ) : Type 0 where
+  pub long : length table ≡ k
+  pub hands : (i : ℕ) (y : Played) (o : Option ℕ) → slice_get table i ≡ Some o → IsRecord ps i y → IsGiverOf cells ps y o
 
 -- a record, where there is one, as a list
 abbrev pub as_list : Option ℕ → List ℕ

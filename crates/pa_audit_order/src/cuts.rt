@@ -8,7 +8,6 @@ ghost use Rattle.pa_audit_order.specs.Looks.{IsMarked, AreLeft, FindsEnough};
 ghost use Rattle.pa_audit_order.specs.Steps.{Adds, AddsAll, AddsSteps, as_list};
 ghost use Rattle.pa_audit_order.specs.Cuts.{IsAheadAt, IsNear, IsGrown, IsPrepared};
 
-use crate::hands::giver;
 use crate::keys::{key, raise};
 use crate::looks::look_of;
 use pa_machine::OutOfMemory;
@@ -74,21 +73,21 @@ fn raise_floor(
 fn add_steps(
     records: &[Played],
     previous: &[Option<u32>],
-    by_line: &BTreeMap<u128, u32>,
+    givers: &[Option<u32>],
     cells: &[History],
     at: u32,
     stack: &mut Vec<u32>,
     floor: &mut usize,
 ) -> Result<(), OutOfMemory>
     requires few { length records.now < 2 ^ 32 }
-    requires ready { IsPrepared (history_at cells.now) records.now previous.now (get nat_cmp by_line.now) }
+    requires ready { IsPrepared (history_at cells.now) records.now previous.now givers.now }
     requires at { at < length records.now }
     requires within { floor.old ≤ length records.now }
     ensures { OnOk result (AddsSteps (history_at cells.now) records.now at stack.old.items floor.old stack.new.items floor.new) }
 {
     let told = records[at as usize];
     push(stack, previous[at as usize])?;
-    push(stack, giver(records, by_line, cells, told))?;
+    push(stack, givers[at as usize])?;
     raise_floor(records, told.phase, stack, floor)?;
     Ok(())
 }
@@ -117,13 +116,13 @@ fn mark(
 pub(crate) fn reach(
     records: &[Played],
     previous: &[Option<u32>],
-    by_line: &BTreeMap<u128, u32>,
+    givers: &[Option<u32>],
     cells: &[History],
     at: u32,
     cut: &mut Cut,
 ) -> Result<(), OutOfMemory>
     requires few { length records.now < 2 ^ 32 }
-    requires ready { IsPrepared (history_at cells.now) records.now previous.now (get nat_cmp by_line.now) }
+    requires ready { IsPrepared (history_at cells.now) records.now previous.now givers.now }
     requires at { at < length records.now }
     requires cut { IsGrown (history_at cells.now) records.now (IsAheadAt (history_at cells.now) records.now at) (length records.now)
         cut.old.marked.items cut.old.stack.items cut.old.floor (get nat_cmp cut.old.left) }
@@ -135,7 +134,7 @@ pub(crate) fn reach(
     add_steps(
         records,
         previous,
-        by_line,
+        givers,
         cells,
         at,
         &mut cut.stack,
@@ -147,7 +146,7 @@ pub(crate) fn reach(
             add_steps(
                 records,
                 previous,
-                by_line,
+                givers,
                 cells,
                 next,
                 &mut cut.stack,

@@ -10,7 +10,7 @@ ghost use Rattle.pa_rules.specs.RecordDemands.{IsRecord, CellsDemand};
 ghost use Rattle.pa_rules.specs.Seen.{HandsTo};
 ghost use Rattle.pa_audit_records.specs.Exchanges.{AreByLine};
 ghost use Rattle.pa_rules.specs.Rising.{RiseByLine};
-ghost use Rattle.pa_audit_order.specs.Steps.{IsGiving, ArePrevious};
+ghost use Rattle.pa_audit_order.specs.Steps.{AreGivers, ArePrevious, IsGiving};
 
 use crate::changes::exchange;
 use crate::keys::{find, put};
@@ -22,7 +22,7 @@ use std::alloc::Global;
 use std::collections::BTreeMap;
 
 // The record of each line.
-pub(crate) fn by_line(alloc: Global, records: &[Played]) -> Result<BTreeMap<u128, u32>, OutOfMemory>
+fn by_line(alloc: Global, records: &[Played]) -> Result<BTreeMap<u128, u32>, OutOfMemory>
     requires few { length records.now < 2 ^ 32 }
     ensures { IfOk result (λ m. AreByLine records.now (get nat_cmp m)) }
 {
@@ -88,7 +88,7 @@ fn given_to(cells: &[History], told: Played) -> Option<u32>
 }
 
 // That record.
-pub(crate) fn giver(
+fn giver(
     records: &[Played],
     by_line: &BTreeMap<u128, u32>,
     cells: &[History],
@@ -106,4 +106,25 @@ pub(crate) fn giver(
         Some(line) => find(by_line, line as u128),
         None => None,
     }
+}
+
+// The record that handed over to each one.
+pub(crate) fn givers_of(
+    alloc: Global,
+    records: &[Played],
+    cells: &[History],
+) -> Result<Vec<Option<u32>>, OutOfMemory>
+    requires few { length records.now < 2 ^ 32 }
+    requires rising { RiseByLine records.now }
+    requires swaps { (i : ℕ) → CellsDemand (history_at cells.now) records.now (places.Record i) }
+    requires exchanges { (k j : ℕ) → CellsDemand (history_at cells.now) records.now (places.Cell k j) }
+    ensures { IfOk result (λ v. AreGivers (history_at cells.now) records.now v.items (length records.now)) }
+{
+    let by_line = by_line(alloc, records)?;
+    let mut givers = Vec::new(alloc);
+    for record in records {
+        let giver = giver(records, &by_line, cells, *record);
+        givers.push(giver)?;
+    }
+    Ok(givers)
 }

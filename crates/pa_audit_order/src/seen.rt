@@ -13,7 +13,7 @@ ghost use Rattle.pa_audit_order.specs.Steps.{NeverFallsBack, RecordsNeverFallBac
 ghost use Rattle.pa_audit_order.specs.Cuts.{IsPrepared, IsOrderly, TellsOf, earlier_of};
 
 use crate::cuts::{Cut, finds_enough, no_cut, reach};
-use crate::hands::{by_line, previous_of};
+use crate::hands::{givers_of, previous_of};
 use pa_machine::OutOfMemory;
 use pa_record::History;
 use pa_rules::Played;
@@ -39,10 +39,10 @@ pub fn seen_meets(
     ensures { IfOk result (TellsFirst (λ i. SeenDemand (history_at cells.now) records.now (places.Record i))) }
 {
     let previous = previous_of(alloc, records)?;
-    let by_line = by_line(alloc, records)?;
+    let givers = givers_of(alloc, records, cells)?;
     let mut first = None;
     for thread in 0..THREADS {
-        let told = walk(alloc, records, &previous, &by_line, cells, thread)?;
+        let told = walk(alloc, records, &previous, &givers, cells, thread)?;
         first = earlier(first, told);
     }
     Ok(first)
@@ -76,19 +76,19 @@ fn walk(
     alloc: Global,
     records: &[Played],
     previous: &[Option<u32>],
-    by_line: &BTreeMap<u128, u32>,
+    givers: &[Option<u32>],
     cells: &[History],
     thread: u32,
 ) -> Result<Option<u32>, OutOfMemory>
     requires few { length records.now < 2 ^ 32 }
-    requires ready { IsPrepared (history_at cells.now) records.now previous.now (get nat_cmp by_line.now) }
+    requires ready { IsPrepared (history_at cells.now) records.now previous.now givers.now }
     ensures { IfOk result (TellsOf records.now thread (λ i. SeenDemand (history_at cells.now) records.now (places.Record i))) }
 {
     let mut cut = no_cut(alloc, records.len())?;
     let mut at: u32 = 0;
     for record in records {
         if record.thread == thread {
-            reach(records, previous, by_line, cells, at, &mut cut)?;
+            reach(records, previous, givers, cells, at, &mut cut)?;
             if !is_fresh(&cut, at, *record) {
                 return Ok(Some(at));
             }

@@ -18,15 +18,15 @@ use Rattle.pa_rules.proofs.Numbering.{rising_differ}
 use Rattle.pa_rules.proofs.Phases.{runs_until}
 use Rattle.pa_legal.specs.Tallies.{IsTallied}
 use Rattle.pa_legal.proofs.Titling.{one_kind}
+use Rattle.pa_audit_holders.specs.Lists.{no_slots}
 use Rattle.pa_audit_holders.proofs.Caching.{HaveOneKind}
 use Rattle.pa_audit_report.specs.declared.counts.InUse.{InUse}
-use Rattle.pa_audit_report.specs.declared.sizes.Sized.{Sized}
-use Rattle.pa_audit_report.specs.Cached.{AreCachedAt, FillsAreShort, no_slots}
+use Rattle.pa_audit_holders.specs.declared.homes.Home.{Home}
+use Rattle.pa_audit_report.specs.Cached.{AreCachedAt}
 use Rattle.pa_audit_report.specs.Counts.{IsUse}
 use Rattle.pa_audit_report.specs.Due.{AreColumns, GathersTo, IsColumn, IsDueAt, IsReportTo, line_by, phases_to}
 use Rattle.pa_audit_report.specs.Given.{IsGiven}
-use Rattle.pa_audit_report.specs.Sized.{KnowsSizes}
-use Rattle.pa_audit_report.proofs.Caching.{fill_short}
+use Rattle.pa_audit_holders.specs.Homes.{KnowsHomes}
 use Rattle.pa_audit_report.proofs.Cutting.{each_next, long_next}
 use Rattle.pa_audit_report.proofs.Tallying.{live_is, quarantined_is}
 
@@ -47,9 +47,6 @@ kinds_given supers partitions ps pools roots g s =
     let kind = one_kind supers partitions ps pools roots s g.journals g.pool in
     record { class = kind.class; direct = kind.direct; either = kind.either }
 
-pub fills_given : (supers partitions : ℕ) (ps : List Played) (pools : List PoolEntry) (roots : Journals) → IsGiven supers partitions ps pools roots → FillsAreShort roots
-fills_given supers partitions ps pools roots g p j class asked slots e at is = fill_short pools class asked slots e.act _ is (g.entries p j e at).fits
-
 tallied_given : (supers partitions n : ℕ) (ps : List Played) (pools : List PoolEntry) (roots : Journals) → IsGiven supers partitions ps pools roots → IsTallied supers partitions ps (until n ps) pools roots
 tallied_given supers partitions n ps pools roots g =
     let differ = rising_differ ps g.rising in
@@ -62,8 +59,8 @@ tallied_given supers partitions n ps pools roots g =
 
 -- ---- a line
 
-pub line_due : (supers partitions threads p i : ℕ) (ps : List Played) (pools : List PoolEntry) (roots : Journals) (at : ℕ → Option Sized) (u : InUse) (tallies : List Tally) (cached : Tally) (c : Census) (l : ReportLine)
-    → IsGiven supers partitions ps pools roots → KnowsSizes roots at → p < 4 → IsUse at p (until (i + 1) ps) u → AreCachedAt partitions threads roots (until (i + 1) ps) tallies → cached ≡ slice_index_or tallies p no_slots
+pub line_due : (supers partitions threads p i : ℕ) (ps : List Played) (pools : List PoolEntry) (roots : Journals) (at : ℕ → Option Home) (u : InUse) (tallies : List Tally) (cached : Tally) (c : Census) (l : ReportLine)
+    → IsGiven supers partitions ps pools roots → KnowsHomes roots at → p < 4 → IsUse at p (until (i + 1) ps) u → AreCachedAt partitions threads roots (until (i + 1) ps) tallies → cached ≡ slice_index_or tallies p no_slots
     → HasCensus ps pools roots (i + 1) p c → l ≡ line_by (i + 1) p u cached c → IsDueAt partitions threads ps pools roots (i + 1) p l
 line_due supers partitions threads p i ps pools roots at u tallies cached c l g knows low used listed is census same =
     let tallied = tallied_given supers partitions (i + 1) ps pools roots g in

@@ -16,7 +16,7 @@ use Rattle.pa_rules.specs.Flow.{at_step}
 use Rattle.pa_rules.specs.Played.{mark_at, mark_of, mark_of_answer, marks_of, step_of}
 use Rattle.pa_legal.specs.Tallies.{issues, frees, enters, leaves, weight_of, one_of, bytes_of}
 use Rattle.pa_audit_heap.proofs.Listed.{front_more}
-use Rattle.pa_audit_report.specs.declared.sizes.Sized.{Sized}
+use Rattle.pa_audit_holders.specs.declared.homes.Home.{Home}
 use Rattle.pa_audit_report.specs.declared.counts.Count.{Count}
 use Rattle.pa_audit_report.specs.declared.counts.Stepped.{Stepped}
 use Rattle.pa_audit_report.specs.Counts.{HasCounted, HasRoom, HasRoomFor, IsBytesOf, IsDoneOf, IsStepOf, IsTotal, MovesNothing, mark_passes, passes, raised_by, tally_more}
@@ -63,7 +63,7 @@ if_zero false n e = refl
 
 -- ---- a tally
 
-module _ (test : Step → ℕ → Bool) (at : ℕ → Option Sized) (p : ℕ) (xs : List Played) (x : Played) (t : Tally) (h : IsTotal test at p xs t) where
+module _ (test : Step → ℕ → Bool) (at : ℕ → Option Home) (p : ℕ) (xs : List Played) (x : Played) (t : Tally) (h : IsTotal test at p xs t) where
   abbrev ones : SlotName → ℕ
   ones = one_of (home_in at) p
 
@@ -107,7 +107,7 @@ module _ (test : Step → ℕ → Bool) (at : ℕ → Option Sized) (p : ℕ) (x
 
 -- ---- the counts
 
-pub counted_quiet : (at : ℕ → Option Sized) (p i : ℕ) (ps : List Played) (x : Played) (c : Count) → slice_get ps i ≡ Some x → MovesNothing x → HasCounted at p (take i ps) c → HasCounted at p (take (i + 1) ps) c
+pub counted_quiet : (at : ℕ → Option Home) (p i : ℕ) (ps : List Played) (x : Played) (c : Count) → slice_get ps i ≡ Some x → MovesNothing x → HasCounted at p (take i ps) c → HasCounted at p (take (i + 1) ps) c
 counted_quiet at p i ps x c there none h = subst (λ zs. HasCounted at p zs c) (sym (front_more ps i x there)) (record {
   issued = quiet issues at p (take i ps) x c.issued h.issued none.issues_not;
   freed = quiet frees at p (take i ps) x c.freed h.freed none.frees_not;
@@ -115,7 +115,7 @@ counted_quiet at p i ps x c there none h = subst (λ zs. HasCounted at p zs c) (
   left = quiet leaves at p (take i ps) x c.left h.left none.leaves_not;
 })
 
-pub counted_other : (at : ℕ → Option Sized) (p i : ℕ) (ps : List Played) (x : Played) (z : Stepped) (c : Count) → slice_get ps i ≡ Some x → IsStepOf x z → home_in at z.slot ≢ p → HasCounted at p (take i ps) c → HasCounted at p (take (i + 1) ps) c
+pub counted_other : (at : ℕ → Option Home) (p i : ℕ) (ps : List Played) (x : Played) (z : Stepped) (c : Count) → slice_get ps i ≡ Some x → IsStepOf x z → home_in at z.slot ≢ p → HasCounted at p (take i ps) c → HasCounted at p (take (i + 1) ps) c
 counted_other at p i ps x z c there step away h =
     let m = step.mark in
     let far : home_in at step.mark.slot ≢ p = subst (λ s. home_in at s ≢ p) (sym step.slot) away in
@@ -126,7 +126,7 @@ counted_other at p i ps x z c there step away h =
       left = other leaves at p (take i ps) x c.left h.left m step.is far;
     })
 
-pub counted_more : (at : ℕ → Option Sized) (p i n : ℕ) (ps : List Played) (x : Played) (z : Stepped) (c : Count) → slice_get ps i ≡ Some x → IsStepOf x z → IsBytesOf at p z.slot n → n < 4294967296 → HasCounted at p (take i ps) c
+pub counted_more : (at : ℕ → Option Home) (p i n : ℕ) (ps : List Played) (x : Played) (z : Stepped) (c : Count) → slice_get ps i ≡ Some x → IsStepOf x z → IsBytesOf at p z.slot n → n < 4294967296 → HasCounted at p (take i ps) c
     → HasCounted at p (take (i + 1) ps) (raised_by c z n)
 counted_more at p i n ps x z c there step is few h =
     let m = step.mark in
@@ -138,10 +138,10 @@ counted_more at p i n ps x z c there step is few h =
       left = more leaves at p (take i ps) x c.left h.left m z.leaves n step.is step.leaves_is here few;
     })
 
-room : (test : Step → ℕ → Bool) (at : ℕ → Option Sized) (p : ℕ) (xs : List Played) (t : Tally) → length xs < 65536 → IsTotal test at p xs t → HasRoomFor t
+room : (test : Step → ℕ → Bool) (at : ℕ → Option Home) (p : ℕ) (xs : List Played) (t : Tally) → length xs < 65536 → IsTotal test at p xs t → HasRoomFor t
 room test at p xs t short h = let a = h.few in let b = h.small in (omega arith, omega arith)
 
-pub has_room : (at : ℕ → Option Sized) (p : ℕ) (xs : List Played) (c : Count) → length xs < 65536 → HasCounted at p xs c → HasRoom c
+pub has_room : (at : ℕ → Option Home) (p : ℕ) (xs : List Played) (c : Count) → length xs < 65536 → HasCounted at p xs c → HasRoom c
 has_room at p xs c short h = record {
   issued = room issues at p xs c.issued short h.issued;
   freed = room frees at p xs c.freed short h.freed;

@@ -18,30 +18,31 @@ use Rattle.pa_rules.proofs.Phases.{mark_in}
 use Rattle.pa_rules.proofs.Running.{mark_from}
 use Rattle.pa_legal.specs.Tallies.{AreHomes, IsLeft, IsTallied, WentIn, bytes_of, enters, frees, issues, leaves, one_of, weight_of}
 use Rattle.pa_legal.proofs.tallies.Adding.{tallies_follow}
-use Rattle.pa_audit_report.specs.declared.sizes.Sized.{Sized}
+use Rattle.pa_audit_holders.specs.declared.homes.Home.{Home}
 use Rattle.pa_audit_report.specs.declared.counts.InUse.{InUse}
 use Rattle.pa_audit_report.specs.Counts.{IsTotal, IsUse, less_of}
-use Rattle.pa_audit_report.specs.Sized.{KnowsSizes, home_in, partition_by, bytes_by, size_in, sized_at}
+use Rattle.pa_audit_holders.specs.Homes.{KnowsHomes, home_at}
+use Rattle.pa_audit_report.specs.Sized.{home_in, partition_by, bytes_by, size_in}
 use Rattle.pa_audit_report.proofs.Counting.{one_weight, weight_first}
 use Rattle.pa_audit_report.proofs.Sizing.{size_known, sized_there}
 
 -- the journals handed the slot out, by the table; a record that tells of another slot is left out
-abbrev homed : (ℕ → Option Sized) → SlotName → Bool
-homed at s = is_some (sized_at at s)
+abbrev homed : (ℕ → Option Home) → SlotName → Bool
+homed at s = is_some (home_at at s)
 
-abbrev mark_homed : (ℕ → Option Sized) → Option Mark → Bool
+abbrev mark_homed : (ℕ → Option Home) → Option Mark → Bool
 mark_homed at None = true
 mark_homed at (Some m) = homed at m.slot
 
-abbrev keeps : (ℕ → Option Sized) → Played → Bool
+abbrev keeps : (ℕ → Option Home) → Played → Bool
 keeps at x = mark_homed at (mark_of x)
 
-abbrev those : (ℕ → Option Sized) → List Played → List Played
+abbrev those : (ℕ → Option Home) → List Played → List Played
 those at xs = filter (keeps at) xs
 
 -- ---- the marks of a slot that was handed out stay
 
-marks_stay : (at : ℕ → Option Sized) (xs : List Played) (m : Mark) → homed at m.slot ≡ true → Contains (marks_of xs) m ↔ Contains (marks_of (those at xs)) m
+marks_stay : (at : ℕ → Option Home) (xs : List Played) (m : Mark) → homed at m.slot ≡ true → Contains (marks_of xs) m ↔ Contains (marks_of (those at xs)) m
 marks_stay at xs m home = (
   λ among.
       let (x, member, is) = mark_from xs m among in
@@ -52,7 +53,7 @@ marks_stay at xs m home = (
       mark_in xs x m (filter_cases (keeps at) xs x member).0 is,
 )
 
-marks_homed : (at : ℕ → Option Sized) (xs : List Played) (m : Mark) → Contains (marks_of (those at xs)) m → homed at m.slot ≡ true
+marks_homed : (at : ℕ → Option Home) (xs : List Played) (m : Mark) → Contains (marks_of (those at xs)) m → homed at m.slot ≡ true
 marks_homed at xs m among =
     let (x, member, is) = mark_from (those at xs) m among in
     sym (ap (mark_homed at) is) ∙ (filter_cases (keeps at) xs x member).1
@@ -64,7 +65,7 @@ SameMarks s ms ns = (m : Mark) → m.slot ≡ s → Contains ms m ↔ Contains n
 turned : (s : SlotName) (ms ns : List Mark) → SameMarks s ms ns → SameMarks s ns ms
 turned s ms ns h m of = ((h m of).1, (h m of).0)
 
-same_marks : (at : ℕ → Option Sized) (xs : List Played) (s : SlotName) → homed at s ≡ true → SameMarks s (marks_of xs) (marks_of (those at xs))
+same_marks : (at : ℕ → Option Home) (xs : List Played) (s : SlotName) → homed at s ≡ true → SameMarks s (marks_of xs) (marks_of (those at xs))
 same_marks at xs s home m of = marks_stay at xs m (ap (homed at) of ∙ home)
 
 first_same : (ms ns : List Mark) (s : SlotName) (u : ℕ) (m : Mark) (p : Step) → SameMarks s ms ns → IsFirstAt ms s u m p → IsFirstAt ns s u m p
@@ -86,7 +87,7 @@ one_same ms ns s ws h one = record {
   used = λ m p among of step. let (first, can) = one.used m p ((h m of).1 among) of step in (first_same ms ns s m.found m p h first, can);
 }
 
-slots_stay : (at : ℕ → Option Sized) (xs : List Played) → Slots (marks_of xs) → Slots (marks_of (those at xs))
+slots_stay : (at : ℕ → Option Home) (xs : List Played) → Slots (marks_of xs) → Slots (marks_of (those at xs))
 slots_stay at xs slots s = by_home (homed at s) refl
   where
     by_home : (b : Bool) → homed at s ≡ b → (vs : List ℕ) × IsRunFrom (marks_of (those at xs)) s 0 vs × IsOneRun (marks_of (those at xs)) s (0 ∷ vs)
@@ -104,7 +105,7 @@ slots_stay at xs slots s = by_home (homed at s) refl
 
 -- ---- what is left out weighs nothing
 
-weighs_none : (test : Step → ℕ → Bool) (weight : SlotName → ℕ) (at : ℕ → Option Sized) (o : Option Mark) → ((s : SlotName) → homed at s ≡ false → weight s ≡ 0) → mark_homed at o ≡ false → one_weight test weight o ≡ 0
+weighs_none : (test : Step → ℕ → Bool) (weight : SlotName → ℕ) (at : ℕ → Option Home) (o : Option Mark) → ((s : SlotName) → homed at s ≡ false → weight s ≡ 0) → mark_homed at o ≡ false → one_weight test weight o ≡ 0
 weighs_none test weight at None h away = absurd (false≢true (sym away))
 weighs_none test weight at (Some m) h away = by_test (at_step test m.found m.step)
   where
@@ -112,7 +113,7 @@ weighs_none test weight at (Some m) h away = by_test (at_step test m.found m.ste
     by_test true = h m.slot away
     by_test false = refl
 
-weight_stays : (test : Step → ℕ → Bool) (weight : SlotName → ℕ) (at : ℕ → Option Sized) (xs : List Played) → ((s : SlotName) → homed at s ≡ false → weight s ≡ 0)
+weight_stays : (test : Step → ℕ → Bool) (weight : SlotName → ℕ) (at : ℕ → Option Home) (xs : List Played) → ((s : SlotName) → homed at s ≡ false → weight s ≡ 0)
     → weight_of test weight (marks_of (those at xs)) ≡ weight_of test weight (marks_of xs)
 weight_stays test weight at [] h = refl
 weight_stays test weight at (x ∷ xs) h = by_keep (keeps at x) refl (weight_stays test weight at xs h)
@@ -133,22 +134,22 @@ weight_stays test weight at (x ∷ xs) h = by_keep (keeps at x) refl (weight_sta
         let same : those at (x ∷ xs) ≡ those at xs = rw away refl in
         ap (λ zs. weight_of test weight (marks_of zs)) same ∙ again ∙ sym (b ∙ ap (λ n. n + weight_of test weight (marks_of xs)) none ∙ plain (weight_of test weight (marks_of xs)))
 
-away_home : (at : ℕ → Option Sized) (p : ℕ) (s : SlotName) → p < 4 → homed at s ≡ false → home_in at s ≢ p
-away_home at p s low away same = by_size (sized_at at s) refl
+away_home : (at : ℕ → Option Home) (p : ℕ) (s : SlotName) → p < 4 → homed at s ≡ false → home_in at s ≢ p
+away_home at p s low away same = by_size (home_at at s) refl
   where
-    by_size : (o : Option Sized) → sized_at at s ≡ o → ⊥
+    by_size : (o : Option Home) → home_at at s ≡ o → ⊥
     by_size None e = let four : home_in at s ≡ 4 = ap partition_by e in omega (arith, four, low, same)
     by_size (Some z) e = false≢true (sym away ∙ ap is_some e)
 
-one_none : (at : ℕ → Option Sized) (p : ℕ) → p < 4 → (s : SlotName) → homed at s ≡ false → one_of (home_in at) p s ≡ 0
+one_none : (at : ℕ → Option Home) (p : ℕ) → p < 4 → (s : SlotName) → homed at s ≡ false → one_of (home_in at) p s ≡ 0
 one_none at p low s away = rw (ne_eqb (home_in at s) p (away_home at p s low away)) refl
 
-bytes_none : (at : ℕ → Option Sized) (p : ℕ) → p < 4 → (s : SlotName) → homed at s ≡ false → bytes_of (home_in at) (size_in at) p s ≡ 0
+bytes_none : (at : ℕ → Option Home) (p : ℕ) → p < 4 → (s : SlotName) → homed at s ≡ false → bytes_of (home_in at) (size_in at) p s ≡ 0
 bytes_none at p low s away = rw (ne_eqb (home_in at s) p (away_home at p s low away)) refl
 
 -- ---- the tally
 
-left_is : (into out : Step → ℕ → Bool) (at : ℕ → Option Sized) (p : ℕ) (xs : List Played) (a b tally : Tally) → p < 4 → IsTotal into at p xs a → IsTotal out at p xs b → tally ≡ less_of a b
+left_is : (into out : Step → ℕ → Bool) (at : ℕ → Option Home) (p : ℕ) (xs : List Played) (a b tally : Tally) → p < 4 → IsTotal into at p xs a → IsTotal out at p xs b → tally ≡ less_of a b
     → WentIn into out (home_in at) (size_in at) p (marks_of (those at xs)) → IsLeft into out (home_in at) (size_in at) p (marks_of (those at xs)) tally
 left_is into out at p xs a b tally low x y is went =
     let s1 = weight_stays into (one_of (home_in at) p) at xs (one_none at p low) in
@@ -162,7 +163,7 @@ left_is into out at p xs a b tally low x y is went =
     let xs1 = x.slots in let xs2 = y.slots in let xb1 = x.bytes in let xb2 = y.bytes in
     record { slots = omega (arith, s1, s2, f, e, xs1, xs2); bytes = omega (arith, b1, b2, g, d, xb1, xb2) }
 
-module _ (supers partitions p : ℕ) (ps xs : List Played) (pools : List PoolEntry) (roots : Journals) (at : ℕ → Option Sized) (knows : KnowsSizes roots at) (given : IsTallied supers partitions ps xs pools roots) where
+module _ (supers partitions p : ℕ) (ps xs : List Played) (pools : List PoolEntry) (roots : Journals) (at : ℕ → Option Home) (knows : KnowsHomes roots at) (given : IsTallied supers partitions ps xs pools roots) where
   tallied : IsTallied supers partitions ps (those at xs) pools roots
   tallied = record {
     journals = given.journals;
@@ -172,12 +173,12 @@ module _ (supers partitions p : ℕ) (ps xs : List Played) (pools : List PoolEnt
   }
 
   homes : AreHomes roots (home_in at) (size_in at) (marks_of (those at xs))
-  homes m among = by_size (sized_at at m.slot) refl
+  homes m among = by_size (home_at at m.slot) refl
     where
-      by_size : (o : Option Sized) → sized_at at m.slot ≡ o → HasSize roots (home_in at m.slot) m.slot (size_in at m.slot)
+      by_size : (o : Option Home) → home_at at m.slot ≡ o → HasSize roots (home_in at m.slot) m.slot (size_in at m.slot)
       by_size None e = absurd (false≢true (sym (ap is_some e) ∙ marks_homed at xs m among))
       by_size (Some z) e =
-          let sized = sized_there roots at m.slot z knows.sizes e in
+          let sized = sized_there roots at m.slot z knows e in
           subst (λ k. HasSize roots k m.slot (size_in at m.slot)) (sym (ap partition_by e)) (subst (λ k. HasSize roots z.partition m.slot k) (sym (ap bytes_by e)) sized)
 
   word_stays : (s : SlotName) (len w : ℕ) → HasSize roots p s len → HasWord (those at xs) s w ↔ HasWord xs s w

@@ -11,7 +11,7 @@ use Rattle.pa_rules.specs.Flow.{at_step}
 use Rattle.pa_rules.specs.Played.{mark_of, marks_of, step_of}
 use Rattle.pa_rules.specs.Report.{until}
 use Rattle.pa_legal.specs.Tallies.{issues, frees, enters, leaves, weight_of, one_of, bytes_of}
-use Rattle.pa_audit_report.specs.declared.sizes.Sized.{Sized}
+use Rattle.pa_audit_holders.specs.declared.homes.Home.{Home}
 use Rattle.pa_audit_report.specs.declared.counts.Count.{Count}
 use Rattle.pa_audit_report.specs.declared.counts.InUse.{InUse}
 use Rattle.pa_audit_report.specs.declared.counts.Stepped.{Stepped}
@@ -19,13 +19,13 @@ use Rattle.pa_audit_report.specs.Cuts.{HasEach}
 use Rattle.pa_audit_report.specs.Sized.{home_in, size_in}
 
 -- by the test the tally is what the slots of partition p weigh on which these records made steps
-pub record IsTotal (test : Step → ℕ → Bool) (at : ℕ → Option Sized) (p : ℕ) (xs : List Played) (tally : Tally) : Type 0 where
+pub record IsTotal (test : Step → ℕ → Bool) (at : ℕ → Option Home) (p : ℕ) (xs : List Played) (tally : Tally) : Type 0 where
   pub slots : tally.slots ≡ weight_of test (one_of (home_in at) p) (marks_of xs)
   pub bytes : tally.bytes ≡ weight_of test (bytes_of (home_in at) (size_in at) p) (marks_of xs)
   pub few : tally.slots ≤ length xs
   pub small : tally.bytes ≤ 4294967296 * length xs
 
-pub record HasCounted (at : ℕ → Option Sized) (p : ℕ) (xs : List Played) (count : Count) : Type 0 where
+pub record HasCounted (at : ℕ → Option Home) (p : ℕ) (xs : List Played) (count : Count) : Type 0 where
   pub issued : IsTotal issues at p xs count.issued
   pub freed : IsTotal frees at p xs count.freed
   pub entered : IsTotal enters at p xs count.entered
@@ -71,11 +71,11 @@ pub record DoesNothing (op : Op) : Type 0 where
   pub leaves_not : (w : ℕ) → at_step leaves w (step_of op) ≡ false
 
 -- the slot is of partition p and has so many bytes; or it isn't of that partition
-pub record IsBytesOf (at : ℕ → Option Sized) (p : ℕ) (s : SlotName) (bytes : ℕ) : Type 0 where
+pub record IsBytesOf (at : ℕ → Option Home) (p : ℕ) (s : SlotName) (bytes : ℕ) : Type 0 where
   pub home : home_in at s ≡ p
   pub size : size_in at s ≡ bytes
 
-abbrev pub IsOfOther : (ℕ → Option Sized) → ℕ → SlotName → Type 0
+abbrev pub IsOfOther : (ℕ → Option Home) → ℕ → SlotName → Type 0
 IsOfOther at p s = home_in at s ≢ p
 
 -- a tally with a slot more, where it counts
@@ -107,12 +107,12 @@ abbrev pub less_of : Tally → Tally → Tally
 less_of into out = record { slots = into.slots - out.slots; bytes = into.bytes - out.bytes }
 
 -- the slots in use of partition p after these records
-pub record IsUse (at : ℕ → Option Sized) (p : ℕ) (xs : List Played) (u : InUse) : Type 0 where
+pub record IsUse (at : ℕ → Option Home) (p : ℕ) (xs : List Played) (u : InUse) : Type 0 where
   pub count : Count
   pub counted : HasCounted at p xs count
   pub live : u.live ≡ less_of count.issued count.freed
   pub quarantined : u.quarantined ≡ less_of count.entered count.left
 
 -- those at the end of each phase
-abbrev pub HaveUses : (ℕ → Option Sized) → ℕ → List Played → List InUse → Type 0
+abbrev pub HaveUses : (ℕ → Option Home) → ℕ → List Played → List InUse → Type 0
 HaveUses at p ps uses = HasEach (λ i u. IsUse at p (until (i + 1) ps) u) uses

@@ -5,26 +5,20 @@ ghost use Rattle.pa_machine.specs.declared.word.SlotName.{SlotName as Name};
 ghost use Rattle.pa_rules.specs.Roots.{journal_at};
 ghost use Rattle.pa_audit_holders.specs.Homes.{HasOneHome, KnowsHomes};
 ghost use Rattle.pa_audit_holders.specs.Lines.{HaveLines};
-ghost use Rattle.pa_audit_holders.specs.Lists.{cache_in, caches_in};
+ghost use Rattle.pa_audit_holders.specs.Lists.{caches_in};
 ghost use Rattle.pa_audit_holders.specs.Rows.{IsOfThreads};
 ghost use Rattle.pa_audit_report.specs.Cuts.{AreRecordCuts};
-ghost use Rattle.pa_audit_report.specs.Cached.{AreListed, AreShort, FillsAreShort, HaveCached, HaveLed, IsListed, IsListedBy, IsShort, MeetCaches};
+ghost use Rattle.pa_audit_report.specs.Cached.{HaveCached, HaveLed, HaveListed, IsListed, MeetCaches};
 
-use pa_audit_holders::{
-    ByLine, Home, ThreadLists, homes_of, lines_below, lines_of, no_lists, play,
-};
-use pa_buckets::{Class, slot_size};
+use pa_audit_holders::{ByLine, Home, ThreadLists, lines_below, lines_of, no_lists, play};
 use pa_machine::OutOfMemory;
 use pa_record::{Journal, Tally};
 use pa_rules::Played;
 use std::alloc::Global;
 use std::collections::BTreeMap;
 
-// The number of classes.
-const CLASSES: u32 = 59;
-
 // What the threads' lists have of each of four partitions at the end of each phase. The records of the first phases end at
-// these places.
+// these places. A phase with no record leaves what it finds.
 pub(crate) fn cached_of(
     alloc: Global,
     partitions: u32,
@@ -32,6 +26,7 @@ pub(crate) fn cached_of(
     records: &[Played],
     ends: &[usize],
     roots: &[Journal],
+    homes: &BTreeMap<u64, Home>,
 ) -> Result<Vec<[Tally; 4]>, OutOfMemory>
     requires partitions { partitions ≤ 4 }
     requires threads { threads ≤ 16 }
@@ -40,34 +35,76 @@ pub(crate) fn cached_of(
     requires ends { AreRecordCuts records.now ends.now }
     requires four { length roots.now ≤ 4 }
     requires entries { (p : ℕ) → length (journal_at roots.now p) < 2 ^ 32 }
+    requires homes { KnowsHomes (journal_at roots.now) (get nat_cmp homes.now) }
     requires kinds { (s : Name) → HasOneHome (journal_at roots.now) s }
-    requires short { FillsAreShort (journal_at roots.now) }
     requires caches { MeetCaches partitions (journal_at roots.now) records.now }
     ensures many { IfOk result (λ cached. length cached.items ≡ length ends.now) }
     ensures cached { IfOk result (λ cached. HaveCached partitions threads (journal_at roots.now) records.now cached.items) }
 {
     let lines = lines_of(alloc, lines_below(records), roots)?;
-    let homes = homes_of(alloc, roots)?;
     let mut caches = no_lists(alloc)?;
+    let mut listed = all_listed(threads, caches.as_slice());
     let mut cached = Vec::new(alloc);
     let mut from = 0;
     for end in ends {
-        play_on(
+        listed = listed_on(
             alloc,
             partitions,
+            threads,
             records,
             roots,
             lines.as_slice(),
-            &homes,
+            homes,
             &mut caches,
             from,
             *end,
+            listed,
         )?;
         from = *end;
-        let listed = all_listed(threads, caches.as_slice());
         cached.push(listed)?;
     }
     Ok(cached)
+}
+
+// Plays the records of these places, and tells what the lists have then; before they had so much. Where there are no records
+// nothing is counted.
+fn listed_on(
+    alloc: Global,
+    partitions: u32,
+    threads: u32,
+    records: &[Played],
+    roots: &[Journal],
+    lines: &[ByLine],
+    homes: &BTreeMap<u64, Home>,
+    caches: &mut Vec<ThreadLists>,
+    from: usize,
+    end: usize,
+    before: [Tally; 4],
+) -> Result<[Tally; 4], OutOfMemory>
+    requires partitions { partitions ≤ 4 }
+    requires many { threads ≤ 16 }
+    requires within { All IsOfThreads records.now }
+    requires four { length roots.now ≤ 4 }
+    requires known { (count : ℕ) × All (λ x. x.line < count) records.now × HaveLines roots.now count lines.now }
+    requires homes { KnowsHomes (journal_at roots.now) (get nat_cmp homes.now) }
+    requires kinds { (s : Name) → HasOneHome (journal_at roots.now) s }
+    requires meet { MeetCaches partitions (journal_at roots.now) records.now }
+    requires order { from ≤ end }
+    requires end { end ≤ length records.now }
+    requires threads { length caches.old.items ≡ 16 }
+    requires led { HaveLed partitions (journal_at roots.now) records.now from (caches_in caches.old.items) }
+    requires listed { HaveListed threads (caches_in caches.old.items) before }
+    ensures threads { OnOk result (length caches.new.items ≡ 16) }
+    ensures led { OnOk result (HaveLed partitions (journal_at roots.now) records.now end (caches_in caches.new.items)) }
+    ensures listed { IfOk result (HaveListed threads (caches_in caches.new.items)) }
+{
+    if from == end {
+        return Ok(before);
+    }
+    play_on(
+        alloc, partitions, records, roots, lines, homes, caches, from, end,
+    )?;
+    Ok(all_listed(threads, caches.as_slice()))
 }
 
 // Plays the records of these places.
@@ -88,7 +125,6 @@ fn play_on(
     requires known { (count : ℕ) × All (λ x. x.line < count) records.now × HaveLines roots.now count lines.now }
     requires homes { KnowsHomes (journal_at roots.now) (get nat_cmp homes.now) }
     requires kinds { (s : Name) → HasOneHome (journal_at roots.now) s }
-    requires short { FillsAreShort (journal_at roots.now) }
     requires meet { MeetCaches partitions (journal_at roots.now) records.now }
     requires order { from ≤ end }
     requires end { end ≤ length records.now }
@@ -107,9 +143,7 @@ fn play_on(
 fn all_listed(threads: u32, caches: &[ThreadLists]) -> [Tally; 4]
     requires threads { threads ≤ 16 }
     requires many { length caches.now ≡ 16 }
-    requires short { AreShort (caches_in caches.now) }
-    ensures many { length result ≡ 4 }
-    ensures listed { AreListed threads (caches_in caches.now) result }
+    ensures { HaveListed threads (caches_in caches.now) result }
 {
     [
         listed(threads, 0, caches),
@@ -123,30 +157,11 @@ fn listed(threads: u32, partition: u32, caches: &[ThreadLists]) -> Tally
     requires partition { partition < 4 }
     requires threads { threads ≤ 16 }
     requires many { length caches.now ≡ 16 }
-    requires short { AreShort (caches_in caches.now) }
     ensures { IsListed threads (caches_in caches.now) partition result }
 {
     let mut sum = Tally { slots: 0, bytes: 0 };
     for thread in 0..threads {
-        sum = both(sum, listed_by(partition, &caches[thread as usize]));
-    }
-    sum
-}
-
-// What one thread's lists have of a partition.
-fn listed_by(partition: u32, cache: &ThreadLists) -> Tally
-    requires partition { partition < 4 }
-    requires short { IsShort (cache_in cache.now) }
-    ensures listed { IsListedBy (cache_in cache.now) partition result }
-    ensures few { result.slots ≤ 3776 }
-    ensures small { result.bytes ≤ 3464495104 }
-{
-    let mut sum = Tally { slots: 0, bytes: 0 };
-    for number in 0..CLASSES {
-        let class = Class::of(number).unwrap();
-        let slots = cache.list(partition, class).len() as u64;
-        let bytes = slots * u64::from(slot_size(class));
-        sum = both(sum, Tally { slots, bytes });
+        sum = both(sum, caches[thread as usize].sum(partition));
     }
     sum
 }

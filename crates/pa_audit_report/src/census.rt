@@ -1,5 +1,6 @@
 ghost use Rattle.std.specs.Prelude.{◌≡◌, ℕ, ◌-◌, ◌<◌, ◌≤◌, ◌^◌, IfOk, OnOk, length};
 ghost use Rattle.pa_record.specs.declared.root.RootEntry.{RootEntry as Entry};
+ghost use Rattle.pa_record.specs.Census.{census};
 ghost use Rattle.pa_rules.specs.Order.{StandInOrder};
 ghost use Rattle.pa_rules.specs.Roots.{IsEntry, journal_at};
 ghost use Rattle.pa_rules.specs.Rising.{RiseByLine};
@@ -15,7 +16,7 @@ use pa_record::{Census, Journal, PoolEntry, RootEntry};
 use pa_rules::Played;
 use std::alloc::Global;
 
-// What a partition's root has at the end of each phase, by its journal.
+// What a partition's root has at the end of each phase, by its journal. A phase with no entry leaves what it finds.
 pub(crate) fn censuses_of(
     alloc: Global,
     supers: u32,
@@ -42,10 +43,11 @@ pub(crate) fn censuses_of(
     let entry_phases = entry_phases(alloc, records, journal)?;
     let ends = ends_of(alloc, entry_phases.as_slice(), phases)?;
     let mut replay = Replay::new(alloc, supers)?;
+    let mut census = replay.root.census();
     let mut censuses = Vec::new(alloc);
     let mut from = 0;
     for end in ends.as_slice() {
-        play_on(
+        census = census_on(
             supers,
             partitions,
             records,
@@ -55,11 +57,47 @@ pub(crate) fn censuses_of(
             partition,
             from,
             *end,
+            census,
         )?;
         from = *end;
-        censuses.push(replay.root.census())?;
+        censuses.push(census)?;
     }
     Ok(censuses)
+}
+
+// Plays the entries of these places, and tells what the root has then; before it had this. Where there are no entries nothing
+// is counted.
+fn census_on(
+    supers: u32,
+    partitions: u32,
+    records: &[Played],
+    replay: &mut Replay,
+    pools: &[PoolEntry],
+    roots: &[Journal],
+    partition: u32,
+    from: usize,
+    end: usize,
+    before: Census,
+) -> Result<Census, OutOfMemory>
+    requires pool { DoAllFit supers pools.now }
+    requires few { length pools.now < 2 ^ 32 - 1 }
+    requires entries { length (journal_at roots.now partition) < 2 ^ 32 }
+    requires fit { (j : ℕ) (e : Entry) → IsEntry (journal_at roots.now) partition j e
+        → EntryFits partitions records.now pools.now (journal_at roots.now) partition j e }
+    requires order { from ≤ end }
+    requires within { end ≤ length (journal_at roots.now partition) }
+    requires replayed { IsReplayedTo supers pools.now (journal_at roots.now partition) from replay.old }
+    requires before { before ≡ census replay.old.root }
+    ensures replayed { OnOk result (IsReplayedTo supers pools.now (journal_at roots.now partition) end replay.new) }
+    ensures census { IfOk result (λ c. c ≡ census replay.new.root) }
+{
+    if from == end {
+        return Ok(before);
+    }
+    play_on(
+        supers, partitions, records, replay, pools, roots, partition, from, end,
+    )?;
+    Ok(replay.root.census())
 }
 
 // Plays the entries of these places.

@@ -3,11 +3,11 @@ ghost use Rattle.std.specs.Ordering.{nat_cmp};
 ghost use Rattle.std.specs.BTreeMap.{get};
 ghost use Rattle.pa_machine.specs.declared.word.Step.TheVariants as steps;
 ghost use Rattle.pa_legal.specs.Tallies.{leaves};
-ghost use Rattle.pa_audit_report.specs.declared.sizes.Sized.{Sized as Size};
+ghost use Rattle.pa_audit_holders.specs.declared.homes.Home.{Home as SlotHome};
 ghost use Rattle.pa_audit_report.specs.Cuts.{AreRecordCuts};
 ghost use Rattle.pa_audit_report.specs.Counts.{DoesNothing, HasCounted, HasRoom, HaveUses, IsBytesOf, IsDoneOf, IsOfOther, IsStepOf, MovesNothing, less_of, raised_by, tally_more};
 
-use crate::sizes::{Sized, size_of_slot};
+use pa_audit_holders::{Home, found_home};
 use pa_machine::{OutOfMemory, SlotName, Word, held, refs};
 use pa_record::{Answer, Seen, Tally};
 use pa_rules::Played;
@@ -37,19 +37,19 @@ pub(crate) fn in_use_of(
     partition: u32,
     records: &[Played],
     ends: &[usize],
-    sizes: &BTreeMap<u64, Sized>,
+    homes: &BTreeMap<u64, Home>,
 ) -> Result<Vec<InUse>, OutOfMemory>
     requires partition { partition < 4 }
     requires few { length records.now < 65536 }
     requires ends { AreRecordCuts records.now ends.now }
     ensures many { IfOk result (λ uses. length uses.items ≡ length ends.now) }
-    ensures uses { IfOk result (λ uses. HaveUses (get nat_cmp sizes.now) partition records.now uses.items) }
+    ensures uses { IfOk result (λ uses. HaveUses (get nat_cmp homes.now) partition records.now uses.items) }
 {
     let mut uses = Vec::new(alloc);
     let mut count = no_count();
     let mut from = 0;
     for end in ends {
-        count = count_on(partition, records, sizes, count, from, *end);
+        count = count_on(partition, records, homes, count, from, *end);
         from = *end;
         uses.push(in_use(count))?;
     }
@@ -60,7 +60,7 @@ pub(crate) fn in_use_of(
 fn count_on(
     partition: u32,
     records: &[Played],
-    sizes: &BTreeMap<u64, Sized>,
+    homes: &BTreeMap<u64, Home>,
     before: Count,
     from: usize,
     end: usize,
@@ -69,12 +69,12 @@ fn count_on(
     requires few { length records.now < 65536 }
     requires order { from ≤ end }
     requires within { end ≤ length records.now }
-    requires counted { HasCounted (get nat_cmp sizes.now) partition (take from records.now) before }
-    ensures { HasCounted (get nat_cmp sizes.now) partition (take end records.now) result }
+    requires counted { HasCounted (get nat_cmp homes.now) partition (take from records.now) before }
+    ensures { HasCounted (get nat_cmp homes.now) partition (take end records.now) result }
 {
     let mut count = before;
     for at in from..end {
-        count = count_record(partition, records, sizes, count, at);
+        count = count_record(partition, records, homes, count, at);
     }
     count
 }
@@ -83,19 +83,19 @@ fn count_on(
 fn count_record(
     partition: u32,
     records: &[Played],
-    sizes: &BTreeMap<u64, Sized>,
+    homes: &BTreeMap<u64, Home>,
     count: Count,
     at: usize,
 ) -> Count
     requires partition { partition < 4 }
     requires few { length records.now < 65536 }
     requires within { at < length records.now }
-    requires counted { HasCounted (get nat_cmp sizes.now) partition (take at records.now) count }
-    ensures { HasCounted (get nat_cmp sizes.now) partition (take (at + 1) records.now) result }
+    requires counted { HasCounted (get nat_cmp homes.now) partition (take at records.now) count }
+    ensures { HasCounted (get nat_cmp homes.now) partition (take (at + 1) records.now) result }
 {
     match step_by(records[at]) {
         None => count,
-        Some(stepped) => match bytes_in(partition, sizes, stepped.slot) {
+        Some(stepped) => match bytes_in(partition, homes, stepped.slot) {
             None => count,
             Some(bytes) => raised(count, stepped, bytes),
         },
@@ -103,15 +103,15 @@ fn count_record(
 }
 
 // The bytes of a slot of this partition.
-fn bytes_in(partition: u32, sizes: &BTreeMap<u64, Sized>, slot: SlotName) -> Option<u32>
+fn bytes_in(partition: u32, homes: &BTreeMap<u64, Home>, slot: SlotName) -> Option<u32>
     requires partition { partition < 4 }
-    ensures some { IfSome result (IsBytesOf (get nat_cmp sizes.now) partition slot) }
+    ensures some { IfSome result (IsBytesOf (get nat_cmp homes.now) partition slot) }
     ensures small { IfSome result (λ b. b < 4294967296) }
-    ensures none { IfNone result (IsOfOther (get nat_cmp sizes.now) partition slot) }
+    ensures none { IfNone result (IsOfOther (get nat_cmp homes.now) partition slot) }
 {
-    let sized = size_of_slot(sizes, slot)?;
-    if sized.partition == partition {
-        Some(sized.bytes)
+    let home = found_home(homes, slot)?;
+    if home.partition == partition {
+        Some(home.bytes)
     } else {
         None
     }
@@ -205,7 +205,7 @@ fn more(tally: Tally, counts: bool, bytes: u32) -> Tally
 
 // No steps.
 fn no_count() -> Count
-    ensures { (sizes : ℕ → Option Size) (p : ℕ) → HasCounted sizes p [] result }
+    ensures { (homes : ℕ → Option SlotHome) (p : ℕ) → HasCounted homes p [] result }
 {
     let none = Tally { slots: 0, bytes: 0 };
     Count {

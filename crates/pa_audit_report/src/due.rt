@@ -9,19 +9,19 @@ ghost use Rattle.pa_rules.specs.declared.played.Played.{Played as Record};
 ghost use Rattle.pa_rules.specs.Roots.{Journals};
 ghost use Rattle.pa_record.specs.declared.pool.PoolEntry.{PoolEntry as Entry};
 ghost use Rattle.pa_audit_report.specs.Counts.{HaveUses};
-ghost use Rattle.pa_audit_report.specs.declared.sizes.Sized.{Sized as Size};
+ghost use Rattle.pa_audit_holders.specs.declared.homes.Home.{Home as SlotHome};
+ghost use Rattle.pa_audit_holders.specs.Homes.{KnowsHomes};
 ghost use Rattle.pa_audit_report.specs.Cuts.{AreRecordCuts, HasEach};
 ghost use Rattle.pa_audit_report.specs.Cached.{HaveCached};
 ghost use Rattle.pa_audit_report.specs.Due.{AreColumns, HaveCensuses, IsColumn, IsDueAt, line_by};
 ghost use Rattle.pa_audit_report.specs.Given.{IsGiven};
-ghost use Rattle.pa_audit_report.specs.Sized.{KnowsSizes};
 
 use crate::cached::cached_of;
 use crate::census::censuses_of;
 use crate::counts::{InUse, in_use_of};
 use crate::ends::ends_of;
 use crate::phases::{phases_in, record_phases};
-use crate::sizes::{Sized, sizes_of};
+use pa_audit_holders::{Home, homes_of};
 use pa_machine::OutOfMemory;
 use pa_record::{Census, ReportLine, Run, Tally};
 use pa_rules::Played;
@@ -72,7 +72,7 @@ pub(crate) fn due_report(
     let phases = phases_in(trace.lines.as_slice());
     let record_phases = record_phases(alloc, records)?;
     let ends = ends_of(alloc, record_phases.as_slice(), phases)?;
-    let sizes = sizes_of(alloc, run.roots.as_slice())?;
+    let homes = homes_of(alloc, run.roots.as_slice())?;
     let cached = cached_of(
         alloc,
         trace.partitions,
@@ -80,6 +80,7 @@ pub(crate) fn due_report(
         records,
         ends.as_slice(),
         run.roots.as_slice(),
+        &homes,
     )?;
     let mut columns = Vec::new(alloc);
     for partition in 0..trace.partitions {
@@ -90,7 +91,7 @@ pub(crate) fn due_report(
             records,
             phases,
             ends.as_slice(),
-            &sizes,
+            &homes,
             cached.as_slice(),
             partition,
         )?;
@@ -108,7 +109,7 @@ fn column_of(
     records: &[Played],
     phases: u32,
     ends: &[usize],
-    sizes: &BTreeMap<u64, Sized>,
+    homes: &BTreeMap<u64, Home>,
     cached: &[[Tally; 4]],
     partition: u32,
 ) -> Result<Column, OutOfMemory>
@@ -120,7 +121,7 @@ fn column_of(
     requires phases { phases < 2 ^ 32 - 1 }
     requires ends { AreRecordCuts records.now ends.now }
     requires many { length ends.now ≡ phases }
-    requires sizes { KnowsSizes (journal_at run.now.roots.items) (get nat_cmp sizes.now) }
+    requires homes { KnowsHomes (journal_at run.now.roots.items) (get nat_cmp homes.now) }
     requires cached { HaveCached trace.now.partitions trace.now.threads (journal_at run.now.roots.items) records.now cached.now }
     requires listed { length cached.now ≡ phases }
     requires partition { partition < trace.now.partitions }
@@ -128,7 +129,7 @@ fn column_of(
     ensures column { IfOk result (λ lines. IsColumn trace.now.partitions trace.now.threads records.now run.now.pool.items
         (journal_at run.now.roots.items) partition lines) }
 {
-    let uses = in_use_of(alloc, partition, records, ends, sizes)?;
+    let uses = in_use_of(alloc, partition, records, ends, homes)?;
     let censuses = censuses_of(
         alloc,
         trace.region,
@@ -160,8 +161,8 @@ fn line_at(
     requires used { at < length uses.now }
     requires listed { at < length cached.now }
     requires counted { at < length censuses.now }
-    ensures { (supers partitions threads : ℕ) (ps : List Record) (pools : List Entry) (roots : Journals) (sizes : ℕ → Option Size) →
-        IsGiven supers partitions ps pools roots → KnowsSizes roots sizes → HaveUses sizes partition ps uses.now →
+    ensures { (supers partitions threads : ℕ) (ps : List Record) (pools : List Entry) (roots : Journals) (homes : ℕ → Option SlotHome) →
+        IsGiven supers partitions ps pools roots → KnowsHomes roots homes → HaveUses homes partition ps uses.now →
         HaveCached partitions threads roots ps cached.now → HaveCensuses ps pools roots partition censuses.now →
         IsDueAt partitions threads ps pools roots (at + 1) partition result }
 {

@@ -9,7 +9,6 @@ mod due;
 mod ends;
 mod phases;
 mod report;
-mod sizes;
 #[cfg(test)]
 mod tests;
 

@@ -1,9 +1,9 @@
 -- The first letters of words, which tell commands apart.
-use Rattle.std.proofs.Common.{◌≡◌, ◌∙◌, ℕ, List, [], ◌∷◌, arith, ap, sym}
+use Rattle.std.proofs.Common.{◌≡◌, ◌∙◌, ℕ, List, [], ◌∷◌, arith, ap, refl, sym}
 use Rattle.pa_cli.specs.declared.command.Command.{Command}
-use Rattle.pa_cli.specs.declared.command.Command.TheVariants.{Replay, Model, Layout, Help, Version}
+use Rattle.pa_cli.specs.declared.command.Command.TheVariants.{Replay, Model, Audit, Layout, Help, Version}
 use Rattle.pa_cli.specs.declared.command.Command.TheVariants as commands
-use Rattle.pa_cli.specs.Command.{AsksFor, PlaysTrace}
+use Rattle.pa_cli.specs.Command.{AsksFor, ReadsInput}
 
 -- the first letter of the first word, and the one that each command's has
 abbrev first_letter : List (List ℕ) → ℕ
@@ -14,6 +14,7 @@ first_letter ((letter ∷ word) ∷ words) = letter
 abbrev letter_of : Command → ℕ
 letter_of Replay = 114
 letter_of Model = 109
+letter_of Audit = 97
 letter_of (Layout size) = 108
 letter_of (commands.Trace rounds key) = 116
 letter_of Help = 45
@@ -22,6 +23,7 @@ letter_of Version = 45
 has_letter : (command : Command) (words : List (List ℕ)) → AsksFor command words → first_letter words ≡ letter_of command
 has_letter Replay words asked = ap first_letter asked
 has_letter Model words asked = ap first_letter asked
+has_letter Audit words asked = ap first_letter asked
 has_letter (Layout size) words asked = ap first_letter asked.1
 has_letter (commands.Trace rounds key) words asked = ap first_letter asked.2
 has_letter Help words asked = ap first_letter asked
@@ -32,24 +34,31 @@ pub one_letter : (command other : Command) (words : List (List ℕ)) → AsksFor
     → letter_of command ≡ letter_of other
 one_letter command other words asked also = sym (has_letter command words asked) ∙ has_letter other words also
 
--- words that ask for a command that plays a trace ask for no other
-pub plays_too : (command other : Command) (words : List (List ℕ)) → AsksFor command words → PlaysTrace command → AsksFor other words
-    → PlaysTrace other
-plays_too command Replay words asked plays also = tt
-plays_too command Model words asked plays also = tt
-plays_too Replay (Layout size) words asked plays also =
-    let e : 114 ≡ 108 = one_letter Replay (Layout size) words asked also in omega (arith, e)
-plays_too Replay (commands.Trace rounds key) words asked plays also =
-    let e : 114 ≡ 116 = one_letter Replay (commands.Trace rounds key) words asked also in omega (arith, e)
-plays_too Replay Help words asked plays also = let e : 114 ≡ 45 = one_letter Replay Help words asked also in omega (arith, e)
-plays_too Replay Version words asked plays also = let e : 114 ≡ 45 = one_letter Replay Version words asked also in omega (arith, e)
-plays_too Model (Layout size) words asked plays also =
-    let e : 109 ≡ 108 = one_letter Model (Layout size) words asked also in omega (arith, e)
-plays_too Model (commands.Trace rounds key) words asked plays also =
-    let e : 109 ≡ 116 = one_letter Model (commands.Trace rounds key) words asked also in omega (arith, e)
-plays_too Model Help words asked plays also = let e : 109 ≡ 45 = one_letter Model Help words asked also in omega (arith, e)
-plays_too Model Version words asked plays also = let e : 109 ≡ 45 = one_letter Model Version words asked also in omega (arith, e)
-plays_too (Layout size) other words asked plays also = absurd plays
-plays_too (commands.Trace rounds key) other words asked plays also = absurd plays
-plays_too Help other words asked plays also = absurd plays
-plays_too Version other words asked plays also = absurd plays
+-- words that ask for a command that reads ask for no other
+pub one_reader : (command other : Command) (words : List (List ℕ)) → ReadsInput command → AsksFor command words → AsksFor other words
+    → other ≡ command
+one_reader Replay Replay words reads asked also = refl
+one_reader Replay Model words reads asked also = let e : 114 ≡ 109 = one_letter Replay Model words asked also in absurd (omega (arith, e))
+one_reader Replay Audit words reads asked also = let e : 114 ≡ 97 = one_letter Replay Audit words asked also in absurd (omega (arith, e))
+one_reader Replay (Layout size) words reads asked also = let e : 114 ≡ 108 = one_letter Replay (Layout size) words asked also in absurd (omega (arith, e))
+one_reader Replay (commands.Trace rounds key) words reads asked also = let e : 114 ≡ 116 = one_letter Replay (commands.Trace rounds key) words asked also in absurd (omega (arith, e))
+one_reader Replay Help words reads asked also = let e : 114 ≡ 45 = one_letter Replay Help words asked also in absurd (omega (arith, e))
+one_reader Replay Version words reads asked also = let e : 114 ≡ 45 = one_letter Replay Version words asked also in absurd (omega (arith, e))
+one_reader Model Replay words reads asked also = let e : 109 ≡ 114 = one_letter Model Replay words asked also in absurd (omega (arith, e))
+one_reader Model Model words reads asked also = refl
+one_reader Model Audit words reads asked also = let e : 109 ≡ 97 = one_letter Model Audit words asked also in absurd (omega (arith, e))
+one_reader Model (Layout size) words reads asked also = let e : 109 ≡ 108 = one_letter Model (Layout size) words asked also in absurd (omega (arith, e))
+one_reader Model (commands.Trace rounds key) words reads asked also = let e : 109 ≡ 116 = one_letter Model (commands.Trace rounds key) words asked also in absurd (omega (arith, e))
+one_reader Model Help words reads asked also = let e : 109 ≡ 45 = one_letter Model Help words asked also in absurd (omega (arith, e))
+one_reader Model Version words reads asked also = let e : 109 ≡ 45 = one_letter Model Version words asked also in absurd (omega (arith, e))
+one_reader Audit Replay words reads asked also = let e : 97 ≡ 114 = one_letter Audit Replay words asked also in absurd (omega (arith, e))
+one_reader Audit Model words reads asked also = let e : 97 ≡ 109 = one_letter Audit Model words asked also in absurd (omega (arith, e))
+one_reader Audit Audit words reads asked also = refl
+one_reader Audit (Layout size) words reads asked also = let e : 97 ≡ 108 = one_letter Audit (Layout size) words asked also in absurd (omega (arith, e))
+one_reader Audit (commands.Trace rounds key) words reads asked also = let e : 97 ≡ 116 = one_letter Audit (commands.Trace rounds key) words asked also in absurd (omega (arith, e))
+one_reader Audit Help words reads asked also = let e : 97 ≡ 45 = one_letter Audit Help words asked also in absurd (omega (arith, e))
+one_reader Audit Version words reads asked also = let e : 97 ≡ 45 = one_letter Audit Version words asked also in absurd (omega (arith, e))
+one_reader (Layout size) other words reads asked also = absurd reads
+one_reader (commands.Trace rounds key) other words reads asked also = absurd reads
+one_reader Help other words reads asked also = absurd reads
+one_reader Version other words reads asked also = absurd reads

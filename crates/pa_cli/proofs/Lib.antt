@@ -2,6 +2,7 @@ mod Words
 mod Given
 mod Refusing
 mod Commands
+mod Judging
 mod Ending
 mod Running
 mod Printing

@@ -1,23 +1,31 @@
 -- Why bytes that are no trace are refused.
-use Rattle.std.proofs.Common.{rules, ◌≡◌, ℕ, List, ◌++◌, Option, Some, None, IfSome, inl, inr, length, refl, sym, subst}
+use Rattle.std.proofs.Common.{rules, arith, ◌≡◌, ◌+◌, ◌≤◌, ℕ, List, ◌++◌, Option, Some, None, IfSome, inl, inr, length, refl, sym, subst}
 use Rattle.std.specs.Io.KnownBytes.{Consumes}
 use Rattle.pa_io.specs.Moves.{IsAllOf}
+use Rattle.pa_trace.specs.declared.script.Trace.{Trace}
 use Rattle.pa_trace.specs.declared.fault.TraceFault.{TraceFault}
 use Rattle.pa_trace.specs.declared.fault.TraceFault.TheVariants.{BadLine, Limit, OutOfMemory}
+use Rattle.pa_trace.specs.Limits.{most_bytes}
 use Rattle.pa_trace.specs.Faults.{IsFirstFault, IsFault}
 use Rattle.pa_trace.proofs.Early.{fault_early}
 use Rattle.pa_cli.specs.declared.command.Command.{Command}
-use Rattle.pa_trace.specs.declared.script.Trace.{Trace}
-use Rattle.pa_cli.specs.Call.{Stream, IsRead}
-use Rattle.pa_cli.specs.Command.{PlaysTrace}
-use Rattle.pa_cli.specs.Output.{IsTraceRead}
-use Rattle.pa_cli.specs.Cause.{HasFault, IsRefusal, IsStopped}
+use Rattle.pa_cli.specs.declared.command.Command.TheVariants.{Replay, Model, Audit, Layout, Help, Version}
+use Rattle.pa_cli.specs.declared.command.Command.TheVariants as commands
+use Rattle.pa_cli.specs.declared.status.Status.TheVariants.{NotLegal}
+use Rattle.pa_cli.specs.Call.{Stream, IsRead, IsReadWhole}
+use Rattle.pa_rules.specs.declared.verdict.Clause.{Clause}
+use Rattle.pa_audit_input.specs.Input.{most_audited}
+use Rattle.pa_audit_input.specs.Judged.{IsLegalInput, IsRefutedInput, IsInputFault}
+use Rattle.pa_audit_input.proofs.Early.{audit_fault_early}
+use Rattle.pa_cli.specs.Command.{ReadsInput, PlaysTrace, most_read}
+use Rattle.pa_cli.specs.Output.{IsTraceRead, IsAuditOutput, legal_text}
+use Rattle.pa_cli.specs.Cause.{IsFaulty, HasFault, IsRefusal, IsStopped}
 use Rattle.pa_cli.specs.StatusText.{status_of_trace}
 
 -- a source that was read gave what it should, without a fault
-read_stopped : (bytes : List ℕ) (before after : Stream) → IsRead before after bytes → IsStopped before after
-read_stopped bytes before after (inl whole) = search rules
-read_stopped bytes before after (inr past) = search rules
+pub read_stopped : (most : ℕ) (bytes : List ℕ) (before after : Stream) → IsRead most before after bytes → IsStopped most before after
+read_stopped most bytes before after (inl whole) = search rules
+read_stopped most bytes before after (inr past) = search rules
 
 -- all that the source told has the fault of what was read, where that is all of it, and where it is one byte more than an
 -- input may have
@@ -31,30 +39,85 @@ told_past P None after bytes given h = tt
 told_past P (Some left) None bytes given h = absurd given
 told_past P (Some left) (Some rest) bytes given h = subst P (sym given) (h rest)
 
-told_all : (P : List ℕ → Type 0) (bytes : List ℕ) (before after : Stream) → IsRead before after bytes → P bytes
-    → (length bytes ≡ 4194305 → (more : List ℕ) → P (bytes ++ more)) → IfSome before.told P
-told_all P bytes before after (inl whole) h early = told_whole P before.told bytes whole.all h
-told_all P bytes before after (inr past) h early = told_past P before.told after.told bytes past.given (early past.past)
+told_all : (most : ℕ) (P : List ℕ → Type 0) (bytes : List ℕ) (before after : Stream) → IsRead most before after bytes → P bytes
+    → (length bytes ≡ most + 1 → (more : List ℕ) → P (bytes ++ more)) → IfSome before.told P
+told_all most P bytes before after (inl whole) h early = told_whole P before.told bytes whole.all h
+told_all most P bytes before after (inr past) h early = told_past P before.told after.told bytes past.given (early past.past)
 
 -- what was read has the fault, and so has all that the source told
-has_fault : (fault : TraceFault) (bytes : List ℕ) (before after : Stream) → IsRead before after bytes → IsFirstFault fault bytes
-    → (length bytes ≡ 4194305 → (more : List ℕ) → IsFirstFault fault (bytes ++ more)) → HasFault fault before after
-has_fault fault bytes before after read first early = record {
+has_fault : (command : Command) (fault : TraceFault) (bytes : List ℕ) (before after : Stream) → IsRead (most_read command) before after bytes
+    → IsFaulty command fault bytes → (length bytes ≡ most_read command + 1 → (more : List ℕ) → IsFaulty command fault (bytes ++ more))
+    → HasFault command fault before after
+has_fault command fault bytes before after read first early = record {
   bytes = bytes;
   read = read;
   first = first;
-  told = told_all (IsFirstFault fault) bytes before after read first early;
+  told = told_all (most_read command) (IsFaulty command fault) bytes before after read first early;
 }
 
 -- a source out of which a trace was read gave what it should, without a fault
-pub trace_stopped : (t : Trace) (before after : Stream) → IsTraceRead t before after → IsStopped before after
-trace_stopped t before after h = read_stopped h.bytes before after (inl h.read)
+pub trace_stopped : (t : Trace) (before after : Stream) → IsTraceRead t before after → IsStopped most_bytes before after
+trace_stopped t before after h = read_stopped most_bytes h.bytes before after (inl h.read)
 
--- the fault of what was read is why a command that reads a trace has no output
-pub trace_refused : (fault : TraceFault) (bytes : List ℕ) (before after : Stream) → IsRead before after bytes → IsFault fault bytes
+-- the fault of what was read is why a command that plays a trace has no output
+trace_faulty : (fault : TraceFault) (bytes : List ℕ) (before after : Stream) → IsRead most_bytes before after bytes → IsFirstFault fault bytes
+    → (length bytes ≡ most_bytes + 1 → (more : List ℕ) → IsFirstFault fault (bytes ++ more))
+    → (command : Command) → PlaysTrace command → ReadsInput command × HasFault command fault before after
+trace_faulty fault bytes before after read first early Replay plays = (tt, has_fault Replay fault bytes before after read first early)
+trace_faulty fault bytes before after read first early Model plays = (tt, has_fault Model fault bytes before after read first early)
+trace_faulty fault bytes before after read first early Audit plays = absurd plays
+trace_faulty fault bytes before after read first early (Layout size) plays = absurd plays
+trace_faulty fault bytes before after read first early (commands.Trace rounds key) plays = absurd plays
+trace_faulty fault bytes before after read first early Help plays = absurd plays
+trace_faulty fault bytes before after read first early Version plays = absurd plays
+
+trace_wanting : (bytes : List ℕ) (before after : Stream) → IsRead most_bytes before after bytes → (command : Command) → PlaysTrace command
+    → IsStopped (most_read command) before after
+trace_wanting bytes before after read Replay plays = read_stopped most_bytes bytes before after read
+trace_wanting bytes before after read Model plays = read_stopped most_bytes bytes before after read
+trace_wanting bytes before after read Audit plays = absurd plays
+trace_wanting bytes before after read (Layout size) plays = absurd plays
+trace_wanting bytes before after read (commands.Trace rounds key) plays = absurd plays
+trace_wanting bytes before after read Help plays = absurd plays
+trace_wanting bytes before after read Version plays = absurd plays
+
+pub trace_refused : (fault : TraceFault) (bytes : List ℕ) (before after : Stream) → IsRead most_bytes before after bytes → IsFault fault bytes
     → (command : Command) → PlaysTrace command → IsRefusal (status_of_trace fault) command before after
-trace_refused (BadLine n) bytes before after read first command reads =
-    (reads, has_fault (BadLine n) bytes before after read first (λ past more. fault_early (BadLine n) bytes more past first))
-trace_refused (Limit n) bytes before after read first command reads =
-    (reads, has_fault (Limit n) bytes before after read first (λ past more. fault_early (Limit n) bytes more past first))
-trace_refused OutOfMemory bytes before after read first command reads = read_stopped bytes before after read
+trace_refused (BadLine n) bytes before after read first command plays =
+    trace_faulty (BadLine n) bytes before after read first (λ past more. fault_early (BadLine n) bytes more past first) command plays
+trace_refused (Limit n) bytes before after read first command plays =
+    trace_faulty (Limit n) bytes before after read first (λ past more. fault_early (Limit n) bytes more past first) command plays
+trace_refused OutOfMemory bytes before after read first command plays = trace_wanting bytes before after read command plays
+
+-- ---- the input of `audit`
+
+-- what was read, where it isn't too long, was read to its end
+read_whole : (bytes : List ℕ) (before after : Stream) → IsRead most_audited before after bytes → length bytes ≤ most_audited
+    → IsReadWhole most_audited before after bytes
+read_whole bytes before after (inl whole) short = whole
+read_whole bytes before after (inr past) short = absurd (let p = past.past in omega (arith, p, short))
+
+-- a legal run behind its trace is what `audit` prints `legal` for
+pub input_legal : (bytes text : List ℕ) (before after : Stream) → IsRead most_audited before after bytes → IsLegalInput bytes
+    → text ≡ legal_text → IsAuditOutput before after text
+input_legal bytes text before after read h printed = record {
+  bytes = bytes;
+  read = read_whole bytes before after read h.input.short;
+  legal = h;
+  printed = printed;
+}
+
+-- a run that isn't legal is why `audit` has no output
+pub input_refuted : (clause : Clause) (n : ℕ) (bytes : List ℕ) (before after : Stream) → IsRead most_audited before after bytes
+    → IsRefutedInput clause n bytes → IsRefusal (NotLegal clause n) Audit before after
+input_refuted clause n bytes before after read h =
+    (refl, record { bytes = bytes; read = read_whole bytes before after read h.input.short; refuted = h })
+
+-- the fault of what was read is why `audit` has no output
+pub input_faulty : (fault : TraceFault) (bytes : List ℕ) (before after : Stream) → IsRead most_audited before after bytes
+    → IsInputFault fault bytes → IsRefusal (status_of_trace fault) Audit before after
+input_faulty (BadLine n) bytes before after read h =
+    (tt, has_fault Audit (BadLine n) bytes before after read h (λ past more. audit_fault_early (BadLine n) bytes more past h))
+input_faulty (Limit n) bytes before after read h =
+    (tt, has_fault Audit (Limit n) bytes before after read h (λ past more. audit_fault_early (Limit n) bytes more past h))
+input_faulty OutOfMemory bytes before after read h = read_stopped most_audited bytes before after read

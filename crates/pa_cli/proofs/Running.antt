@@ -1,10 +1,10 @@
 -- Where a call tells a run and a region.
 use Rattle.std.proofs.Common.{◌≡◌, ◌↔◌, List, ℕ, Option, Some, None, IsSome, inl, inr, refl, arith}
 use Rattle.pa_cli.specs.declared.command.Command.{Command}
-use Rattle.pa_cli.specs.declared.command.Command.TheVariants.{Replay, Model, Layout, Help, Version}
+use Rattle.pa_cli.specs.declared.command.Command.TheVariants.{Replay, Model, Audit, Layout, Help, Version}
 use Rattle.pa_cli.specs.declared.command.Command.TheVariants as commands
 use Rattle.pa_cli.specs.declared.status.Status.{Status}
-use Rattle.pa_cli.specs.declared.status.Status.TheVariants.{Done, BadCommand, BadLine, Limit, ReadFault, WriteFault, OutOfMemory}
+use Rattle.pa_cli.specs.declared.status.Status.TheVariants.{Done, BadCommand, BadLine, Limit, ReadFault, WriteFault, OutOfMemory, NotLegal}
 use Rattle.pa_cli.specs.Call.{Call}
 use Rattle.pa_cli.specs.Command.{AsksFor, IsReplay}
 use Rattle.pa_cli.specs.Output.{output_with, HasNoRun, IsOutputOf, IsOutput}
@@ -31,6 +31,8 @@ tells_by Replay status c text written asked h = record {
 }
 tells_by Model status c text written asked h =
     tells_none status c h.1 (λ due. let e : 114 ≡ 109 = one_letter Replay Model c.words due.0 asked in omega (arith, e))
+tells_by Audit status c text written asked h =
+    tells_none status c h.1 (λ due. let e : 114 ≡ 97 = one_letter Replay Audit c.words due.0 asked in omega (arith, e))
 tells_by (Layout size) status c text written asked h =
     tells_none status c h.1 (λ due. let e : 114 ≡ 108 = one_letter Replay (Layout size) c.words due.0 asked in omega (arith, e))
 tells_by (commands.Trace rounds key) status c text written asked h =
@@ -60,3 +62,5 @@ caused_tells (Limit n) c h none = tells_nothing (Limit n) c none (unwritten (Lim
 caused_tells ReadFault c h none = tells_nothing ReadFault c none (unwritten ReadFault (λ e. absurd cc) (λ e. absurd cc))
 caused_tells WriteFault c h none = tells WriteFault c h.0 (inr refl) h.1
 caused_tells OutOfMemory c h none = tells_nothing OutOfMemory c none (unwritten OutOfMemory (λ e. absurd cc) (λ e. absurd cc))
+caused_tells (NotLegal clause n) c h none =
+    tells_nothing (NotLegal clause n) c none (unwritten (NotLegal clause n) (λ e. absurd cc) (λ e. absurd cc))

@@ -1,5 +1,5 @@
 -- A call of the program: its words, what its source and its sink tell before it and after it, and what it answers of a run.
-use Rattle.std.specs.Prelude.{◌≡◌, ℕ, ◌≤◌, ◌⊎◌, List, Option, length}
+use Rattle.std.specs.Prelude.{◌≡◌, ℕ, ◌+◌, ◌≤◌, ◌⊎◌, List, Option, length}
 use Rattle.std.specs.Io.KnownBytes.{Consumes}
 use Rattle.pa_io.specs.Moves.{IsAllOf, IsReadOut}
 use Rattle.pa_record.specs.declared.run.Run.{Run}
@@ -45,25 +45,25 @@ KeepsSource c = c.source_after ≡ c.source
 abbrev pub KeepsSink : Call → Type 0
 KeepsSink c = c.sink_after ≡ c.sink
 
--- the source gave these bytes, and no byte further than one past the 4,194,304 bytes that an input may have
-pub record HasGiven (before after : Stream) (bytes : List ℕ) : Type 0 where
+-- the source gave these bytes, and no byte further than one past the most bytes that an input may have
+pub record HasGiven (most : ℕ) (before after : Stream) (bytes : List ℕ) : Type 0 where
   pub given : Consumes before.told after.told bytes
-  pub within : length bytes ≤ 4194305
+  pub within : length bytes ≤ most + 1
 
--- the source was read to its end without a fault, and gave at most the 4,194,304 bytes that an input may have: where
--- it told what was left, that was these bytes, and nothing is left now
-pub record IsReadWhole (before after : Stream) (bytes : List ℕ) : Type 0 where
+-- the source was read to its end without a fault, and gave at most so many bytes as an input may have: where it told what
+-- was left, that was these bytes, and nothing is left now
+pub record IsReadWhole (most : ℕ) (before after : Stream) (bytes : List ℕ) : Type 0 where
   pub all : IsAllOf before.told bytes
   pub end : IsReadOut before.told after.told
-  pub within : length bytes ≤ 4194304
+  pub within : length bytes ≤ most
   pub calm : after.faults ≡ before.faults
 
--- the source was read without a fault to one byte past the 4,194,304 bytes that an input may have
-pub record IsReadPast (before after : Stream) (bytes : List ℕ) : Type 0 where
+-- the source was read without a fault to one byte past the most bytes that an input may have
+pub record IsReadPast (most : ℕ) (before after : Stream) (bytes : List ℕ) : Type 0 where
   pub given : Consumes before.told after.told bytes
-  pub past : length bytes ≡ 4194305
+  pub past : length bytes ≡ most + 1
   pub calm : after.faults ≡ before.faults
 
 -- the input was read: to its end, or to one byte past the most that it may have
-abbrev pub IsRead : Stream → Stream → List ℕ → Type 0
-IsRead before after bytes = IsReadWhole before after bytes ⊎ IsReadPast before after bytes
+abbrev pub IsRead : ℕ → Stream → Stream → List ℕ → Type 0
+IsRead most before after bytes = IsReadWhole most before after bytes ⊎ IsReadPast most before after bytes

@@ -7,43 +7,72 @@ use Rattle.pa_trace.specs.Limits.{IsInput}
 use Rattle.pa_trace.specs.Faults.{IsFirstFault}
 use Rattle.pa_trace.specs.declared.fault.TraceFault.{TraceFault}
 use Rattle.pa_trace.specs.declared.fault.TraceFault.TheVariants as faults
+use Rattle.pa_record.specs.declared.run.Run.{Run}
+use Rattle.pa_rules.specs.declared.verdict.Clause.{Clause}
+use Rattle.pa_rules.specs.declared.verdict.Verdict.{Verdict}
+use Rattle.pa_audit_input.specs.Input.{most_audited, IsAudited, IsFirstAuditFault}
+use Rattle.pa_audit_input.specs.Judged.{IsRefutedInput, IsVerdictOn}
 use Rattle.pa_cli.specs.declared.status.Status.{Status}
-use Rattle.pa_cli.specs.declared.status.Status.TheVariants.{Done, BadCommand, BadLine, Limit, ReadFault, WriteFault, OutOfMemory}
-use Rattle.pa_cli.specs.Call.{Stream, Call, KeepsSource, KeepsSink, HasGiven, IsRead}
+use Rattle.pa_cli.specs.declared.status.Status.TheVariants.{Done, BadCommand, BadLine, Limit, ReadFault, WriteFault, OutOfMemory, NotLegal}
+use Rattle.pa_cli.specs.Call.{Stream, Call, KeepsSource, KeepsSink, HasGiven, IsReadWhole, IsRead}
 use Rattle.pa_cli.specs.declared.command.Command.{Command}
-use Rattle.pa_cli.specs.Command.{PlaysTrace, ReadsTrace, IsReplay, IsCommand}
+use Rattle.pa_cli.specs.declared.command.Command.TheVariants.{Replay, Model, Audit, Layout, Help, Version}
+use Rattle.pa_cli.specs.declared.command.Command.TheVariants as commands
+use Rattle.pa_cli.specs.Command.{AsksFor, ReadsInput, AsksToRead, IsReplay, IsAudit, IsCommand, most_read}
 use Rattle.pa_cli.specs.Output.{HasNoRun, IsOutput}
-use Rattle.pa_cli.specs.StatusText.{status_of_trace}
+use Rattle.pa_cli.specs.StatusText.{status_of_trace, status_of_verdict}
 
--- The input has this fault: it was read without a fault of the source, and the first faulty line of what was read has
+-- the bytes have this fault as an input of the command: it is that of the first faulty line
+abbrev pub IsFaulty : Command → TraceFault → List ℕ → Type 0
+IsFaulty Replay fault bytes = IsFirstFault fault bytes
+IsFaulty Model fault bytes = IsFirstFault fault bytes
+IsFaulty Audit fault bytes = IsFirstAuditFault fault bytes
+IsFaulty (Layout size) fault bytes = ⊥
+IsFaulty (commands.Trace rounds key) fault bytes = ⊥
+IsFaulty Help fault bytes = ⊥
+IsFaulty Version fault bytes = ⊥
+
+-- The command's input has this fault: it was read without a fault of the source, and the first faulty line of what was read has
 -- it, and so has that of all that the source told.
-pub record HasFault (fault : TraceFault) (before after : Stream) : Type 0 where
+pub record HasFault (command : Command) (fault : TraceFault) (before after : Stream) : Type 0 where
   pub bytes : List ℕ
-  pub read : IsRead before after bytes
-  pub first : IsFirstFault fault bytes
-  pub told : IfSome before.told (IsFirstFault fault)
+  pub read : IsRead (most_read command) before after bytes
+  pub first : IsFaulty command fault bytes
+  pub told : IfSome before.told (IsFaulty command fault)
 
 -- a fault of the source came in this call
-pub record IsReadFault (before after : Stream) : Type 0 where
+pub record IsReadFault (most : ℕ) (before after : Stream) : Type 0 where
   pub risen : HasRisen before.faults after.faults
   pub bytes : List ℕ
-  pub given : HasGiven before after bytes
+  pub given : HasGiven most before after bytes
 
 -- the call stopped without a fault of the source
-pub record IsStopped (before after : Stream) : Type 0 where
+pub record IsStopped (most : ℕ) (before after : Stream) : Type 0 where
   pub calm : after.faults ≡ before.faults
   pub bytes : List ℕ
-  pub given : HasGiven before after bytes
+  pub given : HasGiven most before after bytes
+
+-- the source's bytes, all of which were read, are the text of a trace and behind it that of a run of which this clause is the first
+-- that fails, first at line n of these bytes
+pub record IsRefuted (clause : Clause) (n : ℕ) (before after : Stream) : Type 0 where
+  pub bytes : List ℕ
+  pub read : IsReadWhole most_audited before after bytes
+  pub refuted : IsRefutedInput clause n bytes
 
 -- why a command has no output, by what the source tells before it and after it; the other statuses are no reason
 abbrev pub IsRefusal : Status → Command → Stream → Stream → Type 0
 IsRefusal Done command before after = ⊥
 IsRefusal BadCommand command before after = ⊥
-IsRefusal (BadLine n) command before after = PlaysTrace command × HasFault (faults.BadLine n) before after
-IsRefusal (Limit n) command before after = PlaysTrace command × HasFault (faults.Limit n) before after
-IsRefusal ReadFault command before after = PlaysTrace command × IsReadFault before after
+IsRefusal (BadLine n) command before after = ReadsInput command × HasFault command (faults.BadLine n) before after
+IsRefusal (Limit n) command before after = ReadsInput command × HasFault command (faults.Limit n) before after
+IsRefusal ReadFault command before after = ReadsInput command × IsReadFault (most_read command) before after
 IsRefusal WriteFault command before after = ⊥
-IsRefusal OutOfMemory command before after = IsStopped before after
+IsRefusal OutOfMemory command before after = IsStopped (most_read command) before after
+IsRefusal (NotLegal clause n) command before after = (command ≡ Audit) × IsRefuted clause n before after
+
+-- the words are those of a command that has no output, for this reason
+abbrev pub HasNoOutput : Status → Call → Type 0
+HasNoOutput status c = (command : Command) × AsksFor command c.words × IsRefusal status command c.source c.source_after
 
 -- each status comes where
 --   Done: the output was written whole
@@ -53,15 +82,18 @@ IsRefusal OutOfMemory command before after = IsStopped before after
 --   ReadFault: the source had a fault in this call; nothing was written
 --   WriteFault: the sink had a fault in this call; what was written is a first part of the output
 --   OutOfMemory: the words are those of a command, and no fault of the source came first; nothing was written
+--   NotLegal: the words are `audit`, the input is a trace and a run, and this clause of a legal run is the first that fails, at line
+--     n of the input; nothing was written
 abbrev pub Caused : Status → Call → Type 0
 Caused Done c = (text : List ℕ) × IsOutput c text × Appends c.sink.told c.sink_after.told text × (c.sink_after.faults ≡ c.sink.faults)
 Caused BadCommand c = (IsCommand c.words → ⊥) × KeepsSource c × KeepsSink c
-Caused (BadLine n) c = ReadsTrace c.words × HasFault (faults.BadLine n) c.source c.source_after × KeepsSink c
-Caused (Limit n) c = ReadsTrace c.words × HasFault (faults.Limit n) c.source c.source_after × KeepsSink c
-Caused ReadFault c = ReadsTrace c.words × IsReadFault c.source c.source_after × KeepsSink c
+Caused (BadLine n) c = HasNoOutput (BadLine n) c × KeepsSink c
+Caused (Limit n) c = HasNoOutput (Limit n) c × KeepsSink c
+Caused ReadFault c = HasNoOutput ReadFault c × KeepsSink c
 Caused WriteFault c =
     (text : List ℕ) × IsOutput c text × HasRisen c.sink.faults c.sink_after.faults × HasWrittenPart c.sink.told c.sink_after.told text
-Caused OutOfMemory c = IsCommand c.words × IsStopped c.source c.source_after × KeepsSink c
+Caused OutOfMemory c = HasNoOutput OutOfMemory c × KeepsSink c
+Caused (NotLegal clause n) c = HasNoOutput (NotLegal clause n) c × KeepsSink c
 
 -- no fault of the source came in this call
 abbrev pub HasNoReadFault : Call → Type 0
@@ -71,26 +103,47 @@ HasNoReadFault c = HasRisen c.source.faults c.source_after.faults → ⊥
 abbrev pub HasNoWriteFault : Call → Type 0
 HasNoWriteFault c = HasRisen c.sink.faults c.sink_after.faults → ⊥
 
--- an input for a command that reads a trace, without a fault of source or sink, leads to Done, unless memory is wanting
+-- the bytes are an input for the command, in its grammar and its limits
+abbrev pub IsInputFor : Command → List ℕ → Type 0
+IsInputFor Replay bytes = (trace : Trace) × IsInput trace bytes
+IsInputFor Model bytes = (trace : Trace) × IsInput trace bytes
+IsInputFor Audit bytes = (trace : Trace) × (run : Run) × (lines : ℕ) × IsAudited trace run lines bytes
+IsInputFor (Layout size) bytes = ⊥
+IsInputFor (commands.Trace rounds key) bytes = ⊥
+IsInputFor Help bytes = ⊥
+IsInputFor Version bytes = ⊥
+
+-- the command is `audit`, and the status tells a clause and a line
+abbrev pub RefutesBy : Command → Status → Type 0
+RefutesBy command status = (command ≡ Audit) × (clause : Clause) × (n : ℕ) × (status ≡ NotLegal clause n)
+
+-- an input for a command that reads, without a fault of source or sink, leads to Done, or for `audit` to NotLegal, unless memory is
+-- wanting
 abbrev pub Completes : Status → Call → Type 0
 Completes status c =
-    (bytes : List ℕ) (trace : Trace) → ReadsTrace c.words → c.source.told ≡ Some bytes → IsInput trace bytes → HasNoReadFault c
-    → HasNoWriteFault c → (status ≡ Done) ⊎ (status ≡ OutOfMemory)
+    (bytes : List ℕ) (command : Command) → AsksFor command c.words → c.source.told ≡ Some bytes → IsInputFor command bytes
+    → HasNoReadFault c → HasNoWriteFault c → (status ≡ Done) ⊎ ((status ≡ OutOfMemory) ⊎ RefutesBy command status)
+
+-- for `audit`, bytes with a verdict, without a fault of source or sink, lead to the status that tells it, unless memory is wanting
+abbrev pub Judges : Status → Call → Type 0
+Judges status c =
+    (bytes : List ℕ) (verdict : Verdict) → IsAudit c.words → c.source.told ≡ Some bytes → IsVerdictOn verdict bytes
+    → HasNoReadFault c → HasNoWriteFault c → (status ≡ status_of_verdict verdict) ⊎ (status ≡ OutOfMemory)
 
 -- a command that reads nothing leads to Done where the sink has no fault, unless memory is wanting
 abbrev pub Answers : Status → Call → Type 0
-Answers status c = IsCommand c.words → (ReadsTrace c.words → ⊥) → HasNoWriteFault c → (status ≡ Done) ⊎ (status ≡ OutOfMemory)
+Answers status c = IsCommand c.words → (AsksToRead c.words → ⊥) → HasNoWriteFault c → (status ≡ Done) ⊎ (status ≡ OutOfMemory)
 
--- nothing is read but for a command that reads a trace
-abbrev pub ReadsTracesAlone : Call → Type 0
-ReadsTracesAlone c = (ReadsTrace c.words → ⊥) → KeepsSource c
+-- nothing is read but for a command that reads
+abbrev pub ReadsForInput : Call → Type 0
+ReadsForInput c = (AsksToRead c.words → ⊥) → KeepsSource c
 
--- for a command that reads a trace, bytes with a first faulty line, without a fault of the source, lead to that fault's status,
--- unless memory is wanting
+-- for a command that reads, bytes with a first faulty line, without a fault of the source, lead to that fault's status, unless
+-- memory is wanting
 abbrev pub Refuses : Status → Call → Type 0
 Refuses status c =
-    (bytes : List ℕ) (fault : TraceFault) → ReadsTrace c.words → c.source.told ≡ Some bytes → IsFirstFault fault bytes → HasNoReadFault c
-    → (status ≡ status_of_trace fault) ⊎ (status ≡ OutOfMemory)
+    (bytes : List ℕ) (fault : TraceFault) (command : Command) → AsksFor command c.words → c.source.told ≡ Some bytes
+    → IsFaulty command fault bytes → HasNoReadFault c → (status ≡ status_of_trace fault) ⊎ (status ≡ OutOfMemory)
 
 -- the output was written, whole or a first part of it
 abbrev pub IsWritten : Status → Type 0
@@ -105,12 +158,13 @@ pub record TellsRun (status : Status) (c : Call) : Type 0 where
   pub run : IsSome c.run ↔ (IsReplay c.words × IsWritten status)
   pub region : IsSome c.region ↔ (IsReplay c.words × IsWritten status)
 
--- the call is right: its status has its cause, nothing is read but for a command that reads a trace, the others answer, a good input
--- completes, a faulty one is refused, and a replay tells its run
+-- the call is right: its status has its cause, nothing is read but for a command that reads, the others answer, a good input
+-- completes, a run is judged, a faulty input is refused, and a replay tells its run
 pub record IsRightCall (status : Status) (c : Call) : Type 0 where
   pub cause : Caused status c
-  pub reads : ReadsTracesAlone c
+  pub reads : ReadsForInput c
   pub answers : Answers status c
   pub completes : Completes status c
+  pub judges : Judges status c
   pub refuses : Refuses status c
   pub run : TellsRun status c

@@ -1,8 +1,10 @@
 -- The words of a command.
 use Rattle.std.specs.Prelude.{◌≡◌, ℕ, ◌≤◌, List, [], ◌∷◌, codes}
 use Rattle.pa_text.specs.Numeral.{IsNumeral}
+use Rattle.pa_trace.specs.Limits.{most_bytes}
+use Rattle.pa_audit_input.specs.Input.{most_audited}
 use Rattle.pa_cli.specs.declared.command.Command.{Command}
-use Rattle.pa_cli.specs.declared.command.Command.TheVariants.{Replay, Model, Layout, Trace, Help, Version}
+use Rattle.pa_cli.specs.declared.command.Command.TheVariants.{Replay, Model, Audit, Layout, Trace, Help, Version}
 
 -- the one word `replay`, and the one word `model`
 abbrev pub IsReplay : List (List ℕ) → Type 0
@@ -10,6 +12,10 @@ IsReplay words = words ≡ codes "replay" ∷ []
 
 abbrev pub IsModel : List (List ℕ) → Type 0
 IsModel words = words ≡ codes "model" ∷ []
+
+-- the one word `audit`
+abbrev pub IsAudit : List (List ℕ) → Type 0
+IsAudit words = words ≡ codes "audit" ∷ []
 
 -- the word `layout` and a size of 32 bits in decimal
 abbrev pub IsLayout : ℕ → List (List ℕ) → Type 0
@@ -33,6 +39,7 @@ IsVersion words = words ≡ codes "--version" ∷ []
 abbrev pub AsksFor : Command → List (List ℕ) → Type 0
 AsksFor Replay words = IsReplay words
 AsksFor Model words = IsModel words
+AsksFor Audit words = IsAudit words
 AsksFor (Layout size) words = IsLayout size words
 AsksFor (Trace rounds key) words = IsTrace rounds key words
 AsksFor Help words = IsHelp words
@@ -50,11 +57,32 @@ IsCommand words = (command : Command) × AsksFor command words
 abbrev pub PlaysTrace : Command → Type 0
 PlaysTrace Replay = Unit {0}
 PlaysTrace Model = Unit {0}
+PlaysTrace Audit = ⊥
 PlaysTrace (Layout size) = ⊥
 PlaysTrace (Trace rounds key) = ⊥
 PlaysTrace Help = ⊥
 PlaysTrace Version = ⊥
 
--- the words are those of a command that reads a trace: `replay` or `model`
-abbrev pub ReadsTrace : List (List ℕ) → Type 0
-ReadsTrace words = (command : Command) × AsksFor command words × PlaysTrace command
+-- the command reads an input: a trace, or a trace and a run
+abbrev pub ReadsInput : Command → Type 0
+ReadsInput Replay = Unit {0}
+ReadsInput Model = Unit {0}
+ReadsInput Audit = Unit {0}
+ReadsInput (Layout size) = ⊥
+ReadsInput (Trace rounds key) = ⊥
+ReadsInput Help = ⊥
+ReadsInput Version = ⊥
+
+-- the words are those of a command that reads: `replay`, `model` or `audit`
+abbrev pub AsksToRead : List (List ℕ) → Type 0
+AsksToRead words = (command : Command) × AsksFor command words × ReadsInput command
+
+-- the most bytes that a command's input may have; the last four have none
+abbrev pub most_read : Command → ℕ
+most_read Replay = most_bytes
+most_read Model = most_bytes
+most_read Audit = most_audited
+most_read (Layout size) = 0
+most_read (Trace rounds key) = 0
+most_read Help = 0
+most_read Version = 0

@@ -14,6 +14,7 @@ help_text =
     ∷ codes "commands"
     ∷ codes "  replay            read a trace from standard input, play each thread's lines on its own thread, print the run: answers, heap, exchanges, report"
     ∷ codes "  model             the same, but play all lines in their order, on one thread"
+    ∷ codes "  audit             read a trace and its run from standard input, print whether the run is legal"
     ∷ codes "  layout SIZE       print the size class or the direct map of a request of SIZE bytes, 0 to 4294967295"
     ∷ codes "  trace ROUNDS KEY  print a trace of ROUNDS rounds, 1 to 800, with random numbers by KEY, 0 to 18446744073709551615"
     ∷ codes "  --help            print this text"
@@ -27,6 +28,7 @@ help_text =
     ∷ codes "  4            read fault"
     ∷ codes "  5            write fault"
     ∷ codes "  6            out of memory"
+    ∷ codes "  7            not legal: CLAUSE at line N: of a legal run that clause fails first, at line N of the input"
     ∷ codes "  8            no words: the words could not be had"
     ∷ []
     ∷ codes "The texts are described in docs/FORMATS.md, which also says why a file is refused that looks right."

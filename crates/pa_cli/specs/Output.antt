@@ -1,17 +1,19 @@
 -- The output of each command.
-use Rattle.std.specs.Prelude.{◌≡◌, ℕ, ◌*◌, List, Option, Some, None, length}
+use Rattle.std.specs.Prelude.{◌≡◌, ℕ, ◌*◌, List, Option, Some, None, codes, length}
 use Rattle.pa_trace.specs.declared.script.Trace.{Trace}
 use Rattle.pa_trace.specs.Grammar.{IsTraceText}
-use Rattle.pa_trace.specs.Limits.{IsInput}
+use Rattle.pa_trace.specs.Limits.{IsInput, most_bytes}
 use Rattle.pa_trace.specs.Generated.{IsGenerated}
 use Rattle.pa_record.specs.declared.run.Run.{Run}
 use Rattle.pa_record.specs.RunText.{IsRunText}
 use Rattle.pa_rules.specs.Told.{told_by}
 use Rattle.pa_rules.specs.Legal.{IsLegal, IsFileRun}
 use Rattle.pa_rules.specs.Held.{IsHeldIn}
+use Rattle.pa_audit_input.specs.Input.{most_audited}
+use Rattle.pa_audit_input.specs.Judged.{IsLegalInput}
 use Rattle.pa_cli.specs.Call.{Stream, Call, IsReadWhole}
 use Rattle.pa_cli.specs.declared.command.Command.{Command}
-use Rattle.pa_cli.specs.declared.command.Command.TheVariants.{Replay, Model, Layout, Help, Version}
+use Rattle.pa_cli.specs.declared.command.Command.TheVariants.{Replay, Model, Audit, Layout, Help, Version}
 use Rattle.pa_cli.specs.declared.command.Command.TheVariants as commands
 use Rattle.pa_cli.specs.Command.{AsksFor}
 use Rattle.pa_cli.specs.LayoutText.{IsLayoutText}
@@ -34,7 +36,7 @@ HasNoRun run region = (run ≡ None) × (region ≡ None)
 -- The source's bytes, all of which were read, are the text of this trace, which is within the limits.
 pub record IsTraceRead (trace : Trace) (before after : Stream) : Type 0 where
   pub bytes : List ℕ
-  pub read : IsReadWhole before after bytes
+  pub read : IsReadWhole most_bytes before after bytes
   pub input : IsInput trace bytes
 
 -- The run is a legal run of the trace, and the closed region, whose words are those of so many super pages, holds it. The text is that
@@ -72,6 +74,17 @@ pub record IsModelOutput (before after : Stream) (text : List ℕ) : Type 0 wher
   pub read : IsTraceRead trace before after
   pub played : IsModelText trace text
 
+-- `legal` and an LF
+abbrev pub legal_text : List ℕ
+legal_text = codes "legal\n"
+
+-- the output of `audit`: the source's bytes, all of which were read, are the text of a trace and behind it that of a legal run of it
+pub record IsAuditOutput (before after : Stream) (text : List ℕ) : Type 0 where
+  pub bytes : List ℕ
+  pub read : IsReadWhole most_audited before after bytes
+  pub legal : IsLegalInput bytes
+  pub printed : text ≡ legal_text
+
 -- the text is that of the generated trace of so many rounds and this key
 pub record IsGeneratedText (rounds key : ℕ) (text : List ℕ) : Type 0 where
   pub trace : Trace
@@ -82,6 +95,7 @@ pub record IsGeneratedText (rounds key : ℕ) (text : List ℕ) : Type 0 where
 abbrev pub IsOutputOf : Command → Stream → Stream → Output → Type 0
 IsOutputOf Replay before after out = IsReplayOutput before after out
 IsOutputOf Model before after out = IsModelOutput before after out.text × HasNoRun out.run out.region
+IsOutputOf Audit before after out = IsAuditOutput before after out.text × HasNoRun out.run out.region
 IsOutputOf (Layout size) before after out = IsLayoutText size out.text × HasNoRun out.run out.region
 IsOutputOf (commands.Trace rounds key) before after out = IsGeneratedText rounds key out.text × HasNoRun out.run out.region
 IsOutputOf Help before after out = (out.text ≡ help_text) × HasNoRun out.run out.region

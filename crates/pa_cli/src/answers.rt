@@ -1,5 +1,5 @@
 ghost use Rattle.std.specs.Prelude.{◌≡◌, ◌≤◌, ◌++◌, decimal, IfOk, OnOk};
-ghost use Rattle.pa_cli.specs.Output.{IsGeneratedText};
+ghost use Rattle.pa_cli.specs.Output.{IsGeneratedText, legal_text};
 ghost use Rattle.pa_cli.specs.LayoutText.{IsLayoutText, class_line, direct_line};
 ghost use Rattle.pa_cli.specs.HelpText.{help_text, version_text};
 
@@ -19,6 +19,7 @@ const HELP: &[u8] = b"usage: partalloc COMMAND
 commands
   replay            read a trace from standard input, play each thread's lines on its own thread, print the run: answers, heap, exchanges, report
   model             the same, but play all lines in their order, on one thread
+  audit             read a trace and its run from standard input, print whether the run is legal
   layout SIZE       print the size class or the direct map of a request of SIZE bytes, 0 to 4294967295
   trace ROUNDS KEY  print a trace of ROUNDS rounds, 1 to 800, with random numbers by KEY, 0 to 18446744073709551615
   --help            print this text
@@ -32,6 +33,7 @@ status, and what it prints on standard error
   4            read fault
   5            write fault
   6            out of memory
+  7            not legal: CLAUSE at line N: of a legal run that clause fails first, at line N of the input
   8            no words: the words could not be had
 
 The texts are described in docs/FORMATS.md, which also says why a file is refused that looks right.
@@ -55,6 +57,15 @@ pub fn write_version(alloc: Global) -> Result<Vec<u8>, OutOfMemory>
 {
     let mut out = Vec::new(alloc);
     push_bytes(&mut out, VERSION)?;
+    Ok(out)
+}
+
+// The text of `audit` where the run is legal.
+pub fn write_legal(alloc: Global) -> Result<Vec<u8>, OutOfMemory>
+    ensures { IfOk result (λ text. text.items ≡ legal_text) }
+{
+    let mut out = Vec::new(alloc);
+    push_bytes(&mut out, b"legal\n")?;
     Ok(out)
 }
 

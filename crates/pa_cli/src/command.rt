@@ -14,6 +14,8 @@ pub enum Command {
     Replay,
     /// Reads a trace, plays its lines in their order on one thread, and prints the run.
     Model,
+    /// Reads a trace and behind it a run, and prints whether that is a legal run of the trace.
+    Audit,
     /// Prints where a request of so many bytes is placed: its size class or its direct map.
     Layout(u32),
     /// Prints the generated trace of so many rounds, 1 to 800, by the random numbers of this key.
@@ -46,6 +48,7 @@ impl Command {
         match word.as_str() {
             "replay" => Some(Command::Replay),
             "model" => Some(Command::Model),
+            "audit" => Some(Command::Audit),
             "--help" => Some(Command::Help),
             "--version" => Some(Command::Version),
             _ => None,

@@ -7,9 +7,6 @@ ghost use Rattle.pa_cli.specs.declared.input.InputFault.TheVariants.{ReadFault, 
 use pa_io::{Failed, Source};
 use std::alloc::{AllocError, AllocFailed, Global};
 
-// The most bytes that an input may have.
-const LIMIT: usize = 4_194_304;
-
 // The most bytes that are asked of the source at once.
 const PIECE: usize = 65_536;
 
@@ -45,11 +42,16 @@ impl<T: Drop> From<AllocFailed<T>> for InputFault {
 }
 
 // Reads the input: to its end, or to one byte past the most that it may have.
-pub fn read_input<S: Source>(alloc: Global, source: &mut S) -> Result<Vec<u8>, InputFault>
-    ensures read { IfOk result (λ input. IsRead
+pub fn read_input<S: Source>(
+    alloc: Global,
+    source: &mut S,
+    most: usize,
+) -> Result<Vec<u8>, InputFault>
+    requires { most ≤ 134217728 }
+    ensures read { IfOk result (λ input. IsRead most
         (stream_of (S.left source.old) (S.faults source.old))
         (stream_of (S.left source.new) (S.faults source.new)) input.items) }
-    ensures given { OnErr result ((bytes : List ℕ) × HasGiven
+    ensures given { OnErr result ((bytes : List ℕ) × HasGiven most
         (stream_of (S.left source.old) (S.faults source.old))
         (stream_of (S.left source.new) (S.faults source.new)) bytes) }
     ensures cause { result ≡ Err InputFault.ReadFault → HasRisen (S.faults source.old) (S.faults source.new) }
@@ -57,8 +59,8 @@ pub fn read_input<S: Source>(alloc: Global, source: &mut S) -> Result<Vec<u8>, I
 {
     let mut piece = zeros(alloc, PIECE)?;
     let mut input = Vec::new(alloc);
-    while input.len() <= LIMIT {
-        if read_piece(source, piece.as_mut_slice(), &mut input)? == 0 {
+    while input.len() <= most {
+        if read_piece(source, piece.as_mut_slice(), &mut input, most)? == 0 {
             return Ok(input);
         }
     }
@@ -70,20 +72,22 @@ fn read_piece<S: Source>(
     source: &mut S,
     piece: &mut [u8],
     input: &mut Vec<u8>,
+    most: usize,
 ) -> Result<usize, InputFault>
     requires some_room { 0 < length piece.old }
-    requires short { vec_len input.old ≤ 4194304 }
+    requires few { most ≤ 134217728 }
+    requires short { vec_len input.old ≤ most }
     ensures read { IfOk result (λ n. (buffer : List ℕ)
         × Moves (S.left source.old) (S.left source.new) n buffer
         × (input.new.items ≡ input.old.items ++ take n buffer)) }
-    ensures within { IfOk result (λ n. length input.old.items + n ≤ 4194305) }
+    ensures within { IfOk result (λ n. length input.old.items + n ≤ most + 1) }
     ensures calm { OnOk result (S.faults source.new ≡ S.faults source.old) }
     ensures given { OnErr result ((bytes : List ℕ) × Consumes (S.left source.old) (S.left source.new) bytes
-        × (length input.old.items + length bytes ≤ 4194305)) }
+        × (length input.old.items + length bytes ≤ most + 1)) }
     ensures cause { result ≡ Err InputFault.ReadFault → HasRisen (S.faults source.old) (S.faults source.new) }
     ensures calm_memory { result ≡ Err InputFault.OutOfMemory → S.faults source.new ≡ S.faults source.old }
 {
-    let room = piece.len().min(LIMIT + 1 - input.len());
+    let room = piece.len().min(most + 1 - input.len());
     let into = &mut piece[..room];
     let n = source.read(into)?;
     input.extend_from_slice(&into[..n])?;

@@ -1,11 +1,13 @@
 //! The program's one call: it takes the words of a command, a source and a sink, and answers a status, and of a replay its run and
 //! the region that was closed.
 //!
-//! The order of refusals is: the words, a fault of the source, the first faulty line, memory, a fault of the sink.
+//! The order of refusals is: the words, a fault of the source, the first faulty line, memory, a run that isn't legal, a fault of the sink.
 //! The output is made whole before its first byte is written, so want of memory never follows one.
 #![tactic(auto)]
 
 mod answers;
+#[cfg(test)]
+mod audit_tests;
 mod command;
 #[cfg(test)]
 mod gate_tests;

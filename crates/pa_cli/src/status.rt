@@ -1,9 +1,10 @@
 ghost use Rattle.std.specs.Prelude.{◌≡◌};
-ghost use Rattle.pa_cli.specs.StatusText.{status_number, status_of_input, status_of_trace};
+ghost use Rattle.pa_cli.specs.StatusText.{clause_name, status_number, status_of_input, status_of_trace};
 ghost use Rattle.pa_cli.specs.declared.status.Status.TheVariants as statuses;
 
 use crate::input::InputFault;
 use pa_machine::OutOfMemory;
+use pa_rules::Clause;
 use pa_trace::TraceFault;
 use std::fmt;
 
@@ -24,10 +25,13 @@ pub enum Status {
     WriteFault,
     /// Memory was wanting. Nothing was written.
     OutOfMemory,
+    /// The run that was read is no legal run of the trace before it: the first clause that fails, and the first line of the whole
+    /// input at which it does.
+    NotLegal(Clause, u32),
 }
 
 impl Status {
-    /// The number with which the program ends, 0 to 6.
+    /// The number with which the program ends, 0 to 7.
     pub fn number(&self) -> u8
         ensures { result ≡ status_number self.now }
     {
@@ -39,7 +43,28 @@ impl Status {
             Status::ReadFault => 4,
             Status::WriteFault => 5,
             Status::OutOfMemory => 6,
+            Status::NotLegal(_, _) => 7,
         }
+    }
+}
+
+// The name of a clause.
+fn name_of(clause: Clause) -> &'static str
+    ensures { result.now ≡ clause_name clause }
+{
+    match clause {
+        Clause::Lines => "lines",
+        Clause::Cells => "cells",
+        Clause::Registers => "registers",
+        Clause::Slots => "slots",
+        Clause::Contents => "contents",
+        Clause::Pool => "pool",
+        Clause::Roots => "roots",
+        Clause::Titles => "titles",
+        Clause::Holders => "holders",
+        Clause::Caches => "caches",
+        Clause::Seen => "seen",
+        Clause::Report => "report",
     }
 }
 
@@ -58,6 +83,9 @@ impl fmt::Display for Status {
             Status::ReadFault => write!(f, "read fault"),
             Status::WriteFault => write!(f, "write fault"),
             Status::OutOfMemory => write!(f, "out of memory"),
+            Status::NotLegal(clause, line) => {
+                write!(f, "not legal: {} at line {line}", name_of(*clause))
+            }
         }
     }
 }

@@ -1,5 +1,6 @@
 use super::*;
 use pa_io::{MemSink, MemSource, Source};
+use pa_rules::Clause;
 use pa_runner::NoGate;
 use std::alloc::{AllocError, Global};
 use std::marker::Sync;
@@ -113,7 +114,7 @@ fn a_third_write_that_fails_leaves_the_first_two(rt: HostRuntime) -> Result<(), 
 
 #[test]
 fn other_words_leave_the_source_unread(rt: HostRuntime) -> Result<(), Fail> {
-    let lines: [&[&str]; 27] = [
+    let lines: [&[&str]; 29] = [
         &[],
         &["layout"],
         &["layout", ""],
@@ -140,6 +141,8 @@ fn other_words_leave_the_source_unread(rt: HostRuntime) -> Result<(), Fail> {
         &["trace", "1", "7", "7"],
         &["gen", "1", "7"],
         &["model", "x"],
+        &["audit", "x"],
+        &["Audit"],
         &["", "model"],
     ];
     for line in lines {
@@ -267,6 +270,16 @@ fn each_status_has_its_number_and_text(rt: HostRuntime) -> Result<(), Fail> {
         (Status::ReadFault, 4, "read fault"),
         (Status::WriteFault, 5, "write fault"),
         (Status::OutOfMemory, 6, "out of memory"),
+        (
+            Status::NotLegal(Clause::Lines, 2),
+            7,
+            "not legal: lines at line 2",
+        ),
+        (
+            Status::NotLegal(Clause::Report, 4_294_967_295),
+            7,
+            "not legal: report at line 4294967295",
+        ),
     ];
     for (status, number, text) in told {
         assert_eq!(rt; status.number(), number);

@@ -1,22 +1,24 @@
 ghost use Rattle.std.specs.Prelude.{◌≡◌, ◌↔◌, map, string_bytes, IfOk, IfErr};
 ghost use Rattle.pa_cli.specs.Call.{call_of, stream_of};
-ghost use Rattle.pa_cli.specs.Command.{IsCommand, IsAsked, PlaysTrace};
-ghost use Rattle.pa_cli.specs.Cause.{Caused, ReadsTracesAlone, TellsNoRun, IsRightCall, IsRefusal};
-ghost use Rattle.pa_cli.specs.Output.{output_with, IsOutputOf, IsTraceRead, IsReplayOutput, IsReplayedAs, IsModelOutput, IsModelText};
-ghost use Rattle.pa_cli.specs.declared.command.Command.TheVariants.{Replay, Model};
+ghost use Rattle.pa_cli.specs.Command.{IsCommand, IsAsked, PlaysTrace, ReadsInput};
+ghost use Rattle.pa_cli.specs.Cause.{Caused, ReadsForInput, TellsNoRun, IsRightCall, IsRefusal};
+ghost use Rattle.pa_cli.specs.Output.{output_with, IsOutputOf, IsTraceRead, IsReplayOutput, IsReplayedAs, IsModelOutput, IsModelText, IsAuditOutput};
+ghost use Rattle.pa_cli.specs.declared.command.Command.TheVariants.{Replay, Model, Audit};
 ghost use Rattle.pa_trace.specs.Limits.{IsWithinLimits};
 
-use crate::answers::{write_generated, write_help, write_layout, write_version};
+use crate::answers::{write_generated, write_help, write_layout, write_legal, write_version};
 use crate::command::Command;
 use crate::input::read_input;
 use crate::outcome::{Outcome, Output};
 use crate::output::write_output;
 use crate::status::Status;
+use pa_audit_input::judge;
 use pa_io::{Failed, Sink, Source};
 use pa_machine::OutOfMemory;
 use pa_model::play;
 use pa_one_run::one_thread_in_file_order;
 use pa_record::write_run;
+use pa_rules::Verdict;
 use pa_runner::{Gate, run_trace};
 use pa_trace::{Trace, read_trace};
 use std::alloc::Global;
@@ -24,9 +26,16 @@ use std::marker::Sync;
 use std::sync::Wait;
 use std::thread::Threads;
 
+// The most bytes of a trace.
+const MOST_BYTES: usize = 4_194_304;
+
+// The most bytes of a trace and a run.
+const MOST_AUDITED: usize = 134_217_728;
+
 /// Does what the words ask for. `replay` and `model` read a trace from the source, play it, and write the text of that run to the sink:
 /// `replay` each thread's lines on a thread of its own where one can be had, with the gate called around each line, and `model` all
 /// lines in their order on one thread. The input is read to its end, or to one byte past the 4,194,304 bytes that it may have.
+/// `audit` reads a trace and behind it a run, to one byte past 134,217,728, and writes `legal` where that is a legal run of the trace.
 /// `layout SIZE` writes where a request of so many bytes is placed, `trace ROUNDS KEY` writes a generated trace, and `--help`
 /// and `--version` write their texts; these four read nothing.
 pub fn run<R: Threads + Wait + Sync, S: Source, K: Sink, G: Gate>(
@@ -42,8 +51,9 @@ pub fn run<R: Threads + Wait + Sync, S: Source, K: Sink, G: Gate>(
 
     // The status has its cause, and leaves source and sink as that cause says. Of `replay` it says that the run whose text is written
     // is a legal run of the trace, and that the closed region holds it; of `model` that what is written is the text of the trace's
-    // run in the order of its lines, which is legal. Only these two read. A good input is played, and a faulty one refused; the other
-    // commands answer. A run and a region are told exactly where `replay` wrote.
+    // run in the order of its lines, which is legal; of `audit` that the run that was read is a legal one of the trace before it, or by
+    // which clause and at which line it isn't. Only these three read. A good input is played or judged, and a faulty one refused; the
+    // other commands answer. A run and a region are told exactly where `replay` wrote.
     ensures call { IsRightCall result.status (call_of (map string_bytes words.now)
         (stream_of (S.left source.old) (S.faults source.old)) (stream_of (S.left source.new) (S.faults source.new))
         (stream_of (K.written sink.old) (K.faults sink.old)) (stream_of (K.written sink.new) (K.faults sink.new))
@@ -66,7 +76,7 @@ fn answer<R: Threads + Wait + Sync, S: Source, K: Sink, G: Gate>(
         (stream_of (S.left source.old) (S.faults source.old)) (stream_of (S.left source.new) (S.faults source.new))
         (stream_of (K.written sink.old) (K.faults sink.old)) (stream_of (K.written sink.new) (K.faults sink.new))
         result.run result.region) }
-    ensures reads { ReadsTracesAlone (call_of (map string_bytes words.now)
+    ensures reads { ReadsForInput (call_of (map string_bytes words.now)
         (stream_of (S.left source.old) (S.faults source.old)) (stream_of (S.left source.new) (S.faults source.new))
         (stream_of (K.written sink.old) (K.faults sink.old)) (stream_of (K.written sink.new) (K.faults sink.new))
         result.run result.region) }
@@ -109,11 +119,12 @@ fn output_of<R: Threads + Wait + Sync, S: Source, G: Gate>(
     ensures refusal { IfErr result (λ status. IsRefusal status command
         (stream_of (S.left source.old) (S.faults source.old))
         (stream_of (S.left source.new) (S.faults source.new))) }
-    ensures unread { (PlaysTrace command → ⊥) → (S.left source.new ≡ S.left source.old) × (S.faults source.new ≡ S.faults source.old) }
+    ensures unread { (ReadsInput command → ⊥) → (S.left source.new ≡ S.left source.old) × (S.faults source.new ≡ S.faults source.old) }
 {
     match command {
         Command::Replay => replay(rt, alloc, source, gate),
         Command::Model => Ok(Output::of(model(alloc, source)?)),
+        Command::Audit => Ok(Output::of(audit_text(alloc, source)?)),
         Command::Layout(size) => Ok(Output::of(write_layout(alloc, size)?)),
         Command::Trace { rounds, key } => Ok(Output::of(write_generated(alloc, rounds, key)?)),
         Command::Help => Ok(Output::of(write_help(alloc)?)),
@@ -154,6 +165,23 @@ fn model<S: Source>(alloc: Global, source: &mut S) -> Result<Vec<u8>, Status>
     Ok(model_text(alloc, &trace)?)
 }
 
+// The output of `audit`.
+#[tactic(auto, using(crate::proofs::Refusing::input_faulty, crate::proofs::Refusing::input_legal, crate::proofs::Refusing::input_refuted, crate::proofs::Refusing::read_stopped))]
+fn audit_text<S: Source>(alloc: Global, source: &mut S) -> Result<Vec<u8>, Status>
+    ensures text { IfOk result (λ text. IsAuditOutput
+        (stream_of (S.left source.old) (S.faults source.old))
+        (stream_of (S.left source.new) (S.faults source.new)) text.items) }
+    ensures refusal { IfErr result (λ status. IsRefusal status Audit
+        (stream_of (S.left source.old) (S.faults source.old))
+        (stream_of (S.left source.new) (S.faults source.new))) }
+{
+    let input = read_input(alloc, source, MOST_AUDITED)?;
+    match judge(alloc, input.as_slice())? {
+        Verdict::Legal => Ok(write_legal(alloc)?),
+        Verdict::Broken(clause, line) => Err(Status::NotLegal(clause, line)),
+    }
+}
+
 // The trace whose text the source's bytes are.
 #[tactic(auto, using(crate::proofs::Refusing::trace_refused))]
 fn trace_of<S: Source>(alloc: Global, source: &mut S) -> Result<Trace, Status>
@@ -164,7 +192,7 @@ fn trace_of<S: Source>(alloc: Global, source: &mut S) -> Result<Trace, Status>
         (stream_of (S.left source.old) (S.faults source.old))
         (stream_of (S.left source.new) (S.faults source.new))) }
 {
-    let input = read_input(alloc, source)?;
+    let input = read_input(alloc, source, MOST_BYTES)?;
     Ok(read_trace(alloc, input.as_slice())?)
 }
 

@@ -13,9 +13,9 @@ use Rattle.pa_trace.specs.declared.script.Trace.{Trace}
 use Rattle.pa_trace.specs.Limits.{IsWithinLimits}
 use Rattle.pa_rules.specs.Legal.{phases_in}
 use Rattle.pa_told.specs.Told.{ToldRecord}
-use Rattle.pa_heap.specs.Workers.{WorkerValue}
-use Rattle.pa_heap.specs.Plays.{PlaysOne, PlaysAll}
-use Rattle.pa_heap.proofs.Entered.{entered_append}
+use Rattle.pa_plays.specs.Workers.{WorkerValue}
+use Rattle.pa_plays.specs.Plays.{PlaysOne, PlaysAll}
+use Rattle.pa_plays.proofs.Entered.{entered_append}
 use Rattle.pa_course.specs.Courses.{Course, IsCourse, Closes, HasSeenAll}
 use Rattle.pa_course.specs.Telling.{CoursesLeaveNonePast}
 use Rattle.pa_course.proofs.Chaining.{heard_next, starts_of, sees_last}

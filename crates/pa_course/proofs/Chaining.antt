@@ -18,7 +18,7 @@ use Rattle.pa_rules.specs.Legal.{phases_in}
 use Rattle.pa_told.specs.Told.{ToldRecord, told_until}
 use Rattle.pa_told.specs.Told.{log_of as told_log}
 use Rattle.pa_told.specs.Said.{HasLogs, EndsPhase}
-use Rattle.pa_heap.specs.Workers.{WorkerValue}
+use Rattle.pa_plays.specs.Workers.{WorkerValue}
 use Rattle.pa_course.specs.Courses.{Course, IsCourse, Closes, HasSeenAll, Hears}
 use Rattle.pa_course.specs.Merged.{told_in}
 use Rattle.pa_course.proofs.Playing.{HasPlayed, sees_itself, sees_then, stays, stretches, logged, has_played}

@@ -18,10 +18,10 @@ use Rattle.pa_region.proofs.Opens.{opens}
 use Rattle.pa_rules.specs.Caches.{NoActs}
 use Rattle.pa_told.specs.Said.{IsLineSaid, LayersSay}
 use Rattle.pa_told.proofs.Said.{layers_tell_all}
-use Rattle.pa_heap.specs.Counts.{CountsBy}
-use Rattle.pa_heap.specs.Stocks.{titles_in}
-use Rattle.pa_heap.specs.Outcomes.{Outcome, FitsRun}
-use Rattle.pa_heap.specs.Plays.{Does, PlaysAll}
+use Rattle.pa_plays.specs.Counts.{CountsBy}
+use Rattle.pa_plays.specs.Stocks.{titles_in}
+use Rattle.pa_plays.specs.Outcomes.{Outcome, FitsRun}
+use Rattle.pa_plays.specs.Plays.{Does, PlaysAll}
 use Rattle.pa_course.specs.Courses.{IsCourse, Closes, HasSeenAll, HasHeardAll, Hears, BeginsNew, lines_in}
 use Rattle.pa_course.specs.Merged.{told_in, lists_at, IsLeftBehind}
 use Rattle.pa_course.specs.Telling.{IsWholeRun}

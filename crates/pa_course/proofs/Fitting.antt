@@ -25,10 +25,10 @@ use Rattle.pa_told.proofs.Listing.{acts_are_theirs}
 use Rattle.pa_told.proofs.Seating.{seats_know}
 use Rattle.pa_cells.specs.Cells.{Exchange, made_with_cell}
 use Rattle.pa_cells.proofs.Histories.{stands_at}
-use Rattle.pa_heap.specs.Outcomes.{IsOutcome, IsSeenOf}
-use Rattle.pa_heap.specs.Plays.{AnswersIn}
-use Rattle.pa_heap.specs.Following.{FitsAll}
-use Rattle.pa_heap.proofs.Following.{seen_before}
+use Rattle.pa_plays.specs.Outcomes.{IsOutcome, IsSeenOf}
+use Rattle.pa_plays.specs.Plays.{AnswersIn}
+use Rattle.pa_plays.specs.Following.{FitsAll}
+use Rattle.pa_plays.proofs.Following.{seen_before}
 use Rattle.pa_course.specs.Courses.{Course, HasSeenAll}
 use Rattle.pa_course.specs.Merged.{told_in, outcome_of}
 use Rattle.pa_course.specs.Telling.{IsWholeRun}

@@ -23,8 +23,8 @@ use Rattle.pa_region.proofs.LendBack.{marked_here, given_stake, given_beside, lo
 use Rattle.pa_region.proofs.SeenJoin.{seen_left, seen_right}
 use Rattle.pa_region.proofs.TakeLaws.{left_begins, right_begins}
 use Rattle.pa_rules.specs.Caches.{SameLists}
-use Rattle.pa_heap.specs.Stocks.{IsForThread, listed_in}
-use Rattle.pa_heap.specs.Workers.{WorkerValue, HasItsStake, worker_with_view}
+use Rattle.pa_plays.specs.Stocks.{IsForThread, listed_in}
+use Rattle.pa_plays.specs.Workers.{WorkerValue, HasItsStake, worker_with_view}
 use Rattle.pa_course.specs.Courses.{HasSeenAll, HasHeardAll, Hears}
 use Rattle.pa_course.specs.Gathering.{IsMain, HasHeardSome, HasAnswered, WorkersTell, WorkersHear, told_worker}
 use Rattle.pa_course.proofs.Playing.{sees_itself, sees_then}

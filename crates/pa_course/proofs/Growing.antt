@@ -6,8 +6,8 @@ use Rattle.pa_region.specs.declared.view.View.{View}
 use Rattle.pa_trace.specs.declared.script.Trace.{Trace}
 use Rattle.pa_rules.specs.Played.{op_line_of}
 use Rattle.pa_told.specs.Told.{ToldRecord, played_in}
-use Rattle.pa_heap.specs.Workers.{WorkerValue}
-use Rattle.pa_heap.specs.Plays.{PlaysAll}
+use Rattle.pa_plays.specs.Workers.{WorkerValue}
+use Rattle.pa_plays.specs.Plays.{PlaysAll}
 use Rattle.pa_course.specs.Courses.{Course, BeginsNew, HasSeenAll, HasHeardAll, Hears, lines_in}
 use Rattle.pa_course.specs.Growing.{Agree, HasBegun, HasEnded, PlaysPhase, CoursesGrow}
 

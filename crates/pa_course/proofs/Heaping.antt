@@ -20,9 +20,9 @@ use Rattle.pa_told.specs.Reported.{CacheLeadsTo}
 use Rattle.pa_told.specs.Said.{sizes_in, facts_in, HasToldRows, HaveSeen, HeapTells, RunnerSays}
 use Rattle.pa_cells.specs.Cells.{Exchange}
 use Rattle.pa_root.specs.Handing.{numbered_by}
-use Rattle.pa_heap.specs.Stocks.{as_reg, regs_of, listed_in}
-use Rattle.pa_heap.specs.Workers.{WorkerValue}
-use Rattle.pa_heap.proofs.Following.{lists}
+use Rattle.pa_plays.specs.Stocks.{as_reg, regs_of, listed_in}
+use Rattle.pa_plays.specs.Workers.{WorkerValue}
+use Rattle.pa_plays.proofs.Following.{lists}
 use Rattle.pa_course.specs.Courses.{Course}
 use Rattle.pa_course.specs.Merged.{told_in, lists_at, outcome_of}
 use Rattle.pa_course.specs.Telling.{IsWholeRun, CoursesTellHeap, CoursesTellRunner}

@@ -19,7 +19,7 @@ use Rattle.pa_told.specs.Swaps.{SwapMade, is_of_cell, AreSwaps}
 use Rattle.pa_told.specs.Indices.{IsSwapAt}
 use Rattle.pa_told.specs.Said.{PoolTells, RootsTell, CellsTell, IsLineSaid}
 use Rattle.pa_cells.specs.Cells.{Exchange, exchange_numbers, entries_with, names_cell, made_with_cell}
-use Rattle.pa_heap.specs.Entering.{EntersExchange, EntersCells}
+use Rattle.pa_plays.specs.Entering.{EntersExchange, EntersCells}
 use Rattle.pa_course.specs.Courses.{Course}
 use Rattle.pa_course.specs.Merged.{told_in, lists_at, swaps_of}
 use Rattle.pa_course.specs.Telling.{IsWholeRun, CoursesTellPool, CoursesTellRoots, CoursesTellCells, CoursesTellAll}

@@ -10,12 +10,12 @@ use Rattle.pa_rules.specs.Caches.{Cache}
 use Rattle.pa_told.specs.Told.{ToldRecord}
 use Rattle.pa_told.specs.Reported.{CacheLeadsTo}
 use Rattle.pa_told.specs.Said.{ReadsIts, HasToldRows}
-use Rattle.pa_heap.specs.Stocks.{regs_of}
-use Rattle.pa_heap.specs.Workers.{WorkerValue}
-use Rattle.pa_heap.specs.Outcomes.{Outcome, row_facts}
-use Rattle.pa_heap.specs.Plays.{PlaysOne, PlaysAll, AnswersIn}
-use Rattle.pa_heap.specs.Following.{FitsAll}
-use Rattle.pa_heap.proofs.Following.{seen_before}
+use Rattle.pa_plays.specs.Stocks.{regs_of}
+use Rattle.pa_plays.specs.Workers.{WorkerValue}
+use Rattle.pa_plays.specs.Outcomes.{Outcome, row_facts}
+use Rattle.pa_plays.specs.Plays.{PlaysOne, PlaysAll, AnswersIn}
+use Rattle.pa_plays.specs.Following.{FitsAll}
+use Rattle.pa_plays.proofs.Following.{seen_before}
 use Rattle.pa_course.proofs.Playing.{sees_all, HasPlayed}
 
 -- record by record of one thread, the rows of its registers lead to these

@@ -1,5 +1,5 @@
 -- A line of the report is said where it is what the workers counted and have cached, and a root's census.
-use Rattle.std.proofs.Common.{◌≡◌, ℕ, zero, suc, ◌+◌, ◌<◌, ◌≤◌, Bool, List, [], ◌∷◌, ◌++◌, length, map, filter, refl, sym, ◌∙◌, ap, subst, arith}
+use Rattle.std.proofs.Common.{◌≡◌, ℕ, zero, suc, ◌<◌, ◌≤◌, Bool, List, [], length, refl, sym, ◌∙◌, ap, subst, arith}
 use Rattle.std.specs.Prelude.{Contains}
 use Rattle.std.proofs.lemmas.Bool.{lt-ltb}
 use Rattle.pa_machine.specs.declared.word.SlotName.{SlotName}
@@ -15,22 +15,22 @@ use Rattle.pa_rules.specs.Caches.{Cache, listed_slots}
 use Rattle.pa_rules.specs.Report.{listed_bytes, cached_slots, cached_bytes, until}
 use Rattle.pa_rules.specs.Told.{Told}
 use Rattle.pa_legal.specs.Tallies.{issues, frees, enters, leaves, weight_of, one_of, bytes_of}
-use Rattle.pa_told.specs.Told.{ToldRecord, played_in, is_of_thread, told_until}
+use Rattle.pa_told.specs.Told.{played_in}
 use Rattle.pa_told.specs.Rows.{records_by}
 use Rattle.pa_told.specs.Reported.{counted_by, IsLeftBy}
 use Rattle.pa_told.specs.Said.{sizes_in, homes_in}
 use Rattle.pa_told.proofs.Due.{place_is}
 use Rattle.pa_cells.specs.Cells.{Exchange}
-use Rattle.pa_heap.specs.declared.counts.Count.{Count}
-use Rattle.pa_heap.specs.Counts.{no_count, counted_in, GrewBy, CountsBy}
-use Rattle.pa_heap.specs.Stocks.{listed_in}
-use Rattle.pa_heap.specs.Workers.{WorkerValue}
-use Rattle.pa_heap.proofs.Counting.{counts_append}
-use Rattle.pa_heap.proofs.Following.{counts}
+use Rattle.pa_plays.specs.declared.counts.Count.{Count}
+use Rattle.pa_plays.specs.Counts.{no_count, counted_in, GrewBy, CountsBy}
+use Rattle.pa_plays.specs.Stocks.{listed_in}
+use Rattle.pa_plays.specs.Workers.{WorkerValue}
+use Rattle.pa_plays.proofs.Counting.{counts_append}
+use Rattle.pa_plays.proofs.Following.{counts}
 use Rattle.pa_course.specs.Courses.{Course}
 use Rattle.pa_course.specs.Merged.{told_in, lists_at, outcome_of}
 use Rattle.pa_course.specs.Telling.{IsWholeRun}
-use Rattle.pa_course.specs.Lines.{sum_over, IsLeftOf, IsCachedBy, CoursesTellLines}
+use Rattle.pa_course.specs.Lines.{sum_over, IsLeftOf, CoursesTellLines}
 use Rattle.pa_course.proofs.Chaining.{heard_next}
 use Rattle.pa_course.proofs.Fitting.{phases, fits}
 use Rattle.pa_course.proofs.Grouping.{so_far, thread_until}

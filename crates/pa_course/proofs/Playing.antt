@@ -11,8 +11,8 @@ use Rattle.pa_region.specs.declared.view.View.{View}
 use Rattle.pa_region.specs.Takes.{log_of}
 use Rattle.pa_told.specs.Told.{ToldRecord}
 use Rattle.pa_told.specs.Listed.{AreRising}
-use Rattle.pa_heap.specs.Workers.{WorkerValue}
-use Rattle.pa_heap.specs.Plays.{PlaysOne, PlaysAll}
+use Rattle.pa_plays.specs.Workers.{WorkerValue}
+use Rattle.pa_plays.specs.Plays.{PlaysOne, PlaysAll}
 use Rattle.pa_course.specs.Courses.{HasSeenAll}
 
 -- ---- what a seat has seen

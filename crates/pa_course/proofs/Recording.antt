@@ -6,8 +6,8 @@ use Rattle.pa_trace.specs.Limits.{IsWithinLimits}
 use Rattle.pa_rules.specs.Played.{entry_of}
 use Rattle.pa_rules.specs.Legal.{phases_in}
 use Rattle.pa_told.specs.Told.{ToldRecord, played_in, is_of_thread, told_until}
-use Rattle.pa_heap.specs.Workers.{WorkerValue}
-use Rattle.pa_heap.specs.Plays.{PlaysAll}
+use Rattle.pa_plays.specs.Workers.{WorkerValue}
+use Rattle.pa_plays.specs.Plays.{PlaysAll}
 use Rattle.pa_course.specs.Courses.{Course, IsCourse}
 use Rattle.pa_course.specs.Merged.{told_in}
 use Rattle.pa_course.specs.Telling.{WorkersHaveTheirs}

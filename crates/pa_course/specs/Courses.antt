@@ -11,9 +11,9 @@ use Rattle.pa_trace.specs.declared.script.Trace.{Trace}
 use Rattle.pa_rules.specs.Played.{OpLine, op_lines, op_line_of}
 use Rattle.pa_rules.specs.Caches.{SameLists}
 use Rattle.pa_told.specs.Told.{ToldRecord, played_in}
-use Rattle.pa_heap.specs.Stocks.{listed_in}
-use Rattle.pa_heap.specs.Workers.{WorkerValue, IsNewWorker, worker_with_view}
-use Rattle.pa_heap.specs.Plays.{PlaysAll}
+use Rattle.pa_plays.specs.Stocks.{listed_in}
+use Rattle.pa_plays.specs.Workers.{WorkerValue, IsNewWorker, worker_with_view}
+use Rattle.pa_plays.specs.Plays.{PlaysAll}
 
 -- How a run went. Of each phase, from 1 on, and each thread: its worker as it began, the records of its lines, and its worker as it
 -- ended, before it told; and the main seat at the phase's end, when all had told.

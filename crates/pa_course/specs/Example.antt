@@ -14,8 +14,8 @@ use Rattle.pa_rules.specs.Legal.{IsLegalTold}
 use Rattle.pa_rules.specs.Told.{Told}
 use Rattle.pa_told.specs.Told.{ToldRecord}
 use Rattle.pa_told.specs.Said.{IsLineSaid, LayersSay}
-use Rattle.pa_heap.specs.Stocks.{StockValue}
-use Rattle.pa_heap.specs.Workers.{WorkerValue}
+use Rattle.pa_plays.specs.Stocks.{StockValue}
+use Rattle.pa_plays.specs.Workers.{WorkerValue}
 use Rattle.pa_course.specs.Courses.{Course}
 use Rattle.pa_course.specs.Merged.{told_in, lists_at}
 use Rattle.pa_course.specs.Telling.{IsWholeRun}

@@ -8,8 +8,8 @@ use Rattle.pa_region.specs.Lending.{stake_parcel}
 use Rattle.pa_region.specs.Aware.{IsAware}
 use Rattle.pa_region.specs.Takes.{log_of}
 use Rattle.pa_rules.specs.Caches.{SameLists}
-use Rattle.pa_heap.specs.Stocks.{IsForThread, listed_in}
-use Rattle.pa_heap.specs.Workers.{WorkerValue, HasItsStake, worker_with_view}
+use Rattle.pa_plays.specs.Stocks.{IsForThread, listed_in}
+use Rattle.pa_plays.specs.Workers.{WorkerValue, HasItsStake, worker_with_view}
 use Rattle.pa_course.specs.Courses.{HasSeenAll, HasHeardAll, Hears}
 
 -- The main seat while workers play: it has the stakes that are no thread's, with empty logs, and no unclean Own.

@@ -10,10 +10,10 @@ use Rattle.pa_rules.specs.Report.{listed_bytes, census_of}
 use Rattle.pa_rules.specs.Told.{Told}
 use Rattle.pa_told.specs.Said.{IsCensusBy, IsLineSaid}
 use Rattle.pa_cells.specs.Cells.{Exchange}
-use Rattle.pa_heap.specs.declared.counts.Count.{Count}
-use Rattle.pa_heap.specs.Counts.{counted_in}
-use Rattle.pa_heap.specs.Stocks.{listed_in}
-use Rattle.pa_heap.specs.Workers.{WorkerValue}
+use Rattle.pa_plays.specs.declared.counts.Count.{Count}
+use Rattle.pa_plays.specs.Counts.{counted_in}
+use Rattle.pa_plays.specs.Stocks.{listed_in}
+use Rattle.pa_plays.specs.Workers.{WorkerValue}
 use Rattle.pa_course.specs.Courses.{Course}
 use Rattle.pa_course.specs.Merged.{told_in, lists_at}
 use Rattle.pa_course.specs.Telling.{IsWholeRun}

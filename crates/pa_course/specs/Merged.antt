@@ -21,8 +21,8 @@ use Rattle.pa_told.specs.Listed.{IsJournalOf, IsPoolList}
 use Rattle.pa_told.specs.Swaps.{SwapMade}
 use Rattle.pa_told.specs.Said.{sizes_in, homes_in}
 use Rattle.pa_cells.specs.Cells.{Exchange, exchange_numbers, entries_with}
-use Rattle.pa_heap.specs.Stocks.{listed_in}
-use Rattle.pa_heap.specs.Outcomes.{Outcome}
+use Rattle.pa_plays.specs.Stocks.{listed_in}
+use Rattle.pa_plays.specs.Outcomes.{Outcome}
 use Rattle.pa_course.specs.Courses.{Course, is_line_of}
 
 -- what is left of each thread's records in each phase when that of this line is taken

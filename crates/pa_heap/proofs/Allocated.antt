@@ -1,7 +1,6 @@
--- Allocations by what the calls of a stock say: where their titles come from, and that the op does what it should.
-use Rattle.std.proofs.Common.{◌≡◌, ℕ, ◌+◌, ◌<◌, ◌≤◌, List, [], ◌∷◌, max, sym, ◌∙◌, ap, subst, arith}
-use Rattle.std.specs.Prelude.{◌==◌, slice_index_or}
-use Rattle.std.specs.List.{remove}
+-- Allocations by what the calls of a stock say: that the op does what it should.
+use Rattle.std.proofs.Common.{◌≡◌, ℕ, ◌+◌, ◌<◌, ◌≤◌, [], ◌∷◌, max, sym, ap, subst, arith}
+use Rattle.std.specs.Prelude.{◌==◌}
 use Rattle.std.proofs.lemmas.List.Sums.{sum_by-append}
 use Rattle.pa_machine.specs.Holdings.{one}
 use Rattle.pa_machine.specs.declared.title.Title.{Title}
@@ -17,17 +16,16 @@ use Rattle.pa_region.specs.Views.{stake_of}
 use Rattle.pa_region.specs.Hands.{united}
 use Rattle.pa_region.specs.Aware.{IsAware}
 use Rattle.pa_region.specs.Leaves.{CountLeaves}
-use Rattle.pa_root.specs.Handing.{FillGives, MapGives}
 use Rattle.pa_cells.specs.declared.handle.Handle.{Handle}
-use Rattle.pa_heap.specs.Stocks.{StockValue, IsStock, HasNoHandle, register_in, titles_in, listed_slot}
-use Rattle.pa_heap.specs.Workers.{HasItsStake}
-use Rattle.pa_heap.specs.Changes.{IsBack}
-use Rattle.pa_heap.specs.Allocating.{TakesFront, Receives, CanLoad, FillsList, MapsTitle, Issues, with_listed}
-use Rattle.pa_heap.specs.Plays.{DoesOp}
+use Rattle.pa_plays.specs.Stocks.{StockValue, IsStock, HasNoHandle, register_in, listed_slot}
+use Rattle.pa_plays.specs.Workers.{HasItsStake}
+use Rattle.pa_stock.specs.Changes.{IsBack}
+use Rattle.pa_stock.specs.Allocating.{TakesFront, FillsList, MapsTitle, Issues, with_listed}
+use Rattle.pa_plays.specs.Plays.{DoesOp}
 use Rattle.pa_heap.proofs.Issuing.{issued_does}
 use Rattle.pa_heap.proofs.Taking.{front_back, front_brings}
-use Rattle.pa_heap.proofs.Fetching.{fill_asking, fill_loads, fill_back, fill_brings, mapped_slot, map_asking, map_back, map_brings}
-use Rattle.pa_heap.proofs.Receiving.{first_rest}
+use Rattle.pa_stock.proofs.Fetching.{fill_asking, mapped_slot, map_asking, map_back}
+use Rattle.pa_heap.proofs.Fetching.{fill_back, fill_brings, map_brings}
 
 -- What is known of a stock to which a title came, as it was before and is then.
 pub record Came (s mid : StockValue) (r : ℕ) : Type 0 where
@@ -101,35 +99,6 @@ fill_does counts line size p c r words t s mid after answer f inner came few cla
     (fill_brings line size p c s f.asked f.note t f.rest f.gives came.stock awares f.long low f.small f.empty class (subst (λ (z : StockValue). IsStock z) f.after_is came.now) words well)
     f.after_is came.now can.stake can.back issue inner came.below came.bare few
 
--- the fill of a list, by what its parts say: the root gave titles; the note was taken in; the others can be loaded, and were
-pub fill_received : (s a b : StockValue) (n : View) → a ≡ record s { view = a.view } → Receives n a b → b ≡ record s { view = united a.view n }
-fill_received s a b n asked receives = receives.after_is ∙ ap (λ (z : StockValue). record z { view = united a.view n }) asked
-
-pub fill_can_load : (line p c : ℕ) (s a b : StockValue) (n : View) (ts : List Title) (t : Title) (rest : List Title) → a ≡ record s { view = a.view } →
-    FillGives s.thread p line c (fill_of c) s.view a.view n ts → t ≡ slice_index_or ts 0 t → rest ≡ remove ts 0 → Receives n a b → IsStock s →
-    IsAware s.view → IsAware a.view → IsAware b.view → p < 4 → c < 59 → titles_in s.caches p c ≡ [] → CanLoad p c rest b
-fill_can_load line p c s a b n ts t rest asked gives first others receives is aware one two low small empty =
-    let e = fill_received s a b n asked receives in
-    let all = first_rest ts t rest gives.some first others in
-    subst (λ (z : StockValue). CanLoad p c rest z) (sym e)
-    (fill_loads line p c s a.view n t rest (subst (λ xs. FillGives s.thread p line c (fill_of c) s.view a.view n xs) all gives) is
-    (aware, one, receives.aware, subst (λ (z : StockValue). IsAware z.view) e two) receives.long low small empty)
-
-pub fills_list : (line p c : ℕ) (s a b d : StockValue) (n : View) (ts : List Title) (t : Title) (rest : List Title) → a ≡ record s { view = a.view } →
-    FillGives s.thread p line c (fill_of c) s.view a.view n ts → t ≡ slice_index_or ts 0 t → rest ≡ remove ts 0 → Receives n a b → IsAware a.view → c < 59 →
-    titles_in s.caches p c ≡ [] → d ≡ record b { caches = with_listed p c rest b.caches } → FillsList line p c t s d
-fills_list line p c s a b d n ts t rest asked gives first others receives one small empty loaded = record {
-  asked = a.view;
-  note = n;
-  rest = rest;
-  gives = subst (λ xs. FillGives s.thread p line c (fill_of c) s.view a.view n xs) (first_rest ts t rest gives.some first others) gives;
-  awares = (one, receives.aware);
-  long = receives.long;
-  small = small;
-  empty = empty;
-  after_is = loaded ∙ ap (λ (z : StockValue). record z { caches = with_listed p c rest z.caches }) (fill_received s a b n asked receives);
-}
-
 -- ---- a direct map
 
 pub map_awares : (line p len : ℕ) (t : Title) (s mid : StockValue) (m : MapsTitle line p len t s mid) → IsAware s.view → IsAware mid.view → Awares s.view m.asked m.note
@@ -157,14 +126,3 @@ map_does counts line size p len r t s mid after answer m inner came direct shape
     let awares = map_awares line p len t s mid m came.aware came.now_aware in
     issued_does counts line size r (mapped_slot p t) _ _ s mid after (united m.asked m.note) s.caches answer
     (map_brings line size p len s m.asked m.note t m.gives came.stock awares m.long low direct shape) m.after_is came.now can.stake can.back issue inner came.below came.bare direct.1
-
-pub maps_title : (line p len : ℕ) (s a b : StockValue) (n : View) (t : Title) → a ≡ record s { view = a.view } → MapGives s.thread p line len s.view a.view n t →
-    Receives n a b → IsAware a.view → MapsTitle line p len t s b
-maps_title line p len s a b n t asked gives receives one = record {
-  asked = a.view;
-  note = n;
-  gives = gives;
-  awares = (one, receives.aware);
-  long = receives.long;
-  after_is = fill_received s a b n asked receives;
-}

@@ -27,20 +27,22 @@ use Rattle.pa_rules.specs.Caches.{SameLists, OnlyActs, NoActs, IsOfClass, Return
 use Rattle.pa_cells.specs.declared.handle.Handle.{Handle}
 use Rattle.pa_cells.specs.Handles.{HasSeenMade}
 use Rattle.pa_root.specs.Handing.{at_number_seen}
-use Rattle.pa_heap.specs.declared.register.Register.{Register}
-use Rattle.pa_heap.specs.declared.register.Register.TheVariants.{Own, Ref, Freed, Cleared}
-use Rattle.pa_heap.specs.Stocks.{StockValue, IsStock, register_in, regs_of, titles_in, listed_in}
-use Rattle.pa_heap.specs.Workers.{HasItsStake}
-use Rattle.pa_heap.specs.Changes.{LetsGo, IsBack, IsPut, put_in_front}
-use Rattle.pa_heap.specs.Plays.{DoesOp}
-use Rattle.pa_heap.proofs.Registers.{regs_set}
-use Rattle.pa_heap.proofs.Seeing.{made_kept, slot_in_run, home_of}
-use Rattle.pa_heap.proofs.Leaving.{least_is, user_not_free, touched_count}
-use Rattle.pa_heap.proofs.Stocks.{register_has}
-use Rattle.pa_heap.proofs.Looking.{seen_at}
-use Rattle.pa_heap.proofs.Quiet.{quiet_record, touched_does}
-use Rattle.pa_heap.proofs.Resetting.{can_reset, cleared, reset_row}
-use Rattle.pa_heap.proofs.Freeing.{can_step, freed, freed_view, free_row, touched_free}
+use Rattle.pa_plays.specs.declared.register.Register.{Register}
+use Rattle.pa_plays.specs.declared.register.Register.TheVariants.{Own, Ref, Freed, Cleared}
+use Rattle.pa_plays.specs.Stocks.{StockValue, IsStock, register_in, regs_of, titles_in, listed_in}
+use Rattle.pa_plays.specs.Workers.{HasItsStake}
+use Rattle.pa_stock.specs.Changes.{LetsGo, IsBack, IsPut, put_in_front}
+use Rattle.pa_plays.specs.Plays.{DoesOp}
+use Rattle.pa_plays.proofs.Registers.{regs_set}
+use Rattle.pa_plays.proofs.Seeing.{made_kept, slot_in_run, home_of}
+use Rattle.pa_stock.proofs.Leaving.{least_is, user_not_free, touched_count}
+use Rattle.pa_plays.proofs.Stocks.{register_has}
+use Rattle.pa_stock.proofs.Looking.{seen_at}
+use Rattle.pa_plays.proofs.Quiet.{quiet_record, touched_does}
+use Rattle.pa_stock.proofs.Resetting.{can_reset, cleared}
+use Rattle.pa_heap.proofs.Resetting.{reset_row}
+use Rattle.pa_stock.proofs.Freeing.{can_step, freed, freed_view}
+use Rattle.pa_heap.proofs.Freeing.{free_row, touched_free}
 use Rattle.pa_heap.proofs.Returning.{stays_whole, front_lists}
 
 -- as many numbered titles as titles

@@ -6,7 +6,6 @@ use Rattle.std.proofs.lemmas.Bool.{cases_lt}
 use Rattle.pa_machine.specs.declared.title.Title.{Title}
 use Rattle.pa_machine.specs.declared.word.SlotName.{SlotName}
 use Rattle.pa_record.specs.declared.history.CellEntry.{CellEntry}
-use Rattle.pa_record.specs.declared.history.Held.{Held}
 use Rattle.pa_record.specs.declared.history.Held.TheVariants.{Nothing}
 use Rattle.pa_record.specs.declared.pool.PoolEntry.{PoolEntry}
 use Rattle.pa_record.specs.declared.root.RootEntry.{RootEntry}
@@ -30,7 +29,7 @@ use Rattle.pa_told.specs.Listed.{IsJournalOf, IsPoolList}
 use Rattle.pa_root.specs.Laws.{JournalsFitPool}
 use Rattle.pa_cells.specs.Cells.{Exchange, AreExchanges, cell_history}
 use Rattle.pa_heap.specs.declared.left.Left.{Left}
-use Rattle.pa_heap.specs.Workers.{WorkerValue}
+use Rattle.pa_plays.specs.Workers.{WorkerValue}
 use Rattle.pa_heap.specs.Closing.{TakesOthersIn, LeavesPool, LeavesRoot, LeavesCells, LeavesWorker, LeavesLists, IsClosedBy, journal_left, root_left}
 use Rattle.pa_heap.proofs.TakingIn.{takes_on, pool_on, root_on, worker_on}
 

@@ -1,89 +1,33 @@
--- A copy of a handle: the stock after it, and what it says.
-use Rattle.std.proofs.Common.{◌≡◌, ℕ, ◌<◌, List, [], ◌∷◌, length, Some, refl, sym, ◌∙◌, ap, subst, arith, inl, inr}
+-- A copy of a handle: what it says.
+use Rattle.std.proofs.Common.{◌≡◌, ℕ, ◌<◌, [], ◌∷◌, length, Some, refl, sym, ap, subst, arith, inl, inr}
 use Rattle.std.specs.Prelude.{slice_set}
-use Rattle.std.proofs.lemmas.List.{length-set}
-use Rattle.pa_machine.specs.declared.title.Title.{Title}
 use Rattle.pa_machine.specs.declared.word.Step.TheVariants as steps
-use Rattle.pa_machine.specs.Holdings.{one}
 use Rattle.pa_trace.specs.declared.script.Op.TheVariants as ops
 use Rattle.pa_record.specs.declared.entry.Seen.{Seen}
 use Rattle.pa_record.specs.declared.entry.Answer.{Answer}
 use Rattle.pa_record.specs.declared.entry.Answer.TheVariants as answers
 use Rattle.pa_record.specs.Spans.{name_of}
 use Rattle.pa_region.specs.declared.view.Entry.TheVariants.{Counted}
-use Rattle.pa_region.specs.declared.view.OwnTitle.{OwnTitle}
-use Rattle.pa_region.specs.Waiting.{is_unclean}
-use Rattle.pa_region.specs.Moves.{CanCount, IsFound, after_count, busy}
-use Rattle.pa_region.specs.Leaves.{CountLeaves, OwnsChange}
+use Rattle.pa_region.specs.Moves.{IsFound, after_count}
+use Rattle.pa_region.specs.Leaves.{CountLeaves}
 use Rattle.pa_region.specs.Aware.{IsAware}
 use Rattle.pa_rules.specs.Played.{mark_at}
 use Rattle.pa_rules.specs.declared.register.Reg.TheVariants as reg
 use Rattle.pa_rules.specs.Registers.{Regs, with, Becomes, CopyRow, CopyToRow}
 use Rattle.pa_cells.specs.declared.handle.Handle.{Handle}
-use Rattle.pa_heap.specs.declared.register.Register.{Register}
-use Rattle.pa_heap.specs.declared.register.Register.TheVariants.{Empty, Own, Ref, Freed, Cleared}
-use Rattle.pa_heap.specs.Stocks.{StockValue, IsStock, HasHandleTo, HasNoHandle, register_in, as_reg, regs_of, owns_one, refs_one}
-use Rattle.pa_heap.specs.Workers.{HasItsStake}
-use Rattle.pa_heap.specs.Plays.{DoesOp}
-use Rattle.pa_heap.proofs.Registers.{sum_set, regs_set, made_set}
-use Rattle.pa_heap.proofs.Seeing.{made_kept, made_for_kept, slot_in_run, home_of}
-use Rattle.pa_heap.proofs.Leaving.{least_is, clean_own, user_not_free, touched_count}
-use Rattle.pa_heap.proofs.Stocks.{register_has, stock_with}
-use Rattle.pa_heap.proofs.Quiet.{quiet_does}
-use Rattle.pa_heap.proofs.Refusing.{copy_refuses}
-
--- the stock after a copy that found this word
-abbrev pub copied : StockValue → Handle → ℕ → ℕ → StockValue
-copied s h to word =
-    record s { view = after_count steps.Copy h.title word s.view; registers = slice_set s.registers to (Ref h) }
-
--- a seat with a handle can make the copy
-pub can_copy : (s : StockValue) (from : ℕ) (h : Handle) → IsStock s → HasItsStake s → 0 < s.view.budget → from < 64 →
-    HasHandleTo h (register_in s.registers from) → CanCount steps.Copy h.title s.view
-can_copy s from h is stake budget below has =
-    let user = (register_has s from h is below has).0 in
-    let clean = clean_own s.view h.title is.handles.clean in
-    (omega arith, (least_is s.thread s.view is.stake stake).1, budget, tt)
-
--- a register without a handle weighs nothing
-none_owned : (t : Title) (r : Register) → HasNoHandle r → owns_one t r ≡ 0
-none_owned t Empty is = refl
-none_owned t (Own h) is = absurd is
-none_owned t (Ref h) is = absurd is
-none_owned t Freed is = refl
-none_owned t Cleared is = refl
-
-none_pointed : (t : Title) (r : Register) → HasNoHandle r → refs_one t r ≡ 0
-none_pointed t Empty is = refl
-none_pointed t (Own h) is = absurd is
-none_pointed t (Ref h) is = absurd is
-none_pointed t Freed is = refl
-none_pointed t Cleared is = refl
-
--- the stock stays sound
-pub copied_stock : CountLeaves → OwnsChange → (s : StockValue) (from to word : ℕ) (h : Handle) → IsStock s → HasItsStake s → 0 < s.view.budget →
-    from < 64 → to < 64 → HasHandleTo h (register_in s.registers from) → HasNoHandle (register_in s.registers to) → IsStock (copied s h to word)
-copied_stock counts owns s from to word h is stake budget below within has bare =
-    let t = h.title in
-    let w = after_count steps.Copy t word s.view in
-    let leaves = counts steps.Copy t word s.view (can_copy s from h is stake budget below has) in
-    let rs = s.registers in
-    let inside : to < length rs = let n = is.handles.count in omega arith in
-    let made = (register_has s from h is below has).1 in
-    stock_with s w (slice_set rs to (Ref h)) is
-    (record {
-      count = long rs inside ∙ is.handles.count;
-      owns = λ u. let a = leaves.owns u in let b = is.handles.owns u in let c = sum_set (owns_one u) rs to (Ref h) Empty inside in
-          let d = none_owned u (register_in rs to) bare in omega arith;
-      refs = λ u. let a = leaves.refs u in let b = is.handles.refs u in let c = sum_set (refs_one u) rs to (Ref h) Empty inside in
-          let d = none_pointed u (register_in rs to) bare in omega arith;
-      clean = owns.1 t busy (λ (o : OwnTitle). one (is_unclean o.state)) s.view.owns (λ o. refl) ∙ is.handles.clean;
-      made = made_set w rs to (Ref h) inside (made_kept h s.view w refl made) (λ k. made_for_kept s.view w refl (register_in rs k) (is.handles.made k));
-    })
-    refl (λ u. let a = leaves.frees u in omega arith) leaves.entry.stakes
-  where
-    long : (xs : List Register) → to < length xs → length (slice_set xs to (Ref h)) ≡ length xs
-    long xs inside = length-set xs to (Ref h)
+use Rattle.pa_plays.specs.declared.register.Register.{Register}
+use Rattle.pa_plays.specs.declared.register.Register.TheVariants.{Empty, Own, Ref, Freed, Cleared}
+use Rattle.pa_plays.specs.Stocks.{StockValue, IsStock, HasHandleTo, HasNoHandle, register_in, as_reg, regs_of}
+use Rattle.pa_plays.specs.Workers.{HasItsStake}
+use Rattle.pa_plays.specs.Plays.{DoesOp}
+use Rattle.pa_stock.specs.Changes.{PointsTo}
+use Rattle.pa_plays.proofs.Registers.{regs_set}
+use Rattle.pa_plays.proofs.Seeing.{made_kept, slot_in_run, home_of}
+use Rattle.pa_stock.proofs.Leaving.{least_is, user_not_free, touched_count}
+use Rattle.pa_plays.proofs.Stocks.{register_has}
+use Rattle.pa_plays.proofs.Quiet.{quiet_does}
+use Rattle.pa_plays.proofs.Refusing.{copy_refuses}
+use Rattle.pa_stock.proofs.Copying.{can_copy, copied}
 
 -- the rows: of the first register, by its handle; of the second, which has none
 copy_row : (r : Register) (h : Handle) (regs : Regs) (to : ℕ) (answer : Answer) (after : Regs) → HasHandleTo h r →
@@ -127,6 +71,15 @@ copied_does counts s from to word h is aware stake budget below within has bare 
       reader = tt;
       home = λ m e. (h.partition, home_of o h.partition (mark_at line seen (Some steps.Copy)) m e slot.size);
     })
+
+pub point_does : CountLeaves → (s after : StockValue) (from to : ℕ) (h : Handle) (seen : Seen) → IsStock s → IsAware s.view → HasItsStake s → 0 < s.view.budget →
+    from < 64 → to < 64 → HasHandleTo h (register_in s.registers from) → HasNoHandle (register_in s.registers to) → PointsTo h to seen s after → (line : ℕ) →
+    DoesOp line (ops.Copy from to) (answers.Done seen) s after
+point_does counts s after from to h seen is aware stake budget below within has bare points line =
+    let e : seen ≡ record { slot = name_of h.title; found = record { 0 = seen.found.0 } } = ap (λ n. record seen { slot = n }) points.slot in
+    subst (λ x. DoesOp line (ops.Copy from to) (answers.Done x) s after) (sym e)
+    (subst (DoesOp line (ops.Copy from to) (answers.Done (record { slot = name_of h.title; found = record { 0 = seen.found.0 } })) s) (sym points.after_is)
+    (copied_does counts s from to seen.found.0 h is aware stake budget below within has bare points.found line))
 
 -- the second register has a handle
 abbrev pub HasSome : Register → Type 0

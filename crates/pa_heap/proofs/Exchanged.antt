@@ -17,8 +17,7 @@ use Rattle.pa_region.specs.declared.view.Entry.{Entry}
 use Rattle.pa_region.specs.declared.view.Entry.TheVariants.{Entered, Counted, Looked, Uncut}
 use Rattle.pa_region.specs.declared.view.Made.{Made}
 use Rattle.pa_region.specs.declared.view.View.{View}
-use Rattle.pa_region.specs.Views.{free_of, seen_of, seen_among, stake_of, least_stake}
-use Rattle.pa_region.specs.Lending.{Lends}
+use Rattle.pa_region.specs.Views.{free_of, seen_of, seen_among, stake_of}
 use Rattle.pa_region.specs.Takes.{log_of, BeginningsJoin, SeenJoins, FreeNumbersStay}
 use Rattle.pa_region.specs.Hands.{left_after, united}
 use Rattle.pa_region.specs.Lists.{list_of, entered_in}
@@ -32,17 +31,18 @@ use Rattle.pa_told.specs.Indices.{Enters}
 use Rattle.pa_cache.specs.Caches.{CacheList}
 use Rattle.pa_root.specs.Handing.{numbered_by}
 use Rattle.pa_cells.specs.Handles.{ParkedHandle, GiversLackHandles, held_as}
-use Rattle.pa_cells.specs.Cells.{CellsHeld, MakesExchange, cell_holds, exchange_entry, exchange_numbers, made_with_cell}
-use Rattle.pa_heap.specs.declared.register.Register.{Register}
-use Rattle.pa_heap.specs.declared.register.Register.TheVariants.{Empty, Own, Ref, Freed, Cleared}
-use Rattle.pa_heap.specs.Stocks.{StockValue, IsStock, HasNoHandle, register_in, as_reg, regs_of, titles_in, listed_in}
-use Rattle.pa_heap.specs.Workers.{HasItsStake}
-use Rattle.pa_heap.specs.Outcomes.{Outcome, IsOutcome, ActsAreOf}
-use Rattle.pa_heap.specs.Exchanging.{Parks, SwapsHandles, TakesIn, handle_register, register_of, found_register, handle_parcel}
-use Rattle.pa_heap.specs.Plays.{DoesOp}
-use Rattle.pa_heap.proofs.Registers.{set_at}
-use Rattle.pa_heap.proofs.Quiet.{same_titles}
-use Rattle.pa_heap.proofs.Parking.{Rests, rests_none, parked_rests, taken_rests, holds_given, frees_kept}
+use Rattle.pa_cells.specs.Cells.{exchange_entry}
+use Rattle.pa_plays.specs.declared.register.Register.{Register}
+use Rattle.pa_plays.specs.declared.register.Register.TheVariants.{Empty, Own, Ref, Freed, Cleared}
+use Rattle.pa_plays.specs.Stocks.{StockValue, IsStock, HasNoHandle, register_in, as_reg, regs_of, titles_in, listed_in}
+use Rattle.pa_plays.specs.Workers.{HasItsStake}
+use Rattle.pa_plays.specs.Outcomes.{Outcome, IsOutcome, ActsAreOf}
+use Rattle.pa_stock.specs.Exchanging.{Parks, SwapsHandles, TakesIn, handle_register, register_of, found_register, handle_parcel}
+use Rattle.pa_plays.specs.Plays.{DoesOp}
+use Rattle.pa_plays.proofs.Registers.{set_at}
+use Rattle.pa_plays.proofs.Quiet.{same_titles}
+use Rattle.pa_plays.proofs.Entered.{Rests}
+use Rattle.pa_stock.proofs.Parking.{rests_none, parked_rests, taken_rests, holds_given, frees_kept}
 
 -- what was given is what the register had, as histories name it
 pub given_is : (p : ParkedHandle) → held_as (Some p) ≡ handle_of (as_reg (register_of p))
@@ -311,24 +311,6 @@ exchange_does law joins seen stay line cell reg index given found s a b d is bel
         (if c then found_register found else register_in b.registers k) ≡ (if c then found_register found else register_in s.registers k)
     go k same frame true e = refl
     go k same frame false e = ap (λ (rs : List Register). register_in rs k) same ∙ frame.others k e
-
--- the exchange behind the lock, by what the call of the cells says
-pub exchanges_is : {old new : CellsHeld} → (line cell index : ℕ) (given found : Option ParkedHandle) (s : StockValue) (w : View) → least_stake s.view.stakes ≡ s.thread →
-    MakesExchange line cell given s.view w old new → index ≡ length (made_with_cell cell (list_of 5 old.view)) → found ≡ cell_holds old.parked cell →
-    SwapsHandles line cell given found index s (record s { view = w })
-exchanges_is {old} {new} line cell index given found s w least makes place is_found =
-    let (m, noted) = makes.noted in
-    record {
-      older = list_of 5 old.view;
-      made = m;
-      list = noted.whole ∙ noted.list;
-      says = noted.says ∙ ap (λ (f : Option ParkedHandle). exchange_numbers (record { cell = cell; entry = exchange_entry line given f })) (sym is_found);
-      index_is = place;
-      lends = subst (λ n. Lends n (Entered 5 m ∷ []) s.view w) least noted.lends;
-      carries = noted.before;
-      known = noted.known;
-      same = refl;
-    }
 
 -- ---- what the parts need of one another
 

@@ -1,99 +1,37 @@
--- A free by the owner: the stock after it, and what it says where its step doesn't return the slot.
-use Rattle.std.proofs.Common.{◌≡◌, ℕ, ◌+◌, ◌<◌, List, [], ◌∷◌, length, Some, refl, sym, ◌∙◌, ap, subst, arith, inl, inr}
+-- A free by the owner: what it says where its step doesn't return the slot.
+use Rattle.std.proofs.Common.{◌≡◌, ℕ, ◌+◌, ◌<◌, [], ◌∷◌, length, Some, refl, sym, ap, subst, arith, inl, inr}
 use Rattle.std.specs.Prelude.{slice_set}
-use Rattle.std.specs.List.{sum_by}
-use Rattle.std.proofs.lemmas.List.{length-set}
-use Rattle.pa_machine.specs.declared.title.Title.{Title}
 use Rattle.pa_machine.specs.declared.word.Step.TheVariants as steps
-use Rattle.pa_machine.specs.declared.title.OwnState.TheVariants.{Clean, Dirty}
 use Rattle.pa_machine.specs.Count.{number_of}
-use Rattle.pa_machine.specs.Titles.{same_title, content_count}
-use Rattle.pa_machine.specs.Holdings.{one}
 use Rattle.pa_machine.specs.Run.{IsReturning}
 use Rattle.pa_trace.specs.declared.script.Op.TheVariants as ops
 use Rattle.pa_record.specs.declared.entry.Seen.{Seen}
 use Rattle.pa_record.specs.declared.entry.Answer.TheVariants as answers
 use Rattle.pa_record.specs.Spans.{name_of}
 use Rattle.pa_region.specs.declared.view.Entry.TheVariants.{Counted}
-use Rattle.pa_region.specs.declared.view.OwnTitle.{OwnTitle}
-use Rattle.pa_region.specs.declared.view.View.{View}
-use Rattle.pa_region.specs.Views.{free_of, own_as, seen_of, HasStake}
-use Rattle.pa_region.specs.Waiting.{is_unclean}
-use Rattle.pa_region.specs.Moves.{CanCount, IsFound, after_count, without, changed, is_own_of}
-use Rattle.pa_region.specs.Stores.{poisoned_to}
+use Rattle.pa_region.specs.Views.{free_of, seen_of}
+use Rattle.pa_region.specs.Moves.{IsFound}
 use Rattle.pa_region.specs.Leaves.{CountLeaves, OwnsChange, StatesAreOwns}
 use Rattle.pa_quarantine.specs.Filling.{poisoned}
-use Rattle.pa_quarantine.proofs.Filling.{poison_ready}
-use Rattle.pa_quarantine.proofs.Handing.{without_changed, without_less}
 use Rattle.pa_region.specs.Aware.{IsAware}
 use Rattle.pa_rules.specs.declared.register.Reg.TheVariants as reg
 use Rattle.pa_rules.specs.Played.{mark_at}
 use Rattle.pa_rules.specs.Registers.{Regs, with, Becomes, FreeRow}
 use Rattle.pa_cells.specs.declared.handle.Handle.{Handle}
-use Rattle.pa_heap.specs.declared.register.Register.{Register}
-use Rattle.pa_heap.specs.declared.register.Register.TheVariants.{Empty, Own, Freed}
-use Rattle.pa_heap.specs.Stocks.{StockValue, IsStock, register_in, as_reg, regs_of, owns_one, refs_one}
-use Rattle.pa_heap.specs.Workers.{HasItsStake}
-use Rattle.pa_heap.specs.Changes.{LetsGo}
-use Rattle.pa_heap.specs.Plays.{DoesOp}
-use Rattle.pa_heap.proofs.Registers.{sum_set, regs_set, made_set}
-use Rattle.pa_heap.proofs.Seeing.{made_kept, made_for_kept, slot_in_run, home_of, now_seen}
-use Rattle.pa_heap.proofs.Touching.{Touched, touched_entry}
-use Rattle.pa_heap.proofs.Leaving.{least_is, clean_own, user_not_free}
-use Rattle.pa_heap.proofs.Stocks.{register_has, register_owns, stock_with}
-use Rattle.pa_heap.proofs.Looking.{seen_at}
-use Rattle.pa_heap.proofs.Quiet.{quiet_does}
-
--- the view after the content was poisoned and a free found this word
-abbrev pub freed_view : View → Title → ℕ → View
-freed_view v t word = after_count steps.Free t word (poisoned t v)
-
-abbrev pub freed : StockValue → Handle → ℕ → ℕ → StockValue
-freed s h r word = record s { view = freed_view s.view h.title word; registers = slice_set s.registers r Freed }
-
--- an owner can free, and can make the step then
-pub can_free : (s : StockValue) (r : ℕ) (h : Handle) → IsStock s → HasItsStake s → 0 < s.view.budget → r < 64 → register_in s.registers r ≡ Own h →
-    (0 < own_as s.view h.title Clean + own_as s.view h.title Dirty) × HasStake s.view × (0 < s.view.budget)
-can_free s r h is stake budget below own =
-    let has = register_owns s r h is below own in
-    let clean = clean_own s.view h.title is.handles.clean in
-    (omega arith, (least_is s.thread s.view is.stake stake).1, budget)
-
-pub can_step : StatesAreOwns → OwnsChange → (s : StockValue) (r : ℕ) (h : Handle) → IsStock s → HasItsStake s → 0 < s.view.budget → r < 64 → register_in s.registers r ≡ Own h →
-    CanCount steps.Free h.title (poisoned h.title s.view)
-can_step states owns s r h is stake budget below own =
-    let can = can_free s r h is stake budget below own in
-    (poison_ready states owns h.title s.view can.0, can.1, budget, tt)
-
--- an Own that isn't clean went with the free
-freed_clean : (t : Title) (os : List OwnTitle) → sum_by (λ (o : OwnTitle). one (is_unclean o.state)) os ≡ 0 →
-    sum_by (λ (o : OwnTitle). one (is_unclean o.state)) (without (is_own_of t) (changed (is_own_of t) (poisoned_to (content_count t)) os)) ≡ 0
-freed_clean t os clean =
-    let e = ap (sum_by (λ (o : OwnTitle). one (is_unclean o.state))) (without_changed t (poisoned_to (content_count t)) (λ o. refl) os) in
-    let less = without_less (is_own_of t) (λ (o : OwnTitle). one (is_unclean o.state)) os in
-    omega arith
-
--- the stock stays sound
-pub freed_stock : CountLeaves → OwnsChange → StatesAreOwns → (s : StockValue) (r word : ℕ) (h : Handle) → IsStock s → HasItsStake s → 0 < s.view.budget → r < 64 →
-    register_in s.registers r ≡ Own h → IsStock (freed s h r word)
-freed_stock counts owns states s r word h is stake budget below own =
-    let t = h.title in
-    let w = freed_view s.view t word in
-    let leaves = counts steps.Free t word (poisoned t s.view) (can_step states owns s r h is stake budget below own) in
-    let rs = s.registers in
-    let inside : r < length rs = let n = is.handles.count in omega arith in
-    stock_with s w (slice_set rs r Freed) is
-    (record {
-      count = length-set rs r Freed ∙ is.handles.count;
-      owns = λ u. let a = leaves.owns u in let b = is.handles.owns u in let c = sum_set (owns_one u) rs r Freed Empty inside in
-          let d : owns_one u (register_in rs r) ≡ one (same_title t u) = ap (owns_one u) own in
-          let e = owns.1 t (poisoned_to (content_count t)) (λ (o : OwnTitle). one (same_title o.title u)) s.view.owns (λ o. refl) in omega arith;
-      refs = λ u. let a = leaves.refs u in let b = is.handles.refs u in let c = sum_set (refs_one u) rs r Freed Empty inside in
-          let d : refs_one u (register_in rs r) ≡ 0 = ap (refs_one u) own in omega arith;
-      clean = freed_clean t s.view.owns is.handles.clean;
-      made = made_set w rs r Freed inside tt (λ k. made_for_kept s.view w refl (register_in rs k) (is.handles.made k));
-    })
-    refl (λ u. let a = leaves.frees u in omega arith) leaves.entry.stakes
+use Rattle.pa_plays.specs.declared.register.Register.{Register}
+use Rattle.pa_plays.specs.declared.register.Register.TheVariants.{Own, Freed}
+use Rattle.pa_plays.specs.Stocks.{StockValue, IsStock, register_in, as_reg, regs_of}
+use Rattle.pa_plays.specs.Workers.{HasItsStake}
+use Rattle.pa_stock.specs.Changes.{LetsGo}
+use Rattle.pa_plays.specs.Plays.{DoesOp}
+use Rattle.pa_plays.proofs.Registers.{regs_set}
+use Rattle.pa_plays.proofs.Seeing.{made_kept, slot_in_run, home_of, now_seen}
+use Rattle.pa_plays.proofs.Touching.{Touched, touched_entry}
+use Rattle.pa_stock.proofs.Leaving.{least_is, user_not_free}
+use Rattle.pa_plays.proofs.Stocks.{register_has}
+use Rattle.pa_stock.proofs.Looking.{seen_at}
+use Rattle.pa_plays.proofs.Quiet.{quiet_does}
+use Rattle.pa_stock.proofs.Freeing.{can_step, freed, freed_view}
 
 -- what the step leaves, of the view before the poisoning
 pub touched_free : CountLeaves → OwnsChange → StatesAreOwns → (s : StockValue) (r word : ℕ) (h : Handle) → IsStock s → HasItsStake s → 0 < s.view.budget → r < 64 →

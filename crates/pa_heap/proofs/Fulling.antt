@@ -28,17 +28,17 @@ use Rattle.pa_pool.specs.Calls.{take_entry}
 use Rattle.pa_root.specs.declared.fault.FillFault.TheVariants.{Full}
 use Rattle.pa_root.specs.Handing.{IsFullFor, numbered_by, root_entry}
 use Rattle.pa_root.specs.Making.{EntersTwo}
-use Rattle.pa_heap.specs.declared.register.Register.{Register}
-use Rattle.pa_heap.specs.Stocks.{StockValue, IsStock, HasNoHandle, register_in, as_reg, regs_of, titles_in, listed_in}
-use Rattle.pa_heap.specs.Outcomes.{Outcome, IsSeenOf, row_facts}
-use Rattle.pa_heap.specs.Allocating.{FindsNone}
-use Rattle.pa_heap.specs.Plays.{DoesOp}
-use Rattle.pa_heap.proofs.Quiet.{quiet_record, same_titles}
-use Rattle.pa_heap.proofs.Refusing.{IsPlain, plain_does}
-use Rattle.pa_heap.proofs.Entered.{entered_does, makes_each, two_enters}
-use Rattle.pa_heap.proofs.AskedFor.{Asks, asks_two, it_asks, only_acts, act_at, root_elsewhere}
+use Rattle.pa_plays.specs.declared.register.Register.{Register}
+use Rattle.pa_plays.specs.Stocks.{StockValue, IsStock, HasNoHandle, register_in, as_reg, regs_of, titles_in, listed_in}
+use Rattle.pa_plays.specs.Outcomes.{Outcome, IsSeenOf, row_facts}
+use Rattle.pa_stock.specs.Allocating.{FindsNone}
+use Rattle.pa_plays.specs.Plays.{DoesOp}
+use Rattle.pa_plays.proofs.Quiet.{quiet_record, same_titles}
+use Rattle.pa_plays.proofs.Refusing.{IsPlain, plain_does}
+use Rattle.pa_plays.proofs.Entered.{entered_does, makes_each, two_enters}
+use Rattle.pa_plays.proofs.AskedFor.{Asks, asks_two, it_asks, only_acts, act_at, root_elsewhere}
 use Rattle.pa_heap.proofs.Issuing.{alloc_row}
-use Rattle.pa_heap.proofs.Taking.{two_uncut}
+use Rattle.pa_stock.proofs.Taking.{two_uncut}
 
 -- the row of an allocation whose register is this
 pub alloc_refuses : (s : StockValue) (i p size : ℕ) (r : Register) (answer : Answer) → IsStock s → IsPlain answer → r ≡ register_in s.registers i →

@@ -1,6 +1,6 @@
 -- A reset or a free after whose step slots were given back does what it should.
-use Rattle.std.proofs.Common.{◌≡◌, ℕ, zero, suc, ◌+◌, ◌-◌, ◌/◌, ◌<◌, ◌≤◌, Bool, true, false, List, [], ◌∷◌, ◌++◌, length, map, take, drop, Option, Some, None, refl, sym, ◌∙◌, ap, subst, arith, ◌⊎◌, inl, inr}
-use Rattle.std.specs.Prelude.{◌==◌, ◌≢◌, Contains, filter, nat_lt, if◌then◌else◌}
+use Rattle.std.proofs.Common.{◌≡◌, ℕ, ◌+◌, ◌<◌, Bool, true, false, List, [], ◌∷◌, map, Some, refl, sym, ◌∙◌, ap, subst, arith, inl, inr}
+use Rattle.std.specs.Prelude.{◌==◌, Contains, filter, nat_lt, if◌then◌else◌}
 use Rattle.std.proofs.lemmas.Bool.Decides.{nat_tests, eqb_tells}
 use Rattle.pa_machine.specs.declared.title.Title.{Title}
 use Rattle.pa_machine.specs.declared.word.SlotName.{SlotName}
@@ -10,44 +10,40 @@ use Rattle.pa_trace.specs.declared.script.Op.{Op}
 use Rattle.pa_record.specs.declared.entry.Seen.{Seen}
 use Rattle.pa_record.specs.declared.entry.Answer.TheVariants as answers
 use Rattle.pa_record.specs.declared.numbered.Numbered.{Numbered}
-use Rattle.pa_record.specs.declared.pool.PoolEntry.{PoolEntry}
 use Rattle.pa_record.specs.declared.root.RootEntry.{RootEntry}
-use Rattle.pa_record.specs.declared.root.RootAct.{RootAct}
 use Rattle.pa_record.specs.declared.root.RootAct.TheVariants.{Give, Unmap}
 use Rattle.pa_record.specs.Numbers.{root_numbers}
 use Rattle.pa_record.specs.Spans.{name_of}
 use Rattle.pa_record.proofs.Joined.{map_cases}
-use Rattle.pa_record.proofs.Members.{in_cases, not_in_none, first_in, later_in}
+use Rattle.pa_record.proofs.Members.{in_cases, not_in_none}
 use Rattle.pa_region.specs.declared.view.Entry.{Entry}
 use Rattle.pa_region.specs.declared.view.Entry.TheVariants.{Counted, Entered, Uncut}
 use Rattle.pa_region.specs.declared.view.Made.{Made}
 use Rattle.pa_region.specs.declared.view.View.{View}
 use Rattle.pa_region.specs.Views.{seen_of}
-use Rattle.pa_region.specs.Lists.{list_of, entered_in}
-use Rattle.pa_rules.specs.declared.played.Played.{Played}
+use Rattle.pa_region.specs.Lists.{entered_in}
 use Rattle.pa_rules.specs.Played.{mark_of_answer, mark_at}
 use Rattle.pa_rules.specs.Registers.{Row}
-use Rattle.pa_rules.specs.Caches.{Cache, CacheRow, IsDirect, ReturnRow, SameLists, acts_of, batches, gives, kept, spilled, with_list}
+use Rattle.pa_rules.specs.Caches.{Cache, CacheRow, ReturnRow, SameLists, acts_of, gives, kept, spilled, with_list}
 use Rattle.pa_rules.specs.Roots.{Journals, IsFreeing, MakesEntry}
 use Rattle.pa_told.specs.Told.{ToldRecord}
 use Rattle.pa_told.specs.Touches.{IsStepTold, IsToldBy, is_touch, title_of}
-use Rattle.pa_told.specs.Indices.{Enters, asks, is_asked}
+use Rattle.pa_told.specs.Indices.{Enters, asks}
 use Rattle.pa_told.specs.Said.{ReadsIts}
-use Rattle.pa_record.specs.Root.{asked_by}
 use Rattle.pa_root.specs.Handing.{root_entry}
 use Rattle.pa_cells.specs.declared.handle.Handle.{Handle}
-use Rattle.pa_cells.specs.Handles.{HandsOut, HasSeenMade, SlotsStaySeen}
-use Rattle.pa_heap.specs.declared.register.Register.{Register}
-use Rattle.pa_heap.specs.Stocks.{StockValue, regs_of, listed_in}
-use Rattle.pa_heap.specs.Outcomes.{Outcome, IsOutcome, IsSeenOf, row_facts}
-use Rattle.pa_heap.specs.Entering.{EntersCells, HasSeenSome}
-use Rattle.pa_heap.specs.Plays.{DoesOp, AnswersIn}
-use Rattle.pa_heap.proofs.Seeing.{slot_in_run, home_of}
-use Rattle.pa_heap.proofs.Looking.{seen_at}
-use Rattle.pa_heap.proofs.Touching.{Touched}
-use Rattle.pa_heap.proofs.Quiet.{quiet_record}
-use Rattle.pa_heap.proofs.Batches.{in_gives, gives_ask_none, acts_back, act_among}
-use Rattle.pa_heap.proofs.Entered.{Entering, LineActs, SaysEntered, acts_in, entered_does, entered_here, entered_elsewhere, entering_both, makes_each, none_here, touched_enters, unmaps_next}
+use Rattle.pa_cells.specs.Handles.{HasSeenMade, SlotsStaySeen}
+use Rattle.pa_plays.specs.declared.register.Register.{Register}
+use Rattle.pa_plays.specs.Stocks.{StockValue, regs_of, listed_in}
+use Rattle.pa_plays.specs.Outcomes.{Outcome, IsOutcome, IsSeenOf, row_facts}
+use Rattle.pa_plays.specs.Entering.{EntersCells, HasSeenSome}
+use Rattle.pa_plays.specs.Plays.{DoesOp, AnswersIn}
+use Rattle.pa_plays.proofs.Seeing.{slot_in_run, home_of}
+use Rattle.pa_stock.proofs.Looking.{seen_at}
+use Rattle.pa_plays.proofs.Touching.{Touched}
+use Rattle.pa_plays.proofs.Quiet.{quiet_record}
+use Rattle.pa_plays.proofs.Batches.{in_gives, gives_ask_none, acts_back, act_among}
+use Rattle.pa_plays.proofs.Entered.{Entering, LineActs, acts_in, entered_does, entered_here, entered_elsewhere, entering_both, makes_each, none_here, touched_enters, unmaps_next}
 
 -- the slot of a handle, at the number that its step left
 abbrev pub left_at : Handle → ℕ → Numbered

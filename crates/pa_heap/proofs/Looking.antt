@@ -1,22 +1,17 @@
 -- An op that looks at its register's slot, and does no more.
-use Rattle.std.proofs.Common.{◌≡◌, ℕ, ◌+◌, ◌<◌, Bool, true, false, List, [], ◌∷◌, Some, None, refl, sym, ◌∙◌, ap, subst, arith}
-use Rattle.std.specs.Prelude.{◌==◌, if◌then◌else◌}
+use Rattle.std.proofs.Common.{◌≡◌, ℕ, ◌+◌, ◌<◌, List, [], ◌∷◌, Some, None, refl, sym, ◌∙◌, ap, subst, arith}
 use Rattle.pa_machine.specs.declared.title.Title.{Title}
 use Rattle.pa_machine.specs.declared.word.SlotName.{SlotName}
 use Rattle.pa_machine.specs.Count.{held_of, refs_of}
-use Rattle.pa_machine.specs.Holdings.{one}
 use Rattle.pa_trace.specs.declared.script.Op.{Op}
 use Rattle.pa_record.specs.declared.entry.Answer.{Answer}
 use Rattle.pa_record.specs.declared.entry.Answer.TheVariants as answers
 use Rattle.pa_record.specs.declared.entry.Seen.{Seen}
-use Rattle.pa_record.specs.Spans.{name_of}
 use Rattle.pa_region.specs.declared.view.Entry.{Entry}
 use Rattle.pa_region.specs.declared.view.Entry.TheVariants.{Looked}
-use Rattle.pa_region.specs.declared.view.OwnTitle.{OwnTitle}
 use Rattle.pa_region.specs.declared.view.View.{View}
-use Rattle.pa_region.specs.Waiting.{is_unclean}
-use Rattle.pa_region.specs.Moves.{IsFound, after_look, idle_if}
-use Rattle.pa_region.specs.Leaves.{LookLeaves, OwnsChange}
+use Rattle.pa_region.specs.Moves.{IsFound, after_look}
+use Rattle.pa_region.specs.Leaves.{LookLeaves}
 use Rattle.pa_region.specs.Aware.{IsAware}
 use Rattle.pa_region.specs.Shares.{IsUser}
 use Rattle.pa_rules.specs.declared.played.Played.{Played}
@@ -27,53 +22,16 @@ use Rattle.pa_rules.specs.Roots.{Journals}
 use Rattle.pa_told.specs.Touches.{title_of, IsToldBy, IsLookTold}
 use Rattle.pa_cells.specs.declared.handle.Handle.{Handle}
 use Rattle.pa_told.specs.Said.{ReadsIts}
-use Rattle.pa_heap.specs.Stocks.{StockValue, IsStock, HasHandleTo, register_in, regs_of}
-use Rattle.pa_heap.specs.Workers.{HasItsStake}
-use Rattle.pa_heap.specs.Outcomes.{Outcome, row_facts}
-use Rattle.pa_heap.specs.Plays.{DoesOp}
-use Rattle.pa_heap.proofs.Seeing.{made_kept, made_for_kept, slot_in_run, home_of}
-use Rattle.pa_heap.proofs.Leaving.{least_is, user_not_free, touched_look}
-use Rattle.pa_heap.proofs.Stocks.{register_has, stock_with}
-use Rattle.pa_heap.proofs.Quiet.{quiet_record, quiet_does}
-use Rattle.pa_heap.proofs.Refusing.{IsNoSwap, enters_no_cells}
-
--- what a look at a handle's slot answers
-abbrev pub seen_at : Handle → ℕ → Seen
-seen_at h word = record { slot = name_of h.title; found = record { 0 = word } }
-
--- the stock after a look that found this word
-abbrev pub looked : StockValue → Handle → ℕ → StockValue
-looked s h word = record s { view = after_look h.title word s.view }
-
--- a look leaves the state of Owns
-idle_unclean : (word : ℕ) (o : OwnTitle) → one (is_unclean (idle_if word o).state) ≡ one (is_unclean o.state)
-idle_unclean word o = go (refs_of word == 0)
-  where
-    go : (b : Bool) → one (is_unclean (if b then record o { idle = true } else o).state) ≡ one (is_unclean o.state)
-    go true = refl
-    go false = refl
-
--- the stock stays sound
-pub looked_stock : LookLeaves → OwnsChange → (s : StockValue) (word : ℕ) (h : Handle) → IsStock s → HasItsStake s → IsStock (looked s h word)
-looked_stock looks owns s word h is stake =
-    let t = h.title in
-    let w = after_look t word s.view in
-    let leaves = looks t word s.view (least_is s.thread s.view is.stake stake).1 in
-    stock_with s w s.registers is
-    (record {
-      count = is.handles.count;
-      owns = λ u. leaves.0.owns u ∙ is.handles.owns u;
-      refs = λ u. leaves.0.refs u ∙ is.handles.refs u;
-      clean = owns.1 t (idle_if word) (λ (o : OwnTitle). one (is_unclean o.state)) s.view.owns (idle_unclean word) ∙ is.handles.clean;
-      made = λ k. made_for_kept s.view w refl (register_in s.registers k) (is.handles.made k);
-    })
-    refl (λ u. let a = leaves.0.frees u in omega arith) leaves.1.stakes
-
--- the stake is there as before
-pub looked_stake : LookLeaves → (s : StockValue) (word : ℕ) (h : Handle) → IsStock s → HasItsStake s → HasItsStake (looked s h word)
-looked_stake looks s word h is stake =
-    let leaves = looks h.title word s.view (least_is s.thread s.view is.stake stake).1 in
-    let e = leaves.1.stakes s.thread in omega arith
+use Rattle.pa_plays.specs.Stocks.{StockValue, IsStock, HasHandleTo, register_in, regs_of}
+use Rattle.pa_plays.specs.Workers.{HasItsStake}
+use Rattle.pa_plays.specs.Outcomes.{Outcome, row_facts}
+use Rattle.pa_plays.specs.Plays.{DoesOp}
+use Rattle.pa_plays.proofs.Seeing.{made_kept, slot_in_run, home_of}
+use Rattle.pa_stock.proofs.Leaving.{least_is, user_not_free, touched_look}
+use Rattle.pa_plays.proofs.Stocks.{register_has}
+use Rattle.pa_plays.proofs.Quiet.{quiet_record, quiet_does}
+use Rattle.pa_plays.proofs.Refusing.{IsNoSwap, enters_no_cells}
+use Rattle.pa_stock.proofs.Looking.{looked, seen_at}
 
 -- the word is one in use
 pub in_use : (t : Title) (word : ℕ) (v : View) → IsUser t v → IsFound t word v → 0 < held_of word + refs_of word

@@ -1,5 +1,5 @@
 -- A reset or a free whose step returned the slot, once that is settled.
-use Rattle.std.proofs.Common.{◌≡◌, ℕ, ◌+◌, ◌-◌, ◌<◌, ◌≤◌, List, length, Option, Some, refl, sym, ◌∙◌, ap, subst, arith, inl, inr}
+use Rattle.std.proofs.Common.{◌≡◌, ℕ, ◌-◌, ◌<◌, List, length, refl, sym, ◌∙◌, ap, subst, arith, inl, inr}
 use Rattle.std.specs.Prelude.{slice_set}
 use Rattle.pa_machine.specs.declared.word.Step.{Step}
 use Rattle.pa_machine.specs.declared.word.Step.TheVariants as steps
@@ -18,23 +18,25 @@ use Rattle.pa_region.proofs.TakeLaws.{stakes_made}
 use Rattle.pa_quarantine.specs.Filling.{poisoned}
 use Rattle.pa_cells.specs.declared.handle.Handle.{Handle}
 use Rattle.pa_cells.specs.Handles.{HasSeenMade, SlotsStaySeen}
-use Rattle.pa_heap.specs.declared.register.Register.{Register}
-use Rattle.pa_heap.specs.declared.register.Register.TheVariants.{Own, Ref, Freed, Cleared}
-use Rattle.pa_heap.specs.Stocks.{StockValue, IsStock, register_in, regs_of}
-use Rattle.pa_heap.specs.Workers.{HasItsStake}
-use Rattle.pa_heap.specs.Changes.{LetsGo, NeedsRoot}
-use Rattle.pa_heap.specs.Homing.{IsSettled, GoesHome, Spills, without_title}
-use Rattle.pa_heap.specs.Entering.{HasSeenSome}
-use Rattle.pa_heap.specs.Plays.{DoesOp}
-use Rattle.pa_heap.proofs.Registers.{regs_set}
-use Rattle.pa_heap.proofs.Seeing.{made_kept}
-use Rattle.pa_heap.proofs.Leaving.{least_is, user_not_free, touched_count}
-use Rattle.pa_heap.proofs.Stocks.{register_has}
-use Rattle.pa_heap.proofs.Looking.{seen_at}
-use Rattle.pa_heap.proofs.Resetting.{can_reset, reset_row}
-use Rattle.pa_heap.proofs.Freeing.{can_step, freed_view, free_row, touched_free}
+use Rattle.pa_plays.specs.declared.register.Register.{Register}
+use Rattle.pa_plays.specs.declared.register.Register.TheVariants.{Own, Ref, Freed, Cleared}
+use Rattle.pa_plays.specs.Stocks.{StockValue, IsStock, register_in, regs_of}
+use Rattle.pa_plays.specs.Workers.{HasItsStake}
+use Rattle.pa_stock.specs.Changes.{LetsGo, NeedsRoot}
+use Rattle.pa_stock.specs.Homing.{IsSettled, without_title}
+use Rattle.pa_plays.specs.Entering.{HasSeenSome}
+use Rattle.pa_plays.specs.Plays.{DoesOp}
+use Rattle.pa_plays.proofs.Registers.{regs_set}
+use Rattle.pa_plays.proofs.Seeing.{made_kept}
+use Rattle.pa_stock.proofs.Leaving.{least_is, user_not_free, touched_count}
+use Rattle.pa_plays.proofs.Stocks.{register_has}
+use Rattle.pa_stock.proofs.Looking.{seen_at}
+use Rattle.pa_stock.proofs.Resetting.{can_reset}
+use Rattle.pa_heap.proofs.Resetting.{reset_row}
+use Rattle.pa_stock.proofs.Freeing.{can_step, freed_view}
+use Rattle.pa_heap.proofs.Freeing.{free_row, touched_free}
 use Rattle.pa_heap.proofs.Answering.{seen_left}
-use Rattle.pa_heap.proofs.Homing.{comes_lends}
+use Rattle.pa_stock.proofs.Homing.{comes_lends}
 use Rattle.pa_heap.proofs.Given.{HasReturned}
 use Rattle.pa_heap.proofs.Settling.{home_does, spill_does}
 

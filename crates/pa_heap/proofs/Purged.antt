@@ -1,5 +1,5 @@
 -- A purge does what it should: partition after partition, and what the op says then.
-use Rattle.std.proofs.Common.{◌≡◌, ℕ, zero, suc, ◌+◌, ◌-◌, ◌<◌, ◌≤◌, Bool, true, false, List, [], ◌∷◌, ◌++◌, length, map, take, drop, filter, refl, sym, ◌∙◌, ap, subst, arith, inl, inr, append_assoc}
+use Rattle.std.proofs.Common.{◌≡◌, ℕ, zero, suc, ◌+◌, ◌-◌, ◌<◌, ◌≤◌, Bool, true, false, List, [], ◌∷◌, ◌++◌, length, map, filter, refl, sym, ◌∙◌, ap, subst, arith, inl, inr}
 use Rattle.std.specs.Prelude.{◌==◌, nat_lt, if◌then◌else◌, Contains}
 use Rattle.std.proofs.lemmas.List.{append-nil, map-append}
 use Rattle.std.proofs.lemmas.List.Elements.{Contains-append_cases, filter-append}
@@ -7,18 +7,16 @@ use Rattle.std.proofs.lemmas.Bool.{le-ltb}
 use Rattle.std.proofs.lemmas.Bool.Decides.{nat_tests, eqb_tells}
 use Rattle.pa_machine.specs.declared.title.Title.{Title}
 use Rattle.pa_machine.specs.Titles.{IsWellFormed}
-use Rattle.pa_machine.specs.Run.{Mark}
 use Rattle.pa_trace.specs.declared.script.Op.TheVariants as ops
 use Rattle.pa_record.specs.declared.entry.Answer.TheVariants as answers
 use Rattle.pa_record.specs.declared.entry.Seen.{Seen}
 use Rattle.pa_record.specs.declared.numbered.Numbered.{Numbered}
 use Rattle.pa_record.specs.declared.pool.PoolEntry.{PoolEntry}
 use Rattle.pa_record.specs.declared.root.RootAct.{RootAct}
-use Rattle.pa_record.specs.declared.root.RootAct.TheVariants.{Give, Purge}
+use Rattle.pa_record.specs.declared.root.RootAct.TheVariants.{Purge}
 use Rattle.pa_record.specs.declared.root.RootEntry.{RootEntry}
 use Rattle.pa_record.specs.Numbers.{root_numbers}
-use Rattle.pa_record.specs.Root.{asked_by}
-use Rattle.pa_record.proofs.Members.{in_cases, not_in_none, first_in, later_in, not_some}
+use Rattle.pa_record.proofs.Members.{in_cases, not_in_none, first_in, not_some}
 use Rattle.pa_region.specs.declared.view.Entry.{Entry}
 use Rattle.pa_region.specs.declared.view.Entry.TheVariants.{Entered, Uncut}
 use Rattle.pa_region.specs.declared.view.Made.{Made}
@@ -26,22 +24,20 @@ use Rattle.pa_region.specs.Views.{free_of, seen_of, stake_of}
 use Rattle.pa_region.specs.Lists.{entered_in}
 use Rattle.pa_rules.specs.Caches.{gives, purge_acts, listed_slots, all_listed}
 use Rattle.pa_rules.specs.Roots.{MakesEntry}
-use Rattle.pa_told.specs.Told.{ToldRecord}
 use Rattle.pa_told.specs.Touches.{is_touch, touches}
 use Rattle.pa_told.specs.Indices.{Enters, asks}
 use Rattle.pa_root.specs.Handing.{root_entry, numbered_by}
-use Rattle.pa_heap.specs.declared.register.Register.{Register}
-use Rattle.pa_heap.specs.Stocks.{StockValue, IsStock, titles_in, listed_in, listed_slot, regs_of}
-use Rattle.pa_heap.specs.Workers.{HasItsStake}
-use Rattle.pa_heap.specs.Outcomes.{Outcome, IsOutcome, IsSeenOf}
-use Rattle.pa_heap.specs.Plays.{DoesOp}
-use Rattle.pa_heap.specs.Giving.{Gives}
-use Rattle.pa_heap.specs.Purging.{PurgesRoot, without_lists}
-use Rattle.pa_heap.proofs.Seeing.{slot_in_run}
-use Rattle.pa_heap.proofs.Quiet.{same_titles, quiet_record}
-use Rattle.pa_heap.proofs.Entered.{Entering, SaysEntered, acts_in, entering_none, entering_both, entered_append, entered_here, entered_elsewhere, makes_each, entered_does}
-use Rattle.pa_heap.proofs.Batches.{in_gives, gives_ask_none, acts_back, act_among}
-use Rattle.pa_heap.proofs.HandedBack.{gives_enters}
+use Rattle.pa_plays.specs.declared.register.Register.{Register}
+use Rattle.pa_plays.specs.Stocks.{StockValue, IsStock, titles_in, listed_in, listed_slot, regs_of}
+use Rattle.pa_plays.specs.Workers.{HasItsStake}
+use Rattle.pa_plays.specs.Outcomes.{Outcome, IsOutcome, IsSeenOf}
+use Rattle.pa_plays.specs.Plays.{DoesOp}
+use Rattle.pa_stock.specs.Purging.{PurgesRoot, without_lists}
+use Rattle.pa_plays.proofs.Seeing.{slot_in_run}
+use Rattle.pa_plays.proofs.Quiet.{same_titles, quiet_record}
+use Rattle.pa_plays.proofs.Entered.{Entering, acts_in, entering_none, entering_both, entered_append, entered_here, entered_elsewhere, makes_each, entered_does}
+use Rattle.pa_plays.proofs.Batches.{in_gives, gives_ask_none, acts_back, act_among}
+use Rattle.pa_stock.proofs.HandedBack.{gives_enters}
 
 -- ---- entries of lists are no touches
 

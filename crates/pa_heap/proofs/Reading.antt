@@ -1,4 +1,4 @@
--- A read through a handle: a look, and right after it a load.
+-- A read through a handle: what it says.
 use Rattle.std.proofs.Common.{◌≡◌, ℕ, ◌-◌, ◌/◌, ◌<◌, ◌≤◌, Bool, true, false, ◌&&◌, List, [], ◌∷◌, None, refl, sym, ◌∙◌, ap, subst, arith, inl, inr}
 use Rattle.std.specs.Prelude.{Contains}
 use Rattle.std.proofs.lemmas.List.Sums.{sum_by-le-sum_by}
@@ -32,27 +32,22 @@ use Rattle.pa_told.specs.Told.{ToldRecord}
 use Rattle.pa_told.specs.Touches.{title_of, IsReadTold}
 use Rattle.pa_cells.specs.declared.handle.Handle.{Handle}
 use Rattle.pa_told.specs.Said.{HoldsHandle, IsReadThrough}
-use Rattle.pa_heap.specs.declared.register.Register.{Register}
-use Rattle.pa_heap.specs.declared.register.Register.TheVariants.{Own}
-use Rattle.pa_heap.specs.Stocks.{StockValue, IsStock, HasHandleTo, register_in, as_reg, regs_of}
-use Rattle.pa_heap.specs.Workers.{HasItsStake}
-use Rattle.pa_heap.specs.Changes.{ReadsAt}
-use Rattle.pa_heap.specs.Outcomes.{row_facts}
-use Rattle.pa_heap.specs.Plays.{DoesOp}
-use Rattle.pa_heap.proofs.Seeing.{made_kept, made_for_kept, slot_in_run, home_of}
-use Rattle.pa_heap.proofs.Touching.{Touches, Touched, entry_logs, touched_both}
-use Rattle.pa_heap.proofs.Leaving.{least_is, user_not_free, touched_look}
-use Rattle.pa_heap.proofs.Stocks.{register_has, register_owns, stock_with}
-use Rattle.pa_heap.proofs.Looking.{seen_at, looked_stock, looked_stake, in_use}
-use Rattle.pa_heap.proofs.Quiet.{quiet_record, quiet_does}
-use Rattle.pa_heap.proofs.Refusing.{plain_does}
-
--- the view after a look that found this word and a read that gave this value
-abbrev pub read_view : View → Title → ℕ → ℕ → ℕ → View
-read_view v t word place value = after_read t place value (after_look t word v)
-
-abbrev pub read_stock : StockValue → Handle → ℕ → ℕ → ℕ → StockValue
-read_stock s h word place value = record s { view = read_view s.view h.title word place value }
+use Rattle.pa_plays.specs.declared.register.Register.{Register}
+use Rattle.pa_plays.specs.declared.register.Register.TheVariants.{Own}
+use Rattle.pa_plays.specs.Stocks.{StockValue, IsStock, HasHandleTo, register_in, as_reg, regs_of}
+use Rattle.pa_plays.specs.Workers.{HasItsStake}
+use Rattle.pa_stock.specs.Changes.{ReadsAt}
+use Rattle.pa_plays.specs.Outcomes.{row_facts}
+use Rattle.pa_plays.specs.Plays.{DoesOp}
+use Rattle.pa_plays.proofs.Seeing.{made_kept, slot_in_run, home_of}
+use Rattle.pa_plays.proofs.Touching.{Touches, Touched, entry_logs, touched_both}
+use Rattle.pa_stock.proofs.Leaving.{least_is, user_not_free, touched_look}
+use Rattle.pa_plays.proofs.Stocks.{register_has, register_owns}
+use Rattle.pa_stock.proofs.Looking.{seen_at, looked_stock, looked_stake}
+use Rattle.pa_heap.proofs.Looking.{in_use}
+use Rattle.pa_plays.proofs.Quiet.{quiet_record, quiet_does}
+use Rattle.pa_plays.proofs.Refusing.{plain_does}
+use Rattle.pa_stock.proofs.Reading.{read_stock, read_view}
 
 -- a read leaves an entry, and nothing is seen by it
 touched_load : EntryLeaves → (stake : ℕ) (t : Title) (place value : ℕ) (u : View) → HasStake u → least_stake u.stakes ≡ stake →
@@ -87,26 +82,6 @@ none_unclean v t clean =
 -- a seat that has the title's Own has it
 own_there : (v : View) (t : Title) → 0 < own_of v t → has_own v t ≡ true
 own_there v t has = grind (arith, nat_tests)
-
--- the stock stays sound
-pub read_sound : LookLeaves → EntryLeaves → OwnsChange → (s : StockValue) (word place value : ℕ) (h : Handle) → IsStock s → HasItsStake s →
-    IsStock (read_stock s h word place value)
-read_sound looks entries owns s word place value h is stake =
-    let t = h.title in
-    let u = after_look t word s.view in
-    let w = read_view s.view t word place value in
-    let there = looked_stock looks owns s word h is stake in
-    let has = (least_is s.thread u there.stake (looked_stake looks s word h is stake)).1 in
-    let leaves = entries (Read t place value u.since (has_own u t) (has_unclean u t)) u w has refl in
-    stock_with (record s { view = u }) w s.registers there
-    (record {
-      count = there.handles.count;
-      owns = there.handles.owns;
-      refs = there.handles.refs;
-      clean = there.handles.clean;
-      made = λ k. made_for_kept u w refl (register_in s.registers k) (there.handles.made k);
-    })
-    refl (λ x. omega arith) leaves.stakes
 
 -- what was done in the log
 abbrev read_entries : View → Title → ℕ → ℕ → ℕ → List Entry

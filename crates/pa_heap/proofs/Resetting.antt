@@ -1,17 +1,14 @@
--- A reset of a raw_ptr: the stock after it, and what it says where its step doesn't return the slot.
+-- A reset of a raw_ptr: what it says where its step doesn't return the slot.
 use Rattle.std.proofs.Common.{◌≡◌, ℕ, ◌<◌, [], ◌∷◌, length, Some, refl, sym, ◌∙◌, ap, subst, arith, inr}
 use Rattle.std.specs.Prelude.{slice_set}
-use Rattle.std.proofs.lemmas.List.{length-set}
 use Rattle.pa_machine.specs.declared.word.Step.TheVariants as steps
-use Rattle.pa_machine.specs.Titles.{same_title}
-use Rattle.pa_machine.specs.Holdings.{one}
 use Rattle.pa_machine.specs.Run.{IsReturning}
 use Rattle.pa_trace.specs.declared.script.Op.TheVariants as ops
 use Rattle.pa_record.specs.declared.entry.Seen.{Seen}
 use Rattle.pa_record.specs.declared.entry.Answer.TheVariants as answers
 use Rattle.pa_record.specs.Spans.{name_of}
 use Rattle.pa_region.specs.declared.view.Entry.TheVariants.{Counted}
-use Rattle.pa_region.specs.Moves.{CanCount, IsFound, after_count}
+use Rattle.pa_region.specs.Moves.{IsFound, after_count}
 use Rattle.pa_region.specs.Leaves.{CountLeaves}
 use Rattle.pa_region.specs.Aware.{IsAware}
 use Rattle.pa_rules.specs.declared.register.Reg.TheVariants as reg
@@ -20,47 +17,19 @@ use Rattle.pa_rules.specs.Registers.{Regs, with, Becomes, ResetRow}
 use Rattle.pa_count.specs.declared.steps.Fate.{Fate}
 use Rattle.pa_count.specs.declared.steps.Fate.TheVariants.{Kept, Last}
 use Rattle.pa_cells.specs.declared.handle.Handle.{Handle}
-use Rattle.pa_heap.specs.declared.register.Register.{Register}
-use Rattle.pa_heap.specs.declared.register.Register.TheVariants.{Empty, Ref, Cleared}
-use Rattle.pa_heap.specs.Stocks.{StockValue, IsStock, register_in, as_reg, regs_of, owns_one, refs_one}
-use Rattle.pa_heap.specs.Workers.{HasItsStake}
-use Rattle.pa_heap.specs.Changes.{LetsGo}
-use Rattle.pa_heap.specs.Plays.{DoesOp}
-use Rattle.pa_heap.proofs.Registers.{sum_set, regs_set, made_set}
-use Rattle.pa_heap.proofs.Seeing.{made_kept, made_for_kept, slot_in_run, home_of}
-use Rattle.pa_heap.proofs.Leaving.{least_is, user_not_free, touched_count}
-use Rattle.pa_heap.proofs.Stocks.{register_has, register_points, stock_with}
-use Rattle.pa_heap.proofs.Looking.{seen_at}
-use Rattle.pa_heap.proofs.Quiet.{quiet_does}
-
--- the stock after a reset that found this word
-abbrev pub cleared : StockValue → Handle → ℕ → ℕ → StockValue
-cleared s h r word = record s { view = after_count steps.Reset h.title word s.view; registers = slice_set s.registers r Cleared }
-
-pub can_reset : (s : StockValue) (r : ℕ) (h : Handle) → IsStock s → HasItsStake s → 0 < s.view.budget → r < 64 → register_in s.registers r ≡ Ref h →
-    CanCount steps.Reset h.title s.view
-can_reset s r h is stake budget below ref = (register_points s r h is below ref, (least_is s.thread s.view is.stake stake).1, budget, tt)
-
--- the stock stays sound
-pub cleared_stock : CountLeaves → (s : StockValue) (r word : ℕ) (h : Handle) → IsStock s → HasItsStake s → 0 < s.view.budget → r < 64 → register_in s.registers r ≡ Ref h →
-    IsStock (cleared s h r word)
-cleared_stock counts s r word h is stake budget below ref =
-    let t = h.title in
-    let w = after_count steps.Reset t word s.view in
-    let leaves = counts steps.Reset t word s.view (can_reset s r h is stake budget below ref) in
-    let rs = s.registers in
-    let inside : r < length rs = let n = is.handles.count in omega arith in
-    stock_with s w (slice_set rs r Cleared) is
-    (record {
-      count = length-set rs r Cleared ∙ is.handles.count;
-      owns = λ u. let a = leaves.owns u in let b = is.handles.owns u in let c = sum_set (owns_one u) rs r Cleared Empty inside in
-          let d : owns_one u (register_in rs r) ≡ 0 = ap (owns_one u) ref in omega arith;
-      refs = λ u. let a = leaves.refs u in let b = is.handles.refs u in let c = sum_set (refs_one u) rs r Cleared Empty inside in
-          let d : refs_one u (register_in rs r) ≡ one (same_title t u) = ap (refs_one u) ref in omega arith;
-      clean = is.handles.clean;
-      made = made_set w rs r Cleared inside tt (λ k. made_for_kept s.view w refl (register_in rs k) (is.handles.made k));
-    })
-    refl (λ u. let a = leaves.frees u in omega arith) leaves.entry.stakes
+use Rattle.pa_plays.specs.declared.register.Register.{Register}
+use Rattle.pa_plays.specs.declared.register.Register.TheVariants.{Ref, Cleared}
+use Rattle.pa_plays.specs.Stocks.{StockValue, IsStock, register_in, as_reg, regs_of}
+use Rattle.pa_plays.specs.Workers.{HasItsStake}
+use Rattle.pa_stock.specs.Changes.{LetsGo}
+use Rattle.pa_plays.specs.Plays.{DoesOp}
+use Rattle.pa_plays.proofs.Registers.{regs_set}
+use Rattle.pa_plays.proofs.Seeing.{made_kept, slot_in_run, home_of}
+use Rattle.pa_stock.proofs.Leaving.{least_is, user_not_free, touched_count}
+use Rattle.pa_plays.proofs.Stocks.{register_has}
+use Rattle.pa_stock.proofs.Looking.{seen_at}
+use Rattle.pa_plays.proofs.Quiet.{quiet_does}
+use Rattle.pa_stock.proofs.Resetting.{can_reset, cleared}
 
 pub reset_row : (q : Register) (h : Handle) (seen : Seen) (regs : Regs) (r : ℕ) (after : Regs) → q ≡ Ref h → seen.slot ≡ name_of h.title → Becomes after (with regs r reg.Cleared) →
     ResetRow (as_reg q) regs r (answers.Done seen) after

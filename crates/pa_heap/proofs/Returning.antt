@@ -1,20 +1,21 @@
 -- A slot that a reset's or a free's step returned, in front of its list: what the op says then.
-use Rattle.std.proofs.Common.{◌≡◌, ℕ, ◌<◌, ◌≤◌, Bool, true, false, List, [], ◌∷◌, length, refl, sym, ◌∙◌, ap, arith, ◌⊎◌, inl, inr}
+use Rattle.std.proofs.Common.{◌≡◌, ℕ, ◌<◌, ◌≤◌, Bool, true, false, List, [], ◌∷◌, length, refl, sym, ◌∙◌, ap, arith, inl, inr}
 use Rattle.std.specs.Prelude.{nat_lt}
-use Rattle.std.proofs.lemmas.Bool.Decides.{nat_tests, eqb_tells}
+use Rattle.std.proofs.lemmas.Bool.Decides.{nat_tests}
 use Rattle.pa_machine.specs.declared.title.Title.{Title}
 use Rattle.pa_buckets.specs.Bands.{limit_of}
 use Rattle.pa_record.specs.declared.numbered.Numbered.{Numbered}
 use Rattle.pa_record.specs.Spans.{name_of}
 use Rattle.pa_region.specs.declared.view.View.{View}
 use Rattle.pa_region.specs.Views.{free_of, seen_of}
-use Rattle.pa_rules.specs.Caches.{Cache, SameLists, with_list, kept, spilled}
+use Rattle.pa_rules.specs.Caches.{SameLists, with_list, kept, spilled}
 use Rattle.pa_root.specs.Handing.{numbered_by}
-use Rattle.pa_heap.specs.declared.register.Register.{Register}
-use Rattle.pa_heap.specs.Stocks.{StockValue, IsStock, titles_in, listed_in}
-use Rattle.pa_heap.specs.Changes.{put_in_front}
-use Rattle.pa_heap.proofs.Fronting.{front_cases}
-use Rattle.pa_heap.proofs.Quiet.{same_titles}
+use Rattle.pa_plays.specs.declared.register.Register.{Register}
+use Rattle.pa_plays.specs.Stocks.{StockValue, IsStock, titles_in, listed_in}
+use Rattle.pa_stock.specs.Changes.{put_in_front}
+use Rattle.pa_stock.proofs.Fronting.{front_cases}
+use Rattle.pa_plays.proofs.Quiet.{same_titles}
+use Rattle.pa_stock.proofs.Fronts.{front_list}
 
 -- within the limit a list stays whole
 pub stays_whole : (c : ℕ) (xs : List Numbered) → length xs ≤ limit_of c → (kept c xs ≡ xs) × (spilled c xs ≡ [])
@@ -23,16 +24,6 @@ stays_whole c xs few = go (nat_lt (limit_of c) (length xs)) refl
     go : (b : Bool) → nat_lt (limit_of c) (length xs) ≡ b → (kept c xs ≡ xs) × (spilled c xs ≡ [])
     go true is = absurd (let over : limit_of c < length xs = grind (arith, nat_tests) in omega arith)
     go false is = (rw is refl, rw is refl)
-
--- the list of partition p and the class with this in front
-pub front_list : (cache : Cache) (p c q d : ℕ) (xs : List Numbered) → ((q ≡ p) × (d ≡ c) × (with_list cache p c xs q d ≡ xs)) ⊎ (((q ≡ p) × (d ≡ c) → ⊥) × (with_list cache p c xs q d ≡ cache q d))
-front_list cache p c q d xs = elim (eqb_tells q p) [
-  | inl y ↦ elim (eqb_tells d c) [
-    | inl z ↦ inl (y.1, z.1, rw (y.0, z.0) refl)
-    | inr n ↦ inr (λ e. n.1 e.1, rw (y.0, n.0) refl)
-  ]
-  | inr n ↦ inr (λ e. n.1 e.0, rw n.0 refl)
-]
 
 -- The lists afterwards, where the seat has seen this number of the title and no other of those that were listed.
 pub front_lists : (s : StockValue) (w : View) (rs : List Register) (p c n : ℕ) (t : Title) → IsStock s → p < 4 → c < 59 →

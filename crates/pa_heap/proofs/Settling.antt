@@ -1,51 +1,47 @@
 -- A slot that a step returned goes home, or its list spills: what the op says then.
-use Rattle.std.proofs.Common.{◌≡◌, ℕ, zero, suc, ◌+◌, ◌-◌, ◌/◌, ◌<◌, ◌≤◌, Bool, true, false, List, [], ◌∷◌, ◌++◌, length, map, take, drop, Option, Some, None, refl, sym, ◌∙◌, ap, subst, arith, ◌⊎◌, inl, inr}
-use Rattle.std.specs.Prelude.{◌==◌, ◌&&◌, Contains, nat_lt, if◌then◌else◌, slice_set}
+use Rattle.std.proofs.Common.{◌≡◌, ℕ, zero, suc, ◌-◌, ◌/◌, ◌<◌, ◌≤◌, Bool, true, false, List, [], ◌∷◌, length, map, take, drop, Option, Some, None, refl, sym, ◌∙◌, ap, subst, arith, inl, inr}
+use Rattle.std.specs.Prelude.{Contains, nat_lt}
 use Rattle.std.proofs.lemmas.List.{length-set}
-use Rattle.std.proofs.lemmas.Bool.Decides.{nat_tests, eqb_tells}
+use Rattle.std.proofs.lemmas.Bool.Decides.{nat_tests}
 use Rattle.pa_machine.specs.declared.title.Title.{Title}
 use Rattle.pa_machine.specs.declared.word.Step.{Step}
-use Rattle.pa_machine.specs.Count.{number_of}
-use Rattle.pa_machine.specs.Titles.{IsWellFormed}
 use Rattle.pa_buckets.specs.Bands.{limit_of}
 use Rattle.pa_buckets.proofs.Facts.{limit_of-first, limit_of-second, limit_of-third, limit_of-last}
 use Rattle.pa_trace.specs.declared.script.Op.{Op}
 use Rattle.pa_record.specs.declared.entry.Answer.TheVariants as answers
 use Rattle.pa_record.specs.declared.numbered.Numbered.{Numbered}
-use Rattle.pa_record.specs.declared.root.RootEntry.{RootEntry}
 use Rattle.pa_record.specs.declared.root.RootAct.{RootAct}
 use Rattle.pa_record.specs.declared.root.RootAct.TheVariants.{Give, Unmap}
 use Rattle.pa_record.specs.Numbers.{root_numbers}
 use Rattle.pa_record.specs.Spans.{name_of}
 use Rattle.pa_record.proofs.Members.{in_cases, not_in_none, first_in, later_in}
 use Rattle.pa_region.specs.declared.view.Entry.{Entry}
-use Rattle.pa_region.specs.declared.view.Entry.TheVariants.{Counted, Entered, Uncut}
+use Rattle.pa_region.specs.declared.view.Entry.TheVariants.{Entered, Uncut}
 use Rattle.pa_region.specs.declared.view.Made.{Made}
 use Rattle.pa_region.specs.declared.view.View.{View}
 use Rattle.pa_region.specs.Views.{free_of, seen_of, stake_of}
 use Rattle.pa_region.specs.Lists.{list_of, IsBeginning}
 use Rattle.pa_region.specs.Takes.{log_of}
-use Rattle.pa_rules.specs.Caches.{SameLists, batches, gives, kept, spilled, with_list}
+use Rattle.pa_rules.specs.Caches.{SameLists, gives, kept, spilled, with_list}
 use Rattle.pa_layout.specs.Pages.{supers_for}
 use Rattle.pa_pool.specs.Calls.{give_entry}
 use Rattle.pa_told.specs.Listed.{first_of}
 use Rattle.pa_cache.specs.Caches.{CacheList}
-use Rattle.pa_root.specs.Handing.{GiveTakes, UnmapTakes, at_number_seen, numbered_by, root_entry}
+use Rattle.pa_root.specs.Handing.{at_number_seen, numbered_by, root_entry}
 use Rattle.pa_cells.specs.declared.handle.Handle.{Handle}
 use Rattle.pa_cells.specs.Handles.{SlotsStaySeen}
-use Rattle.pa_heap.specs.declared.register.Register.{Register}
-use Rattle.pa_heap.specs.Stocks.{StockValue, IsStock, cache_place, titles_in, listed_in}
-use Rattle.pa_heap.specs.Changes.{IsBack, NeedsRoot, put_in_front}
-use Rattle.pa_heap.specs.Giving.{GivesTail}
-use Rattle.pa_heap.specs.Homing.{ComesHome, GoesHome, Spills, IsSettled, without_title, note_of_title}
-use Rattle.pa_heap.specs.Plays.{DoesOp}
-use Rattle.pa_heap.proofs.Looking.{seen_at}
-use Rattle.pa_heap.proofs.Quiet.{same_titles}
-use Rattle.pa_heap.proofs.Fronting.{front_cases}
-use Rattle.pa_heap.proofs.Returning.{front_list}
-use Rattle.pa_heap.proofs.Entered.{Entering, TellsOf, entering_both, one_enters, two_enters}
-use Rattle.pa_heap.proofs.Homing.{left_enters}
-use Rattle.pa_heap.proofs.Fronts.{list_there, list_elsewhere}
+use Rattle.pa_plays.specs.declared.register.Register.{Register}
+use Rattle.pa_plays.specs.Stocks.{StockValue, IsStock, cache_place, titles_in, listed_in}
+use Rattle.pa_stock.specs.Changes.{put_in_front}
+use Rattle.pa_stock.specs.Giving.{GivesTail}
+use Rattle.pa_stock.specs.Homing.{ComesHome, GoesHome, Spills, without_title, note_of_title}
+use Rattle.pa_plays.specs.Plays.{DoesOp}
+use Rattle.pa_stock.proofs.Looking.{seen_at}
+use Rattle.pa_plays.proofs.Quiet.{same_titles}
+use Rattle.pa_stock.proofs.Fronting.{front_cases}
+use Rattle.pa_stock.proofs.Fronts.{front_list, list_there, list_elsewhere}
+use Rattle.pa_plays.proofs.Entered.{TellsOf, entering_both, one_enters, two_enters}
+use Rattle.pa_stock.proofs.Homing.{left_enters}
 use Rattle.pa_heap.proofs.Given.{HasReturned, left_at, gives_does}
 use Rattle.pa_heap.proofs.Unmapping.{behind, unmap_does}
 

@@ -12,12 +12,13 @@ use Rattle.pa_region.specs.Leaves.{LookLeaves}
 use Rattle.pa_region.specs.Aware.{IsAware}
 use Rattle.pa_rules.specs.Registers.{FreeRow, WriteRow}
 use Rattle.pa_cells.specs.declared.handle.Handle.{Handle}
-use Rattle.pa_heap.specs.declared.register.Register.TheVariants.{Ref}
-use Rattle.pa_heap.specs.Stocks.{StockValue, IsStock, register_in, as_reg, regs_of}
-use Rattle.pa_heap.specs.Workers.{HasItsStake}
-use Rattle.pa_heap.specs.Changes.{LooksAtSlot}
-use Rattle.pa_heap.specs.Plays.{DoesOp}
-use Rattle.pa_heap.proofs.Looking.{IsOfLook, seen_at, looked_does}
+use Rattle.pa_plays.specs.declared.register.Register.TheVariants.{Ref}
+use Rattle.pa_plays.specs.Stocks.{StockValue, IsStock, register_in, as_reg, regs_of}
+use Rattle.pa_plays.specs.Workers.{HasItsStake}
+use Rattle.pa_stock.specs.Changes.{LooksAtSlot}
+use Rattle.pa_plays.specs.Plays.{DoesOp}
+use Rattle.pa_heap.proofs.Looking.{IsOfLook, looked_does}
+use Rattle.pa_stock.proofs.Looking.{seen_at}
 
 -- where the bit isn't 1, it is 0
 pub bit_is_off : (b : Bool) (word : ℕ) → (IsTrue b ↔ (held_of word ≡ 1)) → b ≡ false → held_of word ≡ 0

@@ -8,11 +8,11 @@ use Rattle.pa_region.specs.Takes.{BeginningsJoin, SeenJoins, ListsJoin, FreeNumb
 use Rattle.pa_region.specs.Hands.{left_after, given_after, united}
 use Rattle.pa_region.specs.Aware.{IsAware}
 use Rattle.pa_cells.specs.Handles.{ParkedHandle, GiversLackHandles, TakersHaveHandles}
-use Rattle.pa_heap.specs.declared.register.Register.{Register}
-use Rattle.pa_heap.specs.declared.register.Register.TheVariants.{Empty}
-use Rattle.pa_heap.specs.Stocks.{StockValue, IsStock, register_in}
-use Rattle.pa_heap.specs.Exchanging.{Parks, TakesIn, TakesHandleIn, IsUndone, register_of, handle_parcel}
-use Rattle.pa_heap.proofs.Parking.{parked_rests, taken_rests, holds_given}
+use Rattle.pa_plays.specs.declared.register.Register.{Register}
+use Rattle.pa_plays.specs.declared.register.Register.TheVariants.{Empty}
+use Rattle.pa_plays.specs.Stocks.{StockValue, IsStock, register_in}
+use Rattle.pa_stock.specs.Exchanging.{Parks, TakesIn, TakesHandleIn, IsUndone, register_of, handle_parcel}
+use Rattle.pa_stock.proofs.Parking.{parked_rests, taken_rests, holds_given}
 
 pub undone_none : (s : StockValue) → IsUndone s s
 undone_none s = record {

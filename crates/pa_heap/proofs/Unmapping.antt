@@ -1,20 +1,18 @@
 -- A reset or a free whose direct map went back does what it should.
-use Rattle.std.proofs.Common.{◌≡◌, ℕ, ◌+◌, ◌<◌, ◌≤◌, Bool, true, false, List, [], ◌∷◌, ◌++◌, length, map, Option, Some, None, refl, sym, ◌∙◌, ap, subst, arith, ◌⊎◌, inl, inr}
-use Rattle.std.specs.Prelude.{◌==◌, ◌≢◌, Contains, filter, nat_lt, if◌then◌else◌}
+use Rattle.std.proofs.Common.{◌≡◌, ℕ, ◌+◌, ◌<◌, Bool, true, false, List, [], ◌∷◌, ◌++◌, length, map, Some, None, refl, sym, ◌∙◌, ap, subst, arith, inl, inr}
+use Rattle.std.specs.Prelude.{◌==◌, Contains, filter, nat_lt, if◌then◌else◌}
 use Rattle.std.proofs.lemmas.Bool.Decides.{nat_tests, eqb_tells}
 use Rattle.pa_machine.specs.declared.title.Title.{Title}
 use Rattle.pa_machine.specs.declared.word.Step.{Step}
 use Rattle.pa_machine.specs.Count.{number_of}
 use Rattle.pa_trace.specs.declared.script.Op.{Op}
 use Rattle.pa_layout.specs.Pages.{supers_for}
-use Rattle.pa_record.specs.declared.entry.Seen.{Seen}
 use Rattle.pa_record.specs.declared.entry.Answer.TheVariants as answers
 use Rattle.pa_record.specs.declared.numbered.Numbered.{Numbered}
 use Rattle.pa_record.specs.declared.pool.PoolEntry.{PoolEntry}
 use Rattle.pa_record.specs.declared.root.RootEntry.{RootEntry}
-use Rattle.pa_record.specs.declared.root.RootAct.{RootAct}
 use Rattle.pa_record.specs.declared.root.RootAct.TheVariants.{Unmap}
-use Rattle.pa_record.specs.Numbers.{root_numbers, pool_numbers}
+use Rattle.pa_record.specs.Numbers.{root_numbers}
 use Rattle.pa_record.specs.Spans.{name_of}
 use Rattle.pa_record.proofs.Joined.{map_cases}
 use Rattle.pa_record.proofs.Members.{in_cases, not_in_none, first_in}
@@ -23,11 +21,11 @@ use Rattle.pa_region.specs.declared.view.Entry.TheVariants.{Counted, Entered, Un
 use Rattle.pa_region.specs.declared.view.Made.{Made}
 use Rattle.pa_region.specs.declared.view.View.{View}
 use Rattle.pa_region.specs.Views.{seen_of}
-use Rattle.pa_region.specs.Lists.{list_of, entered_in}
+use Rattle.pa_region.specs.Lists.{list_of}
 use Rattle.pa_rules.specs.Played.{mark_at}
 use Rattle.pa_rules.specs.Registers.{Row}
 use Rattle.pa_rules.specs.Caches.{IsDirect, SameLists, acts_of}
-use Rattle.pa_rules.specs.Roots.{Journals, MakesEntry}
+use Rattle.pa_rules.specs.Roots.{MakesEntry}
 use Rattle.pa_legal.proofs.Parts.{parts_at}
 use Rattle.pa_told.proofs.Filters.{get_in}
 use Rattle.pa_told.specs.Told.{ToldRecord}
@@ -37,15 +35,15 @@ use Rattle.pa_pool.specs.Calls.{give_entry}
 use Rattle.pa_root.specs.Handing.{UnmapTakes, at_number_seen, root_entry}
 use Rattle.pa_cells.specs.declared.handle.Handle.{Handle}
 use Rattle.pa_cells.specs.Handles.{HandsOut, HasSeenMade, SlotsStaySeen}
-use Rattle.pa_heap.specs.declared.register.Register.{Register}
-use Rattle.pa_heap.specs.Stocks.{StockValue, regs_of, listed_in}
-use Rattle.pa_heap.specs.Outcomes.{Outcome, IsOutcome, IsSeenOf, row_facts}
-use Rattle.pa_heap.specs.Entering.{HasSeenSome}
-use Rattle.pa_heap.specs.Plays.{DoesOp, AnswersIn}
-use Rattle.pa_heap.proofs.Seeing.{slot_in_run, home_of}
-use Rattle.pa_heap.proofs.Looking.{seen_at}
-use Rattle.pa_heap.proofs.Quiet.{quiet_record}
-use Rattle.pa_heap.proofs.Entered.{Entering, LineActs, acts_in, entered_does, entering_both, makes_each, none_here, touched_enters, unmaps_next}
+use Rattle.pa_plays.specs.declared.register.Register.{Register}
+use Rattle.pa_plays.specs.Stocks.{StockValue, regs_of, listed_in}
+use Rattle.pa_plays.specs.Outcomes.{Outcome, IsOutcome, IsSeenOf, row_facts}
+use Rattle.pa_plays.specs.Entering.{HasSeenSome}
+use Rattle.pa_plays.specs.Plays.{DoesOp, AnswersIn}
+use Rattle.pa_plays.proofs.Seeing.{slot_in_run, home_of}
+use Rattle.pa_stock.proofs.Looking.{seen_at}
+use Rattle.pa_plays.proofs.Quiet.{quiet_record}
+use Rattle.pa_plays.proofs.Entered.{Entering, LineActs, acts_in, entered_does, entering_both, makes_each, none_here, touched_enters, unmaps_next}
 use Rattle.pa_heap.proofs.Given.{HasReturned, not_full, same_found, step_no_uncut}
 
 -- the slot of a handle without a class is a direct map in any run that fits

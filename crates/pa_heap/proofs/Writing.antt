@@ -1,9 +1,7 @@
--- A write by the owner: a look that finds no raw_ptr, stores, and a step.
-use Rattle.std.proofs.Common.{◌≡◌, ℕ, ◌+◌, ◌<◌, true, ◌&&◌, List, [], ◌∷◌, length, Some, refl, sym, ◌∙◌, ap, subst, arith, inl, inr}
+-- A write by the owner, after a look that finds no raw_ptr: what it says.
+use Rattle.std.proofs.Common.{◌≡◌, ℕ, ◌+◌, ◌<◌, true, ◌&&◌, [], ◌∷◌, length, Some, refl, sym, ◌∙◌, ap, subst, arith, inl, inr}
 use Rattle.std.specs.Prelude.{◌==◌}
-use Rattle.std.specs.List.{sum_by}
-use Rattle.std.proofs.lemmas.Bool.{eq-eqb, cases_Bool}
-use Rattle.pa_machine.specs.declared.title.Title.{Title}
+use Rattle.std.proofs.lemmas.Bool.{eq-eqb}
 use Rattle.pa_machine.specs.declared.title.OwnState.TheVariants.{Clean}
 use Rattle.pa_machine.specs.declared.word.Step.TheVariants as steps
 use Rattle.pa_machine.specs.Count.{CanStep, number_of, refs_of}
@@ -15,38 +13,29 @@ use Rattle.pa_record.specs.declared.entry.Answer.TheVariants as answers
 use Rattle.pa_record.specs.Spans.{name_of}
 use Rattle.pa_region.specs.declared.view.Entry.TheVariants.{Counted, Looked}
 use Rattle.pa_region.specs.declared.view.OwnTitle.{OwnTitle}
-use Rattle.pa_region.specs.declared.view.View.{View}
 use Rattle.pa_region.specs.Views.{free_of, seen_of}
-use Rattle.pa_region.specs.Waiting.{is_unclean}
-use Rattle.pa_region.specs.Moves.{CanCount, IsFound, after_count, after_look, value_of, changed, is_own_of, idle_if, written}
-use Rattle.pa_region.specs.Stores.{dirty}
+use Rattle.pa_region.specs.Moves.{IsFound, after_look, value_of, idle_if}
 use Rattle.pa_region.specs.Leaves.{CountLeaves, LookLeaves, OwnsChange, StatesAreOwns, FilledWords}
 use Rattle.pa_region.specs.Aware.{IsAware}
 use Rattle.pa_rules.specs.Played.{mark_at}
 use Rattle.pa_rules.specs.Registers.{Regs, WriteRow}
 use Rattle.pa_told.specs.Touches.{title_of}
 use Rattle.pa_quarantine.specs.Filling.{filled}
-use Rattle.pa_quarantine.proofs.Writing.{write_told}
 use Rattle.pa_cells.specs.declared.handle.Handle.{Handle}
-use Rattle.pa_heap.specs.declared.register.Register.{Register}
-use Rattle.pa_heap.specs.declared.register.Register.TheVariants.{Own}
-use Rattle.pa_heap.specs.Stocks.{StockValue, IsStock, register_in, as_reg, regs_of}
-use Rattle.pa_heap.specs.Workers.{HasItsStake}
-use Rattle.pa_heap.specs.Changes.{CanFill, LooksAtSlot, WritesTo}
-use Rattle.pa_heap.specs.Plays.{DoesOp}
-use Rattle.pa_heap.proofs.Seeing.{made_kept, made_for_kept, slot_in_run, home_of, now_seen}
-use Rattle.pa_heap.proofs.Touching.{Touched, touched_entry, touched_both}
-use Rattle.pa_heap.proofs.Leaving.{least_is, clean_own, user_not_free, touched_look}
-use Rattle.pa_heap.proofs.Stocks.{register_has, register_owns, stock_with}
-use Rattle.pa_heap.proofs.Looking.{seen_at, looked_stock, looked_stake, looked_does}
-use Rattle.pa_heap.proofs.Quiet.{quiet_does}
-
--- the view after stores of the value and a step that found this word
-abbrev pub filled_view : View → Title → ℕ → ℕ → View
-filled_view v t value word = after_count steps.Write t word (filled t value v)
-
-abbrev pub filled_stock : StockValue → Handle → ℕ → ℕ → StockValue
-filled_stock s h value word = record s { view = filled_view s.view h.title value word }
+use Rattle.pa_plays.specs.declared.register.Register.{Register}
+use Rattle.pa_plays.specs.declared.register.Register.TheVariants.{Own}
+use Rattle.pa_plays.specs.Stocks.{StockValue, IsStock, register_in, as_reg, regs_of}
+use Rattle.pa_plays.specs.Workers.{HasItsStake}
+use Rattle.pa_stock.specs.Changes.{CanFill, LooksAtSlot, WritesTo}
+use Rattle.pa_plays.specs.Plays.{DoesOp}
+use Rattle.pa_plays.proofs.Seeing.{made_kept, slot_in_run, home_of, now_seen}
+use Rattle.pa_plays.proofs.Touching.{Touched, touched_entry, touched_both}
+use Rattle.pa_stock.proofs.Leaving.{least_is, clean_own, user_not_free, touched_look}
+use Rattle.pa_plays.proofs.Stocks.{register_has, register_owns}
+use Rattle.pa_stock.proofs.Looking.{seen_at, looked_stock, looked_stake}
+use Rattle.pa_heap.proofs.Looking.{looked_does}
+use Rattle.pa_plays.proofs.Quiet.{quiet_does}
+use Rattle.pa_stock.proofs.Writing.{can_tell, filled_stock, filled_view}
 
 -- an owner may write where a look found no raw_ptr
 pub can_fill : LookLeaves → OwnsChange → (s : StockValue) (reg word : ℕ) (h : Handle) → IsStock s → HasItsStake s → reg < 64 →
@@ -63,54 +52,6 @@ can_fill looks owns s reg word h is stake below own none =
     let z : (refs_of word == 0) ≡ true = eq-eqb (refs_of word) 0 none in
     let c : one (same_title (idle_if word first.0).title t && (idle_if word first.0).idle) ≡ 1 = rw z (rw first.1.is_own refl) in
     (omega arith, omega arith)
-
--- what is asked of the step
-can_tell : StatesAreOwns → OwnsChange → FilledWords → (n : ℕ) (s : StockValue) (value : ℕ) (h : Handle) → IsStock s → HasItsStake s → 0 < s.view.budget →
-    IsWellFormed n h.title → length s.view.words ≡ n → CanFill h s → CanCount steps.Write h.title (filled h.title value s.view)
-can_tell states owns fills n s value h is stake budget well long can =
-    write_told states owns fills n h.title value s.view (filled h.title value s.view) well long can (least_is s.thread s.view is.stake stake).1 budget refl
-
--- two changes of the first Own of a title are one
-changed_both : (t : Title) (f g : OwnTitle → OwnTitle) → ((o : OwnTitle) → (f o).title ≡ o.title) → (os : List OwnTitle) →
-    changed (is_own_of t) g (changed (is_own_of t) f os) ≡ changed (is_own_of t) (λ o. g (f o)) os
-changed_both t f g same [] = refl
-changed_both t f g same (o ∷ os) = elim (cases_Bool (same_title o.title t)) [
-  | inl y ↦ let z : same_title (f o).title t ≡ true = ap (λ u. same_title u t) (same o) ∙ y in rw (y, z) refl
-  | inr k ↦ rw (k, k) (ap (λ ps. o ∷ ps) (changed_both t f g same os))
-]
-
--- the Own is clean again
-filled_clean : OwnsChange → (t : Title) (os : List OwnTitle) → 0 < sum_by (λ (o : OwnTitle). one (same_title o.title t)) os →
-    sum_by (λ (o : OwnTitle). one (is_unclean o.state)) os ≡ 0 →
-    sum_by (λ (o : OwnTitle). one (is_unclean o.state)) (changed (is_own_of t) written (changed (is_own_of t) dirty os)) ≡ 0
-filled_clean owns t os has clean =
-    let first = owns.0 t (λ o. written (dirty o)) os has in
-    let a = first.1.replaced (λ (o : OwnTitle). one (is_unclean o.state)) in
-    let e = ap (sum_by (λ (o : OwnTitle). one (is_unclean o.state))) (changed_both t dirty written (λ o. refl) os) in
-    omega arith
-
--- the stock stays sound
-pub filled_sound : CountLeaves → OwnsChange → StatesAreOwns → FilledWords → (n : ℕ) (s : StockValue) (reg value word : ℕ) (h : Handle) → IsStock s → HasItsStake s →
-    0 < s.view.budget → reg < 64 → register_in s.registers reg ≡ Own h → IsWellFormed n h.title → length s.view.words ≡ n → CanFill h s →
-    IsStock (filled_stock s h value word)
-filled_sound counts owns states fills n s reg value word h is stake budget below own well long can =
-    let t = h.title in
-    let v = filled t value s.view in
-    let w = filled_view s.view t value word in
-    let leaves = counts steps.Write t word v (can_tell states owns fills n s value h is stake budget well long can) in
-    stock_with s w s.registers is
-    (record {
-      count = is.handles.count;
-      owns = λ u.
-          let a = leaves.owns u in
-          let b = owns.1 t dirty (λ (o : OwnTitle). one (same_title o.title u)) s.view.owns (λ o. refl) in
-          let c = is.handles.owns u in
-          omega arith;
-      refs = λ u. let a = leaves.refs u in let b = is.handles.refs u in omega arith;
-      clean = filled_clean owns t s.view.owns (register_owns s reg h is below own) is.handles.clean;
-      made = λ k. made_for_kept s.view w refl (register_in s.registers k) (is.handles.made k);
-    })
-    refl (λ u. let a = leaves.frees u in omega arith) leaves.entry.stakes
 
 -- what the step leaves, of the view before the stores
 touched_fill : CountLeaves → OwnsChange → StatesAreOwns → FilledWords → (n : ℕ) (s : StockValue) (value word : ℕ) (h : Handle) → IsStock s → HasItsStake s → 0 < s.view.budget →

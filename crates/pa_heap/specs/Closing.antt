@@ -24,8 +24,8 @@ use Rattle.pa_pool.specs.Pools.{PoolValue, IsPoolKept}
 use Rattle.pa_root.specs.Keeping.{RootState, IsRootSound}
 use Rattle.pa_cells.specs.Cells.{CellsHeld, Exchange, IsCells, AreExchanges}
 use Rattle.pa_heap.specs.declared.left.Left.{Left}
-use Rattle.pa_heap.specs.Stocks.{IsStock}
-use Rattle.pa_heap.specs.Workers.{WorkerValue}
+use Rattle.pa_plays.specs.Stocks.{IsStock}
+use Rattle.pa_plays.specs.Workers.{WorkerValue}
 
 -- The view `whole` has each free title and each keeper that `part` has; and it has seen all that this has, of the lists of those
 -- keepers no more.

@@ -1,16 +1,2 @@
-pub mod Stocks
-pub mod Counts
-pub mod Workers
-pub mod Outcomes
-pub mod Entering
-pub mod Plays
-pub mod Changes
-pub mod Following
-pub mod Starts
-pub mod Exchanging
 pub mod Closing
-pub mod Censuses
-pub mod Giving
-pub mod Homing
-pub mod Purging
-pub mod Allocating
+pub mod Releases

@@ -6,7 +6,6 @@ ghost use Rattle.pa_region.specs.Lending.{CanHost};
 ghost use Rattle.pa_region.specs.Shares.{byte_word_count};
 ghost use Rattle.pa_heap.specs.Closing.{IsWithin, TakesOthersIn, LeavesPool, LeavesRoot, LeavesCells, LeavesWorker, HasTold, IsClosedBy};
 
-use crate::heap::Heap;
 use crate::left::Left;
 use crate::worker::Worker;
 use pa_cells::{Cells, Parked};
@@ -14,46 +13,37 @@ use pa_pool::Pool;
 use pa_record::{History, Journal, PoolEntry};
 use pa_region::{Name, Note, Region, Seat};
 use pa_root::{Root, journals_fit_the_pool};
+use pa_stock::Heap;
 use std::sync::Mutex;
 
-impl<N: Name> Heap<N> {
-    /// Takes all that the heap and its workers have into the seat, which has every stake, and closes the region. Each worker has
-    /// told.
-    pub fn close(self, workers: Vec<Worker<N>>, seat: Seat) -> Left
-        requires region { seat.region ≡ N.region }
-        requires stakes { HasEveryStake seat.view }
-        requires clean { unclean_of seat.view ≡ 0 }
-        requires told { All HasTold workers.items }
-        ensures { IsClosedBy (byte_word_count N.region) workers.items seat.view result }
-    {
-        let Heap {
-            region,
-            pool,
-            first,
-            second,
-            third,
-            fourth,
-            cells,
-        } = self;
-        let mut seat = seat;
-        take_workers(&region, &mut seat, workers);
-        let pool = take_pool(&region, &mut seat, pool);
-        let roots = [
-            take_root(&region, &mut seat, first),
-            take_root(&region, &mut seat, second),
-            take_root(&region, &mut seat, third),
-            take_root(&region, &mut seat, fourth),
-        ];
-        let cells = take_cells(&region, &mut seat, cells);
-        seat.aware();
-        journals_fit_the_pool();
-        let region = region.close(seat);
-        Left {
-            roots,
-            pool,
-            cells,
-            region,
-        }
+/// Takes all that the heap and its workers have into the seat, which has every stake, and closes the region. Each worker has
+/// told.
+pub fn close<N: Name>(heap: Heap<N>, workers: Vec<Worker<N>>, seat: Seat) -> Left
+    requires region { seat.region ≡ N.region }
+    requires stakes { HasEveryStake seat.view }
+    requires clean { unclean_of seat.view ≡ 0 }
+    requires told { All HasTold workers.items }
+    ensures { IsClosedBy (byte_word_count N.region) workers.items seat.view result }
+{
+    let (region, pool, first, second, third, fourth, cells) = heap.parts();
+    let mut seat = seat;
+    take_workers(&region, &mut seat, workers);
+    let pool = take_pool(&region, &mut seat, pool);
+    let roots = [
+        take_root(&region, &mut seat, first),
+        take_root(&region, &mut seat, second),
+        take_root(&region, &mut seat, third),
+        take_root(&region, &mut seat, fourth),
+    ];
+    let cells = take_cells(&region, &mut seat, cells);
+    seat.aware();
+    journals_fit_the_pool();
+    let region = region.close(seat);
+    Left {
+        roots,
+        pool,
+        cells,
+        region,
     }
 }
 

@@ -1,24 +1,11 @@
 //! What a worker counts of its steps, for the lines of the report.
 ghost use Rattle.std.specs.Prelude.{◌≡◌, ℕ, ◌+◌, ◌<◌, IfSome, true};
-ghost use Rattle.pa_heap.specs.Counts.{AreOfSteps, IsOfSteps, after_step, counts_after, done_seen, made_seen, owned_in, pointed_in, one_slot_more};
+ghost use Rattle.pa_plays.specs.Counts.{AreOfSteps, IsOfSteps, after_step, counts_after, done_seen, made_seen, owned_in, pointed_in, one_slot_more};
 
-use crate::register::Register;
 use pa_cells::Handle;
 use pa_machine::{Step, Word, held, refs};
+use pa_plays::{Count, Register};
 use pa_record::{Answer, Seen, Tally};
-
-/// What the steps of a worker did with the slots of one partition.
-#[derive(Clone, Copy, Debug, PartialEq, Eq)]
-pub struct Count {
-    /// The slots that it made live.
-    pub issued: Tally,
-    /// Those that it freed.
-    pub freed: Tally,
-    /// Those that it freed while `raw_ptr`s pointed to them.
-    pub entered: Tally,
-    /// Those that were freed, and of which it reset the last `raw_ptr`.
-    pub left: Tally,
-}
 
 // Nothing counted yet.
 const NONE: Tally = Tally { slots: 0, bytes: 0 };

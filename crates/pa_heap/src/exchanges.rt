@@ -1,213 +1,57 @@
-//! SwapsHandles of a worker with a cell.
-ghost use Rattle.std.specs.Prelude.{◌≡◌, ℕ, ◌<◌, ◌≤◌, IfOk, IfErr, OnOk, OnErr, IfSome, IfNone, Some};
-ghost use Rattle.pa_cells.specs.Handles.{IsParked, handle_item};
+//! Exchanges of a worker with a cell.
+ghost use Rattle.std.specs.Prelude.{◌<◌, ◌≤◌, IfOk, OnErr};
 ghost use Rattle.pa_trace.specs.declared.script.Op.TheVariants as ops;
-ghost use Rattle.pa_heap.specs.Stocks.{HasNoHandle, register_in};
-ghost use Rattle.pa_heap.specs.Workers.{HasItsStake};
-ghost use Rattle.pa_heap.specs.Exchanging.{Parks, SwapsHandles, TakesIn, IsUndone, handle_register};
-ghost use Rattle.pa_heap.specs.Plays.{DoesOp};
+ghost use Rattle.pa_plays.specs.Workers.{HasItsStake};
+ghost use Rattle.pa_stock.specs.Exchanging.{IsUndone};
+ghost use Rattle.pa_plays.specs.Plays.{DoesOp};
 
-use crate::heap::Heap;
-use crate::register::Register;
-use crate::stock::Stock;
-use pa_cells::{
-    Handle, Parked, givers_lack_handles, slots_stay_seen, takers_have_handles,
-    what_was_handed_can_wait,
-};
-use pa_machine::{Item, OutOfMemory, Title};
+use pa_cells::{givers_lack_handles, takers_have_handles};
+use pa_machine::OutOfMemory;
 use pa_record::Answer;
 use pa_region::{
-    Name, Note, Region, beginnings_join, free_numbers_stay, kept_numbers_stay, seen_lists_join,
-    seen_numbers_join,
+    Name, beginnings_join, free_numbers_stay, kept_numbers_stay, seen_lists_join, seen_numbers_join,
 };
+use pa_stock::{Heap, Stock};
 use std::sync::Wait;
 
-impl<N: Name> Stock<N> {
-    /// An exchange with a cell, on this line: the cell gets the handle of the register, or nothing where it has none, and the
-    /// register what the cell had. After want of memory all is as before.
-    pub fn exchange<R: Wait>(
-        &mut self,
-        rt: &R,
-        heap: &Heap<N>,
-        line: u32,
-        cell: u32,
-        reg: u32,
-    ) -> Result<Answer, OutOfMemory>
-        requires stake { HasItsStake self.old }
-        requires numbers { (cell < 64) × (reg < 64) }
-        ensures does { IfOk result (λ answer. DoesOp line (ops.Swap cell reg) answer self.old self.new) }
-        ensures budget { self.old.view.budget ≤ self.new.view.budget }
-        ensures undone { OnErr result (IsUndone self.old self.new) }
-    {
-        givers_lack_handles();
-        takers_have_handles();
-        seen_numbers_join();
-        seen_lists_join();
-        beginnings_join();
-        free_numbers_stay();
-        kept_numbers_stay();
-        let region = heap.region();
-        self.kept();
-        let given = self.park(region, reg);
-        self.kept();
-        match self.swap(rt, heap, line, cell, given) {
-            Ok((entry, found)) => {
-                self.kept();
-                self.take_in(region, found, reg);
-                self.kept();
-                Ok(Answer::Swapped { entry })
-            }
-            Err(given) => {
-                self.put_back(region, given, reg);
-                self.kept();
-                Err(OutOfMemory)
-            }
-        }
-    }
-
-    // Hands over the handle of a register, which is empty then; or nothing, where it has none.
-    fn park(&mut self, region: &Region, reg: u32) -> Option<Parked>
-        requires region { region.now ≡ N.region }
-        requires stake { HasItsStake self.old }
-        requires reg { reg < 64 }
-        ensures parks { Parks reg result self.old self.new }
-        ensures note { IfSome result (λ p. p.note.region ≡ N.region) }
-    {
-        self.kept();
-        match self.register(reg) {
-            Register::Empty => None,
-            Register::Own(handle) => Some(self.park_handle(region, handle, true, reg)),
-            Register::Ref(handle) => Some(self.park_handle(region, handle, false, reg)),
-            Register::Freed => None,
-            Register::Cleared => None,
-        }
-    }
-
-    // Hands over this handle of the register.
-    fn park_handle(&mut self, region: &Region, handle: Handle, own: bool, reg: u32) -> Parked
-        requires region { region.now ≡ N.region }
-        requires stake { HasItsStake self.old }
-        requires reg { reg < 64 }
-        requires handle { register_in self.old.registers reg ≡ handle_register own handle }
-        ensures parks { Parks reg (Some result) self.old self.new }
-        ensures note { result.note.region ≡ N.region }
-    {
-        what_was_handed_can_wait();
-        givers_lack_handles();
-        self.kept();
-        let item = own_or_ref(handle.title, own);
-        let note = region.hand(&mut self.seat, &[item], 0, &[]);
-        self.registers[reg as usize] = Register::Empty;
-        Parked { handle, own, note }
-    }
-
-    // The exchange itself, behind the lock of the cells: what was given goes into the cell, and what it had comes out. What
-    // was given comes back for want of memory, and nothing changed then.
-    fn swap<R: Wait>(
-        &mut self,
-        rt: &R,
-        heap: &Heap<N>,
-        line: u32,
-        cell: u32,
-        given: Option<Parked>,
-    ) -> Result<(u32, Option<Parked>), Option<Parked>>
-        requires stake { HasItsStake self.old }
-        requires given { IfSome given (λ p. p.note.region ≡ N.region) }
-        requires cell { cell < 64 }
-        ensures made { IfOk result (λ r. SwapsHandles line cell given r.1 r.0 self.old self.new) }
-        ensures note { IfOk result (λ r. IfSome r.1 (λ p. p.note.region ≡ N.region)) }
-        ensures back { IfErr result (λ p. p ≡ given) }
-        ensures same { OnErr result (self.new ≡ self.old) }
-    {
-        slots_stay_seen();
-        self.kept();
-        let mut locked = heap.cells.lock(rt);
-        let cells = &mut *locked;
-        match cells.exchange(heap.region(), &mut self.seat, line, cell, given) {
-            Ok((index, found)) => Ok((index, found)),
-            Err(given) => Err(given),
-        }
-    }
-
-    // Takes in what was found: the register has it then.
-    fn take_in(&mut self, region: &Region, found: Option<Parked>, reg: u32)
-        requires region { region.now ≡ N.region }
-        requires note { IfSome found (λ p. p.note.region ≡ N.region) }
-        requires reg { reg < 64 }
-        requires none { HasNoHandle (register_in self.old.registers reg) }
-        ensures taken { TakesIn reg found self.old self.new }
-    {
-        self.kept();
-        match found {
-            Some(parked) => self.take_handle(region, parked, reg),
-            None => self.registers[reg as usize] = Register::Empty,
-        }
-    }
-
-    // Takes a handle that was given back in again, where one was.
-    fn put_back(&mut self, region: &Region, given: Option<Parked>, reg: u32)
-        requires region { region.now ≡ N.region }
-        requires note { IfSome given (λ p. p.note.region ≡ N.region) }
-        requires reg { reg < 64 }
-        requires none { HasNoHandle (register_in self.old.registers reg) }
-        ensures taken { IfSome given (λ p. TakesIn reg (Some p) self.old self.new) }
-        ensures none { IfNone given (self.new ≡ self.old) }
-    {
-        if let Some(parked) = given {
-            self.take_handle(region, parked, reg);
-        }
-    }
-
-    // Takes this handle in.
-    fn take_handle(&mut self, region: &Region, parked: Parked, reg: u32)
-        requires region { region.now ≡ N.region }
-        requires note { parked.note.region ≡ N.region }
-        requires reg { reg < 64 }
-        requires none { HasNoHandle (register_in self.old.registers reg) }
-        ensures taken { TakesIn reg (Some parked) self.old self.new }
-    {
-        takers_have_handles();
-        beginnings_join();
-        slots_stay_seen();
-        self.kept();
-        let (handle, own, note) = parts(parked);
-        note.aware();
-        region.take(&mut self.seat, note);
-        self.seat.aware();
-        self.registers[reg as usize] = register_with(handle, own);
-    }
-}
-
-// The parts of a handle on its way.
-fn parts(parked: Parked) -> (Handle, bool, Note)
-    ensures handle { result.0 ≡ parked.handle }
-    ensures own { result.1 ≡ parked.own }
-    ensures note { result.2 ≡ parked.note }
-    ensures parked { IsParked parked }
+// An exchange with a cell, on this line: the cell gets the handle of the register, or nothing where it has none, and the
+// register what the cell had. After want of memory all is as before.
+pub(crate) fn exchange<N: Name, R: Wait>(
+    stock: &mut Stock<N>,
+    rt: &R,
+    heap: &Heap<N>,
+    line: u32,
+    cell: u32,
+    reg: u32,
+) -> Result<Answer, OutOfMemory>
+    requires stake { HasItsStake stock.old }
+    requires numbers { (cell < 64) × (reg < 64) }
+    ensures does { IfOk result (λ answer. DoesOp line (ops.Swap cell reg) answer stock.old stock.new) }
+    ensures budget { stock.old.view.budget ≤ stock.new.view.budget }
+    ensures undone { OnErr result (IsUndone stock.old stock.new) }
 {
-    parked.kept();
-    let Parked { handle, own, note } = parked;
-    (handle, own, note)
-}
-
-// What is handed over for a handle: the Own, or a Ref.
-fn own_or_ref(title: Title, own: bool) -> Item
-    ensures { result ≡ handle_item own title }
-{
-    if own {
-        Item::Own(title)
-    } else {
-        Item::Ref(title)
-    }
-}
-
-// The register that owns the handle's slot, or points to it.
-fn register_with(handle: Handle, own: bool) -> Register
-    ensures { result ≡ handle_register own handle }
-{
-    if own {
-        Register::Own(handle)
-    } else {
-        Register::Ref(handle)
+    givers_lack_handles();
+    takers_have_handles();
+    seen_numbers_join();
+    seen_lists_join();
+    beginnings_join();
+    free_numbers_stay();
+    kept_numbers_stay();
+    let region = heap.region();
+    stock.kept();
+    let given = stock.park(region, reg);
+    stock.kept();
+    match stock.swap(rt, heap, line, cell, given) {
+        Ok((entry, found)) => {
+            stock.kept();
+            stock.take_in(region, found, reg);
+            stock.kept();
+            Ok(Answer::Swapped { entry })
+        }
+        Err(given) => {
+            stock.put_back(region, given, reg);
+            stock.kept();
+            Err(OutOfMemory)
+        }
     }
 }

@@ -1,13 +1,14 @@
 //! A worker's slot in quarantine: it is freed while a `raw_ptr` points to it, read through that, and returned by the reset.
 ghost use Rattle.std.specs.Prelude.{◌≡◌};
 ghost use Rattle.pa_region.specs.Start.{first_view};
-ghost use Rattle.pa_heap.specs.Starts.{HasAllStakes};
-ghost use Rattle.pa_heap.specs.Stocks.{IsForThread};
+ghost use Rattle.pa_stock.specs.Starts.{HasAllStakes};
+ghost use Rattle.pa_plays.specs.Stocks.{IsForThread};
 
-use crate::{Heap, Worker};
+use crate::Worker;
 use pa_machine::{SlotName, Word};
 use pa_record::{Answer, Seen, Tally};
 use pa_region::{Mark, Name, Note, Region, Seat};
+use pa_stock::Heap;
 use std::alloc::Global;
 use std::marker::Brand;
 use std::process::Abort;
@@ -55,7 +56,7 @@ fn play<N: Name, R: Abort + Wait>(
     requires first { seat.view ≡ first_view 262144 7 }
 {
     let (heap, mut seat) = Heap::<N>::open(alloc, 1, region, seat, LINES)?;
-    let note = hand_over(&heap.region, &mut seat);
+    let note = hand_over(heap.region(), &mut seat);
     let mut worker = Worker::<N>::open(alloc, note, 0, 1, LINES)?;
     let made = worker.alloc(rt, &heap, 2, 0, 0, 8)?;
     let written = worker.write(&heap, 3, 0, 7);

@@ -1,13 +1,14 @@
 //! A worker without handles: its registers are empty, and it hands its stake over and takes it back.
 ghost use Rattle.std.specs.Prelude.{◌≡◌};
 ghost use Rattle.pa_region.specs.Start.{first_view};
-ghost use Rattle.pa_heap.specs.Starts.{HasAllStakes};
-ghost use Rattle.pa_heap.specs.Stocks.{IsForThread};
+ghost use Rattle.pa_stock.specs.Starts.{HasAllStakes};
+ghost use Rattle.pa_plays.specs.Stocks.{IsForThread};
 
-use crate::{Heap, Worker};
+use crate::Worker;
 use pa_record::{Answer, Entry, RootAct, RootEntry, Tally};
 use pa_region::{Mark, Name, Note, Region, Seat};
 use pa_root::Root;
+use pa_stock::Heap;
 use std::alloc::Global;
 use std::marker::Brand;
 use std::process::Abort;
@@ -40,7 +41,7 @@ fn play<N: Name, R: Abort>(rt: &R, alloc: Global, region: Region, seat: Seat) ->
     requires first { seat.view ≡ first_view 262144 3 }
 {
     let (heap, mut seat) = Heap::<N>::open(alloc, 1, region, seat, 3)?;
-    let note = hand_over(&heap.region, &mut seat);
+    let note = hand_over(heap.region(), &mut seat);
     let mut worker = Worker::<N>::open(alloc, note, 2, 1, 3)?;
     assert!(rt; worker.copy(&heap, 2, 0, 63) == Answer::Nothing);
     assert!(rt; worker.write(&heap, 3, 5, 7) == Answer::Nothing);
@@ -102,18 +103,19 @@ fn purge_twice<N: Name, R: Abort + Wait>(
     requires first { seat.view ≡ first_view 262144 3 }
 {
     let (heap, mut seat) = Heap::<N>::open(alloc, 1, region, seat, 3)?;
-    let note = hand_over(&heap.region, &mut seat);
+    let note = hand_over(heap.region(), &mut seat);
     let mut worker = Worker::<N>::open(alloc, note, 2, 2, 3)?;
     let first = worker.purge(rt, &heap, 4)?;
     let second = worker.purge(rt, &heap, 7)?;
     assert!(rt; first == Answer::Purged { slots: 0 });
     assert!(rt; second == Answer::Purged { slots: 0 });
-    assert!(rt; was_purged(rt, &heap.first, &[4, 7]));
-    assert!(rt; was_purged(rt, &heap.second, &[4, 7]));
-    assert!(rt; was_purged(rt, &heap.third, &[]));
-    assert!(rt; was_purged(rt, &heap.fourth, &[]));
     assert!(rt; worker.records().len() == 2);
     assert!(rt; !worker.stopped());
+    let (_, _, first, second, third, fourth, _) = heap.parts();
+    assert!(rt; was_purged(rt, &first, &[4, 7]));
+    assert!(rt; was_purged(rt, &second, &[4, 7]));
+    assert!(rt; was_purged(rt, &third, &[]));
+    assert!(rt; was_purged(rt, &fourth, &[]));
     Ok(())
 }
 

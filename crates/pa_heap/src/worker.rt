@@ -5,18 +5,25 @@ ghost use Rattle.pa_region.specs.Lending.{CanHost, stake_parcel};
 ghost use Rattle.pa_rules.specs.Caches.{SameLists, listed_slots};
 ghost use Rattle.pa_rules.specs.Report.{listed_bytes};
 ghost use Rattle.pa_trace.specs.declared.script.Op.TheVariants as ops;
-ghost use Rattle.pa_heap.specs.Stocks.{IsForThread, listed_in};
-ghost use Rattle.pa_heap.specs.Workers.{IsWorker, IsNewWorker, HasItsStake, CanPlayOp, KeepsOn, worker_with_view};
-ghost use Rattle.pa_heap.specs.Exchanging.{IsUndone};
+ghost use Rattle.pa_plays.specs.Stocks.{IsForThread, listed_in};
+ghost use Rattle.pa_plays.specs.Workers.{IsWorker, IsNewWorker, HasItsStake, CanPlayOp, KeepsOn, worker_with_view};
+ghost use Rattle.pa_stock.specs.Exchanging.{IsUndone};
 ghost use Rattle.pa_heap.specs.Closing.{HasTold};
-ghost use Rattle.pa_heap.specs.Plays.{PlaysOp};
+ghost use Rattle.pa_plays.specs.Plays.{PlaysOp};
 
-use crate::counts::{Count, START, count_step, done, made, owned, pointed};
-use crate::heap::Heap;
-use crate::stock::Stock;
+use crate::allocs::alloc;
+use crate::copies::copy;
+use crate::counts::{START, count_step, done, made, owned, pointed};
+use crate::exchanges::exchange;
+use crate::plays::{play_free, play_reset};
+use crate::purges::purge;
+use crate::reads::deref;
+use crate::writes::write;
 use pa_machine::{OutOfMemory, Step};
+use pa_plays::Count;
 use pa_record::{Answer, Entry, Tally};
 use pa_region::{Name, Note};
+use pa_stock::{Heap, Stock};
 use std::alloc::Global;
 use std::marker::Model;
 use std::sync::Wait;
@@ -34,8 +41,8 @@ pub struct Worker<N: Name> {
 
 impl<N: Name> Model for Worker<N> {
     ghost use Rattle.std.specs.Prelude.{◌+◌, ◌≤◌, length, vec_capacity};
-    ghost use Rattle.pa_heap.specs.Counts.{AreOfSteps};
-    ghost use Rattle.pa_heap.specs.Workers.{WorkerValue};
+    ghost use Rattle.pa_plays.specs.Counts.{AreOfSteps};
+    ghost use Rattle.pa_plays.specs.Workers.{WorkerValue};
 
     ghost Value = { WorkerValue };
 
@@ -132,15 +139,7 @@ impl<N: Name> Worker<N> {
             stopped: _,
             counts: _,
         } = self;
-        let Stock {
-            thread: _,
-            partitions: _,
-            seat,
-            registers: _,
-            caches: _,
-            of: _,
-        } = stock;
-        seat.note()
+        stock.into_note()
     }
 
     /// What it counted of its steps so far, for each partition.
@@ -166,7 +165,7 @@ impl<N: Name> Worker<N> {
         ensures plays { PlaysOp line (ops.Copy from to) result self.old self.new }
         ensures goes_on { KeepsOn self.old self.new }
     {
-        let answer = self.stock.copy(heap.region(), from, to);
+        let answer = copy(&mut self.stock, heap.region(), from, to);
         enter(&mut self.records, self.stock.thread(), line, answer);
         answer
     }
@@ -178,7 +177,7 @@ impl<N: Name> Worker<N> {
         ensures plays { PlaysOp line (ops.Write reg value) result self.old self.new }
         ensures goes_on { KeepsOn self.old self.new }
     {
-        let answer = self.stock.write(heap.region(), reg, value);
+        let answer = write(&mut self.stock, heap.region(), reg, value);
         enter(&mut self.records, self.stock.thread(), line, answer);
         answer
     }
@@ -191,7 +190,7 @@ impl<N: Name> Worker<N> {
         ensures plays { PlaysOp line (ops.Read reg place) result self.old self.new }
         ensures goes_on { KeepsOn self.old self.new }
     {
-        let answer = self.stock.deref(heap.region(), reg, place);
+        let answer = deref(&mut self.stock, heap.region(), reg, place);
         enter(&mut self.records, self.stock.thread(), line, answer);
         answer
     }
@@ -216,7 +215,7 @@ impl<N: Name> Worker<N> {
         ensures undone { OnErr result (IsUndone self.old.stock self.new.stock) }
         ensures same { OnErr result ((self.new.records ≡ self.old.records) × (self.new.room ≡ self.old.room)) }
     {
-        match self.stock.alloc(rt, heap, line, reg, partition, size) {
+        match alloc(&mut self.stock, rt, heap, line, reg, partition, size) {
             Ok(answer) => {
                 self.stock.kept();
                 let handle = owned(self.stock.register(reg));
@@ -248,7 +247,7 @@ impl<N: Name> Worker<N> {
     {
         self.stock.kept();
         let handle = pointed(self.stock.register(reg));
-        match self.stock.play_reset(rt, heap, line, reg) {
+        match play_reset(&mut self.stock, rt, heap, line, reg) {
             Ok(answer) => {
                 count_step(&mut self.counts, Step::Reset, handle, done(&answer));
                 enter(&mut self.records, self.stock.thread(), line, answer);
@@ -279,7 +278,7 @@ impl<N: Name> Worker<N> {
     {
         self.stock.kept();
         let handle = owned(self.stock.register(reg));
-        match self.stock.play_free(rt, heap, line, reg) {
+        match play_free(&mut self.stock, rt, heap, line, reg) {
             Ok(answer) => {
                 count_step(&mut self.counts, Step::Free, handle, done(&answer));
                 enter(&mut self.records, self.stock.thread(), line, answer);
@@ -306,7 +305,7 @@ impl<N: Name> Worker<N> {
         ensures goes_on { OnOk result (KeepsOn self.old self.new) }
         ensures stops { OnErr result (self.new.stopped ≡ true) }
     {
-        match self.stock.purge(rt, heap, line) {
+        match purge(&mut self.stock, rt, heap, line) {
             Ok(answer) => {
                 enter(&mut self.records, self.stock.thread(), line, answer);
                 Ok(answer)
@@ -336,7 +335,7 @@ impl<N: Name> Worker<N> {
         ensures undone { OnErr result (IsUndone self.old.stock self.new.stock) }
         ensures kept { OnErr result ((self.new.records ≡ self.old.records) × (self.new.room ≡ self.old.room)) }
     {
-        match self.stock.exchange(rt, heap, line, cell, reg) {
+        match exchange(&mut self.stock, rt, heap, line, cell, reg) {
             Ok(answer) => {
                 enter(&mut self.records, self.stock.thread(), line, answer);
                 Ok(answer)

@@ -33,9 +33,9 @@ use Rattle.pa_cells.specs.Handles.{SlotsStaySeen}
 use Rattle.pa_root.specs.Handing.{at_number_seen}
 use Rattle.pa_heap.specs.declared.left.Left.{Left}
 use Rattle.pa_heap.specs.Closing.{LeavesWorker, HasTold, IsClosedBy, journal_left, history_left}
-use Rattle.pa_heap.specs.Stocks.{titles_in, listed_in, listed_slot}
-use Rattle.pa_heap.specs.Workers.{WorkerValue}
-use Rattle.pa_heap.proofs.Seeing.{slot_in_run}
+use Rattle.pa_plays.specs.Stocks.{titles_in, listed_in, listed_slot}
+use Rattle.pa_plays.specs.Workers.{WorkerValue}
+use Rattle.pa_plays.proofs.Seeing.{slot_in_run}
 use Rattle.pa_course.specs.Courses.{Course, HasSeenAll}
 use Rattle.pa_course.specs.Merged.{told_in, lists_at, outcome_of}
 use Rattle.pa_course.specs.Telling.{IsWholeRun}

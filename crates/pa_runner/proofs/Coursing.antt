@@ -4,7 +4,7 @@ use Rattle.pa_region.specs.declared.view.View.{View}
 use Rattle.pa_region.specs.Views.{stake_of}
 use Rattle.pa_region.specs.Aware.{IsAware}
 use Rattle.pa_trace.specs.declared.script.Trace.{Trace}
-use Rattle.pa_heap.specs.Workers.{WorkerValue}
+use Rattle.pa_plays.specs.Workers.{WorkerValue}
 use Rattle.pa_course.specs.Courses.{Course, HasSeenAll, HasHeardAll, Hears, lines_in}
 use Rattle.pa_course.specs.Growing.{Agree, HasBegun, HasEnded}
 use Rattle.pa_course.specs.Gathering.{told_worker}

@@ -9,8 +9,8 @@ use Rattle.pa_region.specs.Lending.{stake_parcel}
 use Rattle.pa_region.specs.Aware.{IsAware}
 use Rattle.pa_rules.specs.Caches.{SameLists}
 use Rattle.pa_region.proofs.LendBack.{given_stake, given_beside}
-use Rattle.pa_heap.specs.Stocks.{IsForThread, listed_in}
-use Rattle.pa_heap.specs.Workers.{WorkerValue, worker_with_view}
+use Rattle.pa_plays.specs.Stocks.{IsForThread, listed_in}
+use Rattle.pa_plays.specs.Workers.{WorkerValue, worker_with_view}
 use Rattle.pa_course.specs.Gathering.{IsMain, HasHeardSome, HasAnswered, told_worker}
 use Rattle.pa_course.proofs.Gathering.{workers_tell, workers_hear}
 use Rattle.pa_runner.specs.Phases.{HaveStakes, HaveTold, HaveNone, HeardFrom, HaveHeard, no_worker, worker_in}

@@ -17,9 +17,9 @@ use Rattle.pa_region.proofs.LendBack.{given_stake, given_beside, log_filter, mar
 use Rattle.pa_trace.specs.declared.script.Line.{Line}
 use Rattle.pa_trace.specs.declared.script.Line.TheVariants.{Phase, Do}
 use Rattle.pa_trace.specs.declared.script.Trace.{Trace}
-use Rattle.pa_heap.specs.Starts.{HasAllStakes}
-use Rattle.pa_heap.specs.Stocks.{IsForThread}
-use Rattle.pa_heap.specs.Workers.{WorkerValue, IsNewWorker}
+use Rattle.pa_stock.specs.Starts.{HasAllStakes}
+use Rattle.pa_plays.specs.Stocks.{IsForThread}
+use Rattle.pa_plays.specs.Workers.{WorkerValue, IsNewWorker}
 use Rattle.pa_course.specs.Gathering.{IsMain, HasAnswered}
 use Rattle.pa_course.proofs.Gathering.{workers_hear}
 use Rattle.pa_runner.specs.Phases.{worker_in}

@@ -5,7 +5,7 @@ use Rattle.std.proofs.lemmas.List.{get_or_default, length-append, length-map}
 use Rattle.pa_record.specs.declared.entry.Entry.{Entry}
 use Rattle.pa_region.specs.declared.view.View.{View}
 use Rattle.pa_region.specs.Views.{HasEveryStake}
-use Rattle.pa_heap.specs.Workers.{WorkerValue}
+use Rattle.pa_plays.specs.Workers.{WorkerValue}
 use Rattle.pa_course.specs.Courses.{HasSeenAll}
 use Rattle.pa_course.specs.Gathering.{HasHeardSome}
 use Rattle.pa_course.proofs.Playing.{sees_then}

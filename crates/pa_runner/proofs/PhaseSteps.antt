@@ -19,7 +19,7 @@ use Rattle.pa_trace.specs.declared.script.Line.TheVariants.{Phase, Do}
 use Rattle.pa_trace.specs.declared.script.Op.{Op}
 use Rattle.pa_trace.specs.declared.script.Trace.{Trace}
 use Rattle.pa_trace.specs.Limits.{IsLineWithin, IsWithinLimits}
-use Rattle.pa_heap.specs.Workers.{WorkerValue, worker_with_view}
+use Rattle.pa_plays.specs.Workers.{WorkerValue, worker_with_view}
 use Rattle.pa_course.specs.Courses.{Course, HasSeenAll, lines_in}
 use Rattle.pa_course.specs.Growing.{HasBegun, HasEnded}
 use Rattle.pa_course.specs.Gathering.{IsMain, HasAnswered}

@@ -15,7 +15,7 @@ use Rattle.pa_record.proofs.Members.{in_cases, not_in_none}
 use Rattle.pa_region.specs.declared.view.View.{View}
 use Rattle.pa_region.specs.Views.{stake_of}
 use Rattle.pa_rules.specs.Played.{OpLine}
-use Rattle.pa_heap.specs.Workers.{WorkerValue, worker_with_view}
+use Rattle.pa_plays.specs.Workers.{WorkerValue, worker_with_view}
 use Rattle.pa_course.specs.Courses.{lines_in}
 use Rattle.pa_course.proofs.Playing.{stays}
 use Rattle.pa_runner.specs.declared.playing.LineOp.{LineOp}

@@ -16,9 +16,9 @@ use Rattle.pa_record.proofs.Members.{in_cases, not_in_none}
 use Rattle.pa_rules.specs.declared.played.Played.{Played}
 use Rattle.pa_rules.specs.Played.{op_line_of, entry_of}
 use Rattle.pa_told.specs.Told.{ToldRecord, played_in}
-use Rattle.pa_heap.specs.Workers.{WorkerValue, CanPlayOp, KeepsOn}
-use Rattle.pa_heap.specs.Plays.{PlaysOp}
-use Rattle.pa_heap.proofs.Following.{composes}
+use Rattle.pa_plays.specs.Workers.{WorkerValue, CanPlayOp, KeepsOn}
+use Rattle.pa_plays.specs.Plays.{PlaysOp}
+use Rattle.pa_plays.proofs.Following.{composes}
 use Rattle.pa_course.proofs.Playing.{stays}
 use Rattle.pa_runner.specs.declared.playing.LineOp.{LineOp}
 use Rattle.pa_runner.specs.Playing.{in_phase, AreBefore, EndsWith, CanPlay, PlaysLines}

@@ -10,10 +10,10 @@ use Rattle.pa_region.specs.declared.view.View.{View}
 use Rattle.pa_rules.specs.Caches.{listed_slots}
 use Rattle.pa_rules.specs.Report.{listed_bytes, partitions_of, phases_of}
 use Rattle.pa_trace.specs.declared.script.Trace.{Trace}
-use Rattle.pa_heap.specs.declared.counts.Count.{Count}
-use Rattle.pa_heap.specs.Counts.{counted_in}
-use Rattle.pa_heap.specs.Stocks.{listed_in}
-use Rattle.pa_heap.specs.Workers.{WorkerValue}
+use Rattle.pa_plays.specs.declared.counts.Count.{Count}
+use Rattle.pa_plays.specs.Counts.{counted_in}
+use Rattle.pa_plays.specs.Stocks.{listed_in}
+use Rattle.pa_plays.specs.Workers.{WorkerValue}
 use Rattle.pa_course.specs.Courses.{Course}
 use Rattle.pa_course.specs.Growing.{Agree, HasEnded}
 use Rattle.pa_course.specs.Gathering.{told_worker}

@@ -15,9 +15,9 @@ use Rattle.pa_region.specs.Lending.{Keeps, Lends}
 use Rattle.pa_region.proofs.LendBack.{keeps_on}
 use Rattle.pa_rules.specs.Report.{partitions_of, census_of}
 use Rattle.pa_told.specs.Said.{IsCensusBy}
-use Rattle.pa_heap.specs.declared.counts.Count.{Count}
-use Rattle.pa_heap.specs.Censuses.{TellsCensus, HasSameLists}
-use Rattle.pa_heap.specs.Workers.{WorkerValue}
+use Rattle.pa_plays.specs.declared.counts.Count.{Count}
+use Rattle.pa_stock.specs.Censuses.{TellsCensus, HasSameLists}
+use Rattle.pa_plays.specs.Workers.{WorkerValue}
 use Rattle.pa_course.specs.Lines.{IsLeftOf}
 use Rattle.pa_runner.specs.Reporting.{IsCountedBy, IsLineFor, HasAsked, IsReported}
 

@@ -11,10 +11,10 @@ use Rattle.pa_region.specs.declared.view.View.{View}
 use Rattle.pa_root.specs.Handing.{numbered_by}
 use Rattle.pa_rules.specs.Caches.{listed_slots}
 use Rattle.pa_rules.specs.Report.{listed_bytes}
-use Rattle.pa_heap.specs.declared.counts.Count.{Count}
-use Rattle.pa_heap.specs.Counts.{IsOfSteps, AreOfSteps, counted_in, no_slots, no_count}
-use Rattle.pa_heap.specs.Stocks.{StockValue, IsStock, listed_in, titles_in}
-use Rattle.pa_heap.specs.Workers.{WorkerValue, IsWorker}
+use Rattle.pa_plays.specs.declared.counts.Count.{Count}
+use Rattle.pa_plays.specs.Counts.{IsOfSteps, AreOfSteps, counted_in, no_slots, no_count}
+use Rattle.pa_plays.specs.Stocks.{StockValue, IsStock, listed_in, titles_in}
+use Rattle.pa_plays.specs.Workers.{WorkerValue, IsWorker}
 use Rattle.pa_course.specs.Lines.{sum_over, IsCachedBy}
 use Rattle.pa_runner.specs.Phases.{no_worker, worker_in}
 use Rattle.pa_runner.specs.Reporting.{IsCountedBy, AreCountedBy}

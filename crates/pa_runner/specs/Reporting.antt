@@ -6,10 +6,10 @@ use Rattle.pa_region.specs.declared.view.View.{View}
 use Rattle.pa_region.specs.Lending.{Keeps}
 use Rattle.pa_region.specs.Takes.{log_of}
 use Rattle.pa_rules.specs.Report.{partitions_of, census_of}
-use Rattle.pa_heap.specs.declared.counts.Count.{Count}
-use Rattle.pa_heap.specs.Counts.{counted_in}
-use Rattle.pa_heap.specs.Censuses.{TellsCensus, HasSameLists}
-use Rattle.pa_heap.specs.Workers.{WorkerValue}
+use Rattle.pa_plays.specs.declared.counts.Count.{Count}
+use Rattle.pa_plays.specs.Counts.{counted_in}
+use Rattle.pa_stock.specs.Censuses.{TellsCensus, HasSameLists}
+use Rattle.pa_plays.specs.Workers.{WorkerValue}
 use Rattle.pa_course.specs.Lines.{sum_over, IsLeftOf, IsCachedBy}
 
 -- The tally is what the first so many workers counted of partition p.

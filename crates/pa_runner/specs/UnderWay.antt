@@ -10,7 +10,7 @@ use Rattle.pa_record.specs.declared.report.ReportLine.{ReportLine}
 use Rattle.pa_region.specs.declared.view.View.{View}
 use Rattle.pa_rules.specs.Legal.{phases_in}
 use Rattle.pa_rules.specs.Report.{phases_of}
-use Rattle.pa_heap.specs.Workers.{WorkerValue, HasItsStake}
+use Rattle.pa_plays.specs.Workers.{WorkerValue, HasItsStake}
 use Rattle.pa_course.specs.Courses.{Course, HasSeenAll, lines_in}
 use Rattle.pa_course.specs.Growing.{HasBegun}
 use Rattle.pa_course.specs.Gathering.{IsMain}

@@ -3,15 +3,17 @@ ghost use Rattle.std.specs.Prelude.{◌≡◌, ℕ, ◌+◌, ◌-◌, ◌^◌, �
 ghost use Rattle.pa_region.specs.declared.view.View.{View};
 ghost use Rattle.pa_region.specs.Views.{HasEveryStake};
 ghost use Rattle.pa_rules.specs.Report.{census_of};
-ghost use Rattle.pa_heap.specs.Censuses.{TellsCensus};
+ghost use Rattle.pa_stock.specs.Censuses.{TellsCensus};
 ghost use Rattle.pa_course.specs.Lines.{IsCachedBy};
 ghost use Rattle.pa_runner.specs.Phases.{worker_in};
 ghost use Rattle.pa_runner.specs.Reporting.{AreCountedBy, IsLineFor, IsReported};
 
-use pa_heap::{Count, Heap, Worker};
+use pa_heap::Worker;
 use pa_machine::OutOfMemory;
+use pa_plays::Count;
 use pa_record::{Census, ReportLine, Tally};
 use pa_region::{Name, Seat};
+use pa_stock::Heap;
 use std::sync::Wait;
 
 /// Puts the lines of a phase behind those of a report: for each partition what the workers counted and have cached, and the

@@ -10,10 +10,11 @@ use crate::merging::merge_records;
 use crate::opening::open_workers;
 use crate::phases::play_phases;
 use pa_cells::slots_stay_seen;
-use pa_heap::{Heap, Left, Worker};
+use pa_heap::{Left, Worker, close};
 use pa_machine::OutOfMemory;
 use pa_record::{ReportLine, Run};
 use pa_region::{Closed, Name, Region, Seat};
+use pa_stock::Heap;
 use pa_trace::Trace;
 use std::alloc::Global;
 use std::marker::{Brand, Send, Sync};
@@ -87,7 +88,7 @@ pub fn close_run<N: Name>(
         pool,
         cells,
         region,
-    } = heap.close(workers, seat);
+    } = close(heap, workers, seat);
     let roots = Vec::from_array(alloc, roots)?;
     slots_stay_seen();
     let run = Run {

@@ -14,7 +14,7 @@ mod writing;
 pub use fault::TraceFault;
 pub use generator::generate;
 pub use laws::{early_fault, first_draws, generated_lines_fit, one_answer, one_text, short_text};
-pub use reading::read_trace;
+pub use reading::{cut_line, read_trace};
 pub use script::{Line, Lines, Op, Trace};
 pub use writing::write_trace;
 

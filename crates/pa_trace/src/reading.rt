@@ -48,8 +48,8 @@ pub fn read_trace(alloc: Global, bytes: &[u8]) -> Result<Trace, TraceFault>
     })
 }
 
-// The first line without its LF, and the bytes behind the LF. `None` where there is no LF.
-fn cut_line(bytes: &[u8]) -> Option<(&[u8], &[u8])>
+/// The first line without its LF, and the bytes behind the LF. `None` where there is no LF.
+pub fn cut_line(bytes: &[u8]) -> Option<(&[u8], &[u8])>
     ensures { MatchOption result (IsOneLine bytes.now) (λ x. IsOneLine x.0.now × (bytes.now ≡ x.0.now ++ 10 ∷ x.1.now)) }
 {
     for (i, byte) in bytes.iter().enumerate() {

@@ -9,7 +9,7 @@ use Rattle.pa_rules.specs.Tells.{TellsFirst}
 use Rattle.pa_audit_holders.specs.Homes.{HasOneHome}
 use Rattle.pa_audit.specs.Lined.{TellsLine}
 use Rattle.pa_audit.proofs.Granted.{all_of_threads, homes_held}
-use Rattle.pa_audit.proofs.Lining.{caches_rest, first_there, line_told}
+use Rattle.pa_audit.proofs.Lining.{first_there, line_told}
 use Rattle.pa_audit.proofs.holders.caches_fail.Goals as goal
 
 pub caches_meet-requires-clause-within : goal.caches_meet-requires-clause-within
@@ -33,6 +33,6 @@ returns c =
     let r = c.args.run.now in
     let at = c.in_ok-at.at in
     subst (λ o. TellsLine clauses.Caches t r o) (sym c.record_line.ensures)
-    (line_told clauses.Caches t r at (caches_rest t r)
+    (line_told clauses.Caches t r at tt
     (subst (λ (ps : List Played). TellsFirst (λ i. CachesDemand t.partitions (journal_at r.roots.items) ps (places.Record i)) at) c.requires.records
     (subst (λ (rs : List (List RootEntry)). TellsFirst (λ i. CachesDemand t.partitions (journal_at rs) c.args.records.now (places.Record i)) at) c.as_slice.ensures.value c.in_ok-at.ensures)))

@@ -9,7 +9,7 @@ use Rattle.pa_rules.specs.Sizes.{usable_of}
 use Rattle.pa_rules.specs.Tells.{TellsFirst}
 use Rattle.pa_audit.specs.Lined.{TellsLine}
 use Rattle.pa_audit.proofs.Granted.{all_within, registers_held, slots_held}
-use Rattle.pa_audit.proofs.Lining.{contents_rest, first_there, line_told}
+use Rattle.pa_audit.proofs.Lining.{first_there, line_told}
 use Rattle.pa_audit.proofs.order.contents_fail.Goals as goal
 
 pub contents_meet-requires-clause-within : goal.contents_meet-requires-clause-within
@@ -35,6 +35,6 @@ returns c =
     let r = c.args.run.now in
     let at = c.in_ok-at.at in
     subst (λ o. TellsLine clauses.Contents t r o) (sym c.record_line.ensures)
-    (line_told clauses.Contents t r at (contents_rest t r)
+    (line_told clauses.Contents t r at tt
     (subst (λ (ps : List Played). TellsFirst (λ i. ContentsDemand usable_of (history_at r.cells.items) ps (places.Record i)) at) c.requires.records
     (subst (λ (cs : List (List CellEntry)). TellsFirst (λ i. ContentsDemand usable_of (history_at cs) c.args.records.now (places.Record i)) at) c.as_slice.ensures.value c.in_ok-at.ensures)))

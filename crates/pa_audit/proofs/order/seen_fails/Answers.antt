@@ -8,7 +8,7 @@ use Rattle.pa_rules.specs.RecordDemands.{CellsDemand, SeenDemand}
 use Rattle.pa_rules.specs.Tells.{TellsFirst}
 use Rattle.pa_audit.specs.Lined.{TellsLine}
 use Rattle.pa_audit.proofs.Granted.{all_within, exchanges_held, phases_rise, swaps_held}
-use Rattle.pa_audit.proofs.Lining.{first_there, line_told, seen_rest}
+use Rattle.pa_audit.proofs.Lining.{first_there, line_told}
 use Rattle.pa_audit.proofs.order.seen_fails.Goals as goal
 
 pub seen_meets-requires-clause-phases : goal.seen_meets-requires-clause-phases
@@ -39,6 +39,6 @@ returns c =
     let r = c.args.run.now in
     let at = c.in_ok-at.at in
     subst (λ o. TellsLine clauses.Seen t r o) (sym c.record_line.ensures)
-    (line_told clauses.Seen t r at (seen_rest t r)
+    (line_told clauses.Seen t r at tt
     (subst (λ (ps : List Played). TellsFirst (λ i. SeenDemand (history_at r.cells.items) ps (places.Record i)) at) c.requires.records
     (subst (λ (cs : List (List CellEntry)). TellsFirst (λ i. SeenDemand (history_at cs) c.args.records.now (places.Record i)) at) c.as_slice.ensures.value c.in_ok-at.ensures)))

@@ -6,7 +6,7 @@ use Rattle.pa_rules.specs.declared.verdict.Place.TheVariants as places
 use Rattle.pa_rules.specs.RecordDemands.{LinesDemand}
 use Rattle.pa_rules.specs.Tells.{TellsFirst}
 use Rattle.pa_audit.specs.Lined.{TellsLine}
-use Rattle.pa_audit.proofs.Lining.{line_told, lines_rest}
+use Rattle.pa_audit.proofs.Lining.{line_told}
 use Rattle.pa_audit.proofs.records.lines_fail.Goals as goal
 
 pub returns : goal.returns
@@ -15,6 +15,6 @@ returns c =
     let r = c.args.run.now in
     let o = c.lines_meet.result in
     subst (λ o. TellsLine clauses.Lines t r o) (sym c.record_line.ensures)
-    (line_told clauses.Lines t r o (lines_rest t r)
+    (line_told clauses.Lines t r o tt
     (subst (λ (es : List Entry). TellsFirst (λ i. LinesDemand t.lines es (places.Record i)) o) c.as_slice-2.ensures.value
     (subst (λ (ls : List Line). TellsFirst (λ i. LinesDemand ls c.as_slice-2.result.now (places.Record i)) o) c.as_slice.ensures c.lines_meet.ensures)))

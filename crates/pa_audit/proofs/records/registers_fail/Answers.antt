@@ -8,7 +8,7 @@ use Rattle.pa_rules.specs.RecordDemands.{RegistersDemand}
 use Rattle.pa_rules.specs.Sizes.{usable_of}
 use Rattle.pa_rules.specs.Tells.{TellsFirst}
 use Rattle.pa_audit.specs.Lined.{TellsLine}
-use Rattle.pa_audit.proofs.Lining.{line_told, registers_rest}
+use Rattle.pa_audit.proofs.Lining.{line_told}
 use Rattle.pa_audit.proofs.records.registers_fail.Goals as goal
 
 pub returns : goal.returns
@@ -17,6 +17,6 @@ returns c =
     let r = c.args.run.now in
     let at = c.in_ok-at.at in
     subst (λ o. TellsLine clauses.Registers t r o) (sym c.record_line.ensures)
-    (line_told clauses.Registers t r at (registers_rest t r)
+    (line_told clauses.Registers t r at tt
     (subst (λ (ps : List Played). TellsFirst (λ i. RegistersDemand usable_of (history_at r.cells.items) ps (places.Record i)) at) c.requires.records
     (subst (λ (cs : List (List CellEntry)). TellsFirst (λ i. RegistersDemand usable_of (history_at cs) c.args.records.now (places.Record i)) at) c.as_slice.ensures.value c.in_ok-at.ensures)))

@@ -17,4 +17,4 @@ returns-clause-enters c =
     let f = get nat_cmp c.args.homes.now in
     let g = get nat_cmp c.insert.new.self in
     let puts : PutsHome f g c.key.result c.args.home = put_home f g c.key.result c.args.home c.in_ok-insert.ensures.updates.1 c.in_ok-insert.ensures.updates.2 in
-    entered_one f g c.args.slot c.args.home (subst (λ k. PutsHome f g k c.args.home) c.key.ensures.key puts)
+    entered_one f g c.args.slot c.args.home c.key.ensures.start (subst (λ k. PutsHome f g k c.args.home) c.key.ensures.key puts)

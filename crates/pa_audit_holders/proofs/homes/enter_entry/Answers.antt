@@ -1,4 +1,4 @@
-use Rattle.std.proofs.Common.{ℕ, ◌<◌, List, sym, subst}
+use Rattle.std.proofs.Common.{ℕ, ◌<◌, List, sym, subst, inl, inr}
 use Rattle.std.specs.Prelude.{Contains}
 use Rattle.pa_record.specs.declared.numbered.Numbered.{Numbered}
 use Rattle.pa_record.specs.Root.{names}
@@ -8,5 +8,14 @@ use Rattle.pa_audit_holders.proofs.homes.enter_entry.Goals as goal
 
 pub enter_slots-requires-clause-home : goal.enter_slots-requires-clause-home
 enter_slots-requires-clause-home c = λ s among.
-    subst (λ (k : ℕ). IsOfClass (journal_at c.args.roots.now) s c.args.partition k × (k < 59)) (sym c.number.ensures.number)
-    ((c.args.entry.now, c.in-Fill.pool, c.in-Fill.slots, c.requires.among, c.in-Fill.is, subst (λ (zs : List Numbered). Contains (names zs) s) c.items.ensures.items among), c.number.ensures.bound)
+    let of : IsOfClass (journal_at c.args.roots.now) s c.args.partition c.in-Fill.class = (c.args.entry.now, c.in-Fill.pool, c.in-Fill.slots, c.requires.among, c.in-Fill.is, subst (λ (zs : List Numbered). Contains (names zs) s) c.items.ensures.items among) in
+    record {
+      goes = subst (λ (k : ℕ). IsOfClass (journal_at c.args.roots.now) s c.args.partition k × (k < 59)) (sym c.number.ensures.number) (of, c.number.ensures.bound);
+      size = inl (c.in-Fill.class, of, c.slot_size.ensures.size);
+    }
+
+pub enter-requires-clause-home : goal.enter-requires-clause-home
+enter-requires-clause-home c = record {
+  goes = (c.args.entry.now, c.in-Map.pool, c.in-Map.len, c.requires.among, c.in-Map.is);
+  size = inr (c.args.entry.now, c.in-Map.pool, c.requires.among, c.in-Map.is);
+}

@@ -20,4 +20,4 @@ loop-number-preserved c =
     let u = c.unwrap.ensures in
     let k = c.of.ensures.class in
     let number : c.unwrap.result ≡ l.number = subst (λ o. IfSome o (λ k. k ≡ l.number)) u k in
-    purging_more acts lists c.args.slots l.number n l.at l.left c.in-Some.next c.list-list.result.now before (c.list-list.ensures ∙ ap lists number) c.if-list-left.false c.in-Some.ensures
+    purging_more acts lists c.args.slots l.number n l.at l.left c.in-Some.next c.list-list.result.now before (c.list-list.ensures.slots ∙ ap lists number) c.if-list-left.false c.in-Some.ensures

@@ -16,5 +16,5 @@ returns c =
     let more = c.items-2.result.now in
     let only : OnlyActs roots c.args.line p (gives (drop stays.result more)) =
     subst (λ (z : List Numbered). OnlyActs roots c.args.line p (gives z)) (slice_rest stays.result more) (c.only_gives.ensures.0 c.if-not-only_gives.false) in
-    put_row roots c.args.line p class stays.result c.args.slot cache (cache_in c.set.new.self) c.list-list.result.now c.in_ok-slots.slots c.items.result.now more c.list-list.ensures c.in_ok-slots.ensures c.items.ensures c.items-2.ensures
+    put_row roots c.args.line p class stays.result c.args.slot cache (cache_in c.set.new.self) c.list-list.result.now c.in_ok-slots.slots c.items.result.now more c.list-list.ensures.slots c.in_ok-slots.ensures c.items.ensures c.items-2.ensures
     stays.ensures.kept stays.ensures.spilled only (c.set.ensures ∙ ap (λ (z : List Numbered). with_list cache p class z) c.keep.ensures)

@@ -12,7 +12,7 @@ returns-in-Some c =
     let p = c.in-Some.bin.partition in
     let class = c.in-Some.bin.class in
     full_by_class roots c.args.told (cache_in c.args.cache.now) p class c.is_class_full.result c.in-Some.ensures.some
-    (subst (λ (list : List Numbered). IsTrue c.is_class_full.result ↔ ((list ≡ []) × IsRoomless roots c.args.told.line p class)) c.list-list.ensures c.is_class_full.ensures)
+    (subst (λ (list : List Numbered). IsTrue c.is_class_full.result ↔ ((list ≡ []) × IsRoomless roots c.args.told.line p class)) c.list-list.ensures.slots c.is_class_full.ensures)
 
 pub returns-in-Some-map_asked : goal.returns-in-Some-map_asked
 returns-in-Some-map_asked c =

@@ -2,7 +2,7 @@ use Rattle.std.proofs.Common.{◌≡◌, length, map}
 use Rattle.pa_rules.specs.declared.played.Played.{Played}
 use Rattle.pa_rules.specs.Roots.{journal_at}
 use Rattle.pa_audit_holders.specs.Lists.{caches_in}
-use Rattle.pa_audit_report.specs.Cached.{HaveCached, HaveLed}
+use Rattle.pa_audit_report.specs.Cached.{HaveCached, HaveLed, HaveListed}
 use Rattle.pa_audit_report.specs.Cuts.{IsLow}
 use Rattle.pa_audit_report.proofs.cached.cached_of.Given as goal
 
@@ -12,5 +12,6 @@ invariant-loop-end l = record {
   low : IsLow (map (λ (x : Played). x.phase) l.records) l.end-index l.from;
   threads : length l.caches.items ≡ 16;
   led : HaveLed l.partitions (journal_at l.roots) l.records l.from (caches_in l.caches.items);
+  listed : HaveListed l.threads (caches_in l.caches.items) l.listed;
   told : HaveCached l.partitions l.threads (journal_at l.roots) l.records l.cached.items;
 }

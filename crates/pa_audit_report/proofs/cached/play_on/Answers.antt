@@ -10,5 +10,5 @@ loop-at-preserved c =
     record {
       threads = c.in_ok-play.ensures.threads;
       led = led_more c.args.partitions l.at (journal_at c.args.roots.now) c.args.records.now (caches_in l.caches.items) (caches_in c.play.new.caches.items) _ c.in_ok-play.field-0
-          (omega (arith, c.loop-at-test.true, c.requires.end)) c.requires.kinds c.requires.short c.requires.meet l.invariant.led c.in_ok-play.ensures.next;
+          (omega (arith, c.loop-at-test.true, c.requires.end)) c.requires.kinds c.requires.meet l.invariant.led c.in_ok-play.ensures.next;
     }

@@ -23,8 +23,8 @@ ends_of-requires-clause-rising c =
     subst (λ ks. AllPairs ◌≤◌ ks) (sym c.as_slice.ensures.value)
     (phases_rise c.args.records.now (journal_at c.args.roots.now c.args.partition) c.in_ok-entry_phases.entry_phases.items long c.requires.order are)
 
-pub play_on-requires-clause-order : goal.play_on-requires-clause-order
-play_on-requires-clause-order c =
+pub census_on-requires-clause-order : goal.census_on-requires-clause-order
+census_on-requires-clause-order c =
     let l = c.loop-end in
     let i = l.end-index in
     let ends = c.as_slice-end-items.result.now in
@@ -32,8 +32,8 @@ play_on-requires-clause-order c =
     let cut = cuts i (get_or ends i 0) (slice_get-get_or ends i 0 c.loop-end-test.true) in
     cut_order c.in_ok-entry_phases.entry_phases.items i (i + 1) l.from (get_or ends i 0) (omega arith) l.invariant.low cut
 
-pub play_on-requires-clause-within : goal.play_on-requires-clause-within
-play_on-requires-clause-within c =
+pub census_on-requires-clause-within : goal.census_on-requires-clause-within
+census_on-requires-clause-within c =
     let l = c.loop-end in
     let i = l.end-index in
     let ends = c.as_slice-end-items.result.now in
@@ -48,6 +48,7 @@ loop-end-init c = record {
   many = omega (arith, c.new-censuses.ensures.items);
   low = low_none c.in_ok-entry_phases.entry_phases.items 0;
   replayed = (0, replayed_none c.args.supers c.args.pools.now (journal_at c.args.roots.now c.args.partition) c.in_ok-replay.replay c.in_ok-replay.ensures.root c.in_ok-replay.ensures.plan);
+  census = c.census-census.ensures;
   told = subst (λ (us : List Census). HasEach (λ i u. HasCensus c.args.records.now c.args.pools.now (journal_at c.args.roots.now) (i + 1) c.args.partition u) us) (sym c.new-censuses.ensures.items)
       (each_none (λ i u. HasCensus c.args.records.now c.args.pools.now (journal_at c.args.roots.now) (i + 1) c.args.partition u));
 }
@@ -64,10 +65,12 @@ loop-end-preserved c =
     let roots = journal_at c.args.roots.now in
     let are = subst (λ (zs : List RootEntry). AreEntryPhases c.args.records.now zs c.in_ok-entry_phases.entry_phases.items) c.journal_of-journal.ensures c.in_ok-entry_phases.ensures.phases in
     let long : length c.in_ok-entry_phases.entry_phases.items ≡ length (journal_at c.args.roots.now c.args.partition) = c.in_ok-entry_phases.ensures.many ∙ ap (λ (zs : List RootEntry). length zs) c.journal_of-journal.ensures in
-    let here = census_there c.args.supers ps pools roots c.args.partition (i + 1) (get_or ends i 0) c.in_ok-entry_phases.entry_phases.items c.play_on.new.replay c.census.result long are cut c.in_ok-play_on.ensures c.census.ensures in
+    let here = census_there c.args.supers ps pools roots c.args.partition (i + 1) (get_or ends i 0) c.in_ok-entry_phases.entry_phases.items c.census_on.new.replay c.in_ok-census.census long are cut c.in_ok-census.ensures.replayed
+    c.in_ok-census.ensures.census in
     record {
-      many = long_next l.censuses.items c.push.new.self.items c.census.result i c.in_ok-push.ensures.items l.invariant.many;
+      many = long_next l.censuses.items c.push.new.self.items c.in_ok-census.census i c.in_ok-push.ensures.items l.invariant.many;
       low = cut.front;
-      replayed = c.in_ok-play_on.ensures;
-      told = each_next (λ k u. HasCensus ps pools roots (k + 1) c.args.partition u) l.censuses.items c.push.new.self.items c.census.result i c.in_ok-push.ensures.items l.invariant.many l.invariant.told here;
+      replayed = c.in_ok-census.ensures.replayed;
+      census = c.in_ok-census.ensures.census;
+      told = each_next (λ k u. HasCensus ps pools roots (k + 1) c.args.partition u) l.censuses.items c.push.new.self.items c.in_ok-census.census i c.in_ok-push.ensures.items l.invariant.many l.invariant.told here;
     }

@@ -5,4 +5,4 @@ use Rattle.pa_audit_report.specs.Counts.{HasCounted}
 use Rattle.pa_audit_report.proofs.counts.count_on.Given as goal
 
 abbrev pub invariant-loop-at : goal.invariant-loop-at
-invariant-loop-at l = HasCounted (get nat_cmp l.sizes) l.partition (take l.at l.records) l.count
+invariant-loop-at l = HasCounted (get nat_cmp l.homes) l.partition (take l.at l.records) l.count

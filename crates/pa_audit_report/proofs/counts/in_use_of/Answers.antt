@@ -23,7 +23,7 @@ count_on-count-requires-clause-within c =
 
 pub loop-end-init : goal.loop-end-init
 loop-end-init c =
-    let at = get nat_cmp c.args.sizes.now in
+    let at = get nat_cmp c.args.homes.now in
     record {
       many = omega (arith, c.new-uses.ensures.items);
       low = low_none (map (λ (x : Played). x.phase) c.args.records.now) 0;
@@ -36,7 +36,7 @@ pub loop-end-preserved : goal.loop-end-preserved
 loop-end-preserved c =
     let l = c.loop-end in
     let i = l.end-index in
-    let at = get nat_cmp c.args.sizes.now in
+    let at = get nat_cmp c.args.homes.now in
     let ps = c.args.records.now in
     let end = get_or c.args.ends.now i 0 in
     let cut = c.requires.ends i (get_or c.args.ends.now i 0) (slice_get-get_or c.args.ends.now i 0 c.loop-end-test.true) in

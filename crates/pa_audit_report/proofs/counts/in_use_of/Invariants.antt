@@ -10,6 +10,6 @@ abbrev pub invariant-loop-end : goal.invariant-loop-end
 invariant-loop-end l = record {
   many : length l.uses.items ≡ l.end-index;
   low : IsLow (map (λ (x : Played). x.phase) l.records) l.end-index l.from;
-  counted : HasCounted (get nat_cmp l.sizes) l.partition (take l.from l.records) l.count;
-  uses : HaveUses (get nat_cmp l.sizes) l.partition l.records l.uses.items;
+  counted : HasCounted (get nat_cmp l.homes) l.partition (take l.from l.records) l.count;
+  uses : HaveUses (get nat_cmp l.homes) l.partition l.records l.uses.items;
 }

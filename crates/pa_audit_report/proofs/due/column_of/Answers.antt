@@ -29,13 +29,13 @@ loop-at-preserved c =
     let ps = c.args.records.now in
     let pools = c.args.run.now.pool.items in
     let roots = journal_at c.args.run.now.roots.items in
-    let at = get nat_cmp c.args.sizes.now in
+    let at = get nat_cmp c.args.homes.now in
     let uses = subst (λ (us : List InUse). HaveUses at c.args.partition ps us) (sym c.as_slice-in-loop-at.ensures.value) c.in_ok-uses.ensures.uses in
     let told : HaveCensuses ps pools roots c.args.partition c.in_ok-censuses.censuses.items =
     subst (λ (rs : List (List RootEntry)). HaveCensuses ps pools (journal_at rs) c.args.partition c.in_ok-censuses.censuses.items) c.as_slice-2.ensures.value
     (subst (λ (es : List PoolEntry). HaveCensuses ps es (journal_at c.as_slice-2.result.now) c.args.partition c.in_ok-censuses.censuses.items) c.as_slice.ensures.value c.in_ok-censuses.ensures.censuses) in
     let censuses = subst (λ (us : List Census). HaveCensuses ps pools roots c.args.partition us) (sym c.as_slice-in-loop-at-2.ensures.value) told in
-    let here = c.line_at-line.ensures c.args.trace.now.region c.args.trace.now.partitions c.args.trace.now.threads ps pools roots at c.requires.given c.requires.sizes uses c.requires.cached censuses in
+    let here = c.line_at-line.ensures c.args.trace.now.region c.args.trace.now.partitions c.args.trace.now.threads ps pools roots at c.requires.given c.requires.homes uses c.requires.cached censuses in
     record {
       many = long_next l.lines.items c.push.new.self.items c.line_at-line.result l.at c.in_ok-push.ensures.items l.invariant.many;
       column = each_next (λ k z. IsDueAt c.args.trace.now.partitions c.args.trace.now.threads ps pools roots (k + 1) c.args.partition z) l.lines.items c.push.new.self.items c.line_at-line.result l.at c.in_ok-push.ensures.items

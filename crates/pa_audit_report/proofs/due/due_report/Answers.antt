@@ -8,8 +8,8 @@ use Rattle.pa_rules.specs.Legal.{phases_in}
 use Rattle.pa_rules.specs.Report.{IsReport}
 use Rattle.pa_audit_report.specs.Due.{AreColumns}
 use Rattle.pa_audit_holders.proofs.Caching.{HaveOneKind}
-use Rattle.pa_audit_report.specs.Cached.{FillsAreShort, HaveCached}
-use Rattle.pa_audit_report.proofs.Columns.{columns_next, fills_given, kinds_given, phases_sorted}
+use Rattle.pa_audit_report.specs.Cached.{HaveCached}
+use Rattle.pa_audit_report.proofs.Columns.{columns_next, kinds_given, phases_sorted}
 use Rattle.pa_audit_report.proofs.due.due_report.Goals as goal
 
 pub ends_of-requires-clause-rising : goal.ends_of-requires-clause-rising
@@ -20,11 +20,6 @@ pub cached_of-requires-clause-kinds : goal.cached_of-requires-clause-kinds
 cached_of-requires-clause-kinds c =
     subst (λ (rs : List (List RootEntry)). HaveOneKind (journal_at rs)) (sym c.as_slice-5.ensures.value)
     (kinds_given c.args.trace.now.region c.args.trace.now.partitions c.args.records.now c.args.run.now.pool.items (journal_at c.args.run.now.roots.items) c.requires.given)
-
-pub cached_of-requires-clause-short : goal.cached_of-requires-clause-short
-cached_of-requires-clause-short c =
-    subst (λ (rs : List (List RootEntry)). FillsAreShort (journal_at rs)) (sym c.as_slice-5.ensures.value)
-    (fills_given c.args.trace.now.region c.args.trace.now.partitions c.args.records.now c.args.run.now.pool.items (journal_at c.args.run.now.roots.items) c.requires.given)
 
 pub column_of-requires-clause-cached : goal.column_of-requires-clause-cached
 column_of-requires-clause-cached c =

@@ -1,7 +1,7 @@
 use Rattle.std.proofs.Common.{arith}
 use Rattle.std.proofs.lemmas.List.{get_or_default}
 use Rattle.std.proofs.lemmas.Option.{slice_get-get_or}
-use Rattle.pa_audit_report.specs.Cached.{no_slots}
+use Rattle.pa_audit_holders.specs.Lists.{no_slots}
 use Rattle.pa_audit_report.proofs.Columns.{line_due}
 use Rattle.pa_audit_report.proofs.due.line_at.Goals as goal
 

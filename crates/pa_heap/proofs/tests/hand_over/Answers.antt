@@ -1,4 +1,4 @@
-use Rattle.std.proofs.Common.{◌≡◌, ℕ, ◌+◌, ◌<◌, ◌≤◌, List, [], ◌∷◌, ◌∙◌, refl, sym, subst, ap, arith, inl, inr}
+use Rattle.std.proofs.Common.{◌≡◌, ℕ, ◌<◌, ◌≤◌, [], ◌∷◌, refl, sym, subst, ap, arith, inl, inr}
 use Rattle.std.specs.Prelude.{◌==◌, filter}
 use Rattle.std.specs.List.{sum_by}
 use Rattle.std.proofs.lemmas.List.Sums.{sum_by-cons}
@@ -10,8 +10,8 @@ use Rattle.pa_region.specs.Views.{stake_of}
 use Rattle.pa_region.specs.Hands.{Parcel, CanHand, given_after}
 use Rattle.pa_region.specs.Marks.{parcel_of}
 use Rattle.pa_region.proofs.Adding.{one_eq}
-use Rattle.pa_heap.specs.Starts.{HasAllStakes}
-use Rattle.pa_heap.specs.Stocks.{IsForThread}
+use Rattle.pa_stock.specs.Starts.{HasAllStakes}
+use Rattle.pa_plays.specs.Stocks.{IsForThread}
 use Rattle.pa_heap.proofs.tests.hand_over.Goals as goal
 
 -- stake 2 and three counted steps

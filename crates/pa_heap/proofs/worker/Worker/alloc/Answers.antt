@@ -2,12 +2,12 @@ use Rattle.std.proofs.Common.{◌≡◌, ◌+◌, List, [], ◌∷◌, length, �
 use Rattle.std.proofs.lemmas.List.{length-append}
 use Rattle.pa_machine.specs.declared.word.Step.TheVariants as steps
 use Rattle.pa_trace.specs.declared.script.Op.TheVariants as ops
-use Rattle.pa_heap.specs.declared.counts.Count.{Count}
-use Rattle.pa_heap.specs.Counts.{AreOfSteps, counts_after, owned_in, made_seen}
-use Rattle.pa_heap.specs.Stocks.{register_in}
-use Rattle.pa_heap.specs.Workers.{WorkerValue, CanPlayOp, KeepsOn}
-use Rattle.pa_heap.specs.Plays.{PlaysOp}
-use Rattle.pa_heap.proofs.Weighing.{CountsOp, alloc_counts}
+use Rattle.pa_plays.specs.declared.counts.Count.{Count}
+use Rattle.pa_plays.specs.Counts.{AreOfSteps, counts_after, owned_in, made_seen}
+use Rattle.pa_plays.specs.Stocks.{register_in}
+use Rattle.pa_plays.specs.Workers.{WorkerValue, CanPlayOp, KeepsOn}
+use Rattle.pa_plays.specs.Plays.{PlaysOp}
+use Rattle.pa_plays.proofs.Weighing.{CountsOp, alloc_counts}
 use Rattle.pa_heap.proofs.Working.{worker_plays, worker_goes_on}
 use Rattle.pa_heap.proofs.worker.Worker.alloc.Goals as goal
 
@@ -22,20 +22,20 @@ invariant_of-self g c =
 pub returns-in-Ok-clause-plays : goal.returns-in-Ok-clause-plays
 returns-in-Ok-clause-plays g c =
     let w : WorkerValue = record { stock = c.self.inside.stock; records = c.self.inside.records.items; room = c.self.inside.room; stopped = c.self.inside.stopped; counts = c.self.inside.counts } in
-    let counted : c.count_step.new.counts ≡ counts_after steps.Issue (owned_in (register_in c.alloc.new.self.registers c.args.reg)) (made_seen c.in-Ok.answer) w.counts =
+    let counted : c.count_step.new.counts ≡ counts_after steps.Issue (owned_in (register_in c.alloc.new.stock.registers c.args.reg)) (made_seen c.in-Ok.answer) w.counts =
     c.count_step.ensures.counts ∙ ap (λ h. counts_after steps.Issue h c.made.result w.counts) (c.owned-handle.ensures ∙ ap owned_in c.register.ensures)
-    ∙ ap (λ s. counts_after steps.Issue (owned_in (register_in c.alloc.new.self.registers c.args.reg)) s w.counts) c.made.ensures in
-    subst (λ (z : WorkerValue). PlaysOp c.args.line (ops.Alloc c.args.reg c.args.partition c.args.size) c.in-Ok.answer z (record { stock = c.alloc.new.self; records = c.enter.new.records.items; room = c.self.inside.room; stopped = c.self.inside.stopped; counts = c.count_step.new.counts }))
+    ∙ ap (λ s. counts_after steps.Issue (owned_in (register_in c.alloc.new.stock.registers c.args.reg)) s w.counts) c.made.ensures in
+    subst (λ (z : WorkerValue). PlaysOp c.args.line (ops.Alloc c.args.reg c.args.partition c.args.size) c.in-Ok.answer z (record { stock = c.alloc.new.stock; records = c.enter.new.records.items; room = c.self.inside.room; stopped = c.self.inside.stopped; counts = c.count_step.new.counts }))
     c.self.view_is
-    (worker_plays c.args.line (ops.Alloc c.args.reg c.args.partition c.args.size) c.in-Ok.answer w c.alloc.new.self c.enter.new.records.items c.count_step.new.counts c.thread.result c.self.inside.room c.self.inside.stopped
+    (worker_plays c.args.line (ops.Alloc c.args.reg c.args.partition c.args.size) c.in-Ok.answer w c.alloc.new.stock c.enter.new.records.items c.count_step.new.counts c.thread.result c.self.inside.room c.self.inside.stopped
     c.enter.ensures.items c.thread.ensures c.in-Ok.ensures.does
-    (subst (λ (ds : List Count). CountsOp c.args.line (ops.Alloc c.args.reg c.args.partition c.args.size) c.in-Ok.answer w.stock c.alloc.new.self w.counts ds) (sym counted)
-    (alloc_counts c.args.line c.in-Ok.answer w.stock c.alloc.new.self w.counts c.self.invariant.2.count c.args.reg c.args.partition c.args.size c.kept.ensures.stock c.requires.reg)))
+    (subst (λ (ds : List Count). CountsOp c.args.line (ops.Alloc c.args.reg c.args.partition c.args.size) c.in-Ok.answer w.stock c.alloc.new.stock w.counts ds) (sym counted)
+    (alloc_counts c.args.line c.in-Ok.answer w.stock c.alloc.new.stock w.counts c.self.invariant.2.count c.args.reg c.args.partition c.args.size c.kept.ensures.stock c.requires.reg)))
 
 pub returns-in-Ok-clause-goes_on : goal.returns-in-Ok-clause-goes_on
 returns-in-Ok-clause-goes_on g c =
     let w : WorkerValue = record { stock = c.self.inside.stock; records = c.self.inside.records.items; room = c.self.inside.room; stopped = c.self.inside.stopped; counts = c.self.inside.counts } in
-    subst (λ (z : WorkerValue). KeepsOn z (record { stock = c.alloc.new.self; records = c.enter.new.records.items; room = c.self.inside.room; stopped = c.self.inside.stopped; counts = c.count_step.new.counts }))
+    subst (λ (z : WorkerValue). KeepsOn z (record { stock = c.alloc.new.stock; records = c.enter.new.records.items; room = c.self.inside.room; stopped = c.self.inside.stopped; counts = c.count_step.new.counts }))
     c.self.view_is
-    (worker_goes_on c.args.line (ops.Alloc c.args.reg c.args.partition c.args.size) c.in-Ok.answer w c.alloc.new.self c.enter.new.records.items c.count_step.new.counts _ c.enter.ensures.items (subst (λ (z : WorkerValue). CanPlayOp z) (sym c.self.view_is) c.requires.ready)
+    (worker_goes_on c.args.line (ops.Alloc c.args.reg c.args.partition c.args.size) c.in-Ok.answer w c.alloc.new.stock c.enter.new.records.items c.count_step.new.counts _ c.enter.ensures.items (subst (λ (z : WorkerValue). CanPlayOp z) (sym c.self.view_is) c.requires.ready)
     c.in-Ok.ensures.does)

@@ -1,24 +1,24 @@
 use Rattle.std.proofs.Common.{sym, subst}
 use Rattle.pa_trace.specs.declared.script.Op.TheVariants as ops
-use Rattle.pa_heap.specs.Workers.{WorkerValue, CanPlayOp, KeepsOn}
-use Rattle.pa_heap.specs.Plays.{PlaysOp}
-use Rattle.pa_heap.proofs.Weighing.{read_counts}
+use Rattle.pa_plays.specs.Workers.{WorkerValue, CanPlayOp, KeepsOn}
+use Rattle.pa_plays.specs.Plays.{PlaysOp}
+use Rattle.pa_plays.proofs.Weighing.{read_counts}
 use Rattle.pa_heap.proofs.Working.{worker_plays, worker_goes_on}
 use Rattle.pa_heap.proofs.worker.Worker.deref.Goals as goal
 
 pub returns-clause-plays : goal.returns-clause-plays
 returns-clause-plays g c =
     let w : WorkerValue = record { stock = c.self.inside.stock; records = c.self.inside.records.items; room = c.self.inside.room; stopped = c.self.inside.stopped; counts = c.self.inside.counts } in
-    subst (λ (z : WorkerValue). PlaysOp c.args.line (ops.Read c.args.reg c.args.place) c.deref-answer.result z (record { stock = c.deref-answer.new.self; records = c.enter.new.records.items; room = c.self.inside.room; stopped = c.self.inside.stopped; counts = c.self.inside.counts }))
+    subst (λ (z : WorkerValue). PlaysOp c.args.line (ops.Read c.args.reg c.args.place) c.deref-answer.result z (record { stock = c.deref-answer.new.stock; records = c.enter.new.records.items; room = c.self.inside.room; stopped = c.self.inside.stopped; counts = c.self.inside.counts }))
     c.self.view_is
-    (worker_plays c.args.line (ops.Read c.args.reg c.args.place) c.deref-answer.result w c.deref-answer.new.self c.enter.new.records.items c.self.inside.counts c.thread.result c.self.inside.room c.self.inside.stopped
+    (worker_plays c.args.line (ops.Read c.args.reg c.args.place) c.deref-answer.result w c.deref-answer.new.stock c.enter.new.records.items c.self.inside.counts c.thread.result c.self.inside.room c.self.inside.stopped
     c.enter.ensures.items c.thread.ensures (c.deref-answer.ensures.does c.args.line)
-    (read_counts c.args.line c.deref-answer.result w.stock c.deref-answer.new.self w.counts (c.self.invariant.2.count) c.args.reg c.args.place))
+    (read_counts c.args.line c.deref-answer.result w.stock c.deref-answer.new.stock w.counts (c.self.invariant.2.count) c.args.reg c.args.place))
 
 pub returns-clause-goes_on : goal.returns-clause-goes_on
 returns-clause-goes_on g c =
     let w : WorkerValue = record { stock = c.self.inside.stock; records = c.self.inside.records.items; room = c.self.inside.room; stopped = c.self.inside.stopped; counts = c.self.inside.counts } in
-    subst (λ (z : WorkerValue). KeepsOn z (record { stock = c.deref-answer.new.self; records = c.enter.new.records.items; room = c.self.inside.room; stopped = c.self.inside.stopped; counts = c.self.inside.counts }))
+    subst (λ (z : WorkerValue). KeepsOn z (record { stock = c.deref-answer.new.stock; records = c.enter.new.records.items; room = c.self.inside.room; stopped = c.self.inside.stopped; counts = c.self.inside.counts }))
     c.self.view_is
-    (worker_goes_on c.args.line (ops.Read c.args.reg c.args.place) c.deref-answer.result w c.deref-answer.new.self c.enter.new.records.items c.self.inside.counts _ c.enter.ensures.items (subst (λ (z : WorkerValue). CanPlayOp z) (sym c.self.view_is) c.requires.ready)
+    (worker_goes_on c.args.line (ops.Read c.args.reg c.args.place) c.deref-answer.result w c.deref-answer.new.stock c.enter.new.records.items c.self.inside.counts _ c.enter.ensures.items (subst (λ (z : WorkerValue). CanPlayOp z) (sym c.self.view_is) c.requires.ready)
     (c.deref-answer.ensures.does c.args.line))

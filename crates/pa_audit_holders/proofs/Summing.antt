@@ -1,0 +1,241 @@
+-- What a thread's lists have together, when one of them changes.
+use Rattle.std.proofs.Common.{◌≡◌, ℕ, zero, suc, ◌+◌, ◌-◌, ◌*◌, ◌<◌, ◌≤◌, List, [], ◌∷◌, length, get_or, set, refl, sym, ◌∙◌, ap, subst, arith, inl, inr}
+use Rattle.std.specs.Prelude.{All}
+use Rattle.std.proofs.lemmas.Bool.{cases_eq, cases_lt}
+use Rattle.std.proofs.lemmas.List.{get_or-set_same, get_or-set_other, length-set}
+use Rattle.std.proofs.lemmas.List.Elements.{All-set}
+use Rattle.std.proofs.lemmas.Nat.{mul-le}
+use Rattle.pa_buckets.specs.Table.{slot_of}
+use Rattle.pa_buckets.proofs.Facts.{IsRow-of}
+use Rattle.pa_record.specs.declared.numbered.Numbered.{Numbered}
+use Rattle.pa_record.specs.declared.report.Tally.{Tally}
+use Rattle.pa_rules.specs.Caches.{Cache, listed_slots, with_list}
+use Rattle.pa_rules.specs.Report.{listed_bytes}
+use Rattle.pa_audit_holders.specs.Lists.{AreSummed, HasPart, IsListedBy, cache_in, changed_by, no_slots}
+use Rattle.pa_audit_holders.proofs.Listing.{cache_empty, cache_set, listed, with_here, with_other}
+
+-- ---- sums of numbers from one class on
+
+abbrev pub sum_over : (ℕ → ℕ) → ℕ → ℕ → ℕ
+sum_over f k zero = 0
+sum_over f k (suc n) = f k + sum_over f (k + 1) n
+
+over_same : (f g : ℕ → ℕ) (k n : ℕ) → ((c : ℕ) → k ≤ c → f c ≡ g c) → sum_over f k n ≡ sum_over g k n
+over_same f g k zero same = refl
+over_same f g k (suc n) same =
+    let head = same k (omega arith) in
+    let tail = over_same f g (k + 1) n (λ c low. same c (omega (arith, low))) in
+    omega (arith, head, tail)
+
+-- one number changed
+over_changed : (f g : ℕ → ℕ) (at k n : ℕ) → k ≤ at → at < k + n → ((c : ℕ) → (c ≡ at → ⊥) → f c ≡ g c) → sum_over f k n + g at ≡ sum_over g k n + f at
+over_changed f g at k zero low high same = absurd (omega (arith, low, high))
+over_changed f g at k (suc n) low high same = elim (cases_lt k at) [
+  | inl below ↦
+      let head = same k (λ e. omega (arith, e, below)) in
+      let tail = over_changed f g at (k + 1) n (omega (arith, below)) (omega (arith, high)) same in
+      omega (arith, head, tail)
+  | inr above ↦
+      let here : at ≡ k = omega (arith, low, above) in
+      let a : f at ≡ f k = ap f here in
+      let b : g at ≡ g k = ap g here in
+      let tail = over_same f g (k + 1) n (λ c more. same c (λ e. omega (arith, e, here, more))) in
+      omega (arith, a, b, tail)
+]
+
+over_part : (f : ℕ → ℕ) (at k n : ℕ) → k ≤ at → at < k + n → f at ≤ sum_over f k n
+over_part f at k zero low high = absurd (omega (arith, low, high))
+over_part f at k (suc n) low high = elim (cases_lt k at) [
+  | inl below ↦ let tail = over_part f at (k + 1) n (omega (arith, below)) (omega (arith, high)) in omega (arith, tail)
+  | inr above ↦
+      let here : at ≡ k = omega (arith, low, above) in
+      let a : f at ≡ f k = ap f here in
+      omega (arith, a)
+]
+
+over_most : (f : ℕ → ℕ) (m k n : ℕ) → ((c : ℕ) → c < k + n → f c ≤ m) → sum_over f k n ≤ n * m
+over_most f m k zero few = omega arith
+over_most f m k (suc n) few =
+    let head = few k (omega arith) in
+    let tail = over_most f m (k + 1) n (λ c low. few c (omega (arith, low))) in
+    omega (arith, head, tail)
+
+slots_over : (lists : ℕ → List Numbered) (k n : ℕ) → listed_slots lists k n ≡ sum_over (λ c. length (lists c)) k n
+slots_over lists k zero = refl
+slots_over lists k (suc n) = ap (λ z. length (lists k) + z) (slots_over lists (k + 1) n)
+
+bytes_over : (counts : ℕ → ℕ) (k n : ℕ) → listed_bytes counts k n ≡ sum_over (λ c. slot_of c * counts c) k n
+bytes_over counts k zero = refl
+bytes_over counts k (suc n) = ap (λ z. slot_of k * counts k + z) (bytes_over counts (k + 1) n)
+
+-- ---- how much the lists have at most
+
+-- the lists of a cache, counted; and their bytes
+abbrev pub slots_in : Cache → ℕ → ℕ → ℕ
+slots_in cache p c = length (cache p c)
+
+abbrev pub bytes_in : Cache → ℕ → ℕ → ℕ
+bytes_in cache p c = slot_of c * length (cache p c)
+
+short_at : (lists : List (List Numbered)) (p c : ℕ) → All (λ slots. length slots ≤ 64) lists → length lists ≡ 236 → p < 4 → c < 59 → length (cache_in lists p c) ≤ 64
+short_at lists p c short many low real =
+    let h = short (59 * p + c) [] (omega (arith, many, low, real)) in
+    subst (λ zs. length zs ≤ 64) (sym (listed lists p c real)) h
+
+pub list_short : (lists : List (List Numbered)) (sums : List Tally) (p c : ℕ) → AreSummed lists sums → p < 4 → c < 59 → length (cache_in lists p c) ≤ 64
+list_short lists sums p c h low real = short_at lists p c h.short h.many low real
+
+few_bytes : (n c : ℕ) → n ≤ 64 → c < 59 → slot_of c * n ≤ 58720256
+few_bytes n c few real = mul-le (slot_of c) n 917504 64 (IsRow-of c real).greatest_slot few
+
+pub sum_few : (lists : List (List Numbered)) (sums : List Tally) (p : ℕ) (sum : Tally) → AreSummed lists sums → p < 4 → IsListedBy (cache_in lists) p sum → sum.slots ≤ 3776
+sum_few lists sums p sum h low by =
+    let most = over_most (slots_in (cache_in lists) p) 64 0 59 (λ c real. list_short lists sums p c h low real) in
+    let is = slots_over (cache_in lists p) 0 59 in
+    let a = by.slots in
+    omega (arith, most, is, a)
+
+pub sum_small : (lists : List (List Numbered)) (sums : List Tally) (p : ℕ) (sum : Tally) → AreSummed lists sums → p < 4 → IsListedBy (cache_in lists) p sum → sum.bytes ≤ 3464495104
+sum_small lists sums p sum h low by =
+    let most = over_most (bytes_in (cache_in lists) p) 58720256 0 59 (λ c real. few_bytes (length (cache_in lists p c)) c (list_short lists sums p c h low real) real) in
+    let is = bytes_over (λ class. length (cache_in lists p class)) 0 59 in
+    let a = by.bytes in
+    omega (arith, most, is, a)
+
+-- ---- nothing
+
+no_bytes : (k n : ℕ) → listed_bytes (λ c. 0) k n ≡ 0
+no_bytes k zero = refl
+no_bytes k (suc n) = let tail = no_bytes (k + 1) n in omega (arith, tail)
+
+none_listed : (cache : Cache) (p : ℕ) → cache ≡ (λ q c. []) → IsListedBy cache p no_slots
+none_listed cache p none = subst (λ (z : Cache). IsListedBy z p no_slots) (sym none) (record { slots = refl; bytes = sym (no_bytes 0 59) })
+
+four_none : (q : ℕ) → get_or (no_slots ∷ no_slots ∷ no_slots ∷ no_slots ∷ []) q no_slots ≡ no_slots
+four_none zero = refl
+four_none (suc zero) = refl
+four_none (suc (suc zero)) = refl
+four_none (suc (suc (suc zero))) = refl
+four_none (suc (suc (suc (suc q)))) = refl
+
+pub none_summed : (lists : List (List Numbered)) → length lists ≡ 236 → All (λ xs. xs ≡ []) lists → AreSummed lists (no_slots ∷ no_slots ∷ no_slots ∷ no_slots ∷ [])
+none_summed lists many none = record {
+  many = many;
+  short = λ k d below. let e = ap length (none k d below) in omega (arith, e);
+  four = refl;
+  each = λ p low. subst (λ (t : Tally). IsListedBy (cache_in lists) p t) (sym (four_none p)) (none_listed (cache_in lists) p (cache_empty lists none));
+}
+
+-- ---- one list changed
+
+pub part_of : (lists : List (List Numbered)) (sums : List Tally) (p class after : ℕ) (sum : Tally) → AreSummed lists sums → p < 4 → class < 59 → IsListedBy (cache_in lists) p sum → after ≤ 64
+    → HasPart sum class (length (get_or lists (59 * p + class) [])) after
+part_of lists sums p class after sum h low real by few =
+    let there = listed lists p class real in
+    let long = ap length there in
+    let heavy : slot_of class * length (cache_in lists p class) ≡ slot_of class * length (get_or lists (59 * p + class) []) = ap (λ z. slot_of class * z) long in
+    let a = over_part (slots_in (cache_in lists) p) class 0 59 (omega arith) (omega (arith, real)) in
+    let b = over_part (bytes_in (cache_in lists) p) class 0 59 (omega arith) (omega (arith, real)) in
+    let c = slots_over (cache_in lists p) 0 59 in
+    let d = bytes_over (λ k. length (cache_in lists p k)) 0 59 in
+    let e = by.slots in
+    let f = by.bytes in
+    let g = list_short lists sums p class h low real in
+    record {
+      slots = omega (arith, a, c, e, long);
+      bytes = omega (arith, b, d, f, heavy);
+      few = sum_few lists sums p sum h low by;
+      small = sum_small lists sums p sum h low by;
+      short = omega (arith, g, long);
+      short_too = few;
+    }
+
+-- the sum of the partition's lists
+sum_here : (cache next : Cache) (p class : ℕ) (xs : List Numbered) (sum after : Tally) → class < 59 → next ≡ with_list cache p class xs → IsListedBy cache p sum → after ≡ changed_by sum class (length (cache p class)) (length xs)
+    → IsListedBy next p after
+sum_here cache next p class xs sum after real becomes by is = record { slots = slots; bytes = bytes }
+  where
+    here : next p class ≡ xs
+    here = ap (λ (z : Cache). z p class) becomes ∙ with_here cache p class p class xs refl refl
+
+    other : (c : ℕ) → (c ≡ class → ⊥) → next p c ≡ cache p c
+    other c ne = ap (λ (z : Cache). z p c) becomes ∙ with_other cache p class p c xs (λ e f. ne f)
+
+    long : length (next p class) ≡ length xs
+    long = ap length here
+
+    heavy : slot_of class * length (next p class) ≡ slot_of class * length xs
+    heavy = ap (λ z. slot_of class * z) long
+
+    slots : after.slots ≡ listed_slots (next p) 0 59
+    slots =
+        let a = over_changed (slots_in next p) (slots_in cache p) class 0 59 (omega arith) (omega (arith, real)) (λ c ne. ap length (other c ne)) in
+        let b = over_part (slots_in cache p) class 0 59 (omega arith) (omega (arith, real)) in
+        let c = slots_over (next p) 0 59 in
+        let d = slots_over (cache p) 0 59 in
+        let e = by.slots in
+        let f : after.slots ≡ sum.slots - length (cache p class) + length xs = ap (λ (t : Tally). t.slots) is in
+        let g = long in
+        omega (arith, a, b, c, d, e, f, g)
+
+    bytes : after.bytes ≡ listed_bytes (λ k. length (next p k)) 0 59
+    bytes =
+        let a = over_changed (bytes_in next p) (bytes_in cache p) class 0 59 (omega arith) (omega (arith, real)) (λ c ne. ap (λ (zs : List Numbered). slot_of c * length zs) (other c ne)) in
+        let b = over_part (bytes_in cache p) class 0 59 (omega arith) (omega (arith, real)) in
+        let c = bytes_over (λ k. length (next p k)) 0 59 in
+        let d = bytes_over (λ k. length (cache p k)) 0 59 in
+        let e = by.bytes in
+        let f : after.bytes ≡ sum.bytes - slot_of class * length (cache p class) + slot_of class * length xs = ap (λ (t : Tally). t.bytes) is in
+        let g = heavy in
+        omega (arith, a, b, c, d, e, f, g)
+
+-- the sum of another partition's lists
+sum_there : (cache next : Cache) (p q class : ℕ) (xs : List Numbered) (sum : Tally) → (q ≡ p → ⊥) → next ≡ with_list cache p class xs → IsListedBy cache q sum → IsListedBy next q sum
+sum_there cache next p q class xs sum ne becomes by = record { slots = by.slots ∙ ap (λ (z : ℕ → List Numbered). listed_slots z 0 59) same; bytes = by.bytes ∙ ap (λ (z : ℕ → List Numbered). listed_bytes (λ k. length (z k)) 0 59) same }
+  where
+    same : cache q ≡ next q
+    same = λ i c. sym (ap (λ (z : Cache). z q c) becomes ∙ with_other cache p class q c xs (λ e f. ne e)) i
+
+pub summed_set : (lists : List (List Numbered)) (sums : List Tally) (p class : ℕ) (xs : List Numbered) (sum after : Tally) → p < 4 → class < 59 → AreSummed lists sums → length xs ≤ 64 → sum ≡ get_or sums p no_slots
+    → after ≡ changed_by sum class (length (get_or lists (59 * p + class) [])) (length xs) → AreSummed (set lists (59 * p + class) xs) (set sums p after)
+summed_set lists sums p class xs sum after low real h few there is = record {
+  many = length-set lists (59 * p + class) xs ∙ h.many;
+  short = All-set (λ (slots : List Numbered). length slots ≤ 64) lists (59 * p + class) xs few h.short;
+  four = length-set sums p after ∙ h.four;
+  each = each;
+}
+  where
+    next : Cache
+    next = cache_in (set lists (59 * p + class) xs)
+
+    becomes : next ≡ with_list (cache_in lists) p class xs
+    becomes = cache_set lists p class xs (omega (arith, h.many, low, real)) real
+
+    is' : after ≡ changed_by sum class (length (cache_in lists p class)) (length xs)
+    is' = is ∙ ap (λ (zs : List Numbered). changed_by sum class (length zs) (length xs)) (sym (listed lists p class real))
+
+    each : (q : ℕ) → q < 4 → IsListedBy next q (get_or (set sums p after) q no_slots)
+    each q small = elim (cases_eq q p) [
+      | inl same ↦
+          let by : IsListedBy (cache_in lists) p sum = subst (λ (t : Tally). IsListedBy (cache_in lists) p t) (sym there) (h.each p low) in
+          let t : get_or (set sums p after) q no_slots ≡ after = ap (λ z. get_or (set sums p after) z no_slots) same ∙ get_or-set_same sums p after no_slots (omega (arith, h.four, low)) in
+          subst (λ z. IsListedBy next z (get_or (set sums p after) q no_slots)) (sym same)
+          (subst (λ (z : Tally). IsListedBy next p z) (sym t) (sum_here (cache_in lists) next p class xs sum after real becomes by is'))
+      | inr other ↦
+          subst (λ (z : Tally). IsListedBy next q z) (sym (get_or-set_other sums p q after no_slots other))
+          (sum_there (cache_in lists) next p q class xs (get_or sums q no_slots) other becomes (h.each q small))
+    ]
+
+-- what `set` knows: the class by its number, and how long the list is that stands there
+pub part_there : (lists : List (List Numbered)) (sums : List Tally) (p class number before after : ℕ) → AreSummed lists sums → p < 4 → number ≡ class → number < 59 → before ≡ length (get_or lists (59 * p + number) []) → after ≤ 64
+    → HasPart (get_or sums p no_slots) class before after
+part_there lists sums p class number before after h low is real long few =
+    subst (λ k. HasPart (get_or sums p no_slots) class k after) (sym (long ∙ ap (λ k. length (get_or lists (59 * p + k) [])) is))
+    (part_of lists sums p class after (get_or sums p no_slots) h low (omega (arith, is, real)) (h.each p low) few)
+
+pub summed_there : (lists : List (List Numbered)) (sums : List Tally) (p class number before after : ℕ) (xs : List Numbered) (sum : Tally) → AreSummed lists sums → p < 4 → number ≡ class → number < 59
+    → before ≡ length (get_or lists (59 * p + number) []) → after ≡ length xs → length xs ≤ 64 → sum ≡ changed_by (get_or sums p no_slots) class before after → AreSummed (set lists (59 * p + number) xs) (set sums p sum)
+summed_there lists sums p class number before after xs sum h low is real long more few becomes =
+    summed_set lists sums p number xs (get_or sums p no_slots) sum low real h few refl
+    (becomes ∙ ap (λ k. changed_by (get_or sums p no_slots) k before after) (sym is) ∙ ap (λ k. changed_by (get_or sums p no_slots) number k after) long
+    ∙ ap (λ k. changed_by (get_or sums p no_slots) number (length (get_or lists (59 * p + number) [])) k) more)

@@ -1,0 +1,29 @@
+ghost use Rattle.std.specs.Prelude.{◌≤◌, length, IfOk, IfErr};
+ghost use Rattle.pa_audit_input.specs.Judged.{IsVerdictOn, IsInputFault};
+
+use crate::parts::parts_of;
+use crate::run_part::run_behind;
+use pa_audit::audit;
+use pa_rules::Verdict;
+use pa_trace::{TraceFault, read_trace};
+use std::alloc::Global;
+
+/// The verdict on the bytes: they are the text of a trace and behind it, from the first line that is `run 1` on, that of a run.
+/// Lines and bytes count from 1 in the whole input. `BadLine(n)` and `Limit(n)` name the first faulty line. In the trace's part
+/// they are those of `read_trace`. Behind it a line is faulty by `Limit` where it contains byte 134,217,729, else by `BadLine` where
+/// it isn't the line of an item that may stand there; n is one more than the number of lines where no line is `run 1` or the end is
+/// wanting. Of more than 134,217,728 bytes the first 134,217,729 are enough: what follows them changes no answer.
+pub fn judge(alloc: Global, bytes: &[u8]) -> Result<Verdict, TraceFault>
+    requires { length bytes.now ≤ 134217729 }
+    ensures verdict { IfOk result (λ v. IsVerdictOn v bytes.now) }
+    ensures fault { IfErr result (λ e. IsInputFault e bytes.now) }
+{
+    let (front, back, lines) = parts_of(bytes);
+    let trace = read_trace(alloc, front)?;
+    let run = run_behind(alloc, front.len(), lines, back)?;
+    match audit(alloc, &trace, &run) {
+        Ok(Verdict::Legal) => Ok(Verdict::Legal),
+        Ok(Verdict::Broken(clause, line)) => Ok(Verdict::Broken(clause, lines + line)),
+        Err(_) => Err(TraceFault::OutOfMemory),
+    }
+}

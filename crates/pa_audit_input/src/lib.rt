@@ -1,0 +1,12 @@
+//! The input of `audit`, a trace with a run behind it: where the run begins, the first faulty line, and the verdict.
+#![tactic(auto)]
+
+mod judging;
+mod laws;
+mod parts;
+mod run_part;
+#[cfg(test)]
+mod tests;
+
+pub use judging::judge;
+pub use laws::{early_audit_fault, one_audit_answer};

@@ -1,0 +1,43 @@
+-- What is proved of the records of a run in the order of its lines: the frame of the law that each run is played, and the lines
+-- that make no entry of a journal.
+use Rattle.std.specs.Prelude.{◌≡◌, ℕ, List, ◌∷◌, ◌++◌}
+use Rattle.pa_trace.specs.declared.script.Trace.{Trace}
+use Rattle.pa_trace.specs.Limits.{IsWithinLimits}
+use Rattle.pa_record.specs.declared.run.Run.{Run}
+use Rattle.pa_record.specs.declared.entry.Seen.{Seen}
+use Rattle.pa_record.specs.declared.entry.Answer.TheVariants.{Made, Full}
+use Rattle.pa_rules.specs.declared.played.Played.{Played}
+use Rattle.pa_rules.specs.Caches.{NoActs}
+use Rattle.pa_rules.specs.Told.{told_by, records_of}
+use Rattle.pa_rules.specs.Legal.{IsFileRun}
+use Rattle.pa_one_run.proofs.Legality.{parts_of}
+use Rattle.pa_core_run.specs.Playing.{HasCoreRun}
+use Rattle.pa_core_run.specs.Fronts.{CanBePlayed}
+
+-- where each record of a run in the order of its lines can be played, the run has a run of the core
+abbrev pub PlayedRecordsMakeARun : Type 0
+PlayedRecordsMakeARun =
+    (t : Trace) (r : Run) → IsWithinLimits t → IsFileRun t r →
+    ((before : List Played) (x : Played) (rest : List Played) → records_of t (told_by r) ≡ before ++ x ∷ rest →
+    CanBePlayed (parts_of t (told_by r)) before x rest) → HasCoreRun t r
+
+-- Each record on a line without an entry of a journal can be played, whatever its op and its answer: a request that is too large or
+-- finds its register filled, an allocation from the thread's list, a copy, a reset or free, also where it returns the slot to a list,
+-- a write, a read, an exchange, and every look and refusal.
+abbrev pub QuietRecordsArePlayed : Type 0
+QuietRecordsArePlayed =
+    (t : Trace) (r : Run) → IsWithinLimits t → IsFileRun t r → (before : List Played) (x : Played) (rest : List Played) →
+    records_of t (told_by r) ≡ before ++ x ∷ rest → NoActs (told_by r).roots x.line → CanBePlayed (parts_of t (told_by r)) before x rest
+
+-- and so can each allocation that finds no room, whose entries leave the roots
+abbrev pub RefusedRecordsArePlayed : Type 0
+RefusedRecordsArePlayed =
+    (t : Trace) (r : Run) → IsWithinLimits t → IsFileRun t r → (before : List Played) (x : Played) (rest : List Played) (entry : ℕ) →
+    records_of t (told_by r) ≡ before ++ x ∷ rest → x.answer ≡ Full entry → CanBePlayed (parts_of t (told_by r)) before x rest
+
+-- And so can each allocation that made a slot: from the front of the thread's list, after a fill of it, or as a direct map. New titles
+-- are cut, and those that a fill takes, or the direct map's, come to the thread before the slot is issued.
+abbrev pub MadeRecordsArePlayed : Type 0
+MadeRecordsArePlayed =
+    (t : Trace) (r : Run) → IsWithinLimits t → IsFileRun t r → (before : List Played) (x : Played) (rest : List Played) (seen : Seen) (usable : ℕ) →
+    records_of t (told_by r) ≡ before ++ x ∷ rest → x.answer ≡ Made seen usable → CanBePlayed (parts_of t (told_by r)) before x rest

@@ -1,0 +1,38 @@
+-- What stands before a line, and the ledger that the core is to show then.
+use Rattle.std.specs.Prelude.{ℕ, zero, suc}
+use Rattle.pa_machine.specs.declared.word.SlotName.{SlotName}
+use Rattle.pa_record.specs.declared.history.Held.{Held}
+use Rattle.pa_rules.specs.declared.register.Reg.{Reg}
+use Rattle.pa_rules.specs.Registers.{AllRegs, reg_of}
+use Rattle.pa_rules.specs.Caches.{Caches}
+use Rattle.pa_rules.specs.Flow.{listed_times}
+use Rattle.pa_turns.specs.Shown.{owns, points, over}
+use Rattle.pa_core_run.specs.Ledger.{Ledger}
+
+-- the registers of all threads, what each cell holds, the threads' lists, and each slot's word and content
+pub record Standing : Type 0 where
+  pub regs : AllRegs
+  pub held : ℕ → Held
+  pub caches : Caches
+  pub word : SlotName → ℕ
+  pub content : SlotName → ℕ
+
+-- what an actor's registers have in all; those of actor 0 are the cells
+abbrev pub in_registers : (Reg → ℕ) → Standing → ℕ → ℕ
+in_registers f st zero = over 64 (λ k. f (reg_of (st.held k)))
+in_registers f st (suc k) = over 64 (λ r. f (st.regs k r))
+
+-- how often a thread's lists have the slot, over all partitions
+abbrev pub in_lists : ℕ → Standing → SlotName → ℕ → ℕ
+in_lists partitions st x zero = 0
+in_lists partitions st x (suc k) = over partitions (λ p. listed_times x (st.caches k p) 0 59)
+
+abbrev pub ledger_of : ℕ → Standing → Ledger
+ledger_of partitions st =
+    record {
+      own = λ k x. in_registers (owns x) st k;
+      ref = λ k x. in_registers (points x) st k;
+      free = λ k x. in_lists partitions st x k;
+      word = st.word;
+      content = st.content;
+    }

@@ -1,0 +1,18 @@
+use Rattle.std.proofs.Common.{◌∙◌, refl, sym}
+use Rattle.std.specs.Prelude.{None}
+use Rattle.pa_record.specs.declared.entry.Answer.TheVariants.{Nothing, SecondFree, StaleUse}
+use Rattle.pa_plays.specs.declared.register.Register.TheVariants.{Empty, Freed, Cleared}
+use Rattle.pa_plays.proofs.Refusing.{free_refuses}
+use Rattle.pa_heap.proofs.frees.free.Goals as goal
+
+pub returns-in-Empty-clause-is : goal.returns-in-Empty-clause-is
+returns-in-Empty-clause-is g c line =
+    free_refuses c.args.stock.now c.args.reg Empty Nothing c.kept.ensures.stock tt (sym c.in-Empty.is ∙ c.register.ensures) (refl, λ k. refl) line
+
+pub returns-in-Freed-clause-is : goal.returns-in-Freed-clause-is
+returns-in-Freed-clause-is g c line =
+    free_refuses c.args.stock.now c.args.reg Freed (SecondFree None) c.kept.ensures.stock tt (sym c.in-Freed.is ∙ c.register.ensures) (refl, λ k. refl) line
+
+pub returns-in-Cleared-clause-is : goal.returns-in-Cleared-clause-is
+returns-in-Cleared-clause-is g c line =
+    free_refuses c.args.stock.now c.args.reg Cleared (StaleUse None) c.kept.ensures.stock tt (sym c.in-Cleared.is ∙ c.register.ensures) (refl, λ k. refl) line

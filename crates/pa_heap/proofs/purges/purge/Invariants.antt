@@ -1,0 +1,11 @@
+use Rattle.std.proofs.Common.{◌≡◌, ◌*◌, ◌≤◌}
+use Rattle.pa_heap.proofs.Purged.{Purging}
+use Rattle.pa_heap.proofs.purges.purge.Given as goal
+
+-- so many partitions were purged
+abbrev pub invariant-loop-partition : goal.invariant-loop-partition
+invariant-loop-partition g l = record {
+  some : Purging l.line l.partition l.slots l.initial.stock l.stock;
+  few : l.slots ≤ 3776 * l.partition;
+  budget : l.stock.view.budget ≡ l.initial.stock.view.budget;
+}

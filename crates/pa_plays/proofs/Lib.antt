@@ -1,0 +1,12 @@
+pub mod Registers
+pub mod Seeing
+pub mod Touching
+pub mod Quiet
+pub mod Stocks
+pub mod Refusing
+pub mod Following
+pub mod Counting
+pub mod Weighing
+pub mod Entered
+pub mod Batches
+pub mod AskedFor

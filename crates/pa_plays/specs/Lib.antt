@@ -1,0 +1,7 @@
+pub mod Stocks
+pub mod Counts
+pub mod Workers
+pub mod Outcomes
+pub mod Entering
+pub mod Plays
+pub mod Following

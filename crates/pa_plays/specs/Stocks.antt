@@ -1,0 +1,151 @@
+-- What a worker has: a seat, registers, and lists of free slots; as contracts see it, and what is always true of it.
+use Rattle.std.specs.Prelude.{◌≡◌, ℕ, ◌+◌, ◌*◌, ◌%◌, ◌<◌, ◌≤◌, List, [], length, nat_lt, if◌then◌else◌, ◌⊎◌, Some, Contains, slice_index_or}
+use Rattle.std.specs.List.{sum_by}
+use Rattle.pa_machine.specs.declared.title.Title.{Title}
+use Rattle.pa_machine.specs.Titles.{same_title, IsWellFormed}
+use Rattle.pa_machine.specs.Holdings.{one}
+use Rattle.pa_record.specs.Spans.{name_of}
+use Rattle.pa_region.specs.declared.view.View.{View}
+use Rattle.pa_region.specs.Views.{free_of, own_of, ref_of, stake_of}
+use Rattle.pa_region.specs.Waiting.{unclean_of}
+use Rattle.pa_rules.specs.declared.register.Reg.{Reg}
+use Rattle.pa_rules.specs.declared.register.Reg.TheVariants as reg
+use Rattle.pa_rules.specs.Registers.{Regs}
+use Rattle.pa_rules.specs.Caches.{Cache}
+use Rattle.pa_buckets.specs.Bands.{limit_of}
+use Rattle.pa_cache.specs.Caches.{CacheList, IsCache}
+use Rattle.pa_cells.specs.declared.handle.Handle.{Handle}
+use Rattle.pa_cells.specs.Handles.{HasSeenMade}
+use Rattle.pa_root.specs.Handing.{numbered_by}
+use Rattle.pa_plays.specs.declared.register.Register.{Register}
+use Rattle.pa_plays.specs.declared.register.Register.TheVariants.{Empty, Own, Ref, Freed, Cleared}
+
+-- A worker's stock, as contracts see it: the number of its thread; how many partitions the run has; the view of its seat; its
+-- registers; and a cache for each of 4 partitions and 59 classes, those of partition 0 first.
+pub record StockValue : Type 0 where
+  pub thread : ℕ
+  pub partitions : ℕ
+  pub view : View
+  pub registers : List Register
+  pub caches : List CacheList
+
+-- what a register has; there are 64
+abbrev pub register_in : List Register → ℕ → Register
+register_in registers i = slice_index_or registers i Empty
+
+-- where the cache of a partition and a class stands
+abbrev pub cache_place : ℕ → ℕ → ℕ
+cache_place p class = 59 * p + class
+
+abbrev pub no_cache : CacheList
+no_cache = record { class = 0; titles = [] }
+
+-- its titles, front first; none of a class that isn't there
+abbrev pub titles_in : List CacheList → ℕ → ℕ → List Title
+titles_in caches p class = if nat_lt class 59 then (slice_index_or caches (cache_place p class) no_cache).titles else []
+
+-- A register, and a worker's registers, as the rules of a run have them.
+abbrev pub as_reg : Register → Reg
+as_reg Empty = reg.Empty
+as_reg (Own h) = reg.Own (name_of h.title)
+as_reg (Ref h) = reg.Ref (name_of h.title)
+as_reg Freed = reg.Freed
+as_reg Cleared = reg.Cleared
+
+abbrev pub regs_of : List Register → Regs
+regs_of registers i = as_reg (register_in registers i)
+
+-- a worker's lists, as the rules have them: each title at the number that the seat has seen
+abbrev pub listed_in : StockValue → Cache
+listed_in s p class = numbered_by s.view (titles_in s.caches p class)
+
+-- 1 where the register has the title's Own, or a Ref of it, else 0
+abbrev pub owns_one : Title → Register → ℕ
+owns_one t Empty = 0
+owns_one t (Own h) = one (same_title h.title t)
+owns_one t (Ref h) = 0
+owns_one t Freed = 0
+owns_one t Cleared = 0
+
+abbrev pub refs_one : Title → Register → ℕ
+refs_one t Empty = 0
+refs_one t (Own h) = 0
+refs_one t (Ref h) = one (same_title h.title t)
+refs_one t Freed = 0
+refs_one t Cleared = 0
+
+-- the register has this handle, or none
+abbrev pub HasHandleTo : Handle → Register → Type 0
+HasHandleTo h r = (r ≡ Own h) ⊎ (r ≡ Ref h)
+
+abbrev pub HasNoHandle : Register → Type 0
+HasNoHandle Empty = Unit {0}
+HasNoHandle (Own h) = ⊥
+HasNoHandle (Ref h) = ⊥
+HasNoHandle Freed = Unit {0}
+HasNoHandle Cleared = Unit {0}
+
+-- the view has seen how the slot was made of which the register has a handle
+abbrev pub IsMadeFor : View → Register → Type 0
+IsMadeFor v Empty = Unit {0}
+IsMadeFor v (Own h) = HasSeenMade h v
+IsMadeFor v (Ref h) = HasSeenMade h v
+IsMadeFor v Freed = Unit {0}
+IsMadeFor v Cleared = Unit {0}
+
+-- The handles. The seat has each Own and each Ref as often as registers have it, and no Own is unclean; and it has seen how
+-- each of their slots was made.
+pub record HoldsHandles (registers : List Register) (v : View) : Type 0 where
+  pub count : length registers ≡ 64
+  pub owns : (t : Title) → own_of v t ≡ sum_by (owns_one t) registers
+  pub refs : (t : Title) → ref_of v t ≡ sum_by (refs_one t) registers
+  pub clean : unclean_of v ≡ 0
+  pub made : (i : ℕ) → IsMadeFor v (register_in registers i)
+
+-- the slot of this title, as one of partition p and of the class
+abbrev pub listed_slot : ℕ → ℕ → Title → Handle
+listed_slot p class t = record { title = t; partition = p; class = Some class }
+
+-- The lists. None is longer than its class's limit. The seat has each listed title free, none is in two lists,
+-- and it has seen the fill that handed the slot out, of its partition and class; each title is well formed.
+pub record HoldsLists (caches : List CacheList) (v : View) : Type 0 where
+  pub count : length caches ≡ 236
+  pub sound : (k : ℕ) → IsCache (slice_index_or caches k no_cache)
+  pub classes : (p class : ℕ) → p < 4 → class < 59 → (slice_index_or caches (cache_place p class) no_cache).class ≡ class
+  pub few : (p class : ℕ) → length (titles_in caches p class) ≤ limit_of class
+  pub free : (p class : ℕ) (t : Title) → Contains (titles_in caches p class) t → 0 < free_of v t
+  pub apart : (p q class other : ℕ) (t : Title) → Contains (titles_in caches p class) t → Contains (titles_in caches q other) t →
+      (p ≡ q) × (class ≡ other)
+  pub made : (p class : ℕ) (t : Title) → Contains (titles_in caches p class) t → HasSeenMade (listed_slot p class t) v
+  pub well : (p class : ℕ) (t : Title) → Contains (titles_in caches p class) t → (words : ℕ) × IsWellFormed words t
+
+-- The stake. It is the thread's, or none while the worker has told.
+pub record HoldsStake (thread : ℕ) (v : View) : Type 0 where
+  pub small : thread < 16
+  pub only : (k : ℕ) → (k ≡ thread → ⊥) → stake_of v k ≡ 0
+
+-- What is always true of a worker's stock.
+pub record IsStock (s : StockValue) : Type 0 where
+  pub partitions : s.partitions ≤ 4
+  pub handles : HoldsHandles s.registers s.view
+  pub lists : HoldsLists s.caches s.view
+  pub stake : HoldsStake s.thread s.view
+
+-- A view with which a worker can begin: it has the thread's stake and no other, and no handle.
+pub record IsForThread (thread : ℕ) (v : View) : Type 0 where
+  pub stake : HoldsStake thread v
+  pub has : 0 < stake_of v thread
+  pub unused : (t : Title) → own_of v t + ref_of v t ≡ 0
+
+-- the worker's stock at the start: its registers and lists are empty
+pub record IsNewStock (thread partitions : ℕ) (v : View) (s : StockValue) : Type 0 where
+  pub thread_is : s.thread ≡ thread
+  pub partitions_are : s.partitions ≡ partitions
+  pub view : s.view ≡ v
+  pub registers : (i : ℕ) → register_in s.registers i ≡ Empty
+  pub lists : (p class : ℕ) → titles_in s.caches p class ≡ []
+
+-- these are the first so many lists of a worker at the start: of each class in turn, without titles
+pub record AreNoLists (count : ℕ) (caches : List CacheList) : Type 0 where
+  pub count_is : length caches ≡ count
+  pub each : (k : ℕ) → k < count → slice_index_or caches k no_cache ≡ record { class = k % 59; titles = [] }

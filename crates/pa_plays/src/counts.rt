@@ -1,0 +1,14 @@
+use pa_record::Tally;
+
+/// What the steps of a worker did with the slots of one partition.
+#[derive(Clone, Copy, Debug, PartialEq, Eq)]
+pub struct Count {
+    /// The slots that it made live.
+    pub issued: Tally,
+    /// Those that it freed.
+    pub freed: Tally,
+    /// Those that it freed while `raw_ptr`s pointed to them.
+    pub entered: Tally,
+    /// Those that were freed, and of which it reset the last `raw_ptr`.
+    pub left: Tally,
+}
