@@ -7,7 +7,7 @@ ghost use Rattle.pa_audit.specs.Lined.{CanBeAudited, HasLines32, TellsLine};
 ghost use Rattle.pa_audit.specs.Placed.{TellsPlace};
 
 use crate::places::line_where;
-use pa_audit_records::{exchanges_meet, swaps_meet};
+use pa_audit_records::{Salt, exchanges_meet, swaps_meet};
 use pa_machine::OutOfMemory;
 use pa_record::Run;
 use pa_rules::{Place, Played};
@@ -17,6 +17,7 @@ use std::alloc::Global;
 /// The first line at which an exchange isn't right: a record's that doesn't name its own, or one of a cell's history.
 pub fn cells_fail(
     alloc: Global,
+    salt: Salt,
     trace: &Trace,
     run: &Run,
     records: &[Played],
@@ -24,12 +25,17 @@ pub fn cells_fail(
     requires { CanBeAudited clauses.Cells trace.now run.now records.now }
     ensures { IfOk result (TellsLine clauses.Cells trace.now run.now) }
 {
-    let place = first_place(alloc, run, records)?;
+    let place = first_place(alloc, salt, run, records)?;
     Ok(line_where(run, place))
 }
 
 // The first place at which the cells aren't right.
-fn first_place(alloc: Global, run: &Run, records: &[Played]) -> Result<Option<Place>, OutOfMemory>
+fn first_place(
+    alloc: Global,
+    salt: Salt,
+    run: &Run,
+    records: &[Played],
+) -> Result<Option<Place>, OutOfMemory>
     requires few { length records.now < 65536 }
     requires rising { RiseByLine records.now }
     requires cells { length run.now.cells.items ≤ 64 }
@@ -40,7 +46,7 @@ fn first_place(alloc: Global, run: &Run, records: &[Played]) -> Result<Option<Pl
     match swaps_meet(records, cells) {
         Some(at) => Ok(Some(Place::Record(at))),
         None => {
-            let first = exchanges_meet(alloc, records, cells)?;
+            let first = exchanges_meet(alloc, salt, records, cells)?;
             match first {
                 Some((cell, at)) => Ok(Some(Place::Cell(cell, at as u32))),
                 None => Ok(None),

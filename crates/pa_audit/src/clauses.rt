@@ -10,7 +10,7 @@ use crate::holders::{caches_fail, holders_fail};
 use crate::order::{contents_fail, seen_fails};
 use crate::records::{lines_fail, registers_fail, slots_fail};
 use crate::report::report_fails;
-use pa_audit_records::records_of;
+use pa_audit_records::{Salt, records_of};
 use pa_machine::OutOfMemory;
 use pa_record::Run;
 use pa_rules::{Clause, Played, Verdict};
@@ -30,9 +30,10 @@ pub fn audit(alloc: Global, trace: &Trace, run: &Run) -> Result<Verdict, OutOfMe
     ensures { IfOk result (λ v. IsVerdict v trace.now run.now) }
 {
     let records = records_of(alloc, trace.lines.as_slice(), run.entries.as_slice())?;
+    let salt = Salt::of(records.as_slice(), run.roots.as_slice());
     for at in 0..CLAUSES {
         let clause = clause_of(at);
-        match clause_fails(alloc, trace, run, records.as_slice(), clause)? {
+        match clause_fails(alloc, salt, trace, run, records.as_slice(), clause)? {
             Some(line) => return Ok(Verdict::Broken(clause, line)),
             None => {}
         }
@@ -65,6 +66,7 @@ fn clause_of(at: u32) -> Clause
 // The first line at which a clause fails, where those before it hold.
 fn clause_fails(
     alloc: Global,
+    salt: Salt,
     trace: &Trace,
     run: &Run,
     records: &[Played],
@@ -75,9 +77,9 @@ fn clause_fails(
 {
     match clause {
         Clause::Lines => Ok(lines_fail(trace, run)),
-        Clause::Cells => cells_fail(alloc, trace, run, records),
-        Clause::Registers => registers_fail(alloc, trace, run, records),
-        Clause::Slots => slots_fail(alloc, trace, run, records),
+        Clause::Cells => cells_fail(alloc, salt, trace, run, records),
+        Clause::Registers => registers_fail(alloc, salt, trace, run, records),
+        Clause::Slots => slots_fail(alloc, salt, trace, run, records),
         Clause::Contents => contents_fail(alloc, trace, run, records),
         Clause::Pool => pool_fails(alloc, trace, run, records),
         Clause::Roots => roots_fail(alloc, trace, run, records),
@@ -85,9 +87,9 @@ fn clause_fails(
             titles_never_fail();
             Ok(None)
         }
-        Clause::Holders => holders_fail(alloc, trace, run, records),
-        Clause::Caches => caches_fail(alloc, trace, run, records),
-        Clause::Seen => seen_fails(alloc, trace, run, records),
-        Clause::Report => report_fails(alloc, trace, run, records),
+        Clause::Holders => holders_fail(alloc, salt, trace, run, records),
+        Clause::Caches => caches_fail(alloc, salt, trace, run, records),
+        Clause::Seen => seen_fails(alloc, salt, trace, run, records),
+        Clause::Report => report_fails(alloc, salt, trace, run, records),
     }
 }

@@ -4,6 +4,7 @@ ghost use Rattle.pa_audit.specs.Lined.{CanBeAudited, TellsLine};
 
 use crate::records::record_line;
 use pa_audit_order::{contents_meet, seen_meets};
+use pa_audit_records::Salt;
 use pa_machine::OutOfMemory;
 use pa_record::Run;
 use pa_rules::Played;
@@ -27,6 +28,7 @@ pub fn contents_fail(
 /// The first line at which a record is before itself, or saw less of its slot than a record that is before it left.
 pub fn seen_fails(
     alloc: Global,
+    salt: Salt,
     trace: &Trace,
     run: &Run,
     records: &[Played],
@@ -34,6 +36,6 @@ pub fn seen_fails(
     requires { CanBeAudited clauses.Seen trace.now run.now records.now }
     ensures { IfOk result (TellsLine clauses.Seen trace.now run.now) }
 {
-    let at = seen_meets(alloc, records, run.cells.as_slice())?;
+    let at = seen_meets(alloc, salt, records, run.cells.as_slice())?;
     Ok(record_line(at))
 }

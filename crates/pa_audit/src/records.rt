@@ -4,7 +4,7 @@ ghost use Rattle.pa_trace.specs.Limits.{IsWithinLimits};
 ghost use Rattle.pa_rules.specs.declared.verdict.Clause.TheVariants as clauses;
 ghost use Rattle.pa_audit.specs.Lined.{CanBeAudited, HasLines32, TellsLine};
 
-use pa_audit_records::{lines_meet, records_are_within, registers_meet, slots_meet};
+use pa_audit_records::{Salt, lines_meet, records_are_within, registers_meet, slots_meet};
 use pa_machine::OutOfMemory;
 use pa_record::Run;
 use pa_rules::Played;
@@ -34,6 +34,7 @@ pub fn lines_fail(trace: &Trace, run: &Run) -> Option<u32>
 /// The first line at which a record's answer isn't one that its thread's registers ask for.
 pub fn registers_fail(
     alloc: Global,
+    salt: Salt,
     trace: &Trace,
     run: &Run,
     records: &[Played],
@@ -42,13 +43,14 @@ pub fn registers_fail(
     ensures { IfOk result (TellsLine clauses.Registers trace.now run.now) }
 {
     records_are_within();
-    let at = registers_meet(alloc, records, run.cells.as_slice())?;
+    let at = registers_meet(alloc, salt, records, run.cells.as_slice())?;
     Ok(record_line(at))
 }
 
 /// The first line at which a record found a word that isn't of its slot's run, or made another step than the run.
 pub fn slots_fail(
     alloc: Global,
+    salt: Salt,
     trace: &Trace,
     run: &Run,
     records: &[Played],
@@ -56,6 +58,6 @@ pub fn slots_fail(
     requires { CanBeAudited clauses.Slots trace.now run.now records.now }
     ensures { IfOk result (TellsLine clauses.Slots trace.now run.now) }
 {
-    let at = slots_meet(alloc, records)?;
+    let at = slots_meet(alloc, salt, records)?;
     Ok(record_line(at))
 }

@@ -5,6 +5,7 @@ ghost use Rattle.pa_rules.specs.declared.verdict.Place.TheVariants as places;
 ghost use Rattle.pa_audit.specs.Lined.{CanBeAudited, TellsLine};
 
 use crate::places::line_where;
+use pa_audit_records::Salt;
 use pa_audit_report::report_meets;
 use pa_machine::OutOfMemory;
 use pa_record::Run;
@@ -16,6 +17,7 @@ use std::alloc::Global;
 /// missing.
 pub fn report_fails(
     alloc: Global,
+    salt: Salt,
     trace: &Trace,
     run: &Run,
     records: &[Played],
@@ -23,7 +25,7 @@ pub fn report_fails(
     requires { CanBeAudited clauses.Report trace.now run.now records.now }
     ensures { IfOk result (TellsLine clauses.Report trace.now run.now) }
 {
-    let at = report_meets(alloc, trace, run, records)?;
+    let at = report_meets(alloc, salt, trace, run, records)?;
     Ok(line_where(run, report_place(at)))
 }
 

@@ -1,10 +1,7 @@
 -- The table of the slots' homes, slot by slot.
-use Rattle.std.proofs.Common.{◌≡◌, ℕ, ◌+◌, ◌<◌, ◌≤◌, false, List, [], ◌∷◌, ◌++◌, get_or, length, take, Option, Some, None, refl, sym, ◌∙◌, ap, subst, arith, inl, inr}
+use Rattle.std.proofs.Common.{◌≡◌, ℕ, ◌+◌, ◌<◌, ◌≤◌, List, [], ◌∷◌, ◌++◌, get_or, length, take, Option, Some, None, refl, sym, ◌∙◌, ap, subst, arith, inl, inr}
 use Rattle.std.specs.Prelude.{Contains, IsSome, slice_get}
-use Rattle.std.specs.Ordering.{nat_cmp, is_eq}
-use Rattle.std.proofs.lemmas.Bool.{cases_eq, cases_lt, cases_order, false≢true}
-use Rattle.std.specs.Cmp.{nat_cmp_is}
-use Rattle.std.specs.declared.cmp.Ordering.TheVariants.{Less, Greater}
+use Rattle.std.proofs.lemmas.Bool.{cases_eq, cases_lt, false≢true}
 use Rattle.std.proofs.lemmas.List.{get_or-map, get_or_past, length-map, map-append, take_more}
 use Rattle.std.proofs.lemmas.List.Elements.{Contains-push_cases}
 use Rattle.std.proofs.lemmas.Option.{slice_get_within, slice_get-get_or}
@@ -16,26 +13,12 @@ use Rattle.pa_record.specs.Root.{names}
 use Rattle.pa_record.proofs.Members.{first_in, not_in_none, of_some, not_some}
 use Rattle.pa_rules.specs.Roots.{Journals, IsEntry, journal_at}
 use Rattle.pa_audit_records.specs.Keys.{name_key}
+use Rattle.pa_audit_records.specs.Tables.{Puts}
 use Rattle.pa_audit_records.proofs.Putting.{same_key}
 use Rattle.pa_audit_holders.specs.declared.homes.Home.{Home}
 use Rattle.pa_audit_holders.specs.Homes.{KnowsHomes, EntersSlots, HasAbove, HasAll, HasHomes, IsHomeless, IsHomeOf}
 
-pub apart_test : (k q : ℕ) → (k ≡ q → ⊥) → is_eq (nat_cmp k q) ≡ false
-apart_test k q apart = elim (cases_order k q) [
-  | inl same ↦ absurd (apart same)
-  | inr (inl less) ↦ ap is_eq (sym (nat_cmp_is k q Less less))
-  | inr (inr more) ↦ ap is_eq (sym (nat_cmp_is k q Greater more))
-]
-
--- a home more at a slot's number
-pub record PutsHome (f g : ℕ → Option Home) (k : ℕ) (h : Home) : Type 0 where
-  pub here : g k ≡ Some h
-  pub other : (q : ℕ) → (q ≡ k → ⊥) → g q ≡ f q
-
-pub put_home : (f g : ℕ → Option Home) (k : ℕ) (h : Home) → g k ≡ Some h → ((q : ℕ) → is_eq (nat_cmp k q) ≡ false → g q ≡ f q) → PutsHome f g k h
-put_home f g k h here other = record { here = here; other = λ q apart. other q (apart_test k q (λ e. apart (sym e))) }
-
-pub homes_more : (roots : Journals) (f g : ℕ → Option Home) (s : SlotName) (h : Home) → HasHomes roots f → s.start < 4294967296 → IsHomeOf roots s h → PutsHome f g (name_key s) h → HasHomes roots g
+pub homes_more : (roots : Journals) (f g : ℕ → Option Home) (s : SlotName) (h : Home) → HasHomes roots f → s.start < 4294967296 → IsHomeOf roots s h → Puts f g (name_key s) h → HasHomes roots g
 homes_more roots f g s h homes low home puts k v at = elim (cases_eq k (name_key s)) [
   | inl same ↦
       let one : h ≡ v = of_some h v (sym puts.here ∙ ap g (sym same) ∙ at) in
@@ -46,7 +29,7 @@ homes_more roots f g s h homes low home puts k v at = elim (cases_eq k (name_key
 some_of : (o p : Option Home) → p ≡ o → IsSome o → IsSome p
 some_of o p e h = subst (λ z. IsSome z) (sym e) h
 
-pub kept_put : (f g : ℕ → Option Home) (k q : ℕ) (h : Home) → PutsHome f g k h → IsSome (f q) → IsSome (g q)
+pub kept_put : (f g : ℕ → Option Home) (k q : ℕ) (h : Home) → Puts f g k h → IsSome (f q) → IsSome (g q)
 kept_put f g k q h puts some = elim (cases_eq q k) [
   | inl same ↦ some_of (Some h) (g q) (ap g same ∙ puts.here) refl
   | inr other ↦ some_of (f q) (g q) (puts.other q other) some
@@ -58,7 +41,7 @@ in_one s t among = elim (Contains-push_cases [] s t among) [
   | inr same ↦ same
 ]
 
-pub entered_one : (f g : ℕ → Option Home) (s : SlotName) (h : Home) → s.start < 4294967296 → PutsHome f g (name_key s) h → EntersSlots f g (s ∷ [])
+pub entered_one : (f g : ℕ → Option Home) (s : SlotName) (h : Home) → s.start < 4294967296 → Puts f g (name_key s) h → EntersSlots f g (s ∷ [])
 entered_one f g s h low puts = record {
   kept = λ q some. kept_put f g (name_key s) q h puts some;
   has = λ t among. (

@@ -22,7 +22,7 @@ use Rattle.pa_audit_holders.specs.Homes.{HasOneHome, IsHomeless}
 use Rattle.pa_audit_holders.specs.Lists.{cache_in, caches_in}
 use Rattle.pa_audit_holders.proofs.Listing.{caches_set}
 use Rattle.pa_audit_holders.proofs.Caching.{filled_one}
-use Rattle.pa_audit_holders.specs.Rows.{BackRow, ClassRow, NamesPartition, TellsNext, TellsRow}
+use Rattle.pa_audit_holders.specs.Rows.{BackRow, ClassRow, NamesPartition, TellsFilled, TellsNext, TellsRow}
 
 -- an op that asks for a class or a direct map names one of the four partitions
 pub class_within : (op : Op) (p class : ℕ) → NamesPartition op → AsksForClass op p class → p < 4
@@ -213,6 +213,18 @@ pub class_other : (roots : Journals) (line p class : ℕ) (seen : Seen) (cache :
 class_other roots line p class seen cache list xs there filled other next (ys, rest, filled', front, becomes) =
     let same : ys ≡ xs = filled_one roots line p class list ys xs (subst (λ z. FilledFirst roots line p class z ys) (sym there) filled') filled in
     other rest (sym same ∙ front)
+
+-- what a look for the list from which a slot is taken tells
+pub filled_is : (IsAsked : List Numbered → Type 0) (xs : List Numbered) (b : Bool) → TellsFilled IsAsked xs b → b ≡ true → IsAsked xs
+filled_is IsAsked xs b told fits = subst (TellsFilled IsAsked xs) fits told
+
+pub filled_not : (IsAsked : List Numbered → Type 0) (xs : List Numbered) (b : Bool) → TellsFilled IsAsked xs b → b ≡ false → (ys : List Numbered) → IsAsked ys → ⊥
+filled_not IsAsked xs b told misfits = subst (TellsFilled IsAsked xs) misfits told
+
+pub front_drop : (seen : Seen) (xs rest : List Numbered) → FrontIs seen xs rest → FrontIs seen xs (drop 1 xs)
+front_drop seen xs rest front =
+    let head : Numbered = record { slot = seen.slot; number = number_of seen.found.0 } in
+    subst (λ (ys : List Numbered). xs ≡ head ∷ ys) (sym (ap (drop 1) front)) front
 
 -- ---- a thread's row among all threads
 

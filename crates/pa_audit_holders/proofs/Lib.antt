@@ -1,6 +1,7 @@
 pub mod Caching
 pub mod Listing
 pub mod Summing
+pub mod Clearing
 pub mod Giving
 pub mod Indexing
 pub mod Housing

@@ -18,6 +18,23 @@ with_other cache p class q c xs other = elim (cases_eq q p) [
   | inr ne ↦ rw (ne_eqb q p ne) refl
 ]
 
+-- a list that was changed before
+pub with_again : (cache before after : Cache) (p class : ℕ) (xs ys : List Numbered) → before ≡ with_list cache p class xs → after ≡ with_list before p class ys → after ≡ with_list cache p class ys
+with_again cache before after p class xs ys first second = second ∙ (λ i q c. at q c i)
+  where
+    at : (q c : ℕ) → with_list before p class ys q c ≡ with_list cache p class ys q c
+    at q c = elim (cases_eq q p) [
+      | inl same ↦ elim (cases_eq c class) [
+        | inl here ↦ with_here before p class q c ys same here ∙ sym (with_here cache p class q c ys same here)
+        | inr ne ↦ elsewhere q c (λ e f. ne f)
+      ]
+      | inr ne ↦ elsewhere q c (λ e f. ne e)
+    ]
+      where
+        elsewhere : (q c : ℕ) → ((q ≡ p) → (c ≡ class) → ⊥) → with_list before p class ys q c ≡ with_list cache p class ys q c
+        elsewhere q c other =
+            with_other before p class q c ys other ∙ ap (λ (z : Cache). z q c) first ∙ with_other cache p class q c xs other ∙ sym (with_other cache p class q c ys other)
+
 -- ---- the table
 
 pub listed : (lists : List (List Numbered)) (p c : ℕ) → c < 59 → cache_in lists p c ≡ get_or lists (59 * p + c) []

@@ -1,7 +1,6 @@
 -- Who holds a free slot at a number, move by move.
 use Rattle.std.proofs.Common.{◌≡◌, ℕ, ◌+◌, ◌<◌, ◌≤◌, ◌↔◌, true, false, List, [], ◌∷◌, ◌++◌, get_or, length, Option, Some, None, refl, sym, ◌∙◌, ap, subst, arith, ◌⊎◌, inl, inr}
 use Rattle.std.specs.Prelude.{Contains, filter, slice_get}
-use Rattle.std.specs.Ordering.{nat_cmp, is_eq}
 use Rattle.std.proofs.lemmas.Bool.{cases_eq, cases_lt, eq-eqb, ne_eqb}
 use Rattle.std.proofs.lemmas.List.{append-nil, get_or_default}
 use Rattle.std.proofs.lemmas.Option.{slice_get-get_or, get_or_from_slice_get}
@@ -27,8 +26,7 @@ use Rattle.pa_audit_holders.specs.declared.owners.Course.{Course}
 use Rattle.pa_audit_holders.specs.declared.owners.Course.TheVariants.{Out, Back}
 use Rattle.pa_audit_holders.specs.declared.owners.Owner.{Owner}
 use Rattle.pa_audit_holders.specs.declared.owners.Owner.TheVariants.{Nobody, Root, Thread}
-use Rattle.pa_audit_holders.specs.Owners.{AreOfRuns, EntersReturn, MoveFits, HasOwners, HasReturned, HasReturns, HasReturnsTo, HolderNow, IsNeeded, PutsOwner, TellsOwner, TellsThread, made_owner, move_on, needed_owner, owner_after, way_of}
-use Rattle.pa_audit_holders.proofs.Housing.{apart_test}
+use Rattle.pa_audit_holders.specs.Owners.{AreOfRuns, EntersReturn, MoveFits, HasOwners, HasReturned, HasReturns, HasReturnsTo, HolderNow, IsNeeded, TellsOwner, TellsThread, made_owner, move_on, needed_owner, owner_after, way_of}
 use Rattle.pa_verdict.proofs.Lists.{in_at}
 use Rattle.pa_verdict.proofs.Runs.{same_run}
 
@@ -153,11 +151,8 @@ owner_moved ps own line (Some thread) course slot Root (x, of, same) now =
 owner_moved ps own line (Some thread) course slot (Thread t) (x, of, same) now =
     tells_after ps (own ++ move_on line course slot ∷ []) slot.slot slot.number line thread course x same (moved ps own slot.slot slot.number (WithThread t) (move_on line course slot) x now of)
 
-pub put_owner : (f g : ℕ → Option Owner) (k : ℕ) (o : Owner) → g k ≡ Some o → ((q : ℕ) → is_eq (nat_cmp k q) ≡ false → g q ≡ f q) → PutsOwner f g k o
-put_owner f g k o here other = record { here = here; other = λ q apart. other q (apart_test k q (λ e. apart (sym e))) }
-
 pub owners_more : (ps : List Played) (ms : List Move) (f g : ℕ → Option Owner) (line : ℕ) (thread : Option ℕ) (course : Course) (slot : Numbered) (held : Owner) → IsSized slot.slot slot.number → TellsThread ps line thread
-    → TellsOwner ps (filter (is_move_of slot.slot slot.number) ms) slot.slot slot.number held → PutsOwner f g (word_key slot.slot slot.number) (made_owner held course thread) → HasOwners ps ms f
+    → TellsOwner ps (filter (is_move_of slot.slot slot.number) ms) slot.slot slot.number held → Puts f g (word_key slot.slot slot.number) (made_owner held course thread) → HasOwners ps ms f
     → HasOwners ps (ms ++ move_on line course slot ∷ []) g
 owners_more ps ms f g line thread course slot held within of tells puts h =
     let m = move_on line course slot in

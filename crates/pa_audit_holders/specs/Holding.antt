@@ -1,7 +1,6 @@
 -- What is known of a journal's slots, and who holds a slot after all journals.
 use Rattle.std.specs.Prelude.{◌≡◌, ℕ, ◌<◌, List, [], Option, Some, None, length, slice_get, slice_index_or, take}
-use Rattle.std.specs.Ordering.{nat_cmp}
-use Rattle.std.specs.BTreeMap.{get}
+use Rattle.pa_audit_records.specs.ByKeys.{value_at}
 use Rattle.pa_machine.specs.declared.word.SlotName.{SlotName}
 use Rattle.pa_machine.specs.Count.{number_of}
 use Rattle.pa_machine.specs.Run.{Mark}
@@ -34,8 +33,8 @@ EntryMovesFitAt ps journal j = (e : RootEntry) → slice_get journal j ≡ Some 
 
 -- the table has the owners of the slots that a journal moves, and the direct maps that it took away
 pub record KnowsJournal (ps : List Played) (journal : List RootEntry) (t : Table) : Type 0 where
-  pub owners : HasOwners ps (all_moves journal) (get nat_cmp t.owners)
-  pub gone : HasGone journal (get nat_cmp t.gone)
+  pub owners : HasOwners ps (all_moves journal) (value_at t.owners)
+  pub gone : HasGone journal (value_at t.gone)
 
 -- so for each journal
 pub record HaveTables (ps : List Played) (roots : List (List RootEntry)) (tables : List Table) : Type 0 where

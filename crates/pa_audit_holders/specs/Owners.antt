@@ -93,11 +93,6 @@ abbrev pub IsNeeded : Owner → Course → Option ℕ → Type 0
 IsNeeded held course None = ⊥
 IsNeeded held course (Some thread) = held ≡ needed_owner course thread
 
--- key k has this owner now, the others what they had
-pub record PutsOwner (f g : ℕ → Option Owner) (k : ℕ) (o : Owner) : Type 0 where
-  pub here : g k ≡ Some o
-  pub other : (q : ℕ) → (q ≡ k → ⊥) → g q ≡ f q
-
 -- the table has what it had, and the thread of the record where its step returned a slot
 pub record EntersReturn (x : Played) (f g : ℕ → Option ℕ) : Type 0 where
   pub hit : (s : SlotName) (k t : ℕ) → IsSized s k → g (word_key s k) ≡ Some t → (f (word_key s k) ≡ Some t) ⊎ (HasReturned x s k × (t ≡ x.thread))
@@ -110,10 +105,6 @@ pub record EntersReturn (x : Played) (f g : ℕ → Option ℕ) : Type 0 where
 abbrev pub TellsThread : List Played → ℕ → Option ℕ → Type 0
 TellsThread ps line None = (x : Played) → IsOfLine ps line x → ⊥
 TellsThread ps line (Some t) = IsThreadsLine ps line t
-
--- the table tells the thread of each line
-abbrev pub HasThreads : List Played → (ℕ → Option ℕ) → Type 0
-HasThreads ps at = (line : ℕ) → TellsThread ps line (at line)
 
 -- what is known of the records: each has a line of its own, and those of a slot are of one run
 pub record AreOfRuns (ps : List Played) : Type 0 where

@@ -13,6 +13,11 @@ abbrev pub TellsRow : (Cache → Type 0) → Cache → Bool → Type 0
 TellsRow Row after true = Row after
 TellsRow Row after false = (next : Cache) → Row next → ⊥
 
+-- this is the list that is asked for; or there is none
+abbrev pub TellsFilled : (List Numbered → Type 0) → List Numbered → Bool → Type 0
+TellsFilled IsAsked xs true = IsAsked xs
+TellsFilled IsAsked xs false = (ys : List Numbered) → IsAsked ys → ⊥
+
 -- a slot of this class was made: the front leaves its list
 abbrev pub ClassRow : Journals → ℕ → ℕ → ℕ → Seen → Cache → Cache → Type 0
 ClassRow roots line p class seen cache after =

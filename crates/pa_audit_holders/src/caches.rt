@@ -1,6 +1,5 @@
 ghost use Rattle.std.specs.Prelude.{◌≡◌, ℕ, ◌<◌, ◌≤◌, ◌^◌, All, IfOk, length, slice_index_or};
-ghost use Rattle.std.specs.Ordering.{nat_cmp};
-ghost use Rattle.std.specs.BTreeMap.{get};
+ghost use Rattle.pa_audit_records.specs.ByKeys.{value_at};
 ghost use Rattle.pa_machine.specs.declared.word.SlotName.{SlotName as Name};
 ghost use Rattle.pa_rules.specs.declared.verdict.Place.TheVariants as places;
 ghost use Rattle.pa_rules.specs.Roots.{journal_at};
@@ -16,11 +15,11 @@ use crate::homes::{Home, homes_of};
 use crate::lines::{ByLine, lines_of};
 use crate::lists::ThreadLists;
 use crate::rows::plays;
+use pa_audit_records::{ByKey, Salt};
 use pa_machine::OutOfMemory;
 use pa_record::Journal;
 use pa_rules::Played;
 use std::alloc::Global;
-use std::collections::BTreeMap;
 
 // The most threads of a trace.
 const THREADS: u32 = 16;
@@ -30,6 +29,7 @@ const THREADS: u32 = 16;
 /// one partition, and of one class or a direct map.
 pub fn caches_meet(
     alloc: Global,
+    salt: Salt,
     partitions: u32,
     records: &[Played],
     roots: &[Journal],
@@ -43,7 +43,7 @@ pub fn caches_meet(
     ensures { IfOk result (TellsFirst (λ i. CachesDemand partitions (journal_at roots.now) records.now (places.Record i))) }
 {
     let lines = lines_of(alloc, lines_below(records), roots)?;
-    let homes = homes_of(alloc, roots)?;
+    let homes = homes_of(alloc, salt, roots)?;
     let mut caches = no_lists(alloc)?;
     let mut at: u32 = 0;
     for record in records {
@@ -94,14 +94,14 @@ pub fn play(
     partitions: u32,
     roots: &[Journal],
     lines: &[ByLine],
-    homes: &BTreeMap<u64, Home>,
+    homes: &ByKey<Home>,
     told: Played,
     caches: &mut Vec<ThreadLists>,
 ) -> Result<bool, OutOfMemory>
     requires partitions { partitions ≤ 4 }
     requires four { length roots.now ≤ 4 }
     requires known { KnowsLine roots.now lines.now told.line }
-    requires homes { KnowsHomes (journal_at roots.now) (get nat_cmp homes.now) }
+    requires homes { KnowsHomes (journal_at roots.now) (value_at homes.now) }
     requires kinds { (s : Name) → HasOneHome (journal_at roots.now) s }
     requires within { IsOfThreads told }
     requires threads { length caches.old.items ≡ 16 }

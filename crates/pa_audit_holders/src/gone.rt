@@ -1,50 +1,33 @@
 ghost use Rattle.std.specs.Prelude.{◌≡◌, ℕ, ◌+◌, ◌<◌, ◌↔◌, [], ◌∷◌, ◌++◌, IfNone, IfSome, IsTrue, List, OnOk, take};
-ghost use Rattle.std.specs.Ordering.{nat_cmp};
-ghost use Rattle.std.specs.BTreeMap.{get};
+ghost use Rattle.pa_audit_records.specs.ByKeys.{value_at};
 ghost use Rattle.pa_record.specs.declared.root.RootAct.TheVariants as acts;
 ghost use Rattle.pa_record.specs.declared.numbered.Numbered.{Numbered as Slot};
 ghost use Rattle.pa_record.specs.declared.root.RootEntry.{RootEntry as Line};
 ghost use Rattle.pa_audit_records.specs.Keys.{name_key};
-ghost use Rattle.pa_audit_records.specs.Tables.{Puts};
 ghost use Rattle.pa_audit_holders.specs.Gone.{HasGone, IsUnmapped, NoneGone, lesser_of};
 
 use crate::homes::key;
+use pa_audit_records::ByKey;
 use pa_machine::{OutOfMemory, SlotName};
 use pa_record::{Numbered, RootAct, RootEntry};
-use std::collections::BTreeMap;
-
-// What stands at a key.
-fn find(gone: &BTreeMap<u64, u64>, key: u64) -> Option<u64>
-    ensures { result ≡ get nat_cmp gone.now key }
-{
-    gone.get(&key).copied()
-}
-
-// Sets a key.
-fn put(gone: &mut BTreeMap<u64, u64>, key: u64, number: u64) -> Result<(), OutOfMemory>
-    ensures { OnOk result (Puts (get nat_cmp gone.old) (get nat_cmp gone.new) key number) }
-{
-    gone.insert(key, number)?;
-    Ok(())
-}
 
 // Whether the table has the slot.
-fn has(gone: &BTreeMap<u64, u64>, slot: SlotName) -> bool
-    ensures { (before : List Line) → HasGone before (get nat_cmp gone.now)
+fn has(gone: &ByKey<u64>, slot: SlotName) -> bool
+    ensures { (before : List Line) → HasGone before (value_at gone.now)
         → IsTrue result ↔ ((n : ℕ) × IsUnmapped before slot n) }
 {
-    match find(gone, key(slot)) {
+    match gone.find(key(slot)) {
         Some(_number) => true,
         None => false,
     }
 }
 
 // Whether the number is below all at which an entry took the slot away.
-pub(crate) fn is_there(gone: &BTreeMap<u64, u64>, slot: Numbered) -> bool
-    ensures { (before : List Line) → HasGone before (get nat_cmp gone.now)
+pub(crate) fn is_there(gone: &ByKey<u64>, slot: Numbered) -> bool
+    ensures { (before : List Line) → HasGone before (value_at gone.now)
         → IsTrue result ↔ ((n : ℕ) → IsUnmapped before slot.slot n → slot.number < n) }
 {
-    match find(gone, key(slot.slot)) {
+    match gone.find(key(slot.slot)) {
         Some(least) => is_below(slot.number, least),
         None => true,
     }
@@ -57,8 +40,8 @@ fn is_below(number: u64, other: u64) -> bool
 }
 
 // Whether the table has none of the slots.
-pub(crate) fn none_gone(gone: &BTreeMap<u64, u64>, slots: &[Numbered]) -> bool
-    ensures { (before : List Line) → HasGone before (get nat_cmp gone.now) → IsTrue result ↔ NoneGone before slots.now }
+pub(crate) fn none_gone(gone: &ByKey<u64>, slots: &[Numbered]) -> bool
+    ensures { (before : List Line) → HasGone before (value_at gone.now) → IsTrue result ↔ NoneGone before slots.now }
 {
     for slot in slots {
         if has(gone, slot.slot) {
@@ -80,12 +63,9 @@ fn unmapped(act: &RootAct) -> Option<Numbered>
 }
 
 // Enters the slot that an entry takes away for good.
-pub(crate) fn enter_gone(
-    gone: &mut BTreeMap<u64, u64>,
-    entry: &RootEntry,
-) -> Result<(), OutOfMemory>
-    ensures { OnOk result ((before : List Line) → HasGone before (get nat_cmp gone.old)
-        → HasGone (before ++ entry.now ∷ []) (get nat_cmp gone.new)) }
+pub(crate) fn enter_gone(gone: &mut ByKey<u64>, entry: &RootEntry) -> Result<(), OutOfMemory>
+    ensures { OnOk result ((before : List Line) → HasGone before (value_at gone.old)
+        → HasGone (before ++ entry.now ∷ []) (value_at gone.new)) }
 {
     match unmapped(&entry.act) {
         Some(slot) => enter_unmapped(gone, entry, slot),
@@ -94,17 +74,17 @@ pub(crate) fn enter_gone(
 }
 
 fn enter_unmapped(
-    gone: &mut BTreeMap<u64, u64>,
+    gone: &mut ByKey<u64>,
     entry: &RootEntry,
     slot: Numbered,
 ) -> Result<(), OutOfMemory>
     requires { (asked : ℕ) × (entry.now.act ≡ acts.Unmap asked slot) }
-    ensures { OnOk result ((before : List Line) → HasGone before (get nat_cmp gone.old)
-        → HasGone (before ++ entry.now ∷ []) (get nat_cmp gone.new)) }
+    ensures { OnOk result ((before : List Line) → HasGone before (value_at gone.old)
+        → HasGone (before ++ entry.now ∷ []) (value_at gone.new)) }
 {
     let key = key(slot.slot);
-    let least = lesser(find(gone, key), slot.number);
-    put(gone, key, least)?;
+    let least = lesser(gone.find(key), slot.number);
+    gone.put(key, least)?;
     Ok(())
 }
 

@@ -1,6 +1,5 @@
 ghost use Rattle.std.specs.Prelude.{◌≡◌, ℕ, ◌+◌, ◌<◌, ◌^◌, ◌↔◌, IsSome, IsTrue, length};
-ghost use Rattle.std.specs.Ordering.{nat_cmp};
-ghost use Rattle.std.specs.BTreeMap.{get};
+ghost use Rattle.pa_audit_records.specs.ByKeys.{value_at};
 ghost use Rattle.std.specs.Option.{option_map};
 ghost use Rattle.pa_machine.specs.Count.{number_of};
 ghost use Rattle.pa_rules.specs.declared.verdict.Place.TheVariants as places;
@@ -14,12 +13,12 @@ ghost use Rattle.pa_audit_holders.specs.Owners.{AreOfRuns, HasReturns};
 
 use crate::gone::is_there;
 use crate::moves::both;
-use crate::owners::{Owner, find_owner, first_owner, is_owner, key_at};
+use crate::owners::{Owner, first_owner, is_owner, key_at};
 use crate::tables::Table;
+use pa_audit_records::ByKey;
 use pa_machine::number;
 use pa_record::{Answer, Journal, Numbered, Seen};
 use pa_rules::Played;
-use std::collections::BTreeMap;
 
 // The slot of which the record tells, at the number that it found.
 fn told_slot(told: Played) -> Option<Numbered>
@@ -53,19 +52,19 @@ fn numbered(seen: Seen) -> Numbered
 // Who holds a slot at a number after all journals; nobody where two of them name it there.
 fn owner_of(
     records: &[Played],
-    firsts: &BTreeMap<u128, u32>,
+    firsts: &ByKey<u32>,
     tables: &[Table],
     roots: &[Journal],
     slot: Numbered,
 ) -> Owner
-    requires returns { HasReturns records.now (get nat_cmp firsts.now) }
+    requires returns { HasReturns records.now (value_at firsts.now) }
     requires tables { HaveTables records.now roots.now tables.now }
     ensures { TellsHeld records.now (journal_at roots.now) slot.slot slot.number result }
 {
     let key = key_at(slot);
     let mut found = None;
     for table in tables {
-        let owner = find_owner(&table.owners, key);
+        let owner = table.owners.find(key);
         if are_two(found, owner) {
             return Owner::Nobody;
         }
@@ -98,12 +97,12 @@ fn either(a: Option<Owner>, b: Option<Owner>) -> Option<Owner>
 // Whether a slot that the record made is its thread's.
 fn is_issued(
     records: &[Played],
-    firsts: &BTreeMap<u128, u32>,
+    firsts: &ByKey<u32>,
     tables: &[Table],
     roots: &[Journal],
     told: Played,
 ) -> bool
-    requires returns { HasReturns records.now (get nat_cmp firsts.now) }
+    requires returns { HasReturns records.now (value_at firsts.now) }
     requires tables { HaveTables records.now roots.now tables.now }
     requires known { AreOfRuns records.now }
     ensures { IsTrue result ↔ IsIssued records.now (journal_at roots.now) told }
@@ -144,12 +143,12 @@ fn stays_there(records: &[Played], tables: &[Table], roots: &[Journal], told: Pl
 // The first record that made a slot which isn't its thread's, or found a number at which its slot was gone for good.
 pub(crate) fn first_record(
     records: &[Played],
-    firsts: &BTreeMap<u128, u32>,
+    firsts: &ByKey<u32>,
     tables: &[Table],
     roots: &[Journal],
 ) -> Option<u32>
     requires few { length records.now < 2 ^ 32 }
-    requires returns { HasReturns records.now (get nat_cmp firsts.now) }
+    requires returns { HasReturns records.now (value_at firsts.now) }
     requires tables { HaveTables records.now roots.now tables.now }
     requires known { AreOfRuns records.now }
     ensures { TellsFirst (λ i. HoldersDemand records.now (journal_at roots.now) (places.Record i)) result }

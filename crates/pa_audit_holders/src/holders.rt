@@ -6,9 +6,9 @@ ghost use Rattle.pa_rules.specs.Rising.{RiseByLine};
 ghost use Rattle.pa_audit_holders.specs.Holding.{TellsHolders, entry_place, first_in};
 
 use crate::held::first_record;
-use crate::moves::threads_of;
 use crate::owners::returns_of;
 use crate::tables::walk;
+use pa_audit_records::Salt;
 use pa_machine::OutOfMemory;
 use pa_record::Journal;
 use pa_rules::{Place, Played};
@@ -19,6 +19,7 @@ use std::alloc::Global;
 /// isn't free, whose holder isn't the one that the entry needs, or which was gone for good.
 pub fn holders_meet(
     alloc: Global,
+    salt: Salt,
     records: &[Played],
     roots: &[Journal],
 ) -> Result<Option<Place>, OutOfMemory>
@@ -29,13 +30,12 @@ pub fn holders_meet(
     requires entries { (p : ℕ) → length (journal_at roots.now p) < 2 ^ 32 }
     ensures { IfOk result (TellsHolders records.now (journal_at roots.now)) }
 {
-    let firsts = returns_of(alloc, records)?;
-    let threads = threads_of(alloc, records)?;
+    let firsts = returns_of(alloc, salt, records)?;
     let mut tables = Vec::new(alloc);
     let mut misfit = None;
     let mut partition: u32 = 0;
     for journal in roots {
-        let walked = walk(alloc, records, &firsts, &threads, journal)?;
+        let walked = walk(alloc, salt, records, &firsts, journal)?;
         misfit = first_entry(misfit, partition, walked.misfit);
         tables.push(walked.table)?;
         partition += 1;

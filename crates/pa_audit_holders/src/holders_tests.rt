@@ -2,7 +2,7 @@ ghost use Rattle.std.specs.Prelude.{◌-◌, ◌<◌, ◌^◌, length};
 
 use crate::holders_meet;
 use crate::tests::{FREE, alloc_of, are_short, done, fill, give, made, numbered, row, single};
-use pa_audit_records::{records_of, slots_meet};
+use pa_audit_records::{Salt, records_of, slots_meet};
 use pa_buckets::Class;
 use pa_machine::OutOfMemory;
 use pa_record::{Answer, Entry, Journal, RootAct, RootEntry};
@@ -33,11 +33,12 @@ fn first_of(
     if roots.len() > 4 || !are_short(roots) {
         return Ok(First::Unfit);
     }
-    let slots = slots_meet(alloc, records)?;
+    let salt = Salt::of(records, roots);
+    let slots = slots_meet(alloc, salt, records)?;
     match slots {
         Some(_at) => Ok(First::Unfit),
         None => {
-            let place = holders_meet(alloc, records, roots)?;
+            let place = holders_meet(alloc, salt, records, roots)?;
             match place {
                 Some(place) => Ok(First::At(place)),
                 None => Ok(First::Nowhere),

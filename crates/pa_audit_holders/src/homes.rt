@@ -1,6 +1,5 @@
 ghost use Rattle.std.specs.Prelude.{◌≡◌, ℕ, ◌+◌, ◌*◌, ◌<◌, ◌^◌, [], ◌∷◌, Contains, IfOk, OnOk, length};
-ghost use Rattle.std.specs.Ordering.{nat_cmp};
-ghost use Rattle.std.specs.BTreeMap.{get};
+ghost use Rattle.pa_audit_records.specs.ByKeys.{value_at};
 ghost use Rattle.pa_machine.specs.declared.word.SlotName.{SlotName as Name};
 ghost use Rattle.pa_record.specs.Laws.{leaves_by};
 ghost use Rattle.pa_record.specs.Root.{names};
@@ -8,11 +7,11 @@ ghost use Rattle.pa_rules.specs.Roots.{journal_at};
 ghost use Rattle.pa_audit_records.specs.Keys.{name_key};
 ghost use Rattle.pa_audit_holders.specs.Homes.{KnowsHomes, EntersSlots, HasAbove, HasHomes, IsHomeOf, TellsHome, home_at};
 
+use pa_audit_records::{ByKey, Salt};
 use pa_buckets::slot_size;
 use pa_machine::{OutOfMemory, SlotName};
 use pa_record::{Journal, Numbered, RootAct, RootEntry};
 use std::alloc::Global;
-use std::collections::BTreeMap;
 
 /// Where a free slot goes: to the lists of its partition and class, by its number, or, where it has none, to the root of its
 /// partition; and the slot's bytes.
@@ -24,19 +23,19 @@ pub struct Home {
 }
 
 // The number of a slot.
-pub(crate) fn key(slot: SlotName) -> u64
+pub(crate) fn key(slot: SlotName) -> u128
     ensures key { result ≡ name_key slot }
     ensures start { slot.start < 4294967296 }
 {
-    u64::from(slot.born) * 4_294_967_296 + u64::from(slot.start)
+    slot.born as u128 * 4_294_967_296 + slot.start as u128
 }
 
 /// The homes of all slots that the journals handed out, by the slots' numbers.
-pub fn homes_of(alloc: Global, roots: &[Journal]) -> Result<BTreeMap<u64, Home>, OutOfMemory>
+pub fn homes_of(alloc: Global, salt: Salt, roots: &[Journal]) -> Result<ByKey<Home>, OutOfMemory>
     requires few { length roots.now < 2 ^ 32 }
-    ensures { IfOk result (λ homes. KnowsHomes (journal_at roots.now) (get nat_cmp homes)) }
+    ensures { IfOk result (λ homes. KnowsHomes (journal_at roots.now) (value_at homes)) }
 {
-    let mut homes = BTreeMap::new(alloc);
+    let mut homes = ByKey::new(alloc, salt);
     let mut partition: u32 = 0;
     for journal in roots {
         enter_all(&mut homes, roots, partition, journal)?;
@@ -47,16 +46,16 @@ pub fn homes_of(alloc: Global, roots: &[Journal]) -> Result<BTreeMap<u64, Home>,
 
 // Enters the slots that a partition's journal handed out.
 fn enter_all(
-    homes: &mut BTreeMap<u64, Home>,
+    homes: &mut ByKey<Home>,
     roots: &[Journal],
     partition: u32,
     journal: &Journal,
 ) -> Result<(), OutOfMemory>
     requires journal { journal_at roots.now partition ≡ journal.now }
-    requires homes { HasHomes (journal_at roots.now) (get nat_cmp homes.old) }
-    requires above { HasAbove (journal_at roots.now) partition 0 (get nat_cmp homes.old) }
-    ensures homes { OnOk result (HasHomes (journal_at roots.now) (get nat_cmp homes.new)) }
-    ensures above { OnOk result (HasAbove (journal_at roots.now) (partition + 1) 0 (get nat_cmp homes.new)) }
+    requires homes { HasHomes (journal_at roots.now) (value_at homes.old) }
+    requires above { HasAbove (journal_at roots.now) partition 0 (value_at homes.old) }
+    ensures homes { OnOk result (HasHomes (journal_at roots.now) (value_at homes.new)) }
+    ensures above { OnOk result (HasAbove (journal_at roots.now) (partition + 1) 0 (value_at homes.new)) }
 {
     for entry in journal.entries() {
         enter_entry(homes, roots, partition, entry)?;
@@ -66,15 +65,15 @@ fn enter_all(
 
 // Enters the slots that an entry of a partition's journal handed out.
 fn enter_entry(
-    homes: &mut BTreeMap<u64, Home>,
+    homes: &mut ByKey<Home>,
     roots: &[Journal],
     partition: u32,
     entry: &RootEntry,
 ) -> Result<(), OutOfMemory>
     requires among { Contains (journal_at roots.now partition) entry.now }
-    requires homes { HasHomes (journal_at roots.now) (get nat_cmp homes.old) }
-    ensures homes { OnOk result (HasHomes (journal_at roots.now) (get nat_cmp homes.new)) }
-    ensures enters { OnOk result (EntersSlots (get nat_cmp homes.old) (get nat_cmp homes.new) (leaves_by entry.now.act)) }
+    requires homes { HasHomes (journal_at roots.now) (value_at homes.old) }
+    ensures homes { OnOk result (HasHomes (journal_at roots.now) (value_at homes.new)) }
+    ensures enters { OnOk result (EntersSlots (value_at homes.old) (value_at homes.new) (leaves_by entry.now.act)) }
 {
     match &entry.act {
         RootAct::Fill { class, slots, .. } => {
@@ -99,15 +98,15 @@ fn enter_entry(
 
 // Enters slots that have this home.
 fn enter_slots(
-    homes: &mut BTreeMap<u64, Home>,
+    homes: &mut ByKey<Home>,
     roots: &[Journal],
     home: Home,
     slots: &[Numbered],
 ) -> Result<(), OutOfMemory>
     requires home { (s : Name) → Contains (names slots.now) s → IsHomeOf (journal_at roots.now) s home }
-    requires homes { HasHomes (journal_at roots.now) (get nat_cmp homes.old) }
-    ensures homes { OnOk result (HasHomes (journal_at roots.now) (get nat_cmp homes.new)) }
-    ensures enters { OnOk result (EntersSlots (get nat_cmp homes.old) (get nat_cmp homes.new) (names slots.now)) }
+    requires homes { HasHomes (journal_at roots.now) (value_at homes.old) }
+    ensures homes { OnOk result (HasHomes (journal_at roots.now) (value_at homes.new)) }
+    ensures enters { OnOk result (EntersSlots (value_at homes.old) (value_at homes.new) (names slots.now)) }
 {
     for slot in slots {
         enter(homes, roots, home, slot.slot)?;
@@ -117,45 +116,34 @@ fn enter_slots(
 
 // Enters a slot that has this home.
 fn enter(
-    homes: &mut BTreeMap<u64, Home>,
+    homes: &mut ByKey<Home>,
     roots: &[Journal],
     home: Home,
     slot: SlotName,
 ) -> Result<(), OutOfMemory>
     requires home { IsHomeOf (journal_at roots.now) slot home }
-    requires homes { HasHomes (journal_at roots.now) (get nat_cmp homes.old) }
-    ensures homes { OnOk result (HasHomes (journal_at roots.now) (get nat_cmp homes.new)) }
-    ensures enters { OnOk result (EntersSlots (get nat_cmp homes.old) (get nat_cmp homes.new) (slot ∷ [])) }
+    requires homes { HasHomes (journal_at roots.now) (value_at homes.old) }
+    ensures homes { OnOk result (HasHomes (journal_at roots.now) (value_at homes.new)) }
+    ensures enters { OnOk result (EntersSlots (value_at homes.old) (value_at homes.new) (slot ∷ [])) }
 {
-    homes.insert(key(slot), home)?;
+    homes.put(key(slot), home)?;
     Ok(())
 }
 
 // The home of a slot. None where no entry handed it out.
-pub(crate) fn home_of(
-    roots: &[Journal],
-    homes: &BTreeMap<u64, Home>,
-    slot: SlotName,
-) -> Option<Home>
-    requires homes { KnowsHomes (journal_at roots.now) (get nat_cmp homes.now) }
+pub(crate) fn home_of(roots: &[Journal], homes: &ByKey<Home>, slot: SlotName) -> Option<Home>
+    requires homes { KnowsHomes (journal_at roots.now) (value_at homes.now) }
     ensures { TellsHome (journal_at roots.now) slot result }
 {
-    match find(homes, key(slot)) {
+    match homes.find(key(slot)) {
         Some(home) => Some(home),
         None => None,
     }
 }
 
 /// The home of a slot, where the table has one.
-pub fn found_home(homes: &BTreeMap<u64, Home>, slot: SlotName) -> Option<Home>
-    ensures { result ≡ home_at (get nat_cmp homes.now) slot }
+pub fn found_home(homes: &ByKey<Home>, slot: SlotName) -> Option<Home>
+    ensures { result ≡ home_at (value_at homes.now) slot }
 {
-    find(homes, key(slot))
-}
-
-// What stands at a key.
-pub(crate) fn find(homes: &BTreeMap<u64, Home>, key: u64) -> Option<Home>
-    ensures { result ≡ get nat_cmp homes.now key }
-{
-    homes.get(&key).copied()
+    homes.find(key(slot))
 }

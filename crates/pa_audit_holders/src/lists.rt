@@ -1,81 +1,115 @@
-ghost use Rattle.std.specs.Prelude.{◌≡◌, ◌<◌, ◌≤◌, [], ◌∷◌, IfOk, OnOk, length, take};
+ghost use Rattle.std.specs.Prelude.{◌≡◌, ℕ, ◌+◌, ◌<◌, ◌≤◌, [], ◌∷◌, ◌↔◌, All, IfOk, IsTrue, OnErr, OnOk, drop, length, slice_index_or, take};
 ghost use Rattle.pa_rules.specs.Caches.{with_list};
-ghost use Rattle.pa_audit_holders.specs.Lists.{HasPart, IsListedBy, cache_in, changed_by};
+ghost use Rattle.pa_audit_holders.specs.Lists.{AreSummed, HasPart, IsListedBy, cache_in, changed_by, no_slots};
 
 use pa_buckets::{Class, slot_size};
 use pa_machine::OutOfMemory;
 use pa_record::{Numbered, Tally};
 use std::alloc::Global;
 use std::marker::Model;
+use std::mem;
 
 // The number of lists of one thread: of four partitions with 59 classes each.
 const LISTS: u32 = 236;
 
-// Free slots, front first. They are seen as the list of them.
+const PARTITIONS: usize = 4;
+
+const CLASSES: usize = 59;
+
+// The least number of unused places that are put in front of free slots.
+const LEAST_UNUSED: usize = 4;
+
+// Free slots, front first. They are seen as the list of them. They stand behind some places that are unused.
 #[derive(Drop)]
 pub(crate) struct FreeSlots {
     slots: Vec<Numbered>,
+    unused: usize,
 }
 
 impl Model for FreeSlots {
-    ghost use Rattle.std.specs.Prelude.{List};
+    ghost use Rattle.std.specs.Prelude.{◌≤◌, List, drop, length};
     ghost use Rattle.pa_record.specs.declared.numbered.Numbered.{Numbered};
 
     ghost Value = { List Numbered };
 
-    ghost view = { λ f. f.slots.items };
+    ghost view = { λ f. drop f.unused f.slots.items };
+
+    ghost invariant = { λ f. f.unused ≤ length f.slots.items };
 }
 
 impl FreeSlots {
     // No slots.
-    fn new(alloc: Global) -> FreeSlots
+    pub(crate) fn new(alloc: Global) -> FreeSlots
         ensures { result ≡ [] }
     {
         FreeSlots {
             slots: Vec::new(alloc),
+            unused: 0,
         }
     }
 
-    // These slots.
-    pub(crate) fn of(alloc: Global, slots: &[Numbered]) -> Result<FreeSlots, OutOfMemory>
-        ensures { IfOk result (λ f. f ≡ slots.now) }
+    // Puts other slots in place of these.
+    pub(crate) fn refill(&mut self, slots: &[Numbered]) -> Result<(), OutOfMemory>
+        ensures { OnOk result (self.new ≡ slots.now) }
     {
-        Ok(FreeSlots {
-            slots: Vec::from_slice(alloc, slots)?,
-        })
+        self.clear();
+        self.slots.extend_from_slice(slots)?;
+        Ok(())
     }
 
-    // A slot in front of these.
-    pub(crate) fn fronted(
-        alloc: Global,
-        slot: Numbered,
-        slots: &[Numbered],
-    ) -> Result<FreeSlots, OutOfMemory>
-        ensures { IfOk result (λ f. f ≡ slot ∷ slots.now) }
+    // Puts a slot in front.
+    pub(crate) fn put_front(&mut self, slot: Numbered) -> Result<(), OutOfMemory>
+        ensures { OnOk result (self.new ≡ slot ∷ self.old) }
     {
-        let mut all = Vec::new(alloc);
-        all.push(slot)?;
-        all.extend_from_slice(slots)?;
-        Ok(FreeSlots { slots: all })
+        if self.unused == 0 {
+            self.unused = put_unused(&mut self.slots)?;
+        }
+        self.unused -= 1;
+        self.slots[self.unused] = slot;
+        Ok(())
+    }
+
+    // Drops the front, where there is one.
+    pub(crate) fn drop_front(&mut self)
+        ensures { self.new ≡ drop 1 self.old }
+    {
+        if self.unused < self.slots.len() {
+            self.unused += 1;
+        }
     }
 
     pub(crate) fn items(&self) -> &[Numbered]
         ensures { result.now ≡ self.now }
     {
-        self.slots.as_slice()
+        &self.slots[self.unused..]
+    }
+
+    pub(crate) fn is_empty(&self) -> bool
+        ensures { IsTrue result ↔ (self.now ≡ []) }
+    {
+        self.len() == 0
     }
 
     fn len(&self) -> usize
         ensures { result ≡ length self.now }
     {
-        self.slots.len()
+        self.slots.len() - self.unused
+    }
+
+    fn clear(&mut self)
+        ensures { self.new ≡ [] }
+    {
+        self.slots.clear();
+        self.unused = 0;
     }
 
     // Keeps so many from the front on.
     pub(crate) fn keep(&mut self, count: usize)
         ensures { self.new ≡ take count self.old }
     {
-        self.slots.truncate(count);
+        if count < self.len() {
+            self.slots.truncate(self.unused + count);
+        }
     }
 }
 
@@ -108,9 +142,18 @@ impl ThreadLists {
         for _ in 0..LISTS {
             lists.push(FreeSlots::new(alloc))?;
         }
-        let none = Tally { slots: 0, bytes: 0 };
-        let sums = [none, none, none, none];
-        Ok(ThreadLists { lists, sums })
+        Ok(ThreadLists {
+            lists,
+            sums: no_sums(),
+        })
+    }
+
+    // Empties all.
+    pub(crate) fn clear(&mut self)
+        ensures { cache_in self.new ≡ (λ p class. []) }
+    {
+        clear_all(&mut self.lists, &self.sums);
+        self.sums = no_sums();
     }
 
     // The slots of a partition's list, front first.
@@ -122,18 +165,21 @@ impl ThreadLists {
         self.lists[59 * partition as usize + class.number() as usize].items()
     }
 
-    // Puts other slots into a partition's list, at most 64.
-    pub(crate) fn set(&mut self, partition: u32, class: Class, slots: FreeSlots)
+    // Puts other slots, at most 64, in place of those of a partition's list, which it hands out.
+    pub(crate) fn replace(&mut self, partition: u32, class: Class, slots: FreeSlots) -> FreeSlots
         requires partition { partition < 4 }
         requires few { length slots ≤ 64 }
-        ensures { cache_in self.new ≡ with_list (cache_in self.old) partition class slots }
+        ensures slots { result ≡ cache_in self.old partition class }
+        ensures few { length result ≤ 64 }
+        ensures after { cache_in self.new ≡ with_list (cache_in self.old) partition class slots }
     {
         let at = 59 * partition as usize + class.number() as usize;
-        let before = self.lists[at].len();
         let after = slots.len();
+        let replaced = mem::replace(&mut self.lists[at], slots);
+        let before = replaced.len();
         let sum = changed(self.sums[partition as usize], class, before, after);
-        self.lists[at] = slots;
         self.sums[partition as usize] = sum;
+        replaced
     }
 
     /// What the lists of a partition have together.
@@ -144,6 +190,54 @@ impl ThreadLists {
         ensures small { result.bytes ≤ 3464495104 }
     {
         self.sums[partition as usize]
+    }
+}
+
+// Puts unused places in front of slots, more than there are slots. Tells how many.
+fn put_unused(slots: &mut Vec<Numbered>) -> Result<usize, OutOfMemory>
+    ensures many { IfOk result (λ unused. 1 ≤ unused) }
+    ensures within { IfOk result (λ unused. unused ≤ length slots.new.items) }
+    ensures slots { IfOk result (λ unused. drop unused slots.new.items ≡ slots.old.items) }
+    ensures same { OnErr result (slots.new.items ≡ slots.old.items) }
+{
+    let len = slots.len();
+    let unused = len.saturating_add(LEAST_UNUSED);
+    let nothing = Numbered::default();
+    slots.resize(len.saturating_add(unused), nothing)?;
+    slots.rotate_right(unused);
+    Ok(unused)
+}
+
+// The sums of lists that are all empty.
+fn no_sums() -> [Tally; 4]
+    ensures { result ≡ no_slots ∷ no_slots ∷ no_slots ∷ no_slots ∷ [] }
+{
+    let none = Tally { slots: 0, bytes: 0 };
+    [none, none, none, none]
+}
+
+// Empties the lists, of which each partition's have this sum. What is empty is left alone.
+fn clear_all(lists: &mut Vec<FreeSlots>, sums: &[Tally; 4])
+    requires { AreSummed lists.old.items sums.now }
+    ensures many { length lists.new.items ≡ length lists.old.items }
+    ensures empty { All (λ slots. slots ≡ []) lists.new.items }
+{
+    for partition in 0..PARTITIONS {
+        if sums[partition].slots > 0 {
+            clear_from(lists, CLASSES * partition);
+        }
+    }
+}
+
+// Empties a partition's lists, which stand from this place on.
+fn clear_from(lists: &mut Vec<FreeSlots>, first: usize)
+    requires { first + 59 ≤ length lists.old.items }
+    ensures many { length lists.new.items ≡ length lists.old.items }
+    ensures these { (at : ℕ) → first ≤ at → at < first + 59 → slice_index_or lists.new.items at [] ≡ [] }
+    ensures others { (at : ℕ) → slice_index_or lists.old.items at [] ≡ [] → slice_index_or lists.new.items at [] ≡ [] }
+{
+    for at in first..first + CLASSES {
+        lists[at].clear();
     }
 }
 

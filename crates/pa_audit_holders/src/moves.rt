@@ -1,28 +1,26 @@
-ghost use Rattle.std.specs.Prelude.{◌≡◌, ℕ, ◌+◌, ◌<◌, ◌↔◌, [], ◌∷◌, ◌++◌, IfOk, IsTrue, List, OnOk, length, map};
-ghost use Rattle.std.specs.Ordering.{nat_cmp};
-ghost use Rattle.std.specs.BTreeMap.{get};
+ghost use Rattle.std.specs.Prelude.{◌≡◌, ℕ, ◌+◌, ◌<◌, ◌^◌, ◌↔◌, [], ◌∷◌, ◌++◌, IfOk, IsTrue, List, OnOk, length, map};
+ghost use Rattle.pa_audit_records.specs.ByKeys.{value_at};
 ghost use Rattle.pa_rules.specs.Holders.{Move, moves_by};
-ghost use Rattle.pa_audit_holders.specs.Owners.{AllFit, AreOfRuns, HasOwners, HasReturns, HasThreads, TellsThread, move_on};
+ghost use Rattle.pa_rules.specs.Rising.{RiseByLine};
+ghost use Rattle.pa_audit_holders.specs.Owners.{AllFit, AreOfRuns, HasOwners, HasReturns, TellsThread, move_on};
 
-use crate::owners::{Course, Owner, find, move_slot, put};
+use crate::owners::{Course, Owner, move_slot};
+use pa_audit_records::{ByKey, record_on};
 use pa_machine::OutOfMemory;
 use pa_record::{Batch, Numbered, RootAct};
 use pa_rules::Played;
 use std::alloc::Global;
-use std::collections::BTreeMap;
 
-// The threads of the records, by their lines.
-pub(crate) fn threads_of(
-    alloc: Global,
-    records: &[Played],
-) -> Result<BTreeMap<u128, u32>, OutOfMemory>
-    ensures { IfOk result (λ threads. HasThreads records.now (get nat_cmp threads)) }
+// The thread of the record on a line, where there is one.
+pub(crate) fn thread_on(records: &[Played], line: u32) -> Option<u32>
+    requires few { length records.now < 2 ^ 32 }
+    requires rising { RiseByLine records.now }
+    ensures { TellsThread records.now line result }
 {
-    let mut threads = BTreeMap::new(alloc);
-    for record in records {
-        put(&mut threads, record.line as u128, record.thread)?;
+    match record_on(records, line) {
+        Some(at) => Some(records[at as usize].thread),
+        None => None,
     }
-    Ok(threads)
 }
 
 // The slots that an entry moves, all on one course.
@@ -96,19 +94,19 @@ pub(crate) fn both(a: bool, b: bool) -> bool
 // Moves slots, one after the other, by an entry of a line. Tells whether each has the holder that it needs.
 pub(crate) fn move_slots(
     records: &[Played],
-    firsts: &BTreeMap<u128, u32>,
-    owners: &mut BTreeMap<u128, Owner>,
+    firsts: &ByKey<u32>,
+    owners: &mut ByKey<Owner>,
     line: u32,
     thread: Option<u32>,
     course: Course,
     slots: &[Numbered],
 ) -> Result<bool, OutOfMemory>
     requires known { AreOfRuns records.now }
-    requires returns { HasReturns records.now (get nat_cmp firsts.now) }
+    requires returns { HasReturns records.now (value_at firsts.now) }
     requires thread { TellsThread records.now line thread }
-    ensures owners { OnOk result ((ms : List Move) → HasOwners records.now ms (get nat_cmp owners.old)
-        → HasOwners records.now (ms ++ map (move_on line course) slots.now) (get nat_cmp owners.new)) }
-    ensures fits { IfOk result (λ b. (ms : List Move) → HasOwners records.now ms (get nat_cmp owners.old)
+    ensures owners { OnOk result ((ms : List Move) → HasOwners records.now ms (value_at owners.old)
+        → HasOwners records.now (ms ++ map (move_on line course) slots.now) (value_at owners.new)) }
+    ensures fits { IfOk result (λ b. (ms : List Move) → HasOwners records.now ms (value_at owners.old)
         → IsTrue b ↔ AllFit records.now ms (map (move_on line course) slots.now)) }
 {
     let mut all = true;

@@ -1,19 +1,17 @@
 ghost use Rattle.std.specs.Prelude.{◌≡◌, ℕ, ◌+◌, ◌*◌, ◌<◌, ◌↔◌, [], ◌∷◌, ◌++◌, IfNone, IfOk, IfSome, IsTrue, List, None, OnOk, Some, filter};
-ghost use Rattle.std.specs.Ordering.{nat_cmp};
-ghost use Rattle.std.specs.BTreeMap.{get};
+ghost use Rattle.pa_audit_records.specs.ByKeys.{value_at};
 ghost use Rattle.pa_machine.specs.declared.word.SlotName.{SlotName as Name};
 ghost use Rattle.pa_rules.specs.Holders.{Move, is_move_of};
 ghost use Rattle.pa_audit_records.specs.Keys.{word_key};
 ghost use Rattle.pa_audit_records.specs.Marks.{IsSized};
-ghost use Rattle.pa_audit_records.specs.Tables.{Puts};
-ghost use Rattle.pa_audit_holders.specs.Owners.{AreOfRuns, EntersReturn, MoveFits, HasOwners, HasReturned, HasReturns, IsNeeded, PutsOwner, TellsOwner, TellsThread, made_owner, move_on};
+ghost use Rattle.pa_audit_holders.specs.Owners.{AreOfRuns, EntersReturn, MoveFits, HasOwners, HasReturned, HasReturns, IsNeeded, TellsOwner, TellsThread, made_owner, move_on};
 
 use crate::asks::{returns, step_of};
+use pa_audit_records::{ByKey, Salt};
 use pa_machine::{OutOfMemory, SlotName, number};
 use pa_record::{Answer, Numbered};
 use pa_rules::Played;
 use std::alloc::Global;
-use std::collections::BTreeMap;
 
 // Who holds a free slot at a number: the root, or a thread; nobody where it isn't free there.
 #[derive(Clone, Copy, Debug, PartialEq, Eq)]
@@ -72,11 +70,12 @@ fn returned(told: Played) -> Option<Numbered>
 // The threads that returned slots, by the slots and the numbers that they left.
 pub(crate) fn returns_of(
     alloc: Global,
+    salt: Salt,
     records: &[Played],
-) -> Result<BTreeMap<u128, u32>, OutOfMemory>
-    ensures { IfOk result (λ firsts. HasReturns records.now (get nat_cmp firsts)) }
+) -> Result<ByKey<u32>, OutOfMemory>
+    ensures { IfOk result (λ firsts. HasReturns records.now (value_at firsts)) }
 {
-    let mut firsts = BTreeMap::new(alloc);
+    let mut firsts = ByKey::new(alloc, salt);
     for record in records {
         enter_return(&mut firsts, *record)?;
     }
@@ -84,52 +83,24 @@ pub(crate) fn returns_of(
 }
 
 // Enters the thread of a record whose step returned a slot.
-fn enter_return(firsts: &mut BTreeMap<u128, u32>, told: Played) -> Result<(), OutOfMemory>
-    ensures { OnOk result (EntersReturn told (get nat_cmp firsts.old) (get nat_cmp firsts.new)) }
+fn enter_return(firsts: &mut ByKey<u32>, told: Played) -> Result<(), OutOfMemory>
+    ensures { OnOk result (EntersReturn told (value_at firsts.old) (value_at firsts.new)) }
 {
     match returned(told) {
-        Some(slot) => put(firsts, key_at(slot), told.thread),
+        Some(slot) => firsts.put(key_at(slot), told.thread),
         None => Ok(()),
     }
 }
 
-// Sets a key.
-pub(crate) fn put(map: &mut BTreeMap<u128, u32>, key: u128, value: u32) -> Result<(), OutOfMemory>
-    ensures { OnOk result (Puts (get nat_cmp map.old) (get nat_cmp map.new) key value) }
-{
-    map.insert(key, value)?;
-    Ok(())
-}
-
-// What stands at a key.
-pub(crate) fn find(map: &BTreeMap<u128, u32>, key: u128) -> Option<u32>
-    ensures { result ≡ get nat_cmp map.now key }
-{
-    map.get(&key).copied()
-}
-
-fn put_owner(map: &mut BTreeMap<u128, Owner>, key: u128, owner: Owner) -> Result<(), OutOfMemory>
-    ensures { OnOk result (PutsOwner (get nat_cmp map.old) (get nat_cmp map.new) key owner) }
-{
-    map.insert(key, owner)?;
-    Ok(())
-}
-
-pub(crate) fn find_owner(map: &BTreeMap<u128, Owner>, key: u128) -> Option<Owner>
-    ensures { result ≡ get nat_cmp map.now key }
-{
-    map.get(&key).copied()
-}
-
 // Who holds a slot at a number before any move.
-pub(crate) fn first_owner(records: &[Played], firsts: &BTreeMap<u128, u32>, slot: Numbered) -> Owner
-    requires returns { HasReturns records.now (get nat_cmp firsts.now) }
+pub(crate) fn first_owner(records: &[Played], firsts: &ByKey<u32>, slot: Numbered) -> Owner
+    requires returns { HasReturns records.now (value_at firsts.now) }
     ensures { TellsOwner records.now [] slot.slot slot.number result }
 {
     if slot.number == 0 {
         return Owner::Root;
     }
-    match find(firsts, key_at(slot)) {
+    match firsts.find(key_at(slot)) {
         Some(thread) => Owner::Thread(thread),
         None => Owner::Nobody,
     }
@@ -138,15 +109,15 @@ pub(crate) fn first_owner(records: &[Played], firsts: &BTreeMap<u128, u32>, slot
 // Who holds it after the moves so far.
 fn owner_now(
     records: &[Played],
-    firsts: &BTreeMap<u128, u32>,
-    owners: &BTreeMap<u128, Owner>,
+    firsts: &ByKey<u32>,
+    owners: &ByKey<Owner>,
     slot: Numbered,
 ) -> Owner
-    requires returns { HasReturns records.now (get nat_cmp firsts.now) }
-    ensures { (ms : List Move) → HasOwners records.now ms (get nat_cmp owners.now)
+    requires returns { HasReturns records.now (value_at firsts.now) }
+    ensures { (ms : List Move) → HasOwners records.now ms (value_at owners.now)
         → TellsOwner records.now (filter (is_move_of slot.slot slot.number) ms) slot.slot slot.number result }
 {
-    match find_owner(owners, key_at(slot)) {
+    match owners.find(key_at(slot)) {
         Some(owner) => owner,
         None => first_owner(records, firsts, slot),
     }
@@ -201,22 +172,22 @@ fn is_needed(held: Owner, course: Course, thread: Option<u32>) -> bool
 // Moves a slot at a number, by an entry of a line. Tells whether its holder is the one that the move needs.
 pub(crate) fn move_slot(
     records: &[Played],
-    firsts: &BTreeMap<u128, u32>,
-    owners: &mut BTreeMap<u128, Owner>,
+    firsts: &ByKey<u32>,
+    owners: &mut ByKey<Owner>,
     line: u32,
     thread: Option<u32>,
     course: Course,
     slot: Numbered,
 ) -> Result<bool, OutOfMemory>
     requires known { AreOfRuns records.now }
-    requires returns { HasReturns records.now (get nat_cmp firsts.now) }
+    requires returns { HasReturns records.now (value_at firsts.now) }
     requires thread { TellsThread records.now line thread }
-    ensures owners { OnOk result ((ms : List Move) → HasOwners records.now ms (get nat_cmp owners.old)
-        → HasOwners records.now (ms ++ move_on line course slot ∷ []) (get nat_cmp owners.new)) }
-    ensures fits { IfOk result (λ b. (ms : List Move) → HasOwners records.now ms (get nat_cmp owners.old)
+    ensures owners { OnOk result ((ms : List Move) → HasOwners records.now ms (value_at owners.old)
+        → HasOwners records.now (ms ++ move_on line course slot ∷ []) (value_at owners.new)) }
+    ensures fits { IfOk result (λ b. (ms : List Move) → HasOwners records.now ms (value_at owners.old)
         → IsTrue b ↔ MoveFits records.now ms (move_on line course slot)) }
 {
     let held = owner_now(records, firsts, owners, slot);
-    put_owner(owners, key_at(slot), made(held, course, thread))?;
+    owners.put(key_at(slot), made(held, course, thread))?;
     Ok(is_needed(held, course, thread))
 }

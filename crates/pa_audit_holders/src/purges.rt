@@ -1,4 +1,4 @@
-ghost use Rattle.std.specs.Prelude.{◌≡◌, ◌<◌, ◌≤◌, ◌↔◌, All, IfOk, IsTrue, length, map};
+ghost use Rattle.std.specs.Prelude.{◌≡◌, ◌<◌, ◌≤◌, ◌↔◌, All, IsTrue, length, map};
 ghost use Rattle.pa_rules.specs.Roots.{journal_at};
 ghost use Rattle.pa_rules.specs.Caches.{PurgedRow, acts_of};
 ghost use Rattle.pa_audit_holders.specs.Gives.{PurgesAll, TellsPurge};
@@ -10,34 +10,30 @@ use crate::gives::{ends_with_purge, gives_from};
 use crate::lines::{ByLine, journal_of, places_of};
 use crate::lists::ThreadLists;
 use pa_buckets::Class;
-use pa_machine::OutOfMemory;
 use pa_record::{Journal, RootEntry};
 use pa_rules::Played;
-use std::alloc::Global;
 
 // The number of classes.
 const CLASSES: u32 = 59;
 
 // A purge gave all lists back, and says how many slots they had.
 pub(crate) fn purged(
-    alloc: Global,
     partitions: u32,
     roots: &[Journal],
     lines: &[ByLine],
     told: Played,
     slots: u32,
     cache: &mut ThreadLists,
-) -> Result<bool, OutOfMemory>
+) -> bool
     requires partitions { partitions ≤ 4 }
     requires known { KnowsLine roots.now lines.now told.line }
-    ensures { IfOk result
-        (TellsRow (PurgedRow partitions (journal_at roots.now) told slots (cache_in cache.old)) (cache_in cache.new)) }
+    ensures { TellsRow (PurgedRow partitions (journal_at roots.now) told slots (cache_in cache.old)) (cache_in cache.new) result }
 {
     if !purges_all(partitions, roots, lines, told.line, slots, cache) {
-        return Ok(false);
+        return false;
     }
-    *cache = ThreadLists::new(alloc)?;
-    Ok(true)
+    cache.clear();
+    true
 }
 
 // Whether the line's entries purge all partitions, and their lists have so many slots.

@@ -1,6 +1,5 @@
 ghost use Rattle.std.specs.Prelude.{◌≡◌, ℕ, ◌<◌, ◌≤◌, ◌↔◌, [], ◌∷◌, IfOk, IsTrue, Some, drop, length, take};
-ghost use Rattle.std.specs.Ordering.{nat_cmp};
-ghost use Rattle.std.specs.BTreeMap.{get};
+ghost use Rattle.pa_audit_records.specs.ByKeys.{value_at};
 ghost use Rattle.pa_machine.specs.declared.word.SlotName.{SlotName as Name};
 ghost use Rattle.pa_rules.specs.Roots.{journal_at};
 ghost use Rattle.pa_rules.specs.Caches.{DoneRow, OnlyActs, ReturnRow, gives, kept, spilled, unmap_at};
@@ -15,19 +14,19 @@ use crate::gives::all_give;
 use crate::homes::{Home, home_of};
 use crate::lines::{ByLine, has_none, journal_of, none_but, only_act, places_of};
 use crate::lists::{FreeSlots, ThreadLists};
+use pa_audit_records::ByKey;
 use pa_buckets::{Class, cache_limit};
 use pa_machine::{OutOfMemory, SlotName, Step, number};
 use pa_record::{Journal, Numbered, Seen};
 use pa_rules::Played;
 use std::alloc::Global;
-use std::collections::BTreeMap;
 
 // An op was done: its step returned the slot, or the line has no entries.
 pub(crate) fn done(
     alloc: Global,
     roots: &[Journal],
     lines: &[ByLine],
-    homes: &BTreeMap<u64, Home>,
+    homes: &ByKey<Home>,
     told: Played,
     step: Option<Step>,
     seen: Seen,
@@ -35,7 +34,7 @@ pub(crate) fn done(
 ) -> Result<bool, OutOfMemory>
     requires four { length roots.now ≤ 4 }
     requires known { KnowsLine roots.now lines.now told.line }
-    requires homes { KnowsHomes (journal_at roots.now) (get nat_cmp homes.now) }
+    requires homes { KnowsHomes (journal_at roots.now) (value_at homes.now) }
     requires kinds { (s : Name) → HasOneHome (journal_at roots.now) s }
     ensures { IfOk result (TellsRow (DoneRow (journal_at roots.now) told step seen (cache_in cache.old)) (cache_in cache.new)) }
 {
@@ -50,7 +49,7 @@ fn stepped(
     alloc: Global,
     roots: &[Journal],
     lines: &[ByLine],
-    homes: &BTreeMap<u64, Home>,
+    homes: &ByKey<Home>,
     told: Played,
     step: Step,
     seen: Seen,
@@ -58,7 +57,7 @@ fn stepped(
 ) -> Result<bool, OutOfMemory>
     requires four { length roots.now ≤ 4 }
     requires known { KnowsLine roots.now lines.now told.line }
-    requires homes { KnowsHomes (journal_at roots.now) (get nat_cmp homes.now) }
+    requires homes { KnowsHomes (journal_at roots.now) (value_at homes.now) }
     requires kinds { (s : Name) → HasOneHome (journal_at roots.now) s }
     ensures { IfOk result
         (TellsRow (DoneRow (journal_at roots.now) told (Some step) seen (cache_in cache.old)) (cache_in cache.new)) }
@@ -79,14 +78,14 @@ fn put_back(
     alloc: Global,
     roots: &[Journal],
     lines: &[ByLine],
-    homes: &BTreeMap<u64, Home>,
+    homes: &ByKey<Home>,
     told: Played,
     slot: Numbered,
     cache: &mut ThreadLists,
 ) -> Result<bool, OutOfMemory>
     requires four { length roots.now ≤ 4 }
     requires known { KnowsLine roots.now lines.now told.line }
-    requires homes { KnowsHomes (journal_at roots.now) (get nat_cmp homes.now) }
+    requires homes { KnowsHomes (journal_at roots.now) (value_at homes.now) }
     requires kinds { (s : Name) → HasOneHome (journal_at roots.now) s }
     ensures { IfOk result (TellsRow (ReturnRow (journal_at roots.now) told slot (cache_in cache.old)) (cache_in cache.new)) }
 {
@@ -140,14 +139,15 @@ fn put_in_list(
     ensures { IfOk result
         (TellsRow (BackRow (journal_at roots.now) line bin.now.partition bin.now.class slot (cache_in cache.old)) (cache_in cache.new)) }
 {
-    let list = cache.list(bin.partition, bin.class);
-    let mut slots = FreeSlots::fronted(alloc, slot, list)?;
+    let none = FreeSlots::new(alloc);
+    let mut slots = cache.replace(bin.partition, bin.class, none);
+    slots.put_front(slot)?;
     let stays = how_many_stay(bin.class, slots.items());
     if !only_gives(roots, lines, line, bin.partition, &slots.items()[stays..]) {
         return Ok(false);
     }
     slots.keep(stays);
-    cache.set(bin.partition, bin.class, slots);
+    cache.replace(bin.partition, bin.class, slots);
     Ok(true)
 }
 

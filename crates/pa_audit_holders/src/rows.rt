@@ -1,6 +1,5 @@
-ghost use Rattle.std.specs.Prelude.{◌≡◌, ℕ, ◌+◌, ◌<◌, ◌≤◌, ◌^◌, ◌↔◌, [], ◌∷◌, IfNone, IfOk, IfSome, IsTrue, List, length};
-ghost use Rattle.std.specs.Ordering.{nat_cmp};
-ghost use Rattle.std.specs.BTreeMap.{get};
+ghost use Rattle.std.specs.Prelude.{◌≡◌, ℕ, ◌+◌, ◌<◌, ◌≤◌, ◌^◌, ◌↔◌, [], ◌∷◌, IfNone, IfOk, IfSome, IsTrue, List, OnOk, drop, length};
+ghost use Rattle.pa_audit_records.specs.ByKeys.{value_at};
 ghost use Rattle.pa_machine.specs.Run.{IsReturning};
 ghost use Rattle.pa_record.specs.declared.numbered.Numbered.{Numbered as Listed};
 ghost use Rattle.pa_record.specs.declared.root.RootAct.TheVariants as acts;
@@ -11,7 +10,7 @@ ghost use Rattle.pa_audit_holders.specs.Homes.{KnowsHomes, HasOneHome};
 ghost use Rattle.pa_audit_holders.specs.Gives.{TellsPurge};
 ghost use Rattle.pa_audit_holders.specs.Lines.{KnowsLine};
 ghost use Rattle.pa_audit_holders.specs.Lists.{cache_in};
-ghost use Rattle.pa_audit_holders.specs.Rows.{ClassRow, NamesPartition, TellsRow};
+ghost use Rattle.pa_audit_holders.specs.Rows.{ClassRow, NamesPartition, TellsFilled, TellsRow};
 
 use crate::acts::{filled_by, lacks_class, lacks_map, maps};
 use crate::asks::{Bin, class_asked, map_asked, step_of};
@@ -20,11 +19,11 @@ use crate::lines::{ByLine, has_none, only_act};
 use crate::lists::{FreeSlots, ThreadLists};
 use crate::purges::purged;
 use crate::returns::done;
+use pa_audit_records::ByKey;
 use pa_machine::{OutOfMemory, SlotName, number};
 use pa_record::{Answer, Journal, Numbered, Seen};
 use pa_rules::Played;
 use std::alloc::Global;
-use std::collections::BTreeMap;
 
 // Whether a record's row leads on from its thread's lists. Where it does they are the next ones.
 pub(crate) fn plays(
@@ -32,14 +31,14 @@ pub(crate) fn plays(
     partitions: u32,
     roots: &[Journal],
     lines: &[ByLine],
-    homes: &BTreeMap<u64, Home>,
+    homes: &ByKey<Home>,
     told: Played,
     cache: &mut ThreadLists,
 ) -> Result<bool, OutOfMemory>
     requires partitions { partitions ≤ 4 }
     requires four { length roots.now ≤ 4 }
     requires known { KnowsLine roots.now lines.now told.line }
-    requires homes { KnowsHomes (journal_at roots.now) (get nat_cmp homes.now) }
+    requires homes { KnowsHomes (journal_at roots.now) (value_at homes.now) }
     requires kinds { (s : Name) → HasOneHome (journal_at roots.now) s }
     requires partition { NamesPartition told.op }
     ensures { IfOk result
@@ -58,7 +57,7 @@ pub(crate) fn plays(
             cache,
         ),
         Answer::Full { .. } => Ok(full(roots, lines, told, cache)),
-        Answer::Purged { slots } => purged(alloc, partitions, roots, lines, told, slots, cache),
+        Answer::Purged { slots } => Ok(purged(partitions, roots, lines, told, slots, cache)),
         _ => Ok(has_none(roots, lines, told.line)),
     }
 }
@@ -105,61 +104,75 @@ fn made_of_class(
     ensures { IfOk result
         (TellsRow (ClassRow (journal_at roots.now) line bin.now.partition bin.now.class seen (cache_in cache.old)) (cache_in cache.new)) }
 {
-    let list = cache.list(bin.partition, bin.class);
-    let Some(slots) = first_filled(roots, lines, line, bin, list) else {
+    let none = FreeSlots::new(alloc);
+    let mut slots = cache.replace(bin.partition, bin.class, none);
+    let filled = fill_first(roots, lines, line, bin, &mut slots)?;
+    if !filled {
         return Ok(false);
-    };
-    let Some(rest) = behind_front(slots, seen) else {
+    }
+    if !is_front(slots.items(), seen) {
         return Ok(false);
-    };
-    let left = FreeSlots::of(alloc, rest)?;
-    cache.set(bin.partition, bin.class, left);
+    }
+    slots.drop_front();
+    cache.replace(bin.partition, bin.class, slots);
     Ok(true)
 }
 
-// The list from which a slot is taken: an empty one is filled first, and at any other the line has no entries.
-fn first_filled<'a>(
+// Whether a slot can be taken from the list: an empty one is filled first, and at any other the line has no entries. Where
+// it can, the list is then the one from which it is taken.
+fn fill_first(
+    roots: &[Journal],
+    lines: &[ByLine],
+    line: u32,
+    bin: &Bin,
+    slots: &mut FreeSlots,
+) -> Result<bool, OutOfMemory>
+    requires four { length roots.now ≤ 4 }
+    requires known { KnowsLine roots.now lines.now line }
+    requires few { length slots.old ≤ 64 }
+    ensures filled { IfOk result
+        (TellsFilled (FilledFirst (journal_at roots.now) line bin.now.partition bin.now.class slots.old) slots.new) }
+    ensures few { OnOk result (length slots.new ≤ 64) }
+{
+    if !slots.is_empty() {
+        return Ok(has_none(roots, lines, line));
+    }
+    match fill_of(roots, lines, line, bin) {
+        Some(filled) => {
+            slots.refill(filled)?;
+            Ok(true)
+        }
+        None => Ok(false),
+    }
+}
+
+// The slots of the line's only entry, if that is a fill of this partition and class.
+fn fill_of<'a>(
     roots: &'a [Journal],
     lines: &[ByLine],
     line: u32,
     bin: &Bin,
-    list: &'a [Numbered],
 ) -> Option<&'a [Numbered]>
     requires four { length roots.now ≤ 4 }
     requires known { KnowsLine roots.now lines.now line }
-    requires few { length list.now ≤ 64 }
-    ensures some { IfSome result (λ xs. FilledFirst (journal_at roots.now) line bin.now.partition bin.now.class list.now xs.now) }
+    ensures some { IfSome result (λ xs. FilledFirst (journal_at roots.now) line bin.now.partition bin.now.class [] xs.now) }
     ensures few { IfSome result (λ xs. length xs.now ≤ 64) }
     ensures none { IfNone result
-        ((xs : List Listed) → FilledFirst (journal_at roots.now) line bin.now.partition bin.now.class list.now xs → ⊥) }
+        ((xs : List Listed) → FilledFirst (journal_at roots.now) line bin.now.partition bin.now.class [] xs → ⊥) }
 {
-    if !list.is_empty() {
-        return if has_none(roots, lines, line) {
-            Some(list)
-        } else {
-            None
-        };
-    }
     match only_act(roots, lines, line, bin.partition) {
         Some(act) => filled_by(act, bin.class),
         None => None,
     }
 }
 
-// The slots behind the front, where that is the slot that was seen, at the number that was found.
-fn behind_front(slots: &[Numbered], seen: Seen) -> Option<&[Numbered]>
-    ensures some { IfSome result (λ rest. FrontIs seen slots.now rest.now) }
-    ensures none { IfNone result ((rest : List Listed) → FrontIs seen slots.now rest → ⊥) }
+// Whether the front is the slot that was seen, at the number that was found.
+fn is_front(slots: &[Numbered], seen: Seen) -> bool
+    ensures { IsTrue result ↔ FrontIs seen slots.now (drop 1 slots.now) }
 {
     match slots {
-        [first, rest @ ..] => {
-            if first.slot == seen.slot && first.number == number(seen.found) {
-                Some(rest)
-            } else {
-                None
-            }
-        }
-        [] => None,
+        [first, ..] => first.slot == seen.slot && first.number == number(seen.found),
+        [] => false,
     }
 }
 

@@ -1,26 +1,25 @@
 ghost use Rattle.std.specs.Prelude.{◌≡◌, ℕ, ◌+◌, ◌<◌, ◌^◌, ◌↔◌, Bool, [], ◌∷◌, ◌++◌, IfOk, IsTrue, List, OnOk, length};
-ghost use Rattle.std.specs.Ordering.{nat_cmp};
-ghost use Rattle.std.specs.BTreeMap.{get};
+ghost use Rattle.pa_audit_records.specs.ByKeys.{value_at};
 ghost use Rattle.pa_record.specs.declared.root.RootEntry.{RootEntry as Line};
 ghost use Rattle.pa_rules.specs.Tells.{TellsFirst};
-ghost use Rattle.pa_audit_holders.specs.Owners.{AreOfRuns, HasReturns, HasThreads, first_place};
+ghost use Rattle.pa_audit_holders.specs.Owners.{AreOfRuns, HasReturns, first_place};
 ghost use Rattle.pa_audit_holders.specs.Holding.{EntryMovesFit, EntryMovesFitAt, KnowsJournal};
 
 use crate::gone::{enter_gone, none_gone};
-use crate::moves::{both, move_slots, moves_of};
-use crate::owners::{Owner, find};
+use crate::moves::{both, move_slots, moves_of, thread_on};
+use crate::owners::Owner;
+use pa_audit_records::{ByKey, Salt};
 use pa_machine::OutOfMemory;
 use pa_record::{Journal, RootEntry};
 use pa_rules::Played;
 use std::alloc::Global;
-use std::collections::BTreeMap;
 
 // What is known of a journal's slots: the owner of each at each number that an entry names, and the direct maps that went
 // back, with the least number.
 #[derive(Drop)]
 pub(crate) struct Table {
-    pub(crate) owners: BTreeMap<u128, Owner>,
-    pub(crate) gone: BTreeMap<u64, u64>,
+    pub(crate) owners: ByKey<Owner>,
+    pub(crate) gone: ByKey<u64>,
 }
 
 // What is known of a journal, and the first of its entries that doesn't fit.
@@ -33,21 +32,20 @@ pub(crate) struct Walked {
 // Enters an entry behind those so far. Tells whether it fits.
 fn play(
     records: &[Played],
-    firsts: &BTreeMap<u128, u32>,
-    threads: &BTreeMap<u128, u32>,
+    firsts: &ByKey<u32>,
     table: &mut Table,
     entry: &RootEntry,
 ) -> Result<bool, OutOfMemory>
     requires known { AreOfRuns records.now }
-    requires returns { HasReturns records.now (get nat_cmp firsts.now) }
-    requires threads { HasThreads records.now (get nat_cmp threads.now) }
+    requires returns { HasReturns records.now (value_at firsts.now) }
+    requires few { length records.now < 2 ^ 32 }
     ensures table { OnOk result ((before : List Line) → KnowsJournal records.now before table.old
         → KnowsJournal records.now (before ++ entry.now ∷ []) table.new) }
     ensures fits { IfOk result (λ b. (before : List Line) → KnowsJournal records.now before table.old
         → IsTrue b ↔ EntryMovesFit records.now before entry.now) }
 {
     let moves = moves_of(&entry.act);
-    let thread = find(threads, entry.line as u128);
+    let thread = thread_on(records, entry.line);
     let stays = none_gone(&table.gone, moves.slots.items());
     let fit = move_slots(
         records,
@@ -75,25 +73,25 @@ fn first_misfit(first: Option<u32>, at: u32, fits: bool) -> Option<u32>
 // Goes through a journal, entry by entry, also where one doesn't fit.
 pub(crate) fn walk(
     alloc: Global,
+    salt: Salt,
     records: &[Played],
-    firsts: &BTreeMap<u128, u32>,
-    threads: &BTreeMap<u128, u32>,
+    firsts: &ByKey<u32>,
     journal: &Journal,
 ) -> Result<Walked, OutOfMemory>
     requires entries { length journal.now < 2 ^ 32 }
     requires known { AreOfRuns records.now }
-    requires returns { HasReturns records.now (get nat_cmp firsts.now) }
-    requires threads { HasThreads records.now (get nat_cmp threads.now) }
+    requires returns { HasReturns records.now (value_at firsts.now) }
+    requires few { length records.now < 2 ^ 32 }
     ensures table { IfOk result (λ walked. KnowsJournal records.now journal.now walked.table) }
     ensures misfit { IfOk result (λ walked. TellsFirst (EntryMovesFitAt records.now journal.now) walked.misfit) }
 {
-    let owners = BTreeMap::new(alloc);
-    let gone = BTreeMap::new(alloc);
+    let owners = ByKey::new(alloc, salt);
+    let gone = ByKey::new(alloc, salt);
     let mut table = Table { owners, gone };
     let mut misfit = None;
     let mut at: u32 = 0;
     for entry in journal.entries() {
-        let fits = play(records, firsts, threads, &mut table, entry)?;
+        let fits = play(records, firsts, &mut table, entry)?;
         misfit = first_misfit(misfit, at, fits);
         at += 1;
     }

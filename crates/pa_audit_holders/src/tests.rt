@@ -1,6 +1,5 @@
 ghost use Rattle.std.specs.Prelude.{◌≡◌, ℕ, ◌<◌, All, Contains, IsTrue, Some, length};
-ghost use Rattle.std.specs.Ordering.{nat_cmp};
-ghost use Rattle.std.specs.BTreeMap.{get};
+ghost use Rattle.pa_audit_records.specs.ByKeys.{value_at};
 ghost use Rattle.pa_machine.specs.declared.word.SlotName.{SlotName as Name};
 ghost use Rattle.pa_record.specs.Laws.{leaves_by};
 ghost use Rattle.pa_record.specs.Root.{names};
@@ -10,14 +9,14 @@ ghost use Rattle.pa_audit_holders.specs.Homes.{AreHomedIn, HasOneHome, home_by};
 ghost use Rattle.pa_audit_holders.specs.Rows.{IsOfThreads};
 
 use crate::caches_meet;
-use crate::homes::{Home, find, homes_of, key};
+use crate::homes::{Home, homes_of, key};
+use pa_audit_records::{ByKey, Salt};
 use pa_buckets::{Class, slot_size};
 use pa_machine::{OutOfMemory, SlotName, Word};
 use pa_record::{Answer, Batch, Journal, Numbered, RootAct, RootEntry, Seen};
 use pa_rules::Played;
 use pa_trace::Op;
 use std::alloc::Global;
-use std::collections::BTreeMap;
 use std::test::Fail;
 
 // What the checker tells: the first record that doesn't meet its demand.
@@ -33,11 +32,12 @@ fn first_of(alloc: Global, records: &[Played], roots: &[Journal]) -> Result<Firs
     if records.len() >= 1000 || roots.len() > 4 || !are_short(roots) || !are_within(records) {
         return Ok(First::Unfit);
     }
-    let homes = homes_of(alloc, roots)?;
+    let salt = Salt::of(records, roots);
+    let homes = homes_of(alloc, salt, roots)?;
     if !are_homed(&homes, roots) {
         return Ok(First::Unfit);
     }
-    match caches_meet(alloc, 1, records, roots)? {
+    match caches_meet(alloc, salt, 1, records, roots)? {
         Some(at) => Ok(First::Record(at)),
         None => Ok(First::Nowhere),
     }
@@ -77,10 +77,10 @@ pub(crate) fn are_short(roots: &[Journal]) -> bool
 }
 
 // Whether this is the slot's home.
-fn is_homed(homes: &BTreeMap<u64, Home>, home: Home, slot: SlotName) -> bool
-    ensures { IsTrue result → get nat_cmp homes.now (name_key slot) ≡ Some home }
+fn is_homed(homes: &ByKey<Home>, home: Home, slot: SlotName) -> bool
+    ensures { IsTrue result → value_at homes.now (name_key slot) ≡ Some home }
 {
-    match find(homes, key(slot)) {
+    match homes.find(key(slot)) {
         Some(found) => {
             found.partition == home.partition
                 && found.bytes == home.bytes
@@ -100,8 +100,8 @@ fn is_same_class(a: Option<u32>, b: Option<u32>) -> bool
     }
 }
 
-fn are_slots_homed(homes: &BTreeMap<u64, Home>, home: Home, slots: &[Numbered]) -> bool
-    ensures { IsTrue result → (s : Name) → Contains (names slots.now) s → get nat_cmp homes.now (name_key s) ≡ Some home }
+fn are_slots_homed(homes: &ByKey<Home>, home: Home, slots: &[Numbered]) -> bool
+    ensures { IsTrue result → (s : Name) → Contains (names slots.now) s → value_at homes.now (name_key s) ≡ Some home }
 {
     for slot in slots {
         if !is_homed(homes, home, slot.slot) {
@@ -112,9 +112,9 @@ fn are_slots_homed(homes: &BTreeMap<u64, Home>, home: Home, slots: &[Numbered]) 
 }
 
 // Whether the home of each slot that the entry handed out is the one that the entry gave it.
-fn is_entry_homed(homes: &BTreeMap<u64, Home>, partition: u32, entry: &RootEntry) -> bool
+fn is_entry_homed(homes: &ByKey<Home>, partition: u32, entry: &RootEntry) -> bool
     ensures { IsTrue result → (s : Name) → Contains (leaves_by entry.now.act) s
-        → get nat_cmp homes.now (name_key s) ≡ Some (home_by partition entry.now.act) }
+        → value_at homes.now (name_key s) ≡ Some (home_by partition entry.now.act) }
 {
     match &entry.act {
         RootAct::Fill { class, slots, .. } => {
@@ -138,13 +138,13 @@ fn is_entry_homed(homes: &BTreeMap<u64, Home>, partition: u32, entry: &RootEntry
 }
 
 fn is_journal_homed(
-    homes: &BTreeMap<u64, Home>,
+    homes: &ByKey<Home>,
     roots: &[Journal],
     partition: u32,
     journal: &Journal,
 ) -> bool
     requires journal { journal_at roots.now partition ≡ journal.now }
-    ensures { IsTrue result → AreHomedIn (journal_at roots.now) (get nat_cmp homes.now) partition }
+    ensures { IsTrue result → AreHomedIn (journal_at roots.now) (value_at homes.now) partition }
 {
     for entry in journal.entries() {
         if !is_entry_homed(homes, partition, entry) {
@@ -155,7 +155,7 @@ fn is_journal_homed(
 }
 
 // Whether each slot of the journals has one home.
-fn are_homed(homes: &BTreeMap<u64, Home>, roots: &[Journal]) -> bool
+fn are_homed(homes: &ByKey<Home>, roots: &[Journal]) -> bool
     requires { length roots.now < 4294967296 }
     ensures { IsTrue result → (s : Name) → HasOneHome (journal_at roots.now) s }
 {

@@ -1,6 +1,6 @@
 -- The record before each one of its thread, and the one that handed over what an exchange found.
 use Rattle.std.proofs.Common.{◌≡◌, ℕ, zero, suc, ◌+◌, ◌<◌, ◌⊎◌, List, [], ◌∷◌, ◌++◌, get_or, length, Option, Some, None, refl, sym, ◌∙◌, ap, subst, arith, inl, inr}
-use Rattle.std.specs.Prelude.{slice_get, Contains, IfSome}
+use Rattle.std.specs.Prelude.{slice_get, Contains, IfSome, IfNone}
 use Rattle.std.proofs.lemmas.Bool.{cases_lt, cases_eq}
 use Rattle.std.proofs.lemmas.List.{length_push}
 use Rattle.pa_trace.specs.declared.script.Op.TheVariants.{Swap}
@@ -13,7 +13,7 @@ use Rattle.pa_rules.specs.Cells.{IsExchange}
 use Rattle.pa_rules.specs.RecordDemands.{IsRecord, CellsDemand}
 use Rattle.pa_rules.specs.Seen.{HandsTo}
 use Rattle.pa_verdict.proofs.Lists.{in_at, one_at}
-use Rattle.pa_audit_records.specs.Exchanges.{AreByLine}
+use Rattle.pa_audit_records.specs.Seeking.{IsOnLine, NoneOnLine}
 use Rattle.pa_rules.specs.Rising.{RiseByLine}
 use Rattle.pa_audit_records.specs.Tables.{Puts}
 use Rattle.pa_audit_records.proofs.Walking.{here_is}
@@ -105,17 +105,6 @@ givers_more cells ps table k d o below giver h = record {
   ];
 }
 
--- ---- the record of a line
-
-found_on : (ps : List Played) (at : ℕ → Option ℕ) (j : ℕ) (x : Played) → RiseByLine ps → AreByLine ps at → IsRecord ps j x → (o : Option ℕ) → at x.line ≡ o → o ≡ Some j
-found_on ps at j x rising h here None is = absurd (h.miss x.line j x is here refl)
-found_on ps at j x rising h here (Some i) is =
-    let (y, there, line) = h.hit x.line i is in
-    ap Some (one_place ps i j y x rising there here line)
-
-pub line_found : (ps : List Played) (at : ℕ → Option ℕ) (j : ℕ) (x : Played) → RiseByLine ps → AreByLine ps at → IsRecord ps j x → at x.line ≡ Some j
-line_found ps at j x rising h here = found_on ps at j x rising h here (at x.line) refl
-
 -- ---- who handed over
 
 swapped_same : (i j : ℕ) → Swapped i ≡ Swapped j → i ≡ j
@@ -185,16 +174,20 @@ given_all cells ps told x o rising swaps exchanges among all hands =
     let h = handed cells ps told x rising swaps exchanges among hands in
     all h.cell h.reg h.entry x.line h.op h.answer h.giving
 
--- by the table of the lines
-pub giver_is : (cells : ℕ → List CellEntry) (ps : List Played) (at : ℕ → Option ℕ) (told : Played) (l : ℕ) (o : Option ℕ) → RiseByLine ps → AreByLine ps at → AsksSwaps cells ps → AsksExchanges cells ps → Contains ps told
-    → (k reg j : ℕ) × (told.op ≡ Swap k reg) × (told.answer ≡ Swapped j) × IsGiving cells k j l → o ≡ at l → IfSome o (λ j. (x : Played) × IsRecord ps j x × HandsTo cells x told)
-giver_is cells ps at told l None rising lines swaps exchanges among given is = tt
-giver_is cells ps at told l (Some i) rising lines swaps exchanges among (k, reg, j, op, answer, giving) is =
-    let (x, here, line) = lines.hit l i (sym is) in
-    (x, here, gives_to cells ps told x k reg j l rising swaps exchanges among op answer giving line)
+-- by the record that was found on the line
+pub giver_is : (cells : ℕ → List CellEntry) (ps : List Played) (told : Played) (l : ℕ) (o : Option ℕ) → RiseByLine ps → AsksSwaps cells ps → AsksExchanges cells ps → Contains ps told
+    → (k reg j : ℕ) × (told.op ≡ Swap k reg) × (told.answer ≡ Swapped j) × IsGiving cells k j l → IfSome o (IsOnLine ps l) → IfSome o (λ j. (x : Played) × IsRecord ps j x × HandsTo cells x told)
+giver_is cells ps told l None rising swaps exchanges among given found = tt
+giver_is cells ps told l (Some i) rising swaps exchanges among (k, reg, j, op, answer, giving) (x, here, line) = (x, here, gives_to cells ps told x k reg j l rising swaps exchanges among op answer giving line)
 
-pub giver_all : (cells : ℕ → List CellEntry) (ps : List Played) (at : ℕ → Option ℕ) (told x : Played) (l j : ℕ) (o : Option ℕ) → RiseByLine ps → AreByLine ps at → AsksSwaps cells ps → AsksExchanges cells ps → Contains ps told
-    → ((k reg j n : ℕ) → told.op ≡ Swap k reg → told.answer ≡ Swapped j → IsGiving cells k j n → Some l ≡ Some n) → o ≡ at l → IsRecord ps j x → HandsTo cells x told → o ≡ Some j
-giver_all cells ps at told x l j o rising lines swaps exchanges among all is here hands =
-    let same : l ≡ x.line = of_some l x.line (given_all cells ps told x (Some l) rising swaps exchanges among all hands) in
-    is ∙ ap at same ∙ line_found ps at j x rising lines here
+pub giver_all : (cells : ℕ → List CellEntry) (ps : List Played) (told x : Played) (l j : ℕ) (o : Option ℕ) → RiseByLine ps → AsksSwaps cells ps → AsksExchanges cells ps → Contains ps told
+    → ((k reg j n : ℕ) → told.op ≡ Swap k reg → told.answer ≡ Swapped j → IsGiving cells k j n → Some l ≡ Some n) → IfSome o (IsOnLine ps l) → IfNone o (NoneOnLine ps l) → IsRecord ps j x → HandsTo cells x told → o ≡ Some j
+giver_all cells ps told x l j o rising swaps exchanges among all some none here hands =
+    on_line o some none
+  where
+    same : l ≡ x.line
+    same = of_some l x.line (given_all cells ps told x (Some l) rising swaps exchanges among all hands)
+
+    on_line : (o : Option ℕ) → IfSome o (IsOnLine ps l) → IfNone o (NoneOnLine ps l) → o ≡ Some j
+    on_line None some none = absurd (none j (x, here, sym same))
+    on_line (Some i) (y, there, line) none = ap Some (one_place ps i j y x rising there here (line ∙ same))

@@ -1,6 +1,9 @@
 -- The tables of the records that filled a slot and of those that freed it, by slot and number.
-use Rattle.std.proofs.Common.{◌≡◌, ℕ, ◌+◌, ◌<◌, List, [], ◌∷◌, get_or, length, Option, Some, None, refl, sym, ◌∙◌, ap, subst, arith, inl, inr}
+use Rattle.std.proofs.Common.{◌≡◌, ℕ, ◌+◌, ◌<◌, false, List, [], ◌∷◌, get_or, length, Option, Some, None, refl, sym, ◌∙◌, ap, subst, arith, inl, inr}
 use Rattle.std.specs.Prelude.{slice_get, Contains}
+use Rattle.std.specs.Ordering.{nat_cmp, is_eq}
+use Rattle.std.specs.Cmp.{nat_cmp_is}
+use Rattle.std.specs.declared.cmp.Ordering.TheVariants.{Less, Greater}
 use Rattle.std.proofs.lemmas.Bool.{cases_lt, cases_eq}
 use Rattle.pa_machine.specs.declared.word.SlotName.{SlotName}
 use Rattle.pa_machine.specs.declared.word.Step.{Step}
@@ -31,6 +34,22 @@ use Rattle.pa_audit_records.proofs.Walking.{here_is}
 use Rattle.pa_audit_order.specs.declared.numbers.Kind.{Kind}
 use Rattle.pa_audit_order.specs.declared.numbers.Kind.TheVariants.{Fill, Free}
 use Rattle.pa_audit_order.specs.Numbers.{seen_by, DoesAt, IsOneAt, AreByNumber}
+
+-- ---- a map that is ordered, after a key was set
+
+keys_apart : (k q : ℕ) → (k ≡ q → ⊥) → is_eq (nat_cmp k q) ≡ false
+keys_apart k q apart = elim (cases_lt k q) [
+  | inl less ↦ ap is_eq (sym (nat_cmp_is k q Less less))
+  | inr most ↦
+      let more : q < k = elim (cases_lt q k) [
+        | inl less ↦ less
+        | inr least ↦ absurd (apart (omega (arith, most, least)))
+      ] in
+      ap is_eq (sym (nat_cmp_is k q Greater more))
+]
+
+pub put_key : (f g : ℕ → Option ℕ) (k v : ℕ) → g k ≡ Some v → ((q : ℕ) → is_eq (nat_cmp k q) ≡ false → g q ≡ f q) → Puts f g k v
+put_key f g k v here other = record { here = here; other = λ q apart. other q (keys_apart k q (λ e. apart (sym e))) }
 
 -- ---- who fills or frees a slot makes a step
 

@@ -1,6 +1,5 @@
 ghost use Rattle.std.specs.Prelude.{◌≡◌, ◌↔◌, ℕ, ◌+◌, ◌<◌, ◌≤◌, ◌^◌, List, [], ◌++◌, Bool, true, false, IfOk, IsTrue, None, Some, OnOk, length, replicate, set};
-ghost use Rattle.std.specs.Ordering.{nat_cmp};
-ghost use Rattle.std.specs.BTreeMap.{get};
+ghost use Rattle.pa_audit_records.specs.ByKeys.{value_at};
 ghost use Rattle.pa_machine.specs.Run.{Mark};
 ghost use Rattle.pa_rules.specs.Cells.{history_at};
 ghost use Rattle.pa_rules.specs.Played.{mark_of};
@@ -10,11 +9,11 @@ ghost use Rattle.pa_audit_order.specs.Cuts.{IsAheadAt, IsNear, IsGrown, IsPrepar
 
 use crate::keys::{key, raise};
 use crate::looks::look_of;
+use pa_audit_records::{ByKey, Salt};
 use pa_machine::OutOfMemory;
 use pa_record::History;
 use pa_rules::Played;
 use std::alloc::Global;
-use std::collections::BTreeMap;
 
 // The records that are before those to come: which are marked, those that are still to be, up to which place all are in, and
 // for each slot the greatest number that a marked record left.
@@ -23,21 +22,21 @@ pub(crate) struct Cut {
     pub marked: Vec<bool>,
     pub stack: Vec<u32>,
     pub floor: usize,
-    pub left: BTreeMap<u128, u64>,
+    pub left: ByKey<u64>,
 }
 
 // None of so many records.
-pub(crate) fn no_cut(alloc: Global, length: usize) -> Result<Cut, OutOfMemory>
+pub(crate) fn no_cut(alloc: Global, salt: Salt, length: usize) -> Result<Cut, OutOfMemory>
     ensures marked { IfOk result (λ c. c.marked.items ≡ replicate length false) }
     ensures stack { IfOk result (λ c. c.stack.items ≡ []) }
     ensures floor { IfOk result (λ c. c.floor ≡ 0) }
-    ensures left { IfOk result (λ c. (q : ℕ) → get nat_cmp c.left q ≡ None) }
+    ensures left { IfOk result (λ c. (q : ℕ) → value_at c.left q ≡ None) }
 {
     Ok(Cut {
         marked: vec![in alloc; false; length]?,
         stack: Vec::new(alloc),
         floor: 0,
-        left: BTreeMap::new(alloc),
+        left: ByKey::new(alloc, salt),
     })
 }
 
@@ -97,13 +96,13 @@ fn mark(
     records: &[Played],
     at: u32,
     marked: &mut Vec<bool>,
-    left: &mut BTreeMap<u128, u64>,
+    left: &mut ByKey<u64>,
 ) -> Result<(), OutOfMemory>
     requires at { at < length records.now }
     requires long { length marked.old.items ≡ length records.now }
-    requires left { AreLeft records.now marked.old.items (get nat_cmp left.old) }
+    requires left { AreLeft records.now marked.old.items (value_at left.old) }
     ensures marked { OnOk result (marked.new.items ≡ set marked.old.items at true) }
-    ensures left { OnOk result (AreLeft records.now (set marked.old.items at true) (get nat_cmp left.new)) }
+    ensures left { OnOk result (AreLeft records.now (set marked.old.items at true) (value_at left.new)) }
 {
     marked[at as usize] = true;
     if let Some(look) = look_of(records[at as usize]) {
@@ -125,9 +124,9 @@ pub(crate) fn reach(
     requires ready { IsPrepared (history_at cells.now) records.now previous.now givers.now }
     requires at { at < length records.now }
     requires cut { IsGrown (history_at cells.now) records.now (IsAheadAt (history_at cells.now) records.now at) (length records.now)
-        cut.old.marked.items cut.old.stack.items cut.old.floor (get nat_cmp cut.old.left) }
+        cut.old.marked.items cut.old.stack.items cut.old.floor (value_at cut.old.left) }
     ensures cut { OnOk result (IsGrown (history_at cells.now) records.now (IsAheadAt (history_at cells.now) records.now at)
-        (length records.now) cut.new.marked.items [] cut.new.floor (get nat_cmp cut.new.left)) }
+        (length records.now) cut.new.marked.items [] cut.new.floor (value_at cut.new.left)) }
     ensures empty { OnOk result (cut.new.stack.items ≡ []) }
     ensures near { OnOk result ((j : ℕ) → IsNear (history_at cells.now) records.now j at → IsMarked cut.new.marked.items j) }
 {
@@ -158,13 +157,13 @@ pub(crate) fn reach(
 }
 
 // Whether what a record tells finds no lower number of its slot than is left there.
-pub(crate) fn finds_enough(left: &BTreeMap<u128, u64>, told: Played) -> bool
-    ensures enough { IsTrue result ↔ FindsEnough (get nat_cmp left.now) (mark_of told) }
+pub(crate) fn finds_enough(left: &ByKey<u64>, told: Played) -> bool
+    ensures enough { IsTrue result ↔ FindsEnough (value_at left.now) (mark_of told) }
     ensures sized { (m : Mark) → mark_of told ≡ Some m → m.slot.start < 4294967296 }
 {
     match look_of(told) {
-        Some(look) => match left.get(&key(look.slot, 0)) {
-            Some(number) => *number <= look.found,
+        Some(look) => match left.find(key(look.slot, 0)) {
+            Some(number) => number <= look.found,
             None => true,
         },
         None => true,

@@ -1,6 +1,5 @@
 ghost use Rattle.std.specs.Prelude.{◌≡◌, ℕ, ◌<◌, ◌^◌, Contains, IfOk, IfSome, Some, length};
-ghost use Rattle.std.specs.Ordering.{nat_cmp};
-ghost use Rattle.std.specs.BTreeMap.{get};
+ghost use Rattle.pa_audit_records.specs.ByKeys.{value_at};
 ghost use Rattle.pa_record.specs.declared.entry.Answer.TheVariants.{Swapped};
 ghost use Rattle.pa_trace.specs.declared.script.Op.TheVariants.{Swap};
 ghost use Rattle.pa_rules.specs.declared.played.Played.{Played};
@@ -8,48 +7,33 @@ ghost use Rattle.pa_rules.specs.declared.verdict.Place.TheVariants as places;
 ghost use Rattle.pa_rules.specs.Cells.{history_at};
 ghost use Rattle.pa_rules.specs.RecordDemands.{IsRecord, CellsDemand};
 ghost use Rattle.pa_rules.specs.Seen.{HandsTo};
-ghost use Rattle.pa_audit_records.specs.Exchanges.{AreByLine};
 ghost use Rattle.pa_rules.specs.Rising.{RiseByLine};
 ghost use Rattle.pa_audit_order.specs.Steps.{AreGivers, ArePrevious, IsGiving};
 
 use crate::changes::exchange;
-use crate::keys::{find, put};
+use pa_audit_records::{ByKey, Salt, record_on};
 use pa_machine::OutOfMemory;
 use pa_record::{Answer, Held, History};
 use pa_rules::Played;
 use pa_trace::Op;
 use std::alloc::Global;
-use std::collections::BTreeMap;
-
-// The record of each line.
-fn by_line(alloc: Global, records: &[Played]) -> Result<BTreeMap<u128, u32>, OutOfMemory>
-    requires few { length records.now < 2 ^ 32 }
-    ensures { IfOk result (λ m. AreByLine records.now (get nat_cmp m)) }
-{
-    let mut by_line = BTreeMap::new(alloc);
-    let mut at: u32 = 0;
-    for record in records {
-        put(&mut by_line, record.line as u128, at)?;
-        at += 1;
-    }
-    Ok(by_line)
-}
 
 // The record before each one of its thread.
 pub(crate) fn previous_of(
     alloc: Global,
+    salt: Salt,
     records: &[Played],
 ) -> Result<Vec<Option<u32>>, OutOfMemory>
     requires few { length records.now < 2 ^ 32 }
     ensures { IfOk result (λ v. ArePrevious records.now v.items (length records.now)) }
 {
     let mut previous = Vec::new(alloc);
-    let mut last = BTreeMap::new(alloc);
+    let mut last = ByKey::new(alloc, salt);
     let mut at: u32 = 0;
     for record in records {
         let thread = record.thread as u128;
-        previous.push(find(&last, thread))?;
-        put(&mut last, thread, at)?;
+        previous.push(last.find(thread))?;
+        last.put(thread, at)?;
         at += 1;
     }
     Ok(previous)
@@ -88,14 +72,9 @@ fn given_to(cells: &[History], told: Played) -> Option<u32>
 }
 
 // That record.
-fn giver(
-    records: &[Played],
-    by_line: &BTreeMap<u128, u32>,
-    cells: &[History],
-    told: Played,
-) -> Option<u32>
+fn giver(records: &[Played], cells: &[History], told: Played) -> Option<u32>
+    requires few { length records.now < 2 ^ 32 }
     requires rising { RiseByLine records.now }
-    requires by_line { AreByLine records.now (get nat_cmp by_line.now) }
     requires among { Contains records.now told }
     requires swaps { (i : ℕ) → CellsDemand (history_at cells.now) records.now (places.Record i) }
     requires exchanges { (k j : ℕ) → CellsDemand (history_at cells.now) records.now (places.Cell k j) }
@@ -103,7 +82,7 @@ fn giver(
     ensures all { (j : ℕ) (x : Played) → IsRecord records.now j x → HandsTo (history_at cells.now) x told → result ≡ Some j }
 {
     match given_to(cells, told) {
-        Some(line) => find(by_line, line as u128),
+        Some(line) => record_on(records, line),
         None => None,
     }
 }
@@ -120,10 +99,9 @@ pub(crate) fn givers_of(
     requires exchanges { (k j : ℕ) → CellsDemand (history_at cells.now) records.now (places.Cell k j) }
     ensures { IfOk result (λ v. AreGivers (history_at cells.now) records.now v.items (length records.now)) }
 {
-    let by_line = by_line(alloc, records)?;
     let mut givers = Vec::new(alloc);
     for record in records {
-        let giver = giver(records, &by_line, cells, *record);
+        let giver = giver(records, cells, *record);
         givers.push(giver)?;
     }
     Ok(givers)

@@ -3,10 +3,11 @@ ghost use Rattle.std.specs.Ordering.{nat_cmp};
 ghost use Rattle.std.specs.BTreeMap.{get};
 ghost use Rattle.pa_audit_records.specs.Keys.{word_key};
 ghost use Rattle.pa_audit_records.specs.Marks.{IsSized};
-ghost use Rattle.pa_audit_records.specs.Tables.{Puts};
+ghost use Rattle.pa_audit_records.specs.ByKeys.{value_at};
 ghost use Rattle.pa_audit_order.specs.Keyed.{HasNoKey, IsGreatest, IsLeast};
 ghost use Rattle.pa_audit_order.specs.Looks.{Raises};
 
+use pa_audit_records::ByKey;
 use pa_machine::{OutOfMemory, SlotName};
 use std::collections::BTreeMap;
 
@@ -17,21 +18,6 @@ pub(crate) fn key(slot: SlotName, number: u64) -> u128
 {
     (slot.born as u128 * 4_294_967_296 + slot.start as u128) * 18_446_744_073_709_551_616
         + number as u128
-}
-
-// Sets a key.
-pub(crate) fn put(map: &mut BTreeMap<u128, u32>, key: u128, value: u32) -> Result<(), OutOfMemory>
-    ensures { OnOk result (Puts (get nat_cmp map.old) (get nat_cmp map.new) key value) }
-{
-    map.insert(key, value)?;
-    Ok(())
-}
-
-// What stands at a key.
-pub(crate) fn find(map: &BTreeMap<u128, u32>, key: u128) -> Option<u32>
-    ensures { result ≡ get nat_cmp map.now key }
-{
-    map.get(&key).copied()
 }
 
 // What stands at the greatest key from `low` on and below `high`.
@@ -61,14 +47,14 @@ pub(crate) fn least(map: &BTreeMap<u128, u32>, low: u128, last: u128) -> Option<
 }
 
 // Raises what stands at a key to the value.
-pub(crate) fn raise(map: &mut BTreeMap<u128, u64>, key: u128, value: u64) -> Result<(), OutOfMemory>
-    ensures { OnOk result (Raises (get nat_cmp map.old) (get nat_cmp map.new) key value) }
+pub(crate) fn raise(map: &mut ByKey<u64>, key: u128, value: u64) -> Result<(), OutOfMemory>
+    ensures { OnOk result (Raises (value_at map.old) (value_at map.new) key value) }
 {
-    if let Some(old) = map.get(&key).copied() {
+    if let Some(old) = map.find(key) {
         if old >= value {
             return Ok(());
         }
     }
-    map.insert(key, value)?;
+    map.put(key, value)?;
     Ok(())
 }

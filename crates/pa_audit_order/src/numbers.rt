@@ -3,7 +3,7 @@ ghost use Rattle.std.specs.Ordering.{nat_cmp};
 ghost use Rattle.std.specs.BTreeMap.{get};
 ghost use Rattle.pa_audit_order.specs.Numbers.{seen_by, IsOneAt, AreByNumber};
 
-use crate::keys::{key, put};
+use crate::keys::key;
 use pa_machine::{OutOfMemory, number};
 use pa_record::{Answer, Seen};
 use pa_rules::Played;
@@ -55,7 +55,7 @@ pub(crate) fn by_number(
     let mut at: u32 = 0;
     for record in records {
         if let Some(seen) = seen_of(kind, record.op, record.answer) {
-            put(&mut table, key(seen.slot, number(seen.found)), at)?;
+            table.insert(key(seen.slot, number(seen.found)), at)?;
         }
         at += 1;
     }

@@ -1,6 +1,5 @@
 ghost use Rattle.std.specs.Prelude.{◌≡◌, ◌↔◌, ℕ, ◌<◌, ◌^◌, All, IfOk, IsTrue, Some, length};
-ghost use Rattle.std.specs.Ordering.{nat_cmp};
-ghost use Rattle.std.specs.BTreeMap.{get};
+ghost use Rattle.pa_audit_records.specs.ByKeys.{value_at};
 ghost use Rattle.pa_machine.specs.Run.{Mark};
 ghost use Rattle.pa_rules.specs.declared.verdict.Place.TheVariants as places;
 ghost use Rattle.pa_rules.specs.Cells.{history_at};
@@ -14,11 +13,11 @@ ghost use Rattle.pa_audit_order.specs.Cuts.{IsPrepared, IsOrderly, TellsOf, earl
 
 use crate::cuts::{Cut, finds_enough, no_cut, reach};
 use crate::hands::{givers_of, previous_of};
+use pa_audit_records::Salt;
 use pa_machine::OutOfMemory;
 use pa_record::History;
 use pa_rules::Played;
 use std::alloc::Global;
-use std::collections::BTreeMap;
 
 // Threads of a trace at most.
 const THREADS: u32 = 16;
@@ -27,6 +26,7 @@ const THREADS: u32 = 16;
 /// finds a lower number of its slot than a record that is before it left; none where no record does.
 pub fn seen_meets(
     alloc: Global,
+    salt: Salt,
     records: &[Played],
     cells: &[History],
 ) -> Result<Option<u32>, OutOfMemory>
@@ -38,11 +38,11 @@ pub fn seen_meets(
     requires exchanges { (k j : ℕ) → CellsDemand (history_at cells.now) records.now (places.Cell k j) }
     ensures { IfOk result (TellsFirst (λ i. SeenDemand (history_at cells.now) records.now (places.Record i))) }
 {
-    let previous = previous_of(alloc, records)?;
+    let previous = previous_of(alloc, salt, records)?;
     let givers = givers_of(alloc, records, cells)?;
     let mut first = None;
     for thread in 0..THREADS {
-        let told = walk(alloc, records, &previous, &givers, cells, thread)?;
+        let told = walk(alloc, salt, records, &previous, &givers, cells, thread)?;
         first = earlier(first, told);
     }
     Ok(first)
@@ -64,7 +64,7 @@ fn earlier(first: Option<u32>, told: Option<u32>) -> Option<u32>
 // Whether the record isn't before itself, and finds no lower number than is left.
 fn is_fresh(cut: &Cut, at: u32, told: Played) -> bool
     requires at { at < length cut.now.marked.items }
-    ensures fresh { IsTrue result ↔ IsOrderly cut.now.marked.items at (get nat_cmp cut.now.left) (mark_of told) }
+    ensures fresh { IsTrue result ↔ IsOrderly cut.now.marked.items at (value_at cut.now.left) (mark_of told) }
     ensures sized { (m : Mark) → mark_of told ≡ Some m → m.slot.start < 4294967296 }
 {
     let enough = finds_enough(&cut.left, told);
@@ -74,6 +74,7 @@ fn is_fresh(cut: &Cut, at: u32, told: Played) -> bool
 // The first record of the thread that is before itself, or finds too low a number.
 fn walk(
     alloc: Global,
+    salt: Salt,
     records: &[Played],
     previous: &[Option<u32>],
     givers: &[Option<u32>],
@@ -84,7 +85,7 @@ fn walk(
     requires ready { IsPrepared (history_at cells.now) records.now previous.now givers.now }
     ensures { IfOk result (TellsOf records.now thread (λ i. SeenDemand (history_at cells.now) records.now (places.Record i))) }
 {
-    let mut cut = no_cut(alloc, records.len())?;
+    let mut cut = no_cut(alloc, salt, records.len())?;
     let mut at: u32 = 0;
     for record in records {
         if record.thread == thread {

@@ -2,7 +2,7 @@ ghost use Rattle.std.specs.Prelude.{◌-◌, ◌<◌, ◌^◌, length};
 
 use crate::tests::{ALLOC, FIRST, READ, all_within, done, entry, gave, history, line, made, value};
 use crate::{records_never_fall_back, seen_meets};
-use pa_audit_records::{exchanges_meet, records_of, swaps_meet};
+use pa_audit_records::{Salt, exchanges_meet, records_of, swaps_meet};
 use pa_machine::OutOfMemory;
 use pa_record::{Answer, Entry, Held, History};
 use pa_trace::{Line, Op};
@@ -28,10 +28,11 @@ fn seen_of(
     if let Some(_at) = swaps_meet(records, cells) {
         return Ok(Some(u32::MAX));
     }
-    let place = exchanges_meet(alloc, records, cells)?;
+    let salt = Salt::of(records, &[]);
+    let place = exchanges_meet(alloc, salt, records, cells)?;
     match place {
         Some(_) => Ok(Some(u32::MAX)),
-        None => seen_meets(alloc, records, cells),
+        None => seen_meets(alloc, salt, records, cells),
     }
 }
 

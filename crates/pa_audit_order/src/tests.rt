@@ -3,7 +3,7 @@ ghost use Rattle.std.specs.Bool.{OnTrue};
 ghost use Rattle.pa_audit_records.specs.Rows.{NamesRegisters, IsPlayedWithin};
 
 use crate::contents_meet;
-use pa_audit_records::{records_of, registers_meet, slots_meet};
+use pa_audit_records::{Salt, records_of, registers_meet, slots_meet};
 use pa_machine::{OutOfMemory, SlotName, Word};
 use pa_record::{Answer, CellEntry, Entry, Held, History, Seen};
 use pa_rules::Played;
@@ -109,10 +109,11 @@ fn contents_of(
     if !all_within(records) {
         return Ok(Some(u32::MAX));
     }
-    if let Some(_at) = registers_meet(alloc, records, cells)? {
+    let salt = Salt::of(records, &[]);
+    if let Some(_at) = registers_meet(alloc, salt, records, cells)? {
         return Ok(Some(u32::MAX));
     }
-    if let Some(_at) = slots_meet(alloc, records)? {
+    if let Some(_at) = slots_meet(alloc, salt, records)? {
         return Ok(Some(u32::MAX));
     }
     contents_meet(alloc, records, cells)

@@ -14,15 +14,17 @@ use Rattle.pa_rules.specs.declared.played.Played.{Played}
 use Rattle.pa_rules.specs.declared.verdict.Place.TheVariants as places
 use Rattle.pa_rules.specs.Cells.{IsExchange, history_at}
 use Rattle.pa_rules.specs.Order.{StandsBefore}
-use Rattle.pa_rules.specs.RecordDemands.{IsRecord, IsAbove, WasGiven, ExchangeFits, CellsDemand}
+use Rattle.pa_rules.specs.RecordDemands.{IsAbove, WasGiven, ExchangeFits, CellsDemand}
 use Rattle.pa_rules.proofs.ByLines.{same_record}
-use Rattle.pa_verdict.proofs.Lists.{at_in, in_at, map_at, at_map, one_at}
-use Rattle.pa_audit_records.specs.Exchanges.{NamesExchange, SwapFits, IsSwapOf, TellsPair, AreByLine, AreLinesKnown, IsEarlier, HasLatest, IsRecordOfSwap, FitsNow}
+use Rattle.pa_verdict.proofs.Lists.{map_at, at_map, one_at}
+use Rattle.pa_audit_records.specs.Exchanges.{NamesExchange, SwapFits, IsSwapOf, TellsPair, AreLinesKnown, IsEarlier, HasLatest, IsRecordOfSwap, FitsNow}
 use Rattle.pa_rules.specs.Rising.{RiseByLine}
 use Rattle.pa_rules.specs.Tells.{TellsFirst}
 use Rattle.pa_audit_records.specs.Tables.{Puts}
 use Rattle.pa_audit_records.proofs.Telling.{met_more}
 use Rattle.pa_audit_records.proofs.Walking.{here_is, not_there}
+use Rattle.pa_audit_records.specs.Seeking.{IsOnLine}
+use Rattle.pa_audit_records.proofs.Seeking.{line_is}
 use Rattle.pa_audit_records.proofs.Stepping.{records_differ}
 
 -- ---- the records
@@ -43,50 +45,6 @@ pub swap_fits : (cells : ℕ → List CellEntry) (ps : List Played) (i : ℕ) (d
 swap_fits cells ps i d below asks =
     let x = get_or ps i d in
     swap_gives cells x.op x.answer x.line (λ k reg op. asks x k reg (here_is ps i d below) op)
-
--- ---- the records by their lines
-
--- the table of the lines of the records so far
-pub record ByLineSoFar (ps : List Played) (at : ℕ → Option ℕ) (m : ℕ) : Type 0 where
-  pub hit : (n i : ℕ) → at n ≡ Some i → (x : Played) × IsRecord ps i x × (x.line ≡ n)
-  pub miss : (n i : ℕ) (x : Played) → at n ≡ None → i < m → IsRecord ps i x → x.line ≡ n → ⊥
-
-pub lines_start : (ps : List Played) (at : ℕ → Option ℕ) → ((q : ℕ) → at q ≡ None) → ByLineSoFar ps at 0
-lines_start ps at none = record {
-  hit = λ n i is. absurd (not_some i (sym (none n) ∙ is));
-  miss = λ n i x is less here line. omega (arith, less);
-}
-
-pub lines_more : (ps : List Played) (f g : ℕ → Option ℕ) (m v : ℕ) (d : Played) → m < length ps → v ≡ m → Puts f g (get_or ps m d).line v → ByLineSoFar ps f m → ByLineSoFar ps g (m + 1)
-lines_more ps f g m v d below same puts h =
-    let x = get_or ps m d in
-    record {
-      hit = λ n i is. elim (cases_eq n x.line) [
-        | inl line ↦
-            let one : i ≡ m = of_some i v (sym is ∙ ap g line ∙ puts.here) ∙ same in
-            (x, ap (slice_get ps) one ∙ here_is ps m d below, sym line)
-        | inr other ↦ h.hit n i (sym (puts.other n other) ∙ is)
-      ];
-      miss = λ n i y is less here line. elim (cases_eq n x.line) [
-        | inl same' ↦ not_some v (sym is ∙ ap g same' ∙ puts.here)
-        | inr other ↦ elim (cases_lt i m) [
-          | inl early ↦ h.miss n i y (sym (puts.other n other) ∙ is) early here line
-          | inr late ↦
-              let one : m ≡ i = omega (arith, less, late) in
-              let equal : x ≡ y = of_some x y (sym (here_is ps m d below) ∙ ap (slice_get ps) one ∙ here) in
-              other (sym line ∙ ap (λ (z : Played). z.line) (sym equal))
-        ]
-      ];
-    }
-
-pub lines_all : (ps : List Played) (at : ℕ → Option ℕ) (m : ℕ) → length ps ≤ m → ByLineSoFar ps at m → AreByLine ps at
-lines_all ps at m end h = record {
-  hit = h.hit;
-  miss = λ n i x is here line. elim (cases_lt i m) [
-    | inl less ↦ h.miss n i x is less here line
-    | inr most ↦ not_there ps i x (omega (arith, end, most)) here
-  ];
-}
 
 -- ---- one exchange
 
@@ -316,31 +274,11 @@ known_none cells known none = record {
 
 -- ---- the record of a line
 
-within : {A : Type 0} (xs : List A) (i : ℕ) (x : A) → slice_get xs i ≡ Some x → i < length xs
-within xs i x at = elim (cases_lt i (length xs)) [
-  | inl less ↦ less
-  | inr most ↦ absurd (not_there xs i x most at)
-]
-
 -- no other record of the line exchanges with the cell
-pub swap_none : (ps : List Played) (at : ℕ → Option ℕ) (n i k : ℕ) (d x : Played) → RiseByLine ps → AreByLine ps at → at n ≡ Some i → (IsSwapOf k (get_or ps i d).op → ⊥) → Contains ps x → x.line ≡ n → IsSwapOf k x.op → ⊥
-swap_none ps at n i k d x rising h is none among line swap =
-    let (y, here, mine) = h.hit n i is in
-    let told : y ≡ get_or ps i d = of_some y (get_or ps i d) (sym here ∙ here_is ps i d (within ps i y here)) in
-    let one : x ≡ y = one_line ps x y rising among (at_in ps i y here) (line ∙ sym mine) in
-    none (subst (λ (z : Played). IsSwapOf k z.op) (one ∙ told) swap)
-
-pub line_within : (ps : List Played) (at : ℕ → Option ℕ) (n i : ℕ) → AreByLine ps at → at n ≡ Some i → i < length ps
-line_within ps at n i h is = let (y, here, mine) = h.hit n i is in within ps i y here
-
-pub line_is : (ps : List Played) (at : ℕ → Option ℕ) (n i : ℕ) (d : Played) → AreByLine ps at → at n ≡ Some i → Contains ps (get_or ps i d) × ((get_or ps i d).line ≡ n)
-line_is ps at n i d h is =
-    let (y, here, mine) = h.hit n i is in
-    let told : y ≡ get_or ps i d = of_some y (get_or ps i d) (sym here ∙ here_is ps i d (within ps i y here)) in
-    subst (λ (z : Played). Contains ps z × (z.line ≡ n)) told (at_in ps i y here, mine)
-
-pub line_none : (ps : List Played) (at : ℕ → Option ℕ) (n : ℕ) (x : Played) → AreByLine ps at → at n ≡ None → Contains ps x → x.line ≡ n → ⊥
-line_none ps at n x h none among line = let (i, here) = in_at ps x among in h.miss n i x none here line
+pub swap_none : (ps : List Played) (n i k : ℕ) (d x : Played) → RiseByLine ps → IsOnLine ps n i → (IsSwapOf k (get_or ps i d).op → ⊥) → Contains ps x → x.line ≡ n → IsSwapOf k x.op → ⊥
+swap_none ps n i k d x rising on none among line swap =
+    let (mine, is) = line_is ps n i d on in
+    none (subst (λ (z : Played). IsSwapOf k z.op) (one_line ps x (get_or ps i d) rising among mine (line ∙ sym is)) swap)
 
 pub taken_none : (ps : List Played) (known last : ℕ → Option ℕ) (phase : ℕ) (given : Held) (k : ℕ) (e : CellEntry) (told x : Played) → RiseByLine ps → IsRecordOfSwap ps k e told → (FitsNow known last phase given e told → ⊥)
     → IsRecordOfSwap ps k e x → FitsNow known last phase given e x → ⊥

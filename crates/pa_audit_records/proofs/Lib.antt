@@ -7,4 +7,5 @@ pub mod Putting
 pub mod Walking
 pub mod Stepping
 pub mod Fitting
+pub mod Seeking
 pub mod Exchanging

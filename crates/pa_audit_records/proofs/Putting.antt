@@ -1,10 +1,9 @@
 -- What a map has after one of its keys was set, and the numbers of slots as keys.
 use Rattle.std.proofs.Common.{◌≡◌, ℕ, ◌+◌, ◌<◌, if◌then◌else◌, false, List, ◌∷◌, drop, get_or, length, Option, Some, refl, sym, ◌∙◌, ap, subst, arith, inl, inr}
 use Rattle.std.specs.Option.{unwrap_or}
-use Rattle.std.specs.Ordering.{nat_cmp, is_eq}
-use Rattle.std.proofs.lemmas.Bool.{cases_lt}
-use Rattle.std.specs.Cmp.{nat_cmp_is}
-use Rattle.std.specs.declared.cmp.Ordering.TheVariants.{Less, Greater}
+use Rattle.std.specs.Prelude.{bit_xor, nat_eq}
+use Rattle.std.specs.Int.Bits.{xor_assoc, xor_self, xor_zero_r}
+use Rattle.std.proofs.lemmas.Bool.{ne_eqb}
 use Rattle.pa_machine.specs.declared.word.SlotName.{SlotName}
 use Rattle.pa_machine.specs.Run.{same_slot}
 use Rattle.pa_machine.proofs.Runs.{same_slot_cases, same_slot_yes, same_slot_no}
@@ -16,19 +15,16 @@ use Rattle.pa_rules.specs.Registers.{made_of, usable_or, usable_in}
 use Rattle.pa_audit_records.specs.Keys.{name_key}
 use Rattle.pa_audit_records.specs.Tables.{Puts, AreUsables}
 
-keys_apart : (k q : ℕ) → (k ≡ q → ⊥) → is_eq (nat_cmp k q) ≡ false
-keys_apart k q apart = elim (cases_lt k q) [
-  | inl less ↦ ap is_eq (sym (nat_cmp_is k q Less less))
-  | inr most ↦
-      let more : q < k = elim (cases_lt q k) [
-        | inl less ↦ less
-        | inr least ↦ absurd (apart (omega (arith, most, least)))
-      ] in
-      ap is_eq (sym (nat_cmp_is k q Greater more))
-]
+unsalted : (salt key : ℕ) → bit_xor (bit_xor key salt) salt ≡ key
+unsalted salt key = xor_assoc key salt salt ∙ ap (bit_xor key) (xor_self salt) ∙ xor_zero_r key
 
-pub put_key : (f g : ℕ → Option ℕ) (k v : ℕ) → g k ≡ Some v → ((q : ℕ) → is_eq (nat_cmp k q) ≡ false → g q ≡ f q) → Puts f g k v
-put_key f g k v here other = record { here = here; other = λ q apart. other q (keys_apart k q (λ e. apart (sym e))) }
+-- two keys stay two when they are mixed with one salt
+salted_apart : (salt k q : ℕ) → (q ≡ k → ⊥) → nat_eq (bit_xor k salt) (bit_xor q salt) ≡ false
+salted_apart salt k q apart = ne_eqb _ _ (λ same. apart (sym (unsalted salt q) ∙ ap (λ n. bit_xor n salt) (sym same) ∙ unsalted salt k))
+
+pub salted_put : {V : Type 0} (f g : ℕ → Option V) (salt k : ℕ) (v : V) → g (bit_xor k salt) ≡ Some v → ((q : ℕ) → nat_eq (bit_xor k salt) q ≡ false → g q ≡ f q) →
+    Puts (λ q. f (bit_xor q salt)) (λ q. g (bit_xor q salt)) k v
+salted_put f g salt k v here other = record { here = here; other = λ q apart. other (bit_xor q salt) (salted_apart salt k q apart) }
 
 pub same_key : (s t : SlotName) → s.start < 4294967296 → t.start < 4294967296 → name_key s ≡ name_key t → s ≡ t
 same_key s t within within' same =

@@ -9,7 +9,7 @@ use Rattle.pa_record.specs.declared.history.CellEntry.{CellEntry}
 use Rattle.pa_record.specs.declared.history.Held.{Held}
 use Rattle.pa_rules.specs.declared.played.Played.{Played}
 use Rattle.pa_rules.specs.Cells.{IsExchange}
-use Rattle.pa_rules.specs.RecordDemands.{IsRecord, IsAbove}
+use Rattle.pa_rules.specs.RecordDemands.{IsAbove}
 
 -- an answer names the exchange with the cell that has this line
 abbrev pub NamesExchange : List CellEntry → Answer → ℕ → Type 0
@@ -34,11 +34,6 @@ IsSwapOf k op = (reg : ℕ) × (op ≡ ops.Swap k reg)
 abbrev pub TellsPair : (ℕ → ℕ → Type 0) → Option (ℕ × ℕ) → Type 0
 TellsPair Meets None = (k j : ℕ) → Meets k j
 TellsPair Meets (Some p) = (Meets p.0 p.1 → ⊥) × ((l i : ℕ) → IsAbove l i p.0 p.1 → Meets l i)
-
--- the table has the record of each line of the trace
-pub record AreByLine (ps : List Played) (at : ℕ → Option ℕ) : Type 0 where
-  pub hit : (n i : ℕ) → at n ≡ Some i → (x : Played) × IsRecord ps i x × (x.line ≡ n)
-  pub miss : (n i : ℕ) (x : Played) → at n ≡ None → IsRecord ps i x → x.line ≡ n → ⊥
 
 -- the table has the lines of the exchanges above exchange j of cell k
 pub record AreLinesKnown (cells : ℕ → List CellEntry) (at : ℕ → Option ℕ) (k j : ℕ) : Type 0 where

@@ -1,6 +1,8 @@
 pub mod Rows
 pub mod Keys
 pub mod Tables
+pub mod ByKeys
+pub mod Seeking
 pub mod Marks
 pub mod Steps
 pub mod Exchanges

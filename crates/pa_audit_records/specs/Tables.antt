@@ -12,7 +12,7 @@ use Rattle.pa_one_run.proofs.rows.Handles.{change_of, changed}
 use Rattle.pa_audit_records.specs.Keys.{name_key}
 
 -- key k has v now, the others what they had
-pub record Puts (f g : ℕ → Option ℕ) (k v : ℕ) : Type 0 where
+pub record Puts {V : Type 0} (f g : ℕ → Option V) (k : ℕ) (v : V) : Type 0 where
   pub here : g k ≡ Some v
   pub other : (q : ℕ) → (q ≡ k → ⊥) → g q ≡ f q
 

@@ -1,22 +1,22 @@
 ghost use Rattle.std.specs.Prelude.{◌≡◌, ◌↔◌, ℕ, ◌+◌, ◌<◌, ◌^◌, Contains, IfOk, IfSome, IfNone, IsTrue, length};
-ghost use Rattle.std.specs.Ordering.{nat_cmp};
-ghost use Rattle.std.specs.BTreeMap.{get};
+ghost use Rattle.pa_audit_records.specs.ByKeys.{value_at};
 ghost use Rattle.pa_rules.specs.declared.played.Played.{Played};
 ghost use Rattle.pa_rules.specs.declared.verdict.Place.TheVariants as places;
 ghost use Rattle.pa_rules.specs.Cells.{history_at};
 ghost use Rattle.pa_rules.specs.RecordDemands.{CellsDemand};
-ghost use Rattle.pa_audit_records.specs.Exchanges.{NamesExchange, SwapFits, IsSwapOf, TellsPair, AreByLine, AreLinesKnown, IsRecordOfSwap, FitsNow};
+ghost use Rattle.pa_audit_records.specs.Exchanges.{NamesExchange, SwapFits, IsSwapOf, TellsPair, AreLinesKnown, IsRecordOfSwap, FitsNow};
 ghost use Rattle.pa_rules.specs.Rising.{RiseByLine};
 ghost use Rattle.pa_rules.specs.Tells.{TellsFirst};
 
-use crate::keys::{find, put};
+use crate::by_key::ByKey;
+use crate::records::record_on;
 use crate::rows::exchange;
+use crate::salt::Salt;
 use pa_machine::OutOfMemory;
 use pa_record::{Answer, CellEntry, Held, History};
 use pa_rules::Played;
 use pa_trace::Op;
 use std::alloc::Global;
-use std::collections::BTreeMap;
 
 /// The index of the first record of an exchange that doesn't name one of its cell with its line; none where each does.
 pub fn swaps_meet(records: &[Played], cells: &[History]) -> Option<u32>
@@ -56,20 +56,6 @@ fn swap_fits(cells: &[History], op: Op, answer: Answer, line: u32) -> bool
     }
 }
 
-// The record of each line.
-fn by_line(alloc: Global, records: &[Played]) -> Result<BTreeMap<u128, u32>, OutOfMemory>
-    requires few { length records.now < 2 ^ 32 }
-    ensures { IfOk result (λ m. AreByLine records.now (get nat_cmp m)) }
-{
-    let mut by_line = BTreeMap::new(alloc);
-    let mut at: u32 = 0;
-    for record in records {
-        put(&mut by_line, record.line as u128, at)?;
-        at += 1;
-    }
-    Ok(by_line)
-}
-
 // Whether the op is an exchange with the cell.
 fn is_swap(op: Op, of: u32) -> bool
     ensures { IsTrue result ↔ IsSwapOf of op }
@@ -81,18 +67,13 @@ fn is_swap(op: Op, of: u32) -> bool
 }
 
 // The record of the line, where it is of an exchange with the cell.
-fn swap_of(
-    records: &[Played],
-    by_line: &BTreeMap<u128, u32>,
-    line: u32,
-    cell: u32,
-) -> Option<Played>
-    requires by_line { AreByLine records.now (get nat_cmp by_line.now) }
+fn swap_of(records: &[Played], line: u32, cell: u32) -> Option<Played>
+    requires few { length records.now < 2 ^ 32 }
     requires rising { RiseByLine records.now }
     ensures some { IfSome result (λ x. Contains records.now x × (x.line ≡ line) × IsSwapOf cell x.op) }
     ensures none { IfNone result ((x : Played) → Contains records.now x → x.line ≡ line → IsSwapOf cell x.op → ⊥) }
 {
-    match find(by_line, line as u128) {
+    match record_on(records, line) {
         Some(at) => {
             let told = records[at as usize];
             if is_swap(told.op, cell) {
@@ -107,40 +88,39 @@ fn swap_of(
 
 // Whether the exchange found what is given, has no line that is known, and its record stands before none so far.
 fn fits_now(
-    known: &BTreeMap<u128, u32>,
-    last: &BTreeMap<u128, u32>,
+    known: &ByKey<u32>,
+    last: &ByKey<u32>,
     phase: u32,
     given: Held,
     entry: CellEntry,
     told: Played,
 ) -> bool
-    ensures { IsTrue result ↔ FitsNow (get nat_cmp known.now) (get nat_cmp last.now) phase given entry told }
+    ensures { IsTrue result ↔ FitsNow (value_at known.now) (value_at last.now) phase given entry told }
 {
     entry.found == given
-        && find(known, entry.line as u128).is_none()
-        && find(last, told.thread as u128).unwrap_or(0) <= told.line
+        && known.find(entry.line as u128).is_none()
+        && last.find(told.thread as u128).unwrap_or(0) <= told.line
         && phase <= told.phase
 }
 
 // The record of the exchange, where it fits.
 fn record_of(
     records: &[Played],
-    by_line: &BTreeMap<u128, u32>,
-    known: &BTreeMap<u128, u32>,
-    last: &BTreeMap<u128, u32>,
+    known: &ByKey<u32>,
+    last: &ByKey<u32>,
     phase: u32,
     given: Held,
     cell: u32,
     entry: CellEntry,
 ) -> Option<Played>
-    requires by_line { AreByLine records.now (get nat_cmp by_line.now) }
+    requires few { length records.now < 2 ^ 32 }
     requires rising { RiseByLine records.now }
     ensures some { IfSome result (λ x. IsRecordOfSwap records.now cell entry x
-        × FitsNow (get nat_cmp known.now) (get nat_cmp last.now) phase given entry x) }
+        × FitsNow (value_at known.now) (value_at last.now) phase given entry x) }
     ensures none { IfNone result ((x : Played) → IsRecordOfSwap records.now cell entry x
-        → FitsNow (get nat_cmp known.now) (get nat_cmp last.now) phase given entry x → ⊥) }
+        → FitsNow (value_at known.now) (value_at last.now) phase given entry x → ⊥) }
 {
-    match swap_of(records, by_line, entry.line, cell) {
+    match swap_of(records, entry.line, cell) {
         Some(told) => {
             if fits_now(known, last, phase, given, entry, told) {
                 Some(told)
@@ -155,31 +135,31 @@ fn record_of(
 // The index of the first exchange with the cell that doesn't fit. The lines of those that do are known then.
 fn cell_meets(
     alloc: Global,
+    salt: Salt,
     records: &[Played],
-    by_line: &BTreeMap<u128, u32>,
-    known: &mut BTreeMap<u128, u32>,
+    known: &mut ByKey<u32>,
     cell: u32,
     cells: &[History],
 ) -> Result<Option<usize>, OutOfMemory>
     requires cell { cell < length cells.now }
-    requires by_line { AreByLine records.now (get nat_cmp by_line.now) }
+    requires few { length records.now < 2 ^ 32 }
     requires rising { RiseByLine records.now }
-    requires known { AreLinesKnown (history_at cells.now) (get nat_cmp known.old) cell 0 }
+    requires known { AreLinesKnown (history_at cells.now) (value_at known.old) cell 0 }
     ensures tells { IfOk result (TellsFirst (λ j. CellsDemand (history_at cells.now) records.now (places.Cell cell j))) }
-    ensures known { IfOk result (λ o. IfNone o (AreLinesKnown (history_at cells.now) (get nat_cmp known.new) (cell + 1) 0)) }
+    ensures known { IfOk result (λ o. IfNone o (AreLinesKnown (history_at cells.now) (value_at known.new) (cell + 1) 0)) }
 {
     let entries = cells[cell as usize].entries();
-    let mut last = BTreeMap::new(alloc);
+    let mut last = ByKey::new(alloc, salt);
     let mut phase: u32 = 0;
     let mut given = Held::Nothing;
     let mut at: usize = 0;
     for entry in entries {
-        let told = match record_of(records, by_line, known, &last, phase, given, cell, *entry) {
+        let told = match record_of(records, known, &last, phase, given, cell, *entry) {
             Some(told) => told,
             None => return Ok(Some(at)),
         };
-        put(known, entry.line as u128, 0)?;
-        put(&mut last, told.thread as u128, told.line)?;
+        known.put(entry.line as u128, 0)?;
+        last.put(told.thread as u128, told.line)?;
         phase = told.phase;
         given = entry.gave;
         at += 1;
@@ -191,6 +171,7 @@ fn cell_meets(
 /// exchange above it has, or stands behind one whose record comes later; none where none does.
 pub fn exchanges_meet(
     alloc: Global,
+    salt: Salt,
     records: &[Played],
     cells: &[History],
 ) -> Result<Option<(u32, usize)>, OutOfMemory>
@@ -199,11 +180,10 @@ pub fn exchanges_meet(
     requires rising { RiseByLine records.now }
     ensures { IfOk result (TellsPair (λ k j. CellsDemand (history_at cells.now) records.now (places.Cell k j))) }
 {
-    let by_line = by_line(alloc, records)?;
-    let mut known = BTreeMap::new(alloc);
+    let mut known = ByKey::new(alloc, salt);
     let mut cell: u32 = 0;
     for _history in cells {
-        if let Some(at) = cell_meets(alloc, records, &by_line, &mut known, cell, cells)? {
+        if let Some(at) = cell_meets(alloc, salt, records, &mut known, cell, cells)? {
             return Ok(Some((cell, at)));
         }
         cell += 1;

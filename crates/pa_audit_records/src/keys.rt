@@ -1,12 +1,8 @@
-ghost use Rattle.std.specs.Prelude.{◌≡◌, ◌+◌, ◌*◌, ◌<◌, OnOk};
-ghost use Rattle.std.specs.Ordering.{nat_cmp};
-ghost use Rattle.std.specs.BTreeMap.{get};
+ghost use Rattle.std.specs.Prelude.{◌≡◌, ◌+◌, ◌*◌, ◌<◌};
 ghost use Rattle.pa_audit_records.specs.Keys.{name_key, word_key};
 ghost use Rattle.pa_audit_records.specs.Marks.{IsSized};
-ghost use Rattle.pa_audit_records.specs.Tables.{Puts};
 
-use pa_machine::{OutOfMemory, SlotName, Word};
-use std::collections::BTreeMap;
+use pa_machine::{SlotName, Word};
 
 // The number of a slot.
 pub(crate) fn key(slot: SlotName) -> u128
@@ -22,19 +18,4 @@ pub(crate) fn key_word(slot: SlotName, word: Word) -> u128
     ensures sized { IsSized slot word.0 }
 {
     key(slot) * 18_446_744_073_709_551_616 + word.0 as u128
-}
-
-// Sets a key.
-pub(crate) fn put(map: &mut BTreeMap<u128, u32>, key: u128, value: u32) -> Result<(), OutOfMemory>
-    ensures { OnOk result (Puts (get nat_cmp map.old) (get nat_cmp map.new) key value) }
-{
-    map.insert(key, value)?;
-    Ok(())
-}
-
-// What stands at a key.
-pub(crate) fn find(map: &BTreeMap<u128, u32>, key: u128) -> Option<u32>
-    ensures { result ≡ get nat_cmp map.now key }
-{
-    map.get(&key).copied()
 }

@@ -1,6 +1,7 @@
 //! The clauses of a legal run that speak of records: for each, the first place at which it isn't met.
 #![tactic(auto)]
 
+mod by_key;
 mod cells;
 mod keys;
 mod lines;
@@ -8,6 +9,7 @@ mod marks;
 mod records;
 mod registers;
 mod rows;
+mod salt;
 mod slots;
 mod steps;
 #[cfg(test)]
@@ -15,8 +17,10 @@ mod tests;
 mod usable;
 mod walk;
 
+pub use by_key::ByKey;
 pub use cells::{exchanges_meet, swaps_meet};
 pub use lines::lines_meet;
-pub use records::{records_are_within, records_of};
+pub use records::{record_on, records_are_within, records_of};
+pub use salt::Salt;
 pub use slots::slots_meet;
 pub use walk::registers_meet;

@@ -1,6 +1,7 @@
-ghost use Rattle.std.specs.Prelude.{◌≡◌, ◌<◌, ◌≤◌, ◌-◌, ◌^◌, IfOk, length};
+ghost use Rattle.std.specs.Prelude.{◌≡◌, ◌<◌, ◌≤◌, ◌-◌, ◌^◌, IfOk, IfSome, IfNone, length};
 ghost use Rattle.pa_rules.specs.Played.{played};
 ghost use Rattle.pa_audit_records.specs.Limits.{RecordsAreWithin};
+ghost use Rattle.pa_audit_records.specs.Seeking.{IsOnLine, NoneOnLine};
 ghost use Rattle.pa_rules.specs.Rising.{RiseByLine};
 
 use pa_machine::OutOfMemory;
@@ -29,7 +30,7 @@ fn gather(alloc: Global, lines: &[Line], records: &[Entry]) -> Result<Vec<Played
     ensures records { IfOk result (λ all. all.items ≡ played lines.now records.now) }
     ensures few { IfOk result (λ all. length all.items ≤ length lines.now) }
 {
-    let mut all = Vec::new(alloc);
+    let mut all = Vec::with_capacity(alloc, records.len())?;
     let mut number: u32 = 2;
     let mut phase: u32 = 1;
     for line in lines {
@@ -51,6 +52,21 @@ fn gather(alloc: Global, lines: &[Line], records: &[Entry]) -> Result<Vec<Played
         number += 1;
     }
     Ok(all)
+}
+
+/// The place of the record on a line, where there is one.
+pub fn record_on(records: &[Played], line: u32) -> Option<u32>
+    requires few { length records.now < 2 ^ 32 }
+    requires rising { RiseByLine records.now }
+    ensures some { IfSome result (IsOnLine records.now line) }
+    ensures none { IfNone result (NoneOnLine records.now line) }
+{
+    let at = records.partition_point(|record| record.line < line);
+    if at < records.len() && records[at].line == line {
+        Some(at as u32)
+    } else {
+        None
+    }
 }
 
 /// The law that the records of a trace within its limits are of 16 threads at most and name registers below 64.

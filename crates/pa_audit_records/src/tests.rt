@@ -2,7 +2,7 @@ ghost use Rattle.std.specs.Prelude.{◌≡◌, ◌↔◌, ◌<◌, ◌-◌, ◌^
 ghost use Rattle.std.specs.Bool.{OnTrue};
 ghost use Rattle.pa_audit_records.specs.Rows.{NamesRegisters, IsPlayedWithin};
 
-use crate::{exchanges_meet, lines_meet, records_of, registers_meet, slots_meet, swaps_meet};
+use crate::{Salt, exchanges_meet, lines_meet, records_of, registers_meet, slots_meet, swaps_meet};
 use pa_machine::{OutOfMemory, SlotName, Word};
 use pa_record::{Answer, CellEntry, Entry, Held, History, Seen};
 use pa_rules::Played;
@@ -95,7 +95,7 @@ fn registers_of(
 {
     let records = records_of(alloc, lines, entries)?;
     if all_within(&records) {
-        registers_meet(alloc, &records, cells)
+        registers_meet(alloc, Salt::of(&records, &[]), &records, cells)
     } else {
         Ok(Some(u32::MAX))
     }
@@ -106,7 +106,7 @@ fn slots_of(alloc: Global, lines: &[Line], entries: &[Entry]) -> Result<Option<u
     requires { length lines.now < 2 ^ 32 - 2 }
 {
     let records = records_of(alloc, lines, entries)?;
-    slots_meet(alloc, &records)
+    slots_meet(alloc, Salt::of(&records, &[]), &records)
 }
 
 // An object is made, freed, its slot given back, and made again.
@@ -287,7 +287,12 @@ fn exchanges_of(
     requires { length lines.now < 2 ^ 32 - 2 }
 {
     let records = records_of(alloc, lines, entries)?;
-    exchanges_meet(alloc, &records, &[history(alloc, exchanges)?])
+    exchanges_meet(
+        alloc,
+        Salt::of(&records, &[]),
+        &records,
+        &[history(alloc, exchanges)?],
+    )
 }
 
 // The first record that names no exchange of its cell.

@@ -1,18 +1,18 @@
 ghost use Rattle.std.specs.Prelude.{◌≡◌, ◌≤◌, IfOk};
-ghost use Rattle.std.specs.Ordering.{nat_cmp};
-ghost use Rattle.std.specs.BTreeMap.{get};
+ghost use Rattle.pa_audit_records.specs.ByKeys.{value_at};
 ghost use Rattle.pa_direct.specs.Shapes.{greatest_size};
 ghost use Rattle.pa_rules.specs.Sizes.{usable_of};
 ghost use Rattle.pa_audit_records.specs.Tables.{AreUsables};
 
-use crate::keys::{key, put};
+use crate::by_key::ByKey;
+use crate::keys::key;
+use crate::salt::Salt;
 use pa_buckets::{class_of, raw_of, slot_size};
 use pa_direct::shape;
 use pa_machine::OutOfMemory;
 use pa_record::Answer;
 use pa_rules::Played;
 use std::alloc::Global;
-use std::collections::BTreeMap;
 
 // Bytes of a count word.
 const COUNT_WORD: u32 = 8;
@@ -33,16 +33,20 @@ pub(crate) fn usable_for(size: u32) -> u32
 
 // For each slot that a record made, by its number, the usable number that the first such record says: the last record
 // is looked at first.
-pub(crate) fn usables(alloc: Global, records: &[Played]) -> Result<BTreeMap<u128, u32>, OutOfMemory>
-    ensures { IfOk result (λ m. AreUsables records.now (get nat_cmp m)) }
+pub(crate) fn usables(
+    alloc: Global,
+    salt: Salt,
+    records: &[Played],
+) -> Result<ByKey<u32>, OutOfMemory>
+    ensures { IfOk result (λ m. AreUsables records.now (value_at m)) }
 {
-    let mut usables = BTreeMap::new(alloc);
+    let mut usables = ByKey::new(alloc, salt);
     let mut at = records.len();
     while at > 0 {
         at -= 1;
         let record = records[at];
         if let Answer::Made { seen, usable } = record.answer {
-            put(&mut usables, key(seen.slot), usable)?;
+            usables.put(key(seen.slot), usable)?;
         }
     }
     Ok(usables)

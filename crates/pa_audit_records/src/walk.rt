@@ -1,6 +1,5 @@
 ghost use Rattle.std.specs.Prelude.{◌≡◌, ◌↔◌, ◌<◌, ◌^◌, All, IfOk, IsTrue, List, length, slice_get};
-ghost use Rattle.std.specs.Ordering.{nat_cmp};
-ghost use Rattle.std.specs.BTreeMap.{get};
+ghost use Rattle.pa_audit_records.specs.ByKeys.{value_at};
 ghost use Rattle.pa_rules.specs.declared.verdict.Place.TheVariants as places;
 ghost use Rattle.pa_rules.specs.Cells.{history_at};
 ghost use Rattle.pa_rules.specs.RecordDemands.{RegistersDemand};
@@ -12,23 +11,25 @@ ghost use Rattle.pa_audit_records.specs.Rows.{AnswersRead, MayAnswer, IsPlayedWi
 ghost use Rattle.pa_audit_records.specs.Tables.{AreUsables, AreRegsOf, regs_in, regs_next, facts_by};
 ghost use Rattle.pa_rules.specs.Tells.{TellsFirst};
 
-use crate::keys::{find, key};
+use crate::by_key::ByKey;
+use crate::keys::key;
 use crate::registers::Registers;
 use crate::rows::{
     exchange, may_alloc, may_copy, may_free, may_read_from, may_reset, may_swap, may_write,
     register,
 };
+use crate::salt::Salt;
 use crate::usable::usables;
 use pa_machine::{OutOfMemory, SlotName};
 use pa_record::{Answer, Held, History};
 use pa_rules::{Played, Reg};
 use pa_trace::Op;
 use std::alloc::Global;
-use std::collections::BTreeMap;
 
 /// The index of the first record whose answer isn't the one that its thread's registers ask for; none where each is.
 pub fn registers_meet(
     alloc: Global,
+    salt: Salt,
     records: &[Played],
     cells: &[History],
 ) -> Result<Option<u32>, OutOfMemory>
@@ -36,7 +37,7 @@ pub fn registers_meet(
     requires within { All IsPlayedWithin records.now }
     ensures { IfOk result (TellsFirst (λ i. RegistersDemand usable_of (history_at cells.now) records.now (places.Record i))) }
 {
-    let usables = usables(alloc, records)?;
+    let usables = usables(alloc, salt, records)?;
     let mut registers = Registers::new(alloc)?;
     let mut at: u32 = 0;
     for record in records {
@@ -50,15 +51,15 @@ pub fn registers_meet(
 }
 
 // The usable number of a slot, by the records of which the table was made.
-fn usable_at(usables: &BTreeMap<u128, u32>, slot: SlotName) -> u32
-    ensures { (ps : List Played) → AreUsables ps (get nat_cmp usables.now) → result ≡ usable_in ps slot }
+fn usable_at(usables: &ByKey<u32>, slot: SlotName) -> u32
+    ensures { (ps : List Played) → AreUsables ps (value_at usables.now) → result ≡ usable_in ps slot }
 {
-    find(usables, key(slot)).unwrap_or(0)
+    usables.find(key(slot)).unwrap_or(0)
 }
 
 // Whether a read may have this answer, by what its register holds.
-fn may_read(usables: &BTreeMap<u128, u32>, holds: Reg, place: u32, answer: Answer) -> bool
-    ensures { (ps : List Played) → AreUsables ps (get nat_cmp usables.now) → IsTrue result ↔ AnswersRead holds (usable_in ps) place answer }
+fn may_read(usables: &ByKey<u32>, holds: Reg, place: u32, answer: Answer) -> bool
+    ensures { (ps : List Played) → AreUsables ps (value_at usables.now) → IsTrue result ↔ AnswersRead holds (usable_in ps) place answer }
 {
     match holds {
         Reg::Empty => matches!(answer, Answer::Nothing),
@@ -72,12 +73,12 @@ fn may_read(usables: &BTreeMap<u128, u32>, holds: Reg, place: u32, answer: Answe
 // Whether a record's answer is one that its thread's registers ask for.
 fn may_answer(
     registers: &Registers,
-    usables: &BTreeMap<u128, u32>,
+    usables: &ByKey<u32>,
     cells: &[History],
     record: &Played,
 ) -> bool
     requires within { IsPlayedWithin record.now }
-    ensures { (ps : List Played) → AreUsables ps (get nat_cmp usables.now) →
+    ensures { (ps : List Played) → AreUsables ps (value_at usables.now) →
         IsTrue result ↔
         MayAnswer (facts_by (history_at cells.now) ps) record.now.op (regs_in registers.now record.now.thread) record.now.answer }
 {

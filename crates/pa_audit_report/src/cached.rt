@@ -1,6 +1,5 @@
 ghost use Rattle.std.specs.Prelude.{◌≡◌, ℕ, ◌+◌, ◌<◌, ◌≤◌, ◌^◌, All, IfOk, OnOk, length};
-ghost use Rattle.std.specs.Ordering.{nat_cmp};
-ghost use Rattle.std.specs.BTreeMap.{get};
+ghost use Rattle.pa_audit_records.specs.ByKeys.{value_at};
 ghost use Rattle.pa_machine.specs.declared.word.SlotName.{SlotName as Name};
 ghost use Rattle.pa_rules.specs.Roots.{journal_at};
 ghost use Rattle.pa_audit_holders.specs.Homes.{HasOneHome, KnowsHomes};
@@ -11,11 +10,11 @@ ghost use Rattle.pa_audit_report.specs.Cuts.{AreRecordCuts};
 ghost use Rattle.pa_audit_report.specs.Cached.{HaveCached, HaveLed, HaveListed, IsListed, MeetCaches};
 
 use pa_audit_holders::{ByLine, Home, ThreadLists, lines_below, lines_of, no_lists, play};
+use pa_audit_records::ByKey;
 use pa_machine::OutOfMemory;
 use pa_record::{Journal, Tally};
 use pa_rules::Played;
 use std::alloc::Global;
-use std::collections::BTreeMap;
 
 // What the threads' lists have of each of four partitions at the end of each phase. The records of the first phases end at
 // these places. A phase with no record leaves what it finds.
@@ -26,7 +25,7 @@ pub(crate) fn cached_of(
     records: &[Played],
     ends: &[usize],
     roots: &[Journal],
-    homes: &BTreeMap<u64, Home>,
+    homes: &ByKey<Home>,
 ) -> Result<Vec<[Tally; 4]>, OutOfMemory>
     requires partitions { partitions ≤ 4 }
     requires threads { threads ≤ 16 }
@@ -35,7 +34,7 @@ pub(crate) fn cached_of(
     requires ends { AreRecordCuts records.now ends.now }
     requires four { length roots.now ≤ 4 }
     requires entries { (p : ℕ) → length (journal_at roots.now p) < 2 ^ 32 }
-    requires homes { KnowsHomes (journal_at roots.now) (get nat_cmp homes.now) }
+    requires homes { KnowsHomes (journal_at roots.now) (value_at homes.now) }
     requires kinds { (s : Name) → HasOneHome (journal_at roots.now) s }
     requires caches { MeetCaches partitions (journal_at roots.now) records.now }
     ensures many { IfOk result (λ cached. length cached.items ≡ length ends.now) }
@@ -75,7 +74,7 @@ fn listed_on(
     records: &[Played],
     roots: &[Journal],
     lines: &[ByLine],
-    homes: &BTreeMap<u64, Home>,
+    homes: &ByKey<Home>,
     caches: &mut Vec<ThreadLists>,
     from: usize,
     end: usize,
@@ -86,7 +85,7 @@ fn listed_on(
     requires within { All IsOfThreads records.now }
     requires four { length roots.now ≤ 4 }
     requires known { (count : ℕ) × All (λ x. x.line < count) records.now × HaveLines roots.now count lines.now }
-    requires homes { KnowsHomes (journal_at roots.now) (get nat_cmp homes.now) }
+    requires homes { KnowsHomes (journal_at roots.now) (value_at homes.now) }
     requires kinds { (s : Name) → HasOneHome (journal_at roots.now) s }
     requires meet { MeetCaches partitions (journal_at roots.now) records.now }
     requires order { from ≤ end }
@@ -114,7 +113,7 @@ fn play_on(
     records: &[Played],
     roots: &[Journal],
     lines: &[ByLine],
-    homes: &BTreeMap<u64, Home>,
+    homes: &ByKey<Home>,
     caches: &mut Vec<ThreadLists>,
     from: usize,
     end: usize,
@@ -123,7 +122,7 @@ fn play_on(
     requires within { All IsOfThreads records.now }
     requires four { length roots.now ≤ 4 }
     requires known { (count : ℕ) × All (λ x. x.line < count) records.now × HaveLines roots.now count lines.now }
-    requires homes { KnowsHomes (journal_at roots.now) (get nat_cmp homes.now) }
+    requires homes { KnowsHomes (journal_at roots.now) (value_at homes.now) }
     requires kinds { (s : Name) → HasOneHome (journal_at roots.now) s }
     requires meet { MeetCaches partitions (journal_at roots.now) records.now }
     requires order { from ≤ end }

@@ -1,6 +1,5 @@
 ghost use Rattle.std.specs.Prelude.{◌≡◌, ℕ, ◌+◌, ◌<◌, ◌≤◌, ◌^◌, [], IfOk, IfSome, IfNone, Option, length, take};
-ghost use Rattle.std.specs.Ordering.{nat_cmp};
-ghost use Rattle.std.specs.BTreeMap.{get};
+ghost use Rattle.pa_audit_records.specs.ByKeys.{value_at};
 ghost use Rattle.pa_machine.specs.declared.word.Step.TheVariants as steps;
 ghost use Rattle.pa_legal.specs.Tallies.{leaves};
 ghost use Rattle.pa_audit_holders.specs.declared.homes.Home.{Home as SlotHome};
@@ -8,12 +7,12 @@ ghost use Rattle.pa_audit_report.specs.Cuts.{AreRecordCuts};
 ghost use Rattle.pa_audit_report.specs.Counts.{DoesNothing, HasCounted, HasRoom, HaveUses, IsBytesOf, IsDoneOf, IsOfOther, IsStepOf, MovesNothing, less_of, raised_by, tally_more};
 
 use pa_audit_holders::{Home, found_home};
+use pa_audit_records::ByKey;
 use pa_machine::{OutOfMemory, SlotName, Word, held, refs};
 use pa_record::{Answer, Seen, Tally};
 use pa_rules::Played;
 use pa_trace::Op;
 use std::alloc::Global;
-use std::collections::BTreeMap;
 
 // What steps did to the slots of one partition: how many went into use and out of it, and into quarantine and out of it.
 #[derive(Clone, Copy)]
@@ -37,13 +36,13 @@ pub(crate) fn in_use_of(
     partition: u32,
     records: &[Played],
     ends: &[usize],
-    homes: &BTreeMap<u64, Home>,
+    homes: &ByKey<Home>,
 ) -> Result<Vec<InUse>, OutOfMemory>
     requires partition { partition < 4 }
     requires few { length records.now < 65536 }
     requires ends { AreRecordCuts records.now ends.now }
     ensures many { IfOk result (λ uses. length uses.items ≡ length ends.now) }
-    ensures uses { IfOk result (λ uses. HaveUses (get nat_cmp homes.now) partition records.now uses.items) }
+    ensures uses { IfOk result (λ uses. HaveUses (value_at homes.now) partition records.now uses.items) }
 {
     let mut uses = Vec::new(alloc);
     let mut count = no_count();
@@ -60,7 +59,7 @@ pub(crate) fn in_use_of(
 fn count_on(
     partition: u32,
     records: &[Played],
-    homes: &BTreeMap<u64, Home>,
+    homes: &ByKey<Home>,
     before: Count,
     from: usize,
     end: usize,
@@ -69,8 +68,8 @@ fn count_on(
     requires few { length records.now < 65536 }
     requires order { from ≤ end }
     requires within { end ≤ length records.now }
-    requires counted { HasCounted (get nat_cmp homes.now) partition (take from records.now) before }
-    ensures { HasCounted (get nat_cmp homes.now) partition (take end records.now) result }
+    requires counted { HasCounted (value_at homes.now) partition (take from records.now) before }
+    ensures { HasCounted (value_at homes.now) partition (take end records.now) result }
 {
     let mut count = before;
     for at in from..end {
@@ -83,15 +82,15 @@ fn count_on(
 fn count_record(
     partition: u32,
     records: &[Played],
-    homes: &BTreeMap<u64, Home>,
+    homes: &ByKey<Home>,
     count: Count,
     at: usize,
 ) -> Count
     requires partition { partition < 4 }
     requires few { length records.now < 65536 }
     requires within { at < length records.now }
-    requires counted { HasCounted (get nat_cmp homes.now) partition (take at records.now) count }
-    ensures { HasCounted (get nat_cmp homes.now) partition (take (at + 1) records.now) result }
+    requires counted { HasCounted (value_at homes.now) partition (take at records.now) count }
+    ensures { HasCounted (value_at homes.now) partition (take (at + 1) records.now) result }
 {
     match step_by(records[at]) {
         None => count,
@@ -103,11 +102,11 @@ fn count_record(
 }
 
 // The bytes of a slot of this partition.
-fn bytes_in(partition: u32, homes: &BTreeMap<u64, Home>, slot: SlotName) -> Option<u32>
+fn bytes_in(partition: u32, homes: &ByKey<Home>, slot: SlotName) -> Option<u32>
     requires partition { partition < 4 }
-    ensures some { IfSome result (IsBytesOf (get nat_cmp homes.now) partition slot) }
+    ensures some { IfSome result (IsBytesOf (value_at homes.now) partition slot) }
     ensures small { IfSome result (λ b. b < 4294967296) }
-    ensures none { IfNone result (IsOfOther (get nat_cmp homes.now) partition slot) }
+    ensures none { IfNone result (IsOfOther (value_at homes.now) partition slot) }
 {
     let home = found_home(homes, slot)?;
     if home.partition == partition {

@@ -1,6 +1,5 @@
 ghost use Rattle.std.specs.Prelude.{◌≡◌, ℕ, ◌+◌, ◌-◌, ◌<◌, ◌≤◌, ◌^◌, IfOk, List, Option, length};
-ghost use Rattle.std.specs.Ordering.{nat_cmp};
-ghost use Rattle.std.specs.BTreeMap.{get};
+ghost use Rattle.pa_audit_records.specs.ByKeys.{value_at};
 ghost use Rattle.pa_trace.specs.Limits.{IsWithinLimits};
 ghost use Rattle.pa_rules.specs.Roots.{journal_at};
 ghost use Rattle.pa_rules.specs.Legal.{phases_in};
@@ -22,12 +21,12 @@ use crate::counts::{InUse, in_use_of};
 use crate::ends::ends_of;
 use crate::phases::{phases_in, record_phases};
 use pa_audit_holders::{Home, homes_of};
+use pa_audit_records::{ByKey, Salt};
 use pa_machine::OutOfMemory;
 use pa_record::{Census, ReportLine, Run, Tally};
 use pa_rules::Played;
 use pa_trace::Trace;
 use std::alloc::Global;
-use std::collections::BTreeMap;
 use std::marker::Model;
 
 // The lines of a report that speak of one partition, from phase 1 on. They are seen as the list of them.
@@ -56,6 +55,7 @@ impl Column {
 // The report that is due.
 pub(crate) fn due_report(
     alloc: Global,
+    salt: Salt,
     trace: &Trace,
     run: &Run,
     records: &[Played],
@@ -72,7 +72,7 @@ pub(crate) fn due_report(
     let phases = phases_in(trace.lines.as_slice());
     let record_phases = record_phases(alloc, records)?;
     let ends = ends_of(alloc, record_phases.as_slice(), phases)?;
-    let homes = homes_of(alloc, run.roots.as_slice())?;
+    let homes = homes_of(alloc, salt, run.roots.as_slice())?;
     let cached = cached_of(
         alloc,
         trace.partitions,
@@ -109,7 +109,7 @@ fn column_of(
     records: &[Played],
     phases: u32,
     ends: &[usize],
-    homes: &BTreeMap<u64, Home>,
+    homes: &ByKey<Home>,
     cached: &[[Tally; 4]],
     partition: u32,
 ) -> Result<Column, OutOfMemory>
@@ -121,7 +121,7 @@ fn column_of(
     requires phases { phases < 2 ^ 32 - 1 }
     requires ends { AreRecordCuts records.now ends.now }
     requires many { length ends.now ≡ phases }
-    requires homes { KnowsHomes (journal_at run.now.roots.items) (get nat_cmp homes.now) }
+    requires homes { KnowsHomes (journal_at run.now.roots.items) (value_at homes.now) }
     requires cached { HaveCached trace.now.partitions trace.now.threads (journal_at run.now.roots.items) records.now cached.now }
     requires listed { length cached.now ≡ phases }
     requires partition { partition < trace.now.partitions }

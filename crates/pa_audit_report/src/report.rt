@@ -9,6 +9,7 @@ ghost use Rattle.pa_rules.specs.Verdicts.{Demand};
 ghost use Rattle.pa_audit_report.specs.Given.{AreRecordsOf, HoldBefore};
 
 use crate::due::due_report;
+use pa_audit_records::Salt;
 use pa_machine::OutOfMemory;
 use pa_record::{ReportLine, Run};
 use pa_rules::Played;
@@ -19,6 +20,7 @@ use std::alloc::Global;
 /// missing. None where each is.
 pub fn report_meets(
     alloc: Global,
+    salt: Salt,
     trace: &Trace,
     run: &Run,
     records: &[Played],
@@ -34,7 +36,7 @@ pub fn report_meets(
     ensures first { IfOk result (TellsFirst (λ i. Demand clauses.Report trace.now (told_by run.now) (places.Report i))) }
     ensures there { IfOk result (λ at. IfSome at (λ i. i ≤ length run.now.report.items)) }
 {
-    let due = due_report(alloc, trace, run, records)?;
+    let due = due_report(alloc, salt, trace, run, records)?;
     Ok(first_other(run.report.as_slice(), due.as_slice()))
 }
 

@@ -6,7 +6,7 @@ ghost use Rattle.pa_cli.specs.HelpText.{help_text, version_text};
 use pa_buckets::{Class, class_of, raw_of, slot_size, span_of};
 use pa_direct::{GREATEST_SIZE, Shape, shape};
 use pa_machine::OutOfMemory;
-use pa_text::{push_bytes, push_number};
+use pa_text::{push_byte, push_bytes, push_number};
 use pa_trace::{generate, write_trace};
 use std::alloc::Global;
 
@@ -105,7 +105,7 @@ fn push_class(out: &mut Vec<u8>, class: Class) -> Result<(), OutOfMemory>
     push_field(out, b" system ", span.system_pages)?;
     push_field(out, b" slots ", span.slots)?;
     push_field(out, b" waste ", span.waste)?;
-    push_bytes(out, b"\n")
+    push_byte(out, b'\n')
 }
 
 // Appends the line of a direct map.
@@ -114,7 +114,7 @@ fn push_direct(out: &mut Vec<u8>, shape: Shape) -> Result<(), OutOfMemory>
 {
     push_field(out, b"direct slot ", shape.slot)?;
     push_field(out, b" super ", shape.supers)?;
-    push_bytes(out, b"\n")
+    push_byte(out, b'\n')
 }
 
 // Appends the words and a number.

@@ -1,4 +1,5 @@
--- Titles that come by a line: they are cut, some of them come to the thread, and then the core shows the next roots.
+-- Titles that come by a line: they are cut, some of them come to the thread, and then the core shows the next roots; and titles that go
+-- back by one.
 use Rattle.std.proofs.Common.{◌≡◌, ℕ, zero, suc, ◌+◌, ◌*◌, ◌≤◌, List, [], ◌∷◌, ◌++◌, map, refl, sym, ◌∙◌, ap, arith, ◌⊎◌}
 use Rattle.std.specs.Prelude.{Contains}
 use Rattle.pa_machine.specs.declared.word.SlotName.{SlotName}
@@ -15,13 +16,13 @@ use Rattle.pa_core_steps.proofs.Joining.{run_join}
 use Rattle.pa_one_run.proofs.Filed.{Parts, IsFiled}
 use Rattle.pa_one_run.proofs.roots.Replays.{root_at}
 use Rattle.pa_core_run.specs.Ledger.{Titles, IsShown}
-use Rattle.pa_core_run.specs.Moves.{StandOnce, AllApart, named_in, asking, CanBeCut}
+use Rattle.pa_core_run.specs.Moves.{StandOnce, AllApart, named_in, asking, CanBeCut, IsReached}
 use Rattle.pa_core_run.specs.Standing.{Standing, in_registers, in_lists, ledger_of}
 use Rattle.pa_core_run.specs.Fronts.{MadeIn, ThereIn, KeptIn, titles_in, IsFrontOf}
 use Rattle.pa_core_run.proofs.Acting.{beside_both}
 use Rattle.pa_core_run.proofs.Moving.{keeping}
 use Rattle.pa_core_run.proofs.Named.{made_unique}
-use Rattle.pa_core_run.proofs.Batching.{kept_with}
+use Rattle.pa_core_run.proofs.Batching.{kept_with, batch_goes}
 use Rattle.pa_core_run.proofs.Taking.{kept_without, batch_comes}
 use Rattle.pa_core_run.proofs.Making.{with_titles, renamed, cuts_go}
 use Rattle.pa_core_run.proofs.Stepped.{below}
@@ -90,5 +91,26 @@ module _ (a : Parts) (before rest : List Played) (x : Played) (h : IsFiled a) (p
           now = asking_lists (names_next a before rest x h parts st f s shown) actors bytes a.partitions st after mid (registers_same list) (λ y. refl) (λ y. refl)
               (renamed (keeping (with_titles names_old new) (kept_without Cut taken)) (names_next a before rest x h parts st f s shown) actors bytes
               (asking (ledger_of a.partitions st) (λ j y. in_lists a.partitions after y j)) mid (λ u made. made) b.there b.next m.shown);
+        },
+      )
+
+  -- Titles of which the thread's lists had more before than after go to actor 0, where registers, words and contents stay.
+  pub titles_go : (from last : Standing) (ts : List Title) (mid : State) → IsShown (titles_in a (root_at a x.line)) (a.threads + 1) (2097152 * a.supers) (ledger_of a.partitions from) mid →
+      ((g : Reg → ℕ) (k : ℕ) → in_registers g last k ≡ in_registers g from k) → ((y : SlotName) → last.word y ≡ from.word y) → ((y : SlotName) → last.content y ≡ from.content y) → ((t : Title) → Contains ts t → MadeIn a t) →
+      ((y : SlotName) → in_lists a.partitions last y (suc x.thread) + named_in y ts ≤ in_lists a.partitions from y (suc x.thread)) →
+      ((j : ℕ) (y : SlotName) → (j ≡ suc x.thread → ⊥) → in_lists a.partitions last y j ≤ in_lists a.partitions from y j) →
+      (after : State) × IsReached (keeping (titles_in a (root_at a x.line)) (kept_with (KeptIn (root_at a x.line)) ts)) (a.threads + 1) (2097152 * a.supers) (ledger_of a.partitions last) mid (suc x.thread) after
+  titles_go from last ts mid now registers words contents made less others =
+      let names_old = titles_in a (root_at a x.line) in
+      let actors = a.threads + 1 in
+      let bytes = 2097152 * a.supers in
+      let down = below a before rest x h parts st f s shown in
+      let (after, r) = batch_goes names_old actors bytes (suc x.thread) (omega arith) down (made_unique a h) ts (ledger_of a.partitions from) (λ j y. in_lists a.partitions last y j) (KeptIn (root_at a x.line)) mid now made less others in (
+        after,
+        record {
+          events = r.events;
+          run = r.run;
+          beside = r.beside;
+          shown = asking_lists (keeping names_old (kept_with (KeptIn (root_at a x.line)) ts)) actors bytes a.partitions from last after registers words contents r.shown;
         },
       )

@@ -4,6 +4,7 @@ use Rattle.std.proofs.lemmas.Bool.{eq-eqb}
 use Rattle.pa_machine.specs.declared.word.SlotName.{SlotName}
 use Rattle.pa_machine.specs.declared.word.Step.{Step}
 use Rattle.pa_machine.specs.declared.word.Step.TheVariants.{Issue}
+use Rattle.pa_machine.specs.declared.title.Title.{Title}
 use Rattle.pa_machine.specs.declared.title.OwnState.TheVariants.{Clean}
 use Rattle.pa_machine.specs.Count.{number_of, held_of, refs_of, stepped, CanStep}
 use Rattle.pa_machine.specs.Run.{Mark, IsReturning}
@@ -56,22 +57,28 @@ module _ (a : Parts) (before rest : List Played) (x : Played) (h : IsFiled a) (p
       over_same a.partitions (λ p. listed_times y (cache_left a before rest x h parts st f p) 0 59) (λ p. listed_times y (with_cache st.caches x.thread (cache_left a before rest x h parts st f) x.thread p) 0 59)
       (λ p. ap (λ (c : Cache). listed_times y (c p) 0 59) same)
 
-  -- a slot that a step returned goes to the front of its list
-  pub gets_back : (m : Mark) (p : Step) → mark_of x ≡ Some m → m.step ≡ Some p → IsReturning p m.found →
-      ReturnRow a.roots x (record { slot = m.slot; number = number_of m.found + 1 }) (st.caches x.thread) (cache_left a before rest x h parts st f) → NoActs a.roots x.line →
-      GetsBack a before rest x h parts st f s shown p m.slot
-  gets_back m p is step returning row none t made name word u other =
-      let grow = lists_grow a.partitions a.roots x (record { slot = m.slot; number = number_of m.found + 1 }) (st.caches x.thread) (cache_left a before rest x h parts st f) (name_of u)
-      (λ q class of. class_real a.pools a.roots m.slot q class (h.journals.journals q) of) none row in
-      let here = lists_here st.content (name_of u) in
+  -- what a step that returns a slot leaves is its free title
+  pub left_free : (m : Mark) (p : Step) (t u : Title) → mark_of x ≡ Some m → m.step ≡ Some p → IsReturning p m.found → MadeIn a t → name_of t ≡ m.slot → count_word s.words t ≡ st.word (name_of t) → MadeIn a u →
+      held_in (left_by p s t) (FreeTitle u) ≡ once (name_of u) m.slot
+  left_free m p t u is step returning made name word other =
       let found = found_word a before rest x h parts st f m is in
       let can = can_step a before rest x h parts st f m p is step in
       let now : count_word s.words t ≡ m.found = word ∙ (ap st.word name ∙ sym found) in
       let (free, alone) = leaves_free p m.found (subst (λ w. CanStep p w) (sym found) can) returning in
-      let back : held_in (left_by p s t) (FreeTitle u) ≡ once (name_of u) m.slot = elim (returned_cases (stepped p (count_word s.words t)) t) [
+      elim (returned_cases (stepped p (count_word s.words t)) t) [
         | inl y ↦ ap (λ ps. held_in ps (FreeTitle u)) y.1 ∙ (free_piece (MadeIn a) t u (made_unique a h) made other ∙ ap (once (name_of u)) name)
         | inr n ↦ absurd (n.0 (ap (λ w. held_of (stepped p w)) now ∙ free, ap (λ w. refs_of (stepped p w)) now ∙ alone))
-      ] in
+      ]
+
+  -- a slot that a step returned goes to the front of its list
+  pub gets_back : (m : Mark) (p : Step) → mark_of x ≡ Some m → m.step ≡ Some p → IsReturning p m.found →
+      ReturnRow a.roots x (record { slot = m.slot; number = number_of m.found + 1 }) (st.caches x.thread) (cache_left a before rest x h parts st f) → NoActs a.roots x.line →
+      GetsBack a before rest x h parts st f s shown (cache_left a before rest x h parts st f) p m.slot
+  gets_back m p is step returning row none t made name word u other =
+      let grow = lists_grow a.partitions a.roots x (record { slot = m.slot; number = number_of m.found + 1 }) (st.caches x.thread) (cache_left a before rest x h parts st f) (name_of u)
+      (λ q class of. class_real a.pools a.roots m.slot q class (h.journals.journals q) of) none row in
+      let here = lists_here st.content (name_of u) in
+      let back = left_free m p t u is step returning made name word other in
       omega arith
 
   -- an allocation from the front of a list

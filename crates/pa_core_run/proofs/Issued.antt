@@ -1,6 +1,6 @@
 -- An allocation whose line has an entry: some events bring its slot to the thread, and then it is issued.
 use Rattle.std.proofs.Common.{◌≡◌, ℕ, suc, ◌+◌, ◌*◌, ◌<◌, ◌≤◌, List, [], ◌∷◌, ◌++◌, Some, refl, sym, ◌∙◌, ap, subst, arith, inl, inr}
-use Rattle.std.proofs.lemmas.Bool.{eq-eqb, ne_eqb}
+use Rattle.std.proofs.lemmas.Bool.{eq-eqb}
 use Rattle.pa_machine.specs.declared.word.SlotName.{SlotName}
 use Rattle.pa_machine.specs.declared.word.Step.TheVariants.{Issue}
 use Rattle.pa_machine.specs.declared.title.OwnState.TheVariants.{Clean}
@@ -43,7 +43,7 @@ use Rattle.pa_core_run.proofs.Stepping.{issue_stands}
 use Rattle.pa_core_run.proofs.Named.{made_unique, HasTitle, class_title, direct_title}
 use Rattle.pa_core_run.proofs.Contents.{content_made}
 use Rattle.pa_core_run.proofs.Listing.{free_piece}
-use Rattle.pa_core_run.proofs.NextFronts.{among, regs_left, cache_left, front_next, found_word, can_step, set_by, right_after}
+use Rattle.pa_core_run.proofs.NextFronts.{among, lists_beside, regs_left, cache_left, front_next, found_word, can_step, set_by, right_after}
 use Rattle.pa_core_run.proofs.Records.{Outcome}
 use Rattle.pa_core_run.proofs.Stepped.{next_st, below, set_named, stores_beside}
 use Rattle.pa_core_run.proofs.Fronted.{lists_here}
@@ -63,9 +63,7 @@ module _ (a : Parts) (before rest : List Played) (x : Played) (h : IsFiled a) (p
       over_same a.partitions (λ p. listed_times y (list p) 0 59) (λ p. listed_times y (with_cache st.caches x.thread list x.thread p) 0 59) (λ p. ap (λ (c : Cache). listed_times y (c p) 0 59) same)
 
   pub lists_others : (list : Cache) (j : ℕ) (y : SlotName) → (j ≡ x.thread → ⊥) → in_lists a.partitions (listing list) y (suc j) ≡ in_lists a.partitions st y (suc j)
-  lists_others list j y ne =
-      let same : with_cache st.caches x.thread list j ≡ st.caches j = rw (ne_eqb j x.thread ne) refl in
-      over_same a.partitions (λ p. listed_times y (st.caches j p) 0 59) (λ p. listed_times y (with_cache st.caches x.thread list j p) 0 59) (λ p. ap (λ (c : Cache). listed_times y (c p) 0 59) same)
+  lists_others list j y ne = lists_beside a before rest x h parts st f list j y ne
 
   -- the core shows, after some events, the roots of the next line, and the thread's lists with the slot
   pub record IsBrought (list : Cache) (mid : State) : Type 0 where

@@ -34,3 +34,15 @@ pub mod Bringing
 pub mod Refilled
 pub mod Mapped
 pub mod Refills
+pub mod Returned
+pub mod MapsMade
+pub mod Unmapping
+pub mod Unmapped
+pub mod Given
+pub mod Titled
+pub mod Spilling
+pub mod Spilled
+pub mod Purging
+pub mod Purged
+pub mod Whole
+pub mod PlayedWorked

@@ -24,6 +24,7 @@ use Rattle.pa_rules.proofs.Counted.{listed_agree}
 use Rattle.pa_rules.specs.Caches.{Cache, CacheRow, SameLists, NoActs, OnlyActs, acts_of, with_cache, no_caches}
 use Rattle.pa_rules.specs.Contents.{IsContent}
 use Rattle.pa_rules.specs.Flow.{listed_times}
+use Rattle.pa_turns.specs.Shown.{over}
 use Rattle.pa_one_run.proofs.lines.Sorting.{below, on, on_in, below_gap, below_next}
 use Rattle.pa_one_run.proofs.lines.Cuts.{caches_snoc}
 use Rattle.pa_one_run.proofs.lines.Lists.{in_middle}
@@ -133,13 +134,16 @@ module _ (a : Parts) (before rest : List Played) (x : Played) (h : IsFiled a) (p
         | inr ne ↦ ap (λ acts. root_after a.pools acts (root_at a x.line q)) (only.1 q ne)
       ]
 
-  -- the lists of the other threads
+  -- the lists of the other threads, whatever the thread's own are
+  pub lists_beside : (list : Cache) (j : ℕ) (y : SlotName) → (j ≡ x.thread → ⊥) → over a.partitions (λ p. listed_times y (with_cache st.caches x.thread list j p) 0 59) ≡ in_lists a.partitions st y (suc j)
+  lists_beside list j y ne =
+      let same : with_cache st.caches x.thread list j ≡ st.caches j = rw (ne_eqb j x.thread ne) refl in
+      over_same a.partitions (λ p. listed_times y (st.caches j p) 0 59) (λ p. listed_times y (with_cache st.caches x.thread list j p) 0 59)
+      (λ p. ap (λ (c : Cache). listed_times y (c p) 0 59) same)
+
   pub lists_left : (content : SlotName → ℕ) (j : ℕ) (y : SlotName) → (j ≡ x.thread → ⊥) →
       in_lists a.partitions (after_record a before x st regs_left cache_left content) y (suc j) ≡ in_lists a.partitions st y (suc j)
-  lists_left content j y ne =
-      let same : with_cache st.caches x.thread cache_left j ≡ st.caches j = rw (ne_eqb j x.thread ne) refl in
-      over_same a.partitions (λ p. listed_times y (st.caches j p) 0 59) (λ p. listed_times y (with_cache st.caches x.thread cache_left j p) 0 59)
-      (λ p. ap (λ (c : Cache). listed_times y (c p) 0 59) same)
+  lists_left content j y ne = lists_beside cache_left j y ne
 
   -- the word that a step leaves, of the word that stands
   pub stepped_to : (m : Mark) (p : Step) → mark_of x ≡ Some m → m.step ≡ Some p → word_after (before ++ x ∷ []) m.slot ≡ stepped p (st.word m.slot)

@@ -46,7 +46,7 @@ use Rattle.pa_core_run.proofs.Values.{held_content, freed_content, usable_made}
 use Rattle.pa_core_run.proofs.Lengths.{made_long_as}
 use Rattle.pa_core_run.proofs.NextFronts.{among, regs_left, row_here, cache_left, cache_row, found_word, roots_left, lists_same}
 use Rattle.pa_core_run.proofs.Records.{Outcome, none_plays, look_plays}
-use Rattle.pa_core_run.proofs.Stepped.{GetsBack, copy_plays, reset_plays, free_plays, write_plays}
+use Rattle.pa_core_run.proofs.Stepped.{GetsBack, copy_plays, reset_given, free_given, given_stays, write_plays}
 use Rattle.pa_core_run.proofs.Fronted.{gets_back, made_plays}
 use Rattle.pa_core_run.proofs.Exchanged.{swap_plays}
 
@@ -150,7 +150,7 @@ module _ (a : Parts) (before rest : List Played) (x : Played) (h : IsFiled a) (s
 
   -- ---- a reset and a free
 
-  stays_listed : (p : Step) (y : SlotName) → SameLists new_cache old_cache → GetsBack a before rest x h parts st f s shown p y
+  stays_listed : (p : Step) (y : SlotName) → SameLists new_cache old_cache → GetsBack a before rest x h parts st f s shown new_cache p y
   stays_listed p y lists t made name word u other = let e = lists_same a before rest x h parts st f st.content lists (suc x.thread) (name_of u) in omega arith
 
   resets : (r : Reg) (reg : ℕ) → x.op ≡ ops.Reset reg → reg < 64 → st.regs x.thread reg ≡ r → ResetRow r (st.regs x.thread) reg x.answer new_regs → Plays_it
@@ -162,10 +162,11 @@ module _ (a : Parts) (before rest : List Played) (x : Played) (h : IsFiled a) (s
       let row : DoneRow a.roots x (Some Reset) seen old_cache new_cache = subst (λ o. DoneRow a.roots x o seen old_cache new_cache) (ap step_of op) (cache_as (answers.Done seen) answer) in
       let m : Mark = mark_at x.line seen (Some Reset) in
       let marked : mark_of x ≡ Some m = rw (answer, op) refl in
-      reset_plays a before rest x h parts st f s shown reg seen op answer few (is ∙ ap Ref (sym slot)) becomes (elim row [
+      let (mid, given) = reset_given a before rest x h parts st f s shown reg seen new_cache op answer few (is ∙ ap Ref (sym slot)) becomes (elim row [
         | inl (returning, back) ↦ gets_back a before rest x h parts st f s shown m Reset marked refl returning back none
         | inr (other, no_acts, lists) ↦ stays_listed Reset seen.slot lists
-      ]) none
+      ]) in
+      given_stays a before rest x h parts st f s shown mid none given
 
   frees : (r : Reg) (reg : ℕ) → x.op ≡ ops.Free reg → reg < 64 → st.regs x.thread reg ≡ r → FreeRow r (st.regs x.thread) reg x.answer new_regs → Plays_it
   frees Empty reg op few is (answer, becomes) = quiet answers.Nothing answer refl (cache_as answers.Nothing answer).1 (not_swap _ op (λ k r e. absurd cc)) becomes
@@ -179,10 +180,11 @@ module _ (a : Parts) (before rest : List Played) (x : Played) (h : IsFiled a) (s
       let row : DoneRow a.roots x (Some Free) seen old_cache new_cache = subst (λ o. DoneRow a.roots x o seen old_cache new_cache) (ap step_of op) (cache_as (answers.Done seen) answer) in
       let m : Mark = mark_at x.line seen (Some Free) in
       let marked : mark_of x ≡ Some m = rw (answer, op) refl in
-      free_plays a before rest x h parts st f s shown reg seen op answer few (is ∙ ap Own (sym slot)) becomes (elim row [
+      let (mid, given) = free_given a before rest x h parts st f s shown reg seen new_cache op answer few (is ∙ ap Own (sym slot)) becomes (elim row [
         | inl (returning, back) ↦ gets_back a before rest x h parts st f s shown m Free marked refl returning back none
         | inr (other, no_acts, lists) ↦ stays_listed Free seen.slot lists
-      ]) none
+      ]) in
+      given_stays a before rest x h parts st f s shown mid none given
 
   -- ---- a write
 

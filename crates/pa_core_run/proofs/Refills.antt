@@ -55,7 +55,7 @@ alloc_made (Ref y) facts regs after reg size usable seen row = absurd (let e = r
 
 -- ---- lists that are changed twice
 
-list_twice : (cache : Cache) (p class : ℕ) (xs ys : List Numbered) (q c : ℕ) → with_list cache p class ys q c ≡ with_list (with_list cache p class xs) p class ys q c
+pub list_twice : (cache : Cache) (p class : ℕ) (xs ys : List Numbered) (q c : ℕ) → with_list cache p class ys q c ≡ with_list (with_list cache p class xs) p class ys q c
 list_twice cache p class xs ys q c = elim (cases_Bool ((q == p) && (c == class))) [ inl here ↦ rw here refl | inr other ↦ rw other refl ]
 
 module _ (a : Parts) (before rest : List Played) (x : Played) (h : IsFiled a) (parts : a.ps ≡ before ++ x ∷ rest) (st : Standing) (f : IsFrontOf a x.line before (x ∷ rest) st) (s : State)
@@ -94,7 +94,7 @@ module _ (a : Parts) (before rest : List Played) (x : Played) (h : IsFiled a) (p
   by_list p class usable seen (z ∷ zs) xs ys some asks answer is (same, no_acts) front becomes = quiet_plays a before rest x h some parts no_acts s (record { st = st; front = f; shown = shown })
 
 -- a list that is put back as it was
-list_back : (cache : Cache) (p class : ℕ) (xs : List Numbered) (q c : ℕ) → cache q c ≡ with_list (with_list cache p class xs) p class (cache p class) q c
+pub list_back : (cache : Cache) (p class : ℕ) (xs : List Numbered) (q c : ℕ) → cache q c ≡ with_list (with_list cache p class xs) p class (cache p class) q c
 list_back cache p class xs q c = elim (cases_eq q p) [
   | inl e ↦ elim (cases_eq c class) [
     | inl d ↦ rw (eq-eqb q p e, eq-eqb c class d) (ap (λ i. cache i c) e ∙ ap (cache p) d)

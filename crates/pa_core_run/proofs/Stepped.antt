@@ -1,4 +1,4 @@
--- Records of counted steps that return no slot: a copy, a reset, a free and a write.
+-- Records of counted steps: a copy, a write, and a reset and a free up to the lists that they leave.
 use Rattle.std.proofs.Common.{◌≡◌, ℕ, zero, suc, ◌+◌, ◌*◌, ◌<◌, ◌≤◌, List, [], ◌∷◌, ◌++◌, Some, None, refl, sym, ◌∙◌, ap, subst, arith, ◌⊎◌, inl, inr}
 use Rattle.std.proofs.lemmas.Bool.{cases_eq}
 use Rattle.pa_machine.specs.declared.word.SlotName.{SlotName}
@@ -12,6 +12,7 @@ use Rattle.pa_machine.specs.Run.{Mark}
 use Rattle.pa_machine.specs.Titles.{content_count, count_word}
 use Rattle.pa_machine.specs.Holdings.{Piece, OwnPiece, RefPiece, FreeTitle, held_in}
 use Rattle.pa_machine.specs.Events.{State}
+use Rattle.pa_machine.specs.Trail.{IsRunTo}
 use Rattle.pa_machine.proofs.Lasting.{run_start}
 use Rattle.pa_trace.specs.declared.script.Op.TheVariants as ops
 use Rattle.pa_record.specs.declared.entry.Seen.{Seen}
@@ -22,7 +23,7 @@ use Rattle.pa_rules.specs.declared.register.Reg.TheVariants.{Own, Ref, Freed, Cl
 use Rattle.pa_rules.specs.declared.played.Played.{Played}
 use Rattle.pa_rules.specs.Played.{mark_of, mark_at}
 use Rattle.pa_rules.specs.Registers.{Becomes, with}
-use Rattle.pa_rules.specs.Caches.{SameLists, NoActs}
+use Rattle.pa_rules.specs.Caches.{Cache, SameLists, NoActs}
 use Rattle.pa_rules.specs.Contents.{IsContent}
 use Rattle.pa_turns.specs.Shown.{with_slot}
 use Rattle.pa_turns.specs.Turns.{HoldsNone}
@@ -32,7 +33,7 @@ use Rattle.pa_one_run.proofs.Filed.{Parts, IsFiled, word_after}
 use Rattle.pa_one_run.proofs.rows.Handles.{slot_in}
 use Rattle.pa_one_run.proofs.roots.Replays.{root_at}
 use Rattle.pa_core_steps.specs.Turns.{IsDone, left_by, poisons, stores}
-use Rattle.pa_core_run.specs.Playing.{read_by, AreBeside}
+use Rattle.pa_core_run.specs.Playing.{read_by, AreBeside, Plays}
 use Rattle.pa_core_run.specs.Ledger.{Titles, IsShown}
 use Rattle.pa_core_run.specs.Standing.{Standing, in_lists, ledger_of}
 use Rattle.pa_core_run.specs.Fronts.{MadeIn, titles_in, IsFrontOf}
@@ -43,7 +44,7 @@ use Rattle.pa_core_run.proofs.Paying.{IsSet, set_at, set_apart}
 use Rattle.pa_core_run.proofs.Stepping.{has_own, has_ref, has_handle, copy_stands, reset_stands, free_stands, write_stands}
 use Rattle.pa_core_run.proofs.Named.{made_unique}
 use Rattle.pa_core_run.proofs.Contents.{content_left, content_written}
-use Rattle.pa_core_run.proofs.NextFronts.{after_record, among, regs_left, cache_left, found_word, can_step, set_by, roots_left, lists_same, right_after}
+use Rattle.pa_core_run.proofs.NextFronts.{after_record, among, regs_left, cache_left, found_word, can_step, set_by, roots_left, lists_beside, lists_same, right_after}
 use Rattle.pa_core_run.proofs.Records.{Outcome, few, shows_next, named_title}
 
 -- poisons and stores of an actor are beside its step
@@ -127,44 +128,98 @@ module _ (a : Parts) (before rest : List Played) (x : Played) (h : IsFiled a) (p
       (content_goes m Copy is refl (λ e. absurd cc) (λ seen2 usable e. (let both : answers.Done seen ≡ answers.Made seen2 usable = sym answer ∙ e in absurd cc)) (λ reg v e. (let both : ops.Copy from to ≡ ops.Write reg v = sym op ∙ e in absurd cc))))
       turned
 
-  -- the thread's lists get no more than what a step of the slot gives back
-  abbrev pub GetsBack : Step → SlotName → Type 0
-  GetsBack p y = (t : Title) → MadeIn a t → name_of t ≡ y → count_word s.words t ≡ st.word (name_of t) → (u : Title) → MadeIn a u →
-      in_lists a.partitions (next_st st.content) (name_of u) (suc x.thread) ≤ in_lists a.partitions st (name_of u) (suc x.thread) + held_in (left_by p s t) (FreeTitle u)
+  -- ---- a reset and a free
 
-  pub reset_plays : (reg : ℕ) (seen : Seen) → x.op ≡ ops.Reset reg → x.answer ≡ answers.Done seen → reg < 64 → st.regs x.thread reg ≡ Ref seen.slot →
-      Becomes (regs_left a before rest x h parts st f) (with (st.regs x.thread) reg Cleared) → GetsBack Reset seen.slot → NoActs a.roots x.line → Outcome a before rest x h parts st f s shown
-  reset_plays reg seen op answer reg_few names becomes lists no_acts =
+  -- what stands after the record, where the thread's lists are these
+  abbrev pub given_st : Cache → Standing
+  given_st list = after_record a before x st (regs_left a before rest x h parts st f) list st.content
+
+  -- the thread's lists get no more than what a step of the slot gives back
+  abbrev pub GetsBack : Cache → Step → SlotName → Type 0
+  GetsBack list p y = (t : Title) → MadeIn a t → name_of t ≡ y → count_word s.words t ≡ st.word (name_of t) → (u : Title) → MadeIn a u →
+      in_lists a.partitions (given_st list) (name_of u) (suc x.thread) ≤ in_lists a.partitions st (name_of u) (suc x.thread) + held_in (left_by p s t) (FreeTitle u)
+
+  -- What the step leads to: the core shows the record's registers and words with these lists, and the roots as they were. With
+  -- any events that follow, of its thread and of actor 0, the record is played.
+  pub record IsGivenBack (list : Cache) (mid : State) : Type 0 where
+    pub now : IsShown names_here (a.threads + 1) bytes_here (ledger_of a.partitions (given_st list)) mid
+    pub right : (y : SlotName) → held_of (word_after (before ++ x ∷ []) y) ≡ 1 → IsContent a.ps y (number_of (word_after (before ++ x ∷ []) y)) (st.content y)
+    pub plays : (last : List Event) (next : State) → IsRunTo mid last next → AreBeside (x.thread + 1) last → Plays (MadeIn a) x s next
+
+  set_given : (t : Title) (m : Mark) (p : Step) (reg : ℕ) (new : Reg) (list : Cache) → name_of t ≡ m.slot → IsSet a.partitions st (next_st st.content) x.thread reg new m.slot (stepped p (st.word m.slot)) →
+      IsSet a.partitions st (given_st list) x.thread reg new (name_of t) (stepped p (st.word (name_of t)))
+  set_given t m p reg new list name set =
+      let first = set_named t m p reg (λ y. new) st.content name set in
+      record {
+        few = first.few;
+        here = first.here;
+        other = first.other;
+        held = first.held;
+        lists = λ j y ne. lists_beside a before rest x h parts st f list j y ne;
+        word_left = first.word_left;
+        words = first.words;
+        contents = first.contents;
+      }
+
+  -- a step of the slot that a register names, whose turn the core can make
+  abbrev GivenTurn : (t : Title) (p : Step) (lost : List Piece) (first : List Event) (list : Cache) (k : ℕ) → Type 0
+  GivenTurn t p lost first list k =
+      (mid : State) × IsDone s k t p lost (left_by p s t) first mid × IsShown names_here (a.threads + 1) bytes_here (ledger_of a.partitions (given_st list)) mid
+
+  turned_given : (m : Mark) (p : Step) (t : Title) (lost : List Piece) (first : ℕ → List Event) (list : Cache) → mark_of x ≡ Some m → m.step ≡ Some p → read_by x.op x.answer ≡ None →
+      MadeIn a t → name_of t ≡ m.slot → count_word s.words t ≡ st.word (name_of t) → ((k : ℕ) → AreBeside k (first k)) →
+      ((y : SlotName) → held_of (word_after (before ++ x ∷ []) y) ≡ 1 → IsContent a.ps y (number_of (word_after (before ++ x ∷ []) y)) (st.content y)) →
+      GivenTurn t p lost (first (suc x.thread)) list (suc x.thread) → (mid : State) × IsGivenBack list mid
+  turned_given m p t lost first list is step unread made name word beside right turned =
+      let e : suc x.thread ≡ x.thread + 1 = omega arith in
+      let there : GivenTurn t p lost (first (x.thread + 1)) list (x.thread + 1) = subst (λ k. GivenTurn t p lost (first k) list k) e turned in (
+        there.0,
+        record {
+          now = there.2;
+          right = right;
+          plays = λ last next run last_beside. play_step (MadeIn a) x s s there.0 next m t p lost (left_by p s t) [] (first (x.thread + 1)) last is step unread shown.good made name
+              (word ∙ (ap st.word name ∙ sym (found_word a before rest x h parts st f m is))) (run_start s shown.good) there.1 run tt (beside (x.thread + 1)) last_beside;
+        },
+      )
+
+  pub reset_given : (reg : ℕ) (seen : Seen) (list : Cache) → x.op ≡ ops.Reset reg → x.answer ≡ answers.Done seen → reg < 64 → st.regs x.thread reg ≡ Ref seen.slot →
+      Becomes (regs_left a before rest x h parts st f) (with (st.regs x.thread) reg Cleared) → GetsBack list Reset seen.slot → (mid : State) × IsGivenBack list mid
+  reset_given reg seen list op answer reg_few names becomes lists =
       let m : Mark = mark_at x.line seen (Some Reset) in
       let is : mark_of x ≡ Some m = rw (answer, op) refl in
       let (t, made, name) = named_title a before rest x h parts st f s shown reg seen.slot (ap slot_in names) in
       let other : (k r : ℕ) → x.op ≡ ops.Swap k r → ⊥ = λ k r swap. (let both : ops.Reset reg ≡ ops.Swap k r = sym op ∙ swap in absurd cc) in
-      let set = set_named t m Reset reg (λ y. Cleared) st.content name (set_by a before rest x h parts st f m Reset reg Cleared st.content is refl reg_few other becomes (λ y ne. refl)) in
+      let set = set_given t m Reset reg Cleared list name (set_by a before rest x h parts st f m Reset reg Cleared st.content is refl reg_few other becomes (λ y ne. refl)) in
       let can = subst (λ y. CanStep Reset (st.word y)) (sym name) (can_step a before rest x h parts st f m Reset is refl) in
       let names_it = names ∙ ap Ref (sym name) in
       let held = ref_held s (suc x.thread) t (has_ref names_here a.partitions (a.threads + 1) bytes_here st s shown (made_unique a h) x.thread reg t below reg_few made names_it) in
-      let turned = reset_stands names_here a.partitions (a.threads + 1) bytes_here st s shown (made_unique a h) (next_st st.content) x.thread reg t below made names_it can set refl (lists t made name (shown.words t held)) in
-      turned_plays m Reset t (RefPiece t ∷ []) (left_by Reset s t) (λ k. []) st.content is refl (rw op refl) made name (shown.words t held) (λ k. tt) no_acts
+      let turned = reset_stands names_here a.partitions (a.threads + 1) bytes_here st s shown (made_unique a h) (given_st list) x.thread reg t below made names_it can set refl (lists t made name (shown.words t held)) in
+      turned_given m Reset t (RefPiece t ∷ []) (λ k. []) list is refl (rw op refl) made name (shown.words t held) (λ k. tt)
       (right_after a before rest x h parts st f m Reset st.content is refl (λ y ne. refl)
       (content_goes m Reset is refl (λ e. absurd cc) (λ seen2 usable e. (let both : answers.Done seen ≡ answers.Made seen2 usable = sym answer ∙ e in absurd cc)) (λ r v e. (let both : ops.Reset reg ≡ ops.Write r v = sym op ∙ e in absurd cc))))
       turned
 
-  pub free_plays : (reg : ℕ) (seen : Seen) → x.op ≡ ops.Free reg → x.answer ≡ answers.Done seen → reg < 64 → st.regs x.thread reg ≡ Own seen.slot →
-      Becomes (regs_left a before rest x h parts st f) (with (st.regs x.thread) reg Freed) → GetsBack Free seen.slot → NoActs a.roots x.line → Outcome a before rest x h parts st f s shown
-  free_plays reg seen op answer reg_few names becomes lists no_acts =
+  pub free_given : (reg : ℕ) (seen : Seen) (list : Cache) → x.op ≡ ops.Free reg → x.answer ≡ answers.Done seen → reg < 64 → st.regs x.thread reg ≡ Own seen.slot →
+      Becomes (regs_left a before rest x h parts st f) (with (st.regs x.thread) reg Freed) → GetsBack list Free seen.slot → (mid : State) × IsGivenBack list mid
+  free_given reg seen list op answer reg_few names becomes lists =
       let m : Mark = mark_at x.line seen (Some Free) in
       let is : mark_of x ≡ Some m = rw (answer, op) refl in
       let (t, made, name) = named_title a before rest x h parts st f s shown reg seen.slot (ap slot_in names) in
       let other : (k r : ℕ) → x.op ≡ ops.Swap k r → ⊥ = λ k r swap. (let both : ops.Free reg ≡ ops.Swap k r = sym op ∙ swap in absurd cc) in
-      let set = set_named t m Free reg (λ y. Freed) st.content name (set_by a before rest x h parts st f m Free reg Freed st.content is refl reg_few other becomes (λ y ne. refl)) in
+      let set = set_given t m Free reg Freed list name (set_by a before rest x h parts st f m Free reg Freed st.content is refl reg_few other becomes (λ y ne. refl)) in
       let can = subst (λ y. CanStep Free (st.word y)) (sym name) (can_step a before rest x h parts st f m Free is refl) in
       let names_it = names ∙ ap Own (sym name) in
       let held = own_held s (suc x.thread) t Clean (has_own names_here a.partitions (a.threads + 1) bytes_here st s shown (made_unique a h) x.thread reg t below reg_few made names_it) in
-      let turned = free_stands names_here a.partitions (a.threads + 1) bytes_here st s shown (made_unique a h) (next_st st.content) x.thread reg t below made names_it can set (lists t made name (shown.words t held)) in
-      turned_plays m Free t (OwnPiece t Clean ∷ []) (left_by Free s t) (λ k. poisons (content_count t) k t) st.content is refl (rw op refl) made name (shown.words t held) (λ k. poisons_beside (content_count t) k t) no_acts
+      let turned = free_stands names_here a.partitions (a.threads + 1) bytes_here st s shown (made_unique a h) (given_st list) x.thread reg t below made names_it can set (lists t made name (shown.words t held)) in
+      turned_given m Free t (OwnPiece t Clean ∷ []) (λ k. poisons (content_count t) k t) list is refl (rw op refl) made name (shown.words t held) (λ k. poisons_beside (content_count t) k t)
       (right_after a before rest x h parts st f m Free st.content is refl (λ y ne. refl)
       (content_goes m Free is refl (λ e. absurd cc) (λ seen2 usable e. (let both : answers.Done seen ≡ answers.Made seen2 usable = sym answer ∙ e in absurd cc)) (λ r v e. (let both : ops.Free reg ≡ ops.Write r v = sym op ∙ e in absurd cc))))
       turned
+
+  -- where the line has no entry nothing follows
+  pub given_stays : (mid : State) → NoActs a.roots x.line → IsGivenBack (cache_left a before rest x h parts st f) mid → Outcome a before rest x h parts st f s shown
+  given_stays mid none given =
+      (mid, given.plays [] mid (run_start mid given.now.good) tt, shows_next a before rest x h parts st f s shown st.content mid (roots_left a before rest x h parts st f none) given.right given.now)
 
   pub write_plays : (reg value : ℕ) (seen : Seen) → x.op ≡ ops.Write reg value → x.answer ≡ answers.Done seen → reg < 64 → st.regs x.thread reg ≡ Own seen.slot → refs_of seen.found.0 ≡ 0 →
       Becomes (regs_left a before rest x h parts st f) (st.regs x.thread) → SameLists (cache_left a before rest x h parts st f) (st.caches x.thread) → NoActs a.roots x.line → Outcome a before rest x h parts st f s shown

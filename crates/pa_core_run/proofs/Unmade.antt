@@ -110,8 +110,9 @@ module _ (a : Parts) (h : IsFiled a) (s : SlotName) where
 -- ---- a slot that a record made is out right after it
 
 module _ (a : Parts) (h : IsFiled a) where
-  inside : (p : ℕ) (e : RootEntry) → Contains (a.roots p) e → p < a.partitions
-  inside p e among = elim (cases_lt p a.partitions) [
+  -- an entry's partition is one of the trace's
+  pub entry_inside : (p : ℕ) (e : RootEntry) → Contains (a.roots p) e → p < a.partitions
+  entry_inside p e among = elim (cases_lt p a.partitions) [
     | inl low ↦ low
     | inr past ↦ absurd (not_in_none e (subst (λ es. Contains es e) (h.journals.none_past p past) among))
   ]
@@ -140,7 +141,7 @@ module _ (a : Parts) (h : IsFiled a) where
       let word : word_after (before ++ q ∷ []) seen.slot ≡ stepped Issue m.found = word_here before q m marked ∙ ap (stepped Issue) (sym (found_is a before rest q m h parts marked)) in
       let used = ap busy word ∙ busy_some (stepped Issue m.found) (omega arith) in
       elim (once a (q.line + 1) p (before ++ q ∷ []) rest (with_cache all q.thread next) seen.slot e h (cut_next a before rest q h parts)
-      (caches_snoc a.partitions a.roots no_caches all before q next to row) (inside p e there) there leaves) [
+      (caches_snoc a.partitions a.roots no_caches all before q next to row) (entry_inside p e there) there leaves) [
         | inl (out, one) ↦ (p, e, record { there = there; leaves = leaves; out = out })
         | inr (back, none) ↦ absurd (omega arith)
       ]

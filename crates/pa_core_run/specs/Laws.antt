@@ -1,13 +1,15 @@
 -- What is proved of the records of a run in the order of its lines: the frame of the law that each run is played, and the lines
 -- that make no entry of a journal.
-use Rattle.std.specs.Prelude.{◌≡◌, ℕ, List, ◌∷◌, ◌++◌}
+use Rattle.std.specs.Prelude.{◌≡◌, ℕ, List, ◌∷◌, ◌++◌, Contains}
 use Rattle.pa_trace.specs.declared.script.Trace.{Trace}
 use Rattle.pa_trace.specs.Limits.{IsWithinLimits}
 use Rattle.pa_record.specs.declared.run.Run.{Run}
 use Rattle.pa_record.specs.declared.entry.Seen.{Seen}
-use Rattle.pa_record.specs.declared.entry.Answer.TheVariants.{Made, Full}
+use Rattle.pa_record.specs.declared.entry.Answer.TheVariants.{Made, Done, Full, Purged}
+use Rattle.pa_record.specs.declared.numbered.Numbered.{Numbered}
+use Rattle.pa_record.specs.declared.root.RootAct.TheVariants.{Give, Unmap}
 use Rattle.pa_rules.specs.declared.played.Played.{Played}
-use Rattle.pa_rules.specs.Caches.{NoActs}
+use Rattle.pa_rules.specs.Caches.{NoActs, acts_of}
 use Rattle.pa_rules.specs.Told.{told_by, records_of}
 use Rattle.pa_rules.specs.Legal.{IsFileRun}
 use Rattle.pa_one_run.proofs.Legality.{parts_of}
@@ -41,3 +43,22 @@ abbrev pub MadeRecordsArePlayed : Type 0
 MadeRecordsArePlayed =
     (t : Trace) (r : Run) → IsWithinLimits t → IsFileRun t r → (before : List Played) (x : Played) (rest : List Played) (seen : Seen) (usable : ℕ) →
     records_of t (told_by r) ≡ before ++ x ∷ rest → x.answer ≡ Made seen usable → CanBePlayed (parts_of t (told_by r)) before x rest
+
+-- And so can each free or reset that returned a slot to a list which spilled: what doesn't stay of the list goes back to the root.
+abbrev pub SpilledRecordsArePlayed : Type 0
+SpilledRecordsArePlayed =
+    (t : Trace) (r : Run) → IsWithinLimits t → IsFileRun t r → (before : List Played) (x : Played) (rest : List Played) (seen : Seen) (p : ℕ) (slots : List Numbered) →
+    records_of t (told_by r) ≡ before ++ x ∷ rest → x.answer ≡ Done seen → Contains (acts_of (told_by r).roots x.line p) (Give slots) → CanBePlayed (parts_of t (told_by r)) before x rest
+
+-- And so can each reset or free that gave back a direct map: its line has an Unmap. The step leaves the map's free title, which goes to
+-- actor 0 and becomes raw bytes again.
+abbrev pub UnmappedRecordsArePlayed : Type 0
+UnmappedRecordsArePlayed =
+    (t : Trace) (r : Run) → IsWithinLimits t → IsFileRun t r → (before : List Played) (x : Played) (rest : List Played) (p asked : ℕ) (slot : Numbered) →
+    records_of t (told_by r) ≡ before ++ x ∷ rest → Contains (acts_of (told_by r).roots x.line p) (Unmap asked slot) → CanBePlayed (parts_of t (told_by r)) before x rest
+
+-- And so can each purge: the free titles of all slots in its thread's lists go to actor 0, and the lists are empty.
+abbrev pub PurgedRecordsArePlayed : Type 0
+PurgedRecordsArePlayed =
+    (t : Trace) (r : Run) → IsWithinLimits t → IsFileRun t r → (before : List Played) (x : Played) (rest : List Played) (slots : ℕ) →
+    records_of t (told_by r) ≡ before ++ x ∷ rest → x.answer ≡ Purged slots → CanBePlayed (parts_of t (told_by r)) before x rest

@@ -4,3 +4,4 @@ pub mod Standing
 pub mod Fronts
 pub mod Moves
 pub mod Laws
+pub mod Worked

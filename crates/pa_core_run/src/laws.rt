@@ -1,5 +1,18 @@
+ghost use Rattle.pa_core_run.specs.Playing.{FileRunsArePlayed};
+ghost use Rattle.pa_core_run.specs.Worked.{WorkedRunsArePlayed};
 ghost use Rattle.pa_core_run.specs.Moves.{TitlesComeAndGo};
-ghost use Rattle.pa_core_run.specs.Laws.{MadeRecordsArePlayed, PlayedRecordsMakeARun, QuietRecordsArePlayed, RefusedRecordsArePlayed};
+ghost use Rattle.pa_core_run.specs.Laws.{MadeRecordsArePlayed, PlayedRecordsMakeARun, PurgedRecordsArePlayed, QuietRecordsArePlayed, RefusedRecordsArePlayed, SpilledRecordsArePlayed, UnmappedRecordsArePlayed};
+
+/// The law that each run in the order of its lines, of a trace within the limits, has a run of the core from its start: its records
+/// are played one after the other, each by enabled events, and the core is good at every moment.
+pub fn file_runs_are_played()
+    ensures { FileRunsArePlayed }
+{}
+
+/// Three runs of one thread, which were worked out by hand, have one.
+pub fn worked_runs_are_played()
+    ensures { WorkedRunsArePlayed }
+{}
 
 /// The law that a run in the order of its lines has a run of the core, from its start, where each of its records can be
 /// played wherever the core shows what stands before it.
@@ -20,6 +33,21 @@ pub fn refused_records_are_played()
 /// The law that each allocation which made a slot can be so played: from the thread's list, after a fill, or as a direct map.
 pub fn made_records_are_played()
     ensures { MadeRecordsArePlayed }
+{}
+
+/// The law that each free or reset whose slot came to a list which spilled can be so played.
+pub fn spilled_records_are_played()
+    ensures { SpilledRecordsArePlayed }
+{}
+
+/// The law that each reset or free which gave back a direct map can be so played.
+pub fn unmapped_records_are_played()
+    ensures { UnmappedRecordsArePlayed }
+{}
+
+/// The law that each purge can be so played.
+pub fn purged_records_are_played()
+    ensures { PurgedRecordsArePlayed }
 {}
 
 /// The law that the core goes on showing the run while titles are cut out of raw bytes and made raw again, and while free slots go from

@@ -4,6 +4,8 @@
 mod laws;
 
 pub use laws::{
-    made_records_are_played, played_records_make_a_run, quiet_records_are_played,
-    refused_records_are_played, titles_come_and_go,
+    file_runs_are_played, made_records_are_played, played_records_make_a_run,
+    purged_records_are_played, quiet_records_are_played, refused_records_are_played,
+    spilled_records_are_played, titles_come_and_go, unmapped_records_are_played,
+    worked_runs_are_played,
 };

@@ -41,12 +41,13 @@ pub(crate) struct Player {
 }
 
 impl Player {
-    // Before the first line.
+    // Before the first of so many lines.
     pub(crate) fn new(
         alloc: Global,
         region: u32,
         partitions: u32,
         threads: u32,
+        lines: usize,
     ) -> Result<Player, OutOfMemory>
         requires { IsHeadWithin region partitions threads }
         ensures { IfOk result (IsBegun region partitions threads) }
@@ -60,7 +61,7 @@ impl Player {
             live: Tallies::new(),
             quarantined: Tallies::new(),
             cached: Tallies::new(),
-            told: Told::new(alloc, partitions)?,
+            told: Told::new(alloc, partitions, lines)?,
             partitions,
             phase: 1,
         })

@@ -37,8 +37,8 @@ impl Model for Told {
 }
 
 impl Told {
-    // Nothing, before the first line. The head is line 1.
-    pub(crate) fn new(alloc: Global, partitions: u32) -> Result<Told, OutOfMemory>
+    // Nothing, before the first line. The head is line 1. Room is taken for the records of so many lines.
+    pub(crate) fn new(alloc: Global, partitions: u32, lines: usize) -> Result<Told, OutOfMemory>
         ensures { IfOk result (IsUntold partitions) }
     {
         let mut journals = Vec::with_capacity(alloc, partitions as usize)?;
@@ -50,7 +50,7 @@ impl Told {
             histories.push(History::new(alloc))?;
         }
         Ok(Told {
-            entries: Vec::new(alloc),
+            entries: Vec::with_capacity(alloc, lines)?,
             journals,
             pools: Vec::new(alloc),
             histories,

@@ -1,14 +1,12 @@
 -- The bounds of a span's numbers.
-use Rattle.std.proofs.Common.{◌≡◌, ℕ, ◌+◌, ◌*◌, ◌/◌, ◌<◌, ◌≤◌, max, true, false, eqb, List, [], ◌∷◌, length, refl, sym, ◌∙◌, ap, subst, arith, inl, inr}
+use Rattle.std.proofs.Common.{◌≡◌, ℕ, ◌+◌, ◌*◌, ◌/◌, ◌<◌, ◌≤◌, max, List, [], ◌∷◌, length, refl, sym, ◌∙◌, ap, subst, arith}
 use Rattle.std.specs.Prelude.{Contains}
-use Rattle.std.specs.List.{list_any}
-use Rattle.std.proofs.lemmas.Bool.{cases_Bool, true≢false, false≢true, eqb-true, eqb-false}
 use Rattle.std.proofs.Math.Nat.{mul-le-mul_left}
 use Rattle.pa_buckets.specs.Table.{slot_of, pages_of, slots_of}
 use Rattle.pa_buckets.proofs.Facts.{IsRow-of}
 use Rattle.pa_record.specs.Spans.{Span, bytes_of, more_pages, more_slots, with_list, with_free, without_front}
 use Rattle.pa_record.specs.Sound.{IsCounted}
-use Rattle.pa_record.proofs.Members.{not_in_none, first_in, later_in, in_cases}
+use Rattle.pa_record.proofs.Members.{first_in}
 use Rattle.pa_record.proofs.SpanSteps.{with_free_front}
 use Rattle.pa_place.specs.Served.{IsLow}
 
@@ -111,21 +109,3 @@ served_low s u t e after low =
 
     free_bytes : (s : Span) → bytes_of (with_free s) ≡ bytes_of s
     free_bytes s = bytes_by s.free s
-
--- a number that is in the list, by a test
-pub in_by_any : (n : ℕ) (xs : List ℕ) → list_any (λ y. eqb y n) xs ≡ true → Contains xs n
-in_by_any n [] h = absurd (false≢true h)
-in_by_any n (x ∷ xs) h = elim (cases_Bool (eqb x n)) [
-  | inl hit ↦ let e = eqb-true _ _ hit in (0, omega arith, e)
-  | inr miss ↦ later_in x n xs (in_by_any n xs (rw miss at h))
-]
-
-pub any_by_in : (n : ℕ) (xs : List ℕ) → list_any (λ y. eqb y n) xs ≡ false → Contains xs n → ⊥
-any_by_in n [] h among = not_in_none n among
-any_by_in n (x ∷ xs) h among = elim (cases_Bool (eqb x n)) [
-  | inl hit ↦ true≢false (rw hit at h)
-  | inr miss ↦ elim (in_cases x n xs among) [
-    | inl e ↦ eqb-false _ _ miss e
-    | inr rest ↦ any_by_in n xs (rw miss at h) rest
-  ]
-]

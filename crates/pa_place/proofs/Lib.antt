@@ -1,4 +1,5 @@
 pub mod Bounds
+pub mod CameBack
 pub mod Cutting
 pub mod Filing
 pub mod Filling

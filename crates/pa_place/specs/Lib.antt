@@ -1,3 +1,4 @@
+pub mod CameBack
 pub mod Filed
 pub mod Listing
 pub mod Made

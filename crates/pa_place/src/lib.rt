@@ -10,6 +10,7 @@ mod placement;
 mod plain_root;
 mod plain_span;
 mod pool_plan;
+mod returned;
 mod returns;
 mod room;
 mod scans;

@@ -1,5 +1,4 @@
-ghost use Rattle.std.specs.Prelude.{◌≡◌, ℕ, ◌+◌, ◌-◌, ◌*◌, ◌<◌, ◌≤◌, ◌^◌, ◌++◌, ◌∷◌, [], true, IfOk, IfSome, IfNone, length};
-ghost use Rattle.std.specs.VecDeque.{deque_len, deque_capacity};
+ghost use Rattle.std.specs.Prelude.{◌≡◌, ℕ, ◌+◌, ◌-◌, ◌*◌, ◌<◌, ◌≤◌, ◌^◌, ◌++◌, ◌∷◌, [], true, IfOk, IfSome, IfNone, IsTrue, ◌↔◌, length};
 ghost use Rattle.pa_buckets.specs.Table.{slot_of, slots_of};
 ghost use Rattle.pa_record.specs.Spans.{bytes_of, title_at, holds, number_in, numbers, provisioned_more, with_free, with_front, without_front, without_pages, state_in_use, state_back, is_in, is_of};
 ghost use Rattle.pa_record.specs.Root.{in_state, turn_after, IsOutOf};
@@ -10,15 +9,16 @@ ghost use Rattle.pa_place.specs.Order.{starts_after};
 ghost use Rattle.pa_place.specs.Served.{blank_span, stands_at, IsServed, IsLow};
 
 use crate::placed::Made;
+use crate::returned::Returned;
 use arrayvec::ArrayVec;
 use pa_buckets::{Class, State, slot_size, span_of};
 use pa_layout::{PARTITION_PAGE, SYSTEM_PAGE};
 use pa_machine::{OutOfMemory, SlotName, Title};
 use std::alloc::Global;
-use std::collections::VecDeque;
 use std::marker::Model;
 
-// A slot span, with room in its free list for all its slots.
+// A slot span. Its free slots are those that came back, of which there is room for all, and behind them those from a number
+// on, which never left it since they were provisioned.
 #[derive(Drop)]
 pub(crate) struct PlainSpan {
     place: u32,
@@ -30,20 +30,20 @@ pub(crate) struct PlainSpan {
     provisioned: u32,
     committed: u32,
     made: u32,
-    free: VecDeque<u32>,
+    returned: Returned,
+    kept_from: u32,
 }
 
 impl Model for PlainSpan {
-    ghost use Rattle.std.specs.Prelude.{◌≤◌};
-    ghost use Rattle.std.specs.VecDeque.{deque_capacity};
-    ghost use Rattle.pa_buckets.specs.Table.{slots_of};
-    ghost use Rattle.pa_record.specs.Spans.{Span};
+    ghost use Rattle.std.specs.Prelude.{◌-◌, ◌++◌};
+    ghost use Rattle.pa_record.specs.Spans.{Span, numbers};
+    ghost use Rattle.pa_place.specs.CameBack.{AreKept};
 
     ghost Value = { Span };
 
-    ghost view = { λ s. record { place = s.place; born = s.born; class = s.class; state = s.state; turn = s.turn; allocated = s.allocated; provisioned = s.provisioned; committed = s.committed; made = s.made; free = s.free.items } };
+    ghost view = { λ s. record { place = s.place; born = s.born; class = s.class; state = s.state; turn = s.turn; allocated = s.allocated; provisioned = s.provisioned; committed = s.committed; made = s.made; free = s.returned.items ++ numbers s.kept_from (s.provisioned - s.kept_from) } };
 
-    ghost invariant = { λ s. slots_of s.class ≤ deque_capacity s.free };
+    ghost invariant = { λ s. AreKept s.class s.provisioned s.kept_from s.returned };
 }
 
 impl PlainSpan {
@@ -51,7 +51,7 @@ impl PlainSpan {
     pub(crate) fn blank(alloc: Global, class: Class) -> Result<PlainSpan, OutOfMemory>
         ensures { IfOk result (λ s. s ≡ blank_span class) }
     {
-        let free = VecDeque::with_capacity(alloc, span_of(class).slots as usize)?;
+        let returned = Returned::new(alloc, span_of(class).slots as usize)?;
         Ok(PlainSpan {
             place: 0,
             born: 0,
@@ -62,7 +62,8 @@ impl PlainSpan {
             provisioned: 0,
             committed: 0,
             made: 0,
-            free,
+            returned,
+            kept_from: 0,
         })
     }
 
@@ -170,7 +171,7 @@ impl PlainSpan {
         ensures none { IfNone result ((number : ℕ) → IsOutOf self.now name number → ⊥) }
     {
         let number = self.number_of(name);
-        if number >= self.provisioned || self.free.contains(&number) {
+        if number >= self.kept_from || self.returned.has(number) {
             return None;
         }
         let title = self.title(number);
@@ -222,9 +223,16 @@ impl PlainSpan {
         requires some { self.old.allocated < slots_of self.old.class }
         ensures { self.new ≡ with_free self.old }
     {
-        if self.free.is_empty() {
+        if self.is_used_up() {
             self.provision();
         }
+    }
+
+    // Whether its list is empty.
+    fn is_used_up(&self) -> bool
+        ensures { IsTrue result ↔ (self.now.free ≡ []) }
+    {
+        self.returned.is_empty() && self.kept_from == self.provisioned
     }
 
     // Commits one page more, or as many as one slot more needs; the slots that fit into them are the list, in order.
@@ -238,7 +246,6 @@ impl PlainSpan {
         let needed = (size * (self.provisioned + 1) + (SYSTEM_PAGE - 1)) / SYSTEM_PAGE;
         let pages = (self.committed + 1).max(needed);
         let slots = (SYSTEM_PAGE * pages / size).min(span_of(self.class).slots);
-        push_numbers(&mut self.free, self.provisioned, slots);
         self.committed = pages;
         self.provisioned = slots;
         self.made = self.made.max(slots);
@@ -252,7 +259,14 @@ impl PlainSpan {
         ensures after { self.new ≡ without_front self.new.free self.old }
     {
         self.allocated += 1;
-        self.free.pop_front().unwrap()
+        match self.returned.take_front() {
+            Some(number) => number,
+            None => {
+                let number = self.kept_from;
+                self.kept_from += 1;
+                number
+            }
+        }
     }
 
     // Puts the slot of that name, which is one of its slots that are out, on the front of the list.
@@ -264,14 +278,15 @@ impl PlainSpan {
     {
         let number = self.number_of(name);
         self.allocated -= 1;
-        self.free.push_front_reserved(number);
+        self.returned.put_front(number);
     }
 
     // Empties the list: its pages go back to the system.
     pub(crate) fn drop_pages(&mut self)
         ensures { self.new ≡ without_pages self.old }
     {
-        self.free.clear();
+        self.returned.clear();
+        self.kept_from = 0;
         self.provisioned = 0;
         self.committed = 0;
     }
@@ -309,16 +324,5 @@ impl PlainSpan {
         } else {
             State::Active
         }
-    }
-}
-
-// Puts the numbers from one on, up to another, behind the list, which has room for them.
-fn push_numbers(list: &mut VecDeque<u32>, from: u32, to: u32)
-    requires { deque_len list.old + (to - from) ≤ deque_capacity list.old }
-    ensures items { list.new.items ≡ list.old.items ++ numbers from (to - from) }
-    ensures room { deque_capacity list.new ≡ deque_capacity list.old }
-{
-    for number in from..to {
-        list.push_back_reserved(number);
     }
 }

@@ -4,12 +4,10 @@ use Rattle.std.specs.Prelude.{nat_eq, nat_lt}
 use Rattle.std.specs.Cmp.Lexicographic.{pointwise}
 use Rattle.std.specs.Fmt.{decimal}
 use Rattle.std.proofs.lemmas.Bool.{lt-ltb, ltb-true}
-use Rattle.std.proofs.lemmas.Bool.Decides.{Decides-eqb}
-use Rattle.std.proofs.lemmas.Slice.Eq.{slice_eq-Decides}
-use Rattle.std.proofs.lemmas.List.{take-append-drop, take_at, drop_at}
 use Rattle.pa_machine.specs.declared.word.SlotName.{SlotName}
 use Rattle.pa_text.specs.Hex.{hex, slot_text, SlotFits}
 use Rattle.pa_text.specs.Reading.{◌>>=◌, IsStop, number_at, hexes_at}
+use Rattle.pa_text.proofs.Fronts.{front_parts, front_found}
 use Rattle.pa_text.proofs.Numerals.{number_takes, number_again, decimal_numeral, one_numeral}
 use Rattle.pa_text.proofs.Words.{hexes_take, hexes_again}
 use Rattle.pa_reader.specs.Reading.{after_word, narrowed, wide_at, below_at, below_in, wide_in, hexes_in, slot_in}
@@ -25,21 +23,17 @@ if_some false x y e = absurd cc
 
 -- ---- a word in front
 
-word_same : (a b : List ℕ) → pointwise nat_eq a b ≡ true → a ≡ b
-word_same a b e = (slice_eq-Decides Decides-eqb a b _ refl).0 e
-
 pub behind_takes : (word bytes rest : List ℕ) → after_word word bytes ≡ Some rest → bytes ≡ word ++ rest
 unfolding after_word
 behind_takes word bytes rest e =
     let t = if_some (pointwise nat_eq (take (length word) bytes) word) (drop (length word) bytes) rest e in
-    let front : take (length word) bytes ≡ word = word_same (take (length word) bytes) word t.0 in
-    sym (take-append-drop (length word) bytes) ∙ ap (λ (x : List ℕ). x ++ drop (length word) bytes) front ∙ ap (λ (x : List ℕ). word ++ x) t.1
+    front_parts word bytes t.0 ∙ ap (λ (x : List ℕ). word ++ x) t.1
 
 pub behind_again : (word rest : List ℕ) → after_word word (word ++ rest) ≡ Some rest
 unfolding after_word
 behind_again word rest =
-    let same : pointwise nat_eq word word ≡ true = (slice_eq-Decides Decides-eqb word word _ refl).1 refl in
-    rw (take_at word rest (length word) refl, drop_at word rest (length word) refl, same) refl
+    let front = front_found word (word ++ rest) rest refl in
+    rw (front.0, front.1) refl
 
 -- ---- numbers
 

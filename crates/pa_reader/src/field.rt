@@ -21,11 +21,11 @@ pub fn behind<'a>(word: &[u8], bytes: &'a [u8]) -> Option<&'a [u8]>
 }
 
 // The same, byte by byte.
-#[tactic(auto, unfolding(crate::specs::Reading::after_word))]
+#[tactic(auto, unfolding(crate::specs::Reading::after_word), using(pa_text::proofs::Fronts::front_found, pa_text::proofs::Fronts::front_none))]
 fn rest_behind<'a>(word: &[u8], bytes: &'a [u8]) -> Option<&'a [u8]>
     ensures { Yields (λ x. x.now) result (after_word word.now bytes.now) }
 {
-    bytes.strip_prefix(word)
+    pa_text::behind(word, bytes)
 }
 
 // The number in front, where it is below the limit.

@@ -20,6 +20,7 @@ pub mod Taking
 pub mod Filling
 pub mod Slots
 pub mod Returning
+pub mod MakingNone
 pub mod Mapping
 pub mod Stepping
 pub mod Titles

@@ -6,7 +6,7 @@ ghost use Rattle.pa_record.specs.Text.{field_text, held_text, cell_text, history
 use crate::writing::push_field;
 use crate::{CellEntry, Held, History};
 use pa_machine::{OutOfMemory, SlotName};
-use pa_text::{push_bytes, push_slot};
+use pa_text::{push_byte, push_bytes, push_slot};
 
 /// Appends the lines of all exchanges, by cell from cell 0 on and by index. After want of memory a first part of it
 /// may stand there.
@@ -49,7 +49,7 @@ fn push_exchange(
 {
     push_place(out, cell, index, entry.line)?;
     push_handles(out, entry.gave, entry.found)?;
-    push_bytes(out, b"\n")
+    push_byte(out, b'\n')
 }
 
 // Appends `c K J LINE` and a space.
@@ -62,7 +62,7 @@ fn push_place(out: &mut Vec<u8>, cell: u64, index: u64, line: u32) -> Result<(),
     push_field(out, b"c ", cell)?;
     push_field(out, b" ", index)?;
     push_field(out, b" ", u64::from(line))?;
-    push_bytes(out, b" ")
+    push_byte(out, b' ')
 }
 
 // Appends `GAVE FOUND`.
@@ -72,7 +72,7 @@ fn push_handles(out: &mut Vec<u8>, gave: Held, found: Held) -> Result<(), OutOfM
     ensures kept { OnErr result (StartsWith out.new.items out.old.items) }
 {
     push_held(out, gave)?;
-    push_bytes(out, b" ")?;
+    push_byte(out, b' ')?;
     push_held(out, found)
 }
 
@@ -82,7 +82,7 @@ fn push_held(out: &mut Vec<u8>, held: Held) -> Result<(), OutOfMemory>
     ensures kept { OnErr result (StartsWith out.new.items out.old.items) }
 {
     match held {
-        Held::Nothing => push_bytes(out, b"-"),
+        Held::Nothing => push_byte(out, b'-'),
         Held::Own(slot) => push_handle(out, b"own:", slot),
         Held::Ref(slot) => push_handle(out, b"ref:", slot),
     }

@@ -5,7 +5,7 @@ use crate::root_lines::push_number_or;
 use crate::writing::push_field;
 use crate::{PoolAct, PoolEntry};
 use pa_machine::OutOfMemory;
-use pa_text::push_bytes;
+use pa_text::push_byte;
 
 // Appends the lines of the pool.
 pub(crate) fn push_pool(out: &mut Vec<u8>, entries: &[PoolEntry]) -> Result<(), OutOfMemory>
@@ -26,9 +26,9 @@ fn push_turn(out: &mut Vec<u8>, index: u64, entry: &PoolEntry) -> Result<(), Out
     push_field(out, b"p ", index)?;
     push_field(out, b" ", u64::from(entry.line))?;
     push_field(out, b" ", u64::from(entry.partition))?;
-    push_bytes(out, b" ")?;
+    push_byte(out, b' ')?;
     push_act(out, entry.act)?;
-    push_bytes(out, b"\n")
+    push_byte(out, b'\n')
 }
 
 // Appends `take COUNT FIRST`, where the first may be `none`, or `give COUNT FIRST`.
@@ -38,7 +38,7 @@ fn push_act(out: &mut Vec<u8>, act: PoolAct) -> Result<(), OutOfMemory>
     match act {
         PoolAct::Take { count, first } => {
             push_field(out, b"take ", u64::from(count))?;
-            push_bytes(out, b" ")?;
+            push_byte(out, b' ')?;
             push_number_or(out, b"none", first)
         }
         PoolAct::Give { count, first } => {

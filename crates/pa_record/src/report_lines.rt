@@ -5,7 +5,7 @@ ghost use Rattle.pa_record.specs.Text.{field_text, tally_text, places_text, byte
 use crate::writing::push_field;
 use crate::{ReportLine, Tally};
 use pa_machine::OutOfMemory;
-use pa_text::push_bytes;
+use pa_text::push_byte;
 
 // Appends the lines of the report.
 pub(crate) fn push_report(out: &mut Vec<u8>, report: &[ReportLine]) -> Result<(), OutOfMemory>
@@ -25,7 +25,7 @@ fn push_line(out: &mut Vec<u8>, line: &ReportLine) -> Result<(), OutOfMemory>
     push_field(out, b" committed ", line.committed)?;
     push_field(out, b" reserved ", line.reserved)?;
     push_spans(out, line)?;
-    push_bytes(out, b"\n")
+    push_byte(out, b'\n')
 }
 
 // Appends the line's phase, its partition, and where its slots are.

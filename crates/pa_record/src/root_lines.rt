@@ -8,7 +8,7 @@ use crate::writing::push_field;
 use crate::{Journal, Numbered, RootAct, RootEntry};
 use pa_buckets::Class;
 use pa_machine::{OutOfMemory, SlotName};
-use pa_text::{push_bytes, push_number, push_slot};
+use pa_text::{push_byte, push_bytes, push_number, push_slot};
 
 // Appends the lines of all journals, from partition 0 on.
 pub(crate) fn push_roots(out: &mut Vec<u8>, journals: &[Journal]) -> Result<(), OutOfMemory>
@@ -46,9 +46,9 @@ fn push_root(
     push_field(out, b"r ", partition)?;
     push_field(out, b" ", index)?;
     push_field(out, b" ", u64::from(entry.line))?;
-    push_bytes(out, b" ")?;
+    push_byte(out, b' ')?;
     push_act(out, &entry.act)?;
-    push_bytes(out, b"\n")
+    push_byte(out, b'\n')
 }
 
 // Appends what the root did.
@@ -75,7 +75,7 @@ fn push_fill(
     ensures pushed { OnOk result (out.new.items ≡ out.old.items ++ root_act_text (acts.Fill class pool slots.now)) }
 {
     push_field(out, b"fill ", u64::from(class.number()))?;
-    push_bytes(out, b" ")?;
+    push_byte(out, b' ')?;
     push_number_or(out, b"-", pool)?;
     push_slots(out, slots)
 }
@@ -85,7 +85,7 @@ fn push_map(out: &mut Vec<u8>, pool: u32, slot: SlotName, len: u32) -> Result<()
     ensures pushed { OnOk result (out.new.items ≡ out.old.items ++ root_act_text (acts.Map pool slot len)) }
 {
     push_field(out, b"map ", u64::from(pool))?;
-    push_bytes(out, b" ")?;
+    push_byte(out, b' ')?;
     push_slot(out, slot)?;
     push_field(out, b"@0 ", u64::from(len))
 }
@@ -115,7 +115,7 @@ fn push_unmap(out: &mut Vec<u8>, pool: u32, slot: Numbered) -> Result<(), OutOfM
     ensures pushed { OnOk result (out.new.items ≡ out.old.items ++ root_act_text (acts.Unmap pool slot)) }
 {
     push_field(out, b"unmap ", u64::from(pool))?;
-    push_bytes(out, b" ")?;
+    push_byte(out, b' ')?;
     push_numbered(out, slot)
 }
 
@@ -124,7 +124,7 @@ fn push_slots(out: &mut Vec<u8>, slots: &[Numbered]) -> Result<(), OutOfMemory>
     ensures pushed { OnOk result (out.new.items ≡ out.old.items ++ slots_text slots.now) }
 {
     for slot in slots {
-        push_bytes(out, b" ")?;
+        push_byte(out, b' ')?;
         push_numbered(out, *slot)?;
     }
     Ok(())

@@ -6,7 +6,7 @@ ghost use Rattle.pa_record.specs.Text.{answer_text, entry_text, field_text, seen
 
 use crate::{Answer, Entry, Seen};
 use pa_machine::OutOfMemory;
-use pa_text::{push_bytes, push_number, push_slot, push_word};
+use pa_text::{push_byte, push_bytes, push_number, push_slot, push_word};
 
 /// Appends the line of the record, with its LF. After want of memory a first part of it may stand there.
 pub fn push_entry(out: &mut Vec<u8>, entry: &Entry) -> Result<(), OutOfMemory>
@@ -15,7 +15,7 @@ pub fn push_entry(out: &mut Vec<u8>, entry: &Entry) -> Result<(), OutOfMemory>
 {
     push_place(out, entry.line, entry.thread)?;
     push_answer(out, entry.answer)?;
-    push_bytes(out, b"\n")
+    push_byte(out, b'\n')
 }
 
 // Appends `e LINE THREAD` and a space.
@@ -26,9 +26,9 @@ fn push_place(out: &mut Vec<u8>, line: u32, thread: u32) -> Result<(), OutOfMemo
 {
     push_bytes(out, b"e ")?;
     push_number(out, u64::from(line))?;
-    push_bytes(out, b" ")?;
+    push_byte(out, b' ')?;
     push_number(out, u64::from(thread))?;
-    push_bytes(out, b" ")
+    push_byte(out, b' ')
 }
 
 // Appends the answer's words.
@@ -64,9 +64,9 @@ fn push_made(out: &mut Vec<u8>, seen: Seen, usable: u32) -> Result<(), OutOfMemo
 {
     push_bytes(out, b"made ")?;
     push_slot(out, seen.slot)?;
-    push_bytes(out, b" ")?;
+    push_byte(out, b' ')?;
     push_number(out, u64::from(usable))?;
-    push_bytes(out, b" ")?;
+    push_byte(out, b' ')?;
     push_word(out, seen.found.0)
 }
 
@@ -76,9 +76,9 @@ fn push_seen(out: &mut Vec<u8>, word: &[u8], seen: Seen) -> Result<(), OutOfMemo
     ensures kept { OnErr result (StartsWith out.new.items out.old.items) }
 {
     push_bytes(out, word)?;
-    push_bytes(out, b" ")?;
+    push_byte(out, b' ')?;
     push_slot(out, seen.slot)?;
-    push_bytes(out, b" ")?;
+    push_byte(out, b' ')?;
     push_word(out, seen.found.0)
 }
 
@@ -99,7 +99,7 @@ fn push_read(out: &mut Vec<u8>, word: &[u8], seen: Seen, value: u64) -> Result<(
     ensures kept { OnErr result (StartsWith out.new.items out.old.items) }
 {
     push_seen(out, word, seen)?;
-    push_bytes(out, b" ")?;
+    push_byte(out, b' ')?;
     push_word(out, value)
 }
 

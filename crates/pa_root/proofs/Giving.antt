@@ -39,7 +39,7 @@ use Rattle.pa_root.proofs.MapsKept.{maps_leave}
 use Rattle.pa_root.proofs.Whole.{made_is_whole}
 use Rattle.pa_root.proofs.Seeing.{root_sound, rest_kept}
 use Rattle.pa_root.proofs.Lists.{hosts_kept, journal_goes_on}
-use Rattle.pa_root.proofs.MakingNone.{all_returned_make_none}
+use Rattle.pa_record.proofs.MakingNone.{all_returned_make_none}
 use Rattle.pa_root.proofs.Named.{made_name, title_is, filled_was_made}
 use Rattle.pa_root.proofs.Numbering.{fill_by_numbers, same_entry}
 use Rattle.pa_root.proofs.Moves.{none_moves, one_moves, names_by, numbers_without, numbers_with}

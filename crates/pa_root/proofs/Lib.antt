@@ -2,7 +2,7 @@ pub mod Lists
 pub mod Whole
 pub mod MapsKept
 pub mod Seeing
-pub mod MakingNone
+pub mod Purging
 pub mod Starting
 pub mod Together
 pub mod Named

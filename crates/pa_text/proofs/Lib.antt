@@ -5,3 +5,4 @@ pub mod Numerals
 pub mod Words
 pub mod Splitting
 pub mod Digits
+pub mod Fronts

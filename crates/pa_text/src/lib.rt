@@ -5,6 +5,6 @@ mod reading;
 mod word;
 mod writing;
 
-pub use reading::{number_at, one_front, one_spelling};
+pub use reading::{behind, number_at, one_front, one_spelling};
 pub use word::word_at;
-pub use writing::{push_bytes, push_number, push_slot, push_word};
+pub use writing::{push_byte, push_bytes, push_number, push_slot, push_word};

@@ -18,6 +18,21 @@ pub fn number_at(bytes: &[u8]) -> Option<(Option<u32>, &[u8])>
     number_of(bytes)
 }
 
+/// The bytes behind a word that stands in front. Nothing is read where it doesn't stand there.
+pub fn behind<'a>(word: &[u8], bytes: &'a [u8]) -> Option<&'a [u8]>
+    ensures found { IfSome result (λ x. bytes.now ≡ word.now ++ x.now) }
+    ensures none { IfNone result ((rest : List ℕ) → bytes.now ≡ word.now ++ rest → ⊥) }
+{
+    let mut rest = bytes;
+    for byte in word {
+        match rest {
+            [first, after @ ..] if *first == *byte => rest = after,
+            _ => return None,
+        }
+    }
+    Some(rest)
+}
+
 /// A number has one spelling, and a spelling belongs to one number, however long it is.
 pub fn one_spelling()
     ensures spelling { (n : ℕ) (a b : List ℕ) → IsNumeral n a → IsNumeral n b → a ≡ b }

@@ -1,4 +1,4 @@
-ghost use Rattle.std.specs.Prelude.{◌≡◌, ◌<◌, ◌++◌, OnOk, OnErr};
+ghost use Rattle.std.specs.Prelude.{◌≡◌, ◌<◌, [], ◌∷◌, ◌++◌, OnOk, OnErr};
 ghost use Rattle.std.specs.Fmt.{decimal};
 ghost use Rattle.std.specs.Io.{StartsWith};
 ghost use Rattle.pa_text.specs.Hex.{hex, slot_text};
@@ -11,6 +11,15 @@ pub fn push_bytes(out: &mut Vec<u8>, bytes: &[u8]) -> Result<(), OutOfMemory>
     ensures same { OnErr result (out.new.items ≡ out.old.items) }
 {
     out.extend_from_slice(bytes)?;
+    Ok(())
+}
+
+/// Appends the byte. After want of memory it doesn't stand there.
+pub fn push_byte(out: &mut Vec<u8>, byte: u8) -> Result<(), OutOfMemory>
+    ensures pushed { OnOk result (out.new.items ≡ out.old.items ++ byte ∷ []) }
+    ensures same { OnErr result (out.new.items ≡ out.old.items) }
+{
+    out.push(byte)?;
     Ok(())
 }
 
@@ -33,8 +42,7 @@ fn push_digit(out: &mut Vec<u8>, n: u8) -> Result<(), OutOfMemory>
     ensures pushed { OnOk result (out.new.items ≡ out.old.items ++ decimal n) }
     ensures same { OnErr result (out.new.items ≡ out.old.items) }
 {
-    out.push(b'0' + n)?;
-    Ok(())
+    push_byte(out, b'0' + n)
 }
 
 /// Appends the word as sixteen lower-case hexadecimal digits. After want of memory none of them stands there.
@@ -57,7 +65,7 @@ pub fn push_slot(out: &mut Vec<u8>, s: SlotName) -> Result<(), OutOfMemory>
     let mut digits = [0; 8];
     hex::encode_to_slice(s.start.to_be_bytes(), &mut digits).unwrap();
     push_bytes(out, &digits)?;
-    push_bytes(out, b".")?;
+    push_byte(out, b'.')?;
     push_number(out, u64::from(s.born))
 }
 
@@ -70,13 +78,13 @@ mod tests {
     fn numbers_words_and_names_are_spelled(rt: HostRuntime) -> Result<(), Fail> {
         let mut out = Vec::new(rt.alloc());
         push_number(&mut out, 0)?;
-        push_bytes(&mut out, b" ")?;
+        push_byte(&mut out, b' ')?;
         push_number(&mut out, 4294967295)?;
-        push_bytes(&mut out, b" ")?;
+        push_byte(&mut out, b' ')?;
         push_number(&mut out, u64::MAX)?;
-        push_bytes(&mut out, b" ")?;
+        push_byte(&mut out, b' ')?;
         push_word(&mut out, 0x0123_4567_89ab_cdef)?;
-        push_bytes(&mut out, b" ")?;
+        push_byte(&mut out, b' ')?;
         push_slot(
             &mut out,
             SlotName {
@@ -84,7 +92,7 @@ mod tests {
                 born: 0,
             },
         )?;
-        push_bytes(&mut out, b" ")?;
+        push_byte(&mut out, b' ')?;
         push_slot(
             &mut out,
             SlotName {

@@ -3,12 +3,11 @@ use Rattle.std.proofs.Common.{◌≡◌, ℕ, ◌<◌, Bool, true, false, cond, 
 use Rattle.std.specs.Prelude.{nat_eq}
 use Rattle.std.specs.Cmp.Lexicographic.{pointwise}
 use Rattle.std.proofs.lemmas.Bool.{eqb-true}
-use Rattle.std.proofs.lemmas.Bool.Decides.{Decides-eqb}
-use Rattle.std.proofs.lemmas.Slice.Eq.{slice_eq-Decides}
-use Rattle.std.proofs.lemmas.List.{append-nil, append_assoc, take-append-drop, take_at, drop_at, nil_from_length}
+use Rattle.std.proofs.lemmas.List.{append-nil, append_assoc, nil_from_length}
 use Rattle.pa_text.specs.Numeral.{IsNumeral}
 use Rattle.pa_text.specs.Hex.{hex}
 use Rattle.pa_text.specs.Reading.{IsStop, BeginsWith, fit, number_at, hexes_at}
+use Rattle.pa_text.proofs.Fronts.{front_parts, front_found}
 use Rattle.pa_text.proofs.Numerals.{number_takes, number_again, begins_read}
 use Rattle.pa_text.proofs.Words.{hexes_take, hexes_again}
 use Rattle.pa_trace.specs.declared.field.LineFault.{LineFault}
@@ -26,22 +25,17 @@ if_ok false d x y e = absurd cc
 
 -- ---- a word in front
 
--- the test of a word
-pub word_same : (a b : List ℕ) → pointwise nat_eq a b ≡ true → a ≡ b
-word_same a b e = (slice_eq-Decides Decides-eqb a b _ refl).0 e
-
 pub behind_takes : (word bytes rest : List ℕ) → behind word bytes ≡ Ok rest → bytes ≡ word ++ rest
 unfolding behind
 behind_takes word bytes rest e =
     let t = if_ok (pointwise nat_eq (take (length word) bytes) word) Outside (drop (length word) bytes) rest e in
-    let front : take (length word) bytes ≡ word = word_same (take (length word) bytes) word t.0 in
-    sym (take-append-drop (length word) bytes) ∙ ap (λ (x : List ℕ). x ++ drop (length word) bytes) front ∙ ap (λ (x : List ℕ). word ++ x) t.1
+    front_parts word bytes t.0 ∙ ap (λ (x : List ℕ). word ++ x) t.1
 
 pub behind_again : (word rest : List ℕ) → behind word (word ++ rest) ≡ Ok rest
 unfolding behind
 behind_again word rest =
-    let same : pointwise nat_eq word word ≡ true = (slice_eq-Decides Decides-eqb word word _ refl).1 refl in
-    rw (take_at word rest (length word) refl, drop_at word rest (length word) refl, same) refl
+    let front = front_found word (word ++ rest) rest refl in
+    rw (front.0, front.1) refl
 
 -- ---- the number in front, with its value whatever its length
 

@@ -5,6 +5,7 @@ use Rattle.std.specs.Cmp.Lexicographic.{pointwise}
 use Rattle.std.proofs.lemmas.Bool.{eqb-true, ne_eqb}
 use Rattle.pa_text.specs.Numeral.{IsNumeral}
 use Rattle.pa_text.specs.Reading.{number_at}
+use Rattle.pa_text.proofs.Fronts.{word_same}
 use Rattle.pa_text.proofs.Numerals.{number_takes, number_again}
 use Rattle.pa_trace.specs.declared.field.LineFault.{LineFault}
 use Rattle.pa_trace.specs.declared.field.LineFault.TheVariants.{Outside}
@@ -14,7 +15,7 @@ use Rattle.pa_trace.specs.declared.script.Op.{Op}
 use Rattle.pa_trace.specs.declared.script.Op.TheVariants.{Alloc, Copy, Reset, Free, Write, Read, Swap, Purge}
 use Rattle.pa_trace.specs.Grammar.{IsOpText, IsLineText, IsHeadText}
 use Rattle.pa_trace.specs.Reading.{◌>>=◌, or_outside, behind, ended, purge_in}
-use Rattle.pa_trace.proofs.Fields.{bind_ok, behind_takes, behind_again, ended_ok, word_same, one_at, one_takes, one_again, two_at, two_takes, two_again, three_at, three_takes, three_again, field_and_word_at, field_and_word_takes, field_and_word_again}
+use Rattle.pa_trace.proofs.Fields.{bind_ok, behind_takes, behind_again, ended_ok, one_at, one_takes, one_again, two_at, two_takes, two_again, three_at, three_takes, three_again, field_and_word_at, field_and_word_takes, field_and_word_again}
 
 -- ---- ops
 

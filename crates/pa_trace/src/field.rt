@@ -11,11 +11,11 @@ pub enum LineFault {
 }
 
 // The bytes behind a word that stands in front.
-#[tactic(auto, unfolding(crate::specs::Reading::behind))]
+#[tactic(auto, unfolding(crate::specs::Reading::behind), using(pa_text::proofs::Fronts::front_found, pa_text::proofs::Fronts::front_none))]
 pub fn behind<'a>(word: &[u8], bytes: &'a [u8]) -> Result<&'a [u8], LineFault>
     ensures { Gives (λ x. x.now) result (behind word.now bytes.now) }
 {
-    match bytes.strip_prefix(word) {
+    match pa_text::behind(word, bytes) {
         Some(rest) => Ok(rest),
         None => Err(LineFault::Outside),
     }

@@ -18,8 +18,8 @@ const MOST_LINES: u32 = 65_536;
 // The most bytes of a trace.
 const MOST_BYTES: usize = 4_194_304;
 
-// About as many bytes as a line has.
-const LINE: usize = 12;
+// The fewest bytes that a line has: room for all lines is taken ahead.
+const LINE: usize = 4;
 
 /// The trace that the bytes are the text of. `BadLine(n)` and `Limit(n)` name the first faulty line; lines and bytes count
 /// from 1. A line is faulty by `Limit` where it is line 65,537 or contains byte 4,194,305; else by `BadLine` where it is

@@ -6,7 +6,7 @@ ghost use Rattle.pa_trace.specs.Cut.{Appends, IsField};
 
 use crate::script::{Line, Op, Trace};
 use pa_machine::OutOfMemory;
-use pa_text::{push_bytes, push_number, push_word};
+use pa_text::{push_byte, push_bytes, push_number, push_word};
 use std::alloc::Global;
 
 // About as many bytes as a line has.
@@ -32,7 +32,7 @@ fn push_head(out: &mut Vec<u8>, trace: &Trace) -> Result<(), OutOfMemory>
     push_field(out, b"trace 1 region ", trace.region)?;
     push_field(out, b" partitions ", trace.partitions)?;
     push_field(out, b" threads ", trace.threads)?;
-    push_bytes(out, b"\n")
+    push_byte(out, b'\n')
 }
 
 // Appends the lines, each with its LF.
@@ -50,7 +50,7 @@ fn push_line(out: &mut Vec<u8>, line: Line) -> Result<(), OutOfMemory>
     ensures { OnOk result (Appends (IsBodyLine line) out.old.items out.new.items) }
 {
     push_text(out, line)?;
-    push_bytes(out, b"\n")
+    push_byte(out, b'\n')
 }
 
 // Appends the line without its LF.
@@ -61,7 +61,7 @@ fn push_text(out: &mut Vec<u8>, line: Line) -> Result<(), OutOfMemory>
         Line::Phase => push_bytes(out, b"phase"),
         Line::Do { thread, op } => {
             push_field(out, b"", thread)?;
-            push_bytes(out, b" ")?;
+            push_byte(out, b' ')?;
             push_op(out, op)
         }
     }
@@ -89,7 +89,7 @@ fn push_op(out: &mut Vec<u8>, op: Op) -> Result<(), OutOfMemory>
         Op::Free { reg } => push_field(out, b"F r", reg),
         Op::Write { reg, value } => {
             push_field(out, b"W r", reg)?;
-            push_bytes(out, b" ")?;
+            push_byte(out, b' ')?;
             push_word(out, value)
         }
         Op::Read { reg, place } => {
@@ -100,7 +100,7 @@ fn push_op(out: &mut Vec<u8>, op: Op) -> Result<(), OutOfMemory>
             push_field(out, b"X c", cell)?;
             push_field(out, b" r", reg)
         }
-        Op::Purge => push_bytes(out, b"P"),
+        Op::Purge => push_byte(out, b'P'),
     }
 }
 

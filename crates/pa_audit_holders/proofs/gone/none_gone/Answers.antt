@@ -1,6 +1,5 @@
 use Rattle.std.proofs.Common.{◌∙◌, arith, refl, sym}
-use Rattle.std.specs.Ordering.{nat_cmp}
-use Rattle.std.specs.BTreeMap.{get}
+use Rattle.pa_audit_records.specs.ByKeys.{value_at}
 use Rattle.std.proofs.lemmas.Bool.{false≢true}
 use Rattle.pa_audit_holders.proofs.Going.{none_next}
 use Rattle.pa_audit_holders.proofs.gone.none_gone.Goals as goal
@@ -10,7 +9,7 @@ loop-slot-init c = λ before h i n d less. absurd (omega (arith, less))
 
 pub loop-slot-preserved : goal.loop-slot-preserved
 loop-slot-preserved c =
-    none_next (get nat_cmp c.args.gone.now) c.args.slots.now c.loop-slot.slot-index _ c.loop-slot-test.true c.loop-slot.invariant (λ before h gone. false≢true (sym c.if-has.false ∙ (c.has.ensures before h).1 gone))
+    none_next (value_at c.args.gone.now) c.args.slots.now c.loop-slot.slot-index _ c.loop-slot-test.true c.loop-slot.invariant (λ before h gone. false≢true (sym c.if-has.false ∙ (c.has.ensures before h).1 gone))
 
 pub returns-then-has : goal.returns-then-has
 returns-then-has c = λ before h. (

@@ -1,7 +1,6 @@
-use Rattle.std.specs.Ordering.{nat_cmp}
-use Rattle.std.specs.BTreeMap.{get}
+use Rattle.pa_audit_records.specs.ByKeys.{value_at}
 use Rattle.pa_audit_holders.proofs.Going.{NoneSoFar}
 use Rattle.pa_audit_holders.proofs.gone.none_gone.Given as goal
 
 abbrev pub invariant-loop-slot : goal.invariant-loop-slot
-invariant-loop-slot l = NoneSoFar (get nat_cmp l.gone) l.slots l.slot-index
+invariant-loop-slot l = NoneSoFar (value_at l.gone) l.slots l.slot-index

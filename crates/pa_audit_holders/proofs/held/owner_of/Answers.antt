@@ -1,7 +1,6 @@
 use Rattle.std.proofs.Common.{◌≡◌, ◌+◌, ◌≤◌, ◌∙◌, length, ap, sym, subst, arith}
 use Rattle.std.specs.Prelude.{IsSome}
-use Rattle.std.specs.Ordering.{nat_cmp}
-use Rattle.std.specs.BTreeMap.{get}
+use Rattle.pa_audit_records.specs.ByKeys.{value_at}
 use Rattle.std.proofs.lemmas.Bool.{false≢true}
 use Rattle.pa_rules.specs.Roots.{journal_at}
 use Rattle.pa_audit_records.specs.Keys.{word_key}
@@ -21,9 +20,9 @@ returns-then-are_two c =
     let roots = journal_at c.args.roots.now in
     let s = c.args.slot.slot in
     let k = c.args.slot.number in
-    let f = get nat_cmp t.owners in
+    let f = value_at t.owners in
     let known : KnowsJournal ps (roots i) t = subst (λ (z : Table). KnowsJournal ps (roots i) z) (sym c.table-item.is) (c.requires.tables.each i t c.loop-table-test.true) in
-    let e : c.find_owner-owner.result ≡ f (word_key s k) = c.find_owner-owner.ensures ∙ ap f c.key_at-key.ensures.key in
+    let e : c.find-owner.result ≡ f (word_key s k) = c.find-owner.ensures ∙ ap f c.key_at-key.ensures.key in
     found_two ps roots s k i f c.loop-table.found c.key_at-key.ensures.sized known.owners c.loop-table.invariant (subst (λ o. IsSome c.loop-table.found × IsSome o) e (c.are_two.ensures.0 c.if-are_two.true))
 
 pub loop-table-preserved : goal.loop-table-preserved
@@ -34,10 +33,10 @@ loop-table-preserved c =
     let roots = journal_at c.args.roots.now in
     let s = c.args.slot.slot in
     let k = c.args.slot.number in
-    let f = get nat_cmp t.owners in
+    let f = value_at t.owners in
     let found = c.loop-table.found in
     let known : KnowsJournal ps (roots i) t = subst (λ (z : Table). KnowsJournal ps (roots i) z) (sym c.table-item.is) (c.requires.tables.each i t c.loop-table-test.true) in
-    let e : c.find_owner-owner.result ≡ f (word_key s k) = c.find_owner-owner.ensures ∙ ap f c.key_at-key.ensures.key in
+    let e : c.find-owner.result ≡ f (word_key s k) = c.find-owner.ensures ∙ ap f c.key_at-key.ensures.key in
     subst (λ o. FoundSoFar ps roots s k (i + 1) o) (sym (c.either-found.ensures ∙ ap (either_of found) e))
     (found_next ps roots s k i f found c.key_at-key.ensures.sized known.owners c.loop-table.invariant
     (λ two. false≢true (sym c.if-are_two.false ∙ c.are_two.ensures.1 (subst (λ o. IsSome found × IsSome o) (sym e) two))))

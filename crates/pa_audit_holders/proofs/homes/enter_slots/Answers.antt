@@ -1,6 +1,5 @@
 use Rattle.std.proofs.Common.{List, sym, subst, take}
-use Rattle.std.specs.Ordering.{nat_cmp}
-use Rattle.std.specs.BTreeMap.{get}
+use Rattle.pa_audit_records.specs.ByKeys.{value_at}
 use Rattle.pa_machine.specs.declared.word.SlotName.{SlotName}
 use Rattle.pa_record.specs.Root.{names}
 use Rattle.pa_audit_holders.specs.Homes.{EntersSlots}
@@ -13,9 +12,9 @@ enter-requires-clause-home c = c.requires.home _ (slot_among c.args.slots.now c.
 pub loop-slot-preserved : goal.loop-slot-preserved
 loop-slot-preserved c =
     let l = c.loop-slot in
-    let f = get nat_cmp c.args.homes.now in
-    let g = get nat_cmp l.homes in
-    let h = get nat_cmp c.enter.new.homes in
+    let f = value_at c.args.homes.now in
+    let g = value_at l.homes in
+    let h = value_at c.enter.new.homes in
     record {
       homes = c.in_ok-enter.ensures.homes;
       enters = subst (λ (xs : List SlotName). EntersSlots f h xs) (sym (names_more c.args.slots.now l.slot-index _ c.loop-slot-test.true))

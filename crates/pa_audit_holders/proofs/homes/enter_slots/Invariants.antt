@@ -1,6 +1,5 @@
 use Rattle.std.proofs.Common.{take}
-use Rattle.std.specs.Ordering.{nat_cmp}
-use Rattle.std.specs.BTreeMap.{get}
+use Rattle.pa_audit_records.specs.ByKeys.{value_at}
 use Rattle.pa_record.specs.Root.{names}
 use Rattle.pa_rules.specs.Roots.{journal_at}
 use Rattle.pa_audit_holders.specs.Homes.{EntersSlots, HasHomes}
@@ -8,6 +7,6 @@ use Rattle.pa_audit_holders.proofs.homes.enter_slots.Given as goal
 
 abbrev pub invariant-loop-slot : goal.invariant-loop-slot
 invariant-loop-slot l = record {
-  homes : HasHomes (journal_at l.roots) (get nat_cmp l.homes);
-  enters : EntersSlots (get nat_cmp l.fn.homes) (get nat_cmp l.homes) (names (take l.slot-index l.slots));
+  homes : HasHomes (journal_at l.roots) (value_at l.homes);
+  enters : EntersSlots (value_at l.fn.homes) (value_at l.homes) (names (take l.slot-index l.slots));
 }

@@ -1,7 +1,6 @@
-use Rattle.std.specs.Ordering.{nat_cmp}
-use Rattle.std.specs.BTreeMap.{get}
+use Rattle.pa_audit_records.specs.ByKeys.{value_at}
 use Rattle.pa_audit_holders.proofs.Owning.{entered_no_return}
 use Rattle.pa_audit_holders.proofs.owners.enter_return.Goals as goal
 
 pub returns-in-None : goal.returns-in-None
-returns-in-None c = entered_no_return c.args.told (get nat_cmp c.args.firsts.now) c.in-None.ensures.none
+returns-in-None c = entered_no_return c.args.told (value_at c.args.firsts.now) c.in-None.ensures.none

@@ -1,18 +1,18 @@
 use Rattle.std.proofs.Common.{subst}
-use Rattle.std.specs.Ordering.{nat_cmp}
-use Rattle.std.specs.BTreeMap.{get}
+use Rattle.pa_audit_records.specs.ByKeys.{value_at}
 use Rattle.pa_audit_records.specs.Keys.{word_key}
-use Rattle.pa_audit_holders.specs.Owners.{PutsOwner, made_owner}
+use Rattle.pa_audit_records.specs.Tables.{Puts}
+use Rattle.pa_audit_holders.specs.Owners.{made_owner}
 use Rattle.pa_audit_holders.proofs.Owning.{fits_is, owners_more}
 use Rattle.pa_audit_holders.proofs.owners.move_slot.Goals as goal
 
 pub returns-clause-owners : goal.returns-clause-owners
 returns-clause-owners c = λ ms h.
-    let f = get nat_cmp c.args.owners.now in
-    let g = get nat_cmp c.put_owner.new.map in
+    let f = value_at c.args.owners.now in
+    let g = value_at c.put.new.self in
     let held = c.owner_now-held.result in
-    let puts : PutsOwner f g (word_key c.args.slot.slot c.args.slot.number) (made_owner held c.args.course c.args.thread) =
-    subst (λ k. PutsOwner f g k (made_owner held c.args.course c.args.thread)) c.key_at.ensures.key (subst (λ o. PutsOwner f g c.key_at.result o) c.made.ensures c.in_ok-put_owner.ensures) in
+    let puts : Puts f g (word_key c.args.slot.slot c.args.slot.number) (made_owner held c.args.course c.args.thread) =
+    subst (λ k. Puts f g k (made_owner held c.args.course c.args.thread)) c.key_at.ensures.key (subst (λ o. Puts f g c.key_at.result o) c.made.ensures c.in_ok-put.ensures) in
     owners_more c.args.records.now ms f g c.args.line c.args.thread c.args.course c.args.slot held c.key_at.ensures.sized c.requires.thread (c.owner_now-held.ensures ms h) puts h
 
 pub returns-clause-fits : goal.returns-clause-fits

@@ -9,5 +9,5 @@ returns-then-not-purges_all c = λ next row. both_ways _ c.if-not-purges_all.tru
     (c.purges_all.ensures.1 (purged_was c.args.partitions (journal_at c.args.roots.now) c.args.told c.args.slots (cache_in c.args.cache.now) next row))
 
 pub returns : goal.returns
-returns c = purged_row c.args.partitions (journal_at c.args.roots.now) c.args.told c.args.slots (cache_in c.args.cache.now) (cache_in c.in_ok-cache.field-0) c.in_ok-cache.ensures
+returns c = purged_row c.args.partitions (journal_at c.args.roots.now) c.args.told c.args.slots (cache_in c.args.cache.now) (cache_in c.clear.new.self) c.clear.ensures
     (c.purges_all.ensures.0 c.if-not-purges_all.false)

@@ -14,4 +14,4 @@ returns-in-Full c = subst (λ a. TellsRow (CacheRow c.args.partitions (journal_a
 
 pub returns-in-Purged : goal.returns-in-Purged
 returns-in-Purged c =
-    subst (λ a. IfOk c.purged.result (TellsRow (CacheRow c.args.partitions (journal_at c.args.roots.now) c.args.told a (cache_in c.args.cache.now)) (cache_in c.purged.new.cache))) (sym c.in-Purged.is) c.purged.ensures
+    subst (λ a. TellsRow (CacheRow c.args.partitions (journal_at c.args.roots.now) c.args.told a (cache_in c.args.cache.now)) (cache_in c.purged.new.cache) c.purged.result) (sym c.in-Purged.is) c.purged.ensures

@@ -1,7 +1,6 @@
 use Rattle.std.proofs.Common.{◌↔◌, List, ◌++◌, map, subst}
 use Rattle.std.specs.Prelude.{IsTrue}
-use Rattle.std.specs.Ordering.{nat_cmp}
-use Rattle.std.specs.BTreeMap.{get}
+use Rattle.pa_audit_records.specs.ByKeys.{value_at}
 use Rattle.pa_record.specs.declared.numbered.Numbered.{Numbered}
 use Rattle.pa_audit_holders.specs.Owners.{AllFit, HasOwners, move_on}
 use Rattle.pa_legal.specs.Numbers.{all_moves}
@@ -13,7 +12,7 @@ pub returns-clause-table : goal.returns-clause-table
 returns-clause-table c = λ before h.
     let ps = c.args.records.now in
     let e = c.args.entry.now in
-    let g = get nat_cmp c.move_slots.new.owners in
+    let g = value_at c.move_slots.new.owners in
     let course = c.moves_of-moves.result.course in
     record {
       owners =

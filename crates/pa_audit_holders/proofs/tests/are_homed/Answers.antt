@@ -1,6 +1,5 @@
 use Rattle.std.proofs.Common.{◌≤◌, [], length, arith, inl, inr}
-use Rattle.std.specs.Ordering.{nat_cmp}
-use Rattle.std.specs.BTreeMap.{get}
+use Rattle.pa_audit_records.specs.ByKeys.{value_at}
 use Rattle.std.proofs.lemmas.Bool.{cases_lt}
 use Rattle.std.proofs.lemmas.List.{get_or_past}
 use Rattle.pa_rules.specs.Roots.{journal_at}
@@ -10,7 +9,7 @@ use Rattle.pa_audit_holders.proofs.tests.are_homed.Goals as goal
 pub returns : goal.returns
 returns c = λ yes s.
     let roots = journal_at c.args.roots.now in
-    let at = get nat_cmp c.args.homes.now in
+    let at = value_at c.args.homes.now in
     let l = c.loop-journal in
     let end : length c.args.roots.now ≤ l.partition = omega (arith, l.invariant.at, c.loop-journal-test.false) in
     one_home_of roots at s (λ q. elim (cases_lt q l.partition) [

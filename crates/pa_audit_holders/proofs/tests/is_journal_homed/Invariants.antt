@@ -1,7 +1,6 @@
 use Rattle.std.proofs.Common.{◌≡◌, ℕ, ◌<◌, Some}
 use Rattle.std.specs.Prelude.{Contains}
-use Rattle.std.specs.Ordering.{nat_cmp}
-use Rattle.std.specs.BTreeMap.{get}
+use Rattle.pa_audit_records.specs.ByKeys.{value_at}
 use Rattle.pa_machine.specs.declared.word.SlotName.{SlotName}
 use Rattle.pa_record.specs.declared.root.RootEntry.{RootEntry}
 use Rattle.pa_record.specs.Laws.{leaves_by}
@@ -12,4 +11,4 @@ use Rattle.pa_audit_holders.proofs.tests.is_journal_homed.Given as goal
 
 abbrev pub invariant-loop-entry : goal.invariant-loop-entry
 invariant-loop-entry l = (i : ℕ) (e : RootEntry) (s : SlotName) → i < l.entry-index → IsEntry (journal_at l.roots) l.partition i e → Contains (leaves_by e.act) s
-    → get nat_cmp l.homes (name_key s) ≡ Some (home_by l.partition e.act)
+    → value_at l.homes (name_key s) ≡ Some (home_by l.partition e.act)

@@ -1,6 +1,5 @@
 use Rattle.std.proofs.Common.{ℕ, ◌<◌, List, true, set, length, sym, ◌∙◌, ap, subst, arith, inr}
-use Rattle.std.specs.Ordering.{nat_cmp}
-use Rattle.std.specs.BTreeMap.{get}
+use Rattle.pa_audit_records.specs.ByKeys.{value_at}
 use Rattle.std.proofs.lemmas.List.{length_push}
 use Rattle.std.proofs.lemmas.List.Elements.{Contains-push}
 use Rattle.pa_rules.specs.Cells.{history_at}
@@ -16,7 +15,7 @@ loop-next-init c =
     let at = c.args.at in
     let A = IsAheadAt cells ps at in
     let cut = c.args.cut.now in
-    let left = get nat_cmp cut.left in
+    let left = value_at cut.left in
     let marked = cut.marked.items in
     let old = cut.stack.items in
     let new = c.add_steps.new.stack.items in
@@ -33,7 +32,7 @@ index-requires c =
     let ps = c.args.records.now in
     let cut = c.loop-next.cut in
     let rest = c.pop.new.self.items in
-    let P = λ (zs : List ℕ). IsGrown cells ps (IsAheadAt cells ps c.args.at) (length ps) cut.marked.items zs cut.floor (get nat_cmp cut.left) in
+    let P = λ (zs : List ℕ). IsGrown cells ps (IsAheadAt cells ps c.args.at) (length ps) cut.marked.items zs cut.floor (value_at cut.left) in
     let h = subst P c.in-Some.ensures.items c.loop-next.invariant.cut in
     let low = h.within c.in-Some.next (Contains-push rest c.in-Some.next) in
     let long = h.long in
@@ -46,7 +45,7 @@ mark-requires-clause-at c =
     let ps = c.args.records.now in
     let cut = c.loop-next.cut in
     let rest = c.pop.new.self.items in
-    let P = λ (zs : List ℕ). IsGrown cells ps (IsAheadAt cells ps c.args.at) (length ps) cut.marked.items zs cut.floor (get nat_cmp cut.left) in
+    let P = λ (zs : List ℕ). IsGrown cells ps (IsAheadAt cells ps c.args.at) (length ps) cut.marked.items zs cut.floor (value_at cut.left) in
     let h = subst P c.in-Some.ensures.items c.loop-next.invariant.cut in
     h.within c.in-Some.next (Contains-push rest c.in-Some.next)
 
@@ -56,7 +55,7 @@ add_steps-requires-then-not-index-clause-at c =
     let ps = c.args.records.now in
     let cut = c.loop-next.cut in
     let rest = c.pop.new.self.items in
-    let P = λ (zs : List ℕ). IsGrown cells ps (IsAheadAt cells ps c.args.at) (length ps) cut.marked.items zs cut.floor (get nat_cmp cut.left) in
+    let P = λ (zs : List ℕ). IsGrown cells ps (IsAheadAt cells ps c.args.at) (length ps) cut.marked.items zs cut.floor (value_at cut.left) in
     let h = subst P c.in-Some.ensures.items c.loop-next.invariant.cut in
     h.within c.in-Some.next (Contains-push rest c.in-Some.next)
 
@@ -70,15 +69,15 @@ loop-next-preserved-in-Continue-branch-3 c =
     let marked = cut.marked.items in
     let next = c.in-Some.next in
     let rest = c.pop.new.self.items in
-    let left = get nat_cmp c.mark.new.left in
+    let left = value_at c.mark.new.left in
     let new = c.add_steps-then-not-index.new.stack.items in
     let high = c.add_steps-then-not-index.new.floor in
     let adds = c.in_ok-add_steps-2.ensures in
     let items = c.in-Some.ensures.items in
-    let h = subst (λ zs. IsGrown cells ps A n marked zs cut.floor (get nat_cmp cut.left)) items c.loop-next.invariant.cut in
+    let h = subst (λ zs. IsGrown cells ps A n marked zs cut.floor (value_at cut.left)) items c.loop-next.invariant.cut in
     let within : next < length marked = let low = h.within next (Contains-push rest next) in let long = h.long in omega (arith, low, long) in
     let set_ = set marked next true in
-    let made = cut_mark cells ps A next marked rest cut.floor (get nat_cmp cut.left) left c.in_ok-mark.ensures.left h in
+    let made = cut_mark cells ps A next marked rest cut.floor (value_at cut.left) left c.in_ok-mark.ensures.left h in
     let steps = cut_steps cells ps A next set_ rest new cut.floor high left (λ x y here step. step_behind cells ps c.args.at next x y here step (h.ahead next y (inr (Contains-push rest next)) here)) adds made in
     let near = steps_in cells ps A next set_ rest new cut.floor high left adds made in
     let all = cut_all cells ps A next set_ new high left near steps in
@@ -102,7 +101,7 @@ loop-next-smaller-in-Continue-branch-3 c =
     let rest = c.pop.new.self.items in
     let adds = c.in_ok-add_steps-2.ensures in
     let items = c.in-Some.ensures.items in
-    let h = subst (λ zs. IsGrown cells ps A n marked zs cut.floor (get nat_cmp cut.left)) items c.loop-next.invariant.cut in
+    let h = subst (λ zs. IsGrown cells ps A n marked zs cut.floor (value_at cut.left)) items c.loop-next.invariant.cut in
     let within : next < length marked = let low = h.within next (Contains-push rest next) in let long = h.long in omega (arith, low, long) in
     let fewer = fewer_unmarked marked next c.index.result.now within (sym c.index.ensures ∙ c.if-not-index.true) in
     let is = ap unmarked c.in_ok-mark.ensures.marked in
@@ -122,7 +121,7 @@ loop-next-preserved c =
     let marked = cut.marked.items in
     let next = c.in-Some.next in
     let rest = c.pop.new.self.items in
-    let left = get nat_cmp cut.left in
+    let left = value_at cut.left in
     let items = c.in-Some.ensures.items in
     let h = subst (λ zs. IsGrown cells ps A n marked zs cut.floor left) items c.loop-next.invariant.cut in
     let within : next < length marked = let low = h.within next (Contains-push rest next) in let long = h.long in omega (arith, low, long) in

@@ -1,5 +1,3 @@
-use Rattle.std.specs.Ordering.{nat_cmp}
-use Rattle.std.specs.BTreeMap.{get}
 use Rattle.std.proofs.Common.{None}
 use Rattle.pa_record.proofs.Members.{not_some}
 use Rattle.pa_rules.specs.Cells.{history_at}
@@ -8,13 +6,13 @@ use Rattle.pa_audit_order.proofs.hands.giver.Goals as goal
 
 pub returns-in-Some-clause-some : goal.returns-in-Some-clause-some
 returns-in-Some-clause-some c =
-    giver_is (history_at c.args.cells.now) c.args.records.now (get nat_cmp c.args.by_line.now) c.args.told c.in-Some.line c.find.result c.requires.rising c.requires.by_line c.requires.swaps c.requires.exchanges c.requires.among
-    c.in-Some.ensures.some c.find.ensures
+    giver_is (history_at c.args.cells.now) c.args.records.now c.args.told c.in-Some.line c.record_on.result c.requires.rising c.requires.swaps c.requires.exchanges c.requires.among
+    c.in-Some.ensures.some c.record_on.ensures.some
 
 pub returns-in-Some-clause-all : goal.returns-in-Some-clause-all
 returns-in-Some-clause-all c = λ j x here hands.
-    giver_all (history_at c.args.cells.now) c.args.records.now (get nat_cmp c.args.by_line.now) c.args.told x c.in-Some.line j c.find.result c.requires.rising c.requires.by_line c.requires.swaps c.requires.exchanges c.requires.among
-    c.in-Some.ensures.all c.find.ensures here hands
+    giver_all (history_at c.args.cells.now) c.args.records.now c.args.told x c.in-Some.line j c.record_on.result c.requires.rising c.requires.swaps c.requires.exchanges c.requires.among
+    c.in-Some.ensures.all c.record_on.ensures.some c.record_on.ensures.none here hands
 
 pub returns-in-None-clause-all : goal.returns-in-None-clause-all
 returns-in-None-clause-all c = λ j x here hands.

@@ -1,6 +1,5 @@
 use Rattle.std.proofs.Common.{◌+◌, ◌≤◌, length, ap, subst, rules, refl, arith}
-use Rattle.std.specs.Ordering.{nat_cmp}
-use Rattle.std.specs.BTreeMap.{get}
+use Rattle.pa_audit_records.specs.ByKeys.{value_at}
 use Rattle.std.specs.Prelude.{IfNone}
 use Rattle.pa_rules.specs.declared.verdict.Place.TheVariants as places
 use Rattle.pa_rules.specs.Cells.{history_at}
@@ -13,7 +12,7 @@ pub loop-history-init : goal.loop-history-init
 loop-history-init c = record {
   cell = refl;
   met = λ k j less. absurd (omega (arith, less));
-  lines = known_none (history_at c.args.cells.now) (get nat_cmp c.new-known.result) (λ q. search rules);
+  lines = known_none (history_at c.args.cells.now) (value_at c.new-known.result) (λ q. search rules);
 }
 
 pub returns-in-Some : goal.returns-in-Some
@@ -29,7 +28,7 @@ loop-history-preserved c =
     record {
       cell = ap (λ n. n + 1) c.loop-history.invariant.cell;
       met = cells_more (λ k j. CellsDemand cells ps (places.Cell k j)) c.loop-history.cell c.in_ok-at.field-0 c.in_default.is c.loop-history.invariant.met c.in_ok-at.ensures.tells;
-      lines = subst (λ o. IfNone o (AreLinesKnown cells (get nat_cmp c.cell_meets.new.known) (c.loop-history.cell + 1) 0)) c.in_default.is c.in_ok-at.ensures.known;
+      lines = subst (λ o. IfNone o (AreLinesKnown cells (value_at c.cell_meets.new.known) (c.loop-history.cell + 1) 0)) c.in_default.is c.in_ok-at.ensures.known;
     }
 
 pub returns : goal.returns

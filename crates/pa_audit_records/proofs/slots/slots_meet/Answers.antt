@@ -1,6 +1,5 @@
 use Rattle.std.proofs.Common.{◌+◌, length, ap, refl}
-use Rattle.std.specs.Ordering.{nat_cmp}
-use Rattle.std.specs.BTreeMap.{get}
+use Rattle.pa_audit_records.specs.ByKeys.{value_at}
 use Rattle.std.proofs.lemmas.Bool.{false≢true}
 use Rattle.pa_rules.specs.declared.verdict.Place.TheVariants as places
 use Rattle.pa_rules.specs.RecordDemands.{SlotsDemand}
@@ -15,7 +14,7 @@ returns-then-not-mark_fits c =
     let i = c.loop-record.record-index in
     tells_at (λ k. SlotsDemand ps (places.Record k)) i c.loop-record.at c.loop-record.invariant.at
     (λ asks. false≢true (c.if-not-mark_fits.ensures.1
-    (slot_fits ps (get nat_cmp c.in_ok-firsts.firsts) (get nat_cmp c.in_ok-reached.reached) i c.loop-record.at _ c.loop-record.invariant.at c.requires.rising c.in_ok-firsts.ensures c.in_ok-reached.ensures.reached c.in_ok-reached.ensures.all
+    (slot_fits ps (value_at c.in_ok-firsts.firsts) (value_at c.in_ok-reached.reached) i c.loop-record.at _ c.loop-record.invariant.at c.requires.rising c.in_ok-firsts.ensures c.in_ok-reached.ensures.reached c.in_ok-reached.ensures.all
     c.loop-record-test.true asks))) c.loop-record.invariant.met
 
 pub loop-record-preserved : goal.loop-record-preserved
@@ -25,7 +24,7 @@ loop-record-preserved c =
     record {
       met =
           met_more (λ k. SlotsDemand ps (places.Record k)) i c.loop-record.invariant.met
-          (slot_met ps (get nat_cmp c.in_ok-firsts.firsts) (get nat_cmp c.in_ok-reached.reached) i c.loop-record.at _ c.loop-record.invariant.at c.requires.rising c.in_ok-firsts.ensures c.in_ok-reached.ensures.reached c.loop-record-test.true
+          (slot_met ps (value_at c.in_ok-firsts.firsts) (value_at c.in_ok-reached.reached) i c.loop-record.at _ c.loop-record.invariant.at c.requires.rising c.in_ok-firsts.ensures c.in_ok-reached.ensures.reached c.loop-record-test.true
           (c.if-not-mark_fits.ensures.0 refl));
       at = ap (λ n. n + 1) c.loop-record.invariant.at;
     }

@@ -1,6 +1,6 @@
-use Rattle.std.proofs.Common.{◌-◌, arith, rules}
-use Rattle.std.specs.Ordering.{nat_cmp}
-use Rattle.std.specs.BTreeMap.{get}
+use Rattle.std.proofs.Common.{◌≡◌, ◌-◌, arith, rules, subst}
+use Rattle.pa_audit_records.specs.ByKeys.{value_at}
+use Rattle.pa_audit_records.specs.Steps.{AreFirstsFrom}
 use Rattle.pa_audit_records.proofs.Stepping.{firsts_same, firsts_more}
 use Rattle.pa_audit_records.proofs.steps.firsts.Goals as goal
 
@@ -10,7 +10,7 @@ loop-at-preserved-in-Continue-1 c =
     record {
       below = omega arith;
       firsts =
-          firsts_more c.args.records.now (get nat_cmp c.loop-at.firsts) (get nat_cmp c.put.new.map) k c.loop-at.at c.in-Some.key _ (omega arith) (omega arith) c.in-Some.ensures.key c.step_key.ensures.sized
+          firsts_more c.args.records.now (value_at c.loop-at.firsts) (value_at c.put.new.self) k c.loop-at.at c.in-Some.key _ (omega arith) (omega arith) c.in-Some.ensures.key c.step_key.ensures.sized
           c.in_ok-put.ensures c.loop-at.invariant.firsts;
     }
 
@@ -19,5 +19,10 @@ loop-at-preserved c =
     let k = c.loop-at.at - 1 in
     record {
       below = omega arith;
-      firsts = firsts_same c.args.records.now (get nat_cmp c.loop-at.firsts) k c.loop-at.at _ (omega arith) (omega arith) (search rules) c.step_key.ensures.sized c.loop-at.invariant.firsts;
+      firsts = firsts_same c.args.records.now (value_at c.loop-at.firsts) k c.loop-at.at _ (omega arith) (omega arith) (search rules) c.step_key.ensures.sized c.loop-at.invariant.firsts;
     }
+
+pub returns : goal.returns
+returns c =
+    let none : c.loop-at.at ≡ 0 = omega (arith, c.loop-at-test.false) in
+    subst (AreFirstsFrom c.args.records.now (value_at c.loop-at.firsts)) none c.loop-at.invariant.firsts

@@ -1,22 +1,21 @@
-use Rattle.std.specs.Ordering.{nat_cmp}
-use Rattle.std.specs.BTreeMap.{get}
+use Rattle.pa_audit_records.specs.ByKeys.{value_at}
 use Rattle.pa_audit_records.proofs.Stepping.{reach_start, reach_more, reach_end, reach_kept, reach_first}
 use Rattle.pa_audit_records.proofs.steps.reach.Goals as goal
 
 pub loop-next-init : goal.loop-next-init
 loop-next-init c =
-    reach_start c.args.records.now (get nat_cmp c.args.reached.now) (get nat_cmp c.put.new.map) c.args.slot c.key_word.result 0 c.key_word.ensures.sized.0 c.requires.reached c.requires.fresh c.key_word.ensures.key
+    reach_start c.args.records.now (value_at c.args.reached.now) (value_at c.put.new.self) c.args.slot c.key_word.result 0 c.key_word.ensures.sized.0 c.requires.reached c.requires.fresh c.key_word.ensures.key
     c.in_ok-put.ensures
 
 pub loop-next-preserved : goal.loop-next-preserved
 loop-next-preserved c =
-    reach_more c.args.records.now (get nat_cmp c.args.reached.now) (get nat_cmp c.loop-next.reached) (get nat_cmp c.put-in-Some.new.map) c.args.slot c.loop-next.word.0 c.in-Some.next.0 c.key_word-in-Some.result 0
+    reach_more c.args.records.now (value_at c.args.reached.now) (value_at c.loop-next.reached) (value_at c.put-in-Some.new.self) c.args.slot c.loop-next.word.0 c.in-Some.next.0 c.key_word-in-Some.result 0
     c.key_word-in-Some.ensures.sized c.in-Some.ensures.next c.key_word-in-Some.ensures.key c.in_ok-put-2.ensures c.loop-next.invariant
 
 pub returns : goal.returns
 returns c =
-    let before = get nat_cmp c.args.reached.now in
-    let at = get nat_cmp c.loop-next.reached in
+    let before = value_at c.args.reached.now in
+    let at = value_at c.loop-next.reached in
     record {
       reached = reach_end c.args.records.now before at c.args.slot c.loop-next.word.0 c.key_word.ensures.sized.0 c.in_default.ensures.last c.requires.reached c.loop-next.invariant;
       kept = reach_kept c.args.records.now before at c.args.slot c.loop-next.word.0 c.key_word.ensures.sized.0 c.loop-next.invariant;

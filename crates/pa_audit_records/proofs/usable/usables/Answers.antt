@@ -1,6 +1,5 @@
 use Rattle.std.proofs.Common.{◌-◌, arith, subst}
-use Rattle.std.specs.Ordering.{nat_cmp}
-use Rattle.std.specs.BTreeMap.{get}
+use Rattle.pa_audit_records.specs.ByKeys.{value_at}
 use Rattle.pa_audit_records.specs.Keys.{name_key}
 use Rattle.pa_audit_records.specs.Tables.{Puts}
 use Rattle.pa_audit_records.proofs.Putting.{used_here}
@@ -8,8 +7,8 @@ use Rattle.pa_audit_records.proofs.usable.usables.Goals as goal
 
 pub loop-at-preserved-in-Continue-1 : goal.loop-at-preserved-in-Continue-1
 loop-at-preserved-in-Continue-1 c =
-    let f = get nat_cmp c.loop-at.usables in
-    let g = get nat_cmp c.put.new.map in
+    let f = value_at c.loop-at.usables in
+    let g = value_at c.put.new.self in
     let puts : Puts f g (name_key c.in-Made.seen.slot) c.in-Made.usable = subst (λ k. Puts f g k c.in-Made.usable) c.key.ensures.key c.in_ok-put.ensures in
     record {
       below = omega arith;

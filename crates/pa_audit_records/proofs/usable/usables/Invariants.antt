@@ -1,6 +1,5 @@
 use Rattle.std.proofs.Common.{◌≤◌, drop, length}
-use Rattle.std.specs.Ordering.{nat_cmp}
-use Rattle.std.specs.BTreeMap.{get}
+use Rattle.pa_audit_records.specs.ByKeys.{value_at}
 use Rattle.pa_audit_records.specs.Tables.{AreUsables}
 use Rattle.pa_audit_records.proofs.usable.usables.Given as goal
 
@@ -8,4 +7,4 @@ abbrev pub decreases-loop-at : goal.decreases-loop-at
 decreases-loop-at l = l.at
 
 abbrev pub invariant-loop-at : goal.invariant-loop-at
-invariant-loop-at l = record { below : l.at ≤ length l.records; usables : AreUsables (drop l.at l.records) (get nat_cmp l.usables) }
+invariant-loop-at l = record { below : l.at ≤ length l.records; usables : AreUsables (drop l.at l.records) (value_at l.usables) }

@@ -1,6 +1,5 @@
 use Rattle.std.proofs.Common.{◌+◌, List, get_or, map, sym, subst, arith}
-use Rattle.std.specs.Ordering.{nat_cmp}
-use Rattle.std.specs.BTreeMap.{get}
+use Rattle.pa_audit_records.specs.ByKeys.{value_at}
 use Rattle.std.proofs.lemmas.Option.{slice_get-get_or}
 use Rattle.pa_rules.specs.declared.played.Played.{Played}
 use Rattle.pa_rules.specs.Report.{until}
@@ -23,7 +22,7 @@ count_on-count-requires-clause-within c =
 
 pub loop-end-init : goal.loop-end-init
 loop-end-init c =
-    let at = get nat_cmp c.args.homes.now in
+    let at = value_at c.args.homes.now in
     record {
       many = omega (arith, c.new-uses.ensures.items);
       low = low_none (map (λ (x : Played). x.phase) c.args.records.now) 0;
@@ -36,7 +35,7 @@ pub loop-end-preserved : goal.loop-end-preserved
 loop-end-preserved c =
     let l = c.loop-end in
     let i = l.end-index in
-    let at = get nat_cmp c.args.homes.now in
+    let at = value_at c.args.homes.now in
     let ps = c.args.records.now in
     let end = get_or c.args.ends.now i 0 in
     let cut = c.requires.ends i (get_or c.args.ends.now i 0) (slice_get-get_or c.args.ends.now i 0 c.loop-end-test.true) in

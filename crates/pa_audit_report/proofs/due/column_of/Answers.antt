@@ -1,6 +1,5 @@
 use Rattle.std.proofs.Common.{◌+◌, List, sym, subst}
-use Rattle.std.specs.Ordering.{nat_cmp}
-use Rattle.std.specs.BTreeMap.{get}
+use Rattle.pa_audit_records.specs.ByKeys.{value_at}
 use Rattle.pa_record.specs.declared.census.Census.{Census}
 use Rattle.pa_record.specs.declared.pool.PoolEntry.{PoolEntry}
 use Rattle.pa_record.specs.declared.root.RootEntry.{RootEntry}
@@ -29,7 +28,7 @@ loop-at-preserved c =
     let ps = c.args.records.now in
     let pools = c.args.run.now.pool.items in
     let roots = journal_at c.args.run.now.roots.items in
-    let at = get nat_cmp c.args.homes.now in
+    let at = value_at c.args.homes.now in
     let uses = subst (λ (us : List InUse). HaveUses at c.args.partition ps us) (sym c.as_slice-in-loop-at.ensures.value) c.in_ok-uses.ensures.uses in
     let told : HaveCensuses ps pools roots c.args.partition c.in_ok-censuses.censuses.items =
     subst (λ (rs : List (List RootEntry)). HaveCensuses ps pools (journal_at rs) c.args.partition c.in_ok-censuses.censuses.items) c.as_slice-2.ensures.value

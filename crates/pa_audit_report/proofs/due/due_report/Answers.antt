@@ -9,6 +9,7 @@ use Rattle.pa_rules.specs.Report.{IsReport}
 use Rattle.pa_audit_report.specs.Due.{AreColumns}
 use Rattle.pa_audit_holders.proofs.Caching.{HaveOneKind}
 use Rattle.pa_audit_report.specs.Cached.{HaveCached}
+use Rattle.pa_audit_report.specs.Cuts.{AreCuts, AreRecordCuts}
 use Rattle.pa_audit_report.proofs.Columns.{columns_next, kinds_given, phases_sorted}
 use Rattle.pa_audit_report.proofs.due.due_report.Goals as goal
 
@@ -20,6 +21,11 @@ pub cached_of-requires-clause-kinds : goal.cached_of-requires-clause-kinds
 cached_of-requires-clause-kinds c =
     subst (λ (rs : List (List RootEntry)). HaveOneKind (journal_at rs)) (sym c.as_slice-5.ensures.value)
     (kinds_given c.args.trace.now.region c.args.trace.now.partitions c.args.records.now c.args.run.now.pool.items (journal_at c.args.run.now.roots.items) c.requires.given)
+
+pub column_of-requires-clause-ends : goal.column_of-requires-clause-ends
+column_of-requires-clause-ends c =
+    subst (λ es. AreRecordCuts c.args.records.now es) (sym c.as_slice-in-loop-partition.ensures.value)
+    (subst (λ ks. AreCuts ks c.in_ok-ends.ends.items) (c.as_slice-2.ensures.value ∙ c.in_ok-record_phases.ensures) c.in_ok-ends.ensures.cuts)
 
 pub column_of-requires-clause-cached : goal.column_of-requires-clause-cached
 column_of-requires-clause-cached c =

@@ -2,7 +2,10 @@ use Rattle.std.proofs.Common.{◌<◌, ◌≤◌, List, length, get_or, ap, arit
 use Rattle.pa_trace.specs.declared.script.Line.{Line}
 use Rattle.pa_trace.specs.declared.script.Line.TheVariants.{Phase}
 use Rattle.pa_record.specs.RunText.{IsPrintable}
+use Rattle.pa_record.specs.declared.run.Run.{Run}
 use Rattle.pa_rules.specs.Legal.{IsFileRun}
+use Rattle.pa_core_run.specs.Playing.{HasCoreRun}
+use Rattle.pa_core_run.proofs.Whole.{files_are_played}
 use Rattle.pa_model.specs.Changes.{phase_ended}
 use Rattle.pa_model.specs.Told.{IsToldRun}
 use Rattle.pa_model.proofs.Ended.{ends_filed, ends_printed}
@@ -21,24 +24,24 @@ pub line-requires : goal.line-requires
 line-requires c =
     let t = c.args.trace.now in
     let i = c.loop-line.line-index in
-    let size = ap (λ (z : List Line). length z) c.as_slice-line-items.ensures in
-    let is = ap (λ (z : List Line). get_or z i Phase) c.as_slice-line-items.ensures in
+    let size = ap (λ (z : List Line). length z) c.as_slice-lines.ensures in
+    let is = ap (λ (z : List Line). get_or z i Phase) c.as_slice-lines.ensures in
     let lt : i < length t.lines = omega (arith, size, c.loop-line-test.true) in
-    line_ready t i c.loop-line.player (get_or c.as_slice-line-items.result.now i Phase) Phase c.requires.within lt is c.loop-line.invariant
+    line_ready t i c.loop-line.player (get_or c.as_slice-lines.result.now i Phase) Phase c.requires.within lt is c.loop-line.invariant
 
 pub loop-line-preserved : goal.loop-line-preserved
 loop-line-preserved c =
     let t = c.args.trace.now in
     let i = c.loop-line.line-index in
-    let size = ap (λ (z : List Line). length z) c.as_slice-line-items.ensures in
-    let is = ap (λ (z : List Line). get_or z i Phase) c.as_slice-line-items.ensures in
+    let size = ap (λ (z : List Line). length z) c.as_slice-lines.ensures in
+    let is = ap (λ (z : List Line). get_or z i Phase) c.as_slice-lines.ensures in
     let lt : i < length t.lines = omega (arith, size, c.loop-line-test.true) in
-    line_more t i c.loop-line.player c.line.new.self (get_or c.as_slice-line-items.result.now i Phase) Phase c.requires.within lt is c.loop-line.invariant c.in_ok-line.ensures
+    line_more t i c.loop-line.player c.line.new.self (get_or c.as_slice-lines.result.now i Phase) Phase c.requires.within lt is c.loop-line.invariant c.in_ok-line.ensures
 
 pub finish-requires : goal.finish-requires
 finish-requires c =
     let t = c.args.trace.now in
-    let size = ap (λ (z : List Line). length z) c.as_slice-line-items.ensures in
+    let size = ap (λ (z : List Line). length z) c.as_slice-lines.ensures in
     let past : length t.lines ≤ c.loop-line.line-index = omega (arith, size, c.loop-line-test.false) in
     let few = c.requires.within.few in
     end_ready t.region t.partitions t.threads t.lines c.loop-line.player (omega arith) (all_played t c.loop-line.line-index c.loop-line.player past c.loop-line.invariant)
@@ -47,10 +50,13 @@ pub returns : goal.returns
 returns c =
     let t = c.args.trace.now in
     let p = c.loop-line.player in
-    let size = ap (λ (z : List Line). length z) c.as_slice-line-items.ensures in
+    let size = ap (λ (z : List Line). length z) c.as_slice-lines.ensures in
     let past : length t.lines ≤ c.loop-line.line-index = omega (arith, size, c.loop-line-test.false) in
     let playing = all_played t c.loop-line.line-index p past c.loop-line.invariant in
+    let Told : Run → Type 0 = IsToldRun (phase_ended p).told in
+    let filed : (r : Run) → Told r → IsFileRun t r = λ r told. ends_filed t p r playing told in
     record {
-      run = if_ok c.finish.result (IsToldRun (phase_ended p).told) (IsFileRun t) c.finish.ensures (λ r told. ends_filed t p r playing told);
-      printable = if_ok c.finish.result (IsToldRun (phase_ended p).told) IsPrintable c.finish.ensures (λ r told. ends_printed t.region t.partitions t.threads t.lines p r playing told);
+      run = if_ok c.finish.result Told (IsFileRun t) c.finish.ensures filed;
+      core = if_ok c.finish.result Told (HasCoreRun t) c.finish.ensures (λ r told. files_are_played t r c.requires.within (filed r told));
+      printable = if_ok c.finish.result Told IsPrintable c.finish.ensures (λ r told. ends_printed t.region t.partitions t.threads t.lines p r playing told);
     }

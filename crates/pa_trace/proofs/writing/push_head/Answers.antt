@@ -4,6 +4,6 @@ use Rattle.pa_trace.proofs.writing.push_head.Goals as goal
 pub returns : goal.returns
 returns c =
     let trace = c.args.trace.now in
-    on_ok c.push_bytes.result _ _ c.push_bytes.ensures.pushed
-    (head_written trace.region trace.partitions trace.threads c.args.out.now.items c.push_field.new.out.items c.push_field-2.new.out.items c.push_field-3.new.out.items c.push_bytes.new.out.items
+    on_ok c.push_byte.result _ _ c.push_byte.ensures.pushed
+    (head_written trace.region trace.partitions trace.threads c.args.out.now.items c.push_field.new.out.items c.push_field-2.new.out.items c.push_field-3.new.out.items c.push_byte.new.out.items
     c.in_ok-push_field.ensures c.in_ok-push_field-2.ensures c.in_ok-push_field-3.ensures)

@@ -4,7 +4,7 @@ use Rattle.pa_record.specs.declared.root.RootEntry.{RootEntry}
 use Rattle.pa_record.specs.declared.root.RootAct.TheVariants.{Purge}
 use Rattle.pa_root.specs.Keeping.{RootState, IsRootSound}
 use Rattle.pa_root.specs.Handing.{root_entry}
-use Rattle.pa_root.proofs.MakingNone.{purges_keep_slots}
+use Rattle.pa_root.proofs.Purging.{purges_keep_slots}
 use Rattle.pa_root.proofs.Seeing.{idle_entries_keep}
 use Rattle.pa_root.proofs.root.Root.purge.Goals as goal
 

@@ -1,0 +1,43 @@
+ghost use Rattle.std.specs.Prelude.{◌≡◌, ℕ, None, OnOk};
+ghost use Rattle.pa_audit_records.specs.ByKeys.{value_at};
+ghost use Rattle.pa_audit_records.specs.Tables.{Puts};
+
+use crate::salt::Salt;
+use pa_machine::OutOfMemory;
+use std::alloc::Global;
+use std::collections::HashMap;
+
+/// A table of values by their keys. It hashes a key together with its salt, so that keys which were chosen by somebody who
+/// doesn't know the salt don't get in one another's way. Any salt gives the same answers.
+#[derive(Drop)]
+pub struct ByKey<V> {
+    salt: u128,
+    values: HashMap<u128, V>,
+}
+
+impl<V: Copy> ByKey<V> {
+    /// A table of nothing.
+    pub fn new(alloc: Global, salt: Salt) -> ByKey<V>
+        ensures { (q : ℕ) → value_at result q ≡ None }
+    {
+        ByKey {
+            salt: salt.mask(),
+            values: HashMap::new(alloc),
+        }
+    }
+
+    /// Sets the value at a key.
+    pub fn put(&mut self, key: u128, value: V) -> Result<(), OutOfMemory>
+        ensures { OnOk result (Puts (value_at self.old) (value_at self.new) key value) }
+    {
+        self.values.insert(key ^ self.salt, value)?;
+        Ok(())
+    }
+
+    /// The value at a key.
+    pub fn find(&self, key: u128) -> Option<V>
+        ensures { result ≡ value_at self.now key }
+    {
+        self.values.get(&(key ^ self.salt)).copied()
+    }
+}
