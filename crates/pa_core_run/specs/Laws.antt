@@ -47,15 +47,17 @@ MadeRecordsArePlayed =
 -- And so can each free or reset that returned a slot to a list which spilled: what doesn't stay of the list goes back to the root.
 abbrev pub SpilledRecordsArePlayed : Type 0
 SpilledRecordsArePlayed =
-    (t : Trace) (r : Run) → IsWithinLimits t → IsFileRun t r → (before : List Played) (x : Played) (rest : List Played) (seen : Seen) (p : ℕ) (slots : List Numbered) →
-    records_of t (told_by r) ≡ before ++ x ∷ rest → x.answer ≡ Done seen → Contains (acts_of (told_by r).roots x.line p) (Give slots) → CanBePlayed (parts_of t (told_by r)) before x rest
+    (t : Trace) (r : Run) → IsWithinLimits t → IsFileRun t r → (before : List Played) (x : Played) (rest : List Played) →
+    (seen : Seen) (p : ℕ) (slots : List Numbered) → records_of t (told_by r) ≡ before ++ x ∷ rest → x.answer ≡ Done seen →
+    Contains (acts_of (told_by r).roots x.line p) (Give slots) → CanBePlayed (parts_of t (told_by r)) before x rest
 
 -- And so can each reset or free that gave back a direct map: its line has an Unmap. The step leaves the map's free title, which goes to
 -- actor 0 and becomes raw bytes again.
 abbrev pub UnmappedRecordsArePlayed : Type 0
 UnmappedRecordsArePlayed =
-    (t : Trace) (r : Run) → IsWithinLimits t → IsFileRun t r → (before : List Played) (x : Played) (rest : List Played) (p asked : ℕ) (slot : Numbered) →
-    records_of t (told_by r) ≡ before ++ x ∷ rest → Contains (acts_of (told_by r).roots x.line p) (Unmap asked slot) → CanBePlayed (parts_of t (told_by r)) before x rest
+    (t : Trace) (r : Run) → IsWithinLimits t → IsFileRun t r → (before : List Played) (x : Played) (rest : List Played) →
+    (p asked : ℕ) (slot : Numbered) → records_of t (told_by r) ≡ before ++ x ∷ rest →
+    Contains (acts_of (told_by r).roots x.line p) (Unmap asked slot) → CanBePlayed (parts_of t (told_by r)) before x rest
 
 -- And so can each purge: the free titles of all slots in its thread's lists go to actor 0, and the lists are empty.
 abbrev pub PurgedRecordsArePlayed : Type 0
