@@ -29,7 +29,8 @@ fn entries_fit(entries: &[Entry])
     }
 }
 
-fn entry_fits(entry: Entry)
+/// Each number of a record has the bits of its type.
+pub fn entry_fits(entry: Entry)
     ensures { EntryInBits entry }
 {}
 
@@ -49,7 +50,8 @@ fn journal_fits(entries: &[RootEntry])
     }
 }
 
-fn root_fits(entry: &RootEntry)
+/// So has each of an entry of a journal; its class is one of the 59, and its batch has no more than 16 slots.
+pub fn root_fits(entry: &RootEntry)
     ensures { RootInBits entry.now }
 {
     number_fits(entry.line);
@@ -115,7 +117,8 @@ fn numbered_fits(slot: Numbered)
     ensures { NumberedInBits slot }
 {}
 
-fn pool_fits(entries: &[PoolEntry])
+/// So has each of the pool's entries.
+pub fn pool_fits(entries: &[PoolEntry])
     ensures { AllByRecursion PoolInBits entries.now }
 {
     for entry in entries {
@@ -127,7 +130,8 @@ fn pool_entry_fits(entry: PoolEntry)
     ensures { PoolInBits entry }
 {}
 
-fn histories_fit(histories: &[History])
+/// So has each of the exchanges with the cells.
+pub fn histories_fit(histories: &[History])
     ensures { AllByRecursion (AllByRecursion CellInBits) histories.now }
 {
     for history in histories {
@@ -147,7 +151,8 @@ fn exchange_fits(entry: CellEntry)
     ensures { CellInBits entry }
 {}
 
-fn report_fits(report: &[ReportLine])
+/// So has each of the report.
+pub fn report_fits(report: &[ReportLine])
     ensures { AllByRecursion ReportInBits report.now }
 {
     for line in report {

@@ -29,7 +29,7 @@ pub use batch::Batch;
 pub use cell_lines::push_cells;
 pub use census::Census;
 pub use entry::{Answer, Entry, Seen};
-pub use fits::run_fits;
+pub use fits::{entry_fits, histories_fit, pool_fits, report_fits, root_fits, run_fits};
 pub use history::{CellEntry, Held, History};
 pub use journal::Journal;
 pub use laws::{
@@ -40,8 +40,11 @@ pub use laws::{
 pub use numbered::Numbered;
 pub use numbers::{cell_numbers, one_entry_for_its_numbers, pool_numbers, root_numbers};
 pub use pool::{PoolAct, PoolEntry};
+pub use pool_lines::push_pool;
 pub use report::{ReportLine, Tally};
+pub use report_lines::push_report;
 pub use root::{RootAct, RootEntry};
+pub use root_lines::push_root;
 pub use run::Run;
 pub use taken::{SuperPage, Taken};
 pub use whole::{one_run_for_a_text, write_run};

@@ -7,8 +7,8 @@ use crate::{PoolAct, PoolEntry};
 use pa_machine::OutOfMemory;
 use pa_text::push_byte;
 
-// Appends the lines of the pool.
-pub(crate) fn push_pool(out: &mut Vec<u8>, entries: &[PoolEntry]) -> Result<(), OutOfMemory>
+/// Appends the lines of the pool's entries, from entry 0 on.
+pub fn push_pool(out: &mut Vec<u8>, entries: &[PoolEntry]) -> Result<(), OutOfMemory>
     ensures pushed { OnOk result (out.new.items ≡ out.old.items ++ pools_text entries.now) }
 {
     let mut index = 0;

@@ -7,8 +7,8 @@ use crate::{ReportLine, Tally};
 use pa_machine::OutOfMemory;
 use pa_text::push_byte;
 
-// Appends the lines of the report.
-pub(crate) fn push_report(out: &mut Vec<u8>, report: &[ReportLine]) -> Result<(), OutOfMemory>
+/// Appends the lines of the report, in their order.
+pub fn push_report(out: &mut Vec<u8>, report: &[ReportLine]) -> Result<(), OutOfMemory>
     ensures pushed { OnOk result (out.new.items ≡ out.old.items ++ flat_map report_text report.now) }
 {
     for line in report {

@@ -34,8 +34,8 @@ fn push_journal(out: &mut Vec<u8>, partition: u64, entries: &[RootEntry]) -> Res
     Ok(())
 }
 
-// Appends the line of one entry, with its LF.
-fn push_root(
+/// Appends the line of the entry at this index of a partition's journal, with its LF.
+pub fn push_root(
     out: &mut Vec<u8>,
     partition: u64,
     index: u64,
