@@ -15,7 +15,7 @@ use crate::status::Status;
 use pa_audit_input::judge;
 use pa_io::{Failed, Sink, Source};
 use pa_machine::OutOfMemory;
-use pa_model::play;
+use pa_model::play_text;
 use pa_one_run::one_thread_in_file_order;
 use pa_record::write_run;
 use pa_rules::Verdict;
@@ -221,6 +221,5 @@ fn model_text(alloc: Global, trace: &Trace) -> Result<Vec<u8>, OutOfMemory>
     requires { IsWithinLimits trace.now }
     ensures { IfOk result (λ text. IsModelText trace.now text.items) }
 {
-    let run = play(alloc, trace)?;
-    write_run(alloc, &run)
+    play_text(alloc, trace)
 }

@@ -1,8 +1,11 @@
 pub mod Asks
 pub mod Begun
+pub mod Books
 pub mod Calls
 pub mod Changes
+pub mod Kept
 pub mod Lists
+pub mod Played
 pub mod Playing
 pub mod Plays
 pub mod Tables

@@ -1,11 +1,12 @@
 -- What the run tells so far.
-use Rattle.std.specs.Prelude.{◌≡◌, ℕ, List, [], ◌∷◌, ◌++◌, slice_index_or, slice_set}
+use Rattle.std.specs.Prelude.{ℕ, List, [], ◌∷◌, ◌++◌, slice_index_or, slice_set}
 use Rattle.pa_record.specs.declared.entry.Entry.{Entry}
 use Rattle.pa_record.specs.declared.history.CellEntry.{CellEntry}
 use Rattle.pa_record.specs.declared.pool.PoolEntry.{PoolEntry}
 use Rattle.pa_record.specs.declared.report.ReportLine.{ReportLine}
 use Rattle.pa_record.specs.declared.root.RootEntry.{RootEntry}
 use Rattle.pa_record.specs.declared.run.Run.{Run}
+use Rattle.pa_printed.specs.Whole.{HasLists, IsTextOfLists}
 
 -- The records, the journals by their partitions, the entries of the pool, the histories by their cells, the lines of the
 -- report; and the number of the line that is played.
@@ -31,9 +32,9 @@ abbrev pub with_exchange : ℕ → CellEntry → Lists → Lists
 with_exchange k e t = record t { histories = slice_set t.histories k (history_in t k ++ e ∷ []) }
 
 -- the run tells these lists
-pub record IsToldRun (t : Lists) (r : Run) : Type 0 where
-  pub entries : r.entries.items ≡ t.entries
-  pub roots : r.roots.items ≡ t.journals
-  pub pool : r.pool.items ≡ t.pools
-  pub cells : r.cells.items ≡ t.histories
-  pub report : r.report.items ≡ t.report
+abbrev pub IsToldRun : Lists → Run → Type 0
+IsToldRun t r = HasLists t.entries t.journals t.pools t.histories t.report r
+
+-- the bytes are the text of a run that tells them
+abbrev pub IsToldText : Lists → List ℕ → Type 0
+IsToldText t bytes = IsTextOfLists t.entries t.journals t.pools t.histories t.report bytes

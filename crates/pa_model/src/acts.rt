@@ -1,7 +1,7 @@
 ghost use Rattle.std.specs.Prelude.{◌≡◌, [], ◌∷◌, ◌++◌, OnOk};
 
 use pa_machine::OutOfMemory;
-use pa_record::{Journal, RootAct, RootEntry};
+use pa_record::{Journal, RootEntry};
 use std::alloc::Global;
 use std::marker::Model;
 
@@ -31,10 +31,10 @@ impl Acts {
     }
 
     // Puts an entry behind the others.
-    pub(crate) fn push(&mut self, line: u32, act: RootAct) -> Result<(), OutOfMemory>
-        ensures pushed { OnOk result (self.new ≡ self.old ++ record { line = line; act = act } ∷ []) }
+    pub(crate) fn push(&mut self, entry: RootEntry) -> Result<(), OutOfMemory>
+        ensures pushed { OnOk result (self.new ≡ self.old ++ entry ∷ []) }
     {
-        self.items.push(RootEntry { line, act })?;
+        self.items.push(entry)?;
         Ok(())
     }
 

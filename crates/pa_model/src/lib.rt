@@ -7,6 +7,7 @@ mod caches;
 mod free_list;
 mod handle;
 mod heap;
+mod kept;
 mod phases;
 mod player;
 mod purge;
@@ -23,4 +24,4 @@ mod tests;
 mod told;
 mod whole;
 
-pub use whole::play;
+pub use whole::{play, play_text};

@@ -2,11 +2,10 @@ ghost use Rattle.std.specs.Prelude.{◌≡◌, ◌<◌, ◌≤◌, [], IfOk, OnO
 ghost use Rattle.pa_trace.specs.Limits.{IsHeadWithin};
 ghost use Rattle.pa_trace.specs.declared.script.Line.TheVariants.{Do, Phase};
 ghost use Rattle.pa_model.specs.Asks.{CanEnd};
-ghost use Rattle.pa_model.specs.Begun.{IsBegun};
+ghost use Rattle.pa_model.specs.Begun.{IsBegun, IsUntold};
 ghost use Rattle.pa_model.specs.Changes.{phase_begun, phase_ended, registered};
 ghost use Rattle.pa_model.specs.Playing.{register_at, list_place};
 ghost use Rattle.pa_model.specs.Plays.{GoesTo, IsReady, Plays};
-ghost use Rattle.pa_model.specs.Told.{IsToldRun};
 
 use crate::caches::Caches;
 use crate::handle::Handle;
@@ -17,7 +16,7 @@ use crate::tallies::Tallies;
 use crate::told::Told;
 use pa_buckets::Class;
 use pa_machine::OutOfMemory;
-use pa_record::{Answer, Run};
+use pa_record::Answer;
 use pa_trace::{Line, Op};
 use std::alloc::Global;
 
@@ -41,15 +40,16 @@ pub(crate) struct Player {
 }
 
 impl Player {
-    // Before the first of so many lines.
+    // Before the first line, where nothing is told.
     pub(crate) fn new(
         alloc: Global,
         region: u32,
         partitions: u32,
         threads: u32,
-        lines: usize,
+        told: Told,
     ) -> Result<Player, OutOfMemory>
-        requires { IsHeadWithin region partitions threads }
+        requires head { IsHeadWithin region partitions threads }
+        requires told { IsUntold partitions told }
         ensures { IfOk result (IsBegun region partitions threads) }
     {
         Ok(Player {
@@ -61,7 +61,7 @@ impl Player {
             live: Tallies::new(),
             quarantined: Tallies::new(),
             cached: Tallies::new(),
-            told: Told::new(alloc, partitions, lines)?,
+            told,
             partitions,
             phase: 1,
         })
@@ -98,13 +98,13 @@ impl Player {
         Ok(())
     }
 
-    // The run of the lines that were played.
-    pub(crate) fn finish(mut self, alloc: Global) -> Result<Run, OutOfMemory>
+    // What the lines that were played told.
+    pub(crate) fn finish(mut self) -> Result<Told, OutOfMemory>
         requires { CanEnd self }
-        ensures { IfOk result (IsToldRun (phase_ended self).told) }
+        ensures { IfOk result (λ told. told ≡ (phase_ended self).told) }
     {
         self.end_phase()?;
-        self.told.into_run(alloc)
+        Ok(self.told)
     }
 
     // Plays one op, and answers it.

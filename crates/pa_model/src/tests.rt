@@ -1,17 +1,18 @@
-use crate::play;
+use crate::{play, play_text};
 use pa_record::write_run;
 use pa_trace::read_trace;
 use std::alloc::Global;
 use std::test::Fail;
 
-// Whether this text comes out where a trace's text is played.
+// Whether this text comes out where a trace's text is played, and the same bytes where it is printed as it is played.
 fn gives(alloc: Global, text: &[u8], due: &[u8]) -> Result<bool, Fail> {
     let Ok(trace) = read_trace(alloc, text) else {
         return Err(Fail::new("no trace"));
     };
     let run = play(alloc, &trace)?;
     let out = write_run(alloc, &run)?;
-    Ok(out.as_slice() == due)
+    let text = play_text(alloc, &trace)?;
+    Ok(out.as_slice() == due && text.as_slice() == out.as_slice())
 }
 
 // An allocation and a free.

@@ -1,11 +1,14 @@
-ghost use Rattle.std.specs.Prelude.{◌≡◌, ◌+◌, ◌<◌, ◌≤◌, ◌^◌, [], ◌∷◌, ◌++◌, IfOk, OnOk, length};
-ghost use Rattle.pa_model.specs.Told.{IsToldRun, journal_in, history_in, with_act, with_exchange};
+ghost use Rattle.std.specs.Prelude.{◌≡◌, ℕ, ◌+◌, ◌<◌, ◌≤◌, ◌^◌, [], ◌∷◌, ◌++◌, IfOk, OnOk, length, slice_index_or};
+ghost use Rattle.pa_record.specs.declared.run.Run.{Run};
+ghost use Rattle.pa_record.specs.RunText.{IsPrintable};
+ghost use Rattle.pa_model.specs.Told.{IsToldRun, IsToldText, journal_in, history_in, with_act, with_exchange};
 ghost use Rattle.pa_model.specs.Begun.{IsUntold};
 
-use crate::acts::Acts;
+use crate::kept::Kept;
 use pa_machine::OutOfMemory;
 use pa_record::{
-    Answer, CellEntry, Entry, Held, History, PoolAct, PoolEntry, ReportLine, RootAct, Run,
+    Answer, CellEntry, Entry, Held, History, PoolAct, PoolEntry, ReportLine, RootAct, RootEntry,
+    Run,
 };
 use std::alloc::Global;
 use std::marker::Model;
@@ -13,8 +16,7 @@ use std::marker::Model;
 // What the run tells so far, and the number of the line that is played. It is seen as its lists.
 #[derive(Drop)]
 pub(crate) struct Told {
-    entries: Vec<Entry>,
-    journals: Vec<Acts>,
+    kept: Kept,
     pools: Vec<PoolEntry>,
     histories: Vec<History>,
     report: Vec<ReportLine>,
@@ -27,8 +29,8 @@ impl Model for Told {
     ghost Value = { Lists };
 
     ghost view = { λ t. record {
-      entries = t.entries.items;
-      journals = t.journals.items;
+      entries = t.kept.entries;
+      journals = t.kept.journals;
       pools = t.pools.items;
       histories = t.histories.items;
       report = t.report.items;
@@ -37,21 +39,35 @@ impl Model for Told {
 }
 
 impl Told {
-    // Nothing, before the first line. The head is line 1. Room is taken for the records of so many lines.
-    pub(crate) fn new(alloc: Global, partitions: u32, lines: usize) -> Result<Told, OutOfMemory>
+    // Nothing, before the first line. The head is line 1. Room is taken for the records of so many lines. The records and the
+    // journals are kept as lists.
+    pub(crate) fn lists(alloc: Global, partitions: u32, lines: usize) -> Result<Told, OutOfMemory>
         ensures { IfOk result (IsUntold partitions) }
     {
-        let mut journals = Vec::with_capacity(alloc, partitions as usize)?;
-        for _ in 0..partitions {
-            journals.push(Acts::new(alloc))?;
-        }
+        let kept = Kept::lists(alloc, partitions, lines)?;
+        Told::of(alloc, kept)
+    }
+
+    // The same, where they are kept as texts.
+    pub(crate) fn texts(alloc: Global, partitions: u32, lines: usize) -> Result<Told, OutOfMemory>
+        ensures { IfOk result (IsUntold partitions) }
+    {
+        let kept = Kept::texts(alloc, partitions, lines)?;
+        Told::of(alloc, kept)
+    }
+
+    // Nothing, with these, which have nothing.
+    fn of(alloc: Global, kept: Kept) -> Result<Told, OutOfMemory>
+        requires entries { kept.entries ≡ [] }
+        requires journals { (q : ℕ) → slice_index_or kept.journals q [] ≡ [] }
+        ensures { IfOk result (IsUntold (length kept.journals)) }
+    {
         let mut histories = Vec::with_capacity(alloc, 64)?;
         for _ in 0..64_u32 {
             histories.push(History::new(alloc))?;
         }
         Ok(Told {
-            entries: Vec::with_capacity(alloc, lines)?,
-            journals,
+            kept,
             pools: Vec::new(alloc),
             histories,
             report: Vec::new(alloc),
@@ -67,7 +83,7 @@ impl Told {
           line = self.old.line + 1;
         }) }
     {
-        self.entries.push(Entry {
+        self.kept.record(Entry {
             line: self.line,
             thread,
             answer,
@@ -114,10 +130,7 @@ impl Told {
         ensures after { OnOk result (self.new ≡ with_act partition (record { line = self.old.line; act = act }) self.old) }
     {
         let line = self.line;
-        let journal = &mut self.journals[partition as usize];
-        let entry = journal.entries().len() as u32;
-        journal.push(line, act)?;
-        Ok(entry)
+        self.kept.act(partition, RootEntry { line, act })
     }
 
     // An exchange with a cell on this line. Tells its place in the cell's history.
@@ -143,16 +156,22 @@ impl Told {
     pub(crate) fn into_run(self, alloc: Global) -> Result<Run, OutOfMemory>
         ensures { IfOk result (IsToldRun self) }
     {
-        let mut roots = Vec::with_capacity(alloc, self.journals.len())?;
-        for journal in self.journals {
-            roots.push(journal.into_journal())?;
-        }
+        let (entries, roots) = self.kept.into_lists(alloc)?;
         Ok(Run {
-            entries: self.entries,
+            entries,
             roots,
             pool: self.pools,
             cells: self.histories,
             report: self.report,
         })
+    }
+
+    // The text of that run.
+    pub(crate) fn into_text(self, alloc: Global) -> Result<Vec<u8>, OutOfMemory>
+        requires { (r : Run) → IsToldRun self r → IsPrintable r }
+        ensures { IfOk result (λ text. IsToldText self text.items) }
+    {
+        self.kept
+            .into_text(alloc, self.pools, self.histories, self.report)
     }
 }

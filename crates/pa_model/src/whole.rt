@@ -3,8 +3,11 @@ ghost use Rattle.pa_trace.specs.Limits.{IsWithinLimits};
 ghost use Rattle.pa_record.specs.RunText.{IsPrintable};
 ghost use Rattle.pa_rules.specs.Legal.{IsFileRun};
 ghost use Rattle.pa_core_run.specs.Playing.{HasCoreRun};
+ghost use Rattle.pa_model.specs.Begun.{IsUntold};
+ghost use Rattle.pa_model.specs.Played.{IsAllTold, IsPlayedText};
 
 use crate::player::Player;
+use crate::told::Told;
 use pa_machine::OutOfMemory;
 use pa_record::Run;
 use pa_trace::Trace;
@@ -20,16 +23,29 @@ pub fn play(alloc: Global, trace: &Trace) -> Result<Run, OutOfMemory>
     ensures core { IfOk result (HasCoreRun trace.now) }
     ensures printable { IfOk result IsPrintable }
 {
+    let told = Told::lists(alloc, trace.partitions, trace.lines.as_slice().len())?;
+    told_of(alloc, trace, told)?.into_run(alloc)
+}
+
+/// Plays a trace within the limits in the same way, and answers the text of the run, which is printed as it is played.
+pub fn play_text(alloc: Global, trace: &Trace) -> Result<Vec<u8>, OutOfMemory>
+    requires { IsWithinLimits trace.now }
+    ensures { IfOk result (λ text. IsPlayedText trace.now text.items) }
+{
+    let told = Told::texts(alloc, trace.partitions, trace.lines.as_slice().len())?;
+    told_of(alloc, trace, told)?.into_text(alloc)
+}
+
+// What the trace's lines tell, where nothing was told before.
+fn told_of(alloc: Global, trace: &Trace, told: Told) -> Result<Told, OutOfMemory>
+    requires within { IsWithinLimits trace.now }
+    requires told { IsUntold trace.now.partitions told }
+    ensures { IfOk result (IsAllTold trace.now) }
+{
     let lines = trace.lines.as_slice();
-    let mut player = Player::new(
-        alloc,
-        trace.region,
-        trace.partitions,
-        trace.threads,
-        lines.len(),
-    )?;
+    let mut player = Player::new(alloc, trace.region, trace.partitions, trace.threads, told)?;
     for line in lines {
         player.line(*line)?;
     }
-    player.finish(alloc)
+    player.finish()
 }

@@ -14,7 +14,7 @@ returns c = record {
   live = c.new-5.ensures;
   quarantined = c.new-6.ensures;
   cached = c.new-7.ensures;
-  told = c.in_ok-new-4.ensures;
+  told = c.requires.told;
   many = refl;
   phase = refl;
 }

@@ -1,6 +1,6 @@
 use Rattle.std.proofs.Common.{take}
 use Rattle.pa_model.specs.Playing.{IsPlaying}
-use Rattle.pa_model.proofs.whole.play.Given as goal
+use Rattle.pa_model.proofs.whole.told_of.Given as goal
 
 -- the first lines were played
 abbrev pub invariant-loop-line : goal.invariant-loop-line

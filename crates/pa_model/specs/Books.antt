@@ -1,0 +1,20 @@
+-- What is kept of the records and the journals, in either form.
+use Rattle.std.specs.Prelude.{List, [], ◌∷◌, ◌++◌, ℕ, slice_index_or, slice_set}
+use Rattle.pa_record.specs.declared.entry.Entry.{Entry}
+use Rattle.pa_record.specs.declared.root.RootEntry.{RootEntry}
+
+-- the records so far, and the journals by their partitions
+pub record Books : Type 0 where
+  pub entries : List Entry
+  pub journals : List (List RootEntry)
+
+-- a record more
+abbrev pub with_kept_entry : Entry → Books → Books
+with_kept_entry e b = record b { entries = b.entries ++ e ∷ [] }
+
+-- the entries of the journal of partition Q, and one more of them
+abbrev pub kept_acts : Books → ℕ → List RootEntry
+kept_acts b q = slice_index_or b.journals q []
+
+abbrev pub with_kept_act : ℕ → RootEntry → Books → Books
+with_kept_act q e b = record b { journals = slice_set b.journals q (kept_acts b q ++ e ∷ []) }

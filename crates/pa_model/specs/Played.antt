@@ -1,0 +1,21 @@
+-- What the lines of a trace tell, and its text.
+use Rattle.std.specs.Prelude.{ℕ, List}
+use Rattle.pa_trace.specs.declared.script.Trace.{Trace}
+use Rattle.pa_record.specs.declared.run.Run.{Run}
+use Rattle.pa_record.specs.RunText.{IsPrintable, IsRunText}
+use Rattle.pa_rules.specs.Legal.{IsFileRun}
+use Rattle.pa_core_run.specs.Playing.{HasCoreRun}
+use Rattle.pa_model.specs.Told.{Lists, IsToldRun}
+
+-- a run that tells these lists is the trace's run in the order of its lines, has a run of the core, and can be written as a text
+pub record IsAllTold (t : Trace) (told : Lists) : Type 0 where
+  pub file : (r : Run) → IsToldRun told r → IsFileRun t r
+  pub core : (r : Run) → IsToldRun told r → HasCoreRun t r
+  pub printable : (r : Run) → IsToldRun told r → IsPrintable r
+
+-- the text is that of the trace's run in the order of its lines, which has a run of the core
+pub record IsPlayedText (t : Trace) (text : List ℕ) : Type 0 where
+  pub run : Run
+  pub file : IsFileRun t run
+  pub core : HasCoreRun t run
+  pub printed : IsRunText run text

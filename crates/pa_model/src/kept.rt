@@ -1,0 +1,176 @@
+ghost use Rattle.std.specs.Prelude.{◌≡◌, ◌<◌, ◌^◌, [], ◌∷◌, ◌++◌, IfOk, OnOk, length, slice_index_or, slice_set};
+ghost use Rattle.pa_record.specs.declared.run.Run.{Run};
+ghost use Rattle.pa_record.specs.RunText.{IsPrintable};
+ghost use Rattle.pa_printed.specs.Whole.{HasLists, IsTextOfLists};
+ghost use Rattle.pa_model.specs.Begun.{AreEmpty};
+ghost use Rattle.pa_model.specs.Books.{kept_acts, with_kept_act, with_kept_entry};
+
+use crate::acts::Acts;
+use pa_machine::OutOfMemory;
+use pa_printed::{Journals, Records, run_text};
+use pa_record::{Entry, History, Journal, PoolEntry, ReportLine, RootEntry, Run, write_run};
+use std::alloc::Global;
+use std::marker::Model;
+
+// The records and the journals so far: as lists, or as their texts.
+#[derive(Drop)]
+enum Form {
+    Lists {
+        entries: Vec<Entry>,
+        journals: Vec<Acts>,
+    },
+    Texts {
+        records: Records,
+        journals: Journals,
+    },
+}
+
+// The same. It is seen as the lists in either form.
+#[derive(Drop)]
+pub(crate) struct Kept {
+    form: Form,
+}
+
+impl Model for Kept {
+    ghost use Rattle.pa_model.specs.Books.{Books};
+
+    ghost Value = { Books };
+
+    ghost use Rattle.pa_model.specs.Kept.{books_of};
+
+    ghost view = { λ kept. books_of kept.form };
+}
+
+impl Kept {
+    // No records, and so many journals with no entries, as lists. Room is taken for the records of so many lines.
+    pub(crate) fn lists(alloc: Global, partitions: u32, lines: usize) -> Result<Kept, OutOfMemory>
+        ensures entries { IfOk result (λ kept. kept.entries ≡ []) }
+        ensures journals { IfOk result (λ kept. AreEmpty partitions kept.journals) }
+    {
+        let mut journals = Vec::with_capacity(alloc, partitions as usize)?;
+        for _ in 0..partitions {
+            journals.push(Acts::new(alloc))?;
+        }
+        let form = Form::Lists {
+            entries: Vec::with_capacity(alloc, lines)?,
+            journals,
+        };
+        Ok(Kept { form })
+    }
+
+    // The same as texts.
+    pub(crate) fn texts(alloc: Global, partitions: u32, lines: usize) -> Result<Kept, OutOfMemory>
+        ensures entries { IfOk result (λ kept. kept.entries ≡ []) }
+        ensures journals { IfOk result (λ kept. AreEmpty partitions kept.journals) }
+    {
+        let form = Form::Texts {
+            records: Records::new(alloc, lines)?,
+            journals: Journals::new(alloc, partitions)?,
+        };
+        Ok(Kept { form })
+    }
+
+    // A record more.
+    pub(crate) fn record(&mut self, entry: Entry) -> Result<(), OutOfMemory>
+        ensures { OnOk result (self.new ≡ with_kept_entry entry self.old) }
+    {
+        match &mut self.form {
+            Form::Lists { entries, .. } => {
+                entries.push(entry)?;
+                Ok(())
+            }
+            Form::Texts { records, .. } => records.push(entry),
+        }
+    }
+
+    // An entry more of a partition's journal. Tells its place there.
+    pub(crate) fn act(&mut self, partition: u32, entry: RootEntry) -> Result<u32, OutOfMemory>
+        requires partition { partition < length self.old.journals }
+        requires few { length (kept_acts self.old partition) < 2 ^ 32 }
+        ensures place { IfOk result (λ place. place ≡ length (kept_acts self.old partition)) }
+        ensures after { OnOk result (self.new ≡ with_kept_act partition entry self.old) }
+    {
+        match &mut self.form {
+            Form::Lists { journals, .. } => push_act(journals, partition, entry),
+            Form::Texts { journals, .. } => journals.push(partition, entry),
+        }
+    }
+
+    // The lists. Where texts were kept there are none, which is told as want of memory.
+    pub(crate) fn into_lists(self, alloc: Global) -> Result<(Vec<Entry>, Vec<Journal>), OutOfMemory>
+        ensures entries { IfOk result (λ lists. lists.0.items ≡ self.entries) }
+        ensures journals { IfOk result (λ lists. lists.1.items ≡ self.journals) }
+    {
+        match self.form {
+            Form::Lists { entries, journals } => Ok((entries, journals_of(alloc, journals)?)),
+            Form::Texts { .. } => Err(OutOfMemory),
+        }
+    }
+
+    // The text of the run with these records and journals, and with what else it tells.
+    pub(crate) fn into_text(
+        self,
+        alloc: Global,
+        pool: Vec<PoolEntry>,
+        cells: Vec<History>,
+        report: Vec<ReportLine>,
+    ) -> Result<Vec<u8>, OutOfMemory>
+        requires { (r : Run) → HasLists self.entries self.journals pool.items cells.items report.items r → IsPrintable r }
+        ensures { IfOk result (λ text. IsTextOfLists self.entries self.journals pool.items cells.items report.items text.items) }
+    {
+        match self.form {
+            Form::Lists { entries, journals } => {
+                write_lists(alloc, entries, journals, pool, cells, report)
+            }
+            Form::Texts { records, journals } => run_text(records, journals, pool, cells, report),
+        }
+    }
+}
+
+// An entry more of a partition's journal. Tells its place there.
+fn push_act(journals: &mut Vec<Acts>, partition: u32, entry: RootEntry) -> Result<u32, OutOfMemory>
+    requires partition { partition < length journals.old.items }
+    requires few { length (slice_index_or journals.old.items partition []) < 2 ^ 32 }
+    ensures place { IfOk result (λ place. place ≡ length (slice_index_or journals.old.items partition [])) }
+    ensures after { OnOk result (journals.new.items ≡
+        slice_set journals.old.items partition (slice_index_or journals.old.items partition [] ++ entry ∷ [])) }
+{
+    let journal = &mut journals[partition as usize];
+    let place = journal.entries().len() as u32;
+    journal.push(entry)?;
+    Ok(place)
+}
+
+// The text of the run with these records and journals, and with what else it tells.
+fn write_lists(
+    alloc: Global,
+    entries: Vec<Entry>,
+    journals: Vec<Acts>,
+    pool: Vec<PoolEntry>,
+    cells: Vec<History>,
+    report: Vec<ReportLine>,
+) -> Result<Vec<u8>, OutOfMemory>
+    requires { (r : Run) → HasLists entries.items journals.items pool.items cells.items report.items r → IsPrintable r }
+    ensures { IfOk result (λ text. IsTextOfLists entries.items journals.items pool.items cells.items report.items text.items) }
+{
+    let roots = journals_of(alloc, journals)?;
+    let run = Run {
+        entries,
+        roots,
+        pool,
+        cells,
+        report,
+    };
+    write_run(alloc, &run)
+}
+
+// The journals.
+fn journals_of(alloc: Global, acts: Vec<Acts>) -> Result<Vec<Journal>, OutOfMemory>
+    ensures { IfOk result (λ journals. journals.items ≡ acts.items) }
+{
+    let mut journals = Vec::with_capacity(alloc, acts.len())?;
+    for journal in acts {
+        journals.push(journal.into_journal())?;
+    }
+    Ok(journals)
+}
