@@ -29,9 +29,8 @@ use Rattle.pa_verdict.proofs.Simple.{lines_are_places}
 use Rattle.pa_verdict.proofs.Pool.{pool_is_places}
 use Rattle.pa_verdict.proofs.Journals.{roots_are_places}
 use Rattle.pa_audit_records.specs.Rows.{IsPlayedWithin}
-use Rattle.pa_audit_records.proofs.Rising.{records_are_within}
-use Rattle.pa_audit_order.specs.Steps.{NeverFallsBack}
-use Rattle.pa_audit_order.proofs.Falling.{never_fall_back}
+use Rattle.pa_audit_records.proofs.Rising.{phased_played, records_are_within}
+use Rattle.pa_audit_records.specs.Cuts.{RiseByPhase}
 use Rattle.pa_audit_heap.specs.Ordered.{AreOfThreads16}
 use Rattle.pa_audit_heap.specs.Replayed.{DoAllFit}
 use Rattle.pa_audit_heap.proofs.Rising.{due_have_lines}
@@ -46,8 +45,8 @@ use Rattle.pa_audit.proofs.Placing.{AsksThere}
 pub all_within : (t : Trace) (r : Run) (ps : List Played) → AreRecordsOf t r ps → IsWithinLimits t → All IsPlayedWithin ps
 all_within t r ps same limits = subst (λ qs. All IsPlayedWithin qs) (sym same) (records_are_within t r.entries.items limits)
 
-pub phases_rise : (t : Trace) (r : Run) (ps : List Played) → AreRecordsOf t r ps → NeverFallsBack ps
-phases_rise t r ps same = subst NeverFallsBack (sym same) (never_fall_back t.lines r.entries.items)
+pub phases_rise : (t : Trace) (r : Run) (ps : List Played) → AreRecordsOf t r ps → RiseByPhase ps
+phases_rise t r ps same = subst RiseByPhase (sym same) (phased_played t.lines r.entries.items)
 
 pub are_due : (t : Trace) (r : Run) → Holds clauses.Lines t r → AreDue t.lines r.entries.items
 are_due t r holds = (lines_are_places t (told_by r)).1 holds

@@ -2,4 +2,5 @@ pub mod Lining
 pub mod Placing
 pub mod Telling
 pub mod Granted
+pub mod Knowing
 pub mod Shortness

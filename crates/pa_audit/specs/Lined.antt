@@ -6,10 +6,13 @@ use Rattle.pa_record.specs.declared.run.Run.{Run}
 use Rattle.pa_record.specs.RunText.{IsPrintable}
 use Rattle.pa_rules.specs.declared.played.Played.{Played}
 use Rattle.pa_rules.specs.declared.verdict.Clause.{Clause}
+use Rattle.pa_rules.specs.declared.verdict.Clause.TheVariants as clauses
 use Rattle.pa_rules.specs.Places.{report_at}
 use Rattle.pa_rules.specs.Rising.{RiseByLine}
 use Rattle.pa_rules.specs.Verdicts.{FailsAt, Holds, turn}
 use Rattle.pa_audit_report.specs.Given.{AreRecordsOf}
+use Rattle.pa_audit_report.specs.Known.{KnowsCensuses, KnowsEnds, KnowsLists}
+use Rattle.pa_audit_report.specs.declared.known.Known.{Known}
 
 -- nothing: the clause holds; a line: it is the first at which it fails
 abbrev pub TellsLine : Clause → Trace → Run → Option ℕ → Type 0
@@ -34,3 +37,10 @@ pub record CanBeAudited (c : Clause) (t : Trace) (r : Run) (ps : List Played) : 
   pub few : length ps < 65536
   pub rising : RiseByLine ps
   pub before : HoldBefore c t r
+
+-- What is known for the report before the clause of that turn is tested: where each phase ends; behind the clause of the roots what these
+-- have, and behind that of the caches what the lists have.
+pub record KnowsBefore (n : ℕ) (t : Trace) (r : Run) (ps : List Played) (k : Known) : Type 0 where
+  pub ends : KnowsEnds t ps k
+  pub censuses : turn clauses.Roots < n → KnowsCensuses t r ps k
+  pub lists : turn clauses.Caches < n → KnowsLists t r ps k

@@ -1,8 +1,10 @@
-ghost use Rattle.std.specs.Prelude.{◌≡◌, ◌<◌, IfOk};
+ghost use Rattle.std.specs.Prelude.{◌≡◌, ◌+◌, ◌<◌, IfOk, None};
 ghost use Rattle.pa_trace.specs.Limits.{IsWithinLimits};
 ghost use Rattle.pa_record.specs.RunText.{IsPrintable};
 ghost use Rattle.pa_rules.specs.Verdicts.{IsVerdict, turn};
-ghost use Rattle.pa_audit.specs.Lined.{CanBeAudited, HasLines32, TellsLine};
+ghost use Rattle.pa_audit_records.specs.Cuts.{RiseByPhase};
+ghost use Rattle.pa_audit_report.specs.Known.{KnowsEnds};
+ghost use Rattle.pa_audit.specs.Lined.{CanBeAudited, HasLines32, KnowsBefore, TellsLine};
 
 use crate::cells::cells_fail;
 use crate::heap::{pool_fails, roots_fail};
@@ -10,7 +12,8 @@ use crate::holders::{caches_fail, holders_fail};
 use crate::order::{contents_fail, seen_fails};
 use crate::records::{lines_fail, registers_fail, slots_fail};
 use crate::report::report_fails;
-use pa_audit_records::{Salt, records_of};
+use pa_audit_records::{ByKey, Salt, phases_in, record_ends, records_of};
+use pa_audit_report::Known;
 use pa_machine::OutOfMemory;
 use pa_record::Run;
 use pa_rules::{Clause, Played, Verdict};
@@ -31,15 +34,44 @@ pub fn audit(alloc: Global, trace: &Trace, run: &Run) -> Result<Verdict, OutOfMe
 {
     let records = records_of(alloc, trace.lines.as_slice(), run.entries.as_slice())?;
     let salt = Salt::of(records.as_slice(), run.roots.as_slice());
+    let mut known = known_at_first(alloc, salt, trace, records.as_slice())?;
     for at in 0..CLAUSES {
         let clause = clause_of(at);
-        match clause_fails(alloc, salt, trace, run, records.as_slice(), clause)? {
+        match clause_fails(
+            alloc,
+            salt,
+            trace,
+            run,
+            records.as_slice(),
+            &mut known,
+            clause,
+        )? {
             Some(line) => return Ok(Verdict::Broken(clause, line)),
             None => {}
         }
     }
     legal_is();
     Ok(Verdict::Legal)
+}
+
+// What is known for the report before any clause was tested.
+fn known_at_first(
+    alloc: Global,
+    salt: Salt,
+    trace: &Trace,
+    records: &[Played],
+) -> Result<Known, OutOfMemory>
+    requires limits { IsWithinLimits trace.now }
+    requires rising { RiseByPhase records.now }
+    ensures { IfOk result (λ known. KnowsEnds trace.now records.now known) }
+{
+    let ends = record_ends(alloc, records, phases_in(trace.lines.as_slice()))?;
+    Ok(Known {
+        ends,
+        homes: ByKey::new(alloc, salt),
+        cached: Vec::new(alloc),
+        censuses: Vec::new(alloc),
+    })
 }
 
 // The clause of a turn.
@@ -63,17 +95,20 @@ fn clause_of(at: u32) -> Clause
     }
 }
 
-// The first line at which a clause fails, where those before it hold.
+// The first line at which a clause fails, where those before it hold. Where it doesn't, what it leaves for the report is known.
 fn clause_fails(
     alloc: Global,
     salt: Salt,
     trace: &Trace,
     run: &Run,
     records: &[Played],
+    known: &mut Known,
     clause: Clause,
 ) -> Result<Option<u32>, OutOfMemory>
-    requires { CanBeAudited clause trace.now run.now records.now }
-    ensures { IfOk result (TellsLine clause trace.now run.now) }
+    requires can { CanBeAudited clause trace.now run.now records.now }
+    requires known { KnowsBefore (turn clause) trace.now run.now records.now known.old }
+    ensures line { IfOk result (TellsLine clause trace.now run.now) }
+    ensures known { IfOk result (λ line. line ≡ None → KnowsBefore (turn clause + 1) trace.now run.now records.now known.new) }
 {
     match clause {
         Clause::Lines => Ok(lines_fail(trace, run)),
@@ -82,14 +117,14 @@ fn clause_fails(
         Clause::Slots => slots_fail(alloc, salt, trace, run, records),
         Clause::Contents => contents_fail(alloc, trace, run, records),
         Clause::Pool => pool_fails(alloc, trace, run, records),
-        Clause::Roots => roots_fail(alloc, trace, run, records),
+        Clause::Roots => roots_fail(alloc, trace, run, records, known),
         Clause::Titles => {
             titles_never_fail();
             Ok(None)
         }
         Clause::Holders => holders_fail(alloc, salt, trace, run, records),
-        Clause::Caches => caches_fail(alloc, salt, trace, run, records),
+        Clause::Caches => caches_fail(alloc, salt, trace, run, records, known),
         Clause::Seen => seen_fails(alloc, salt, trace, run, records),
-        Clause::Report => report_fails(alloc, salt, trace, run, records),
+        Clause::Report => report_fails(alloc, trace, run, records, known),
     }
 }

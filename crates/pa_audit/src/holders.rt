@@ -1,11 +1,13 @@
-ghost use Rattle.std.specs.Prelude.{IfOk};
+ghost use Rattle.std.specs.Prelude.{◌≡◌, IfOk, None};
 ghost use Rattle.pa_rules.specs.declared.verdict.Clause.TheVariants as clauses;
+ghost use Rattle.pa_audit_report.specs.Known.{KnowsEnds, KnowsLists};
 ghost use Rattle.pa_audit.specs.Lined.{CanBeAudited, TellsLine};
 
 use crate::places::line_where;
 use crate::records::record_line;
-use pa_audit_holders::{caches_meet, holders_meet};
+use pa_audit_holders::{caches_meet, holders_meet, homes_of};
 use pa_audit_records::Salt;
+use pa_audit_report::Known;
 use pa_machine::OutOfMemory;
 use pa_record::Run;
 use pa_rules::Played;
@@ -27,17 +29,33 @@ pub fn holders_fail(
     Ok(line_where(run, place))
 }
 
-/// The first line at which the threads' lists of free slots ask for another answer or for other entries.
+/// The first line at which the threads' lists of free slots ask for another answer or for other entries. Where there is none, it is
+/// known what the lists have at the end of each phase, and where slots belong.
 pub fn caches_fail(
     alloc: Global,
     salt: Salt,
     trace: &Trace,
     run: &Run,
     records: &[Played],
+    known: &mut Known,
 ) -> Result<Option<u32>, OutOfMemory>
-    requires { CanBeAudited clauses.Caches trace.now run.now records.now }
-    ensures { IfOk result (TellsLine clauses.Caches trace.now run.now) }
+    requires can { CanBeAudited clauses.Caches trace.now run.now records.now }
+    requires ends { KnowsEnds trace.now records.now known.old }
+    ensures line { IfOk result (TellsLine clauses.Caches trace.now run.now) }
+    ensures lists { IfOk result (λ line. line ≡ None → KnowsLists trace.now run.now records.now known.new) }
+    ensures ends { known.new.ends.items ≡ known.old.ends.items }
+    ensures censuses { known.new.censuses.items ≡ known.old.censuses.items }
 {
-    let at = caches_meet(alloc, salt, trace.partitions, records, run.roots.as_slice())?;
-    Ok(record_line(at))
+    known.homes = homes_of(alloc, salt, run.roots.as_slice())?;
+    let found = caches_meet(
+        alloc,
+        trace.partitions,
+        trace.threads,
+        records,
+        known.ends.as_slice(),
+        run.roots.as_slice(),
+        &known.homes,
+    )?;
+    known.cached = found.cached;
+    Ok(record_line(found.misfit))
 }

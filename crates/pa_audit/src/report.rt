@@ -2,11 +2,11 @@ ghost use Rattle.std.specs.Prelude.{◌≡◌, IfOk};
 ghost use Rattle.std.specs.Option.{option_map};
 ghost use Rattle.pa_rules.specs.declared.verdict.Clause.TheVariants as clauses;
 ghost use Rattle.pa_rules.specs.declared.verdict.Place.TheVariants as places;
-ghost use Rattle.pa_audit.specs.Lined.{CanBeAudited, TellsLine};
+ghost use Rattle.pa_rules.specs.Verdicts.{turn};
+ghost use Rattle.pa_audit.specs.Lined.{CanBeAudited, KnowsBefore, TellsLine};
 
 use crate::places::line_where;
-use pa_audit_records::Salt;
-use pa_audit_report::report_meets;
+use pa_audit_report::{Known, report_meets};
 use pa_machine::OutOfMemory;
 use pa_record::Run;
 use pa_rules::{Place, Played};
@@ -17,15 +17,16 @@ use std::alloc::Global;
 /// missing.
 pub fn report_fails(
     alloc: Global,
-    salt: Salt,
     trace: &Trace,
     run: &Run,
     records: &[Played],
+    known: &Known,
 ) -> Result<Option<u32>, OutOfMemory>
-    requires { CanBeAudited clauses.Report trace.now run.now records.now }
+    requires can { CanBeAudited clauses.Report trace.now run.now records.now }
+    requires known { KnowsBefore (turn clauses.Report) trace.now run.now records.now known.now }
     ensures { IfOk result (TellsLine clauses.Report trace.now run.now) }
 {
-    let at = report_meets(alloc, salt, trace, run, records)?;
+    let at = report_meets(alloc, trace, run, records, known)?;
     Ok(line_where(run, report_place(at)))
 }
 

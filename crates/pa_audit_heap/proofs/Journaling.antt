@@ -1,5 +1,5 @@
 -- The entries of a journal in turn.
-use Rattle.std.proofs.Common.{◌≡◌, ℕ, ◌+◌, ◌<◌, ◌≤◌, ◌⊎◌, List, [], ◌∷◌, length, take, Option, Some, None, refl, sym, ◌∙◌, ap, subst, arith, inl, inr}
+use Rattle.std.proofs.Common.{◌≡◌, ℕ, ◌+◌, ◌<◌, ◌≤◌, ◌⊎◌, List, length, take, Option, Some, None, refl, sym, ◌∙◌, ap, subst, arith, inl, inr}
 use Rattle.std.specs.Prelude.{slice_get}
 use Rattle.std.proofs.lemmas.Bool.{cases_lt}
 use Rattle.pa_direct.proofs.Serving.{Serves-of}
@@ -17,12 +17,11 @@ use Rattle.pa_record.proofs.Replaying.{replayed_push}
 use Rattle.pa_rules.specs.declared.played.Played.{Played}
 use Rattle.pa_rules.specs.declared.verdict.Place.TheVariants as places
 use Rattle.pa_rules.specs.Roots.{Journals, IsEntry, MakesEntry, journal_at}
-use Rattle.pa_rules.specs.HeapDemands.{RootsDemand}
+use Rattle.pa_rules.specs.HeapDemands.{EntryFits, RootsDemand}
 use Rattle.pa_audit_heap.specs.declared.replay.Replay.{Replay}
-use Rattle.pa_audit_heap.specs.Parts.{FitsRoot, FitsRootAt, IsOfTrace, ComesInJournal}
 use Rattle.pa_audit_heap.specs.Replayed.{HasMapSize, IsPlayedBy}
 use Rattle.pa_audit_heap.specs.Replaying.{HasAsked, IsReplayed}
-use Rattle.pa_audit_heap.proofs.Listed.{front_more, one_there, none_past, map_place}
+use Rattle.pa_audit_heap.proofs.Listed.{front_more, one_there, none_past}
 use Rattle.pa_rules.specs.Tells.{TellsFirst}
 use Rattle.pa_audit_heap.specs.Tells.{TellsEntry}
 use Rattle.pa_audit_heap.proofs.Naming.{all_journals}
@@ -121,39 +120,26 @@ not_rises supers pools roots p i e r least (Some b) h asks low rises = elim h.re
       low (omega arith)
 ]
 
--- the parts of what the clause asks of an entry
-pub entry_parts : (partitions : ℕ) (ps : List Played) (pools : List PoolEntry) (roots : Journals) (p j : ℕ) → IsOfTrace partitions roots p j × (FitsRootAt ps pools roots p j × ComesInJournal ps roots p j)
-    → RootsDemand partitions ps pools roots (places.Root p j)
-entry_parts partitions ps pools roots p j (of_trace, both) e is = record {
-  partition = of_trace e is;
-  fits = (both.0 e is).fits;
-  rises = (both.0 e is).rises;
-  line = (both.0 e is).line;
-  order = both.1;
-}
+-- an entry that meets its clause, as the walk over its journal tells it
+pub meets_here : (partitions : ℕ) (ps : List Played) (pools : List PoolEntry) (es : List RootEntry) (p j : ℕ) (e : RootEntry) → slice_get es j ≡ Some e → EntryFits partitions ps pools (λ q. es) p j e
+    → RootsDemand partitions ps pools (λ q. es) (places.Root p j)
+meets_here partitions ps pools es p j e at fits d at' = subst (EntryFits partitions ps pools (λ q. es) p j) (one_there es j e d at at') fits
 
-comes_in : (partitions : ℕ) (ps : List Played) (pools : List PoolEntry) (roots : Journals) (p j : ℕ) → RootsDemand partitions ps pools roots (places.Root p j) → ComesInJournal ps roots p j
-comes_in partitions ps pools roots p j demand i m n x y at at' =
-    let (e, there, same) = map_place (λ (e : RootEntry). e.line) (roots p) j n at' in
-    (demand e there).order i m n x y at at'
+-- the clause speaks of one journal
+pub meets_among : (partitions : ℕ) (ps : List Played) (pools : List PoolEntry) (roots : Journals) (es : List RootEntry) (p j : ℕ) → es ≡ roots p
+    → RootsDemand partitions ps pools (λ q. es) (places.Root p j) → RootsDemand partitions ps pools roots (places.Root p j)
+meets_among partitions ps pools roots es p j same demand e is =
+    let fits = subst (λ (xs : List RootEntry). RootsDemand partitions ps pools (λ q. xs) (places.Root p j)) same demand e is in
+    record { partition = fits.partition; fits = fits.fits; rises = fits.rises; line = fits.line; order = fits.order }
 
-pub parts_of : (partitions : ℕ) (ps : List Played) (pools : List PoolEntry) (roots : Journals) (p j : ℕ) → RootsDemand partitions ps pools roots (places.Root p j)
-    → IsOfTrace partitions roots p j × (FitsRootAt ps pools roots p j × ComesInJournal ps roots p j)
-parts_of partitions ps pools roots p j demand = (
-  λ e is. (demand e is).partition,
-  (λ e is. record { fits = (demand e is).fits; rises = (demand e is).rises; line = (demand e is).line }, comes_in partitions ps pools roots p j demand),
-)
+pub meets_alone : (partitions : ℕ) (ps : List Played) (pools : List PoolEntry) (roots : Journals) (es : List RootEntry) (p j : ℕ) → es ≡ roots p
+    → RootsDemand partitions ps pools roots (places.Root p j) → RootsDemand partitions ps pools (λ q. es) (places.Root p j)
+meets_alone partitions ps pools roots es p j same demand =
+    subst (λ (xs : List RootEntry). RootsDemand partitions ps pools (λ q. xs) (places.Root p j)) (sym same)
+    (λ e is. let fits = demand e is in record { partition = fits.partition; fits = fits.fits; rises = fits.rises; line = fits.line; order = fits.order })
 
-pub fits_at : (ps : List Played) (pools : List PoolEntry) (roots : Journals) (p j : ℕ) (e : RootEntry) → IsEntry roots p j e → FitsRoot ps pools roots p j e → FitsRootAt ps pools roots p j
-fits_at ps pools roots p j e is fits d is' = subst (FitsRoot ps pools roots p j) (one_there (roots p) j e d is is') fits
-
-pub fits_behind : (ps : List Played) (pools : List PoolEntry) (roots : Journals) (p j : ℕ) → length (roots p) ≤ j → FitsRootAt ps pools roots p j
-fits_behind ps pools roots p j past e is = absurd (none_past (roots p) j e past is)
-
--- a list whose first place is empty has no member
-pub none_first : {A : Type 0} (xs : List A) (i : ℕ) (x : A) → None ≡ slice_get xs 0 → slice_get xs i ≡ Some x → ⊥
-none_first [] i x none at = not_some x at
-none_first (y ∷ ys) i x none at = not_some y none
+pub meets_past : (partitions : ℕ) (ps : List Played) (pools : List PoolEntry) (roots : Journals) (p j : ℕ) → length (roots p) ≤ j → RootsDemand partitions ps pools roots (places.Root p j)
+meets_past partitions ps pools roots p j past e is = absurd (none_past (roots p) j e past is)
 
 -- a journal behind the last one has no entry
 pub none_behind : (partitions : ℕ) (ps : List Played) (pools : List PoolEntry) (roots : List (List RootEntry)) (p j : ℕ) → length roots ≤ p

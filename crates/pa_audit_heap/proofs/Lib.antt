@@ -1,6 +1,6 @@
 pub mod Listed
 pub mod Telling
-pub mod Halving
+pub mod Looking
 pub mod Ordering
 pub mod Naming
 pub mod Playing
@@ -9,3 +9,5 @@ pub mod SlotNames
 pub mod Refusing
 pub mod Journaling
 pub mod Rising
+pub mod Counting
+pub mod Walking

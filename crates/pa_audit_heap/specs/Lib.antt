@@ -4,4 +4,7 @@ pub mod Namings
 pub mod Parts
 pub mod Replayed
 pub mod Replaying
+pub mod Censuses
+pub mod Walking
+pub mod Found
 pub mod Laws

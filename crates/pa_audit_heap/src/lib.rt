@@ -2,6 +2,7 @@
 //! isn't met, or that there is none.
 #![tactic(auto)]
 
+mod censuses;
 mod first;
 mod laws;
 mod lookup;
@@ -10,15 +11,19 @@ mod namings;
 mod order;
 mod pool;
 mod pool_acts;
+#[cfg(test)]
+mod purge_tests;
 mod refusals;
 mod replay;
 mod roots;
 #[cfg(test)]
 mod tests;
+mod walk;
 
+pub use censuses::Censuses;
 pub use laws::records_have_lines;
 pub use lookup::record_of;
 pub use pool::pool_meets;
 pub use refusals::refusals_meet;
 pub use replay::Replay;
-pub use roots::journals_meet;
+pub use roots::{JournalsFound, journals_meet};

@@ -3,35 +3,15 @@ ghost use Rattle.pa_buckets.specs.Classes.{IsClassOf};
 ghost use Rattle.pa_direct.specs.Shapes.{shape_of};
 ghost use Rattle.pa_record.specs.Pool.{FoundNone};
 ghost use Rattle.pa_rules.specs.Roots.{AsksForClass, AsksForMap, IsFreeing, MakesEntry, MakesFull};
-ghost use Rattle.pa_rules.specs.Rising.{RiseByLine};
-ghost use Rattle.pa_audit_heap.specs.Parts.{IsMadeByLine};
 
-use crate::lookup::record_of;
 use crate::pool_acts::found_none;
 use pa_buckets::{Class, class_of, raw_of};
 use pa_direct::{GREATEST_SIZE, shape};
-use pa_record::{PoolEntry, RootAct, RootEntry};
-use pa_rules::Played;
+use pa_record::{PoolEntry, RootAct};
 use pa_trace::Op;
 
-// Whether the op of the entry's line makes it.
-pub(crate) fn is_made(
-    records: &[Played],
-    pools: &[PoolEntry],
-    partition: u32,
-    entry: &RootEntry,
-) -> bool
-    requires rising { RiseByLine records.now }
-    ensures { IsTrue result ↔ IsMadeByLine records.now pools.now partition entry.now }
-{
-    match record_of(records, entry.line) {
-        Some(found) => makes_entry(pools, partition, &entry.act, found.op),
-        None => false,
-    }
-}
-
 // Whether the op makes such an entry of the partition's journal.
-fn makes_entry(pools: &[PoolEntry], partition: u32, act: &RootAct, op: Op) -> bool
+pub(crate) fn makes_entry(pools: &[PoolEntry], partition: u32, act: &RootAct, op: Op) -> bool
     ensures { IsTrue result ↔ MakesEntry pools.now partition act.now op }
 {
     match act {

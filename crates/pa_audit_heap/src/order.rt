@@ -1,4 +1,4 @@
-ghost use Rattle.std.specs.Prelude.{◌≡◌, ℕ, ◌<◌, ◌↔◌, IsTrue, List};
+ghost use Rattle.std.specs.Prelude.{◌≡◌, ℕ, ◌<◌, ◌^◌, ◌↔◌, IsTrue, List, length};
 ghost use Rattle.pa_rules.specs.declared.played.Played.{Played as Record};
 ghost use Rattle.pa_audit_heap.specs.Ordered.{AreOfThreads16, IsBehind, entered_by, Admits, HasSeen};
 ghost use Rattle.pa_rules.specs.Rising.{RiseByLine};
@@ -29,6 +29,7 @@ impl Order {
 
     // Whether an entry on this line comes in order behind those so far. Where it does it is the last one from then on.
     pub(crate) fn admits(&mut self, records: &[Played], line: u32) -> bool
+        requires records { length records.now < 2 ^ 32 }
         requires rising { RiseByLine records.now }
         requires threads { AreOfThreads16 records.now }
         ensures { Admits records.now line self.old self.new result }
@@ -40,7 +41,7 @@ impl Order {
     }
 
     // Whether the record is behind the last one. Where it is it is the last one from then on.
-    fn enter(&mut self, found: Played) -> bool
+    pub(crate) fn enter(&mut self, found: Played) -> bool
         requires { found.thread < 16 }
         ensures behind { IsTrue result ↔ IsBehind self.old found }
         ensures entered { IsTrue result → self.new ≡ entered_by found self.old }

@@ -29,6 +29,7 @@ pub fn pool_meets(
     roots: &[Journal],
 ) -> Result<Option<u32>, OutOfMemory>
     requires supers { supers ≤ 64 }
+    requires records { length records.now < 2 ^ 32 }
     requires rising { RiseByLine records.now }
     requires threads { AreOfThreads16 records.now }
     requires few { length pools.now < 2 ^ 32 - 1 }
@@ -129,6 +130,7 @@ fn is_named(naming: Naming, entry: PoolEntry) -> bool
 
 // The first entry before which one stands that stands behind it.
 fn come_in_order(records: &[Played], pools: &[PoolEntry]) -> Option<u32>
+    requires records { length records.now < 2 ^ 32 }
     requires rising { RiseByLine records.now }
     requires threads { AreOfThreads16 records.now }
     requires few { length pools.now < 2 ^ 32 - 1 }

@@ -1,12 +1,13 @@
-ghost use Rattle.std.specs.Prelude.{◌≡◌, ℕ, ◌<◌, ◌^◌, IsTrue, length};
+ghost use Rattle.std.specs.Prelude.{◌≡◌, ℕ, ◌<◌, ◌≤◌, ◌^◌, IsTrue, length};
 ghost use Rattle.pa_rules.specs.Roots.{journal_at};
 ghost use Rattle.pa_audit_heap.specs.Ordered.{AreOfThreads16};
 ghost use Rattle.pa_rules.specs.Rising.{RiseByLine};
 
-use crate::{journals_meet, pool_meets, refusals_meet};
-use pa_buckets::Class;
+use crate::{JournalsFound, journals_meet, pool_meets, refusals_meet};
 use pa_machine::{OutOfMemory, SlotName, Word};
-use pa_record::{Answer, Batch, Journal, Numbered, PoolAct, PoolEntry, RootAct, RootEntry, Seen};
+use pa_record::{
+    Answer, Census, Journal, Numbered, PoolAct, PoolEntry, RootAct, RootEntry, Seen, Tally,
+};
 use pa_rules::Played;
 use pa_trace::Op;
 use std::alloc::Global;
@@ -14,7 +15,7 @@ use std::test::Fail;
 
 // What the checkers tell, one clause after another: the first place that doesn't meet its demand.
 #[derive(Clone, Copy, Debug, PartialEq, Eq)]
-enum First {
+pub(crate) enum First {
     Nowhere,
     Pool(u32),
     Record(u32),
@@ -23,7 +24,7 @@ enum First {
     Unfit,
 }
 
-fn first_of(
+pub(crate) fn first_of(
     alloc: Global,
     supers: u32,
     partitions: u32,
@@ -31,20 +32,37 @@ fn first_of(
     pools: &[PoolEntry],
     roots: &[Journal],
 ) -> Result<First, OutOfMemory> {
+    match journals_of(alloc, supers, partitions, 1, records, pools, roots)? {
+        Ok(found) => match found.misfit {
+            Some((partition, at)) => Ok(First::Root(partition, at)),
+            None => Ok(First::Nowhere),
+        },
+        Err(first) => Ok(first),
+    }
+}
+
+// What the walk over the journals finds, where the clauses before it hold.
+fn journals_of(
+    alloc: Global,
+    supers: u32,
+    partitions: u32,
+    phases: u32,
+    records: &[Played],
+    pools: &[PoolEntry],
+    roots: &[Journal],
+) -> Result<Result<JournalsFound, First>, OutOfMemory> {
     let few = supers <= 64 && records.len() < 1000 && pools.len() < 1000 && roots.len() < 1000;
-    if !few || !are_rising(records) || !are_short(roots) {
-        return Ok(First::Unfit);
+    if !few || phases >= 1000 || !are_rising(records) || !are_short(roots) {
+        return Ok(Err(First::Unfit));
     }
     if let Some(at) = pool_meets(alloc, supers, records, pools, roots)? {
-        return Ok(First::Pool(at));
+        return Ok(Err(First::Pool(at)));
     }
     if let Some(at) = refusals_meet(records, roots) {
-        return Ok(First::Record(at));
+        return Ok(Err(First::Record(at)));
     }
-    match journals_meet(alloc, supers, partitions, records, pools, roots)? {
-        Some((partition, at)) => Ok(First::Root(partition, at)),
-        None => Ok(First::Nowhere),
-    }
+    let found = journals_meet(alloc, supers, partitions, phases, records, pools, roots)?;
+    Ok(Ok(found))
 }
 
 // Whether the lines of the records rise, and their threads are below 16.
@@ -78,13 +96,13 @@ fn name(start: u32, born: u32) -> SlotName {
     SlotName { start, born }
 }
 
-fn numbered(start: u32, born: u32, number: u64) -> Numbered {
+pub(crate) fn numbered(start: u32, born: u32, number: u64) -> Numbered {
     let slot = name(start, born);
     Numbered { slot, number }
 }
 
 // A record of thread 0 in phase 1.
-fn record(line: u32, op: Op, answer: Answer) -> Played {
+pub(crate) fn record(line: u32, op: Op, answer: Answer) -> Played {
     Played {
         line,
         thread: 0,
@@ -94,7 +112,7 @@ fn record(line: u32, op: Op, answer: Answer) -> Played {
     }
 }
 
-fn seen(start: u32, born: u32, word: u64) -> Seen {
+pub(crate) fn seen(start: u32, born: u32, word: u64) -> Seen {
     let slot = name(start, born);
     let found = Word(word);
     Seen { slot, found }
@@ -110,7 +128,7 @@ fn pool(line: u32, act: PoolAct) -> PoolEntry {
     }
 }
 
-fn took(line: u32, first: Option<u32>) -> PoolEntry {
+pub(crate) fn took(line: u32, first: Option<u32>) -> PoolEntry {
     pool(line, PoolAct::Take { count: 1, first })
 }
 
@@ -124,7 +142,7 @@ const MAP: Op = Op::Alloc {
     size: 2000000,
 };
 
-const FREE: Op = Op::Free { reg: 0 };
+pub(crate) const FREE: Op = Op::Free { reg: 0 };
 
 // The worked run of direct maps in one super page: a map that is freed, one that a raw_ptr holds while another finds no room,
 // and one after that.
@@ -203,6 +221,47 @@ fn direct_maps_meet_all(rt: HostRuntime) -> Result<(), Fail> {
     Ok(())
 }
 
+// What a root has that has so many direct maps of the worked run.
+fn with_maps(maps: u64) -> Census
+    requires { maps ≤ 1 }
+{
+    Census {
+        root: Tally { slots: 0, bytes: 0 },
+        committed: 2002944 * maps,
+        reserved: 2097152 * maps,
+        full: 0,
+        active: 0,
+        empty: 0,
+        decommitted: 0,
+    }
+}
+
+// Its censuses, where the phases end behind the lines 3, 7, 8 and 9, and one more has no op. The journal of partition 1 isn't
+// there.
+#[test]
+fn the_censuses_of_direct_maps(rt: HostRuntime) -> Result<(), Fail> {
+    let alloc = rt.alloc();
+    let roots = map_roots(alloc, 0x4000, 5)?;
+    let mut records = map_records();
+    for at in 2..6 {
+        records[at].phase = 2;
+    }
+    records[6].phase = 3;
+    records[7].phase = 4;
+    let found = journals_of(alloc, 1, 2, 5, &records, &map_pools(), &roots)?
+        .ok()
+        .ok_or("unfit")?;
+    assert!(rt; found.misfit == None);
+    assert_eq!(rt; found.censuses.len(), 2);
+    let none = with_maps(0);
+    let one = with_maps(1);
+    let first = found.censuses[0].items();
+    assert_eq!(rt; first, [none, one, none, one, one].as_slice());
+    let second = found.censuses[1].items();
+    assert_eq!(rt; second, [none, none, none, none, none].as_slice());
+    Ok(())
+}
+
 // A take that finds none where there is one.
 #[test]
 fn a_take_that_is_no_lowest_one(rt: HostRuntime) -> Result<(), Fail> {
@@ -268,129 +327,5 @@ fn a_map_in_another_place(rt: HostRuntime) -> Result<(), Fail> {
     let roots = map_roots(alloc, 0x8000, 5)?;
     let first = first_of(alloc, 1, 1, &map_records(), &map_pools(), &roots)?;
     assert!(rt; first == First::Root(0, 2));
-    Ok(())
-}
-
-// The worked run of a purge: eight slots of class 0 that leave the root, come back and leave it again, the first of them at
-// the number 2. The last slot that comes back starts at `back`, the last slot of the second fill at `last`.
-fn purge_roots(alloc: Global, back: u32, last: u32) -> Result<Vec<Journal>, Fail> {
-    let class = Class::of(0).ok_or("no such class")?;
-    let mut entries = Vec::new(alloc);
-    entries.push(RootEntry {
-        line: 2,
-        act: RootAct::Fill {
-            class,
-            pool: Some(0),
-            slots: row(0, 0x4070),
-        },
-    })?;
-    entries.push(RootEntry {
-        line: 4,
-        act: RootAct::Give {
-            slots: row(2, back),
-        },
-    })?;
-    entries.push(RootEntry {
-        line: 4,
-        act: RootAct::Purge,
-    })?;
-    entries.push(RootEntry {
-        line: 5,
-        act: RootAct::Fill {
-            class,
-            pool: None,
-            slots: row(2, last),
-        },
-    })?;
-    let mut roots = Vec::new(alloc);
-    roots.push(Journal::of(entries))?;
-    Ok(roots)
-}
-
-// Eight slots of 16 bytes, the first at this number; the last one starts there.
-fn row(number: u64, last: u32) -> Batch {
-    let mut batch = Batch::new();
-    batch.push(numbered(0x4000, 0, number));
-    batch.push(numbered(0x4010, 0, 0));
-    batch.push(numbered(0x4020, 0, 0));
-    batch.push(numbered(0x4030, 0, 0));
-    batch.push(numbered(0x4040, 0, 0));
-    batch.push(numbered(0x4050, 0, 0));
-    batch.push(numbered(0x4060, 0, 0));
-    batch.push(numbered(last, 0, 0));
-    batch
-}
-
-fn purge_records(size: u32) -> [Played; 4] {
-    let alloc = Op::Alloc {
-        reg: 0,
-        partition: 0,
-        size,
-    };
-    let made = |word: u64| Answer::Made {
-        seen: seen(0x4000, 0, word),
-        usable: 8,
-    };
-    let freed = Answer::Done {
-        seen: seen(0x4000, 0, 0x1000001),
-    };
-    [
-        record(2, alloc, made(0)),
-        record(3, FREE, freed),
-        record(4, Op::Purge, Answer::Purged { slots: 8 }),
-        record(5, alloc, made(0x2000000)),
-    ]
-}
-
-#[test]
-fn a_purge_meets_all(rt: HostRuntime) -> Result<(), Fail> {
-    let alloc = rt.alloc();
-    let roots = purge_roots(alloc, 0x4070, 0x4070)?;
-    let first = first_of(alloc, 1, 1, &purge_records(8), &[took(2, Some(0))], &roots)?;
-    assert!(rt; first == First::Nowhere);
-    Ok(())
-}
-
-// A slot that comes back twice at once, and one that isn't out.
-#[test]
-fn slots_that_cannot_come_back(rt: HostRuntime) -> Result<(), Fail> {
-    let alloc = rt.alloc();
-    let pools = [took(2, Some(0))];
-    let twice = purge_roots(alloc, 0x4060, 0x4070)?;
-    let first = first_of(alloc, 1, 1, &purge_records(8), &pools, &twice)?;
-    assert!(rt; first == First::Root(0, 1));
-    let not_out = purge_roots(alloc, 0x4080, 0x4070)?;
-    let first = first_of(alloc, 1, 1, &purge_records(8), &pools, &not_out)?;
-    assert!(rt; first == First::Root(0, 1));
-    Ok(())
-}
-
-// A fill whose last slot is another one.
-#[test]
-fn a_fill_of_another_slot(rt: HostRuntime) -> Result<(), Fail> {
-    let alloc = rt.alloc();
-    let roots = purge_roots(alloc, 0x4070, 0x4080)?;
-    let first = first_of(alloc, 1, 1, &purge_records(8), &[took(2, Some(0))], &roots)?;
-    assert!(rt; first == First::Root(0, 3));
-    Ok(())
-}
-
-// Requests of the next class, whose line's op doesn't make such a fill.
-#[test]
-fn a_fill_of_another_class(rt: HostRuntime) -> Result<(), Fail> {
-    let alloc = rt.alloc();
-    let roots = purge_roots(alloc, 0x4070, 0x4070)?;
-    let first = first_of(alloc, 1, 1, &purge_records(9), &[took(2, Some(0))], &roots)?;
-    assert!(rt; first == First::Root(0, 0));
-    Ok(())
-}
-
-// A journal of a partition that the trace doesn't have.
-#[test]
-fn a_partition_too_many(rt: HostRuntime) -> Result<(), Fail> {
-    let alloc = rt.alloc();
-    let roots = purge_roots(alloc, 0x4070, 0x4070)?;
-    let first = first_of(alloc, 1, 0, &purge_records(8), &[took(2, Some(0))], &roots)?;
-    assert!(rt; first == First::Root(0, 0));
     Ok(())
 }

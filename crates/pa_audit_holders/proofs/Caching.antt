@@ -1,5 +1,6 @@
 -- The walk of the caches along the records: a row leads to one thread's lists, and records lead to one.
-use Rattle.std.proofs.Common.{◌≡◌, ℕ, ◌+◌, ◌<◌, ◌≤◌, Bool, true, false, List, [], ◌∷◌, ◌++◌, drop, take, get_or, length, Option, Some, None, sym, ◌∙◌, ap, subst, arith, inl, inr}
+use Rattle.std.proofs.Common.{◌≡◌, ℕ, ◌+◌, ◌<◌, ◌≤◌, Bool, true, false, List, [], ◌∷◌, ◌++◌, drop, take, get_or, length, Option, Some, None, refl, sym, ◌∙◌, ap, subst, arith, inl, inr}
+use Rattle.std.specs.Prelude.{IsSome}
 use Rattle.std.proofs.lemmas.Bool.{cases_lt}
 use Rattle.std.proofs.lemmas.List.{take_more}
 use Rattle.pa_machine.specs.declared.word.SlotName.{SlotName}
@@ -20,6 +21,7 @@ use Rattle.pa_rules.specs.Caches.{Cache, Caches, CacheRow, CachesTo, DoneRow, Fi
 use Rattle.pa_rules.specs.HeapDemands.{CachesDemand}
 use Rattle.pa_rules.specs.Tells.{TellsFirst}
 use Rattle.pa_audit_holders.specs.Homes.{HasOneHome}
+use Rattle.pa_audit_holders.specs.Cached.{CachesSoFar, TellsPlayed}
 use Rattle.pa_audit_holders.specs.Rows.{TellsNext}
 use Rattle.pa_one_run.proofs.roots.Classes.{class_once, class_or_map}
 use Rattle.pa_one_run.proofs.lines.Cuts.{caches_snoc}
@@ -108,13 +110,8 @@ caches_one partitions roots all after other (x ∷ ps) kinds (next, row, more) (
     let same : next' ≡ next = row_one partitions roots x x.answer (all x.thread) next' next kinds row' row in
     caches_one partitions roots (with_cache all x.thread next) after other ps kinds more (subst (λ (z : Cache). CachesTo partitions roots (with_cache all x.thread z) ps other) same more')
 
--- Each record so far meets its demand, and they lead to these lists.
-pub record CachesSoFar (partitions : ℕ) (roots : Journals) (ps : List Played) (all : Caches) (i : ℕ) : Type 0 where
-  pub met : (j : ℕ) → j < i → CachesDemand partitions roots ps (places.Record j)
-  pub to : CachesTo partitions roots no_caches (take i ps) all
-
 pub caches_start : (partitions : ℕ) (roots : Journals) (ps : List Played) (all : Caches) → all ≡ no_caches → CachesSoFar partitions roots ps all 0
-caches_start partitions roots ps all none = record { met = λ j below. absurd (omega (arith, below)); to = none }
+caches_start partitions roots ps all none = record { met = λ j below. absurd (omega (arith, below)); led = none }
 
 pub caches_not : (partitions : ℕ) (roots : Journals) (ps : List Played) (all after : Caches) (i : ℕ) (d : Played) (b : Bool) → HaveOneKind roots → i < length ps → CachesSoFar partitions roots ps all i
     → TellsNext partitions roots (get_or ps i d) all after b → b ≡ false
@@ -122,7 +119,7 @@ pub caches_not : (partitions : ℕ) (roots : Journals) (ps : List Played) (all a
 caches_not partitions roots ps all after i d b kinds below h told misfits =
     let x = get_or ps i d in (
       λ met. let (before, next, to, row) = met x (here_is ps i d below) in
-          let same : before ≡ all = caches_one partitions roots no_caches before all (take i ps) kinds to h.to in
+          let same : before ≡ all = caches_one partitions roots no_caches before all (take i ps) kinds to h.led in
           told.misfits misfits next (subst (λ (z : Caches). CacheRow partitions roots x x.answer (z x.thread) next) same row),
       h.met,
     )
@@ -133,13 +130,13 @@ pub caches_more : (partitions : ℕ) (roots : Journals) (ps : List Played) (all 
 caches_more partitions roots ps all after i d b below h told fits =
     let (next, row, is) = told.fits fits in
     let x = get_or ps i d in
-    let to = caches_snoc partitions roots no_caches all (take i ps) x next h.to row in
+    let to = caches_snoc partitions roots no_caches all (take i ps) x next h.led row in
     record {
       met = met_more (λ k. CachesDemand partitions roots ps (places.Record k)) i h.met
           (λ y at. let same : x ≡ y = of_some x y (sym (here_is ps i d below) ∙ at) in
           subst (λ (z : Played). (all : Caches) × (next : Cache) × CachesTo partitions roots no_caches (take i ps) all × CacheRow partitions roots z z.answer (all z.thread) next) same
-          (all, next, h.to, row));
-      to = subst (λ (zs : List Played). CachesTo partitions roots no_caches zs after) (sym (take_more ps i d below))
+          (all, next, h.led, row));
+      led = subst (λ (zs : List Played). CachesTo partitions roots no_caches zs after) (sym (take_more ps i d below))
           (subst (λ (z : Caches). CachesTo partitions roots no_caches (take i ps ++ x ∷ []) z) (sym is) to);
     }
 
@@ -149,3 +146,14 @@ caches_all partitions roots ps all i end h j = elim (cases_lt j i) [
   | inl before ↦ h.met j before
   | inr least ↦ λ x at. absurd (not_there ps j x (omega (arith, end, least)) at)
 ]
+
+-- all records were played
+pub played_all : (partitions : ℕ) (roots : Journals) (ps : List Played) (all : Caches) (end : ℕ) (o : Option ℕ) → length ps ≤ end → TellsPlayed partitions roots ps all end o
+    → TellsFirst (λ k. CachesDemand partitions roots ps (places.Record k)) o
+played_all partitions roots ps all end None past h = caches_all partitions roots ps all end past h
+played_all partitions roots ps all end (Some i) past h = h
+
+-- where none fails they are played
+pub played_none : (partitions : ℕ) (roots : Journals) (ps : List Played) (all : Caches) (end : ℕ) (o : Option ℕ) → (IsSome o → ⊥) → TellsPlayed partitions roots ps all end o → CachesSoFar partitions roots ps all end
+played_none partitions roots ps all end None none h = h
+played_none partitions roots ps all end (Some i) none h = absurd (none refl)

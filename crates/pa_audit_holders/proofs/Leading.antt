@@ -221,6 +221,10 @@ filled_is IsAsked xs b told fits = subst (TellsFilled IsAsked xs) fits told
 pub filled_not : (IsAsked : List Numbered → Type 0) (xs : List Numbered) (b : Bool) → TellsFilled IsAsked xs b → b ≡ false → (ys : List Numbered) → IsAsked ys → ⊥
 filled_not IsAsked xs b told misfits = subst (TellsFilled IsAsked xs) misfits told
 
+-- what a test of the slots tells of the list
+pub front_told : (seen : Seen) (slots xs : List Numbered) (b : Bool) → slots ≡ xs → IsTrue b ↔ FrontIs seen slots (drop 1 slots) → IsTrue b ↔ FrontIs seen xs (drop 1 xs)
+front_told seen slots xs b same told = subst (λ (ys : List Numbered). IsTrue b ↔ FrontIs seen ys (drop 1 ys)) same told
+
 pub front_drop : (seen : Seen) (xs rest : List Numbered) → FrontIs seen xs rest → FrontIs seen xs (drop 1 xs)
 front_drop seen xs rest front =
     let head : Numbered = record { slot = seen.slot; number = number_of seen.found.0 } in

@@ -1,6 +1,8 @@
 pub mod Caching
+pub mod Tallying
 pub mod Listing
 pub mod Summing
+pub mod Remaining
 pub mod Clearing
 pub mod Giving
 pub mod Indexing

@@ -2,7 +2,7 @@
 use Rattle.std.proofs.Common.{◌≡◌, ℕ, ◌+◌, ◌*◌, ◌<◌, ◌≤◌, List, [], length, get_or, set, refl, sym, ◌∙◌, ap, arith, inl, inr}
 use Rattle.std.specs.Prelude.{All}
 use Rattle.std.proofs.lemmas.Bool.{cases_eq, cases_lt, eq-eqb, ne_eqb, lt-ltb, le-ltb}
-use Rattle.std.proofs.lemmas.List.{get_or_past, get_or-set_same, get_or-set_other}
+use Rattle.std.proofs.lemmas.List.{get_or_default, get_or_past, get_or-set_same, get_or-set_other}
 use Rattle.pa_record.specs.declared.numbered.Numbered.{Numbered}
 use Rattle.pa_rules.specs.Caches.{Cache, no_caches, with_cache, with_list}
 use Rattle.pa_audit_holders.specs.Lists.{cache_in, caches_in}
@@ -39,6 +39,14 @@ with_again cache before after p class xs ys first second = second ∙ (λ i q c.
 
 pub listed : (lists : List (List Numbered)) (p c : ℕ) → c < 59 → cache_in lists p c ≡ get_or lists (59 * p + c) []
 listed lists p c less = rw (lt-ltb c 59 less) refl
+
+-- a partition's lists stand in the table
+pub listed_within : (lists : List (List Numbered)) (p c : ℕ) → length lists ≡ 236 → p < 4 → c < 59 → 59 * p + c < length lists
+listed_within lists p c many low real = omega (arith, many, low, real)
+
+-- what was read there is the list
+pub listed_there : (lists : List (List Numbered)) (p c : ℕ) (d found : List Numbered) → length lists ≡ 236 → p < 4 → c < 59 → found ≡ get_or lists (59 * p + c) d → found ≡ get_or lists (59 * p + c) []
+listed_there lists p c d found many low real is = is ∙ get_or_default lists (59 * p + c) d [] (listed_within lists p c many low real)
 
 unlisted : (lists : List (List Numbered)) (p c : ℕ) → 59 ≤ c → cache_in lists p c ≡ []
 unlisted lists p c more = rw (le-ltb c 59 more) refl

@@ -1,12 +1,14 @@
 -- The entries of a purge, list by list and partition by partition.
-use Rattle.std.proofs.Common.{◌≡◌, ℕ, suc, ◌+◌, ◌-◌, ◌<◌, ◌≤◌, List, [], ◌∷◌, ◌++◌, drop, length, Some, None, refl, sym, ◌∙◌, ap, subst, arith, inl, inr}
+use Rattle.std.proofs.Common.{◌≡◌, ℕ, zero, suc, ◌+◌, ◌-◌, ◌<◌, ◌≤◌, List, [], ◌∷◌, ◌++◌, drop, length, Some, None, refl, sym, ◌∙◌, ap, subst, arith, inl, inr}
 use Rattle.std.proofs.lemmas.Bool.{cases_lt}
+use Rattle.std.proofs.lemmas.List.{nil_from_length}
 use Rattle.pa_record.specs.declared.numbered.Numbered.{Numbered}
 use Rattle.pa_record.specs.declared.root.RootAct.{RootAct}
 use Rattle.pa_record.specs.declared.root.RootAct.TheVariants.{Purge}
 use Rattle.pa_rules.specs.Roots.{Journals}
 use Rattle.pa_rules.specs.Caches.{Cache, acts_of, all_listed, gives, listed_slots, purge_acts}
 use Rattle.pa_audit_holders.specs.Gives.{PurgesAll, TellsGives, TellsPurge, whole_count, whole_purge}
+use Rattle.pa_audit_holders.proofs.Remaining.{AreLeft}
 
 cancel : {X : Type 0} (xs ys zs : List X) → xs ++ ys ≡ xs ++ zs → ys ≡ zs
 cancel [] ys zs e = e
@@ -54,13 +56,24 @@ purging_more acts lists slots k n at left next xs h is few (gave, within) =
       back = λ e. h.back (there ∙ ap (λ z. gives (lists k) ++ z) e);
     }
 
-pub purging_end : (acts : List RootAct) (lists : ℕ → List Numbered) (slots at left : ℕ) → IsPurging acts lists slots 59 0 at left → drop at acts ≡ Purge ∷ [] → TellsPurge acts lists slots (Some left)
-purging_end acts lists slots at left h e =
-    let counted : slots + 0 ≡ left + whole_count lists = h.counted in
-    (h.back e, omega (arith, counted))
+-- ---- lists that are left and have no slots
 
-pub purging_no_end : (acts : List RootAct) (lists : ℕ → List Numbered) (slots at left : ℕ) → IsPurging acts lists slots 59 0 at left → (drop at acts ≡ Purge ∷ [] → ⊥) → TellsPurge acts lists slots None
-purging_no_end acts lists slots at left h other e few = other (h.onto e)
+-- they don't go back
+none_left : (lists : ℕ → List Numbered) (k n : ℕ) → listed_slots lists k n ≡ 0 → purge_acts lists k n ≡ Purge ∷ []
+none_left lists k zero none = refl
+none_left lists k (suc n) none =
+    let here : length (lists k) + listed_slots lists (k + 1) n ≡ 0 = none in
+    let empty : lists k ≡ [] = nil_from_length (lists k) (omega (arith, here)) in
+    ap (λ z. gives z ++ purge_acts lists (k + 1) n) empty ∙ none_left lists (k + 1) n (omega (arith, here))
+
+pub purging_end : (acts : List RootAct) (lists : ℕ → List Numbered) (slots k n at left rest : ℕ) → IsPurging acts lists slots k n at left → AreLeft lists k n rest → rest ≡ 0 → drop at acts ≡ Purge ∷ [] → TellsPurge acts lists slots (Some left)
+purging_end acts lists slots k n at left rest h of none e =
+    let counted = h.counted in
+    let are = of.slots in
+    (h.back (e ∙ sym (none_left lists k n (sym are ∙ none))), omega (arith, counted, are, none))
+
+pub purging_no_end : (acts : List RootAct) (lists : ℕ → List Numbered) (slots k n at left rest : ℕ) → IsPurging acts lists slots k n at left → AreLeft lists k n rest → rest ≡ 0 → (drop at acts ≡ Purge ∷ [] → ⊥) → TellsPurge acts lists slots None
+purging_no_end acts lists slots k n at left rest h of none other e few = other (h.onto e ∙ none_left lists k n (sym of.slots ∙ none))
 
 -- ---- all partitions
 

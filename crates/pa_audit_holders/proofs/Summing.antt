@@ -2,7 +2,7 @@
 use Rattle.std.proofs.Common.{◌≡◌, ℕ, zero, suc, ◌+◌, ◌-◌, ◌*◌, ◌<◌, ◌≤◌, List, [], ◌∷◌, length, get_or, set, refl, sym, ◌∙◌, ap, subst, arith, inl, inr}
 use Rattle.std.specs.Prelude.{All}
 use Rattle.std.proofs.lemmas.Bool.{cases_eq, cases_lt}
-use Rattle.std.proofs.lemmas.List.{get_or-set_same, get_or-set_other, length-set, nil_from_length}
+use Rattle.std.proofs.lemmas.List.{get_or-set_same, get_or-set_other, length-set}
 use Rattle.std.proofs.lemmas.List.Elements.{All-set}
 use Rattle.std.proofs.lemmas.Nat.{mul-le}
 use Rattle.pa_buckets.specs.Table.{slot_of}
@@ -126,15 +126,6 @@ none_summed lists sums many none no_sums = subst (AreSummed lists) (sym no_sums)
       four = refl;
       each = λ p low. subst (λ (t : Tally). IsListedBy (cache_in lists) p t) (sym (four_none p)) (none_listed (cache_in lists) p (cache_empty lists none));
     })
-
--- a partition whose sum has no slots has empty lists
-pub list_none : (lists : List (List Numbered)) (sums : List Tally) (p c : ℕ) → AreSummed lists sums → p < 4 → c < 59 → (get_or sums p no_slots).slots ≡ 0 → get_or lists (59 * p + c) [] ≡ []
-list_none lists sums p c h low real none =
-    let part = over_part (slots_in (cache_in lists) p) c 0 59 (omega arith) (omega (arith, real)) in
-    let is = slots_over (cache_in lists p) 0 59 in
-    let by = (h.each p low).slots in
-    let there = ap length (listed lists p c real) in
-    nil_from_length (get_or lists (59 * p + c) []) (omega (arith, part, is, by, none, there))
 
 -- ---- one list changed
 

@@ -3,6 +3,7 @@ pub mod Lists
 pub mod Gives
 pub mod Homes
 pub mod Rows
+pub mod Cached
 pub mod Owners
 pub mod Gone
 pub mod Holding

@@ -5,6 +5,8 @@ use Rattle.pa_machine.specs.declared.word.Step.{Step}
 use Rattle.pa_machine.specs.Count.{number_of}
 use Rattle.pa_machine.specs.Run.{Mark, IsReturning}
 use Rattle.pa_record.specs.declared.numbered.Numbered.{Numbered}
+use Rattle.pa_record.specs.declared.root.RootAct.{RootAct}
+use Rattle.pa_record.specs.declared.root.RootAct.TheVariants.{Fill, Map, Full, Give, Unmap, Purge}
 use Rattle.pa_rules.specs.declared.played.Played.{Played}
 use Rattle.pa_rules.specs.declared.verdict.Place.TheVariants as places
 use Rattle.pa_rules.specs.Played.{mark_of}
@@ -61,6 +63,15 @@ way_of courses.Back = Back
 
 abbrev pub move_on : ℕ → Course → Numbered → Move
 move_on line course n = record { line = line; slot = n.slot; number = n.number; way = way_of course }
+
+-- where an act is on a direct map, the slots are that one, at its number
+abbrev pub AreDirect : RootAct → List Numbered → Type 0
+AreDirect (Map asked slot len) xs = xs ≡ record { slot = slot; number = 0 } ∷ []
+AreDirect (Unmap asked slot) xs = xs ≡ slot ∷ []
+AreDirect (Fill class asked slots) xs = Unit {0}
+AreDirect (Full class asked) xs = Unit {0}
+AreDirect (Give slots) xs = Unit {0}
+AreDirect Purge xs = Unit {0}
 
 -- the holder is the one that the move needs, after these
 abbrev pub MoveFits : List Played → List Move → Move → Type 0

@@ -1,71 +1,188 @@
-ghost use Rattle.std.specs.Prelude.{◌≡◌, ℕ, ◌<◌, ◌≤◌, ◌^◌, All, IfOk, length, slice_index_or};
+ghost use Rattle.std.specs.Prelude.{◌≡◌, ℕ, ◌<◌, ◌≤◌, ◌^◌, All, IfOk, None, OnOk, length, slice_index_or};
 ghost use Rattle.pa_audit_records.specs.ByKeys.{value_at};
+ghost use Rattle.pa_audit_records.specs.Cuts.{AreRecordCuts};
 ghost use Rattle.pa_machine.specs.declared.word.SlotName.{SlotName as Name};
 ghost use Rattle.pa_rules.specs.declared.verdict.Place.TheVariants as places;
 ghost use Rattle.pa_rules.specs.Roots.{journal_at};
 ghost use Rattle.pa_rules.specs.Caches.{no_caches};
 ghost use Rattle.pa_rules.specs.HeapDemands.{CachesDemand};
 ghost use Rattle.pa_rules.specs.Tells.{TellsFirst};
+ghost use Rattle.pa_audit_holders.specs.Cached.{CachesSoFar, HaveCached, HaveListed, TellsPlayed};
 ghost use Rattle.pa_audit_holders.specs.Homes.{KnowsHomes, HasOneHome};
-ghost use Rattle.pa_audit_holders.specs.Lines.{KnowsLine};
+ghost use Rattle.pa_audit_holders.specs.Lines.{HaveLines, KnowsLine};
 ghost use Rattle.pa_audit_holders.specs.Lists.{caches_in};
 ghost use Rattle.pa_audit_holders.specs.Rows.{IsOfThreads, TellsNext};
 
-use crate::homes::{Home, homes_of};
+use crate::cached::all_listed;
+use crate::homes::Home;
 use crate::lines::{ByLine, lines_of};
 use crate::lists::ThreadLists;
 use crate::rows::plays;
-use pa_audit_records::{ByKey, Salt};
+use pa_audit_records::ByKey;
 use pa_machine::OutOfMemory;
-use pa_record::Journal;
+use pa_record::{Journal, Tally};
 use pa_rules::Played;
 use std::alloc::Global;
 
 // The most threads of a trace.
 const THREADS: u32 = 16;
 
+/// What the walk over the records found: the first that doesn't fit; and, where each fits, what the threads' lists had of each
+/// of four partitions at the end of each phase.
+#[derive(Drop)]
+pub struct CachesFound {
+    pub misfit: Option<u32>,
+    pub cached: Vec<[Tally; 4]>,
+}
+
 /// The index of the first record whose line's entries, or whose answer, aren't those that its thread's lists of free slots ask
-/// for; none where each is. The records are of 16 threads and four partitions at most, and each slot of the journals is of
-/// one partition, and of one class or a direct map.
+/// for; none where each is. Beside it, where there is none, what the lists of the first threads had at the end of each phase:
+/// the records of the first phases end at these places. The records are of 16 threads and four partitions at most, and each
+/// slot of the journals is of one partition, and of one class or a direct map, as the table of homes has it.
 pub fn caches_meet(
     alloc: Global,
-    salt: Salt,
+    partitions: u32,
+    threads: u32,
+    records: &[Played],
+    ends: &[usize],
+    roots: &[Journal],
+    homes: &ByKey<Home>,
+) -> Result<CachesFound, OutOfMemory>
+    requires partitions { partitions ≤ 4 }
+    requires threads { threads ≤ 16 }
+    requires few { length records.now < 2 ^ 32 }
+    requires within { All IsOfThreads records.now }
+    requires ends { AreRecordCuts records.now ends.now }
+    requires four { length roots.now ≤ 4 }
+    requires entries { (p : ℕ) → length (journal_at roots.now p) < 2 ^ 32 }
+    requires homes { KnowsHomes (journal_at roots.now) (value_at homes.now) }
+    requires kinds { (s : Name) → HasOneHome (journal_at roots.now) s }
+    ensures misfit { IfOk result (λ found.
+        TellsFirst (λ i. CachesDemand partitions (journal_at roots.now) records.now (places.Record i)) found.misfit) }
+    ensures many { IfOk result (λ found. found.misfit ≡ None → length found.cached.items ≡ length ends.now) }
+    ensures cached { IfOk result (λ found. found.misfit ≡ None
+        → HaveCached partitions threads (journal_at roots.now) records.now found.cached.items) }
+{
+    let lines = lines_of(alloc, lines_below(records), roots)?;
+    let mut caches = no_lists(alloc)?;
+    let mut listed = all_listed(threads, caches.as_slice());
+    let mut cached = Vec::new(alloc);
+    let mut from = 0;
+    for end in ends {
+        let misfit = play_phase(
+            alloc,
+            partitions,
+            threads,
+            records,
+            roots,
+            lines.as_slice(),
+            homes,
+            &mut caches,
+            from,
+            *end,
+            &mut listed,
+        )?;
+        if misfit.is_some() {
+            return Ok(CachesFound { misfit, cached });
+        }
+        from = *end;
+        cached.push(listed)?;
+    }
+    let misfit = play_on(
+        alloc,
+        partitions,
+        records,
+        roots,
+        lines.as_slice(),
+        homes,
+        &mut caches,
+        from,
+        records.len(),
+    )?;
+    Ok(CachesFound { misfit, cached })
+}
+
+// Plays the records of one phase, which stand at these places, and counts what the lists have then. Tells the first that
+// doesn't fit. Where there are none, nothing is counted.
+fn play_phase(
+    alloc: Global,
+    partitions: u32,
+    threads: u32,
+    records: &[Played],
+    roots: &[Journal],
+    lines: &[ByLine],
+    homes: &ByKey<Home>,
+    caches: &mut Vec<ThreadLists>,
+    from: usize,
+    end: usize,
+    listed: &mut [Tally; 4],
+) -> Result<Option<u32>, OutOfMemory>
+    requires partitions { partitions ≤ 4 }
+    requires threads { threads ≤ 16 }
+    requires few { length records.now < 2 ^ 32 }
+    requires within { All IsOfThreads records.now }
+    requires four { length roots.now ≤ 4 }
+    requires known { (count : ℕ) × All (λ x. x.line < count) records.now × HaveLines roots.now count lines.now }
+    requires homes { KnowsHomes (journal_at roots.now) (value_at homes.now) }
+    requires kinds { (s : Name) → HasOneHome (journal_at roots.now) s }
+    requires order { from ≤ end }
+    requires end { end ≤ length records.now }
+    requires sixteen { length caches.old.items ≡ 16 }
+    requires before { CachesSoFar partitions (journal_at roots.now) records.now (caches_in caches.old.items) from }
+    requires listed { HaveListed threads (caches_in caches.old.items) listed.old }
+    ensures sixteen { OnOk result (length caches.new.items ≡ 16) }
+    ensures played { IfOk result
+        (TellsPlayed partitions (journal_at roots.now) records.now (caches_in caches.new.items) end) }
+    ensures listed { OnOk result (HaveListed threads (caches_in caches.new.items) listed.new) }
+{
+    if from == end {
+        return Ok(None);
+    }
+    let misfit = play_on(
+        alloc, partitions, records, roots, lines, homes, caches, from, end,
+    )?;
+    *listed = all_listed(threads, caches.as_slice());
+    Ok(misfit)
+}
+
+// Plays the records of these places. Tells the first that doesn't fit.
+fn play_on(
+    alloc: Global,
     partitions: u32,
     records: &[Played],
     roots: &[Journal],
+    lines: &[ByLine],
+    homes: &ByKey<Home>,
+    caches: &mut Vec<ThreadLists>,
+    from: usize,
+    end: usize,
 ) -> Result<Option<u32>, OutOfMemory>
     requires partitions { partitions ≤ 4 }
     requires few { length records.now < 2 ^ 32 }
     requires within { All IsOfThreads records.now }
     requires four { length roots.now ≤ 4 }
-    requires entries { (p : ℕ) → length (journal_at roots.now p) < 2 ^ 32 }
+    requires known { (count : ℕ) × All (λ x. x.line < count) records.now × HaveLines roots.now count lines.now }
+    requires homes { KnowsHomes (journal_at roots.now) (value_at homes.now) }
     requires kinds { (s : Name) → HasOneHome (journal_at roots.now) s }
-    ensures { IfOk result (TellsFirst (λ i. CachesDemand partitions (journal_at roots.now) records.now (places.Record i))) }
+    requires order { from ≤ end }
+    requires end { end ≤ length records.now }
+    requires threads { length caches.old.items ≡ 16 }
+    requires before { CachesSoFar partitions (journal_at roots.now) records.now (caches_in caches.old.items) from }
+    ensures threads { OnOk result (length caches.new.items ≡ 16) }
+    ensures played { IfOk result
+        (TellsPlayed partitions (journal_at roots.now) records.now (caches_in caches.new.items) end) }
 {
-    let lines = lines_of(alloc, lines_below(records), roots)?;
-    let homes = homes_of(alloc, salt, roots)?;
-    let mut caches = no_lists(alloc)?;
-    let mut at: u32 = 0;
-    for record in records {
-        let fits = play(
-            alloc,
-            partitions,
-            roots,
-            &lines,
-            &homes,
-            *record,
-            &mut caches,
-        )?;
+    for at in from..end {
+        let fits = play(alloc, partitions, roots, lines, homes, records[at], caches)?;
         if !fits {
-            return Ok(Some(at));
+            return Ok(Some(at as u32));
         }
-        at += 1;
     }
     Ok(None)
 }
 
-/// A number above the lines of all records.
-pub fn lines_below(records: &[Played]) -> usize
+// A number above the lines of all records.
+fn lines_below(records: &[Played]) -> usize
     ensures { All (λ x. x.line < result) records.now }
 {
     let mut most: u32 = 0;
@@ -75,8 +192,8 @@ pub fn lines_below(records: &[Played]) -> usize
     most as usize + 1
 }
 
-/// The lists of 16 threads, which are empty.
-pub fn no_lists(alloc: Global) -> Result<Vec<ThreadLists>, OutOfMemory>
+// The lists of 16 threads, which are empty.
+fn no_lists(alloc: Global) -> Result<Vec<ThreadLists>, OutOfMemory>
     ensures many { IfOk result (λ lists. length lists.items ≡ 16) }
     ensures none { IfOk result (λ lists. caches_in lists.items ≡ no_caches) }
 {
@@ -88,8 +205,8 @@ pub fn no_lists(alloc: Global) -> Result<Vec<ThreadLists>, OutOfMemory>
     Ok(lists)
 }
 
-/// Whether a record's row leads on from the lists. Where it does they are the next ones.
-pub fn play(
+// Whether a record's row leads on from the lists. Where it does they are the next ones.
+fn play(
     alloc: Global,
     partitions: u32,
     roots: &[Journal],

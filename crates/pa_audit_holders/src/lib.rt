@@ -4,6 +4,9 @@
 
 mod acts;
 mod asks;
+mod cached;
+#[cfg(test)]
+mod cached_tests;
 mod caches;
 mod gives;
 mod gone;
@@ -24,9 +27,7 @@ mod tables;
 #[cfg(test)]
 mod tests;
 
-pub use caches::{caches_meet, lines_below, no_lists, play};
+pub use caches::{CachesFound, caches_meet};
 pub use holders::holders_meet;
 pub use homes::{Home, found_home, homes_of};
 pub use laws::one_home;
-pub use lines::{ByLine, lines_of};
-pub use lists::ThreadLists;

@@ -6,13 +6,14 @@ ghost use Rattle.pa_audit_holders.specs.Lines.{AreOnLines, ArePlacesOf, HaveLine
 
 use pa_machine::OutOfMemory;
 use pa_record::{Journal, RootAct, RootEntry};
+use smallvec::SmallVec;
 use std::alloc::Global;
 use std::marker::Model;
 
-// Places in a journal. They are seen as the list of them.
+// Places in a journal, of which four take no memory of their own. They are seen as the list of them.
 #[derive(Drop)]
 pub(crate) struct Places {
-    of: Vec<u32>,
+    of: SmallVec<u32, 4>,
 }
 
 impl Model for Places {
@@ -28,7 +29,7 @@ impl Places {
         ensures { result ≡ [] }
     {
         Places {
-            of: Vec::new(alloc),
+            of: SmallVec::new(alloc),
         }
     }
 
@@ -46,9 +47,9 @@ impl Places {
     }
 }
 
-/// The places of a journal's entries, by their lines. They are seen as the list of these lists.
+// The places of a journal's entries, by their lines. They are seen as the list of these lists.
 #[derive(Drop)]
-pub struct ByLine {
+pub(crate) struct ByLine {
     lines: Vec<Places>,
 }
 
@@ -108,8 +109,12 @@ impl ByLine {
     }
 }
 
-/// The places of the entries of all journals on lines below this number.
-pub fn lines_of(alloc: Global, count: usize, roots: &[Journal]) -> Result<Vec<ByLine>, OutOfMemory>
+// The places of the entries of all journals on lines below this number.
+pub(crate) fn lines_of(
+    alloc: Global,
+    count: usize,
+    roots: &[Journal],
+) -> Result<Vec<ByLine>, OutOfMemory>
     requires few { (p : ℕ) → length (journal_at roots.now p) < 4294967296 }
     ensures { IfOk result (λ tables. HaveLines roots.now count tables.items) }
 {

@@ -1,5 +1,5 @@
 ghost use Rattle.std.specs.Prelude.{◌≡◌, ℕ, ◌+◌, ◌<◌, ◌≤◌, [], ◌∷◌, ◌↔◌, All, IfOk, IsTrue, OnErr, OnOk, drop, length, slice_index_or, take};
-ghost use Rattle.pa_rules.specs.Caches.{with_list};
+ghost use Rattle.pa_rules.specs.Caches.{listed_slots, with_list};
 ghost use Rattle.pa_audit_holders.specs.Lists.{AreSummed, HasPart, IsListedBy, cache_in, changed_by, no_slots};
 
 use pa_buckets::{Class, slot_size};
@@ -113,10 +113,10 @@ impl FreeSlots {
     }
 }
 
-/// A thread's lists of free slots, at most 64 each. They are seen as the list of them, 59 of each of four partitions. Beside them
-/// stands what those of each partition have together.
+// A thread's lists of free slots, at most 64 each. They are seen as the list of them, 59 of each of four partitions. Beside them
+// stands what those of each partition have together.
 #[derive(Drop)]
-pub struct ThreadLists {
+pub(crate) struct ThreadLists {
     lists: Vec<FreeSlots>,
     sums: [Tally; 4],
 }
@@ -182,8 +182,8 @@ impl ThreadLists {
         replaced
     }
 
-    /// What the lists of a partition have together.
-    pub fn sum(&self, partition: u32) -> Tally
+    // What the lists of a partition have together.
+    pub(crate) fn sum(&self, partition: u32) -> Tally
         requires partition { partition < 4 }
         ensures listed { IsListedBy (cache_in self.now) partition result }
         ensures few { result.slots ≤ 3776 }
@@ -216,28 +216,33 @@ fn no_sums() -> [Tally; 4]
     [none, none, none, none]
 }
 
-// Empties the lists, of which each partition's have this sum. What is empty is left alone.
+// Empties the lists, of which each partition's have this sum.
 fn clear_all(lists: &mut Vec<FreeSlots>, sums: &[Tally; 4])
     requires { AreSummed lists.old.items sums.now }
     ensures many { length lists.new.items ≡ length lists.old.items }
     ensures empty { All (λ slots. slots ≡ []) lists.new.items }
 {
     for partition in 0..PARTITIONS {
-        if sums[partition].slots > 0 {
-            clear_from(lists, CLASSES * partition);
-        }
+        clear_from(lists, CLASSES * partition, sums[partition].slots);
     }
 }
 
-// Empties a partition's lists, which stand from this place on.
-fn clear_from(lists: &mut Vec<FreeSlots>, first: usize)
-    requires { first + 59 ≤ length lists.old.items }
+// Empties a partition's lists, which stand from this place on and have so many slots. Those behind the last of them that has
+// some are left alone.
+fn clear_from(lists: &mut Vec<FreeSlots>, first: usize, slots: u64)
+    requires within { first + 59 ≤ length lists.old.items }
+    requires slots { slots ≡ listed_slots (λ class. slice_index_or lists.old.items (first + class) []) 0 59 }
     ensures many { length lists.new.items ≡ length lists.old.items }
     ensures these { (at : ℕ) → first ≤ at → at < first + 59 → slice_index_or lists.new.items at [] ≡ [] }
-    ensures others { (at : ℕ) → slice_index_or lists.old.items at [] ≡ [] → slice_index_or lists.new.items at [] ≡ [] }
+    ensures others { (at : ℕ) → (first ≤ at → first + 59 ≤ at)
+        → slice_index_or lists.new.items at [] ≡ slice_index_or lists.old.items at [] }
 {
-    for at in first..first + CLASSES {
+    let mut rest = slots as usize;
+    let mut at = first;
+    'lists: while rest > 0 {
+        rest -= lists[at].len();
         lists[at].clear();
+        at += 1;
     }
 }
 

@@ -2,56 +2,88 @@ ghost use Rattle.std.specs.Prelude.{◌≡◌, ℕ, ◌+◌, ◌<◌, ◌^◌, �
 ghost use Rattle.pa_audit_records.specs.ByKeys.{value_at};
 ghost use Rattle.pa_rules.specs.Holders.{Move, moves_by};
 ghost use Rattle.pa_rules.specs.Rising.{RiseByLine};
-ghost use Rattle.pa_audit_holders.specs.Owners.{AllFit, AreOfRuns, HasOwners, HasReturns, TellsThread, move_on};
+ghost use Rattle.pa_audit_records.specs.Seeking.{IsOnLine};
+ghost use Rattle.pa_audit_holders.specs.declared.owners.Course.TheVariants as courses;
+ghost use Rattle.pa_audit_holders.specs.Owners.{AllFit, AreDirect, AreOfRuns, HasOwners, HasReturns, TellsThread, move_on};
 
 use crate::owners::{Course, Owner, move_slot};
 use pa_audit_records::{ByKey, record_on};
 use pa_machine::OutOfMemory;
-use pa_record::{Batch, Numbered, RootAct};
+use pa_record::{Numbered, RootAct};
 use pa_rules::Played;
 use std::alloc::Global;
 
-// The thread of the record on a line, where there is one.
-pub(crate) fn thread_on(records: &[Played], line: u32) -> Option<u32>
+// What is found of a line: the thread of its record, where there is one; and how far a line is above its record's place, as
+// it was found last.
+#[derive(Clone, Copy)]
+pub(crate) struct Found {
+    pub(crate) thread: Option<u32>,
+    pub(crate) above: u32,
+}
+
+// The thread of the record on a line, where there is one. It is looked for first where it stands if the line is so far above
+// the record's place: the lines of records follow one another but for those on which a phase begins.
+pub(crate) fn thread_on(records: &[Played], line: u32, above: u32) -> Found
     requires few { length records.now < 2 ^ 32 }
     requires rising { RiseByLine records.now }
-    ensures { TellsThread records.now line result }
+    ensures { TellsThread records.now line result.thread }
 {
+    let guess = line.saturating_sub(above);
+    if is_on(records, guess, line) {
+        return found_at(records, guess, line);
+    }
     match record_on(records, line) {
-        Some(at) => Some(records[at as usize].thread),
-        None => None,
+        Some(at) => found_at(records, at, line),
+        None => Found {
+            thread: None,
+            above,
+        },
+    }
+}
+
+// Whether the record in this place is on the line.
+fn is_on(records: &[Played], at: u32, line: u32) -> bool
+    ensures { IsTrue result → IsOnLine records.now line at }
+{
+    match records.get(at as usize) {
+        Some(record) => record.line == line,
+        None => false,
+    }
+}
+
+fn found_at(records: &[Played], at: u32, line: u32) -> Found
+    requires { IsOnLine records.now line at }
+    ensures { TellsThread records.now line result.thread }
+{
+    Found {
+        thread: Some(records[at as usize].thread),
+        above: line.saturating_sub(at),
     }
 }
 
 // The slots that an entry moves, all on one course.
-#[derive(Drop)]
-pub(crate) struct Moves {
+#[derive(Clone, Copy)]
+pub(crate) struct Moves<'a> {
     pub(crate) course: Course,
-    pub(crate) slots: Batch,
+    pub(crate) slots: &'a [Numbered],
 }
 
-// The same slots.
-fn copy_of(slots: &[Numbered]) -> Batch
-    requires { length slots.now < 17 }
-    ensures { result ≡ slots.now }
+// The slot of a direct map that an entry of this act moves, at its number; for another act any.
+pub(crate) fn direct_slots(act: &RootAct) -> [Numbered; 1]
+    ensures { AreDirect act.now result }
 {
-    let mut batch = Batch::new();
-    for slot in slots {
-        batch.push(*slot);
+    match act {
+        RootAct::Map { slot, .. } => {
+            let slot = *slot;
+            [Numbered { slot, number: 0 }]
+        }
+        RootAct::Unmap { slot, .. } => [*slot],
+        _ => [Numbered::default()],
     }
-    batch
 }
 
-fn batch_of(slot: Numbered) -> Batch
-    ensures { result ≡ slot ∷ [] }
-{
-    let mut batch = Batch::new();
-    batch.push(slot);
-    batch
-}
-
-fn out(slots: Batch) -> Moves
-    ensures { result ≡ record { course = Course.Out; slots = slots } }
+fn out(slots: &[Numbered]) -> Moves<'_>
+    ensures { (result.course ≡ courses.Out) × (result.slots.now ≡ slots.now) }
 {
     Moves {
         course: Course::Out,
@@ -59,8 +91,8 @@ fn out(slots: Batch) -> Moves
     }
 }
 
-fn back(slots: Batch) -> Moves
-    ensures { result ≡ record { course = Course.Back; slots = slots } }
+fn back(slots: &[Numbered]) -> Moves<'_>
+    ensures { (result.course ≡ courses.Back) × (result.slots.now ≡ slots.now) }
 {
     Moves {
         course: Course::Back,
@@ -68,19 +100,17 @@ fn back(slots: Batch) -> Moves
     }
 }
 
-// The slots that an entry of this act moves.
-pub(crate) fn moves_of(act: &RootAct) -> Moves
-    ensures { (line : ℕ) → moves_by line act.now ≡ map (move_on line result.course) result.slots }
+// The slots that an entry of this act moves; a direct map's is the one beside the act.
+pub(crate) fn moves_of<'a>(act: &'a RootAct, direct: &'a [Numbered]) -> Moves<'a>
+    requires { AreDirect act.now direct.now }
+    ensures { (line : ℕ) → moves_by line act.now ≡ map (move_on line result.course) result.slots.now }
 {
     match act {
-        RootAct::Fill { slots, .. } => out(copy_of(slots.items())),
-        RootAct::Map { slot, .. } => out(batch_of(Numbered {
-            slot: *slot,
-            number: 0,
-        })),
-        RootAct::Give { slots } => back(copy_of(slots.items())),
-        RootAct::Unmap { slot, .. } => back(batch_of(*slot)),
-        RootAct::Full { .. } | RootAct::Purge => out(Batch::new()),
+        RootAct::Fill { slots, .. } => out(slots.items()),
+        RootAct::Map { .. } => out(direct),
+        RootAct::Give { slots } => back(slots.items()),
+        RootAct::Unmap { .. } => back(direct),
+        RootAct::Full { .. } | RootAct::Purge => out(&[]),
     }
 }
 

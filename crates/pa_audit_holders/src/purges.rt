@@ -95,8 +95,10 @@ fn purges_lists(
     ensures { TellsPurge (map (did_at journal.now) places.now) (cache_in cache.now partition) slots result }
 {
     let mut left = slots;
+    let mut rest = cache.sum(partition).slots as usize;
+    let mut number = 0;
     let mut at = 0;
-    for number in 0..CLASSES {
+    'lists: while rest > 0 {
         let list = cache.list(partition, Class::of(number).unwrap());
         if list.len() > left {
             return None;
@@ -105,6 +107,8 @@ fn purges_lists(
             return None;
         };
         left -= list.len();
+        rest -= list.len();
+        number += 1;
         at = next;
     }
     if ends_with_purge(journal, places, at) {

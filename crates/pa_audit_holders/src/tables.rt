@@ -2,11 +2,11 @@ ghost use Rattle.std.specs.Prelude.{◌≡◌, ℕ, ◌+◌, ◌<◌, ◌^◌, �
 ghost use Rattle.pa_audit_records.specs.ByKeys.{value_at};
 ghost use Rattle.pa_record.specs.declared.root.RootEntry.{RootEntry as Line};
 ghost use Rattle.pa_rules.specs.Tells.{TellsFirst};
-ghost use Rattle.pa_audit_holders.specs.Owners.{AreOfRuns, HasReturns, first_place};
+ghost use Rattle.pa_audit_holders.specs.Owners.{AreOfRuns, HasReturns, TellsThread, first_place};
 ghost use Rattle.pa_audit_holders.specs.Holding.{EntryMovesFit, EntryMovesFitAt, KnowsJournal};
 
 use crate::gone::{enter_gone, none_gone};
-use crate::moves::{both, move_slots, moves_of, thread_on};
+use crate::moves::{both, direct_slots, move_slots, moves_of, thread_on};
 use crate::owners::Owner;
 use pa_audit_records::{ByKey, Salt};
 use pa_machine::OutOfMemory;
@@ -29,24 +29,28 @@ pub(crate) struct Walked {
     pub(crate) misfit: Option<u32>,
 }
 
-// Enters an entry behind those so far. Tells whether it fits.
+// The line of a trace's first record, where no phase begins there.
+const FIRST_LINE: u32 = 2;
+
+// Enters an entry behind those so far, on a line of this thread, or of none. Tells whether it fits.
 fn play(
     records: &[Played],
     firsts: &ByKey<u32>,
     table: &mut Table,
     entry: &RootEntry,
+    thread: Option<u32>,
 ) -> Result<bool, OutOfMemory>
     requires known { AreOfRuns records.now }
     requires returns { HasReturns records.now (value_at firsts.now) }
-    requires few { length records.now < 2 ^ 32 }
+    requires thread { TellsThread records.now entry.now.line thread }
     ensures table { OnOk result ((before : List Line) → KnowsJournal records.now before table.old
         → KnowsJournal records.now (before ++ entry.now ∷ []) table.new) }
     ensures fits { IfOk result (λ b. (before : List Line) → KnowsJournal records.now before table.old
         → IsTrue b ↔ EntryMovesFit records.now before entry.now) }
 {
-    let moves = moves_of(&entry.act);
-    let thread = thread_on(records, entry.line);
-    let stays = none_gone(&table.gone, moves.slots.items());
+    let direct = direct_slots(&entry.act);
+    let moves = moves_of(&entry.act, &direct);
+    let stays = none_gone(&table.gone, moves.slots);
     let fit = move_slots(
         records,
         firsts,
@@ -54,7 +58,7 @@ fn play(
         entry.line,
         thread,
         moves.course,
-        moves.slots.items(),
+        moves.slots,
     )?;
     enter_gone(&mut table.gone, entry)?;
     Ok(both(fit, stays))
@@ -89,9 +93,12 @@ pub(crate) fn walk(
     let gone = ByKey::new(alloc, salt);
     let mut table = Table { owners, gone };
     let mut misfit = None;
+    let mut above = FIRST_LINE;
     let mut at: u32 = 0;
     for entry in journal.entries() {
-        let fits = play(records, firsts, &mut table, entry)?;
+        let found = thread_on(records, entry.line, above);
+        above = found.above;
+        let fits = play(records, firsts, &mut table, entry, found.thread)?;
         misfit = first_misfit(misfit, at, fits);
         at += 1;
     }

@@ -37,14 +37,15 @@ fn first_of(alloc: Global, records: &[Played], roots: &[Journal]) -> Result<Firs
     if !are_homed(&homes, roots) {
         return Ok(First::Unfit);
     }
-    match caches_meet(alloc, salt, 1, records, roots)? {
+    let found = caches_meet(alloc, 1, 16, records, &[], roots, &homes)?;
+    match found.misfit {
         Some(at) => Ok(First::Record(at)),
         None => Ok(First::Nowhere),
     }
 }
 
 // Whether the records are of 16 threads and four partitions.
-fn are_within(records: &[Played]) -> bool
+pub(crate) fn are_within(records: &[Played]) -> bool
     ensures { IsTrue result → All IsOfThreads records.now }
 {
     for found in records {
@@ -155,7 +156,7 @@ fn is_journal_homed(
 }
 
 // Whether each slot of the journals has one home.
-fn are_homed(homes: &ByKey<Home>, roots: &[Journal]) -> bool
+pub(crate) fn are_homed(homes: &ByKey<Home>, roots: &[Journal]) -> bool
     requires { length roots.now < 4294967296 }
     ensures { IsTrue result → (s : Name) → HasOneHome (journal_at roots.now) s }
 {
@@ -232,7 +233,7 @@ pub(crate) fn give(line: u32, slots: Batch) -> RootEntry {
     }
 }
 
-fn purge(line: u32) -> RootEntry {
+pub(crate) fn purge(line: u32) -> RootEntry {
     RootEntry {
         line,
         act: RootAct::Purge,

@@ -14,7 +14,8 @@ use Rattle.pa_verdict.proofs.Lists.{one_at}
 use Rattle.pa_rules.specs.Rising.{RiseByLine}
 use Rattle.pa_rules.proofs.Rising.{rises}
 use Rattle.pa_audit_records.proofs.Walking.{here_is}
-use Rattle.pa_audit_order.specs.Steps.{NeverFallsBack, IsLastOf, ArePrevious, as_list, Adds, AddsAll, AddsSteps}
+use Rattle.pa_audit_records.specs.Cuts.{RiseByPhase}
+use Rattle.pa_audit_order.specs.Steps.{IsLastOf, ArePrevious, as_list, Adds, AddsAll, AddsSteps}
 
 -- ---- the records of earlier phases
 
@@ -98,7 +99,7 @@ last_one ps t k j (Some p) (x, at, below, of, last) (y, at', below', of', last')
 ]
 
 -- phases don't fall
-phases_rise : (ps : List Played) (i j : ℕ) (x y : Played) → NeverFallsBack ps → IsRecord ps i x → IsRecord ps j y → i < j → x.phase ≤ y.phase
+phases_rise : (ps : List Played) (i j : ℕ) (x y : Played) → RiseByPhase ps → IsRecord ps i x → IsRecord ps j y → i < j → x.phase ≤ y.phase
 phases_rise ps i j x y never at at' less =
     let below = slice_get_within ps i x at in
     let below' = slice_get_within ps j y at' in
@@ -107,7 +108,7 @@ phases_rise ps i j x y never at at' less =
     let two = ap (λ (z : Played). z.phase) (of_some (get_or ps j x) y (sym (here_is ps j x below') ∙ at')) in
     omega (arith, both, one, two)
 
-pub steps_added : (cells : ℕ → List CellEntry) (ps : List Played) (table : List (Option ℕ)) (i : ℕ) (d : Played) (prev giver : Option ℕ) (old s1 s2 new : List ℕ) (low high : ℕ) → RiseByLine ps → NeverFallsBack ps
+pub steps_added : (cells : ℕ → List CellEntry) (ps : List Played) (table : List (Option ℕ)) (i : ℕ) (d : Played) (prev giver : Option ℕ) (old s1 s2 new : List ℕ) (low high : ℕ) → RiseByLine ps → RiseByPhase ps
     → ArePrevious ps table (length ps) → i < length ps → slice_get table i ≡ Some prev → IfSome giver (λ j. (x : Played) × IsRecord ps j x × HandsTo cells x (get_or ps i d))
     → ((j : ℕ) (x : Played) → IsRecord ps j x → HandsTo cells x (get_or ps i d) → giver ≡ Some j) → s1 ≡ old ++ as_list prev → s2 ≡ s1 ++ as_list giver
     → AddsAll ps (get_or ps i d).phase s2 low new high → AddsSteps cells ps i old low new high

@@ -60,11 +60,11 @@ left_more ps marked f g k d m below within tells start raises h = record {
 
 -- ---- what a record tells by numbers
 
-look_told : (o : Option Mark) (l : Look) → Some l ≡ option_map look_by o → (m : Mark) × (o ≡ Some m) × (l ≡ look_by m)
+pub look_told : (o : Option Mark) (l : Look) → Some l ≡ option_map look_by o → (m : Mark) × (o ≡ Some m) × (l ≡ look_by m)
 look_told None l e = absurd (not_some l (sym e))
 look_told (Some m) l e = (m, refl, of_some l (look_by m) e)
 
-look_none : (o : Option Mark) → None ≡ option_map look_by o → o ≡ None
+pub look_none : (o : Option Mark) → None ≡ option_map look_by o → o ≡ None
 look_none None e = refl
 look_none (Some m) e = absurd (not_some (look_by m) e)
 

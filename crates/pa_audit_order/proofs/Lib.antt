@@ -8,4 +8,4 @@ pub mod Handing
 pub mod Leaving
 pub mod Meeting
 pub mod Treading
-pub mod Falling
+pub mod Climbing

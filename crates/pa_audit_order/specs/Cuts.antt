@@ -7,7 +7,8 @@ use Rattle.pa_rules.specs.RecordDemands.{IsRecord}
 use Rattle.pa_rules.specs.Seen.{IsBefore, HandsTo}
 use Rattle.pa_rules.specs.Rising.{RiseByLine}
 use Rattle.pa_audit_order.specs.Looks.{IsMarked, AreLeft, FindsEnough}
-use Rattle.pa_audit_order.specs.Steps.{NeverFallsBack, IsLastOf, ArePrevious, AreGivers}
+use Rattle.pa_audit_records.specs.Cuts.{RiseByPhase}
+use Rattle.pa_audit_order.specs.Steps.{IsLastOf, ArePrevious, AreGivers}
 
 -- x is before each record of the thread from place k on
 abbrev pub IsAhead : (ℕ → List CellEntry) → List Played → ℕ → ℕ → Played → Type 0
@@ -46,7 +47,7 @@ unmarked marked = sum_by (λ b. if b then 0 else 1) marked
 -- What the walk finds ready: records in order, and for each record the one before it of its thread and the one that handed over to it.
 pub record IsPrepared (cells : ℕ → List CellEntry) (ps : List Played) (previous givers : List (Option ℕ)) : Type 0 where
   pub rising : RiseByLine ps
-  pub phases : NeverFallsBack ps
+  pub phases : RiseByPhase ps
   pub threads : ArePrevious ps previous (length ps)
   pub hands : AreGivers cells ps givers (length ps)
 

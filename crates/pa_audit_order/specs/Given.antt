@@ -34,3 +34,9 @@ MayGive ps regs x (Value seen value) =
     IsContent ps seen.slot (number_of seen.found.0) value ⊎ MayFindPoison ps regs x seen.slot (number_of seen.found.0) value
 MayGive ps regs x (Dangling seen value) = value ≡ poison
 MayGive ps regs x answer = Unit {0}
+
+-- the answer gives a value that depends on no slot's content, or none at all
+abbrev pub NeedsNoContent : Answer → Type 0
+NeedsNoContent (Value seen value) = ⊥
+NeedsNoContent (Dangling seen value) = value ≡ poison
+NeedsNoContent answer = Unit {0}

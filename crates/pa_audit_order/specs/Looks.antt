@@ -38,3 +38,9 @@ pub record AreLeft (ps : List Played) (marked : List Bool) (at : ℕ → Option 
 abbrev pub FindsEnough : (ℕ → Option ℕ) → Option Mark → Type 0
 FindsEnough at None = Unit {0}
 FindsEnough at (Some m) = (n : ℕ) → at (word_key m.slot 0) ≡ Some n → n ≤ number_of m.found
+
+-- no record finds a lower number of its slot than one that stands above it left
+abbrev pub NumbersRise : List Played → Type 0
+NumbersRise ps =
+    (i j : ℕ) (x y : Played) (m n : Mark) → i < j → IsRecord ps i x → IsRecord ps j y → mark_of x ≡ Some m → mark_of y ≡ Some n
+    → m.slot ≡ n.slot → left_number m ≤ number_of n.found

@@ -1,19 +1,12 @@
 -- The steps that lead to a record from those before it, as a walk goes them.
-use Rattle.std.specs.Prelude.{◌≡◌, ◌≢◌, ℕ, ◌+◌, ◌<◌, ◌≤◌, ◌⊎◌, AllPairs, List, [], ◌∷◌, Option, Some, None, IfSome, Contains, length, slice_get}
-use Rattle.pa_trace.specs.declared.script.Line.{Line}
-use Rattle.pa_record.specs.declared.entry.Entry.{Entry}
+use Rattle.std.specs.Prelude.{◌≡◌, ◌≢◌, ℕ, ◌+◌, ◌<◌, ◌≤◌, ◌⊎◌, List, [], ◌∷◌, Option, Some, None, IfSome, Contains, length, slice_get}
 use Rattle.pa_record.specs.declared.history.CellEntry.{CellEntry}
 use Rattle.pa_record.specs.declared.history.Held.TheVariants.{Nothing}
 use Rattle.pa_rules.specs.declared.played.Played.{Played}
 use Rattle.pa_rules.specs.Cells.{IsExchange}
-use Rattle.pa_rules.specs.Played.{played}
 use Rattle.pa_rules.specs.Order.{StandsBefore}
 use Rattle.pa_rules.specs.RecordDemands.{IsRecord}
 use Rattle.pa_rules.specs.Seen.{HandsTo}
-
--- no record is of an earlier phase than one before it
-abbrev pub NeverFallsBack : List Played → Type 0
-NeverFallsBack ps = AllPairs (λ (x y : Played). x.phase ≤ y.phase) ps
 
 -- x is before y, with no record between them
 abbrev pub IsStepTo : (ℕ → List CellEntry) → Played → Played → Type 0
@@ -77,6 +70,6 @@ pub record AddsSteps (cells : ℕ → List CellEntry) (ps : List Played) (i : �
   pub kept : (j : ℕ) → Contains old j → Contains new j
   pub few : (low ≤ high) × (length new + low ≤ length old + high + 2)
 
--- the records beside the ops of a trace's lines stand in the order of its phases
-abbrev pub RecordsNeverFallBack : Type 0
-RecordsNeverFallBack = (ls : List Line) (es : List Entry) → NeverFallsBack (played ls es)
+-- no cell has an exchange
+abbrev pub HasNoExchange : (ℕ → List CellEntry) → Type 0
+HasNoExchange cells = (k i : ℕ) (e : CellEntry) → IsExchange cells k i e → ⊥

@@ -13,7 +13,7 @@ ghost use Rattle.pa_audit_records.specs.Rows.{IsPlayedWithin};
 ghost use Rattle.pa_audit_records.specs.Tables.{regs_in};
 ghost use Rattle.pa_audit_order.specs.declared.numbers.Kind.TheVariants.{Fill, Free};
 ghost use Rattle.pa_audit_order.specs.Numbers.{AreByNumber, IsOneAt, put_by};
-ghost use Rattle.pa_audit_order.specs.Given.{ReadsRaw, IsOther, IsFreedMeanwhile, MayFindPoison, MayGive};
+ghost use Rattle.pa_audit_order.specs.Given.{ReadsRaw, IsOther, IsFreedMeanwhile, MayFindPoison, MayGive, NeedsNoContent};
 
 use crate::changes::change;
 use crate::keys::{greatest, key, least};
@@ -29,6 +29,44 @@ use std::collections::BTreeMap;
 /// The index of the first record that read a value which it may not give: neither the content of its slot at the number
 /// that it found nor poison, or poison where no other thread's free was under way; none where no record did.
 pub fn contents_meet(
+    alloc: Global,
+    records: &[Played],
+    cells: &[History],
+) -> Result<Option<u32>, OutOfMemory>
+    requires few { length records.now < 2 ^ 32 }
+    requires rising { RiseByLine records.now }
+    requires within { All IsPlayedWithin records.now }
+    requires registers { (i : ℕ) → RegistersDemand usable_of (history_at cells.now) records.now (places.Record i) }
+    requires slots { (i : ℕ) → SlotsDemand records.now (places.Record i) }
+    ensures { IfOk result (TellsFirst (λ i. ContentsDemand usable_of (history_at cells.now) records.now (places.Record i))) }
+{
+    if need_no_content(records) {
+        return Ok(None);
+    }
+    values_meet(alloc, records, cells)
+}
+
+// Whether the answer is one that a record may give whatever its slot holds: poison for a slot that was freed, or no value
+// at all.
+fn needs_no_content(answer: Answer) -> bool
+    ensures { IsTrue result ↔ NeedsNoContent answer }
+{
+    match answer {
+        Answer::Value { .. } => false,
+        Answer::Dangling { value, .. } => value == POISON,
+        _ => true,
+    }
+}
+
+// Whether the answer of each record is such a one.
+fn need_no_content(records: &[Played]) -> bool
+    ensures { IsTrue result ↔ All (λ x. NeedsNoContent x.answer) records.now }
+{
+    records.iter().all(|record| needs_no_content(record.answer))
+}
+
+// What contents_meet tells, by tables of what the records put into each slot and of their frees.
+fn values_meet(
     alloc: Global,
     records: &[Played],
     cells: &[History],

@@ -10,6 +10,7 @@ mod keys;
 mod looks;
 mod numbers;
 mod registers;
+mod rises;
 mod seen;
 #[cfg(test)]
 mod seen_tests;
@@ -17,4 +18,4 @@ mod seen_tests;
 mod tests;
 
 pub use contents::contents_meet;
-pub use seen::{records_never_fall_back, seen_meets};
+pub use seen::seen_meets;

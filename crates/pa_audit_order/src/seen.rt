@@ -8,11 +8,12 @@ ghost use Rattle.pa_rules.specs.RecordDemands.{CellsDemand, SeenDemand};
 ghost use Rattle.pa_rules.specs.Tells.{TellsFirst};
 ghost use Rattle.pa_rules.specs.Rising.{RiseByLine};
 ghost use Rattle.pa_audit_records.specs.Rows.{IsPlayedWithin};
-ghost use Rattle.pa_audit_order.specs.Steps.{NeverFallsBack, RecordsNeverFallBack};
+ghost use Rattle.pa_audit_records.specs.Cuts.{RiseByPhase};
 ghost use Rattle.pa_audit_order.specs.Cuts.{IsPrepared, IsOrderly, TellsOf, earlier_of};
 
 use crate::cuts::{Cut, finds_enough, no_cut, reach};
 use crate::hands::{givers_of, previous_of};
+use crate::rises::{has_no_exchange, numbers_rise};
 use pa_audit_records::Salt;
 use pa_machine::OutOfMemory;
 use pa_record::History;
@@ -32,12 +33,15 @@ pub fn seen_meets(
 ) -> Result<Option<u32>, OutOfMemory>
     requires few { length records.now < 2 ^ 32 }
     requires rising { RiseByLine records.now }
-    requires phases { NeverFallsBack records.now }
+    requires phases { RiseByPhase records.now }
     requires within { All IsPlayedWithin records.now }
     requires swaps { (i : ℕ) → CellsDemand (history_at cells.now) records.now (places.Record i) }
     requires exchanges { (k j : ℕ) → CellsDemand (history_at cells.now) records.now (places.Cell k j) }
     ensures { IfOk result (TellsFirst (λ i. SeenDemand (history_at cells.now) records.now (places.Record i))) }
 {
+    if has_no_exchange(cells) && numbers_rise(alloc, salt, records)? {
+        return Ok(None);
+    }
     let previous = previous_of(alloc, salt, records)?;
     let givers = givers_of(alloc, records, cells)?;
     let mut first = None;
@@ -98,8 +102,3 @@ fn walk(
     }
     Ok(None)
 }
-
-/// The law that the records beside the ops of a trace's lines stand in the order of its phases.
-pub fn records_never_fall_back()
-    ensures { RecordsNeverFallBack }
-{}

@@ -1,7 +1,7 @@
 ghost use Rattle.std.specs.Prelude.{◌-◌, ◌<◌, ◌^◌, length};
 
+use crate::seen_meets;
 use crate::tests::{ALLOC, FIRST, READ, all_within, done, entry, gave, history, line, made, value};
-use crate::{records_never_fall_back, seen_meets};
 use pa_audit_records::{Salt, exchanges_meet, records_of, swaps_meet};
 use pa_machine::OutOfMemory;
 use pa_record::{Answer, Entry, Held, History};
@@ -21,7 +21,6 @@ fn seen_of(
 {
     let told = records_of(alloc, lines, entries)?;
     let records = told.as_slice();
-    records_never_fall_back();
     if !all_within(records) {
         return Ok(Some(u32::MAX));
     }

@@ -5,7 +5,9 @@ pub mod Rising
 pub mod Rowing
 pub mod Putting
 pub mod Walking
+pub mod Going
 pub mod Stepping
 pub mod Fitting
 pub mod Seeking
 pub mod Exchanging
+pub mod Cutting

@@ -14,6 +14,7 @@ use Rattle.pa_record.proofs.Pairs.{pairs_none, pairs_cons}
 use Rattle.pa_rules.specs.declared.played.Played.{Played}
 use Rattle.pa_rules.specs.Played.{op_lines, beside, played}
 use Rattle.pa_rules.specs.Rising.{RiseByLine}
+use Rattle.pa_audit_records.specs.Cuts.{RiseByPhase}
 use Rattle.pa_audit_records.specs.Rows.{NamesRegisters, IsPlayedWithin}
 use Rattle.pa_audit_records.specs.Limits.{RecordsAreWithin}
 
@@ -38,6 +39,28 @@ rising_from n phase (Do thread op ∷ ls) (e ∷ es) =
 
 pub rising_played : (ls : List Line) (es : List Entry) → RiseByLine (played ls es)
 rising_played ls es = rising_from 2 1 ls es
+
+no_earlier : (n phase : ℕ) (ls : List Line) (es : List Entry) (x : Played) → Contains (map beside (zip (op_lines n phase ls) es)) x → phase ≤ x.phase
+no_earlier n phase [] es x among = absurd (not_in_none x among)
+no_earlier n phase (Phase ∷ ls) es x among = let low = no_earlier (n + 1) (phase + 1) ls es x among in omega (arith, low)
+no_earlier n phase (Do thread op ∷ ls) [] x among = absurd (not_in_none x among)
+no_earlier n phase (Do thread op ∷ ls) (e ∷ es) x among =
+    elim (in_cases (beside (record { line = n; thread = thread; phase = phase; op = op }, e)) x (map beside (zip (op_lines (n + 1) phase ls) es)) among) [
+      | inl same ↦ let is = ap (λ (z : Played). z.phase) same in omega (arith, is)
+      | inr rest ↦ no_earlier (n + 1) phase ls es x rest
+    ]
+
+phased_from : (n phase : ℕ) (ls : List Line) (es : List Entry) → RiseByPhase (map beside (zip (op_lines n phase ls) es))
+phased_from n phase [] es = pairs_none (λ (x y : Played). x.phase ≤ y.phase)
+phased_from n phase (Phase ∷ ls) es = phased_from (n + 1) (phase + 1) ls es
+phased_from n phase (Do thread op ∷ ls) [] = pairs_none (λ (x y : Played). x.phase ≤ y.phase)
+phased_from n phase (Do thread op ∷ ls) (e ∷ es) =
+    pairs_cons (λ (x y : Played). x.phase ≤ y.phase) (beside (record { line = n; thread = thread; phase = phase; op = op }, e)) (map beside (zip (op_lines (n + 1) phase ls) es))
+    (λ y among. no_earlier (n + 1) phase ls es y among)
+    (phased_from (n + 1) phase ls es)
+
+pub phased_played : (ls : List Line) (es : List Entry) → RiseByPhase (played ls es)
+phased_played ls es = phased_from 2 1 ls es
 
 names : (partitions : ℕ) (op : Op) → IsOpWithin partitions op → NamesRegisters op
 names partitions (ops.Alloc reg partition size) h = h.0

@@ -1,6 +1,6 @@
 -- The walk of the registers along the records.
 use Rattle.std.proofs.Common.{◌≡◌, ℕ, zero, suc, ◌+◌, ◌<◌, ◌≤◌, List, [], ◌∷◌, ◌++◌, take, get_or, length, Some, None, refl, sym, ◌∙◌, subst, arith, inl, inr}
-use Rattle.std.specs.Prelude.{slice_get}
+use Rattle.std.specs.Prelude.{slice_get, Contains}
 use Rattle.pa_record.specs.declared.history.CellEntry.{CellEntry}
 use Rattle.pa_rules.specs.declared.played.Played.{Played}
 use Rattle.pa_rules.specs.Registers.{Facts, Regs, AllRegs, Row, RowsTo, with_thread, no_regs}
@@ -12,6 +12,7 @@ use Rattle.pa_rules.specs.declared.register.Reg.{Reg}
 use Rattle.pa_rules.specs.declared.verdict.Place.TheVariants as places
 use Rattle.pa_rules.specs.RecordDemands.{RegistersDemand}
 use Rattle.pa_rules.specs.Sizes.{usable_of}
+use Rattle.pa_verdict.proofs.Lists.{at_in}
 use Rattle.pa_verdict.proofs.Walks.{rows_end}
 use Rattle.pa_rules.specs.Tells.{TellsFirst}
 use Rattle.pa_audit_records.specs.Rows.{MayAnswer}
@@ -49,6 +50,9 @@ pub here_is : {A : Type 0} (xs : List A) (i : ℕ) (d : A) → i < length xs →
 here_is [] i d below = absurd (omega (arith, below))
 here_is (x ∷ xs) zero d below = refl
 here_is (x ∷ xs) (suc i) d below = here_is xs i d (omega (arith, below))
+
+pub record_among : (ps : List Played) (i : ℕ) (d : Played) → i < length ps → Contains ps (get_or ps i d)
+record_among ps i d below = at_in ps i (get_or ps i d) (here_is ps i d below)
 
 pub regs_not : (cells : ℕ → List CellEntry) (ps : List Played) (list : List Reg) (i : ℕ) (d : Played) → i < length ps → RegsSoFar cells ps list i
     → (MayAnswer (facts_by cells ps) (get_or ps i d).op (regs_in list (get_or ps i d).thread) (get_or ps i d).answer → ⊥)

@@ -5,5 +5,7 @@ pub mod ByKeys
 pub mod Seeking
 pub mod Marks
 pub mod Steps
+pub mod Along
 pub mod Exchanges
 pub mod Limits
+pub mod Cuts

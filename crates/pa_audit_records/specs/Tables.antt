@@ -1,7 +1,9 @@
 -- The tables that the checkers keep.
-use Rattle.std.specs.Prelude.{◌≡◌, ℕ, ◌+◌, ◌*◌, ◌<◌, if◌then◌else◌, nat_lt, List, Option, Some, slice_index_or}
+use Rattle.std.specs.Prelude.{◌≡◌, ℕ, ◌+◌, ◌*◌, ◌<◌, if◌then◌else◌, nat_lt, List, Option, Some, Contains, slice_index_or}
 use Rattle.std.specs.Option.{unwrap_or}
 use Rattle.pa_machine.specs.declared.word.SlotName.{SlotName}
+use Rattle.pa_trace.specs.declared.script.Op.{Op}
+use Rattle.pa_trace.specs.declared.script.Op.TheVariants.{Read}
 use Rattle.pa_rules.specs.declared.played.Played.{Played}
 use Rattle.pa_rules.specs.declared.register.Reg.{Reg}
 use Rattle.pa_rules.specs.declared.register.Reg.TheVariants.{Empty}
@@ -23,6 +25,14 @@ usable_by at s = unwrap_or (at (name_key s)) 0
 -- the table has the usable number of each slot
 abbrev pub AreUsables : List Played → (ℕ → Option ℕ) → Type 0
 AreUsables ps at = (s : SlotName) → s.start < 4294967296 → usable_by at s ≡ usable_in ps s
+
+-- the op reads a slot
+abbrev pub ReadsSlot : Op → Type 0
+ReadsSlot op = (reg : ℕ) × (place : ℕ) × (op ≡ Read reg place)
+
+-- it has where one of the records reads a slot
+abbrev pub SuitsReads : List Played → (ℕ → Option ℕ) → Type 0
+SuitsReads ps at = (x : Played) → Contains ps x → ReadsSlot x.op → AreUsables ps at
 
 -- the registers of all threads in a list, 64 of each thread; one that isn't there is empty
 abbrev pub regs_in : List Reg → AllRegs

@@ -1,4 +1,4 @@
-ghost use Rattle.std.specs.Prelude.{◌≡◌, ℕ, None, OnOk};
+ghost use Rattle.std.specs.Prelude.{◌≡◌, ℕ, None, IfOk, OnOk};
 ghost use Rattle.pa_audit_records.specs.ByKeys.{value_at};
 ghost use Rattle.pa_audit_records.specs.Tables.{Puts};
 
@@ -30,8 +30,17 @@ impl<V: Copy> ByKey<V> {
     pub fn put(&mut self, key: u128, value: V) -> Result<(), OutOfMemory>
         ensures { OnOk result (Puts (value_at self.old) (value_at self.new) key value) }
     {
-        self.values.insert(key ^ self.salt, value)?;
+        self.replace(key, value)?;
         Ok(())
+    }
+
+    /// Sets the value at a key, and gives the one that stood there.
+    pub fn replace(&mut self, key: u128, value: V) -> Result<Option<V>, OutOfMemory>
+        ensures old { IfOk result (λ old. old ≡ value_at self.old key) }
+        ensures puts { OnOk result (Puts (value_at self.old) (value_at self.new) key value) }
+    {
+        let old = self.values.insert(key ^ self.salt, value)?;
+        Ok(old)
     }
 
     /// The value at a key.

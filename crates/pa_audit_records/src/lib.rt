@@ -1,11 +1,14 @@
 //! The clauses of a legal run that speak of records: for each, the first place at which it isn't met.
 #![tactic(auto)]
 
+mod along;
 mod by_key;
 mod cells;
+mod ends;
 mod keys;
 mod lines;
 mod marks;
+mod phases;
 mod records;
 mod registers;
 mod rows;
@@ -19,7 +22,9 @@ mod walk;
 
 pub use by_key::ByKey;
 pub use cells::{exchanges_meet, swaps_meet};
+pub use ends::ends_of;
 pub use lines::lines_meet;
+pub use phases::{phases_in, record_ends};
 pub use records::{record_on, records_are_within, records_of};
 pub use salt::Salt;
 pub use slots::slots_meet;

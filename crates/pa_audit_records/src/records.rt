@@ -1,5 +1,6 @@
-ghost use Rattle.std.specs.Prelude.{◌≡◌, ◌<◌, ◌≤◌, ◌-◌, ◌^◌, IfOk, IfSome, IfNone, length};
+ghost use Rattle.std.specs.Prelude.{◌≡◌, ◌↔◌, ◌<◌, ◌≤◌, ◌-◌, ◌^◌, IfOk, IfSome, IfNone, IsTrue, length};
 ghost use Rattle.pa_rules.specs.Played.{played};
+ghost use Rattle.pa_audit_records.specs.Cuts.{RiseByPhase};
 ghost use Rattle.pa_audit_records.specs.Limits.{RecordsAreWithin};
 ghost use Rattle.pa_audit_records.specs.Seeking.{IsOnLine, NoneOnLine};
 ghost use Rattle.pa_rules.specs.Rising.{RiseByLine};
@@ -19,6 +20,7 @@ pub fn records_of(
     requires lines { length lines.now < 2 ^ 32 - 2 }
     ensures records { IfOk result (λ all. all.items ≡ played lines.now records.now) }
     ensures rising { IfOk result (λ all. RiseByLine all.items) }
+    ensures phased { IfOk result (λ all. RiseByPhase all.items) }
     ensures few { IfOk result (λ all. length all.items ≤ length lines.now) }
 {
     let all = gather(alloc, lines, records)?;
@@ -54,15 +56,27 @@ fn gather(alloc: Global, lines: &[Line], records: &[Entry]) -> Result<Vec<Played
     Ok(all)
 }
 
-/// The place of the record on a line, where there is one.
+// Whether the record at this place is on the line.
+fn is_on(records: &[Played], at: usize, line: u32) -> bool
+    ensures { IsTrue result ↔ IsOnLine records.now line at }
+{
+    at < records.len() && records[at].line == line
+}
+
+/// The place of the record on a line, where there is one. Where no phase ends before the line it is at once found, since
+/// line 2 is then the first record's.
 pub fn record_on(records: &[Played], line: u32) -> Option<u32>
     requires few { length records.now < 2 ^ 32 }
     requires rising { RiseByLine records.now }
     ensures some { IfSome result (IsOnLine records.now line) }
     ensures none { IfNone result (NoneOnLine records.now line) }
 {
+    let place = line.saturating_sub(2);
+    if is_on(records, place as usize, line) {
+        return Some(place);
+    }
     let at = records.partition_point(|record| record.line < line);
-    if at < records.len() && records[at].line == line {
+    if is_on(records, at, line) {
         Some(at as u32)
     } else {
         None

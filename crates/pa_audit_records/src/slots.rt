@@ -8,6 +8,7 @@ ghost use Rattle.pa_rules.specs.Rising.{RiseByLine};
 ghost use Rattle.pa_audit_records.specs.Steps.{AreFirsts, AreReached, HasAllSlots, StepFits, MarkFits};
 ghost use Rattle.pa_rules.specs.Tells.{TellsFirst};
 
+use crate::along::stand_in_order;
 use crate::by_key::ByKey;
 use crate::keys::key_word;
 use crate::marks::{Marked, told_mark};
@@ -24,6 +25,9 @@ pub fn slots_meet(alloc: Global, salt: Salt, records: &[Played]) -> Result<Optio
     requires rising { RiseByLine records.now }
     ensures { IfOk result (TellsFirst (λ i. SlotsDemand records.now (places.Record i))) }
 {
+    if stand_in_order(alloc, salt, records)? {
+        return Ok(None);
+    }
     let firsts = firsts(alloc, salt, records)?;
     let reached = runs(alloc, salt, records, &firsts)?;
     let mut at: u32 = 0;

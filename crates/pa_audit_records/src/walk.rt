@@ -1,4 +1,4 @@
-ghost use Rattle.std.specs.Prelude.{◌≡◌, ◌↔◌, ◌<◌, ◌^◌, All, IfOk, IsTrue, List, length, slice_get};
+ghost use Rattle.std.specs.Prelude.{◌≡◌, ◌↔◌, ◌<◌, ◌^◌, All, Any, IfOk, IsTrue, List, length, slice_get};
 ghost use Rattle.pa_audit_records.specs.ByKeys.{value_at};
 ghost use Rattle.pa_rules.specs.declared.verdict.Place.TheVariants as places;
 ghost use Rattle.pa_rules.specs.Cells.{history_at};
@@ -8,7 +8,7 @@ ghost use Rattle.pa_rules.specs.Registers.{usable_in};
 ghost use Rattle.pa_rules.specs.Sizes.{usable_of};
 ghost use Rattle.pa_one_run.proofs.rows.Handles.{change_of, found_by as found_in};
 ghost use Rattle.pa_audit_records.specs.Rows.{AnswersRead, MayAnswer, IsPlayedWithin};
-ghost use Rattle.pa_audit_records.specs.Tables.{AreUsables, AreRegsOf, regs_in, regs_next, facts_by};
+ghost use Rattle.pa_audit_records.specs.Tables.{AreUsables, ReadsSlot, SuitsReads, AreRegsOf, regs_in, regs_next, facts_by};
 ghost use Rattle.pa_rules.specs.Tells.{TellsFirst};
 
 use crate::by_key::ByKey;
@@ -37,7 +37,7 @@ pub fn registers_meet(
     requires within { All IsPlayedWithin records.now }
     ensures { IfOk result (TellsFirst (λ i. RegistersDemand usable_of (history_at cells.now) records.now (places.Record i))) }
 {
-    let usables = usables(alloc, salt, records)?;
+    let usables = usables_to_read(alloc, salt, records)?;
     let mut registers = Registers::new(alloc)?;
     let mut at: u32 = 0;
     for record in records {
@@ -48,6 +48,31 @@ pub fn registers_meet(
         at += 1;
     }
     Ok(None)
+}
+
+// Whether the op reads a slot.
+fn is_read(op: Op) -> bool
+    ensures { IsTrue result ↔ ReadsSlot op }
+{
+    matches!(op, Op::Read { .. })
+}
+
+// Whether a record's op does.
+fn reads(records: &[Played]) -> bool
+    ensures { IsTrue result ↔ Any (λ x. ReadsSlot x.op) records.now }
+{
+    records.iter().any(|record| is_read(record.op))
+}
+
+// The usable numbers of the slots, where a record reads one: no other op looks at them.
+fn usables_to_read(alloc: Global, salt: Salt, records: &[Played]) -> Result<ByKey<u32>, OutOfMemory>
+    ensures { IfOk result (λ m. SuitsReads records.now (value_at m)) }
+{
+    if reads(records) {
+        usables(alloc, salt, records)
+    } else {
+        Ok(ByKey::new(alloc, salt))
+    }
 }
 
 // The usable number of a slot, by the records of which the table was made.
@@ -78,7 +103,7 @@ fn may_answer(
     record: &Played,
 ) -> bool
     requires within { IsPlayedWithin record.now }
-    ensures { (ps : List Played) → AreUsables ps (value_at usables.now) →
+    ensures { (ps : List Played) → (ReadsSlot record.now.op → AreUsables ps (value_at usables.now)) →
         IsTrue result ↔
         MayAnswer (facts_by (history_at cells.now) ps) record.now.op (regs_in registers.now record.now.thread) record.now.answer }
 {

@@ -1,21 +1,17 @@
 -- What the clauses before the report say, in the words in which they are used.
-use Rattle.std.proofs.Common.{◌≡◌, ℕ, ◌+◌, ◌≤◌, List, [], ◌∷◌, map, sym, ap, subst, arith, inl, inr}
-use Rattle.std.specs.Prelude.{All, AllPairs, Contains}
+use Rattle.std.proofs.Common.{◌≡◌, ℕ, ◌≤◌, List, [], ◌∷◌, sym, subst, arith}
+use Rattle.std.specs.Prelude.{All, Contains}
 use Rattle.pa_trace.specs.declared.script.Trace.{Trace}
-use Rattle.pa_trace.specs.declared.script.Line.{Line}
-use Rattle.pa_trace.specs.declared.script.Line.TheVariants.{Phase, Do}
 use Rattle.pa_trace.specs.declared.script.Op.{Op}
 use Rattle.pa_trace.specs.declared.script.Op.TheVariants as ops
 use Rattle.pa_trace.specs.Limits.{IsOpWithin, IsWithinLimits}
 use Rattle.pa_record.specs.declared.run.Run.{Run}
-use Rattle.pa_record.proofs.Joined.{map_in}
-use Rattle.pa_record.proofs.Members.{first_in, in_cases, later_in, not_in_none}
-use Rattle.pa_record.proofs.Pairs.{pairs_cons, pairs_head, pairs_none, pairs_tail}
+use Rattle.pa_record.proofs.Members.{first_in, later_in}
 use Rattle.std.proofs.lemmas.List.Elements.{All-cons, All-nil}
 use Rattle.pa_rules.specs.declared.played.Played.{Played}
 use Rattle.pa_rules.specs.declared.verdict.Clause.TheVariants as clauses
 use Rattle.pa_rules.specs.declared.verdict.Place.TheVariants as places
-use Rattle.pa_rules.specs.Played.{AreDue, AreLines, OpLine, op_line_of, op_lines}
+use Rattle.pa_rules.specs.Played.{AreDue, AreLines}
 use Rattle.pa_rules.specs.Told.{records_of, told_by}
 use Rattle.pa_rules.proofs.Numbering.{lines_rise}
 use Rattle.pa_rules.proofs.Recorded.{records_are_lines}
@@ -25,36 +21,9 @@ use Rattle.pa_verdict.proofs.Journals.{roots_are_places}
 use Rattle.pa_verdict.proofs.Pool.{pool_is_places}
 use Rattle.pa_verdict.proofs.Runs.{slots_are_places}
 use Rattle.pa_verdict.proofs.Simple.{lines_are_places, seen_is_places}
+use Rattle.pa_audit_records.proofs.Rising.{phased_played}
 use Rattle.pa_audit_holders.specs.Rows.{IsOfThreads, NamesPartition}
 use Rattle.pa_audit_report.specs.Given.{HoldBefore, IsGiven}
-
--- ---- phases rise
-
-phase_from : (n phase : ℕ) (ls : List Line) (a : OpLine) → Contains (op_lines n phase ls) a → phase ≤ a.phase
-phase_from n phase [] a among = absurd (not_in_none a among)
-phase_from n phase (Phase ∷ ls) a among = let ih = phase_from (n + 1) (phase + 1) ls a among in omega arith
-phase_from n phase (Do thread op ∷ ls) a among = elim (in_cases (record { line = n; thread = thread; phase = phase; op = op }) a (op_lines (n + 1) phase ls) among) [
-  | inl e ↦ let same : phase ≡ a.phase = ap (λ (z : OpLine). z.phase) e in omega (arith, same)
-  | inr rest ↦ phase_from (n + 1) phase ls a rest
-]
-
-abbrev NoLater : OpLine → OpLine → Type 0
-NoLater a b = a.phase ≤ b.phase
-
-ops_phased : (n phase : ℕ) (ls : List Line) → AllPairs NoLater (op_lines n phase ls)
-ops_phased n phase [] = pairs_none NoLater
-ops_phased n phase (Phase ∷ ls) = ops_phased (n + 1) (phase + 1) ls
-ops_phased n phase (Do thread op ∷ ls) =
-    pairs_cons NoLater (record { line = n; thread = thread; phase = phase; op = op }) (op_lines (n + 1) phase ls)
-    (λ a among. phase_from (n + 1) phase ls a among)
-    (ops_phased (n + 1) phase ls)
-
-records_phased : (ps : List Played) → AllPairs NoLater (map op_line_of ps) → AllPairs (λ (x y : Played). x.phase ≤ y.phase) ps
-records_phased [] h = pairs_none (λ (x y : Played). x.phase ≤ y.phase)
-records_phased (x ∷ xs) h =
-    pairs_cons (λ (u v : Played). u.phase ≤ v.phase) x xs
-    (λ y among. pairs_head NoLater (op_line_of x) (op_line_of y) (map op_line_of xs) h (map_in op_line_of xs y among))
-    (records_phased xs (pairs_tail NoLater (op_line_of x) (map op_line_of xs) h))
 
 -- ---- threads and partitions
 
@@ -91,7 +60,7 @@ module _ (t : Trace) (r : Run) (limits : IsWithinLimits t) (before : HoldBefore 
   given_here : IsGiven t.region t.partitions (records_of t (told_by r)) r.pool.items (told_by r).roots
   given_here = record {
     rising = lines_rise t.lines (records_of t (told_by r)) lines;
-    phased = records_phased (records_of t (told_by r)) (subst (λ z. AllPairs NoLater z) (sym lines) (ops_phased 2 1 t.lines));
+    phased = phased_played t.lines r.entries.items;
     within = all_of (records_of t (told_by r)) within;
     slots = (slots_are_places t (told_by r) due).1 (before clauses.Slots (omega arith));
     ordered = seen_in_phases (told_by r).cells (records_of t (told_by r)) ((seen_is_places t (told_by r)).1 (before clauses.Seen (omega arith)));

@@ -1,6 +1,6 @@
 -- The lines of the report, by partitions and by phases.
-use Rattle.std.proofs.Common.{◌≡◌, ◌≢◌, ℕ, zero, suc, ◌+◌, ◌<◌, ◌≤◌, List, [], ◌∷◌, ◌++◌, length, map, Option, Some, refl, sym, ◌∙◌, ap, subst, arith}
-use Rattle.std.specs.Prelude.{AllPairs, slice_get, slice_index_or}
+use Rattle.std.proofs.Common.{◌≡◌, ◌≢◌, ℕ, zero, suc, ◌+◌, ◌<◌, List, [], ◌∷◌, ◌++◌, length, Option, Some, refl, sym, ◌∙◌, ap, subst, arith}
+use Rattle.std.specs.Prelude.{slice_get, slice_index_or}
 use Rattle.std.proofs.lemmas.List.{map-append, append-nil, append_assoc}
 use Rattle.std.proofs.lemmas.List.Elements.{All-nil, All-push}
 use Rattle.std.proofs.lemmas.List.Kept.{AllPairs-filter}
@@ -8,8 +8,6 @@ use Rattle.pa_record.specs.declared.census.Census.{Census}
 use Rattle.pa_record.specs.declared.pool.PoolEntry.{PoolEntry}
 use Rattle.pa_record.specs.declared.report.ReportLine.{ReportLine}
 use Rattle.pa_record.specs.declared.report.Tally.{Tally}
-use Rattle.pa_record.proofs.Joined.{map_cases}
-use Rattle.pa_record.proofs.Pairs.{pairs_cons, pairs_head, pairs_none, pairs_tail}
 use Rattle.pa_rules.specs.declared.played.Played.{Played}
 use Rattle.pa_rules.specs.Report.{HasCensus, IsCached, IsReport, IsReportLine, partitions_of, phases_of, until}
 use Rattle.pa_rules.specs.Roots.{Journals}
@@ -22,25 +20,15 @@ use Rattle.pa_audit_holders.specs.Lists.{no_slots}
 use Rattle.pa_audit_holders.proofs.Caching.{HaveOneKind}
 use Rattle.pa_audit_report.specs.declared.counts.InUse.{InUse}
 use Rattle.pa_audit_holders.specs.declared.homes.Home.{Home}
-use Rattle.pa_audit_report.specs.Cached.{AreCachedAt}
+use Rattle.pa_audit_holders.specs.Cached.{AreCachedAt}
 use Rattle.pa_audit_report.specs.Counts.{IsUse}
 use Rattle.pa_audit_report.specs.Due.{AreColumns, GathersTo, IsColumn, IsDueAt, IsReportTo, line_by, phases_to}
 use Rattle.pa_audit_report.specs.Given.{IsGiven}
 use Rattle.pa_audit_holders.specs.Homes.{KnowsHomes}
-use Rattle.pa_audit_report.proofs.Cutting.{each_next, long_next}
+use Rattle.pa_audit_records.proofs.Cutting.{each_next, long_next}
 use Rattle.pa_audit_report.proofs.Tallying.{live_is, quarantined_is}
 
 -- ---- what is given
-
-pub phases_sorted : (ps : List Played) → AllPairs (λ (x y : Played). x.phase ≤ y.phase) ps → AllPairs ◌≤◌ (map (λ (x : Played). x.phase) ps)
-phases_sorted [] h = pairs_none ◌≤◌
-phases_sorted (x ∷ xs) h =
-    pairs_cons ◌≤◌ x.phase (map (λ (y : Played). y.phase) xs)
-    (λ n among.
-    let (y, member, is) = map_cases (λ (y : Played). y.phase) xs n among in
-    let up = pairs_head (λ (u v : Played). u.phase ≤ v.phase) x y xs h member in
-    subst (λ k. x.phase ≤ k) is up)
-    (phases_sorted xs (pairs_tail (λ (u v : Played). u.phase ≤ v.phase) x xs h))
 
 pub kinds_given : (supers partitions : ℕ) (ps : List Played) (pools : List PoolEntry) (roots : Journals) → IsGiven supers partitions ps pools roots → HaveOneKind roots
 kinds_given supers partitions ps pools roots g s =

@@ -1,9 +1,6 @@
-mod Cutting
 mod Sizing
 mod Counting
-mod Caching
 mod Tallying
-mod Replays
 mod Columns
 mod Comparing
 mod Before

@@ -15,7 +15,7 @@ use Rattle.pa_audit_holders.specs.declared.homes.Home.{Home}
 use Rattle.pa_audit_report.specs.declared.counts.Count.{Count}
 use Rattle.pa_audit_report.specs.declared.counts.InUse.{InUse}
 use Rattle.pa_audit_report.specs.declared.counts.Stepped.{Stepped}
-use Rattle.pa_audit_report.specs.Cuts.{HasEach}
+use Rattle.pa_audit_records.specs.Cuts.{HasEach}
 use Rattle.pa_audit_report.specs.Sized.{home_in, size_in}
 
 -- by the test the tally is what the slots of partition p weigh on which these records made steps

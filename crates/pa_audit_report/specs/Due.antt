@@ -4,22 +4,11 @@ use Rattle.pa_record.specs.declared.census.Census.{Census}
 use Rattle.pa_record.specs.declared.pool.PoolEntry.{PoolEntry}
 use Rattle.pa_record.specs.declared.report.ReportLine.{ReportLine}
 use Rattle.pa_record.specs.declared.report.Tally.{Tally}
-use Rattle.pa_record.specs.declared.root.RootEntry.{RootEntry}
 use Rattle.pa_rules.specs.declared.played.Played.{Played}
 use Rattle.pa_rules.specs.Roots.{Journals}
-use Rattle.pa_rules.specs.Report.{HasCensus, IsReportLine, partitions_of, phases_of}
-use Rattle.pa_audit_heap.specs.declared.replay.Replay.{Replay}
-use Rattle.pa_audit_heap.specs.Replaying.{IsReplayed}
+use Rattle.pa_rules.specs.Report.{IsReportLine, partitions_of, phases_of}
 use Rattle.pa_audit_report.specs.declared.counts.InUse.{InUse}
-use Rattle.pa_audit_report.specs.Cuts.{HasEach}
-
--- the first j entries of the journal were played
-abbrev pub IsReplayedTo : ℕ → List PoolEntry → List RootEntry → ℕ → Replay → Type 0
-IsReplayedTo supers pools es j r = (least : ℕ) × IsReplayed supers pools es j r least
-
--- what partition p's root has at the end of each phase
-abbrev pub HaveCensuses : List Played → List PoolEntry → Journals → ℕ → List Census → Type 0
-HaveCensuses ps pools roots p censuses = HasEach (λ i c. HasCensus ps pools roots (i + 1) p c) censuses
+use Rattle.pa_audit_records.specs.Cuts.{HasEach}
 
 -- the line of a partition at the end of a phase
 abbrev pub line_by : ℕ → ℕ → InUse → Tally → Census → ReportLine

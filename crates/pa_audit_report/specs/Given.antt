@@ -1,5 +1,5 @@
 -- What the checker of the report is given: the clauses before it, in the words in which they are used.
-use Rattle.std.specs.Prelude.{◌≡◌, ℕ, ◌<◌, ◌≤◌, List, All, AllPairs}
+use Rattle.std.specs.Prelude.{◌≡◌, ℕ, ◌<◌, List, All}
 use Rattle.pa_machine.specs.Run.{Slots}
 use Rattle.pa_trace.specs.declared.script.Trace.{Trace}
 use Rattle.pa_record.specs.declared.pool.PoolEntry.{PoolEntry}
@@ -16,6 +16,7 @@ use Rattle.pa_rules.specs.Rising.{RiseByLine}
 use Rattle.pa_rules.specs.HeapDemands.{CachesDemand, EntryFits}
 use Rattle.pa_rules.specs.Told.{records_of, told_by}
 use Rattle.pa_rules.specs.Verdicts.{Holds, turn}
+use Rattle.pa_audit_records.specs.Cuts.{RiseByPhase}
 use Rattle.pa_audit_heap.specs.Replayed.{DoAllFit}
 use Rattle.pa_audit_holders.specs.Rows.{IsOfThreads}
 
@@ -35,7 +36,7 @@ AreRecordsOf t r ps = ps ≡ records_of t (told_by r)
 --   fit, entries: each entry of the pool fits the pool, and each of a journal its root
 pub record IsGiven (supers partitions : ℕ) (ps : List Played) (pools : List PoolEntry) (roots : Journals) : Type 0 where
   pub rising : RiseByLine ps
-  pub phased : AllPairs (λ (x y : Played). x.phase ≤ y.phase) ps
+  pub phased : RiseByPhase ps
   pub within : All IsOfThreads ps
   pub slots : Slots (marks_of ps)
   pub ordered : IsInPhases ps

@@ -1,5 +1,4 @@
 ghost use Rattle.std.specs.Prelude.{◌≡◌, ℕ, ◌+◌, ◌-◌, ◌<◌, ◌≤◌, ◌^◌, IfOk, List, Option, length};
-ghost use Rattle.pa_audit_records.specs.ByKeys.{value_at};
 ghost use Rattle.pa_trace.specs.Limits.{IsWithinLimits};
 ghost use Rattle.pa_rules.specs.Roots.{journal_at};
 ghost use Rattle.pa_rules.specs.Legal.{phases_in};
@@ -10,18 +9,16 @@ ghost use Rattle.pa_record.specs.declared.pool.PoolEntry.{PoolEntry as Entry};
 ghost use Rattle.pa_audit_report.specs.Counts.{HaveUses};
 ghost use Rattle.pa_audit_holders.specs.declared.homes.Home.{Home as SlotHome};
 ghost use Rattle.pa_audit_holders.specs.Homes.{KnowsHomes};
-ghost use Rattle.pa_audit_report.specs.Cuts.{AreRecordCuts, HasEach};
-ghost use Rattle.pa_audit_report.specs.Cached.{HaveCached};
-ghost use Rattle.pa_audit_report.specs.Due.{AreColumns, HaveCensuses, IsColumn, IsDueAt, line_by};
+ghost use Rattle.pa_audit_records.specs.Cuts.{HasEach};
+ghost use Rattle.pa_audit_heap.specs.Censuses.{HaveCensuses};
+ghost use Rattle.pa_audit_holders.specs.Cached.{HaveCached};
+ghost use Rattle.pa_audit_report.specs.Due.{AreColumns, IsColumn, IsDueAt, line_by};
+ghost use Rattle.pa_audit_report.specs.Known.{KnowsHeap};
 ghost use Rattle.pa_audit_report.specs.Given.{IsGiven};
 
-use crate::cached::cached_of;
-use crate::census::censuses_of;
 use crate::counts::{InUse, in_use_of};
-use crate::ends::ends_of;
-use crate::phases::{phases_in, record_phases};
-use pa_audit_holders::{Home, homes_of};
-use pa_audit_records::{ByKey, Salt};
+use crate::known::Known;
+use pa_audit_records::phases_in;
 use pa_machine::OutOfMemory;
 use pa_record::{Census, ReportLine, Run, Tally};
 use pa_rules::Played;
@@ -55,46 +52,22 @@ impl Column {
 // The report that is due.
 pub(crate) fn due_report(
     alloc: Global,
-    salt: Salt,
     trace: &Trace,
     run: &Run,
     records: &[Played],
+    known: &Known,
 ) -> Result<Vec<ReportLine>, OutOfMemory>
     requires limits { IsWithinLimits trace.now }
     requires few { length records.now < 65536 }
-    requires pools { length run.now.pool.items < 2 ^ 32 - 1 }
-    requires four { length run.now.roots.items ≤ 4 }
-    requires entries { (p : ℕ) → length (journal_at run.now.roots.items p) < 2 ^ 32 }
     requires given { IsGiven trace.now.region trace.now.partitions records.now run.now.pool.items (journal_at run.now.roots.items) }
+    requires known { KnowsHeap trace.now run.now records.now known.now }
     ensures { IfOk result (λ lines. IsReport (phases_in trace.now.lines) trace.now.partitions trace.now.threads records.now
         run.now.pool.items (journal_at run.now.roots.items) lines.items) }
 {
     let phases = phases_in(trace.lines.as_slice());
-    let record_phases = record_phases(alloc, records)?;
-    let ends = ends_of(alloc, record_phases.as_slice(), phases)?;
-    let homes = homes_of(alloc, salt, run.roots.as_slice())?;
-    let cached = cached_of(
-        alloc,
-        trace.partitions,
-        trace.threads,
-        records,
-        ends.as_slice(),
-        run.roots.as_slice(),
-        &homes,
-    )?;
     let mut columns = Vec::new(alloc);
     for partition in 0..trace.partitions {
-        let column = column_of(
-            alloc,
-            trace,
-            run,
-            records,
-            phases,
-            ends.as_slice(),
-            &homes,
-            cached.as_slice(),
-            partition,
-        )?;
+        let column = column_of(alloc, trace, run, records, known, phases, partition)?;
         columns.push(column)?;
     }
     let lines = by_phases(alloc, phases, trace.partitions, columns.as_slice())?;
@@ -107,42 +80,38 @@ fn column_of(
     trace: &Trace,
     run: &Run,
     records: &[Played],
+    known: &Known,
     phases: u32,
-    ends: &[usize],
-    homes: &ByKey<Home>,
-    cached: &[[Tally; 4]],
     partition: u32,
 ) -> Result<Column, OutOfMemory>
     requires limits { IsWithinLimits trace.now }
     requires few { length records.now < 65536 }
-    requires pools { length run.now.pool.items < 2 ^ 32 - 1 }
-    requires entries { (p : ℕ) → length (journal_at run.now.roots.items p) < 2 ^ 32 }
     requires given { IsGiven trace.now.region trace.now.partitions records.now run.now.pool.items (journal_at run.now.roots.items) }
-    requires phases { phases < 2 ^ 32 - 1 }
-    requires ends { AreRecordCuts records.now ends.now }
-    requires many { length ends.now ≡ phases }
-    requires homes { KnowsHomes (journal_at run.now.roots.items) (value_at homes.now) }
-    requires cached { HaveCached trace.now.partitions trace.now.threads (journal_at run.now.roots.items) records.now cached.now }
-    requires listed { length cached.now ≡ phases }
+    requires known { KnowsHeap trace.now run.now records.now known.now }
+    requires phases { phases ≡ phases_in trace.now.lines }
+    requires few_phases { phases < 2 ^ 32 - 1 }
     requires partition { partition < trace.now.partitions }
     ensures long { IfOk result (λ lines. length lines ≡ phases) }
     ensures column { IfOk result (λ lines. IsColumn trace.now.partitions trace.now.threads records.now run.now.pool.items
         (journal_at run.now.roots.items) partition lines) }
 {
-    let uses = in_use_of(alloc, partition, records, ends, homes)?;
-    let censuses = censuses_of(
+    let uses = in_use_of(
         alloc,
-        trace.region,
-        trace.partitions,
-        phases,
-        records,
-        run.pool.as_slice(),
-        run.roots.as_slice(),
         partition,
+        records,
+        known.ends.as_slice(),
+        &known.homes,
     )?;
+    let censuses = known.censuses[partition as usize].items();
     let mut lines = Vec::new(alloc);
     for at in 0..phases {
-        let line = line_at(uses.as_slice(), cached, censuses.as_slice(), partition, at);
+        let line = line_at(
+            uses.as_slice(),
+            known.cached.as_slice(),
+            censuses,
+            partition,
+            at,
+        );
         lines.push(line)?;
     }
     Ok(Column { lines })

@@ -2,14 +2,12 @@
 //! line that isn't the one that is due.
 #![tactic(auto)]
 
-mod cached;
-mod census;
 mod counts;
 mod due;
-mod ends;
-mod phases;
+mod known;
 mod report;
 #[cfg(test)]
 mod tests;
 
+pub use known::Known;
 pub use report::report_meets;

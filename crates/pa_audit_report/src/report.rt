@@ -2,14 +2,14 @@ ghost use Rattle.std.specs.Prelude.{◌≡◌, ℕ, ◌-◌, ◌<◌, ◌≤◌,
 ghost use Rattle.pa_trace.specs.Limits.{IsWithinLimits};
 ghost use Rattle.pa_rules.specs.declared.verdict.Clause.TheVariants as clauses;
 ghost use Rattle.pa_rules.specs.declared.verdict.Place.TheVariants as places;
-ghost use Rattle.pa_rules.specs.Roots.{journal_at};
 ghost use Rattle.pa_rules.specs.Tells.{TellsFirst};
 ghost use Rattle.pa_rules.specs.Told.{told_by};
 ghost use Rattle.pa_rules.specs.Verdicts.{Demand};
 ghost use Rattle.pa_audit_report.specs.Given.{AreRecordsOf, HoldBefore};
+ghost use Rattle.pa_audit_report.specs.Known.{KnowsHeap};
 
 use crate::due::due_report;
-use pa_audit_records::Salt;
+use crate::known::Known;
 use pa_machine::OutOfMemory;
 use pa_record::{ReportLine, Run};
 use pa_rules::Played;
@@ -20,23 +20,21 @@ use std::alloc::Global;
 /// missing. None where each is.
 pub fn report_meets(
     alloc: Global,
-    salt: Salt,
     trace: &Trace,
     run: &Run,
     records: &[Played],
+    known: &Known,
 ) -> Result<Option<u32>, OutOfMemory>
     requires limits { IsWithinLimits trace.now }
     requires records { AreRecordsOf trace.now run.now records.now }
-    requires pools { length run.now.pool.items < 2 ^ 32 - 1 }
-    requires four { length run.now.roots.items ≤ 4 }
-    requires entries { (p : ℕ) → length (journal_at run.now.roots.items p) < 2 ^ 32 }
     requires lines { length run.now.report.items < 2 ^ 32 - 1 }
     requires few { length records.now < 65536 }
     requires before { HoldBefore trace.now run.now }
+    requires known { KnowsHeap trace.now run.now records.now known.now }
     ensures first { IfOk result (TellsFirst (λ i. Demand clauses.Report trace.now (told_by run.now) (places.Report i))) }
     ensures there { IfOk result (λ at. IfSome at (λ i. i ≤ length run.now.report.items)) }
 {
-    let due = due_report(alloc, salt, trace, run, records)?;
+    let due = due_report(alloc, trace, run, records, known)?;
     Ok(first_other(run.report.as_slice(), due.as_slice()))
 }
 

@@ -1,7 +1,9 @@
-use Rattle.std.proofs.Common.{◌<◌, arith}
+use Rattle.std.proofs.Common.{◌<◌, length, sym, ◌∙◌, ap, subst, arith}
 use Rattle.pa_rules.specs.declared.verdict.Clause.{Clause}
 use Rattle.pa_rules.specs.declared.verdict.Clause.TheVariants as clauses
 use Rattle.pa_rules.specs.Verdicts.{turn}
+use Rattle.pa_rules.specs.Played.{played}
+use Rattle.pa_rules.specs.Rising.{RiseByLine}
 use Rattle.pa_audit.proofs.clauses.audit.Goals as goal
 
 -- there are twelve clauses
@@ -20,4 +22,23 @@ turn_below clauses.Seen = omega arith
 turn_below clauses.Report = omega arith
 
 pub returns : goal.returns
-returns c = (c.legal_is.ensures c.args.trace.now c.args.run.now).1 (λ d. let less = turn_below d in c.loop-at.invariant d (omega (arith, less, c.loop-at-test.false)))
+returns c = (c.legal_is.ensures c.args.trace.now c.args.run.now).1 (λ d. let less = turn_below d in c.loop-at.invariant.holds d (omega (arith, less, c.loop-at-test.false)))
+
+pub clause_fails-requires-clause-can : goal.clause_fails-requires-clause-can
+clause_fails-requires-clause-can c =
+    let t = c.args.trace.now in
+    let r = c.args.run.now in
+    let same = c.as_slice-in-loop-at.ensures.value in
+    let told = c.in_ok-records.ensures in
+    let lines = c.as_slice.ensures in
+    let short = c.requires.limits.few in
+    let few = told.few in
+    record {
+      limits = c.requires.limits;
+      printable = c.requires.printable;
+      short = c.requires.short;
+      records = same ∙ told.records ∙ ap (λ ls. played ls c.as_slice-2.result.now) c.as_slice.ensures ∙ ap (played c.args.trace.now.lines) c.as_slice-2.ensures.value;
+      few = let long = ap length same in let all = ap length lines in omega (arith, long, all, few, short);
+      rising = subst RiseByLine (sym same) told.rising;
+      before = λ d less. c.loop-at.invariant.holds d (let at = c.clause_of-clause.ensures in omega (arith, less, at));
+    }

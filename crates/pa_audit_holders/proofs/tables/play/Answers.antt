@@ -1,10 +1,5 @@
-use Rattle.std.proofs.Common.{◌↔◌, List, ◌++◌, map, subst}
-use Rattle.std.specs.Prelude.{IsTrue}
 use Rattle.pa_audit_records.specs.ByKeys.{value_at}
-use Rattle.pa_record.specs.declared.numbered.Numbered.{Numbered}
-use Rattle.pa_audit_holders.specs.Owners.{AllFit, HasOwners, move_on}
 use Rattle.pa_legal.specs.Numbers.{all_moves}
-use Rattle.pa_audit_holders.specs.Gone.{NoneGone}
 use Rattle.pa_audit_holders.proofs.Tabling.{entry_fits, owners_grown}
 use Rattle.pa_audit_holders.proofs.tables.play.Goals as goal
 
@@ -16,8 +11,7 @@ returns-clause-table c = λ before h.
     let course = c.moves_of-moves.result.course in
     record {
       owners =
-          owners_grown ps before e course c.moves_of-moves.result.slots g (c.moves_of-moves.ensures e.line)
-          (subst (λ (xs : List Numbered). HasOwners ps (all_moves before ++ map (move_on e.line course) xs) g) c.items-2.ensures.items (c.in_ok-fit.ensures.owners (all_moves before) h.owners));
+          owners_grown ps before e course c.moves_of-moves.result.slots.now g (c.moves_of-moves.ensures e.line) (c.in_ok-fit.ensures.owners (all_moves before) h.owners);
       gone = c.in_ok-enter_gone.ensures before h.gone;
     }
 
@@ -26,6 +20,5 @@ returns-clause-fits c = λ before h.
     let ps = c.args.records.now in
     let e = c.args.entry.now in
     let course = c.moves_of-moves.result.course in
-    entry_fits ps before e course c.moves_of-moves.result.slots c.in_ok-fit.fit c.none_gone-stays.result c.both.result (c.moves_of-moves.ensures e.line)
-    (subst (λ (xs : List Numbered). IsTrue c.in_ok-fit.fit ↔ AllFit ps (all_moves before) (map (move_on e.line course) xs)) c.items-2.ensures.items (c.in_ok-fit.ensures.fits (all_moves before) h.owners))
-    (subst (λ (xs : List Numbered). IsTrue c.none_gone-stays.result ↔ NoneGone before xs) c.items.ensures.items (c.none_gone-stays.ensures before h.gone)) c.both.ensures
+    entry_fits ps before e course c.moves_of-moves.result.slots.now c.in_ok-fit.fit c.none_gone-stays.result c.both.result (c.moves_of-moves.ensures e.line)
+    (c.in_ok-fit.ensures.fits (all_moves before) h.owners) (c.none_gone-stays.ensures before h.gone) c.both.ensures

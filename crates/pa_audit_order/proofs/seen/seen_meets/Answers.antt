@@ -1,10 +1,16 @@
-use Rattle.std.proofs.Common.{◌≡◌, ◌+◌, sym, subst, arith}
+use Rattle.std.proofs.Common.{◌≡◌, ◌+◌, refl, sym, subst, arith}
 use Rattle.pa_rules.specs.declared.verdict.Place.TheVariants as places
 use Rattle.pa_rules.specs.Cells.{history_at}
 use Rattle.pa_rules.specs.RecordDemands.{SeenDemand}
 use Rattle.pa_audit_order.specs.Cuts.{TellsBelow}
+use Rattle.pa_audit_order.proofs.Climbing.{none_exchanged, seen_met}
 use Rattle.pa_audit_order.proofs.Meeting.{below_more, below_all}
 use Rattle.pa_audit_order.proofs.seen.seen_meets.Goals as goal
+
+pub returns-then-branch : goal.returns-then-branch
+returns-then-branch c =
+    seen_met (history_at c.args.cells.now) c.args.records.now c.requires.rising c.requires.phases (none_exchanged c.args.cells.now (c.if-has_no_exchange.ensures.0 refl))
+    (c.in_ok-numbers_rise.ensures c.if-branch.true)
 
 pub loop-thread-preserved : goal.loop-thread-preserved
 loop-thread-preserved c =

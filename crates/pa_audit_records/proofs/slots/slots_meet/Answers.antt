@@ -6,7 +6,11 @@ use Rattle.pa_rules.specs.RecordDemands.{SlotsDemand}
 use Rattle.pa_audit_records.proofs.Telling.{met_more, tells_at, tells_none}
 use Rattle.pa_audit_records.proofs.Walking.{not_there}
 use Rattle.pa_audit_records.proofs.Fitting.{slot_met, slot_fits}
+use Rattle.pa_audit_records.proofs.Going.{slots_met}
 use Rattle.pa_audit_records.proofs.slots.slots_meet.Goals as goal
+
+pub returns-then-branch : goal.returns-then-branch
+returns-then-branch c = slots_met c.args.records.now (c.in_ok-stand_in_order.ensures c.if-branch.true)
 
 pub returns-then-not-mark_fits : goal.returns-then-not-mark_fits
 returns-then-not-mark_fits c =

@@ -5,7 +5,7 @@ use Rattle.pa_rules.specs.Cells.{history_at}
 use Rattle.pa_rules.specs.RecordDemands.{RegistersDemand}
 use Rattle.pa_rules.specs.Sizes.{usable_of}
 use Rattle.pa_rules.specs.Tells.{TellsFirst}
-use Rattle.pa_audit_records.proofs.Walking.{regs_start, regs_not, regs_more, regs_all}
+use Rattle.pa_audit_records.proofs.Walking.{record_among, regs_start, regs_not, regs_more, regs_all}
 use Rattle.pa_audit_records.proofs.walk.registers_meet.Goals as goal
 
 pub loop-record-init : goal.loop-record-init
@@ -18,7 +18,8 @@ returns-then-not-may_answer c =
     let P = λ (k : ℕ). TellsFirst (λ i. RegistersDemand usable_of cells ps (places.Record i)) (Some k) in
     subst P (sym c.loop-record.invariant.at)
     (regs_not cells ps c.loop-record.registers c.loop-record.record-index _ c.loop-record-test.true c.loop-record.invariant.walk
-    (λ may. false≢true ((c.if-not-may_answer.ensures ps c.in_ok-usables.ensures).1 may)))
+    (λ may. false≢true
+    ((c.if-not-may_answer.ensures ps (c.in_ok-usables.ensures _ (record_among ps c.loop-record.record-index _ c.loop-record-test.true))).1 may)))
 
 pub loop-record-preserved : goal.loop-record-preserved
 loop-record-preserved c =
@@ -27,7 +28,7 @@ loop-record-preserved c =
     record {
       walk =
           regs_more cells ps c.loop-record.registers c.change.new.registers c.loop-record.record-index _ c.loop-record-test.true c.loop-record.invariant.walk
-          ((c.if-not-may_answer.ensures ps c.in_ok-usables.ensures).0 refl) c.change.ensures;
+          ((c.if-not-may_answer.ensures ps (c.in_ok-usables.ensures _ (record_among ps c.loop-record.record-index _ c.loop-record-test.true))).0 refl) c.change.ensures;
       at = ap (λ n. n + 1) c.loop-record.invariant.at;
     }
 

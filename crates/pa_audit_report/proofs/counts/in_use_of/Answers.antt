@@ -4,9 +4,9 @@ use Rattle.std.proofs.lemmas.Option.{slice_get-get_or}
 use Rattle.pa_rules.specs.declared.played.Played.{Played}
 use Rattle.pa_rules.specs.Report.{until}
 use Rattle.pa_audit_report.specs.Counts.{HasCounted, IsUse}
-use Rattle.pa_audit_report.specs.Cuts.{HasEach}
+use Rattle.pa_audit_records.specs.Cuts.{HasEach}
 use Rattle.pa_audit_report.specs.declared.counts.InUse.{InUse}
-use Rattle.pa_audit_report.proofs.Cutting.{cut_order, each_next, each_none, long_next, low_none, until_is, within_records}
+use Rattle.pa_audit_records.proofs.Cutting.{cut_order, each_next, each_none, long_next, low_none, until_is, within_records}
 use Rattle.pa_audit_report.proofs.counts.in_use_of.Goals as goal
 
 pub count_on-count-requires-clause-order : goal.count_on-count-requires-clause-order

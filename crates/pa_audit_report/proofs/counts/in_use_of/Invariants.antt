@@ -2,7 +2,7 @@ use Rattle.std.proofs.Common.{◌≡◌, length, map, take}
 use Rattle.pa_audit_records.specs.ByKeys.{value_at}
 use Rattle.pa_rules.specs.declared.played.Played.{Played}
 use Rattle.pa_audit_report.specs.Counts.{HasCounted, HaveUses}
-use Rattle.pa_audit_report.specs.Cuts.{IsLow}
+use Rattle.pa_audit_records.specs.Cuts.{IsLow}
 use Rattle.pa_audit_report.proofs.counts.in_use_of.Given as goal
 
 abbrev pub invariant-loop-end : goal.invariant-loop-end

@@ -1,0 +1,45 @@
+ghost use Rattle.std.specs.Prelude.{◌≡◌, ◌+◌, ◌<◌, ◌≤◌, ◌^◌, length};
+ghost use Rattle.pa_audit_holders.specs.Cached.{HaveListed, IsListed};
+ghost use Rattle.pa_audit_holders.specs.Lists.{caches_in};
+
+use crate::lists::ThreadLists;
+use pa_record::Tally;
+
+// What the lists of the first threads have of each partition.
+pub(crate) fn all_listed(threads: u32, caches: &[ThreadLists]) -> [Tally; 4]
+    requires threads { threads ≤ 16 }
+    requires many { length caches.now ≡ 16 }
+    ensures { HaveListed threads (caches_in caches.now) result }
+{
+    [
+        listed(threads, 0, caches),
+        listed(threads, 1, caches),
+        listed(threads, 2, caches),
+        listed(threads, 3, caches),
+    ]
+}
+
+fn listed(threads: u32, partition: u32, caches: &[ThreadLists]) -> Tally
+    requires partition { partition < 4 }
+    requires threads { threads ≤ 16 }
+    requires many { length caches.now ≡ 16 }
+    ensures { IsListed threads (caches_in caches.now) partition result }
+{
+    let mut sum = Tally { slots: 0, bytes: 0 };
+    for thread in 0..threads {
+        sum = both(sum, caches[thread as usize].sum(partition));
+    }
+    sum
+}
+
+// Two tallies together.
+fn both(a: Tally, b: Tally) -> Tally
+    requires slots { a.slots + b.slots < 2 ^ 64 }
+    requires bytes { a.bytes + b.bytes < 2 ^ 64 }
+    ensures { result ≡ record { slots = a.slots + b.slots; bytes = a.bytes + b.bytes } }
+{
+    Tally {
+        slots: a.slots + b.slots,
+        bytes: a.bytes + b.bytes,
+    }
+}

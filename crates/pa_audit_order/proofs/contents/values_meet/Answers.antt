@@ -1,0 +1,59 @@
+use Rattle.std.proofs.Common.{◌+◌, length, ap, refl, arith}
+use Rattle.std.proofs.lemmas.Bool.{false≢true}
+use Rattle.pa_rules.specs.declared.verdict.Place.TheVariants as places
+use Rattle.pa_rules.specs.Cells.{history_at}
+use Rattle.pa_rules.specs.RecordDemands.{ContentsDemand}
+use Rattle.pa_rules.specs.Sizes.{usable_of}
+use Rattle.pa_audit_records.proofs.Telling.{met_more, tells_at, tells_none}
+use Rattle.pa_audit_records.proofs.Walking.{not_there, regs_start}
+use Rattle.pa_audit_order.specs.declared.numbers.Kind.TheVariants.{Fill, Free}
+use Rattle.pa_audit_order.proofs.Giving.{regs_on, content_met, content_may}
+use Rattle.pa_audit_order.proofs.Stamping.{one_at}
+use Rattle.pa_audit_order.proofs.contents.values_meet.Goals as goal
+
+pub by_number-requires-clause-one : goal.by_number-requires-clause-one
+by_number-requires-clause-one c = one_at Fill c.args.records.now c.requires.rising c.requires.slots
+
+pub by_number-requires-2-clause-one : goal.by_number-requires-2-clause-one
+by_number-requires-2-clause-one c = one_at Free c.args.records.now c.requires.rising c.requires.slots
+
+pub may_give-requires-clause-one_fill : goal.may_give-requires-clause-one_fill
+may_give-requires-clause-one_fill c = one_at Fill c.args.records.now c.requires.rising c.requires.slots
+
+pub may_give-requires-clause-one_free : goal.may_give-requires-clause-one_free
+may_give-requires-clause-one_free c = one_at Free c.args.records.now c.requires.rising c.requires.slots
+
+pub loop-record-init : goal.loop-record-init
+loop-record-init c = record {
+  met = λ j below. absurd (omega arith);
+  regs = regs_start (history_at c.args.cells.now) c.args.records.now c.in_ok-registers.registers c.in_ok-registers.ensures;
+  at = refl;
+}
+
+pub returns-then-not-may_give : goal.returns-then-not-may_give
+returns-then-not-may_give c =
+    let ps = c.args.records.now in
+    let cells = history_at c.args.cells.now in
+    let i = c.loop-record.record-index in
+    tells_at (λ k. ContentsDemand usable_of cells ps (places.Record k)) i c.loop-record.at c.loop-record.invariant.at
+    (λ asks. false≢true (c.if-not-may_give.ensures.1
+    (content_may cells ps c.loop-record.registers i _ c.requires.rising c.loop-record-test.true c.loop-record.invariant.regs asks))) c.loop-record.invariant.met
+
+pub loop-record-preserved : goal.loop-record-preserved
+loop-record-preserved c =
+    let ps = c.args.records.now in
+    let cells = history_at c.args.cells.now in
+    let i = c.loop-record.record-index in
+    record {
+      met =
+          met_more (λ k. ContentsDemand usable_of cells ps (places.Record k)) i c.loop-record.invariant.met
+          (content_met cells ps c.loop-record.registers i _ c.loop-record-test.true c.loop-record.invariant.regs (c.if-not-may_give.ensures.0 refl));
+      regs = regs_on cells ps c.loop-record.registers c.change.new.registers i _ c.loop-record-test.true c.requires.registers c.loop-record.invariant.regs c.change.ensures;
+      at = ap (λ n. n + 1) c.loop-record.invariant.at;
+    }
+
+pub returns : goal.returns
+returns c =
+    let ps = c.args.records.now in
+    let cells = history_at c.args.cells.now in
+    tells_none (λ k. ContentsDemand usable_of cells ps (places.Record k)) (length ps) c.loop-record.record-index c.loop-record-test.false c.loop-record.invariant.met (λ j past x at. absurd (not_there ps j x past at))

@@ -1,0 +1,14 @@
+use Rattle.std.proofs.Common.{◌≡◌, ℕ, ◌<◌}
+use Rattle.pa_rules.specs.declared.verdict.Place.TheVariants as places
+use Rattle.pa_rules.specs.Cells.{history_at}
+use Rattle.pa_rules.specs.RecordDemands.{ContentsDemand}
+use Rattle.pa_rules.specs.Sizes.{usable_of}
+use Rattle.pa_audit_records.proofs.Walking.{RegsSoFar}
+use Rattle.pa_audit_order.proofs.contents.values_meet.Given as goal
+
+abbrev pub invariant-loop-record : goal.invariant-loop-record
+invariant-loop-record l = record {
+  met : (j : ℕ) → j < l.record-index → ContentsDemand usable_of (history_at l.cells) l.records (places.Record j);
+  regs : RegsSoFar (history_at l.cells) l.records l.registers l.record-index;
+  at : l.at ≡ l.record-index;
+}

@@ -1,9 +1,0 @@
-use Rattle.std.proofs.Common.{◌-◌, length}
-use Rattle.pa_audit_report.specs.Cuts.{IsLow}
-use Rattle.pa_audit_report.proofs.ends.end_of.Given as goal
-
-abbrev pub invariant-entries : goal.invariant-entries
-invariant-entries l = IsLow l.phases l.phase l.end
-
-abbrev pub decreases-entries : goal.decreases-entries
-decreases-entries l = length l.phases - l.end

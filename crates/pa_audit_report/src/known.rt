@@ -1,0 +1,15 @@
+use pa_audit_heap::Censuses;
+use pa_audit_holders::Home;
+use pa_audit_records::ByKey;
+use pa_record::Tally;
+
+/// What the checkers of earlier clauses leave for that of the report: how many records are of the first phases, from phase 1 on; the
+/// homes of the slots that journals handed out; and for the end of each phase what the threads' lists have of each of four partitions,
+/// and what the root of each partition has.
+#[derive(Drop)]
+pub struct Known {
+    pub ends: Vec<usize>,
+    pub homes: ByKey<Home>,
+    pub cached: Vec<[Tally; 4]>,
+    pub censuses: Vec<Censuses>,
+}
