@@ -22,8 +22,6 @@ mod walk;
 
 pub use censuses::Censuses;
 pub use laws::records_have_lines;
-pub use lookup::record_of;
 pub use pool::pool_meets;
 pub use refusals::refusals_meet;
-pub use replay::Replay;
 pub use roots::{JournalsFound, journals_meet};

@@ -5,8 +5,8 @@ ghost use Rattle.pa_rules.specs.Rising.{RiseByLine};
 use pa_audit_records::record_on;
 use pa_rules::Played;
 
-/// The record of a line. `None` exactly where there is none. The records stand in the order of their lines.
-pub fn record_of(records: &[Played], line: u32) -> Option<Played>
+// The record of a line. `None` exactly where there is none. The records stand in the order of their lines.
+pub(crate) fn record_of(records: &[Played], line: u32) -> Option<Played>
     requires records { length records.now < 2 ^ 32 }
     requires rising { RiseByLine records.now }
     ensures the_record { IsTheRecord records.now line result }

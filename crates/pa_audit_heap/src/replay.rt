@@ -17,16 +17,16 @@ use pa_place::{Out, Placement, PoolPlan};
 use pa_record::{Numbered, PoolEntry, RootAct};
 use std::alloc::Global;
 
-/// A root and the pool that it asks, as the entries of its journal so far have left them.
+// A root and the pool that it asks, as the entries of its journal so far have left them.
 #[derive(Drop)]
-pub struct Replay {
-    pub root: Placement,
-    pub plan: PoolPlan,
+pub(crate) struct Replay {
+    pub(crate) root: Placement,
+    pub(crate) plan: PoolPlan,
 }
 
 impl Replay {
-    /// A root with no super page, and a pool of this many super pages, at most 64, of which none is taken.
-    pub fn new(alloc: Global, supers: u32) -> Result<Replay, OutOfMemory>
+    // A root with no super page, and a pool of this many super pages, at most 64, of which none is taken.
+    pub(crate) fn new(alloc: Global, supers: u32) -> Result<Replay, OutOfMemory>
         requires { supers ≤ 64 }
         ensures root { IfOk result (λ r. r.root ≡ new_root) }
         ensures plan { IfOk result (λ r. r.plan ≡ new_pool supers) }
@@ -36,9 +36,9 @@ impl Replay {
         Ok(Replay { root, plan })
     }
 
-    /// Whether the entry fits. Where it does it is played. The entry of the pool that it names, if any, comes no earlier than
-    /// those that the plan has.
-    pub fn play(&mut self, pools: &[PoolEntry], act: &RootAct) -> Result<bool, OutOfMemory>
+    // Whether the entry fits. Where it does it is played. The entry of the pool that it names, if any, comes no earlier than
+    // those that the plan has.
+    pub(crate) fn play(&mut self, pools: &[PoolEntry], act: &RootAct) -> Result<bool, OutOfMemory>
         requires pool { DoAllFit self.old.plan.supers pools.now }
         requires few { length pools.now < 2 ^ 32 - 1 }
         requires step { IsInStep pools.now self.old.plan self.old.root }
