@@ -6,14 +6,14 @@ ghost use Rattle.pa_record.specs.Text.{field_text, held_text, cell_text, history
 use crate::writing::push_field;
 use crate::{CellEntry, Held, History};
 use pa_machine::{OutOfMemory, SlotName};
-use pa_text::{push_byte, push_bytes, push_slot};
+use pa_text::{Text, push_byte, push_bytes, push_slot};
 
 /// Appends the lines of all exchanges, by cell from cell 0 on and by index. After want of memory a first part of it
 /// may stand there.
 #[tactic(auto, using(crate::proofs::Joining::starts_through))]
-pub fn push_cells(out: &mut Vec<u8>, cells: &[History]) -> Result<(), OutOfMemory>
-    ensures pushed { OnOk result (out.new.items ≡ out.old.items ++ cells_text cells.now) }
-    ensures kept { OnErr result (StartsWith out.new.items out.old.items) }
+pub fn push_cells(out: &mut Text, cells: &[History]) -> Result<(), OutOfMemory>
+    ensures pushed { OnOk result (out.new ≡ out.old ++ cells_text cells.now) }
+    ensures kept { OnErr result (StartsWith out.new out.old) }
 {
     let mut cell = 0;
     for history in cells {
@@ -25,9 +25,9 @@ pub fn push_cells(out: &mut Vec<u8>, cells: &[History]) -> Result<(), OutOfMemor
 
 // Appends the lines of the history of one cell.
 #[tactic(auto, using(crate::proofs::Joining::starts_through))]
-fn push_history(out: &mut Vec<u8>, cell: u64, entries: &[CellEntry]) -> Result<(), OutOfMemory>
-    ensures pushed { OnOk result (out.new.items ≡ out.old.items ++ history_text cell entries.now) }
-    ensures kept { OnErr result (StartsWith out.new.items out.old.items) }
+fn push_history(out: &mut Text, cell: u64, entries: &[CellEntry]) -> Result<(), OutOfMemory>
+    ensures pushed { OnOk result (out.new ≡ out.old ++ history_text cell entries.now) }
+    ensures kept { OnErr result (StartsWith out.new out.old) }
 {
     let mut index = 0;
     for entry in entries {
@@ -39,13 +39,13 @@ fn push_history(out: &mut Vec<u8>, cell: u64, entries: &[CellEntry]) -> Result<(
 
 // Appends the line of one exchange, with its LF.
 fn push_exchange(
-    out: &mut Vec<u8>,
+    out: &mut Text,
     cell: u64,
     index: u64,
     entry: &CellEntry,
 ) -> Result<(), OutOfMemory>
-    ensures pushed { OnOk result (out.new.items ≡ out.old.items ++ cell_text cell index entry.now) }
-    ensures kept { OnErr result (StartsWith out.new.items out.old.items) }
+    ensures pushed { OnOk result (out.new ≡ out.old ++ cell_text cell index entry.now) }
+    ensures kept { OnErr result (StartsWith out.new out.old) }
 {
     push_place(out, cell, index, entry.line)?;
     push_handles(out, entry.gave, entry.found)?;
@@ -53,11 +53,11 @@ fn push_exchange(
 }
 
 // Appends `c K J LINE` and a space.
-fn push_place(out: &mut Vec<u8>, cell: u64, index: u64, line: u32) -> Result<(), OutOfMemory>
+fn push_place(out: &mut Text, cell: u64, index: u64, line: u32) -> Result<(), OutOfMemory>
     ensures pushed { OnOk result
-        (out.new.items ≡ out.old.items ++
+        (out.new ≡ out.old ++
         (field_text (codes "c ") cell ++ field_text (codes " ") index ++ field_text (codes " ") line ++ codes " ")) }
-    ensures kept { OnErr result (StartsWith out.new.items out.old.items) }
+    ensures kept { OnErr result (StartsWith out.new out.old) }
 {
     push_field(out, b"c ", cell)?;
     push_field(out, b" ", index)?;
@@ -67,9 +67,9 @@ fn push_place(out: &mut Vec<u8>, cell: u64, index: u64, line: u32) -> Result<(),
 
 // Appends `GAVE FOUND`.
 #[tactic(auto, using(pa_text::proofs::Joining::starts_before))]
-fn push_handles(out: &mut Vec<u8>, gave: Held, found: Held) -> Result<(), OutOfMemory>
-    ensures pushed { OnOk result (out.new.items ≡ out.old.items ++ (held_text gave ++ codes " " ++ held_text found)) }
-    ensures kept { OnErr result (StartsWith out.new.items out.old.items) }
+fn push_handles(out: &mut Text, gave: Held, found: Held) -> Result<(), OutOfMemory>
+    ensures pushed { OnOk result (out.new ≡ out.old ++ (held_text gave ++ codes " " ++ held_text found)) }
+    ensures kept { OnErr result (StartsWith out.new out.old) }
 {
     push_held(out, gave)?;
     push_byte(out, b' ')?;
@@ -77,9 +77,9 @@ fn push_handles(out: &mut Vec<u8>, gave: Held, found: Held) -> Result<(), OutOfM
 }
 
 // Appends `-`, `own:SLOT` or `ref:SLOT`.
-fn push_held(out: &mut Vec<u8>, held: Held) -> Result<(), OutOfMemory>
-    ensures pushed { OnOk result (out.new.items ≡ out.old.items ++ held_text held) }
-    ensures kept { OnErr result (StartsWith out.new.items out.old.items) }
+fn push_held(out: &mut Text, held: Held) -> Result<(), OutOfMemory>
+    ensures pushed { OnOk result (out.new ≡ out.old ++ held_text held) }
+    ensures kept { OnErr result (StartsWith out.new out.old) }
 {
     match held {
         Held::Nothing => push_byte(out, b'-'),
@@ -89,9 +89,9 @@ fn push_held(out: &mut Vec<u8>, held: Held) -> Result<(), OutOfMemory>
 }
 
 // Appends the word and the slot's name.
-fn push_handle(out: &mut Vec<u8>, word: &[u8], slot: SlotName) -> Result<(), OutOfMemory>
-    ensures pushed { OnOk result (out.new.items ≡ out.old.items ++ (word.now ++ slot_text slot)) }
-    ensures kept { OnErr result (StartsWith out.new.items out.old.items) }
+fn push_handle(out: &mut Text, word: &[u8], slot: SlotName) -> Result<(), OutOfMemory>
+    ensures pushed { OnOk result (out.new ≡ out.old ++ (word.now ++ slot_text slot)) }
+    ensures kept { OnErr result (StartsWith out.new out.old) }
 {
     push_bytes(out, word)?;
     push_slot(out, slot)

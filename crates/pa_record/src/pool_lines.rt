@@ -5,11 +5,11 @@ use crate::root_lines::push_number_or;
 use crate::writing::push_field;
 use crate::{PoolAct, PoolEntry};
 use pa_machine::OutOfMemory;
-use pa_text::push_byte;
+use pa_text::{Text, push_byte};
 
 /// Appends the lines of the pool's entries, from entry 0 on.
-pub fn push_pool(out: &mut Vec<u8>, entries: &[PoolEntry]) -> Result<(), OutOfMemory>
-    ensures pushed { OnOk result (out.new.items ≡ out.old.items ++ pools_text entries.now) }
+pub fn push_pool(out: &mut Text, entries: &[PoolEntry]) -> Result<(), OutOfMemory>
+    ensures pushed { OnOk result (out.new ≡ out.old ++ pools_text entries.now) }
 {
     let mut index = 0;
     for entry in entries {
@@ -20,8 +20,8 @@ pub fn push_pool(out: &mut Vec<u8>, entries: &[PoolEntry]) -> Result<(), OutOfMe
 }
 
 // Appends the line of one entry, with its LF.
-fn push_turn(out: &mut Vec<u8>, index: u64, entry: &PoolEntry) -> Result<(), OutOfMemory>
-    ensures pushed { OnOk result (out.new.items ≡ out.old.items ++ pool_text index entry.now) }
+fn push_turn(out: &mut Text, index: u64, entry: &PoolEntry) -> Result<(), OutOfMemory>
+    ensures pushed { OnOk result (out.new ≡ out.old ++ pool_text index entry.now) }
 {
     push_field(out, b"p ", index)?;
     push_field(out, b" ", u64::from(entry.line))?;
@@ -32,8 +32,8 @@ fn push_turn(out: &mut Vec<u8>, index: u64, entry: &PoolEntry) -> Result<(), Out
 }
 
 // Appends `take COUNT FIRST`, where the first may be `none`, or `give COUNT FIRST`.
-fn push_act(out: &mut Vec<u8>, act: PoolAct) -> Result<(), OutOfMemory>
-    ensures pushed { OnOk result (out.new.items ≡ out.old.items ++ pool_act_text act) }
+fn push_act(out: &mut Text, act: PoolAct) -> Result<(), OutOfMemory>
+    ensures pushed { OnOk result (out.new ≡ out.old ++ pool_act_text act) }
 {
     match act {
         PoolAct::Take { count, first } => {

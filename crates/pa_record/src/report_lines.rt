@@ -5,11 +5,11 @@ ghost use Rattle.pa_record.specs.Text.{field_text, tally_text, places_text, byte
 use crate::writing::push_field;
 use crate::{ReportLine, Tally};
 use pa_machine::OutOfMemory;
-use pa_text::push_byte;
+use pa_text::{Text, push_byte};
 
 /// Appends the lines of the report, in their order.
-pub fn push_report(out: &mut Vec<u8>, report: &[ReportLine]) -> Result<(), OutOfMemory>
-    ensures pushed { OnOk result (out.new.items ≡ out.old.items ++ flat_map report_text report.now) }
+pub fn push_report(out: &mut Text, report: &[ReportLine]) -> Result<(), OutOfMemory>
+    ensures pushed { OnOk result (out.new ≡ out.old ++ flat_map report_text report.now) }
 {
     for line in report {
         push_line(out, line)?;
@@ -18,8 +18,8 @@ pub fn push_report(out: &mut Vec<u8>, report: &[ReportLine]) -> Result<(), OutOf
 }
 
 // Appends one line of the report, with its LF.
-fn push_line(out: &mut Vec<u8>, line: &ReportLine) -> Result<(), OutOfMemory>
-    ensures pushed { OnOk result (out.new.items ≡ out.old.items ++ report_text line.now) }
+fn push_line(out: &mut Text, line: &ReportLine) -> Result<(), OutOfMemory>
+    ensures pushed { OnOk result (out.new ≡ out.old ++ report_text line.now) }
 {
     push_places(out, line)?;
     push_field(out, b" committed ", line.committed)?;
@@ -30,8 +30,8 @@ fn push_line(out: &mut Vec<u8>, line: &ReportLine) -> Result<(), OutOfMemory>
 
 // Appends the line's phase, its partition, and where its slots are.
 #[tactic(auto, unfolding(crate::specs::Text::places_text))]
-fn push_places(out: &mut Vec<u8>, line: &ReportLine) -> Result<(), OutOfMemory>
-    ensures pushed { OnOk result (out.new.items ≡ out.old.items ++ places_text line.now) }
+fn push_places(out: &mut Text, line: &ReportLine) -> Result<(), OutOfMemory>
+    ensures pushed { OnOk result (out.new ≡ out.old ++ places_text line.now) }
 {
     push_field(out, b"s ", u64::from(line.phase))?;
     push_field(out, b" ", u64::from(line.partition))?;
@@ -43,8 +43,8 @@ fn push_places(out: &mut Vec<u8>, line: &ReportLine) -> Result<(), OutOfMemory>
 
 // Appends the line's spans by state.
 #[tactic(auto, unfolding(crate::specs::Text::spans_text))]
-fn push_spans(out: &mut Vec<u8>, line: &ReportLine) -> Result<(), OutOfMemory>
-    ensures pushed { OnOk result (out.new.items ≡ out.old.items ++ spans_text line.now) }
+fn push_spans(out: &mut Text, line: &ReportLine) -> Result<(), OutOfMemory>
+    ensures pushed { OnOk result (out.new ≡ out.old ++ spans_text line.now) }
 {
     push_field(out, b" full ", u64::from(line.full))?;
     push_field(out, b" active ", u64::from(line.active))?;
@@ -53,8 +53,8 @@ fn push_spans(out: &mut Vec<u8>, line: &ReportLine) -> Result<(), OutOfMemory>
 }
 
 // Appends the word, the number of slots and the number of bytes.
-fn push_tally(out: &mut Vec<u8>, word: &[u8], tally: Tally) -> Result<(), OutOfMemory>
-    ensures pushed { OnOk result (out.new.items ≡ out.old.items ++ tally_text word.now tally) }
+fn push_tally(out: &mut Text, word: &[u8], tally: Tally) -> Result<(), OutOfMemory>
+    ensures pushed { OnOk result (out.new ≡ out.old ++ tally_text word.now tally) }
 {
     push_field(out, word, tally.slots)?;
     push_field(out, b" ", tally.bytes)

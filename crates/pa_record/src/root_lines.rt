@@ -8,11 +8,11 @@ use crate::writing::push_field;
 use crate::{Journal, Numbered, RootAct, RootEntry};
 use pa_buckets::Class;
 use pa_machine::{OutOfMemory, SlotName};
-use pa_text::{push_byte, push_bytes, push_number, push_slot};
+use pa_text::{Text, push_byte, push_bytes, push_number, push_slot};
 
 // Appends the lines of all journals, from partition 0 on.
-pub(crate) fn push_roots(out: &mut Vec<u8>, journals: &[Journal]) -> Result<(), OutOfMemory>
-    ensures pushed { OnOk result (out.new.items ≡ out.old.items ++ roots_text journals.now) }
+pub(crate) fn push_roots(out: &mut Text, journals: &[Journal]) -> Result<(), OutOfMemory>
+    ensures pushed { OnOk result (out.new ≡ out.old ++ roots_text journals.now) }
 {
     let mut partition = 0;
     for journal in journals {
@@ -23,8 +23,8 @@ pub(crate) fn push_roots(out: &mut Vec<u8>, journals: &[Journal]) -> Result<(), 
 }
 
 // Appends the lines of the journal of one partition.
-fn push_journal(out: &mut Vec<u8>, partition: u64, entries: &[RootEntry]) -> Result<(), OutOfMemory>
-    ensures pushed { OnOk result (out.new.items ≡ out.old.items ++ journal_text partition entries.now) }
+fn push_journal(out: &mut Text, partition: u64, entries: &[RootEntry]) -> Result<(), OutOfMemory>
+    ensures pushed { OnOk result (out.new ≡ out.old ++ journal_text partition entries.now) }
 {
     let mut index = 0;
     for entry in entries {
@@ -36,12 +36,12 @@ fn push_journal(out: &mut Vec<u8>, partition: u64, entries: &[RootEntry]) -> Res
 
 /// Appends the line of the entry at this index of a partition's journal, with its LF.
 pub fn push_root(
-    out: &mut Vec<u8>,
+    out: &mut Text,
     partition: u64,
     index: u64,
     entry: &RootEntry,
 ) -> Result<(), OutOfMemory>
-    ensures pushed { OnOk result (out.new.items ≡ out.old.items ++ root_text partition index entry.now) }
+    ensures pushed { OnOk result (out.new ≡ out.old ++ root_text partition index entry.now) }
 {
     push_field(out, b"r ", partition)?;
     push_field(out, b" ", index)?;
@@ -52,8 +52,8 @@ pub fn push_root(
 }
 
 // Appends what the root did.
-fn push_act(out: &mut Vec<u8>, act: &RootAct) -> Result<(), OutOfMemory>
-    ensures pushed { OnOk result (out.new.items ≡ out.old.items ++ root_act_text act.now) }
+fn push_act(out: &mut Text, act: &RootAct) -> Result<(), OutOfMemory>
+    ensures pushed { OnOk result (out.new ≡ out.old ++ root_act_text act.now) }
 {
     match act {
         RootAct::Fill { class, pool, slots } => push_fill(out, *class, *pool, slots.items()),
@@ -67,12 +67,12 @@ fn push_act(out: &mut Vec<u8>, act: &RootAct) -> Result<(), OutOfMemory>
 
 // Appends `fill CLASS POOL SLOT@K ..`.
 fn push_fill(
-    out: &mut Vec<u8>,
+    out: &mut Text,
     class: Class,
     pool: Option<u32>,
     slots: &[Numbered],
 ) -> Result<(), OutOfMemory>
-    ensures pushed { OnOk result (out.new.items ≡ out.old.items ++ root_act_text (acts.Fill class pool slots.now)) }
+    ensures pushed { OnOk result (out.new ≡ out.old ++ root_act_text (acts.Fill class pool slots.now)) }
 {
     push_field(out, b"fill ", u64::from(class.number()))?;
     push_byte(out, b' ')?;
@@ -81,8 +81,8 @@ fn push_fill(
 }
 
 // Appends `map POOL SLOT@0 LEN`.
-fn push_map(out: &mut Vec<u8>, pool: u32, slot: SlotName, len: u32) -> Result<(), OutOfMemory>
-    ensures pushed { OnOk result (out.new.items ≡ out.old.items ++ root_act_text (acts.Map pool slot len)) }
+fn push_map(out: &mut Text, pool: u32, slot: SlotName, len: u32) -> Result<(), OutOfMemory>
+    ensures pushed { OnOk result (out.new ≡ out.old ++ root_act_text (acts.Map pool slot len)) }
 {
     push_field(out, b"map ", u64::from(pool))?;
     push_byte(out, b' ')?;
@@ -91,8 +91,8 @@ fn push_map(out: &mut Vec<u8>, pool: u32, slot: SlotName, len: u32) -> Result<()
 }
 
 // Appends `full CLASS POOL`, where the class may be `direct`.
-fn push_full(out: &mut Vec<u8>, class: Option<Class>, pool: u32) -> Result<(), OutOfMemory>
-    ensures pushed { OnOk result (out.new.items ≡ out.old.items ++ root_act_text (acts.Full class pool)) }
+fn push_full(out: &mut Text, class: Option<Class>, pool: u32) -> Result<(), OutOfMemory>
+    ensures pushed { OnOk result (out.new ≡ out.old ++ root_act_text (acts.Full class pool)) }
 {
     push_bytes(out, b"full ")?;
     match class {
@@ -103,16 +103,16 @@ fn push_full(out: &mut Vec<u8>, class: Option<Class>, pool: u32) -> Result<(), O
 }
 
 // Appends `give SLOT@K ..`.
-fn push_give(out: &mut Vec<u8>, slots: &[Numbered]) -> Result<(), OutOfMemory>
-    ensures pushed { OnOk result (out.new.items ≡ out.old.items ++ root_act_text (acts.Give slots.now)) }
+fn push_give(out: &mut Text, slots: &[Numbered]) -> Result<(), OutOfMemory>
+    ensures pushed { OnOk result (out.new ≡ out.old ++ root_act_text (acts.Give slots.now)) }
 {
     push_bytes(out, b"give")?;
     push_slots(out, slots)
 }
 
 // Appends `unmap POOL SLOT@K`.
-fn push_unmap(out: &mut Vec<u8>, pool: u32, slot: Numbered) -> Result<(), OutOfMemory>
-    ensures pushed { OnOk result (out.new.items ≡ out.old.items ++ root_act_text (acts.Unmap pool slot)) }
+fn push_unmap(out: &mut Text, pool: u32, slot: Numbered) -> Result<(), OutOfMemory>
+    ensures pushed { OnOk result (out.new ≡ out.old ++ root_act_text (acts.Unmap pool slot)) }
 {
     push_field(out, b"unmap ", u64::from(pool))?;
     push_byte(out, b' ')?;
@@ -120,8 +120,8 @@ fn push_unmap(out: &mut Vec<u8>, pool: u32, slot: Numbered) -> Result<(), OutOfM
 }
 
 // Appends the slots, a space in front of each.
-fn push_slots(out: &mut Vec<u8>, slots: &[Numbered]) -> Result<(), OutOfMemory>
-    ensures pushed { OnOk result (out.new.items ≡ out.old.items ++ slots_text slots.now) }
+fn push_slots(out: &mut Text, slots: &[Numbered]) -> Result<(), OutOfMemory>
+    ensures pushed { OnOk result (out.new ≡ out.old ++ slots_text slots.now) }
 {
     for slot in slots {
         push_byte(out, b' ')?;
@@ -131,20 +131,17 @@ fn push_slots(out: &mut Vec<u8>, slots: &[Numbered]) -> Result<(), OutOfMemory>
 }
 
 // Appends `SLOT@K`.
-fn push_numbered(out: &mut Vec<u8>, slot: Numbered) -> Result<(), OutOfMemory>
-    ensures pushed { OnOk result (out.new.items ≡ out.old.items ++ numbered_text slot) }
+#[inline(always)]
+fn push_numbered(out: &mut Text, slot: Numbered) -> Result<(), OutOfMemory>
+    ensures pushed { OnOk result (out.new ≡ out.old ++ numbered_text slot) }
 {
     push_slot(out, slot.slot)?;
     push_field(out, b"@", slot.number)
 }
 
 // Appends the number, or the word where there is none.
-pub(crate) fn push_number_or(
-    out: &mut Vec<u8>,
-    word: &[u8],
-    n: Option<u32>,
-) -> Result<(), OutOfMemory>
-    ensures pushed { OnOk result (out.new.items ≡ out.old.items ++ number_or word.now n) }
+pub(crate) fn push_number_or(out: &mut Text, word: &[u8], n: Option<u32>) -> Result<(), OutOfMemory>
+    ensures pushed { OnOk result (out.new ≡ out.old ++ number_or word.now n) }
 {
     match n {
         Some(n) => push_number(out, u64::from(n)),

@@ -10,7 +10,7 @@ use crate::report_lines::push_report;
 use crate::root_lines::push_roots;
 use crate::{Entry, Run, push_entry, run_fits};
 use pa_machine::OutOfMemory;
-use pa_text::push_bytes;
+use pa_text::{Text, push_bytes};
 use std::alloc::Global;
 
 // The bytes of a line of a record, the pool or a cell, for the room that is taken ahead: few are longer.
@@ -27,7 +27,7 @@ pub fn write_run(alloc: Global, run: &Run) -> Result<Vec<u8>, OutOfMemory>
     ensures text { IfOk result (λ text. IsRunText run.now text.items) }
 {
     run_fits(run);
-    let mut out = Vec::with_capacity(alloc, room(run))?;
+    let mut out = Text::with_capacity(alloc, room(run))?;
     push_bytes(&mut out, b"run 1\n")?;
     push_entries(&mut out, &run.entries)?;
     push_roots(&mut out, &run.roots)?;
@@ -35,7 +35,7 @@ pub fn write_run(alloc: Global, run: &Run) -> Result<Vec<u8>, OutOfMemory>
     push_cells(&mut out, &run.cells)?;
     push_report(&mut out, &run.report)?;
     push_bytes(&mut out, b"end\n")?;
-    Ok(out)
+    Ok(out.into_vec())
 }
 
 /// A text belongs to one run, and a run has one text: two runs have the same text exactly where they tell the same. A
@@ -62,8 +62,8 @@ fn room(run: &Run) -> usize {
 }
 
 // Appends the lines of the records.
-fn push_entries(out: &mut Vec<u8>, entries: &[Entry]) -> Result<(), OutOfMemory>
-    ensures pushed { OnOk result (out.new.items ≡ out.old.items ++ flat_map entry_text entries.now) }
+fn push_entries(out: &mut Text, entries: &[Entry]) -> Result<(), OutOfMemory>
+    ensures pushed { OnOk result (out.new ≡ out.old ++ flat_map entry_text entries.now) }
 {
     for entry in entries {
         push_entry(out, entry)?;

@@ -6,12 +6,12 @@ ghost use Rattle.pa_record.specs.Text.{answer_text, entry_text, field_text, seen
 
 use crate::{Answer, Entry, Seen};
 use pa_machine::OutOfMemory;
-use pa_text::{push_byte, push_bytes, push_number, push_slot, push_word};
+use pa_text::{Text, push_byte, push_bytes, push_number, push_slot, push_word};
 
 /// Appends the line of the record, with its LF. After want of memory a first part of it may stand there.
-pub fn push_entry(out: &mut Vec<u8>, entry: &Entry) -> Result<(), OutOfMemory>
-    ensures pushed { OnOk result (out.new.items ≡ out.old.items ++ entry_text entry.now) }
-    ensures kept { OnErr result (StartsWith out.new.items out.old.items) }
+pub fn push_entry(out: &mut Text, entry: &Entry) -> Result<(), OutOfMemory>
+    ensures pushed { OnOk result (out.new ≡ out.old ++ entry_text entry.now) }
+    ensures kept { OnErr result (StartsWith out.new out.old) }
 {
     push_place(out, entry.line, entry.thread)?;
     push_answer(out, entry.answer)?;
@@ -19,10 +19,11 @@ pub fn push_entry(out: &mut Vec<u8>, entry: &Entry) -> Result<(), OutOfMemory>
 }
 
 // Appends `e LINE THREAD` and a space.
-fn push_place(out: &mut Vec<u8>, line: u32, thread: u32) -> Result<(), OutOfMemory>
+#[inline(always)]
+fn push_place(out: &mut Text, line: u32, thread: u32) -> Result<(), OutOfMemory>
     ensures pushed { OnOk result
-        (out.new.items ≡ out.old.items ++ (codes "e " ++ decimal line ++ codes " " ++ decimal thread ++ codes " ")) }
-    ensures kept { OnErr result (StartsWith out.new.items out.old.items) }
+        (out.new ≡ out.old ++ (codes "e " ++ decimal line ++ codes " " ++ decimal thread ++ codes " ")) }
+    ensures kept { OnErr result (StartsWith out.new out.old) }
 {
     push_bytes(out, b"e ")?;
     push_number(out, u64::from(line))?;
@@ -32,9 +33,9 @@ fn push_place(out: &mut Vec<u8>, line: u32, thread: u32) -> Result<(), OutOfMemo
 }
 
 // Appends the answer's words.
-fn push_answer(out: &mut Vec<u8>, answer: Answer) -> Result<(), OutOfMemory>
-    ensures pushed { OnOk result (out.new.items ≡ out.old.items ++ answer_text answer) }
-    ensures kept { OnErr result (StartsWith out.new.items out.old.items) }
+fn push_answer(out: &mut Text, answer: Answer) -> Result<(), OutOfMemory>
+    ensures pushed { OnOk result (out.new ≡ out.old ++ answer_text answer) }
+    ensures kept { OnErr result (StartsWith out.new out.old) }
 {
     match answer {
         Answer::Made { seen, usable } => push_made(out, seen, usable),
@@ -58,9 +59,10 @@ fn push_answer(out: &mut Vec<u8>, answer: Answer) -> Result<(), OutOfMemory>
 }
 
 // Appends `made SLOT USABLE FOUND`.
-fn push_made(out: &mut Vec<u8>, seen: Seen, usable: u32) -> Result<(), OutOfMemory>
-    ensures pushed { OnOk result (out.new.items ≡ out.old.items ++ answer_text (Answer.Made seen usable)) }
-    ensures kept { OnErr result (StartsWith out.new.items out.old.items) }
+#[inline(always)]
+fn push_made(out: &mut Text, seen: Seen, usable: u32) -> Result<(), OutOfMemory>
+    ensures pushed { OnOk result (out.new ≡ out.old ++ answer_text (Answer.Made seen usable)) }
+    ensures kept { OnErr result (StartsWith out.new out.old) }
 {
     push_bytes(out, b"made ")?;
     push_slot(out, seen.slot)?;
@@ -71,9 +73,10 @@ fn push_made(out: &mut Vec<u8>, seen: Seen, usable: u32) -> Result<(), OutOfMemo
 }
 
 // Appends `WORD SLOT FOUND`.
-fn push_seen(out: &mut Vec<u8>, word: &[u8], seen: Seen) -> Result<(), OutOfMemory>
-    ensures pushed { OnOk result (out.new.items ≡ out.old.items ++ (word.now ++ seen_text seen)) }
-    ensures kept { OnErr result (StartsWith out.new.items out.old.items) }
+#[inline(always)]
+fn push_seen(out: &mut Text, word: &[u8], seen: Seen) -> Result<(), OutOfMemory>
+    ensures pushed { OnOk result (out.new ≡ out.old ++ (word.now ++ seen_text seen)) }
+    ensures kept { OnErr result (StartsWith out.new out.old) }
 {
     push_bytes(out, word)?;
     push_byte(out, b' ')?;
@@ -83,9 +86,9 @@ fn push_seen(out: &mut Vec<u8>, word: &[u8], seen: Seen) -> Result<(), OutOfMemo
 }
 
 // Appends `WORD SLOT FOUND`, or the word alone.
-fn push_seen_if(out: &mut Vec<u8>, word: &[u8], seen: Option<Seen>) -> Result<(), OutOfMemory>
-    ensures pushed { OnOk result (out.new.items ≡ out.old.items ++ (word.now ++ seen_text_if seen)) }
-    ensures kept { OnErr result (StartsWith out.new.items out.old.items) }
+fn push_seen_if(out: &mut Text, word: &[u8], seen: Option<Seen>) -> Result<(), OutOfMemory>
+    ensures pushed { OnOk result (out.new ≡ out.old ++ (word.now ++ seen_text_if seen)) }
+    ensures kept { OnErr result (StartsWith out.new out.old) }
 {
     match seen {
         Some(seen) => push_seen(out, word, seen),
@@ -94,9 +97,9 @@ fn push_seen_if(out: &mut Vec<u8>, word: &[u8], seen: Option<Seen>) -> Result<()
 }
 
 // Appends `WORD SLOT FOUND VALUE`.
-fn push_read(out: &mut Vec<u8>, word: &[u8], seen: Seen, value: u64) -> Result<(), OutOfMemory>
-    ensures pushed { OnOk result (out.new.items ≡ out.old.items ++ (word.now ++ seen_text seen ++ codes " " ++ hex 16 value)) }
-    ensures kept { OnErr result (StartsWith out.new.items out.old.items) }
+fn push_read(out: &mut Text, word: &[u8], seen: Seen, value: u64) -> Result<(), OutOfMemory>
+    ensures pushed { OnOk result (out.new ≡ out.old ++ (word.now ++ seen_text seen ++ codes " " ++ hex 16 value)) }
+    ensures kept { OnErr result (StartsWith out.new out.old) }
 {
     push_seen(out, word, seen)?;
     push_byte(out, b' ')?;
@@ -104,9 +107,9 @@ fn push_read(out: &mut Vec<u8>, word: &[u8], seen: Seen, value: u64) -> Result<(
 }
 
 // Appends a word and a number.
-pub(crate) fn push_field(out: &mut Vec<u8>, word: &[u8], n: u64) -> Result<(), OutOfMemory>
-    ensures pushed { OnOk result (out.new.items ≡ out.old.items ++ field_text word.now n) }
-    ensures kept { OnErr result (StartsWith out.new.items out.old.items) }
+pub(crate) fn push_field(out: &mut Text, word: &[u8], n: u64) -> Result<(), OutOfMemory>
+    ensures pushed { OnOk result (out.new ≡ out.old ++ field_text word.now n) }
+    ensures kept { OnErr result (StartsWith out.new out.old) }
 {
     push_bytes(out, word)?;
     push_number(out, n)
@@ -131,7 +134,7 @@ mod tests {
     }
 
     // Appends the line of thread 0 with this answer.
-    fn push(out: &mut Vec<u8>, line: u32, answer: Answer) -> Result<(), Fail> {
+    fn push(out: &mut Text, line: u32, answer: Answer) -> Result<(), Fail> {
         Ok(push_entry(
             out,
             &Entry {
@@ -144,7 +147,7 @@ mod tests {
 
     #[test]
     fn each_answer_with_a_word_is_printed(rt: HostRuntime) -> Result<(), Fail> {
-        let mut out = Vec::new(rt.alloc());
+        let mut out = Text::new(rt.alloc());
         push(
             &mut out,
             2,
@@ -223,7 +226,7 @@ e 11 0 shared 00004000.0 0000000003000003
 
     #[test]
     fn each_answer_without_a_word_is_printed(rt: HostRuntime) -> Result<(), Fail> {
-        let mut out = Vec::new(rt.alloc());
+        let mut out = Text::new(rt.alloc());
         push(&mut out, 2, Answer::StaleReset)?;
         push(&mut out, 3, Answer::Nothing)?;
         push(&mut out, 4, Answer::Filled)?;

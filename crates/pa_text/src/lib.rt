@@ -2,9 +2,11 @@
 #![tactic(auto)]
 
 mod reading;
+mod text;
 mod word;
 mod writing;
 
 pub use reading::{behind, number_at, one_front, one_spelling};
+pub use text::Text;
 pub use word::word_at;
 pub use writing::{push_byte, push_bytes, push_number, push_slot, push_word};

@@ -19,6 +19,7 @@ pub fn number_at(bytes: &[u8]) -> Option<(Option<u32>, &[u8])>
 }
 
 /// The bytes behind a word that stands in front. Nothing is read where it doesn't stand there.
+#[inline(always)]
 pub fn behind<'a>(word: &[u8], bytes: &'a [u8]) -> Option<&'a [u8]>
     ensures found { IfSome result (λ x. bytes.now ≡ word.now ++ x.now) }
     ensures none { IfNone result ((rest : List ℕ) → bytes.now ≡ word.now ++ rest → ⊥) }
@@ -63,6 +64,7 @@ fn number_of(bytes: &[u8]) -> Option<(Option<u32>, &[u8])>
 }
 
 // The digit in front, and the bytes behind it.
+#[inline(always)]
 fn digit_at(bytes: &[u8]) -> Option<(u64, &[u8])>
     ensures digit { option_map {U = ℕ × List ℕ} (λ x. (x.0, x.1.now)) result ≡ digit_at bytes.now }
     ensures small { IfSome result (λ x. x.0 < 10) }

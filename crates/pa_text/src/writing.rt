@@ -3,30 +3,31 @@ ghost use Rattle.std.specs.Fmt.{decimal};
 ghost use Rattle.std.specs.Io.{StartsWith};
 ghost use Rattle.pa_text.specs.Hex.{hex, slot_text};
 
+use crate::text::Text;
 use pa_machine::{OutOfMemory, SlotName};
 
 /// Appends the bytes. After want of memory none of them stands there.
-pub fn push_bytes(out: &mut Vec<u8>, bytes: &[u8]) -> Result<(), OutOfMemory>
-    ensures pushed { OnOk result (out.new.items ≡ out.old.items ++ bytes.now) }
-    ensures same { OnErr result (out.new.items ≡ out.old.items) }
+#[inline(always)]
+pub fn push_bytes(out: &mut Text, bytes: &[u8]) -> Result<(), OutOfMemory>
+    ensures pushed { OnOk result (out.new ≡ out.old ++ bytes.now) }
+    ensures same { OnErr result (out.new ≡ out.old) }
 {
-    out.extend_from_slice(bytes)?;
-    Ok(())
+    out.push(bytes)
 }
 
 /// Appends the byte. After want of memory it doesn't stand there.
-pub fn push_byte(out: &mut Vec<u8>, byte: u8) -> Result<(), OutOfMemory>
-    ensures pushed { OnOk result (out.new.items ≡ out.old.items ++ byte ∷ []) }
-    ensures same { OnErr result (out.new.items ≡ out.old.items) }
+#[inline(always)]
+pub fn push_byte(out: &mut Text, byte: u8) -> Result<(), OutOfMemory>
+    ensures pushed { OnOk result (out.new ≡ out.old ++ byte ∷ []) }
+    ensures same { OnErr result (out.new ≡ out.old) }
 {
-    out.push(byte)?;
-    Ok(())
+    out.push(&[byte])
 }
 
 /// Appends the number in decimal. After want of memory none of its digits stands there.
-pub fn push_number(out: &mut Vec<u8>, n: u64) -> Result<(), OutOfMemory>
-    ensures pushed { OnOk result (out.new.items ≡ out.old.items ++ decimal n) }
-    ensures same { OnErr result (out.new.items ≡ out.old.items) }
+pub fn push_number(out: &mut Text, n: u64) -> Result<(), OutOfMemory>
+    ensures pushed { OnOk result (out.new ≡ out.old ++ decimal n) }
+    ensures same { OnErr result (out.new ≡ out.old) }
 {
     if n < 10 {
         return push_digit(out, n as u8);
@@ -37,19 +38,20 @@ pub fn push_number(out: &mut Vec<u8>, n: u64) -> Result<(), OutOfMemory>
 
 // Appends the number, which has one digit.
 #[tactic(auto, using(crate::proofs::Digits::one_digit))]
-fn push_digit(out: &mut Vec<u8>, n: u8) -> Result<(), OutOfMemory>
+#[inline(always)]
+fn push_digit(out: &mut Text, n: u8) -> Result<(), OutOfMemory>
     requires { n < 10 }
-    ensures pushed { OnOk result (out.new.items ≡ out.old.items ++ decimal n) }
-    ensures same { OnErr result (out.new.items ≡ out.old.items) }
+    ensures pushed { OnOk result (out.new ≡ out.old ++ decimal n) }
+    ensures same { OnErr result (out.new ≡ out.old) }
 {
     push_byte(out, b'0' + n)
 }
 
 /// Appends the word as sixteen lower-case hexadecimal digits. After want of memory none of them stands there.
 #[tactic(auto, using(crate::proofs::Hex::word_digits))]
-pub fn push_word(out: &mut Vec<u8>, w: u64) -> Result<(), OutOfMemory>
-    ensures pushed { OnOk result (out.new.items ≡ out.old.items ++ hex 16 w) }
-    ensures same { OnErr result (out.new.items ≡ out.old.items) }
+pub fn push_word(out: &mut Text, w: u64) -> Result<(), OutOfMemory>
+    ensures pushed { OnOk result (out.new ≡ out.old ++ hex 16 w) }
+    ensures same { OnErr result (out.new ≡ out.old) }
 {
     let mut digits = [0; 16];
     hex::encode_to_slice(w.to_be_bytes(), &mut digits).unwrap();
@@ -58,9 +60,9 @@ pub fn push_word(out: &mut Vec<u8>, w: u64) -> Result<(), OutOfMemory>
 
 /// Appends the slot's name, as `00004000.0`. After want of memory a first part of it may stand there.
 #[tactic(auto, using(crate::proofs::Hex::start_digits, crate::proofs::Joining::slot_joined, crate::proofs::Joining::starts_more))]
-pub fn push_slot(out: &mut Vec<u8>, s: SlotName) -> Result<(), OutOfMemory>
-    ensures pushed { OnOk result (out.new.items ≡ out.old.items ++ slot_text s) }
-    ensures kept { OnErr result (StartsWith out.new.items out.old.items) }
+pub fn push_slot(out: &mut Text, s: SlotName) -> Result<(), OutOfMemory>
+    ensures pushed { OnOk result (out.new ≡ out.old ++ slot_text s) }
+    ensures kept { OnErr result (StartsWith out.new out.old) }
 {
     let mut digits = [0; 8];
     hex::encode_to_slice(s.start.to_be_bytes(), &mut digits).unwrap();
@@ -76,7 +78,7 @@ mod tests {
 
     #[test]
     fn numbers_words_and_names_are_spelled(rt: HostRuntime) -> Result<(), Fail> {
-        let mut out = Vec::new(rt.alloc());
+        let mut out = Text::new(rt.alloc());
         push_number(&mut out, 0)?;
         push_byte(&mut out, b' ')?;
         push_number(&mut out, 4294967295)?;

@@ -4,6 +4,7 @@ use crate::{
     run_fits, write_run,
 };
 use pa_machine::SlotName;
+use pa_text::Text;
 use std::test::Fail;
 
 // A direct map is made, goes back, and is made again; there is no room for a second one.
@@ -170,7 +171,7 @@ fn exchanges_are_printed(rt: HostRuntime) -> Result<(), Fail> {
         found: Held::Ref(name(0xfedcba98)),
     })?;
     let cells = Vec::from_array(rt.alloc(), [first, History::new(rt.alloc()), third])?;
-    let mut out = Vec::new(rt.alloc());
+    let mut out = Text::new(rt.alloc());
     push_cells(&mut out, &cells)?;
     let due = b"c 0 0 66 own:00004000.0 -
 c 0 1 132 - own:00004000.0

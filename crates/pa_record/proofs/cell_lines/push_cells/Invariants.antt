@@ -7,6 +7,6 @@ use Rattle.pa_record.proofs.cell_lines.push_cells.Given as goal
 abbrev pub invariant-loop-history : goal.invariant-loop-history
 invariant-loop-history l = record {
   place : l.cell ≡ l.history-index;
-  whole : l.out.items ++ lines_from history_text l.cell (drop l.cell l.cells) ≡ l.fn.out.items ++ lines_from history_text 0 l.cells;
-  kept : StartsWith l.out.items l.fn.out.items;
+  whole : l.out ++ lines_from history_text l.cell (drop l.cell l.cells) ≡ l.fn.out ++ lines_from history_text 0 l.cells;
+  kept : StartsWith l.out l.fn.out;
 }

@@ -7,6 +7,6 @@ use Rattle.pa_record.proofs.cell_lines.push_history.Given as goal
 abbrev pub invariant-loop-entry : goal.invariant-loop-entry
 invariant-loop-entry l = record {
   place : l.index ≡ l.entry-index;
-  whole : l.out.items ++ lines_from (cell_text l.cell) l.index (drop l.index l.entries) ≡ l.fn.out.items ++ lines_from (cell_text l.cell) 0 l.entries;
-  kept : StartsWith l.out.items l.fn.out.items;
+  whole : l.out ++ lines_from (cell_text l.cell) l.index (drop l.index l.entries) ≡ l.fn.out ++ lines_from (cell_text l.cell) 0 l.entries;
+  kept : StartsWith l.out l.fn.out;
 }

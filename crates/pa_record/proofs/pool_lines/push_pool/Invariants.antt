@@ -6,5 +6,5 @@ use Rattle.pa_record.proofs.pool_lines.push_pool.Given as goal
 abbrev pub invariant-loop-entry : goal.invariant-loop-entry
 invariant-loop-entry l = record {
   place : l.index ≡ l.entry-index;
-  whole : l.out.items ++ lines_from pool_text l.index (drop l.index l.entries) ≡ l.fn.out.items ++ lines_from pool_text 0 l.entries;
+  whole : l.out ++ lines_from pool_text l.index (drop l.index l.entries) ≡ l.fn.out ++ lines_from pool_text 0 l.entries;
 }

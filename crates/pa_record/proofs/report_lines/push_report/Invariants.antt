@@ -5,4 +5,4 @@ use Rattle.pa_record.proofs.report_lines.push_report.Given as goal
 
 -- what was told so far stands behind what was there
 abbrev pub invariant-loop-line : goal.invariant-loop-line
-invariant-loop-line l = l.out.items ≡ l.fn.out.items ++ flat_map report_text (take l.line-index l.report)
+invariant-loop-line l = l.out ≡ l.fn.out ++ flat_map report_text (take l.line-index l.report)

@@ -6,5 +6,5 @@ use Rattle.pa_record.proofs.root_lines.push_roots.Given as goal
 abbrev pub invariant-loop-journal : goal.invariant-loop-journal
 invariant-loop-journal l = record {
   place : l.partition ≡ l.journal-index;
-  whole : l.out.items ++ lines_from journal_text l.partition (drop l.partition l.journals) ≡ l.fn.out.items ++ lines_from journal_text 0 l.journals;
+  whole : l.out ++ lines_from journal_text l.partition (drop l.partition l.journals) ≡ l.fn.out ++ lines_from journal_text 0 l.journals;
 }

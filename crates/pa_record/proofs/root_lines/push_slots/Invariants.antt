@@ -5,4 +5,4 @@ use Rattle.pa_record.proofs.root_lines.push_slots.Given as goal
 
 -- what was told so far stands behind what was there
 abbrev pub invariant-loop-slot : goal.invariant-loop-slot
-invariant-loop-slot l = l.out.items ≡ l.fn.out.items ++ flat_map (λ n. codes " " ++ numbered_text n) (take l.slot-index l.slots)
+invariant-loop-slot l = l.out ≡ l.fn.out ++ flat_map (λ n. codes " " ++ numbered_text n) (take l.slot-index l.slots)

@@ -5,4 +5,4 @@ use Rattle.pa_record.proofs.whole.push_entries.Given as goal
 
 -- what was told so far stands behind what was there
 abbrev pub invariant-loop-entry : goal.invariant-loop-entry
-invariant-loop-entry l = l.out.items ≡ l.fn.out.items ++ flat_map entry_text (take l.entry-index l.entries)
+invariant-loop-entry l = l.out ≡ l.fn.out ++ flat_map entry_text (take l.entry-index l.entries)
