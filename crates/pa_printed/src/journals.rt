@@ -7,7 +7,7 @@ ghost use Rattle.pa_record.specs.Bits.{RootInBits};
 use crate::lines::Lines;
 use pa_machine::OutOfMemory;
 use pa_record::RootEntry;
-use pa_text::push_bytes;
+use pa_text::{Text, push_bytes};
 use std::alloc::Global;
 use std::marker::Model;
 
@@ -56,8 +56,8 @@ impl Journals {
     }
 
     // Appends the lines of all journals, from partition 0 on.
-    pub(crate) fn push_all(&self, out: &mut Vec<u8>) -> Result<(), OutOfMemory>
-        ensures pushed { OnOk result (out.new.items ≡ out.old.items ++ roots_text self.now) }
+    pub(crate) fn push_all(&self, out: &mut Text) -> Result<(), OutOfMemory>
+        ensures pushed { OnOk result (out.new ≡ out.old ++ roots_text self.now) }
         ensures fits { OnOk result (AllByRecursion (AllByRecursion RootInBits) self.now) }
         ensures few { length self.now < 2 ^ 63 }
     {
@@ -66,9 +66,9 @@ impl Journals {
 }
 
 // Appends the lines of these journals.
-fn push_texts(out: &mut Vec<u8>, journals: &[Lines]) -> Result<(), OutOfMemory>
+fn push_texts(out: &mut Text, journals: &[Lines]) -> Result<(), OutOfMemory>
     requires { AreFrom 0 journals.now }
-    ensures pushed { OnOk result (out.new.items ≡ out.old.items ++ roots_text (map (λ j. j.entries) journals.now)) }
+    ensures pushed { OnOk result (out.new ≡ out.old ++ roots_text (map (λ j. j.entries) journals.now)) }
     ensures fits { OnOk result (AllByRecursion (AllByRecursion RootInBits) (map (λ j. j.entries) journals.now)) }
 {
     for lines in journals {

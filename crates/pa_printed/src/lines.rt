@@ -6,13 +6,14 @@ ghost use Rattle.pa_record.specs.Text.{journal_text};
 use crate::past::Past;
 use pa_machine::OutOfMemory;
 use pa_record::{RootEntry, push_root, root_fits};
+use pa_text::Text;
 use std::alloc::Global;
 use std::marker::Model;
 
 // The journal of one root so far, kept as its text.
 #[derive(Drop)]
 pub(crate) struct Lines {
-    text: Vec<u8>,
+    text: Text,
     partition: u32,
     len: u64,
     past: Past<RootEntry>,
@@ -25,7 +26,7 @@ impl Model for Lines {
 
     ghost view = { λ lines. record { partition = lines.partition; entries = lines.past.items } };
 
-    ghost invariant = { λ lines. IsJournalText (record { partition = lines.partition; entries = lines.past.items }) lines.len lines.text.items };
+    ghost invariant = { λ lines. IsJournalText (record { partition = lines.partition; entries = lines.past.items }) lines.len lines.text };
 }
 
 impl Lines {
@@ -34,7 +35,7 @@ impl Lines {
         ensures none { result ≡ record { partition = partition; entries = [] } }
     {
         Lines {
-            text: Vec::new(alloc),
+            text: Text::new(alloc),
             partition,
             len: 0,
             past: Past::new(),

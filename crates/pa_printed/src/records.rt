@@ -4,7 +4,7 @@ ghost use Rattle.pa_printed.specs.Lines.{IsRecordsText};
 use crate::past::Past;
 use pa_machine::OutOfMemory;
 use pa_record::{Entry, entry_fits, push_entry};
-use pa_text::push_bytes;
+use pa_text::{Text, push_bytes};
 use std::alloc::Global;
 use std::marker::Model;
 
@@ -14,7 +14,7 @@ const LINE_BYTES: usize = 72;
 /// The records of a run so far, kept as their text. They are seen as the list of them.
 #[derive(Drop)]
 pub struct Records {
-    text: Vec<u8>,
+    text: Text,
     past: Past<Entry>,
 }
 
@@ -28,7 +28,7 @@ impl Model for Records {
 
     ghost view = { λ records. records.past.items };
 
-    ghost invariant = { λ records. IsRecordsText records.past.items records.text.items };
+    ghost invariant = { λ records. IsRecordsText records.past.items records.text };
 }
 
 impl Records {
@@ -36,7 +36,7 @@ impl Records {
     pub fn new(alloc: Global, lines: usize) -> Result<Records, OutOfMemory>
         ensures none { IfOk result (λ records. records ≡ []) }
     {
-        let mut text = Vec::with_capacity(alloc, lines.saturating_mul(LINE_BYTES))?;
+        let mut text = Text::with_capacity(alloc, lines.saturating_mul(LINE_BYTES))?;
         push_bytes(&mut text, b"run 1\n")?;
         Ok(Records {
             text,
@@ -64,8 +64,8 @@ impl Records {
     }
 
     /// The text of a run's first line and of its records.
-    pub(crate) fn into_text(self) -> Vec<u8>
-        ensures text { IsRecordsText self result.items }
+    pub(crate) fn into_text(self) -> Text
+        ensures text { IsRecordsText self result }
     {
         self.text
     }

@@ -32,5 +32,5 @@ pub fn run_text(
     push_cells(&mut out, &cells)?;
     push_report(&mut out, &report)?;
     push_bytes(&mut out, b"end\n")?;
-    Ok(out)
+    Ok(out.into_vec())
 }
