@@ -11,7 +11,7 @@ use Rattle.pa_trace.specs.declared.script.Line.{Line}
 use Rattle.pa_trace.specs.Grammar.{IsHeadText, IsLineText}
 use Rattle.pa_trace.specs.Limits.{IsHeadWithin, IsLineWithin}
 use Rattle.pa_trace.specs.Faults.{lines_of, IsPast, IsBodyLine, IsHeadLine, IsBadLine, IsBadHead, IsFirstBehind, IsFirstOf, IsFirstFault, IsFault}
-use Rattle.pa_trace.specs.Cut.{IsOneLine, told, IsFaultBehind}
+use Rattle.pa_trace.specs.Cut.{IsOneLine, told}
 use Rattle.pa_trace.proofs.Limits.{IsNotRead, IsHeadNotRead}
 use Rattle.pa_trace.proofs.Cuts.{cut_lines, last_line, no_lines, no_cut}
 
@@ -82,30 +82,17 @@ module _ (partitions threads : ℕ) where
   -- a last line without an LF, and what is told of it
   pub first_end : (n before : ℕ) (line : List ℕ) (e : TraceFault) → IsOneLine line → (line ≡ [] → ⊥)
       → ((65536 < n) ⊎ (4194304 < before + length line) → e ≡ Limit n) → (n ≤ 65536 → before + length line ≤ 4194304 → e ≡ BadLine n)
-      → IsFaultBehind partitions threads n before line e
+      → IsFirstBehind partitions threads n before (lines_of line) e
   first_end n before line e one some' past bad =
-      let as_limit : (65536 < n) ⊎ (4194304 < before + length line) → IsFaultBehind partitions threads n before line e =
-      λ h. subst (λ (x : TraceFault). IsFaultBehind partitions threads n before line x) (sym (past h)) (end_past n before line one some' h) in
+      let as_limit : (65536 < n) ⊎ (4194304 < before + length line) → IsFirstBehind partitions threads n before (lines_of line) e =
+      λ h. subst (λ (x : TraceFault). IsFirstBehind partitions threads n before (lines_of line) x) (sym (past h)) (end_past n before line one some' h) in
       elim (cases_lt 65536 n) [
         | inl many ↦ as_limit (inl many)
         | inr few ↦ elim (cases_lt 4194304 (before + length line)) [
           | inl long ↦ as_limit (inr long)
-          | inr short ↦ subst (λ (x : TraceFault). IsFaultBehind partitions threads n before line x) (sym (bad few short)) (end_bad n before line one some' few short)
+          | inr short ↦ subst (λ (x : TraceFault). IsFirstBehind partitions threads n before (lines_of line) x) (sym (bad few short)) (end_bad n before line one some' few short)
         ]
       ]
-
--- what is carried on is carried on of a fault that is told, too
-pub carried : (partitions threads n before m behind : ℕ) (bytes rest : List ℕ) (e : TraceFault)
-    → ((e : TraceFault) → IsFirstBehind partitions threads n before (lines_of rest) e → IsFirstBehind partitions threads m behind (lines_of bytes) e)
-    → IsFaultBehind partitions threads n before rest e → IsFaultBehind partitions threads m behind bytes e
-carried partitions threads n before m behind bytes rest (BadLine k) carry h = carry (BadLine k) h
-carried partitions threads n before m behind bytes rest (Limit k) carry h = carry (Limit k) h
-carried partitions threads n before m behind bytes rest OutOfMemory carry h = tt
-
--- what is told of a line is a fault
-pub told_behind : (partitions threads n before m : ℕ) (bytes : List ℕ) (d : LineFault) → IsFirstBehind partitions threads n before (lines_of bytes) (told m d) → IsFaultBehind partitions threads n before bytes (told m d)
-told_behind partitions threads n before m bytes Outside h = h
-told_behind partitions threads n before m bytes Past h = h
 
 -- ---- the head
 
@@ -117,16 +104,18 @@ head_unread_here : (line : List ℕ) (lines : List (List ℕ)) (d : LineFault) �
 head_unread_here line lines Outside none out = inl (refl, none, λ region partitions threads h. out region partitions threads (head_text region partitions threads line h))
 head_unread_here line lines Past none over = inl (refl, inr (over.0, over.1, over.2, (line, over.3, refl), over.4))
 
-told_fault : (n : ℕ) (d : LineFault) (bytes : List ℕ) → IsFirstFault (told n d) bytes → IsFault (told n d) bytes
-told_fault n Outside bytes h = h
-told_fault n Past bytes h = h
+-- the first fault is why bytes aren't read
+pub first_is_fault : (e : TraceFault) (bytes : List ℕ) → IsFirstFault e bytes → IsFault e bytes
+first_is_fault (BadLine n) bytes h = h
+first_is_fault (Limit n) bytes h = h
+first_is_fault OutOfMemory bytes h = tt
 
 pub head_first_unread : (bytes line after : List ℕ) (d : LineFault) → IsOneLine line → bytes ≡ line ++ 10 ∷ after → length line + 1 ≤ 4194304 → IsHeadNotRead d line → IsFirstFault (told 1 d) bytes
 head_first_unread bytes line after d one e short unread =
     subst (λ (x : List (List ℕ)). IsFirstOf x (told 1 d)) (sym (cut_of bytes line after one e)) (head_unread_here line (lines_of after) d (not_past 1 0 line (omega arith) (omega arith)) unread)
 
 pub head_unread : (bytes line after : List ℕ) (d : LineFault) → IsOneLine line → bytes ≡ line ++ 10 ∷ after → length line + 1 ≤ 4194304 → IsHeadNotRead d line → IsFault (told 1 d) bytes
-head_unread bytes line after d one e short unread = told_fault 1 d bytes (head_first_unread bytes line after d one e short unread)
+head_unread bytes line after d one e short unread = first_is_fault (told 1 d) bytes (head_first_unread bytes line after d one e short unread)
 
 pub head_later : (region partitions threads behind : ℕ) (bytes line after : List ℕ) (e : TraceFault) → IsOneLine line → bytes ≡ line ++ 10 ∷ after → length line + 1 ≤ 4194304
     → IsHeadText region partitions threads line → IsHeadWithin region partitions threads → behind ≡ length line + 1
@@ -136,14 +125,6 @@ head_later region partitions threads behind bytes line after e one parts short t
     let there : IsFirstBehind partitions threads 2 (length (line ++ 10 ∷ [])) (lines_of after) e = subst (λ (x : ℕ). IsFirstBehind partitions threads 2 x (lines_of after) e) place h in
     subst (λ (x : List (List ℕ)). IsFirstOf x e) (sym (cut_of bytes line after one parts))
     (inr (region, partitions, threads, (line, text, refl), within, not_past 1 0 line (omega arith) (omega arith), there))
-
--- a head that is read carries on the faults of the lines behind it
-pub head_carries : (region partitions threads behind : ℕ) (bytes line after : List ℕ) (e : TraceFault) → IsOneLine line → bytes ≡ line ++ 10 ∷ after → length line + 1 ≤ 4194304
-    → IsHeadText region partitions threads line → IsHeadWithin region partitions threads → behind ≡ length line + 1
-    → IsFaultBehind partitions threads 2 behind after e → IsFault e bytes
-head_carries region partitions threads behind bytes line after (BadLine n) one parts short text within far h = head_later region partitions threads behind bytes line after (BadLine n) one parts short text within far h
-head_carries region partitions threads behind bytes line after (Limit n) one parts short text within far h = head_later region partitions threads behind bytes line after (Limit n) one parts short text within far h
-head_carries region partitions threads behind bytes line after OutOfMemory one parts short text within far h = tt
 
 no_head : (bytes : List ℕ) → IsOneLine bytes → IsBadHead bytes
 no_head bytes one region partitions threads h = no_cut bytes h.0 [] one h.2
@@ -168,17 +149,13 @@ head_end bytes e one past bad =
 
 -- ---- what the reader knows of the room that is left
 
--- the number of a line, counted in two ways
-pub numbered : (partitions threads n m before : ℕ) (lines : List (List ℕ)) (e : TraceFault) → n ≡ m → IsFirstBehind partitions threads n before lines e → IsFirstBehind partitions threads m before lines e
-numbered partitions threads n m before lines e same h = subst (λ (x : ℕ). IsFirstBehind partitions threads x before lines e) same h
-
 pub over_room : (n left len : ℕ) → left ≤ 4194304 → (65536 < n) ⊎ (left < len) → (65536 < n) ⊎ (4194304 < 4194304 - left + len)
 over_room n left len most (inl many) = inl many
 over_room n left len most (inr long) = inr (omega arith)
 
-pub in_room : (n m left len : ℕ) → n ≡ m → left ≤ 4194304 → (65536 < n) ⊎ (4194304 < 4194304 - left + len) → (65536 < m) ⊎ (left < len)
-in_room n m left len same most (inl many) = inl (omega arith)
-in_room n m left len same most (inr long) = inr (omega arith)
+pub in_room : (n left len : ℕ) → left ≤ 4194304 → (65536 < n) ⊎ (4194304 < 4194304 - left + len) → (65536 < n) ⊎ (left < len)
+in_room n left len most (inl many) = inl many
+in_room n left len most (inr long) = inr (omega arith)
 
 pub under_room : (n left len : ℕ) → ((65536 < n) ⊎ (left < len) → ⊥) → (n ≤ 65536) × (len ≤ left)
 under_room n left len none =

@@ -5,6 +5,7 @@ pub mod Limits
 pub mod Cuts
 pub mod Behind
 pub mod Texts
+pub mod Unread
 pub mod Written
 pub mod Lengths
 pub mod Firsts

@@ -3,10 +3,9 @@ use Rattle.std.specs.Prelude.{◌≡◌, ℕ, ◌++◌, List}
 use Rattle.std.specs.List.{AllByRecursion}
 use Rattle.pa_text.specs.Numeral.{IsNumeral}
 use Rattle.pa_trace.specs.declared.fault.TraceFault.{TraceFault}
-use Rattle.pa_trace.specs.declared.fault.TraceFault.TheVariants.{BadLine, Limit, OutOfMemory}
+use Rattle.pa_trace.specs.declared.fault.TraceFault.TheVariants.{BadLine, Limit}
 use Rattle.pa_trace.specs.declared.field.LineFault.{LineFault}
 use Rattle.pa_trace.specs.declared.field.LineFault.TheVariants.{Outside, Past}
-use Rattle.pa_trace.specs.Faults.{lines_of, IsFirstBehind}
 
 -- no LF is among the bytes
 abbrev pub IsOneLine : List ℕ → Type 0
@@ -16,12 +15,6 @@ IsOneLine bytes = AllByRecursion (λ b. b ≡ 10 → ⊥) bytes
 abbrev pub told : ℕ → LineFault → TraceFault
 told n Outside = BadLine n
 told n Past = Limit n
-
--- the first fault of the lines behind a head, or want of memory
-abbrev pub IsFaultBehind : ℕ → ℕ → ℕ → ℕ → List ℕ → TraceFault → Type 0
-IsFaultBehind partitions threads n before bytes (BadLine m) = IsFirstBehind partitions threads n before (lines_of bytes) (BadLine m)
-IsFaultBehind partitions threads n before bytes (Limit m) = IsFirstBehind partitions threads n before (lines_of bytes) (Limit m)
-IsFaultBehind partitions threads n before bytes OutOfMemory = Unit {0}
 
 -- new is old and behind it a text of this kind
 abbrev pub Appends : (List ℕ → Type 0) → List ℕ → List ℕ → Type 0

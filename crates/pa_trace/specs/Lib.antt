@@ -4,4 +4,5 @@ pub mod Faults
 pub mod FaultText
 pub mod Reading
 pub mod Cut
+pub mod Unread
 pub mod Generated

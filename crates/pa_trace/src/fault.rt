@@ -1,6 +1,7 @@
 ghost use Rattle.std.specs.Prelude.{◌≡◌};
 ghost use Rattle.pa_trace.specs.declared.fault.TraceFault.TheVariants as faults;
 
+use pa_machine::OutOfMemory;
 use std::alloc::{AllocError, AllocFailed};
 use std::error::Error;
 use std::fmt;
@@ -45,6 +46,14 @@ impl<T: Drop> From<AllocFailed<T>> for TraceFault {
     ghost from_gives = { λ _ e. e ≡ faults.OutOfMemory };
 
     fn from(_failed: AllocFailed<T>) -> TraceFault {
+        TraceFault::OutOfMemory
+    }
+}
+
+impl From<OutOfMemory> for TraceFault {
+    ghost from_gives = { λ _ e. e ≡ faults.OutOfMemory };
+
+    fn from(_error: OutOfMemory) -> TraceFault {
         TraceFault::OutOfMemory
     }
 }

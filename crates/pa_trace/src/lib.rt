@@ -6,6 +6,7 @@ mod field;
 mod generator;
 mod laws;
 mod line;
+mod line_reader;
 mod op;
 mod reading;
 mod script;
@@ -14,7 +15,9 @@ mod writing;
 pub use fault::TraceFault;
 pub use generator::generate;
 pub use laws::{early_fault, first_draws, generated_lines_fit, one_answer, one_text, short_text};
-pub use reading::{cut_line, read_trace};
+pub use line::Head;
+pub use line_reader::{LineReader, cut_line};
+pub use reading::read_trace;
 pub use script::{Line, Lines, Op, Trace};
 pub use writing::write_trace;
 

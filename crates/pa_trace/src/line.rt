@@ -12,7 +12,7 @@ const MOST_PARTITIONS: u32 = 4;
 
 const MOST_THREADS: u32 = 16;
 
-// The numbers of a head: the region in super pages, the partitions and the threads.
+/// The numbers of a head: the region in super pages, the partitions and the threads.
 #[derive(Clone, Copy, Debug, PartialEq, Eq)]
 pub struct Head {
     pub region: u32,

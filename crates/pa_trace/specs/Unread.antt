@@ -1,0 +1,49 @@
+-- How far a trace's text has been read, and what the next step comes to.
+use Rattle.std.specs.Prelude.{◌≡◌, ℕ, ◌+◌, ◌-◌, ◌<◌, ◌≤◌, List, [], ◌∷◌, ◌++◌, length}
+use Rattle.std.specs.List.{AllByRecursion}
+use Rattle.pa_trace.specs.declared.fault.TraceFault.{TraceFault}
+use Rattle.pa_trace.specs.declared.line.Head.{Head}
+use Rattle.pa_trace.specs.declared.script.Line.{Line}
+use Rattle.pa_trace.specs.declared.script.Trace.{Trace}
+use Rattle.pa_trace.specs.Grammar.{AreLinesText, IsTraceText}
+use Rattle.pa_trace.specs.Limits.{IsHeadWithin, IsLineWithin, IsInput, most_lines, most_bytes}
+use Rattle.pa_trace.specs.Faults.{lines_of, IsFirstBehind, IsFirstFault, IsFault}
+
+-- The head, which is read; the bytes that aren't read yet, how many may still come, and the number of the line in front of them.
+pub record Unread : Type 0 where
+  pub head : Head
+  pub rest : List ℕ
+  pub left : ℕ
+  pub number : ℕ
+
+-- the trace of this head and these lines
+abbrev pub trace_with : Head → List Line → Trace
+trace_with head ls = record { region = head.region; partitions = head.partitions; threads = head.threads; lines = ls }
+
+-- Of these bytes the head and these lines are read, all within the limits, and this is unread: lines whose text the rest is make
+-- up, behind those, a trace whose text the bytes are, and the first faulty line of the rest is that of the bytes.
+pub record IsReadUpTo (bytes : List ℕ) (ls : List Line) (u : Unread) : Type 0 where
+  pub head : IsHeadWithin u.head.region u.head.partitions u.head.threads
+  pub lines : AllByRecursion (IsLineWithin u.head.partitions u.head.threads) ls
+  pub few : length ls < most_lines
+  pub number : u.number ≡ length ls + 2
+  pub room : u.left ≤ most_bytes
+  pub taken : length u.rest + most_bytes ≡ length bytes + u.left
+  pub text : (more : List Line) → AreLinesText more u.rest → IsTraceText (trace_with u.head (ls ++ more)) bytes
+  pub fault : (e : TraceFault) → IsFirstBehind u.head.partitions u.head.threads u.number (most_bytes - u.left) (lines_of u.rest) e
+      → IsFirstFault e bytes
+
+-- this line was read: it is the next one, and less is unread
+pub record IsLineRead (u : Unread) (l : Line) (v : Unread) : Type 0 where
+  pub head : v.head ≡ u.head
+  pub shorter : length v.rest < length u.rest
+  pub read : (bytes : List ℕ) (ls : List Line) → IsReadUpTo bytes ls u → IsReadUpTo bytes (ls ++ l ∷ []) v
+
+-- the end was read, where the reader stays: the bytes are the text of the trace of the lines so far, which is within the limits
+pub record IsEndRead (u v : Unread) : Type 0 where
+  pub stays : v ≡ u
+  pub read : (bytes : List ℕ) (ls : List Line) → IsReadUpTo bytes ls u → IsInput (trace_with u.head ls) bytes
+
+-- a fault was read: it is that of the bytes
+abbrev pub IsFaultRead : Unread → TraceFault → Type 0
+IsFaultRead u e = (bytes : List ℕ) (ls : List Line) → IsReadUpTo bytes ls u → IsFault e bytes
