@@ -56,6 +56,7 @@ impl Placement {
 
     /// Takes `want` slots of the class, 1 to 8, or as many as there are. Only the first take may ask the pool, for one super
     /// page. After want of memory the placement and the pool are unchanged.
+    #[inline(always)]
     pub fn fill(
         &mut self,
         pool: &mut PoolPlan,
@@ -86,6 +87,7 @@ impl Placement {
 
     /// Makes a direct map whose slot has `slot` bytes, a multiple of 4,096, in `supers` super pages that the pool is asked
     /// for: 1 to 16, which the slot and 32,768 bytes need. After want of memory the placement and the pool are unchanged.
+    #[inline(always)]
     pub fn map(
         &mut self,
         pool: &mut PoolPlan,

@@ -109,6 +109,7 @@ impl PlainRoot {
     }
 
     /// Takes `want` slots of the class, 1 to 8, or as many as there are. There is room for so many takes. It takes no memory.
+    #[inline(always)]
     pub fn take(&mut self, class: Class, want: u32) -> Given
         requires some { 1 ≤ want }
         requires few { want ≤ 8 }

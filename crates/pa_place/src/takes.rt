@@ -26,6 +26,7 @@ const LAST_PAGE: u32 = 127;
 impl Store {
     // Takes until so many slots are taken or a take finds none. As many blank spans lie ready, and there is room for them.
     // Tells the batches of slots that were made.
+    #[inline(always)]
     pub(crate) fn takes(
         &mut self,
         class: Class,
@@ -62,6 +63,7 @@ impl Store {
 
     // One take of a slot of the class that may not ask the pool. Some blank spans of the class lie ready, and there is room
     // for one span more.
+    #[inline(always)]
     fn take(
         &mut self,
         class: Class,
@@ -151,6 +153,7 @@ impl Store {
 
     // Takes a slot from the span there, which has one that isn't out. Tells the batch of slots that it made, if it made
     // some.
+    #[inline(always)]
     fn take_at(&mut self, at: usize, made: &mut ArrayVec<Made, 8>) -> Title
         requires few { array_vec_len made.old < 8 }
         requires ready { IsReady (root_of self.old) }

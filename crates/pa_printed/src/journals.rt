@@ -44,6 +44,7 @@ impl Journals {
 
     /// Puts an entry behind the others of a partition, and tells its place there. After want of memory that journal has no
     /// entries.
+    #[inline(always)]
     pub fn push(&mut self, partition: u32, entry: RootEntry) -> Result<u32, OutOfMemory>
         requires partition { partition < length self.old }
         requires few { length (slice_index_or self.old partition []) < 2 ^ 32 }

@@ -43,6 +43,7 @@ impl Lines {
     }
 
     // Puts an entry behind the others, and tells its place. After want of memory there are none.
+    #[inline(always)]
     pub(crate) fn push(&mut self, entry: RootEntry) -> Result<u32, OutOfMemory>
         requires few { length self.old.entries < 2 ^ 32 }
         ensures partition { self.new.partition ≡ self.old.partition }

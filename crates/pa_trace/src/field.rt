@@ -12,6 +12,7 @@ pub enum LineFault {
 
 // The bytes behind a word that stands in front.
 #[tactic(auto, unfolding(crate::specs::Reading::behind), using(pa_text::proofs::Fronts::front_found, pa_text::proofs::Fronts::front_none))]
+#[inline(always)]
 pub fn behind<'a>(word: &[u8], bytes: &'a [u8]) -> Result<&'a [u8], LineFault>
     ensures { Gives (λ x. x.now) result (behind word.now bytes.now) }
 {
@@ -22,6 +23,7 @@ pub fn behind<'a>(word: &[u8], bytes: &'a [u8]) -> Result<&'a [u8], LineFault>
 }
 
 // The number in front and the bytes behind it. `None` stands for a number of more than 32 bits.
+#[inline(always)]
 pub fn number_in(bytes: &[u8]) -> Result<(Option<u32>, &[u8]), LineFault>
     ensures { Gives {Y = Option ℕ × List ℕ} (λ x. (x.0, x.1.now)) result (number_in bytes.now) }
 {
@@ -33,6 +35,7 @@ pub fn number_in(bytes: &[u8]) -> Result<(Option<u32>, &[u8]), LineFault>
 
 // A word and the number behind it.
 #[tactic(auto, unfolding(crate::specs::Reading::field_in))]
+#[inline(always)]
 fn field_in<'a>(word: &[u8], bytes: &'a [u8]) -> Result<(Option<u32>, &'a [u8]), LineFault>
     ensures { Gives {Y = Option ℕ × List ℕ} (λ x. (x.0, x.1.now)) result (field_in word.now bytes.now) }
 {
@@ -51,6 +54,7 @@ fn word_in(bytes: &[u8]) -> Result<(u64, &[u8]), LineFault>
 }
 
 // Nothing is left of the line.
+#[inline(always)]
 pub fn ended(bytes: &[u8]) -> Result<(), LineFault>
     ensures { Gives (λ x. x) result (ended bytes.now) }
 {
@@ -116,6 +120,7 @@ pub fn number_and_word(bytes: &[u8], first: &[u8]) -> Result<(Option<u32>, u64),
 }
 
 // The number where it is below the limit.
+#[inline(always)]
 pub fn below(number: Option<u32>, limit: u32) -> Result<u32, LineFault>
     ensures { result ≡ below number limit }
 {
@@ -126,6 +131,7 @@ pub fn below(number: Option<u32>, limit: u32) -> Result<u32, LineFault>
 }
 
 // The number where it has 32 bits.
+#[inline(always)]
 pub fn within(number: Option<u32>) -> Result<u32, LineFault>
     ensures { result ≡ within number }
 {

@@ -61,6 +61,7 @@ fn head_of(
 
 // A line behind the head, without its LF.
 #[tactic(auto, unfolding(crate::specs::Reading::line_in))]
+#[inline(always)]
 pub fn line_in(head: Head, bytes: &[u8]) -> Result<Line, LineFault>
     ensures { result ≡ line_in head.partitions head.threads bytes.now }
 {
@@ -73,6 +74,7 @@ pub fn line_in(head: Head, bytes: &[u8]) -> Result<Line, LineFault>
 
 // The thread, a space and the op, which are the whole line.
 #[tactic(auto, unfolding(crate::specs::Reading::do_in))]
+#[inline(always)]
 fn do_in(head: Head, bytes: &[u8]) -> Result<Line, LineFault>
     ensures { result ≡ do_in head.partitions head.threads bytes.now }
 {

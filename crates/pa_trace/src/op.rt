@@ -13,6 +13,7 @@ const CELLS: u32 = 64;
 
 // The op, which is the whole rest of the line.
 #[tactic(auto, unfolding(crate::specs::Reading::op_in))]
+#[inline(always)]
 pub fn op_in(partitions: u32, bytes: &[u8]) -> Result<Op, LineFault>
     ensures { result ≡ op_in partitions bytes.now }
 {
