@@ -6,7 +6,7 @@ ghost use Rattle.pa_trace.specs.Cut.{Appends, IsField};
 
 use crate::script::{Line, Op, Trace};
 use pa_machine::OutOfMemory;
-use pa_text::{push_byte, push_bytes, push_number, push_word};
+use pa_text::{Text, push_byte, push_bytes, push_number, push_word};
 use std::alloc::Global;
 
 // About as many bytes as a line has.
@@ -19,15 +19,15 @@ pub fn write_trace(alloc: Global, trace: &Trace) -> Result<Vec<u8>, OutOfMemory>
     ensures short { IfOk result (λ text. length text.items ≤ most_bytes) }
 {
     let lines = trace.lines.as_slice();
-    let mut out = Vec::with_capacity(alloc, LINE * (lines.len() + 4))?;
+    let mut out = Text::with_capacity(alloc, LINE * (lines.len() + 4))?;
     push_head(&mut out, trace)?;
     push_lines(&mut out, lines)?;
-    Ok(out)
+    Ok(out.into_vec())
 }
 
 // Appends the head and an LF.
-fn push_head(out: &mut Vec<u8>, trace: &Trace) -> Result<(), OutOfMemory>
-    ensures { OnOk result (Appends (IsHeadLine trace.now.region trace.now.partitions trace.now.threads) out.old.items out.new.items) }
+fn push_head(out: &mut Text, trace: &Trace) -> Result<(), OutOfMemory>
+    ensures { OnOk result (Appends (IsHeadLine trace.now.region trace.now.partitions trace.now.threads) out.old out.new) }
 {
     push_field(out, b"trace 1 region ", trace.region)?;
     push_field(out, b" partitions ", trace.partitions)?;
@@ -36,8 +36,8 @@ fn push_head(out: &mut Vec<u8>, trace: &Trace) -> Result<(), OutOfMemory>
 }
 
 // Appends the lines, each with its LF.
-fn push_lines(out: &mut Vec<u8>, lines: &[Line]) -> Result<(), OutOfMemory>
-    ensures { OnOk result (Appends (AreLinesText lines.now) out.old.items out.new.items) }
+fn push_lines(out: &mut Text, lines: &[Line]) -> Result<(), OutOfMemory>
+    ensures { OnOk result (Appends (AreLinesText lines.now) out.old out.new) }
 {
     for line in lines {
         push_line(out, *line)?;
@@ -46,16 +46,16 @@ fn push_lines(out: &mut Vec<u8>, lines: &[Line]) -> Result<(), OutOfMemory>
 }
 
 // Appends the line and an LF.
-fn push_line(out: &mut Vec<u8>, line: Line) -> Result<(), OutOfMemory>
-    ensures { OnOk result (Appends (IsBodyLine line) out.old.items out.new.items) }
+fn push_line(out: &mut Text, line: Line) -> Result<(), OutOfMemory>
+    ensures { OnOk result (Appends (IsBodyLine line) out.old out.new) }
 {
     push_text(out, line)?;
     push_byte(out, b'\n')
 }
 
 // Appends the line without its LF.
-fn push_text(out: &mut Vec<u8>, line: Line) -> Result<(), OutOfMemory>
-    ensures { OnOk result (Appends (IsLineText line) out.old.items out.new.items) }
+fn push_text(out: &mut Text, line: Line) -> Result<(), OutOfMemory>
+    ensures { OnOk result (Appends (IsLineText line) out.old out.new) }
 {
     match line {
         Line::Phase => push_bytes(out, b"phase"),
@@ -68,8 +68,8 @@ fn push_text(out: &mut Vec<u8>, line: Line) -> Result<(), OutOfMemory>
 }
 
 // Appends the op.
-fn push_op(out: &mut Vec<u8>, op: Op) -> Result<(), OutOfMemory>
-    ensures { OnOk result (Appends (IsOpText op) out.old.items out.new.items) }
+fn push_op(out: &mut Text, op: Op) -> Result<(), OutOfMemory>
+    ensures { OnOk result (Appends (IsOpText op) out.old out.new) }
 {
     match op {
         Op::Alloc {
@@ -105,8 +105,8 @@ fn push_op(out: &mut Vec<u8>, op: Op) -> Result<(), OutOfMemory>
 }
 
 // Appends a word and the number behind it.
-fn push_field(out: &mut Vec<u8>, word: &[u8], n: u32) -> Result<(), OutOfMemory>
-    ensures { OnOk result (Appends (IsField word.now n) out.old.items out.new.items) }
+fn push_field(out: &mut Text, word: &[u8], n: u32) -> Result<(), OutOfMemory>
+    ensures { OnOk result (Appends (IsField word.now n) out.old out.new) }
 {
     push_bytes(out, word)?;
     push_number(out, u64::from(n))

@@ -5,7 +5,7 @@ use Rattle.pa_trace.proofs.writing.push_field.Goals as goal
 
 pub returns : goal.returns
 returns c =
-    let mid = c.push_bytes.new.out.items in
+    let mid = c.push_bytes.new.out in
     on_ok c.push_number.result _ _ c.push_number.ensures.pushed (λ e.
-    field_written c.args.word.now c.args.n c.args.out.now.items mid c.push_number.new.out.items (omega arith) c.in_ok-push_bytes.ensures.pushed
+    field_written c.args.word.now c.args.n c.args.out.now mid c.push_number.new.out (omega arith) c.in_ok-push_bytes.ensures.pushed
     (e ∙ ap (λ (n : ℕ). mid ++ decimal n) c.from.ensures))

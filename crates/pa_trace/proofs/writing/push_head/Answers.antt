@@ -5,5 +5,5 @@ pub returns : goal.returns
 returns c =
     let trace = c.args.trace.now in
     on_ok c.push_byte.result _ _ c.push_byte.ensures.pushed
-    (head_written trace.region trace.partitions trace.threads c.args.out.now.items c.push_field.new.out.items c.push_field-2.new.out.items c.push_field-3.new.out.items c.push_byte.new.out.items
+    (head_written trace.region trace.partitions trace.threads c.args.out.now c.push_field.new.out c.push_field-2.new.out c.push_field-3.new.out c.push_byte.new.out
     c.in_ok-push_field.ensures c.in_ok-push_field-2.ensures c.in_ok-push_field-3.ensures)

@@ -4,4 +4,4 @@ use Rattle.pa_trace.specs.Cut.{Appends}
 use Rattle.pa_trace.proofs.writing.push_lines.Given as goal
 
 abbrev pub invariant-loop-line : goal.invariant-loop-line
-invariant-loop-line l = Appends (AreLinesText (take l.line-index l.lines)) l.fn.out.items l.out.items
+invariant-loop-line l = Appends (AreLinesText (take l.line-index l.lines)) l.fn.out l.out
