@@ -157,3 +157,7 @@ played_all partitions roots ps all end (Some i) past h = h
 pub played_none : (partitions : ℕ) (roots : Journals) (ps : List Played) (all : Caches) (end : ℕ) (o : Option ℕ) → (IsSome o → ⊥) → TellsPlayed partitions roots ps all end o → CachesSoFar partitions roots ps all end
 played_none partitions roots ps all end None none h = h
 played_none partitions roots ps all end (Some i) none h = absurd (none refl)
+
+pub no_misfit : (o : Option ℕ) → (IsSome o → ⊥) → o ≡ None
+no_misfit None none = refl
+no_misfit (Some i) none = absurd (none refl)

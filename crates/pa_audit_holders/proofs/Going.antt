@@ -76,7 +76,7 @@ least_is es f slot (Some k) low at h = elim (cases_lt slot.number k) [
 ]
 
 -- one that takes a slot away: the least number from then on
-pub gone_more : (es : List RootEntry) (e : RootEntry) (f g : ℕ → Option ℕ) (asked : ℕ) (slot : Numbered) → e.act ≡ Unmap asked slot → slot.slot.start < 4294967296 →
+gone_more : (es : List RootEntry) (e : RootEntry) (f g : ℕ → Option ℕ) (asked : ℕ) (slot : Numbered) → e.act ≡ Unmap asked slot → slot.slot.start < 4294967296 →
     Puts f g (name_key slot.slot) (lesser_of (f (name_key slot.slot)) slot.number) → HasGone es f → HasGone (es ++ e ∷ []) g
 gone_more es e f g asked slot is low puts h =
     let key = name_key slot.slot in
@@ -112,6 +112,17 @@ gone_more es e f g asked slot is low puts h =
         | inr other ↦ h.miss s n start (sym (puts.other (name_key s) other) ∙ at) (apart s n other gone)
       ];
     }
+
+-- the same of a table by any number of the slot, which is set to the lesser of its value, if any, and the entry's number
+pub gone_entered : (es : List RootEntry) (e : RootEntry) (f g : ℕ → Option ℕ) (asked key : ℕ) (slot : Numbered) (old : Option ℕ) (n : ℕ) → e.act ≡ Unmap asked slot → slot.slot.start < 4294967296 →
+    key ≡ name_key slot.slot → old ≡ f key → n ≡ lesser_of old slot.number → Puts f g key n → HasGone es f → HasGone (es ++ e ∷ []) g
+gone_entered es e f g asked key slot old n is low same was least puts h =
+    let lesser : n ≡ lesser_of (f (name_key slot.slot)) slot.number = least ∙ ap (λ o. lesser_of o slot.number) (was ∙ ap f same) in
+    gone_more es e f g asked slot is low (subst (λ z. Puts f g (name_key slot.slot) z) lesser (subst (λ k. Puts f g k n) same puts)) h
+
+-- a key that is set twice has what it got last
+pub puts_over : (f m g : ℕ → Option ℕ) (k v w : ℕ) → Puts f m k v → Puts m g k w → Puts f g k w
+puts_over f m g k v w first next = record { here = next.here; other = λ q ne. next.other q ne ∙ first.other q ne }
 
 -- ---- no entries
 

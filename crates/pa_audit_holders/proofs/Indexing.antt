@@ -81,13 +81,16 @@ lines_miss journal count table j h below past = record {
 }
 
 pub lines_whole : (journal : List RootEntry) (count : ℕ) (table : List (List ℕ)) (j : ℕ) → AreOnLinesTo journal count table j → length journal ≡ j → AreOnLines journal count table
-lines_whole journal count table j h end = record {
-  many = h.many;
-  each = λ l less. record {
-    among = subst (λ n. All (λ k. k < n) (get_or table l [])) (sym end) (h.among l less);
-    did = h.acts l less ∙ ap (λ es. acts_on es l) (take_all j journal (omega arith));
-  };
+lines_whole journal count table j h end = λ l less. record {
+  among = subst (λ n. All (λ k. k < n) (get_or table l [])) (sym end) (h.among l less);
+  did = h.acts l less ∙ ap (λ es. acts_on es l) (take_all j journal (omega arith));
 }
+
+-- of a journal of no entries no line need be in the table
+pub no_lines : (journal : List RootEntry) (count : ℕ) (table : List (List ℕ)) → length journal ≡ 0 → table ≡ [] → AreOnLines journal count table
+no_lines [] count table none is = λ l less. subst (λ (t : List (List ℕ)). ArePlacesOf [] (get_or t l []) []) (sym is)
+    (record { among = λ i d below. absurd (omega (arith, below)); did = refl })
+no_lines (e ∷ es) count table none is = absurd (omega (arith, none))
 
 -- ---- all journals
 
@@ -99,7 +102,7 @@ pub record HaveLinesTo (roots : List (List RootEntry)) (count : ℕ) (tables : L
 pub knows_line : (roots : List (List RootEntry)) (count line : ℕ) (tables given : List (List (List ℕ))) → HaveLines roots count tables → given ≡ tables → line < count → KnowsLine roots given line
 knows_line roots count line tables given h same less = subst (λ (t : List (List (List ℕ))). KnowsLine roots t line) (sym same) (record {
   many = h.many;
-  each = λ p below. (h.each p below).each line less;
+  each = λ p below. h.each p below line less;
 })
 
 -- a journal that isn't there has no entries

@@ -22,10 +22,9 @@ pub record ArePlacesOf (journal : List RootEntry) (places : List ℕ) (acts : Li
   pub among : All (λ j. j < length journal) places
   pub did : map (did_at journal) places ≡ acts
 
--- for each line below a number, the places of its entries in the journal
-pub record AreOnLines (journal : List RootEntry) (count : ℕ) (table : List (List ℕ)) : Type 0 where
-  pub many : length table ≡ count
-  pub each : (l : ℕ) → l < count → ArePlacesOf journal (slice_index_or table l []) (acts_on journal l)
+-- for each line below a number, the places of its entries in the journal; none where the table doesn't reach the line
+abbrev pub AreOnLines : List RootEntry → ℕ → List (List ℕ) → Type 0
+AreOnLines journal count table = (l : ℕ) → l < count → ArePlacesOf journal (slice_index_or table l []) (acts_on journal l)
 
 -- so for each journal
 pub record HaveLines (roots : List (List RootEntry)) (count : ℕ) (tables : List (List (List ℕ))) : Type 0 where

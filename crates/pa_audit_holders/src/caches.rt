@@ -88,9 +88,10 @@ pub fn caches_meet(
         from = *end;
         cached.push(listed)?;
     }
-    let misfit = play_on(
+    let misfit = play_phase(
         alloc,
         partitions,
+        threads,
         records,
         roots,
         lines.as_slice(),
@@ -98,12 +99,13 @@ pub fn caches_meet(
         &mut caches,
         from,
         records.len(),
+        &mut listed,
     )?;
     Ok(CachesFound { misfit, cached })
 }
 
-// Plays the records of one phase, which stand at these places, and counts what the lists have then. Tells the first that
-// doesn't fit. Where there are none, nothing is counted.
+// Plays the records of these places, and counts what the lists have then. Tells the first that doesn't fit. Where there are no
+// records, or one doesn't fit, nothing is counted.
 fn play_phase(
     alloc: Global,
     partitions: u32,
@@ -133,51 +135,18 @@ fn play_phase(
     ensures sixteen { OnOk result (length caches.new.items ≡ 16) }
     ensures played { IfOk result
         (TellsPlayed partitions (journal_at roots.now) records.now (caches_in caches.new.items) end) }
-    ensures listed { OnOk result (HaveListed threads (caches_in caches.new.items) listed.new) }
+    ensures listed { IfOk result (λ misfit. misfit ≡ None → HaveListed threads (caches_in caches.new.items) listed.new) }
 {
     if from == end {
         return Ok(None);
     }
-    let misfit = play_on(
-        alloc, partitions, records, roots, lines, homes, caches, from, end,
-    )?;
-    *listed = all_listed(threads, caches.as_slice());
-    Ok(misfit)
-}
-
-// Plays the records of these places. Tells the first that doesn't fit.
-fn play_on(
-    alloc: Global,
-    partitions: u32,
-    records: &[Played],
-    roots: &[Journal],
-    lines: &[ByLine],
-    homes: &ByKey<Home>,
-    caches: &mut Vec<ThreadLists>,
-    from: usize,
-    end: usize,
-) -> Result<Option<u32>, OutOfMemory>
-    requires partitions { partitions ≤ 4 }
-    requires few { length records.now < 2 ^ 32 }
-    requires within { All IsOfThreads records.now }
-    requires four { length roots.now ≤ 4 }
-    requires known { (count : ℕ) × All (λ x. x.line < count) records.now × HaveLines roots.now count lines.now }
-    requires homes { KnowsHomes (journal_at roots.now) (value_at homes.now) }
-    requires kinds { (s : Name) → HasOneHome (journal_at roots.now) s }
-    requires order { from ≤ end }
-    requires end { end ≤ length records.now }
-    requires threads { length caches.old.items ≡ 16 }
-    requires before { CachesSoFar partitions (journal_at roots.now) records.now (caches_in caches.old.items) from }
-    ensures threads { OnOk result (length caches.new.items ≡ 16) }
-    ensures played { IfOk result
-        (TellsPlayed partitions (journal_at roots.now) records.now (caches_in caches.new.items) end) }
-{
     for at in from..end {
         let fits = play(alloc, partitions, roots, lines, homes, records[at], caches)?;
         if !fits {
             return Ok(Some(at as u32));
         }
     }
+    *listed = all_listed(threads, caches.as_slice());
     Ok(None)
 }
 

@@ -4,7 +4,7 @@ ghost use Rattle.pa_record.specs.declared.root.RootAct.TheVariants as acts;
 ghost use Rattle.pa_record.specs.declared.numbered.Numbered.{Numbered as Slot};
 ghost use Rattle.pa_record.specs.declared.root.RootEntry.{RootEntry as Line};
 ghost use Rattle.pa_audit_records.specs.Keys.{name_key};
-ghost use Rattle.pa_audit_holders.specs.Gone.{HasGone, IsUnmapped, NoneGone, lesser_of};
+ghost use Rattle.pa_audit_holders.specs.Gone.{HasGone, IsUnmapped, NoneGone};
 
 use crate::homes::key;
 use pa_audit_records::ByKey;
@@ -83,17 +83,9 @@ fn enter_unmapped(
         → HasGone (before ++ entry.now ∷ []) (value_at gone.new)) }
 {
     let key = key(slot.slot);
-    let least = lesser(gone.find(key), slot.number);
-    gone.put(key, least)?;
-    Ok(())
-}
-
-// The lesser of two numbers, where there are two.
-fn lesser(found: Option<u64>, number: u64) -> u64
-    ensures { result ≡ lesser_of found number }
-{
-    match found {
-        Some(least) => least.min(number),
-        None => number,
+    let before = gone.replace(key, slot.number)?;
+    if let Some(least) = before {
+        gone.put(key, least.min(slot.number))?;
     }
+    Ok(())
 }

@@ -67,7 +67,7 @@ impl ByLine {
         ensures count { IfOk result (λ b. length b ≡ count) }
         ensures empty { IfOk result (λ b. (l : ℕ) → slice_index_or b l [] ≡ []) }
     {
-        let mut lines = Vec::new(alloc);
+        let mut lines = Vec::with_capacity(alloc, count)?;
         for _ in 0..count {
             lines.push(Places::new(alloc))?;
         }
@@ -84,8 +84,31 @@ impl ByLine {
         Ok(())
     }
 
-    // The places of the entries of those of the journal's lines that are below this number.
+    // The places of the entries of those of the journal's lines that are below this number. A journal of no entries takes no
+    // memory for its lines.
+    #[tactic(auto, using(crate::proofs::Indexing::no_lines))]
     fn of(alloc: Global, count: usize, journal: &Journal) -> Result<ByLine, OutOfMemory>
+        requires few { length journal.now < 4294967296 }
+        ensures { IfOk result (AreOnLines journal.now count) }
+    {
+        if journal.entries().is_empty() {
+            Ok(ByLine::empty(alloc))
+        } else {
+            ByLine::of_entries(alloc, count, journal)
+        }
+    }
+
+    // No lines.
+    fn empty(alloc: Global) -> ByLine
+        ensures { result ≡ [] }
+    {
+        ByLine {
+            lines: Vec::new(alloc),
+        }
+    }
+
+    // The places of the entries, with room for each line below this number.
+    fn of_entries(alloc: Global, count: usize, journal: &Journal) -> Result<ByLine, OutOfMemory>
         requires few { length journal.now < 4294967296 }
         ensures { IfOk result (AreOnLines journal.now count) }
     {

@@ -43,7 +43,18 @@ pub fn contents_meet(
     if need_no_content(records) {
         return Ok(None);
     }
-    values_meet(alloc, records, cells)
+    let fills = by_number(alloc, records, Kind::Fill)?;
+    let frees = by_number(alloc, records, Kind::Free)?;
+    let mut registers = Registers::new(alloc)?;
+    let mut at: u32 = 0;
+    for record in records {
+        if !may_give(&fills, &frees, records, &registers, *record) {
+            return Ok(Some(at));
+        }
+        change(&mut registers, cells, record);
+        at += 1;
+    }
+    Ok(None)
 }
 
 // Whether the answer is one that a record may give whatever its slot holds: poison for a slot that was freed, or no value
@@ -63,33 +74,6 @@ fn need_no_content(records: &[Played]) -> bool
     ensures { IsTrue result ↔ All (λ x. NeedsNoContent x.answer) records.now }
 {
     records.iter().all(|record| needs_no_content(record.answer))
-}
-
-// What contents_meet tells, by tables of what the records put into each slot and of their frees.
-fn values_meet(
-    alloc: Global,
-    records: &[Played],
-    cells: &[History],
-) -> Result<Option<u32>, OutOfMemory>
-    requires few { length records.now < 2 ^ 32 }
-    requires rising { RiseByLine records.now }
-    requires within { All IsPlayedWithin records.now }
-    requires registers { (i : ℕ) → RegistersDemand usable_of (history_at cells.now) records.now (places.Record i) }
-    requires slots { (i : ℕ) → SlotsDemand records.now (places.Record i) }
-    ensures { IfOk result (TellsFirst (λ i. ContentsDemand usable_of (history_at cells.now) records.now (places.Record i))) }
-{
-    let fills = by_number(alloc, records, Kind::Fill)?;
-    let frees = by_number(alloc, records, Kind::Free)?;
-    let mut registers = Registers::new(alloc)?;
-    let mut at: u32 = 0;
-    for record in records {
-        if !may_give(&fills, &frees, records, &registers, *record) {
-            return Ok(Some(at));
-        }
-        change(&mut registers, cells, record);
-        at += 1;
-    }
-    Ok(None)
 }
 
 // What a record that filled a slot put into it.

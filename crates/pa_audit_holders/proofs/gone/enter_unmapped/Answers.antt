@@ -1,16 +1,23 @@
-use Rattle.std.proofs.Common.{◌≡◌, ◌∙◌, ap, subst}
+use Rattle.std.proofs.Common.{◌∙◌, ap, sym}
 use Rattle.pa_audit_records.specs.ByKeys.{value_at}
-use Rattle.pa_audit_records.specs.Keys.{name_key}
-use Rattle.pa_audit_records.specs.Tables.{Puts}
 use Rattle.pa_audit_holders.specs.Gone.{lesser_of}
-use Rattle.pa_audit_holders.proofs.Going.{gone_more}
+use Rattle.pa_audit_holders.proofs.Going.{gone_entered, puts_over}
 use Rattle.pa_audit_holders.proofs.gone.enter_unmapped.Goals as goal
 
-pub returns : goal.returns
-returns c = λ before h.
+pub returns-in_ok-put : goal.returns-in_ok-put
+returns-in_ok-put c = λ before h.
     let f = value_at c.args.gone.now in
+    let m = value_at c.replace.new.self in
     let g = value_at c.put.new.self in
     let slot = c.args.slot in
+    let key = c.key-key.result in
     let (asked, is) = c.requires in
-    let least : c.lesser-least.result ≡ lesser_of (f (name_key slot.slot)) slot.number = c.lesser-least.ensures ∙ ap (λ o. lesser_of o slot.number) (c.find.ensures ∙ ap f c.key-key.ensures.key) in
-    gone_more before c.args.entry.now f g asked slot is c.key-key.ensures.start (subst (λ n. Puts f g (name_key slot.slot) n) least (subst (λ k. Puts f g k c.lesser-least.result) c.key-key.ensures.key c.in_ok-put.ensures)) h
+    gone_entered before c.args.entry.now f g asked key slot c.in_ok-before.before c.min.result is c.key-key.ensures.start c.key-key.ensures.key c.in_ok-before.ensures.old
+    (c.min.ensures ∙ ap (λ o. lesser_of o slot.number) (sym c.in-Some.is)) (puts_over f m g key slot.number c.min.result c.in_ok-before.ensures.puts c.in_ok-put.ensures) h
+
+pub returns-in_default : goal.returns-in_default
+returns-in_default c = λ before h.
+    let slot = c.args.slot in
+    let (asked, is) = c.requires in
+    gone_entered before c.args.entry.now (value_at c.args.gone.now) (value_at c.replace.new.self) asked c.key-key.result slot c.in_ok-before.before slot.number is c.key-key.ensures.start c.key-key.ensures.key
+    c.in_ok-before.ensures.old (ap (λ o. lesser_of o slot.number) (sym c.in_default.is)) c.in_ok-before.ensures.puts h

@@ -2,7 +2,7 @@ use Rattle.std.proofs.Common.{◌≡◌, length}
 use Rattle.pa_rules.specs.Roots.{journal_at}
 use Rattle.pa_audit_holders.specs.Cached.{CachesSoFar}
 use Rattle.pa_audit_holders.specs.Lists.{caches_in}
-use Rattle.pa_audit_holders.proofs.caches.play_on.Given as goal
+use Rattle.pa_audit_holders.proofs.caches.play_phase.Given as goal
 
 abbrev pub invariant-loop-at : goal.invariant-loop-at
 invariant-loop-at l = record {

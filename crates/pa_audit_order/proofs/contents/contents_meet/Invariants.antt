@@ -4,7 +4,7 @@ use Rattle.pa_rules.specs.Cells.{history_at}
 use Rattle.pa_rules.specs.RecordDemands.{ContentsDemand}
 use Rattle.pa_rules.specs.Sizes.{usable_of}
 use Rattle.pa_audit_records.proofs.Walking.{RegsSoFar}
-use Rattle.pa_audit_order.proofs.contents.values_meet.Given as goal
+use Rattle.pa_audit_order.proofs.contents.contents_meet.Given as goal
 
 abbrev pub invariant-loop-record : goal.invariant-loop-record
 invariant-loop-record l = record {

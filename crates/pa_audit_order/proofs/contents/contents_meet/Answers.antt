@@ -9,7 +9,7 @@ use Rattle.pa_audit_records.proofs.Walking.{not_there, regs_start}
 use Rattle.pa_audit_order.specs.declared.numbers.Kind.TheVariants.{Fill, Free}
 use Rattle.pa_audit_order.proofs.Giving.{regs_on, content_met, content_may}
 use Rattle.pa_audit_order.proofs.Stamping.{one_at}
-use Rattle.pa_audit_order.proofs.contents.values_meet.Goals as goal
+use Rattle.pa_audit_order.proofs.contents.contents_meet.Goals as goal
 
 pub by_number-requires-clause-one : goal.by_number-requires-clause-one
 by_number-requires-clause-one c = one_at Fill c.args.records.now c.requires.rising c.requires.slots

@@ -2,7 +2,7 @@ use Rattle.std.proofs.Common.{arith}
 use Rattle.pa_rules.specs.Roots.{journal_at}
 use Rattle.pa_audit_holders.specs.Lists.{caches_in}
 use Rattle.pa_audit_holders.proofs.Caching.{caches_more, caches_not}
-use Rattle.pa_audit_holders.proofs.caches.play_on.Goals as goal
+use Rattle.pa_audit_holders.proofs.caches.play_phase.Goals as goal
 
 pub returns-then-not-fits-clause-played : goal.returns-then-not-fits-clause-played
 returns-then-not-fits-clause-played c =

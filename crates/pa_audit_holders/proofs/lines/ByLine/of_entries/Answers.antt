@@ -3,7 +3,7 @@ use Rattle.std.specs.Prelude.{slice_get}
 use Rattle.std.proofs.lemmas.Option.{slice_get_read}
 use Rattle.pa_record.specs.declared.root.RootEntry.{RootEntry}
 use Rattle.pa_audit_holders.proofs.Indexing.{AreOnLinesTo, lines_start, lines_next, lines_whole}
-use Rattle.pa_audit_holders.proofs.lines.ByLine.of.Goals as goal
+use Rattle.pa_audit_holders.proofs.lines.ByLine.of_entries.Goals as goal
 
 pub loop-entry-init : goal.loop-entry-init
 loop-entry-init c = record { at = refl; table = lines_start c.args.journal.now c.args.count c.in_ok-by_line.by_line c.in_ok-by_line.ensures.count c.in_ok-by_line.ensures.empty }
