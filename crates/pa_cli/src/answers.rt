@@ -6,7 +6,7 @@ ghost use Rattle.pa_cli.specs.HelpText.{help_text, version_text};
 use pa_buckets::{Class, class_of, raw_of, slot_size, span_of};
 use pa_direct::{GREATEST_SIZE, Shape, shape};
 use pa_machine::OutOfMemory;
-use pa_text::{push_byte, push_bytes, push_number};
+use pa_text::{Text, push_byte, push_bytes, push_number};
 use pa_trace::{generate, write_trace};
 use std::alloc::Global;
 
@@ -46,34 +46,34 @@ const VERSION: &[u8] = b"partalloc 0.1.0\n";
 pub fn write_help(alloc: Global) -> Result<Vec<u8>, OutOfMemory>
     ensures { IfOk result (λ text. text.items ≡ help_text) }
 {
-    let mut out = Vec::new(alloc);
+    let mut out = Text::new(alloc);
     push_bytes(&mut out, HELP)?;
-    Ok(out)
+    Ok(out.into_vec())
 }
 
 // The text of `--version`.
 pub fn write_version(alloc: Global) -> Result<Vec<u8>, OutOfMemory>
     ensures { IfOk result (λ text. text.items ≡ version_text) }
 {
-    let mut out = Vec::new(alloc);
+    let mut out = Text::new(alloc);
     push_bytes(&mut out, VERSION)?;
-    Ok(out)
+    Ok(out.into_vec())
 }
 
 // The text of `audit` where the run is legal.
 pub fn write_legal(alloc: Global) -> Result<Vec<u8>, OutOfMemory>
     ensures { IfOk result (λ text. text.items ≡ legal_text) }
 {
-    let mut out = Vec::new(alloc);
+    let mut out = Text::new(alloc);
     push_bytes(&mut out, b"legal\n")?;
-    Ok(out)
+    Ok(out.into_vec())
 }
 
 // The text of `layout` for a request of so many bytes.
 pub fn write_layout(alloc: Global, size: u32) -> Result<Vec<u8>, OutOfMemory>
     ensures { IfOk result (λ text. IsLayoutText size text.items) }
 {
-    let mut out = Vec::with_capacity(alloc, LINE_BYTES)?;
+    let mut out = Text::with_capacity(alloc, LINE_BYTES)?;
     if size > GREATEST_SIZE {
         push_bytes(&mut out, b"too-large\n")?;
     } else if let Some(class) = class_of(raw_of(size)) {
@@ -81,7 +81,7 @@ pub fn write_layout(alloc: Global, size: u32) -> Result<Vec<u8>, OutOfMemory>
     } else if let Some(shape) = shape(size) {
         push_direct(&mut out, shape)?;
     }
-    Ok(out)
+    Ok(out.into_vec())
 }
 
 // The text of the generated trace of so many rounds and this key.
@@ -95,8 +95,8 @@ pub fn write_generated(alloc: Global, rounds: u32, key: u64) -> Result<Vec<u8>, 
 }
 
 // Appends the line of a class.
-fn push_class(out: &mut Vec<u8>, class: Class) -> Result<(), OutOfMemory>
-    ensures { OnOk result (out.new.items ≡ out.old.items ++ class_line class) }
+fn push_class(out: &mut Text, class: Class) -> Result<(), OutOfMemory>
+    ensures { OnOk result (out.new ≡ out.old ++ class_line class) }
 {
     let span = span_of(class);
     push_field(out, b"class ", class.number())?;
@@ -109,8 +109,8 @@ fn push_class(out: &mut Vec<u8>, class: Class) -> Result<(), OutOfMemory>
 }
 
 // Appends the line of a direct map.
-fn push_direct(out: &mut Vec<u8>, shape: Shape) -> Result<(), OutOfMemory>
-    ensures { OnOk result (out.new.items ≡ out.old.items ++ direct_line shape) }
+fn push_direct(out: &mut Text, shape: Shape) -> Result<(), OutOfMemory>
+    ensures { OnOk result (out.new ≡ out.old ++ direct_line shape) }
 {
     push_field(out, b"direct slot ", shape.slot)?;
     push_field(out, b" super ", shape.supers)?;
@@ -118,8 +118,8 @@ fn push_direct(out: &mut Vec<u8>, shape: Shape) -> Result<(), OutOfMemory>
 }
 
 // Appends the words and a number.
-fn push_field(out: &mut Vec<u8>, words: &[u8], number: u32) -> Result<(), OutOfMemory>
-    ensures { OnOk result (out.new.items ≡ out.old.items ++ (words.now ++ decimal number)) }
+fn push_field(out: &mut Text, words: &[u8], number: u32) -> Result<(), OutOfMemory>
+    ensures { OnOk result (out.new ≡ out.old ++ (words.now ++ decimal number)) }
 {
     push_bytes(out, words)?;
     push_number(out, u64::from(number))

@@ -4,4 +4,5 @@ use Rattle.pa_cli.proofs.answers.write_help.Goals as goal
 
 -- what was empty is the text now
 pub returns : goal.returns
-returns c = c.in_ok-push_bytes.ensures.pushed ∙ ap (λ (before : List ℕ). before ++ help_text) c.new-out.ensures.items
+returns c =
+    c.into_vec.ensures.bytes ∙ c.in_ok-push_bytes.ensures.pushed ∙ ap (λ (before : List ℕ). before ++ help_text) c.new-out.ensures.empty
