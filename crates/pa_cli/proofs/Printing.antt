@@ -1,19 +1,25 @@
 -- What `replay` and `model` print.
-use Rattle.std.proofs.Common.{ℕ, List, Some, Result, Ok, Err, IfOk, refl}
+use Rattle.std.proofs.Common.{ℕ, List, Some, refl}
 use Rattle.pa_trace.specs.declared.script.Trace.{Trace}
-use Rattle.pa_trace.specs.Limits.{IsWithinLimits}
+use Rattle.pa_trace.specs.Limits.{IsWithinLimits, most_bytes}
 use Rattle.pa_record.specs.declared.run.Run.{Run}
 use Rattle.pa_record.specs.RunText.{IsRunText}
 use Rattle.pa_one_run.specs.Laws.{OneThreadInFileOrder}
 use Rattle.pa_runner.specs.Whole.{IsHeldRun}
-use Rattle.pa_model.specs.Played.{IsPlayedText}
-use Rattle.pa_cli.specs.Output.{output_with, IsReplayedAs, IsModelText}
+use Rattle.pa_model.specs.Played.{IsInputPlayed}
+use Rattle.pa_cli.specs.Call.{Stream, IsRead}
+use Rattle.pa_cli.specs.Output.{output_with, IsReplayedAs, IsModelOutput}
+use Rattle.pa_cli.proofs.Refusing.{read_whole}
 
--- what is printed of a trace as it is played is the text of `model`
-pub text_printed : {A E : Type 0} (t : Trace) (items : A → List ℕ) (played : Result A E) → IfOk played (λ text. IsPlayedText t (items text))
-    → IfOk played (λ text. IsModelText t (items text))
-text_printed t items (Ok text) is = record { run = is.run; filed = is.file; printed = is.printed }
-text_printed t items (Err fault) is = tt
+-- what is printed of an input as it is played is the output of `model`
+pub input_printed : (bytes text : List ℕ) (before after : Stream) → IsRead most_bytes before after bytes → IsInputPlayed bytes text → IsModelOutput before after text
+input_printed bytes text before after read is =
+    let played = is.played in
+    record {
+      trace = is.trace;
+      read = record { bytes = bytes; read = read_whole most_bytes bytes before after read is.input.short; input = is.input };
+      played = record { run = played.run; filed = played.file; printed = played.printed };
+    }
 
 -- what is written of a run that threads played is the output of `replay`
 pub run_replayed : (t : Trace) (r : Run) (words text : List ℕ) → IsWithinLimits t → OneThreadInFileOrder → IsHeldRun t r words → IsRunText r text

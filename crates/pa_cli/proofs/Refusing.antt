@@ -22,6 +22,11 @@ use Rattle.pa_cli.specs.Output.{IsTraceRead, IsAuditOutput, legal_text}
 use Rattle.pa_cli.specs.Cause.{IsFaulty, HasFault, IsRefusal, IsStopped}
 use Rattle.pa_cli.specs.StatusText.{status_of_trace}
 
+-- what was read, where it isn't too long, was read to its end
+pub read_whole : (most : ℕ) (bytes : List ℕ) (before after : Stream) → IsRead most before after bytes → length bytes ≤ most → IsReadWhole most before after bytes
+read_whole most bytes before after (inl whole) short = whole
+read_whole most bytes before after (inr past) short = absurd (let p = past.past in omega (arith, p, short))
+
 -- a source that was read gave what it should, without a fault
 pub read_stopped : (most : ℕ) (bytes : List ℕ) (before after : Stream) → IsRead most before after bytes → IsStopped most before after
 read_stopped most bytes before after (inl whole) = search rules
@@ -91,18 +96,12 @@ trace_refused OutOfMemory bytes before after read first command plays = trace_wa
 
 -- ---- the input of `audit`
 
--- what was read, where it isn't too long, was read to its end
-read_whole : (bytes : List ℕ) (before after : Stream) → IsRead most_audited before after bytes → length bytes ≤ most_audited
-    → IsReadWhole most_audited before after bytes
-read_whole bytes before after (inl whole) short = whole
-read_whole bytes before after (inr past) short = absurd (let p = past.past in omega (arith, p, short))
-
 -- a legal run behind its trace is what `audit` prints `legal` for
 pub input_legal : (bytes text : List ℕ) (before after : Stream) → IsRead most_audited before after bytes → IsLegalInput bytes
     → text ≡ legal_text → IsAuditOutput before after text
 input_legal bytes text before after read h printed = record {
   bytes = bytes;
-  read = read_whole bytes before after read h.input.short;
+  read = read_whole most_audited bytes before after read h.input.short;
   legal = h;
   printed = printed;
 }
@@ -111,7 +110,7 @@ input_legal bytes text before after read h printed = record {
 pub input_refuted : (clause : Clause) (n : ℕ) (bytes : List ℕ) (before after : Stream) → IsRead most_audited before after bytes
     → IsRefutedInput clause n bytes → IsRefusal (NotLegal clause n) Audit before after
 input_refuted clause n bytes before after read h =
-    (refl, record { bytes = bytes; read = read_whole bytes before after read h.input.short; refuted = h })
+    (refl, record { bytes = bytes; read = read_whole most_audited bytes before after read h.input.short; refuted = h })
 
 -- the fault of what was read is why `audit` has no output
 pub input_faulty : (fault : TraceFault) (bytes : List ℕ) (before after : Stream) → IsRead most_audited before after bytes

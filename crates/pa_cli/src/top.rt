@@ -2,7 +2,7 @@ ghost use Rattle.std.specs.Prelude.{◌≡◌, ◌↔◌, map, string_bytes, IfO
 ghost use Rattle.pa_cli.specs.Call.{call_of, stream_of};
 ghost use Rattle.pa_cli.specs.Command.{IsCommand, IsAsked, PlaysTrace, ReadsInput};
 ghost use Rattle.pa_cli.specs.Cause.{Caused, ReadsForInput, TellsNoRun, IsRightCall, IsRefusal};
-ghost use Rattle.pa_cli.specs.Output.{output_with, IsOutputOf, IsTraceRead, IsReplayOutput, IsReplayedAs, IsModelOutput, IsModelText, IsAuditOutput};
+ghost use Rattle.pa_cli.specs.Output.{output_with, IsOutputOf, IsTraceRead, IsReplayOutput, IsReplayedAs, IsModelOutput, IsAuditOutput};
 ghost use Rattle.pa_cli.specs.declared.command.Command.TheVariants.{Replay, Model, Audit};
 ghost use Rattle.pa_trace.specs.Limits.{IsWithinLimits};
 
@@ -15,7 +15,7 @@ use crate::status::Status;
 use pa_audit_input::judge;
 use pa_io::{Failed, Sink, Source};
 use pa_machine::OutOfMemory;
-use pa_model::play_text;
+use pa_model::play_input;
 use pa_one_run::one_thread_in_file_order;
 use pa_record::write_run;
 use pa_rules::Verdict;
@@ -152,7 +152,7 @@ fn replay<R: Threads + Wait + Sync, S: Source, G: Gate>(
 }
 
 // The output of `model`.
-#[tactic(auto, using(crate::proofs::Refusing::trace_stopped))]
+#[tactic(auto, using(crate::proofs::Printing::input_printed, crate::proofs::Refusing::trace_refused))]
 fn model<S: Source>(alloc: Global, source: &mut S) -> Result<Vec<u8>, Status>
     ensures text { IfOk result (λ text. IsModelOutput
         (stream_of (S.left source.old) (S.faults source.old))
@@ -161,8 +161,9 @@ fn model<S: Source>(alloc: Global, source: &mut S) -> Result<Vec<u8>, Status>
         (stream_of (S.left source.old) (S.faults source.old))
         (stream_of (S.left source.new) (S.faults source.new))) }
 {
-    let trace = trace_of(alloc, source)?;
-    Ok(model_text(alloc, &trace)?)
+    let input = read_input(alloc, source, MOST_BYTES)?;
+    let text = play_input(alloc, input.as_slice())?;
+    Ok(text)
 }
 
 // The output of `audit`.
@@ -214,12 +215,4 @@ fn replayed<R: Threads + Wait + Sync, G: Gate>(
         run: Some(run),
         region: Some(region),
     })
-}
-
-// The text of the trace's run in the order of its lines.
-fn model_text(alloc: Global, trace: &Trace) -> Result<Vec<u8>, OutOfMemory>
-    requires { IsWithinLimits trace.now }
-    ensures { IfOk result (λ text. IsModelText trace.now text.items) }
-{
-    play_text(alloc, trace)
 }

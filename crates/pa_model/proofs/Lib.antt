@@ -1,4 +1,5 @@
 mod Allotting
+mod AllTold
 mod Alone
 mod Answers
 mod Backing
@@ -24,6 +25,7 @@ mod GoingBack
 mod Grown
 mod Handling
 mod Homes
+mod Input
 mod Issuable
 mod Issuing
 mod Known

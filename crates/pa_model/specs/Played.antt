@@ -1,6 +1,7 @@
 -- What the lines of a trace tell, and its text.
 use Rattle.std.specs.Prelude.{ℕ, List}
 use Rattle.pa_trace.specs.declared.script.Trace.{Trace}
+use Rattle.pa_trace.specs.Limits.{IsInput}
 use Rattle.pa_record.specs.declared.run.Run.{Run}
 use Rattle.pa_record.specs.RunText.{IsPrintable, IsRunText}
 use Rattle.pa_rules.specs.Legal.{IsFileRun}
@@ -19,3 +20,9 @@ pub record IsPlayedText (t : Trace) (text : List ℕ) : Type 0 where
   pub file : IsFileRun t run
   pub core : HasCoreRun t run
   pub printed : IsRunText run text
+
+-- the bytes are the text of a trace within the limits, and this text is that of its run
+pub record IsInputPlayed (bytes text : List ℕ) : Type 0 where
+  pub trace : Trace
+  pub input : IsInput trace bytes
+  pub played : IsPlayedText trace text

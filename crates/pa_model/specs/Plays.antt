@@ -4,6 +4,7 @@ use Rattle.pa_trace.specs.declared.script.Op.{Op}
 use Rattle.pa_trace.specs.declared.script.Line.{Line}
 use Rattle.pa_trace.specs.declared.script.Line.TheVariants.{Do}
 use Rattle.pa_trace.specs.Limits.{IsHeadWithin, IsLineWithin}
+use Rattle.pa_trace.specs.Unread.{Unread, IsReadUpTo}
 use Rattle.pa_record.specs.declared.entry.Answer.{Answer}
 use Rattle.pa_model.specs.declared.player.Player.{Player}
 use Rattle.pa_model.specs.Playing.{IsPlaying}
@@ -35,3 +36,9 @@ abbrev pub GoesTo : Player → Line → Player → Type 0
 GoesTo p l q =
     (region partitions threads : ℕ) (ls : List Line) → CanGoOn region partitions threads ls l p →
     IsPlaying region partitions threads (ls ++ l ∷ []) q
+
+-- of these bytes some lines are read, and these were played
+pub record IsPlayedUpTo (bytes : List ℕ) (u : Unread) (p : Player) : Type 0 where
+  pub ls : List Line
+  pub read : IsReadUpTo bytes ls u
+  pub playing : IsPlaying u.head.region u.head.partitions u.head.threads ls p

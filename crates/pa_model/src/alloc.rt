@@ -123,6 +123,7 @@ impl Player {
     }
 
     // Fills a list that is empty from the root. Where there is no room it tells the journal's entry that says so.
+    #[inline(always)]
     fn fill(&mut self, at: usize, partition: u32, class: Class) -> Result<Option<u32>, OutOfMemory>
         requires at { at < length self.old.caches }
         requires empty { list_in self.old at ≡ [] }
@@ -147,6 +148,7 @@ impl Player {
     }
 
     // Takes the slots of a fill from the root of a partition, or none where there is no room.
+    #[inline(always)]
     fn take_slots(&mut self, partition: u32, class: Class) -> Result<Placed, OutOfMemory>
         requires { CanPlace partition self.old }
         ensures taken { IfOk result (IsSlotsTaken partition class self.old self.new) }
@@ -175,6 +177,7 @@ impl Player {
     }
 
     // Puts the slots that left the root into the list, in their order.
+    #[inline(always)]
     fn put_all(
         &mut self,
         at: usize,
@@ -228,6 +231,7 @@ impl Player {
     }
 
     // Takes a direct map from the root of a partition, or none where there is no room.
+    #[inline(always)]
     fn take_map(&mut self, partition: u32, shape: Shape) -> Result<Placed, OutOfMemory>
         requires whole { shape.slot % 4096 ≡ 0 }
         requires some { 0 < shape.slot }

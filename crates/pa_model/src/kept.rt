@@ -84,6 +84,7 @@ impl Kept {
     }
 
     // An entry more of a partition's journal. Tells its place there.
+    #[inline(always)]
     pub(crate) fn act(&mut self, partition: u32, entry: RootEntry) -> Result<u32, OutOfMemory>
         requires partition { partition < length self.old.journals }
         requires few { length (kept_acts self.old partition) < 2 ^ 32 }
@@ -128,6 +129,7 @@ impl Kept {
 }
 
 // An entry more of a partition's journal. Tells its place there.
+#[inline(always)]
 fn push_act(journals: &mut Vec<Acts>, partition: u32, entry: RootEntry) -> Result<u32, OutOfMemory>
     requires partition { partition < length journals.old.items }
     requires few { length (slice_index_or journals.old.items partition []) < 2 ^ 32 }

@@ -24,4 +24,4 @@ mod tests;
 mod told;
 mod whole;
 
-pub use whole::{play, play_text};
+pub use whole::{play, play_input};

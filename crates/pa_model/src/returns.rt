@@ -72,6 +72,7 @@ impl Player {
     }
 
     // Gives the slots of a part of a list back to the root, 1 to 16.
+    #[inline(always)]
     fn give_batch(
         &mut self,
         at: usize,
@@ -114,6 +115,7 @@ impl Player {
 }
 
 // The titles of the slots in these places, at most 16; the slots with their numbers; and their bytes.
+#[inline(always)]
 fn titles_of(table: &Table, places: &[u32]) -> ArrayVec<Title, 16>
     requires few { length places.now ≤ 16 }
     requires among { All (λ i. i < length table.now) places.now }
@@ -126,6 +128,7 @@ fn titles_of(table: &Table, places: &[u32]) -> ArrayVec<Title, 16>
     titles
 }
 
+#[inline(always)]
 fn batch_of(table: &Table, places: &[u32]) -> Batch
     requires few { length places.now ≤ 16 }
     requires among { All (λ i. i < length table.now) places.now }
@@ -138,6 +141,7 @@ fn batch_of(table: &Table, places: &[u32]) -> Batch
     batch
 }
 
+#[inline(always)]
 fn bytes_of(titles: &[Title]) -> u64
     requires { length titles.now ≤ 16 }
     ensures { result ≡ sum (map (λ t. t.len) titles.now) }

@@ -53,6 +53,7 @@ impl Roots {
     }
 
     // Fills from the root of a partition: `want` slots of the class, or as many as there are.
+    #[inline(always)]
     pub(crate) fn fill(
         &mut self,
         partition: u32,
@@ -75,6 +76,7 @@ impl Roots {
     }
 
     // Makes a direct map of a partition.
+    #[inline(always)]
     pub(crate) fn map(
         &mut self,
         partition: u32,
@@ -98,6 +100,7 @@ impl Roots {
     }
 
     // Gives slots back to the root of a partition.
+    #[inline(always)]
     pub(crate) fn give(&mut self, partition: u32, titles: &[Title])
         requires among { partition < length self.old }
         requires few { length titles.now ≤ 16 }

@@ -1,18 +1,20 @@
-use crate::{play, play_text};
+use crate::{play, play_input};
 use pa_record::write_run;
 use pa_trace::read_trace;
 use std::alloc::Global;
 use std::test::Fail;
 
-// Whether this text comes out where a trace's text is played, and the same bytes where it is printed as it is played.
+// Whether this text comes out where a trace is read and then played, and the same bytes where its text is played as it is read.
 fn gives(alloc: Global, text: &[u8], due: &[u8]) -> Result<bool, Fail> {
     let Ok(trace) = read_trace(alloc, text) else {
         return Err(Fail::new("no trace"));
     };
     let run = play(alloc, &trace)?;
     let out = write_run(alloc, &run)?;
-    let text = play_text(alloc, &trace)?;
-    Ok(out.as_slice() == due && text.as_slice() == out.as_slice())
+    let Ok(printed) = play_input(alloc, text) else {
+        return Err(Fail::new("not played"));
+    };
+    Ok(out.as_slice() == due && printed.as_slice() == out.as_slice())
 }
 
 // An allocation and a free.

@@ -123,6 +123,7 @@ impl Told {
     }
 
     // An entry of a root's journal on this line. Tells its place there.
+    #[inline(always)]
     pub(crate) fn root(&mut self, partition: u32, act: RootAct) -> Result<u32, OutOfMemory>
         requires partition { partition < length self.old.journals }
         requires few { length (journal_in self.old partition) < 2 ^ 32 }

@@ -1,17 +1,23 @@
-ghost use Rattle.std.specs.Prelude.{IfOk};
+ghost use Rattle.std.specs.Prelude.{IfOk, IfErr};
 ghost use Rattle.pa_trace.specs.Limits.{IsWithinLimits};
+ghost use Rattle.pa_trace.specs.Faults.{IsFault};
 ghost use Rattle.pa_record.specs.RunText.{IsPrintable};
 ghost use Rattle.pa_rules.specs.Legal.{IsFileRun};
 ghost use Rattle.pa_core_run.specs.Playing.{HasCoreRun};
 ghost use Rattle.pa_model.specs.Begun.{IsUntold};
-ghost use Rattle.pa_model.specs.Played.{IsAllTold, IsPlayedText};
+ghost use Rattle.pa_model.specs.Played.{IsAllTold, IsInputPlayed};
 
 use crate::player::Player;
 use crate::told::Told;
 use pa_machine::OutOfMemory;
 use pa_record::Run;
-use pa_trace::Trace;
+use pa_trace::{Head, LineReader, Trace, TraceFault};
 use std::alloc::Global;
+
+// The most lines of a trace behind its head, and few bytes for a line: room for their records is taken ahead.
+const MOST_LINES: usize = 65_535;
+
+const LINE: usize = 8;
 
 /// Plays a trace within the limits on one thread, and answers the whole run: a record for each op line, the journals of the
 /// roots, the entries of the pool, the histories of the cells, and the report by phase and partition. The trace's threads
@@ -27,13 +33,25 @@ pub fn play(alloc: Global, trace: &Trace) -> Result<Run, OutOfMemory>
     told_of(alloc, trace, told)?.into_run(alloc)
 }
 
-/// Plays a trace within the limits in the same way, and answers the text of the run, which is printed as it is played.
-pub fn play_text(alloc: Global, trace: &Trace) -> Result<Vec<u8>, OutOfMemory>
-    requires { IsWithinLimits trace.now }
-    ensures { IfOk result (λ text. IsPlayedText trace.now text.items) }
+/// Plays the trace whose text the bytes are in the same way, each line as soon as it is read, and answers the text of the run,
+/// which is printed as it is played. Bytes are refused with the fault with which `read_trace` refuses them.
+pub fn play_input(alloc: Global, bytes: &[u8]) -> Result<Vec<u8>, TraceFault>
+    ensures text { IfOk result (λ text. IsInputPlayed bytes.now text.items) }
+    ensures fault { IfErr result (λ e. IsFault e bytes.now) }
 {
-    let told = Told::texts(alloc, trace.partitions, trace.lines.as_slice().len())?;
-    told_of(alloc, trace, told)?.into_text(alloc)
+    let mut reader = LineReader::of(bytes)?;
+    let Head {
+        region,
+        partitions,
+        threads,
+    } = reader.head();
+    let told = Told::texts(alloc, partitions, (bytes.len() / LINE).min(MOST_LINES))?;
+    let mut player = Player::new(alloc, region, partitions, threads, told)?;
+    while let Some(line) = reader.next()? {
+        player.line(line)?;
+    }
+    let text = player.finish()?.into_text(alloc)?;
+    Ok(text)
 }
 
 // What the trace's lines tell, where nothing was told before.

@@ -1,0 +1,22 @@
+-- What is told at the end.
+use Rattle.pa_trace.specs.declared.script.Trace.{Trace}
+use Rattle.pa_trace.specs.Limits.{IsWithinLimits}
+use Rattle.pa_record.specs.declared.run.Run.{Run}
+use Rattle.pa_rules.specs.Legal.{IsFileRun}
+use Rattle.pa_core_run.proofs.Whole.{files_are_played}
+use Rattle.pa_model.specs.declared.player.Player.{Player}
+use Rattle.pa_model.specs.Changes.{phase_ended}
+use Rattle.pa_model.specs.Played.{IsAllTold}
+use Rattle.pa_model.specs.Playing.{IsPlaying}
+use Rattle.pa_model.specs.Told.{IsToldRun}
+use Rattle.pa_model.proofs.Ended.{ends_filed, ends_printed}
+
+-- what is told at the end is what a run of the trace tells
+pub all_told : (t : Trace) (p : Player) → IsWithinLimits t → IsPlaying t.region t.partitions t.threads t.lines p → IsAllTold t (phase_ended p).told
+all_told t p within playing =
+    let filed : (r : Run) → IsToldRun (phase_ended p).told r → IsFileRun t r = λ r told. ends_filed t p r playing told in
+    record {
+      file = filed;
+      core = λ r told. files_are_played t r within (filed r told);
+      printable = λ r told. ends_printed t.region t.partitions t.threads t.lines p r playing told;
+    }

@@ -1,0 +1,10 @@
+use Rattle.std.proofs.Common.{length}
+use Rattle.pa_model.specs.Plays.{IsPlayedUpTo}
+use Rattle.pa_model.proofs.whole.play_input.Given as goal
+
+-- some lines are read, and these were played
+abbrev pub invariant-loop-player : goal.invariant-loop-player
+invariant-loop-player l = IsPlayedUpTo l.bytes l.reader l.player
+
+abbrev pub decreases-loop-player : goal.decreases-loop-player
+decreases-loop-player l = length l.reader.rest
