@@ -16,7 +16,7 @@ pub use fault::TraceFault;
 pub use generator::generate;
 pub use laws::{early_fault, first_draws, generated_lines_fit, one_answer, one_text, short_text};
 pub use line::Head;
-pub use line_reader::{LineReader, cut_line};
+pub use line_reader::{LineReader, MOST_LINES, cut_line};
 pub use reading::read_trace;
 pub use script::{Line, Lines, Op, Trace};
 pub use writing::write_trace;

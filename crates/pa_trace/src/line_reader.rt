@@ -11,8 +11,8 @@ use crate::line::{Head, head_in, line_in};
 use crate::script::Line;
 use std::marker::Model;
 
-// The most lines of a trace, the head included.
-const MOST_LINES: u32 = 65_536;
+/// The most lines of a trace, the head included.
+pub const MOST_LINES: u32 = 65_536;
 
 // The most bytes of a trace.
 const MOST_BYTES: usize = 4_194_304;

@@ -4,13 +4,11 @@ ghost use Rattle.pa_trace.specs.Faults.{IsFault};
 
 use crate::fault::TraceFault;
 use crate::line::Head;
-use crate::line_reader::LineReader;
+use crate::line_reader::{LineReader, MOST_LINES};
 use crate::script::{Lines, Trace};
 use std::alloc::Global;
 
-// The most lines of a trace behind its head, and the fewest bytes that a line has: room for all lines is taken ahead.
-const MOST_LINES: usize = 65_535;
-
+// The fewest bytes that a line has: room for all lines is taken ahead.
 const LINE: usize = 4;
 
 /// The trace that the bytes are the text of. `BadLine(n)` and `Limit(n)` name the first faulty line; lines and bytes count
@@ -21,7 +19,7 @@ pub fn read_trace(alloc: Global, bytes: &[u8]) -> Result<Trace, TraceFault>
     ensures fault { IfErr result (λ e. IsFault e bytes.now) }
 {
     let mut reader = LineReader::of(bytes)?;
-    let mut lines = Vec::with_capacity(alloc, (bytes.len() / LINE).min(MOST_LINES))?;
+    let mut lines = Vec::with_capacity(alloc, (bytes.len() / LINE).min(MOST_LINES as usize))?;
     while let Some(line) = reader.next()? {
         lines.push(line)?;
     }
