@@ -27,19 +27,7 @@ fn listed(threads: u32, partition: u32, caches: &[ThreadLists]) -> Tally
 {
     let mut sum = Tally { slots: 0, bytes: 0 };
     for thread in 0..threads {
-        sum = both(sum, caches[thread as usize].sum(partition));
+        sum = sum.and(caches[thread as usize].sum(partition));
     }
     sum
-}
-
-// Two tallies together.
-fn both(a: Tally, b: Tally) -> Tally
-    requires slots { a.slots + b.slots < 2 ^ 64 }
-    requires bytes { a.bytes + b.bytes < 2 ^ 64 }
-    ensures { result ≡ record { slots = a.slots + b.slots; bytes = a.bytes + b.bytes } }
-{
-    Tally {
-        slots: a.slots + b.slots,
-        bytes: a.bytes + b.bytes,
-    }
 }

@@ -1,8 +1,24 @@
+ghost use Rattle.std.specs.Prelude.{◌≡◌, ◌+◌, ◌<◌, ◌^◌};
+
 /// A number of slots, and the sum of their sizes in bytes, count words included.
 #[derive(Clone, Copy, Debug, PartialEq, Eq)]
 pub struct Tally {
     pub slots: u64,
     pub bytes: u64,
+}
+
+impl Tally {
+    /// The slots of both, whose numbers and bytes together stay below 2^64.
+    pub fn and(self, other: Tally) -> Tally
+        requires slots { self.slots + other.slots < 2 ^ 64 }
+        requires bytes { self.bytes + other.bytes < 2 ^ 64 }
+        ensures { result ≡ record { slots = self.slots + other.slots; bytes = self.bytes + other.bytes } }
+    {
+        Tally {
+            slots: self.slots + other.slots,
+            bytes: self.bytes + other.bytes,
+        }
+    }
 }
 
 /// The heap of one partition after the last line of a phase. Phases count from 1.

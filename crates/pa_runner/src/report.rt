@@ -102,10 +102,10 @@ fn counted_by<N: Name>(workers: &[Worker<N>], partition: u32) -> Count
         worker.kept();
         let counts = worker.counts();
         let count = counts[partition as usize];
-        sum.issued = both(sum.issued, count.issued);
-        sum.freed = both(sum.freed, count.freed);
-        sum.entered = both(sum.entered, count.entered);
-        sum.left = both(sum.left, count.left);
+        sum.issued = sum.issued.and(count.issued);
+        sum.freed = sum.freed.and(count.freed);
+        sum.entered = sum.entered.and(count.entered);
+        sum.left = sum.left.and(count.left);
     }
     sum
 }
@@ -119,22 +119,10 @@ fn cached_by<N: Name>(workers: &[Worker<N>], partition: u32) -> Tally
     let mut sum = NONE;
     for worker in workers {
         worker.kept();
-        sum = both(sum, worker.cached(partition));
+        sum = sum.and(worker.cached(partition));
     }
     sum
 }
 
 // No slots.
 const NONE: Tally = Tally { slots: 0, bytes: 0 };
-
-// Two tallies together.
-fn both(a: Tally, b: Tally) -> Tally
-    requires slots { a.slots + b.slots < 2 ^ 64 }
-    requires bytes { a.bytes + b.bytes < 2 ^ 64 }
-    ensures { result ≡ record { slots = a.slots + b.slots; bytes = a.bytes + b.bytes } }
-{
-    Tally {
-        slots: a.slots + b.slots,
-        bytes: a.bytes + b.bytes,
-    }
-}

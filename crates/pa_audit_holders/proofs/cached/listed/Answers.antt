@@ -12,10 +12,10 @@ loop-thread-preserved c =
     let below : c.loop-thread.thread < length c.args.caches.now = omega (arith, c.loop-thread-test.true, c.requires.threads, c.requires.many) in
     let there : cache_in c.index-caches-thread.result ≡ caches_in c.args.caches.now c.loop-thread.thread =
     ap cache_in (c.index-caches-thread.is ∙ get_or_default c.args.caches.now c.loop-thread.thread c.index-caches-thread.result [] below) in
-    let sum : c.both-sum.result.slots ≡ l.sum.slots + c.sum.result.slots = ap (λ (t : Tally). t.slots) c.both-sum.ensures in
-    let more : c.both-sum.result.bytes ≡ l.sum.bytes + c.sum.result.bytes = ap (λ (t : Tally). t.bytes) c.both-sum.ensures in
+    let sum : c.and-sum.result.slots ≡ l.sum.slots + c.sum.result.slots = ap (λ (t : Tally). t.slots) c.and-sum.ensures in
+    let more : c.and-sum.result.bytes ≡ l.sum.bytes + c.sum.result.bytes = ap (λ (t : Tally). t.bytes) c.and-sum.ensures in
     record {
-      listed = listed_next (caches_in c.args.caches.now) (cache_in c.index-caches-thread.result) p l.thread l.sum c.sum.result c.both-sum.result l.invariant.listed c.sum.ensures.listed there c.both-sum.ensures;
+      listed = listed_next (caches_in c.args.caches.now) (cache_in c.index-caches-thread.result) p l.thread l.sum c.sum.result c.and-sum.result l.invariant.listed c.sum.ensures.listed there c.and-sum.ensures;
       few = omega (arith, sum, l.invariant.few, c.sum.ensures.few);
       small = omega (arith, more, l.invariant.small, c.sum.ensures.small);
     }

@@ -6,8 +6,8 @@ use Rattle.pa_plays.specs.Workers.{WorkerValue}
 use Rattle.pa_runner.proofs.Summed.{IsCaching, item_in, worker_at, cache_fits, cache_more}
 use Rattle.pa_runner.proofs.report.cached_by.Goals as goal
 
-pub both-sum-requires-clause-slots : goal.both-sum-requires-clause-slots
-both-sum-requires-clause-slots g c =
+pub and-sum-requires-clause-slots : goal.and-sum-requires-clause-slots
+and-sum-requires-clause-slots g c =
     let p = c.args.partition in
     let ws = c.args.workers.now in
     let i = c.loop-worker.worker-index in
@@ -19,8 +19,8 @@ both-sum-requires-clause-slots g c =
     (c.cached.ensures.bytes ∙ ap (λ (w : WorkerValue). listed_bytes (λ class. length (listed_in w.stock p class)) 0 59) same)
     c.loop-worker.invariant (omega arith)).0
 
-pub both-sum-requires-clause-bytes : goal.both-sum-requires-clause-bytes
-both-sum-requires-clause-bytes g c =
+pub and-sum-requires-clause-bytes : goal.and-sum-requires-clause-bytes
+and-sum-requires-clause-bytes g c =
     let p = c.args.partition in
     let ws = c.args.workers.now in
     let i = c.loop-worker.worker-index in
@@ -39,7 +39,7 @@ loop-worker-preserved g c =
     let i = c.loop-worker.worker-index in
     let below = c.loop-worker-test.true in
     let same = item_in ws i _ c.worker-item.result c.worker-item.is below in
-    subst (IsCaching p (i + 1) ws) (sym c.both-sum.ensures)
+    subst (IsCaching p (i + 1) ws) (sym c.and-sum.ensures)
     (cache_more p i ws c.loop-worker.sum c.cached.result (worker_at ws i _ c.worker-item.result c.worker-item.is below c.kept.ensures).stock
     (c.cached.ensures.slots ∙ ap (λ (w : WorkerValue). listed_slots (listed_in w.stock p) 0 59) same)
     (c.cached.ensures.bytes ∙ ap (λ (w : WorkerValue). listed_bytes (λ class. length (listed_in w.stock p class)) 0 59) same)

@@ -11,4 +11,4 @@ loop-worker-preserved g c =
     add_more p i ws c.loop-worker.sum (get_or c.counts-counts.result p _) _
     (count_at ws i p _ c.worker-item.result c.counts-counts.result _ c.worker-item.is below c.kept.ensures c.counts-counts.ensures c.requires.partition)
     (worker_at ws i _ c.worker-item.result c.worker-item.is below c.kept.ensures).counts (c.requires.few i below) c.loop-worker.invariant
-    c.both-sum.ensures c.both-sum-in-loop-worker.ensures c.both-sum-in-loop-worker-2.ensures c.both-sum-in-loop-worker-3.ensures
+    c.and-sum.ensures c.and-sum-in-loop-worker.ensures c.and-sum-in-loop-worker-2.ensures c.and-sum-in-loop-worker-3.ensures
