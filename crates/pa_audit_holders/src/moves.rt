@@ -7,7 +7,7 @@ ghost use Rattle.pa_audit_holders.specs.declared.owners.Course.TheVariants as co
 ghost use Rattle.pa_audit_holders.specs.Owners.{AllFit, AreDirect, AreOfRuns, HasOwners, HasReturns, TellsThread, move_on};
 
 use crate::owners::{Course, Owner, move_slot};
-use pa_audit_records::{ByKey, record_on};
+use pa_audit_records::{ByKey, record_near};
 use pa_machine::OutOfMemory;
 use pa_record::{Numbered, RootAct};
 use pa_rules::Played;
@@ -28,26 +28,12 @@ pub(crate) fn thread_on(records: &[Played], line: u32, above: u32) -> Found
     requires rising { RiseByLine records.now }
     ensures { TellsThread records.now line result.thread }
 {
-    let guess = line.saturating_sub(above);
-    if is_on(records, guess, line) {
-        return found_at(records, guess, line);
-    }
-    match record_on(records, line) {
+    match record_near(records, line, line.saturating_sub(above)) {
         Some(at) => found_at(records, at, line),
         None => Found {
             thread: None,
             above,
         },
-    }
-}
-
-// Whether the record in this place is on the line.
-fn is_on(records: &[Played], at: u32, line: u32) -> bool
-    ensures { IsTrue result → IsOnLine records.now line at }
-{
-    match records.get(at as usize) {
-        Some(record) => record.line == line,
-        None => false,
     }
 }
 

@@ -15,10 +15,9 @@ ghost use Rattle.pa_audit_order.specs.declared.numbers.Kind.TheVariants.{Fill, F
 ghost use Rattle.pa_audit_order.specs.Numbers.{AreByNumber, IsOneAt, put_by};
 ghost use Rattle.pa_audit_order.specs.Given.{ReadsRaw, IsOther, IsFreedMeanwhile, MayFindPoison, MayGive, NeedsNoContent};
 
-use crate::changes::change;
 use crate::keys::{greatest, key, least};
 use crate::numbers::{Kind, by_number};
-use crate::registers::Registers;
+use pa_audit_records::Registers;
 use pa_machine::{OutOfMemory, POISON, SlotName, number};
 use pa_record::{Answer, History};
 use pa_rules::{Played, Reg};
@@ -51,7 +50,7 @@ pub fn contents_meet(
         if !may_give(&fills, &frees, records, &registers, *record) {
             return Ok(Some(at));
         }
-        change(&mut registers, cells, record);
+        registers.change(cells, record);
         at += 1;
     }
     Ok(None)

@@ -10,8 +10,7 @@ ghost use Rattle.pa_rules.specs.Seen.{HandsTo};
 ghost use Rattle.pa_rules.specs.Rising.{RiseByLine};
 ghost use Rattle.pa_audit_order.specs.Steps.{AreGivers, ArePrevious, IsGiving};
 
-use crate::changes::exchange;
-use pa_audit_records::{ByKey, Salt, record_on};
+use pa_audit_records::{ByKey, Salt, exchange, record_on};
 use pa_machine::OutOfMemory;
 use pa_record::{Answer, Held, History};
 use pa_rules::Played;

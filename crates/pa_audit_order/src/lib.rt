@@ -2,14 +2,12 @@
 //! seen. For each, the first record at which it isn't met.
 #![tactic(auto)]
 
-mod changes;
 mod contents;
 mod cuts;
 mod hands;
 mod keys;
 mod looks;
 mod numbers;
-mod registers;
 mod rises;
 mod seen;
 #[cfg(test)]

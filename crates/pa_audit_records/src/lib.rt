@@ -4,6 +4,7 @@
 mod along;
 mod by_key;
 mod cells;
+mod changes;
 mod ends;
 mod keys;
 mod lines;
@@ -25,7 +26,9 @@ pub use cells::{exchanges_meet, swaps_meet};
 pub use ends::ends_of;
 pub use lines::lines_meet;
 pub use phases::{phases_in, record_ends};
-pub use records::{record_on, records_are_within, records_of};
+pub use records::{record_near, record_on, records_are_within, records_of};
+pub use registers::Registers;
+pub use rows::exchange;
 pub use salt::Salt;
 pub use slots::slots_meet;
 pub use walk::registers_meet;

@@ -71,7 +71,16 @@ pub fn record_on(records: &[Played], line: u32) -> Option<u32>
     ensures some { IfSome result (IsOnLine records.now line) }
     ensures none { IfNone result (NoneOnLine records.now line) }
 {
-    let place = line.saturating_sub(2);
+    record_near(records, line, line.saturating_sub(2))
+}
+
+/// The same, where it is looked for in this place first.
+pub fn record_near(records: &[Played], line: u32, place: u32) -> Option<u32>
+    requires few { length records.now < 2 ^ 32 }
+    requires rising { RiseByLine records.now }
+    ensures some { IfSome result (IsOnLine records.now line) }
+    ensures none { IfNone result (NoneOnLine records.now line) }
+{
     if is_on(records, place as usize, line) {
         return Some(place);
     }

@@ -10,9 +10,9 @@ use std::marker::Model;
 // The number of registers of 16 threads.
 const REGISTERS: usize = 1024;
 
-// The registers of 16 threads, 64 each. They are seen as a list.
+/// The registers of 16 threads, 64 each, that hold what the records so far left there. They are seen as a list.
 #[derive(Drop)]
-pub(crate) struct Registers {
+pub struct Registers {
     of: Vec<Reg>,
 }
 
@@ -28,8 +28,8 @@ impl Model for Registers {
 }
 
 impl Registers {
-    // All empty.
-    pub(crate) fn new(alloc: Global) -> Result<Registers, OutOfMemory>
+    /// All empty.
+    pub fn new(alloc: Global) -> Result<Registers, OutOfMemory>
         ensures { IfOk result (λ r. AreRegsOf r no_regs) }
     {
         Ok(Registers {
@@ -37,8 +37,8 @@ impl Registers {
         })
     }
 
-    // What a register of a thread holds.
-    pub(crate) fn get(&self, thread: u32, reg: u32) -> Reg
+    /// What a register of a thread holds. Threads count from 0 to 15, registers from 0 to 63.
+    pub fn get(&self, thread: u32, reg: u32) -> Reg
         requires thread { thread < 16 }
         requires reg { reg < 64 }
         ensures { result ≡ regs_in self.now thread reg }
@@ -46,8 +46,8 @@ impl Registers {
         self.of[64 * thread as usize + reg as usize]
     }
 
-    // Sets a register of a thread.
-    pub(crate) fn set(&mut self, thread: u32, reg: u32, holds: Reg)
+    /// Sets a register of a thread, and no other.
+    pub fn set(&mut self, thread: u32, reg: u32, holds: Reg)
         requires thread { thread < 16 }
         requires reg { reg < 64 }
         ensures { AreRegsOf self.new (with_register (regs_in self.old) thread reg holds) }

@@ -150,8 +150,8 @@ pub(crate) fn register(held: Held) -> Reg
     }
 }
 
-// The exchange of this index with the cell, where there is one.
-pub(crate) fn exchange(cells: &[History], cell: u32, entry: u32) -> Option<CellEntry>
+/// The exchange of this index with the cell, where there is one. Both count from 0.
+pub fn exchange(cells: &[History], cell: u32, entry: u32) -> Option<CellEntry>
     ensures { result ≡ slice_get (history_at cells.now cell) entry }
 {
     match cells.get(cell as usize) {

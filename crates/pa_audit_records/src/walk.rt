@@ -1,4 +1,4 @@
-ghost use Rattle.std.specs.Prelude.{◌≡◌, ◌↔◌, ◌<◌, ◌^◌, All, Any, IfOk, IsTrue, List, length, slice_get};
+ghost use Rattle.std.specs.Prelude.{◌≡◌, ◌↔◌, ◌<◌, ◌^◌, All, Any, IfOk, IsTrue, List, length};
 ghost use Rattle.pa_audit_records.specs.ByKeys.{value_at};
 ghost use Rattle.pa_rules.specs.declared.verdict.Place.TheVariants as places;
 ghost use Rattle.pa_rules.specs.Cells.{history_at};
@@ -6,22 +6,18 @@ ghost use Rattle.pa_rules.specs.RecordDemands.{RegistersDemand};
 ghost use Rattle.pa_rules.specs.declared.played.Played.{Played};
 ghost use Rattle.pa_rules.specs.Registers.{usable_in};
 ghost use Rattle.pa_rules.specs.Sizes.{usable_of};
-ghost use Rattle.pa_one_run.proofs.rows.Handles.{change_of, found_by as found_in};
 ghost use Rattle.pa_audit_records.specs.Rows.{AnswersRead, MayAnswer, IsPlayedWithin};
-ghost use Rattle.pa_audit_records.specs.Tables.{AreUsables, ReadsSlot, SuitsReads, AreRegsOf, regs_in, regs_next, facts_by};
+ghost use Rattle.pa_audit_records.specs.Tables.{AreUsables, ReadsSlot, SuitsReads, regs_in, facts_by};
 ghost use Rattle.pa_rules.specs.Tells.{TellsFirst};
 
 use crate::by_key::ByKey;
 use crate::keys::key;
 use crate::registers::Registers;
-use crate::rows::{
-    exchange, may_alloc, may_copy, may_free, may_read_from, may_reset, may_swap, may_write,
-    register,
-};
+use crate::rows::{may_alloc, may_copy, may_free, may_read_from, may_reset, may_swap, may_write};
 use crate::salt::Salt;
 use crate::usable::usables;
 use pa_machine::{OutOfMemory, SlotName};
-use pa_record::{Answer, Held, History};
+use pa_record::{Answer, History};
 use pa_rules::{Played, Reg};
 use pa_trace::Op;
 use std::alloc::Global;
@@ -44,7 +40,7 @@ pub fn registers_meet(
         if !may_answer(&registers, &usables, cells, record) {
             return Ok(Some(at));
         }
-        change(&mut registers, cells, record);
+        registers.change(cells, record);
         at += 1;
     }
     Ok(None)
@@ -61,7 +57,7 @@ fn is_read(op: Op) -> bool
 fn reads(records: &[Played]) -> bool
     ensures { IsTrue result ↔ Any (λ x. ReadsSlot x.op) records.now }
 {
-    records.iter().any(|record| is_read(record.op))
+    records.iter().any(|told| is_read(told.op))
 }
 
 // The usable numbers of the slots, where a record reads one: no other op looks at them.
@@ -96,20 +92,15 @@ fn may_read(usables: &ByKey<u32>, holds: Reg, place: u32, answer: Answer) -> boo
 }
 
 // Whether a record's answer is one that its thread's registers ask for.
-fn may_answer(
-    registers: &Registers,
-    usables: &ByKey<u32>,
-    cells: &[History],
-    record: &Played,
-) -> bool
-    requires within { IsPlayedWithin record.now }
-    ensures { (ps : List Played) → (ReadsSlot record.now.op → AreUsables ps (value_at usables.now)) →
+fn may_answer(registers: &Registers, usables: &ByKey<u32>, cells: &[History], told: &Played) -> bool
+    requires within { IsPlayedWithin told.now }
+    ensures { (ps : List Played) → (ReadsSlot told.now.op → AreUsables ps (value_at usables.now)) →
         IsTrue result ↔
-        MayAnswer (facts_by (history_at cells.now) ps) record.now.op (regs_in registers.now record.now.thread) record.now.answer }
+        MayAnswer (facts_by (history_at cells.now) ps) told.now.op (regs_in registers.now told.now.thread) told.now.answer }
 {
-    let thread = record.thread;
-    let answer = record.answer;
-    match record.op {
+    let thread = told.thread;
+    let answer = told.answer;
+    match told.op {
         Op::Alloc { reg, size, .. } => may_alloc(registers.get(thread, reg), size, answer),
         Op::Copy { from, to } => {
             may_copy(
@@ -124,54 +115,5 @@ fn may_answer(
         Op::Read { reg, place } => may_read(usables, registers.get(thread, reg), place, answer),
         Op::Swap { cell, reg } => may_swap(cells, cell, registers.get(thread, reg), answer),
         Op::Purge => matches!(answer, Answer::Purged { .. }),
-    }
-}
-
-// The register that a record's answer changes, and what it holds then.
-fn change_by(cells: &[History], op: Op, answer: Answer) -> Option<(u32, Reg)>
-    ensures { result ≡ change_of (history_at cells.now) op answer }
-{
-    match op {
-        Op::Alloc { reg, .. } => match answer {
-            Answer::Made { seen, .. } => Some((reg, Reg::Own(seen.slot))),
-            _ => None,
-        },
-        Op::Copy { to, .. } => match answer {
-            Answer::Done { seen } => Some((to, Reg::Ref(seen.slot))),
-            _ => None,
-        },
-        Op::Reset { reg } => match answer {
-            Answer::Done { .. } => Some((reg, Reg::Cleared)),
-            _ => None,
-        },
-        Op::Free { reg } => match answer {
-            Answer::Done { .. } => Some((reg, Reg::Freed)),
-            _ => None,
-        },
-        Op::Swap { cell, reg } => match answer {
-            Answer::Swapped { entry } => Some((reg, register(found_by(cells, cell, entry)))),
-            _ => None,
-        },
-        Op::Write { .. } | Op::Read { .. } | Op::Purge => None,
-    }
-}
-
-// What the exchange of this index with the cell found, and nothing where there is none.
-fn found_by(cells: &[History], cell: u32, entry: u32) -> Held
-    ensures { result ≡ found_in (slice_get (history_at cells.now cell) entry) }
-{
-    match exchange(cells, cell, entry) {
-        Some(found) => found.found,
-        None => Held::Nothing,
-    }
-}
-
-// Changes the registers as a record's answer does.
-fn change(registers: &mut Registers, cells: &[History], record: &Played)
-    requires within { IsPlayedWithin record.now }
-    ensures { AreRegsOf registers.new (regs_next (history_at cells.now) (regs_in registers.old) record.now) }
-{
-    if let Some((reg, holds)) = change_by(cells, record.op, record.answer) {
-        registers.set(record.thread, reg, holds);
     }
 }

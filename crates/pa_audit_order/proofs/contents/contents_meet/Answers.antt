@@ -48,7 +48,7 @@ loop-record-preserved c =
       met =
           met_more (λ k. ContentsDemand usable_of cells ps (places.Record k)) i c.loop-record.invariant.met
           (content_met cells ps c.loop-record.registers i _ c.loop-record-test.true c.loop-record.invariant.regs (c.if-not-may_give.ensures.0 refl));
-      regs = regs_on cells ps c.loop-record.registers c.change.new.registers i _ c.loop-record-test.true c.requires.registers c.loop-record.invariant.regs c.change.ensures;
+      regs = regs_on cells ps c.loop-record.registers c.change.new.self i _ c.loop-record-test.true c.requires.registers c.loop-record.invariant.regs c.change.ensures;
       at = ap (λ n. n + 1) c.loop-record.invariant.at;
     }
 

@@ -1,4 +1,4 @@
-use Rattle.std.proofs.Common.{◌≡◌, ◌≤◌, map, sym, ◌∙◌, subst}
+use Rattle.std.proofs.Common.{◌≤◌, sym, ◌∙◌, subst}
 use Rattle.std.specs.Prelude.{AllPairs}
 use Rattle.pa_audit_records.specs.Cuts.{AreCuts}
 use Rattle.pa_audit_records.proofs.Cutting.{phases_sorted}

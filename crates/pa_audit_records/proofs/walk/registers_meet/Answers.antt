@@ -27,7 +27,7 @@ loop-record-preserved c =
     let cells = history_at c.args.cells.now in
     record {
       walk =
-          regs_more cells ps c.loop-record.registers c.change.new.registers c.loop-record.record-index _ c.loop-record-test.true c.loop-record.invariant.walk
+          regs_more cells ps c.loop-record.registers c.change.new.self c.loop-record.record-index _ c.loop-record-test.true c.loop-record.invariant.walk
           ((c.if-not-may_answer.ensures ps (c.in_ok-usables.ensures _ (record_among ps c.loop-record.record-index _ c.loop-record-test.true))).0 refl) c.change.ensures;
       at = ap (λ n. n + 1) c.loop-record.invariant.at;
     }

@@ -1,37 +1,16 @@
 ghost use Rattle.std.specs.Prelude.{◌≡◌, slice_get};
 ghost use Rattle.pa_rules.specs.Cells.{history_at};
-ghost use Rattle.pa_rules.specs.Registers.{reg_of};
 ghost use Rattle.pa_one_run.proofs.rows.Handles.{change_of, found_by as found_in};
 ghost use Rattle.pa_audit_records.specs.Rows.{IsPlayedWithin};
 ghost use Rattle.pa_audit_records.specs.Tables.{AreRegsOf, regs_in, regs_next};
 
 use crate::registers::Registers;
-use pa_record::{Answer, CellEntry, Held, History};
+use crate::rows::{exchange, register};
+use pa_record::{Answer, Held, History};
 use pa_rules::{Played, Reg};
 use pa_trace::Op;
 
-// The register that holds a handle.
-fn register(held: Held) -> Reg
-    ensures { result ≡ reg_of held }
-{
-    match held {
-        Held::Nothing => Reg::Empty,
-        Held::Own(slot) => Reg::Own(slot),
-        Held::Ref(slot) => Reg::Ref(slot),
-    }
-}
-
-// The exchange of this index with the cell, where there is one.
-pub(crate) fn exchange(cells: &[History], cell: u32, entry: u32) -> Option<CellEntry>
-    ensures { result ≡ slice_get (history_at cells.now cell) entry }
-{
-    match cells.get(cell as usize) {
-        Some(history) => history.entries().get(entry as usize).copied(),
-        None => None,
-    }
-}
-
-// What it found, and nothing where there is none.
+// What the exchange of this index with the cell found, and nothing where there is none.
 fn found_by(cells: &[History], cell: u32, entry: u32) -> Held
     ensures { result ≡ found_in (slice_get (history_at cells.now cell) entry) }
 {
@@ -70,12 +49,14 @@ fn change_by(cells: &[History], op: Op, answer: Answer) -> Option<(u32, Reg)>
     }
 }
 
-// Changes the registers as a record's answer does.
-pub(crate) fn change(registers: &mut Registers, cells: &[History], told: &Played)
-    requires within { IsPlayedWithin told.now }
-    ensures { AreRegsOf registers.new (regs_next (history_at cells.now) (regs_in registers.old) told.now) }
-{
-    if let Some((reg, holds)) = change_by(cells, told.op, told.answer) {
-        registers.set(told.thread, reg, holds);
+impl Registers {
+    /// Changes them as a record's answer does. The record's thread is below 16, and it names registers below 64.
+    pub fn change(&mut self, cells: &[History], told: &Played)
+        requires within { IsPlayedWithin told.now }
+        ensures { AreRegsOf self.new (regs_next (history_at cells.now) (regs_in self.old) told.now) }
+    {
+        if let Some((reg, holds)) = change_by(cells, told.op, told.answer) {
+            self.set(told.thread, reg, holds);
+        }
     }
 }

@@ -3,7 +3,7 @@ use Rattle.std.specs.List.Sorted.{IsPartitionPoint}
 use Rattle.std.proofs.lemmas.Bool.{false≢true}
 use Rattle.std.proofs.lemmas.List.Sorted.{IsPartitionPoint-from_clause}
 use Rattle.pa_audit_records.proofs.Seeking.{lines_parted, seek_none}
-use Rattle.pa_audit_records.proofs.records.record_on.Goals as goal
+use Rattle.pa_audit_records.proofs.records.record_near.Goals as goal
 
 pub returns-else-is_on-2-clause-none : goal.returns-else-is_on-2-clause-none
 returns-else-is_on-2-clause-none c =
