@@ -2,13 +2,8 @@
 use Rattle.std.proofs.Common.{◌≡◌, ℕ, ◌+◌, ◌<◌, ◌≤◌, ◌⊎◌, List, length, take, Option, Some, None, refl, sym, ◌∙◌, ap, subst, arith, inl, inr}
 use Rattle.std.specs.Prelude.{slice_get}
 use Rattle.std.proofs.lemmas.Bool.{cases_lt}
-use Rattle.pa_direct.proofs.Serving.{Serves-of}
-use Rattle.pa_layout.specs.Pages.{supers_for}
-use Rattle.pa_trace.specs.declared.script.Op.{Op}
 use Rattle.pa_record.specs.declared.pool.PoolEntry.{PoolEntry}
 use Rattle.pa_record.specs.declared.root.RootEntry.{RootEntry}
-use Rattle.pa_record.specs.declared.root.RootAct.{RootAct}
-use Rattle.pa_record.specs.declared.root.RootAct.TheVariants.{Fill, Map, Full, Give, Unmap, Purge}
 use Rattle.pa_record.specs.Pool.{PoolState, new_pool}
 use Rattle.pa_record.specs.Root.{Root, asked_by, new_root, root_next, root_replayed}
 use Rattle.pa_record.specs.Sound.{IsBornBelow, AsksFrom, least_after}
@@ -16,29 +11,16 @@ use Rattle.pa_record.proofs.Members.{not_in_none, not_some, of_some}
 use Rattle.pa_record.proofs.Replaying.{replayed_push}
 use Rattle.pa_rules.specs.declared.played.Played.{Played}
 use Rattle.pa_rules.specs.declared.verdict.Place.TheVariants as places
-use Rattle.pa_rules.specs.Roots.{Journals, IsEntry, MakesEntry, journal_at}
+use Rattle.pa_rules.specs.Roots.{Journals, IsEntry, journal_at}
 use Rattle.pa_rules.specs.HeapDemands.{EntryFits, RootsDemand}
 use Rattle.pa_audit_heap.specs.declared.replay.Replay.{Replay}
-use Rattle.pa_audit_heap.specs.Replayed.{HasMapSize, IsPlayedBy}
+use Rattle.pa_audit_heap.specs.Replayed.{IsPlayedBy}
 use Rattle.pa_audit_heap.specs.Replaying.{HasAsked, IsReplayed}
 use Rattle.pa_audit_heap.proofs.Listed.{front_more, one_there, none_past}
 use Rattle.pa_rules.specs.Tells.{TellsFirst}
 use Rattle.pa_audit_heap.specs.Tells.{TellsEntry}
 use Rattle.pa_audit_heap.proofs.Naming.{all_journals}
 use Rattle.pa_audit_heap.proofs.Rooting.{in_step}
-
--- an entry that an op makes has the size of a shape
-pub made_size : (pools : List PoolEntry) (p : ℕ) (act : RootAct) (op : Op) → MakesEntry pools p act op → HasMapSize act
-made_size pools p (Fill class asked slots) op makes = tt
-made_size pools p (Map asked slot len) op (size, (reg, is, direct), same) =
-    let serves = Serves-of size direct in
-    let usable = serves.usable in
-    let large = direct.0 in
-    (omega (arith, serves.system_pages, same), omega arith, omega (arith, serves.few_supers, ap supers_for same))
-made_size pools p (Full class asked) op makes = tt
-made_size pools p (Give slots) op makes = tt
-made_size pools p (Unmap asked slot) op makes = tt
-made_size pools p Purge op makes = tt
 
 -- the start
 pub replayed_none : (supers : ℕ) (pools : List PoolEntry) (es : List RootEntry) (r : Replay) → r.root ≡ new_root → r.plan ≡ new_pool supers → IsReplayed supers pools es 0 r 0
