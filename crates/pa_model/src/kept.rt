@@ -93,7 +93,7 @@ impl Kept {
     {
         match &mut self.form {
             Form::Lists { journals, .. } => push_act(journals, partition, entry),
-            Form::Texts { journals, .. } => journals.push(partition, entry),
+            Form::Texts { journals, .. } => journals.push(partition, &entry),
         }
     }
 

@@ -45,11 +45,11 @@ impl Journals {
     /// Puts an entry behind the others of a partition, and tells its place there. After want of memory that journal has no
     /// entries.
     #[inline(always)]
-    pub fn push(&mut self, partition: u32, entry: RootEntry) -> Result<u32, OutOfMemory>
+    pub fn push(&mut self, partition: u32, entry: &RootEntry) -> Result<u32, OutOfMemory>
         requires partition { partition < length self.old }
         requires few { length (slice_index_or self.old partition []) < 2 ^ 32 }
         ensures place { IfOk result (λ place. place ≡ length (slice_index_or self.old partition [])) }
-        ensures pushed { OnOk result (self.new ≡ slice_set self.old partition (slice_index_or self.old partition [] ++ entry ∷ [])) }
+        ensures pushed { OnOk result (self.new ≡ slice_set self.old partition (slice_index_or self.old partition [] ++ entry.now ∷ [])) }
         ensures lost { OnErr result (self.new ≡ slice_set self.old partition []) }
     {
         let lines = &mut self.of[partition as usize];

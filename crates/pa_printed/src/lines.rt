@@ -44,18 +44,18 @@ impl Lines {
 
     // Puts an entry behind the others, and tells its place. After want of memory there are none.
     #[inline(always)]
-    pub(crate) fn push(&mut self, entry: RootEntry) -> Result<u32, OutOfMemory>
+    pub(crate) fn push(&mut self, entry: &RootEntry) -> Result<u32, OutOfMemory>
         requires few { length self.old.entries < 2 ^ 32 }
         ensures partition { self.new.partition ≡ self.old.partition }
         ensures place { IfOk result (λ place. place ≡ length self.old.entries) }
-        ensures pushed { OnOk result (self.new ≡ record self.old { entries = self.old.entries ++ entry ∷ [] }) }
+        ensures pushed { OnOk result (self.new ≡ record self.old { entries = self.old.entries ++ entry.now ∷ [] }) }
         ensures lost { OnErr result (self.new ≡ record self.old { entries = [] }) }
     {
-        root_fits(&entry);
+        root_fits(entry);
         let place = self.len;
-        match push_root(&mut self.text, u64::from(self.partition), place, &entry) {
+        match push_root(&mut self.text, u64::from(self.partition), place, entry) {
             Ok(()) => {
-                self.past = self.past.and(&entry);
+                self.past = self.past.and(entry);
                 self.len += 1;
                 Ok(place as u32)
             }

@@ -26,9 +26,9 @@ returns-clause-pushed c =
     let low : i < length js = low_in js c.args.self.now i c.self.view_is c.requires.partition in
     let had : old.entries ≡ get_or c.args.self.now i [] =
     ap (λ (j : OneJournal). j.entries) c.index_mut-lines.ensures.value ∙ sym (entries_at js i old low) ∙ ap (λ (z : List (List RootEntry)). get_or z i []) c.self.view_is in
-    ok_then _ _ c.push.result (λ (is : c.push.new.self ≡ record old { entries = old.entries ++ c.args.entry ∷ [] }).
-    entries_set js c.args.self.now i c.push.new.self (get_or c.args.self.now i [] ++ c.args.entry ∷ []) c.self.view_is
-    (ap (λ (j : OneJournal). j.entries) is ∙ ap (λ (z : List RootEntry). z ++ c.args.entry ∷ []) had)) c.push.ensures.pushed
+    ok_then _ _ c.push.result (λ (is : c.push.new.self ≡ record old { entries = old.entries ++ c.args.entry.now ∷ [] }).
+    entries_set js c.args.self.now i c.push.new.self (get_or c.args.self.now i [] ++ c.args.entry.now ∷ []) c.self.view_is
+    (ap (λ (j : OneJournal). j.entries) is ∙ ap (λ (z : List RootEntry). z ++ c.args.entry.now ∷ []) had)) c.push.ensures.pushed
 
 pub returns-clause-lost : goal.returns-clause-lost
 returns-clause-lost c =
