@@ -1,20 +1,19 @@
 -- The lines of a text are played, each as soon as it is read.
-use Rattle.std.proofs.Common.{◌≡◌, ℕ, ◌+◌, ◌<◌, ◌≤◌, List, [], ◌∷◌, ◌++◌, length, sym, subst, arith}
+use Rattle.std.proofs.Common.{◌≡◌, ℕ, List, [], ◌∷◌, ◌++◌, sym, subst, arith}
 use Rattle.std.specs.List.{AllByRecursion}
 use Rattle.std.proofs.lemmas.List.{length_push}
 use Rattle.pa_trace.specs.declared.line.Head.{Head}
 use Rattle.pa_trace.specs.declared.script.Line.{Line}
-use Rattle.pa_trace.specs.declared.script.Trace.{Trace}
 use Rattle.pa_trace.specs.Limits.{IsLineWithin}
 use Rattle.pa_trace.specs.Unread.{Unread, trace_with, IsReadUpTo, IsLineRead, IsEndRead}
 use Rattle.pa_model.specs.declared.player.Player.{Player}
 use Rattle.pa_model.specs.Asks.{CanEnd}
 use Rattle.pa_model.specs.Begun.{IsBegun}
 use Rattle.pa_model.specs.Changes.{phase_ended}
-use Rattle.pa_model.specs.Played.{IsAllTold, IsPlayedText, IsInputPlayed}
+use Rattle.pa_model.specs.Played.{IsAllTold, IsInputPlayed}
 use Rattle.pa_model.specs.Playing.{IsPlaying}
 use Rattle.pa_model.specs.Plays.{CanGoOn, IsReady, GoesTo, IsPlayedUpTo}
-use Rattle.pa_model.specs.Told.{Lists, IsToldText}
+use Rattle.pa_model.specs.Told.{IsToldText}
 use Rattle.pa_model.proofs.AllTold.{all_told}
 use Rattle.pa_model.proofs.Reporting.{end_ready}
 use Rattle.pa_model.proofs.Start.{begins_playing}
