@@ -15,6 +15,7 @@ mod Empty
 mod Ended
 mod Filled
 mod Fills
+mod Forms
 mod Frees
 mod FromRoot
 mod Fronting

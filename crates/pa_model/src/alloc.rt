@@ -11,6 +11,7 @@ ghost use Rattle.pa_model.specs.Changes.{issued, list_in, made_at};
 ghost use Rattle.pa_model.specs.Playing.{list_place, register_at};
 ghost use Rattle.pa_model.specs.Plays.{IsReady, Plays};
 ghost use Rattle.pa_model.specs.Tables.{HasNone};
+ghost use Rattle.pa_model.specs.Told.{KeepsForm};
 
 use crate::handle::Handle;
 use crate::player::Player;
@@ -35,7 +36,8 @@ impl Player {
         size: u32,
     ) -> Result<Answer, OutOfMemory>
         requires { IsReady (Do thread (ops.Alloc reg partition size)) self.old }
-        ensures { IfOk result (Plays self.old thread (ops.Alloc reg partition size) self.new) }
+        ensures plays { IfOk result (Plays self.old thread (ops.Alloc reg partition size) self.new) }
+        ensures form { OnOk result (KeepsForm self.old.told self.new.told) }
     {
         match self.register(thread, reg) {
             Handle::Own(_) => Ok(Answer::Filled),
@@ -56,7 +58,8 @@ impl Player {
     ) -> Result<Answer, OutOfMemory>
         requires ready { IsReady (Do thread (ops.Alloc reg partition size)) self.old }
         requires none { HasNone (register_at self.old thread reg) }
-        ensures { IfOk result (Plays self.old thread (ops.Alloc reg partition size) self.new) }
+        ensures plays { IfOk result (Plays self.old thread (ops.Alloc reg partition size) self.new) }
+        ensures form { OnOk result (KeepsForm self.old.told self.new.told) }
     {
         if size > GREATEST_SIZE {
             return Ok(Answer::TooLarge);

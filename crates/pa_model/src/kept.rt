@@ -1,4 +1,4 @@
-ghost use Rattle.std.specs.Prelude.{◌≡◌, ◌<◌, ◌^◌, [], ◌∷◌, ◌++◌, IfOk, OnOk, length, slice_index_or, slice_set};
+ghost use Rattle.std.specs.Prelude.{◌≡◌, ◌<◌, ◌^◌, [], ◌∷◌, ◌++◌, IfOk, OnOk, false, length, slice_index_or, slice_set};
 ghost use Rattle.pa_record.specs.declared.run.Run.{Run};
 ghost use Rattle.pa_record.specs.RunText.{IsPrintable};
 ghost use Rattle.pa_printed.specs.Whole.{HasLists, IsTextOfLists};
@@ -25,7 +25,7 @@ enum Form {
     },
 }
 
-// The same. It is seen as the lists in either form.
+// The same. It is seen as the lists in either form, and says in which they are kept.
 #[derive(Drop)]
 pub(crate) struct Kept {
     form: Form,
@@ -46,6 +46,7 @@ impl Kept {
     pub(crate) fn lists(alloc: Global, partitions: u32, lines: usize) -> Result<Kept, OutOfMemory>
         ensures entries { IfOk result (λ kept. kept.entries ≡ []) }
         ensures journals { IfOk result (λ kept. AreEmpty partitions kept.journals) }
+        ensures form { IfOk result (λ kept. kept.printed ≡ false) }
     {
         let mut journals = Vec::with_capacity(alloc, partitions as usize)?;
         for _ in 0..partitions {
@@ -97,14 +98,15 @@ impl Kept {
         }
     }
 
-    // The lists. Where texts were kept there are none, which is told as want of memory.
+    // The lists, where lists are kept. Want of memory is answered where an allocation failed, and nowhere else.
     pub(crate) fn into_lists(self, alloc: Global) -> Result<(Vec<Entry>, Vec<Journal>), OutOfMemory>
+        requires form { self.printed ≡ false }
         ensures entries { IfOk result (λ lists. lists.0.items ≡ self.entries) }
         ensures journals { IfOk result (λ lists. lists.1.items ≡ self.journals) }
     {
         match self.form {
             Form::Lists { entries, journals } => Ok((entries, journals_of(alloc, journals)?)),
-            Form::Texts { .. } => Err(OutOfMemory),
+            Form::Texts { .. } => unreachable!(),
         }
     }
 

@@ -6,6 +6,7 @@ ghost use Rattle.pa_model.specs.Begun.{IsBegun, IsUntold};
 ghost use Rattle.pa_model.specs.Changes.{phase_begun, phase_ended, registered};
 ghost use Rattle.pa_model.specs.Playing.{register_at, list_place};
 ghost use Rattle.pa_model.specs.Plays.{GoesTo, IsReady, Plays};
+ghost use Rattle.pa_model.specs.Told.{KeepsForm};
 
 use crate::caches::Caches;
 use crate::handle::Handle;
@@ -50,7 +51,8 @@ impl Player {
     ) -> Result<Player, OutOfMemory>
         requires head { IsHeadWithin region partitions threads }
         requires told { IsUntold partitions told }
-        ensures { IfOk result (IsBegun region partitions threads) }
+        ensures begun { IfOk result (IsBegun region partitions threads) }
+        ensures form { IfOk result (λ player. KeepsForm told player.told) }
     {
         Ok(Player {
             heap: Heap::new(alloc, region, partitions)?,
@@ -70,7 +72,8 @@ impl Player {
     // Plays a line, and records its op.
     pub(crate) fn line(&mut self, line: Line) -> Result<(), OutOfMemory>
         requires { IsReady line self.old }
-        ensures { OnOk result (GoesTo self.old line self.new) }
+        ensures goes { OnOk result (GoesTo self.old line self.new) }
+        ensures form { OnOk result (KeepsForm self.old.told self.new.told) }
     {
         match line {
             Line::Phase => self.begin_phase(),
@@ -91,7 +94,8 @@ impl Player {
     // Plays an op, and records its answer.
     fn record(&mut self, thread: u32, op: Op) -> Result<(), OutOfMemory>
         requires { IsReady (Do thread op) self.old }
-        ensures { OnOk result (GoesTo self.old (Do thread op) self.new) }
+        ensures goes { OnOk result (GoesTo self.old (Do thread op) self.new) }
+        ensures form { OnOk result (KeepsForm self.old.told self.new.told) }
     {
         let answer = self.answer(thread, op)?;
         self.told.answer(thread, answer)?;
@@ -110,7 +114,8 @@ impl Player {
     // Plays one op, and answers it.
     fn answer(&mut self, thread: u32, op: Op) -> Result<Answer, OutOfMemory>
         requires { IsReady (Do thread op) self.old }
-        ensures { IfOk result (Plays self.old thread op self.new) }
+        ensures plays { IfOk result (Plays self.old thread op self.new) }
+        ensures form { OnOk result (KeepsForm self.old.told self.new.told) }
     {
         match op {
             Op::Alloc {

@@ -6,6 +6,7 @@ ghost use Rattle.pa_model.specs.Asks.{CanPurgeOne};
 ghost use Rattle.pa_model.specs.Changes.{given_from, purged_with};
 ghost use Rattle.pa_model.specs.Playing.{caches};
 ghost use Rattle.pa_model.specs.Plays.{IsReady, Plays};
+ghost use Rattle.pa_model.specs.Told.{KeepsForm};
 
 use crate::player::{CLASSES, Player};
 use pa_buckets::Class;
@@ -16,7 +17,8 @@ impl Player {
     // Gives back all that the thread's caches have, and decommits the empty spans.
     pub(crate) fn purge(&mut self, thread: u32) -> Result<Answer, OutOfMemory>
         requires { IsReady (Do thread ops.Purge) self.old }
-        ensures { IfOk result (Plays self.old thread ops.Purge self.new) }
+        ensures plays { IfOk result (Plays self.old thread ops.Purge self.new) }
+        ensures form { OnOk result (KeepsForm self.old.told self.new.told) }
     {
         let mut slots = 0;
         for partition in 0..self.partitions {

@@ -1,4 +1,4 @@
-ghost use Rattle.std.specs.Prelude.{◌≡◌, ℕ, ◌+◌, ◌<◌, ◌≤◌, ◌^◌, [], ◌∷◌, ◌++◌, IfOk, OnOk, length, slice_index_or};
+ghost use Rattle.std.specs.Prelude.{◌≡◌, ℕ, ◌+◌, ◌<◌, ◌≤◌, ◌^◌, [], ◌∷◌, ◌++◌, IfOk, OnOk, false, length, slice_index_or};
 ghost use Rattle.pa_record.specs.declared.run.Run.{Run};
 ghost use Rattle.pa_record.specs.RunText.{IsPrintable};
 ghost use Rattle.pa_model.specs.Told.{IsToldRun, IsToldText, journal_in, history_in, with_act, with_exchange};
@@ -13,7 +13,8 @@ use pa_record::{
 use std::alloc::Global;
 use std::marker::Model;
 
-// What the run tells so far, and the number of the line that is played. It is seen as its lists.
+// What the run tells so far, and the number of the line that is played. It is seen as its lists, and says in which form records
+// and journals are kept.
 #[derive(Drop)]
 pub(crate) struct Told {
     kept: Kept,
@@ -35,6 +36,7 @@ impl Model for Told {
       histories = t.histories.items;
       report = t.report.items;
       line = t.line;
+      printed = t.kept.printed;
     } };
 }
 
@@ -42,7 +44,8 @@ impl Told {
     // Nothing, before the first line. The head is line 1. Room is taken for the records of so many lines. The records and the
     // journals are kept as lists.
     pub(crate) fn lists(alloc: Global, partitions: u32, lines: usize) -> Result<Told, OutOfMemory>
-        ensures { IfOk result (IsUntold partitions) }
+        ensures untold { IfOk result (IsUntold partitions) }
+        ensures form { IfOk result (λ told. told.printed ≡ false) }
     {
         let kept = Kept::lists(alloc, partitions, lines)?;
         Told::of(alloc, kept)
@@ -60,7 +63,8 @@ impl Told {
     fn of(alloc: Global, kept: Kept) -> Result<Told, OutOfMemory>
         requires entries { kept.entries ≡ [] }
         requires journals { (q : ℕ) → slice_index_or kept.journals q [] ≡ [] }
-        ensures { IfOk result (IsUntold (length kept.journals)) }
+        ensures untold { IfOk result (IsUntold (length kept.journals)) }
+        ensures form { IfOk result (λ told. told.printed ≡ kept.printed) }
     {
         let mut histories = Vec::with_capacity(alloc, 64)?;
         for _ in 0..64_u32 {
@@ -153,8 +157,9 @@ impl Told {
         Ok(entry)
     }
 
-    // The run that was told.
+    // The run that was told, where records and journals are kept as lists.
     pub(crate) fn into_run(self, alloc: Global) -> Result<Run, OutOfMemory>
+        requires form { self.printed ≡ false }
         ensures { IfOk result (IsToldRun self) }
     {
         let (entries, roots) = self.kept.into_lists(alloc)?;

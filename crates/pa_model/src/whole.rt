@@ -6,6 +6,7 @@ ghost use Rattle.pa_rules.specs.Legal.{IsFileRun};
 ghost use Rattle.pa_core_run.specs.Playing.{HasCoreRun};
 ghost use Rattle.pa_model.specs.Begun.{IsUntold};
 ghost use Rattle.pa_model.specs.Played.{IsAllTold, IsInputPlayed};
+ghost use Rattle.pa_model.specs.Told.{KeepsForm};
 
 use crate::player::Player;
 use crate::told::Told;
@@ -58,7 +59,8 @@ pub fn play_input(alloc: Global, bytes: &[u8]) -> Result<Vec<u8>, TraceFault>
 fn told_of(alloc: Global, trace: &Trace, told: Told) -> Result<Told, OutOfMemory>
     requires within { IsWithinLimits trace.now }
     requires told { IsUntold trace.now.partitions told }
-    ensures { IfOk result (IsAllTold trace.now) }
+    ensures all { IfOk result (IsAllTold trace.now) }
+    ensures form { IfOk result (KeepsForm told) }
 {
     let lines = trace.lines.as_slice();
     let mut player = Player::new(alloc, trace.region, trace.partitions, trace.threads, told)?;

@@ -11,7 +11,7 @@ use Rattle.pa_model.proofs.player.Player.line.Goals as goal
 pub begin_phase-requires : goal.begin_phase-requires
 begin_phase-requires c = phase_ready c.args.self.now (subst (λ (l : Line). IsReady l c.args.self.now) c.in-Phase.is c.requires)
 
-pub returns-in-Phase : goal.returns-in-Phase
-returns-in-Phase c =
+pub returns-in-Phase-clause-goes : goal.returns-in-Phase-clause-goes
+returns-in-Phase-clause-goes c =
     on_ok c.begin_phase.result (c.begin_phase.new.self ≡ phase_begun c.args.self.now) (GoesTo c.args.self.now c.args.line c.begin_phase.new.self) c.begin_phase.ensures
     (λ is. subst (λ (l : Line). GoesTo c.args.self.now l c.begin_phase.new.self) (sym c.in-Phase.is) (subst (GoesTo c.args.self.now Phase) (sym is) (phase_plays c.args.self.now)))

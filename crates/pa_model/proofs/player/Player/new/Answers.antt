@@ -2,8 +2,8 @@ use Rattle.std.proofs.Common.{refl}
 use Rattle.pa_model.proofs.Empty.{clear_at}
 use Rattle.pa_model.proofs.player.Player.new.Goals as goal
 
-pub returns : goal.returns
-returns c = record {
+pub returns-clause-begun : goal.returns-clause-begun
+returns-clause-begun c = record {
   pool = c.in_ok-new.ensures.pool;
   roots = c.in_ok-new.ensures.roots;
   table = c.new-2.ensures.empty;

@@ -1,4 +1,4 @@
-use Rattle.std.proofs.Common.{ap, arith}
+use Rattle.std.proofs.Common.{ap, ◌∙◌, arith}
 use Rattle.pa_trace.specs.declared.script.Op.TheVariants as ops
 use Rattle.pa_record.specs.declared.entry.Answer.TheVariants as answers
 use Rattle.pa_rules.specs.Caches.{all_listed}
@@ -6,6 +6,7 @@ use Rattle.pa_model.specs.Changes.{purged_from}
 use Rattle.pa_model.specs.Playing.{caches}
 use Rattle.pa_model.proofs.PurgePlays.{purge_plays}
 use Rattle.pa_model.proofs.Branches.{plays_as}
+use Rattle.pa_model.proofs.Forms.{same_form, purge_form}
 use Rattle.pa_model.proofs.Partitions.{all_start, all_more, all_end, slots_few}
 use Rattle.pa_model.proofs.Ready.{purge_ready}
 use Rattle.pa_model.proofs.player.Player.purge.Goals as goal
@@ -30,11 +31,19 @@ loop-partition-preserved c =
     all_more c.args.thread c.loop-partition.partition c.args.self.now c.loop-partition.self c.purge_one.new.self c.loop-partition.slots c.in_ok-slots.field-0 c.loop-partition.invariant
     c.loop-partition-test.true c.in_ok-slots.ensures.slots c.in_ok-slots.ensures.purged
 
-pub returns : goal.returns
-returns c =
+pub returns-clause-plays : goal.returns-clause-plays
+returns-clause-plays c =
     let p = c.args.self.now in
     let past = c.loop-partition-test.false in
     let last = c.loop-partition.auto.partition-end in
     let end = all_end c.args.thread c.loop-partition.partition p c.loop-partition.self c.loop-partition.slots c.loop-partition.invariant (omega arith) in
     plays_as p c.args.thread ops.Purge (purged_from c.args.thread 0 p.partitions p) c.loop-partition.self (answers.Purged (all_listed (caches p c.args.thread) 0 p.partitions))
     (answers.Purged c.loop-partition.slots) end.0 (ap answers.Purged end.1) (purge_plays p c.args.thread)
+
+pub returns-clause-form : goal.returns-clause-form
+returns-clause-form c =
+    let p = c.args.self.now in
+    let past = c.loop-partition-test.false in
+    let last = c.loop-partition.auto.partition-end in
+    let end = all_end c.args.thread c.loop-partition.partition p c.loop-partition.self c.loop-partition.slots c.loop-partition.invariant (omega arith) in
+    same_form c.loop-partition.self (purged_from c.args.thread 0 p.partitions p) end.0 ∙ purge_form c.args.thread 0 p.partitions p

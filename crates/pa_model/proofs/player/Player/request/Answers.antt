@@ -7,14 +7,16 @@ use Rattle.pa_model.specs.Asks.{CanAllocateMap}
 use Rattle.pa_model.specs.Changes.{AllocatesSlot, AllocatesMap}
 use Rattle.pa_model.specs.Playing.{list_place}
 use Rattle.pa_model.specs.Plays.{Plays}
+use Rattle.pa_model.specs.Told.{KeepsForm}
 use Rattle.pa_model.proofs.Answers.{alloc_too_large}
+use Rattle.pa_model.proofs.Forms.{slot_form, map_form}
 use Rattle.pa_model.proofs.Outcome.{if_ok}
 use Rattle.pa_model.proofs.Ready.{slot_ready, map_ready}
 use Rattle.pa_model.proofs.Requests.{slot_request_plays, map_request_plays}
 use Rattle.pa_model.proofs.player.Player.request.Goals as goal
 
-pub returns-then-size-gt-GREATEST_SIZE : goal.returns-then-size-gt-GREATEST_SIZE
-returns-then-size-gt-GREATEST_SIZE c =
+pub returns-then-size-gt-GREATEST_SIZE-clause-plays : goal.returns-then-size-gt-GREATEST_SIZE-clause-plays
+returns-then-size-gt-GREATEST_SIZE-clause-plays c =
     alloc_too_large c.args.self.now c.args.thread c.args.reg c.args.partition c.args.size c.requires.none c.if-size-gt-GREATEST_SIZE.true
 
 pub request_slot-requires : goal.request_slot-requires
@@ -22,8 +24,8 @@ request_slot-requires c =
     let of : IsClassOf (max c.args.size 1 + 8) c.in-Some.class = subst (λ n. IsClassOf n c.in-Some.class) c.raw_of.ensures c.in-Some.ensures.least in
     slot_ready c.args.self.now c.args.thread c.args.reg c.args.partition c.args.size c.in-Some.class c.requires.ready of
 
-pub returns-in-Some : goal.returns-in-Some
-returns-in-Some c =
+pub returns-in-Some-clause-plays : goal.returns-in-Some-clause-plays
+returns-in-Some-clause-plays c =
     let p = c.args.self.now in
     let r = c.request_slot.new.self in
     let of : IsClassOf (max c.args.size 1 + 8) c.in-Some.class = subst (λ n. IsClassOf n c.in-Some.class) c.raw_of.ensures c.in-Some.ensures.least in
@@ -39,8 +41,8 @@ request_map-requires c =
     subst (λ (s : Shape). CanAllocateMap c.args.thread c.args.reg c.args.partition s.slot s.supers c.args.self.now) (sym shape)
     (map_ready c.args.self.now c.args.thread c.args.reg c.args.partition c.args.size c.requires.ready direct)
 
-pub returns-in-None : goal.returns-in-None
-returns-in-None c =
+pub returns-in-None-clause-plays : goal.returns-in-None-clause-plays
+returns-in-None-clause-plays c =
     let p = c.args.self.now in
     let r = c.request_map.new.self in
     let large : 917504 < c.raw_of.result = grind (arith, c.in-None.ensures.refused) in
@@ -50,3 +52,17 @@ returns-in-None c =
     (λ a. Plays p c.args.thread (ops.Alloc c.args.reg c.args.partition c.args.size) r a) c.request_map.ensures
     (λ a did. map_request_plays p r c.args.thread c.args.reg c.args.partition c.args.size a c.requires.none direct
     (subst (λ (s : Shape). AllocatesMap c.args.thread c.args.reg c.args.partition s.slot s.supers p r a) shape did))
+
+pub returns-in-Some-clause-form : goal.returns-in-Some-clause-form
+returns-in-Some-clause-form c =
+    let p = c.args.self.now in
+    let r = c.request_slot.new.self in
+    if_ok c.request_slot.result _ (λ a. KeepsForm p.told r.told) c.request_slot.ensures
+    (λ a did. slot_form c.args.thread c.args.reg c.args.partition (list_place p.partitions c.args.thread c.args.partition c.in-Some.class) c.in-Some.class p r a did)
+
+pub returns-in-None-clause-form : goal.returns-in-None-clause-form
+returns-in-None-clause-form c =
+    let p = c.args.self.now in
+    let r = c.request_map.new.self in
+    if_ok c.request_map.result _ (λ a. KeepsForm p.told r.told) c.request_map.ensures
+    (λ a did. map_form c.args.thread c.args.reg c.args.partition c.unwrap-shape.result.slot c.unwrap-shape.result.supers p r a did)

@@ -5,10 +5,12 @@ use Rattle.pa_model.specs.declared.handle.Handle.TheVariants.{Empty, Own, Ref, F
 use Rattle.std.proofs.Common.{◌≡◌}
 use Rattle.pa_model.specs.Changes.{Resets, seen_at}
 use Rattle.pa_model.specs.Plays.{Plays}
+use Rattle.pa_model.specs.Told.{KeepsForm}
+use Rattle.pa_model.proofs.Forms.{reset_form}
 use Rattle.pa_model.proofs.Ready.{reset_ready}
 use Rattle.pa_model.proofs.Answers.{reset_nothing, reset_owner, reset_freed, reset_stale}
 use Rattle.pa_model.proofs.Branches.{was_read, reset_plays}
-use Rattle.pa_model.proofs.Outcome.{both_ok}
+use Rattle.pa_model.proofs.Outcome.{both_ok, on_ok}
 use Rattle.pa_model.proofs.player.Player.reset.Goals as goal
 
 pub clear-requires : goal.clear-requires
@@ -16,17 +18,17 @@ clear-requires c =
     reset_ready c.args.self.now c.args.thread c.args.reg c.in-Ref.place c.requires
     (was_read c.args.self.now c.args.thread c.args.reg c.register.result (Ref c.in-Ref.place) c.register.ensures c.in-Ref.is)
 
-pub returns-in-Empty : goal.returns-in-Empty
-returns-in-Empty c =
+pub returns-in-Empty-clause-plays : goal.returns-in-Empty-clause-plays
+returns-in-Empty-clause-plays c =
     reset_nothing c.args.self.now c.args.thread c.args.reg (was_read c.args.self.now c.args.thread c.args.reg c.register.result Empty c.register.ensures c.in-Empty.is)
 
-pub returns-in-Own : goal.returns-in-Own
-returns-in-Own c =
+pub returns-in-Own-clause-plays : goal.returns-in-Own-clause-plays
+returns-in-Own-clause-plays c =
     reset_owner c.args.self.now c.args.thread c.args.reg c.in-Own.field-0
     (was_read c.args.self.now c.args.thread c.args.reg c.register.result (Own c.in-Own.field-0) c.register.ensures c.in-Own.is)
 
-pub returns-in-Ref : goal.returns-in-Ref
-returns-in-Ref c =
+pub returns-in-Ref-clause-plays : goal.returns-in-Ref-clause-plays
+returns-in-Ref-clause-plays c =
     let p = c.args.self.now in
     let is = was_read p c.args.thread c.args.reg c.register.result (Ref c.in-Ref.place) c.register.ensures c.in-Ref.is in
     both_ok c.clear.result (λ (a : Answer). a ≡ answers.Done (seen_at p.table c.in-Ref.place))
@@ -34,10 +36,16 @@ returns-in-Ref c =
     c.clear.ensures.answer c.clear.ensures.resets
     (λ a says resets. reset_plays p c.clear.new.self c.args.thread c.args.reg c.in-Ref.place a is (reset_ready p c.args.thread c.args.reg c.in-Ref.place c.requires is) says resets)
 
-pub returns-in-Freed : goal.returns-in-Freed
-returns-in-Freed c =
+pub returns-in-Freed-clause-plays : goal.returns-in-Freed-clause-plays
+returns-in-Freed-clause-plays c =
     reset_freed c.args.self.now c.args.thread c.args.reg (was_read c.args.self.now c.args.thread c.args.reg c.register.result Freed c.register.ensures c.in-Freed.is)
 
-pub returns-in-Cleared : goal.returns-in-Cleared
-returns-in-Cleared c =
+pub returns-in-Cleared-clause-plays : goal.returns-in-Cleared-clause-plays
+returns-in-Cleared-clause-plays c =
     reset_stale c.args.self.now c.args.thread c.args.reg (was_read c.args.self.now c.args.thread c.args.reg c.register.result Cleared c.register.ensures c.in-Cleared.is)
+
+pub returns-in-Ref-clause-form : goal.returns-in-Ref-clause-form
+returns-in-Ref-clause-form c =
+    let p = c.args.self.now in
+    let r = c.clear.new.self in
+    on_ok c.clear.result _ (KeepsForm p.told r.told) c.clear.ensures.resets (λ resets. reset_form c.args.thread c.args.reg c.in-Ref.place p r resets)

@@ -2,8 +2,8 @@ use Rattle.std.proofs.Common.{refl, arith}
 use Rattle.pa_model.proofs.Empty.{empties}
 use Rattle.pa_model.proofs.told.Told.of.Goals as goal
 
-pub returns : goal.returns
-returns c = record {
+pub returns-clause-untold : goal.returns-clause-untold
+returns-clause-untold c = record {
   entries = c.requires.entries;
   journals = record { count = refl; empty = c.requires.journals };
   pools = grind (arith, c.new-2.ensures);
