@@ -12,12 +12,10 @@ use crate::player::Player;
 use crate::told::Told;
 use pa_machine::OutOfMemory;
 use pa_record::Run;
-use pa_trace::{Head, LineReader, Trace, TraceFault};
+use pa_trace::{Head, LineReader, MOST_LINES, Trace, TraceFault};
 use std::alloc::Global;
 
-// The most lines of a trace behind its head, and few bytes for a line: room for their records is taken ahead.
-const MOST_LINES: usize = 65_535;
-
+// Few bytes for a line: room for the records is taken ahead.
 const LINE: usize = 8;
 
 /// Plays a trace within the limits on one thread, and answers the whole run: a record for each op line, the journals of the
@@ -46,7 +44,8 @@ pub fn play_input(alloc: Global, bytes: &[u8]) -> Result<Vec<u8>, TraceFault>
         partitions,
         threads,
     } = reader.head();
-    let told = Told::texts(alloc, partitions, (bytes.len() / LINE).min(MOST_LINES))?;
+    let lines = (bytes.len() / LINE).min(MOST_LINES as usize);
+    let told = Told::texts(alloc, partitions, lines)?;
     let mut player = Player::new(alloc, region, partitions, threads, told)?;
     while let Some(line) = reader.next()? {
         player.line(line)?;
