@@ -5,7 +5,6 @@ use Rattle.std.proofs.Math.ListN.{drop_of_length-le}
 use Rattle.std.proofs.lemmas.Bool.{cases_lt}
 use Rattle.std.proofs.lemmas.List.{length-take, length-drop, length-map}
 use Rattle.std.proofs.lemmas.List.Folds.{drop_split}
-use Rattle.pa_machine.specs.declared.title.Title.{Title}
 use Rattle.pa_record.specs.declared.report.Tally.{Tally}
 use Rattle.pa_record.specs.declared.root.RootAct.{RootAct}
 use Rattle.pa_record.specs.declared.root.RootAct.TheVariants.{Give}
@@ -25,14 +24,10 @@ use Rattle.pa_model.proofs.Giving.{IsBatch, gives_one, gave_none, gave_parts, ga
 
 -- ---- one batch
 
--- names, and bytes, of the titles in some places
+-- the names of the titles in some places
 pub titles_named : (slots : List Slot) (xs : List ℕ) → map name_of (map (λ (i : ℕ). (slot_at slots i).title) xs) ≡ names (map (numbered_at slots) xs)
 titles_named slots [] = refl
 titles_named slots (x ∷ xs) = ap (λ z. named_at slots x ∷ z) (titles_named slots xs)
-
-pub titles_bytes : (slots : List Slot) (xs : List ℕ) → map (λ (t : Title). t.len) (map (λ (i : ℕ). (slot_at slots i).title) xs) ≡ map (λ (i : ℕ). (slot_at slots i).title.len) xs
-titles_bytes slots [] = refl
-titles_bytes slots (x ∷ xs) = ap (λ z. (slot_at slots x).title.len ∷ z) (titles_bytes slots xs)
 
 -- the player after a batch went back
 pub batch_given : (q : ℕ) (xs : List ℕ) (p : Player) (roots : List Root) (told : Lists) (cached : Tallies) → 1 ≤ length xs → length xs ≤ 16

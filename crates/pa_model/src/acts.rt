@@ -1,7 +1,7 @@
-ghost use Rattle.std.specs.Prelude.{◌≡◌, [], ◌∷◌, ◌++◌, OnOk};
+ghost use Rattle.std.specs.Prelude.{◌≡◌, ◌≤◌, [], ◌∷◌, ◌++◌, OnOk, length};
 
 use pa_machine::OutOfMemory;
-use pa_record::{Journal, RootEntry};
+use pa_record::{Batch, Journal, Numbered, RootAct, RootEntry};
 use std::alloc::Global;
 use std::marker::Model;
 
@@ -31,10 +31,13 @@ impl Acts {
     }
 
     // Puts an entry behind the others.
-    pub(crate) fn push(&mut self, entry: RootEntry) -> Result<(), OutOfMemory>
-        ensures pushed { OnOk result (self.new ≡ self.old ++ entry ∷ []) }
+    pub(crate) fn push(&mut self, entry: &RootEntry) -> Result<(), OutOfMemory>
+        ensures pushed { OnOk result (self.new ≡ self.old ++ entry.now ∷ []) }
     {
-        self.items.push(entry)?;
+        self.items.push(RootEntry {
+            line: entry.line,
+            act: copy_of(&entry.act),
+        })?;
         Ok(())
     }
 
@@ -51,4 +54,46 @@ impl Acts {
     {
         Journal::of(self.items)
     }
+}
+
+// The same act.
+fn copy_of(act: &RootAct) -> RootAct
+    ensures { result ≡ act.now }
+{
+    match act {
+        RootAct::Fill { class, pool, slots } => RootAct::Fill {
+            class: *class,
+            pool: *pool,
+            slots: batch_of(slots.items()),
+        },
+        RootAct::Map { pool, slot, len } => RootAct::Map {
+            pool: *pool,
+            slot: *slot,
+            len: *len,
+        },
+        RootAct::Full { class, pool } => RootAct::Full {
+            class: *class,
+            pool: *pool,
+        },
+        RootAct::Give { slots } => RootAct::Give {
+            slots: batch_of(slots.items()),
+        },
+        RootAct::Unmap { pool, slot } => RootAct::Unmap {
+            pool: *pool,
+            slot: *slot,
+        },
+        RootAct::Purge => RootAct::Purge,
+    }
+}
+
+// The batch of these slots, at most 16.
+fn batch_of(slots: &[Numbered]) -> Batch
+    requires { length slots.now ≤ 16 }
+    ensures { result ≡ slots.now }
+{
+    let mut batch = Batch::new();
+    for slot in slots {
+        batch.push(*slot);
+    }
+    batch
 }

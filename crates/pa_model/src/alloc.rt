@@ -1,17 +1,16 @@
-ghost use Rattle.std.specs.Prelude.{◌≡◌, ◌≢◌, ◌%◌, ◌<◌, ◌≤◌, [], IfNone, IfOk, OnOk, length};
+ghost use Rattle.std.specs.Prelude.{◌≡◌, ◌≢◌, ◌%◌, ◌<◌, ◌≤◌, ◌^◌, [], IfNone, IfOk, OnOk, length};
 ghost use Rattle.pa_trace.specs.declared.script.Op.TheVariants as ops;
 ghost use Rattle.pa_trace.specs.declared.script.Line.TheVariants.{Do};
 ghost use Rattle.pa_deeds.specs.Ops.{found_by};
 ghost use Rattle.pa_model.specs.Asks.{CanAllocateMap, CanAllocateSlot, CanIssue, CanIssueFront, CanPlace, CanPut};
 ghost use Rattle.pa_layout.specs.Pages.{supers_for};
-ghost use Rattle.pa_place.specs.Placed.{IsEmptyIfRefused};
-ghost use Rattle.pa_model.specs.Calls.{IsMapTaken, IsSlotsTaken};
+ghost use Rattle.pa_model.specs.Calls.{IsFillTold, IsMapTaken};
 ghost use Rattle.pa_model.specs.Changes.{AllocatesMap, AllocatesSlot, ArePut, Fills, IsFrontIssued, Refills, asked_in};
 ghost use Rattle.pa_model.specs.Changes.{issued, list_in, made_at};
 ghost use Rattle.pa_model.specs.Playing.{list_place, register_at};
 ghost use Rattle.pa_model.specs.Plays.{IsReady, Plays};
 ghost use Rattle.pa_model.specs.Tables.{HasNone};
-ghost use Rattle.pa_model.specs.Told.{KeepsForm};
+ghost use Rattle.pa_model.specs.Told.{KeepsForm, journal_in};
 
 use crate::handle::Handle;
 use crate::player::Player;
@@ -21,7 +20,7 @@ use pa_direct::{GREATEST_SIZE, Shape, shape};
 use pa_layout::super_page_of;
 use pa_machine::{OutOfMemory, Step, Title};
 use pa_place::Placed;
-use pa_record::{Answer, Batch, PoolAct, RootAct};
+use pa_record::{Answer, Batch, PoolAct, RootAct, RootEntry};
 
 // The bytes of a count word.
 pub(crate) const COUNT_WORD: u32 = 8;
@@ -135,35 +134,54 @@ impl Player {
         ensures at_list { OnOk result (at < length self.new.caches) }
         ensures some { IfOk result (λ o. IfNone o (list_in self.new at ≢ [])) }
     {
-        let placed = self.take_slots(partition, class)?;
-        let titles = placed.titles.as_slice();
-        if titles.is_empty() {
-            let pool = placed.pool.unwrap();
-            let class = Some(class);
-            let entry = self.told.root(partition, RootAct::Full { class, pool })?;
-            return Ok(Some(entry));
-        }
-        let slots = self.put_all(at, partition, class, titles)?;
-        let pool = placed.pool;
-        self.told
-            .root(partition, RootAct::Fill { class, pool, slots })?;
-        Ok(None)
-    }
-
-    // Takes the slots of a fill from the root of a partition, or none where there is no room.
-    #[inline(always)]
-    fn take_slots(&mut self, partition: u32, class: Class) -> Result<Placed, OutOfMemory>
-        requires { CanPlace partition self.old }
-        ensures taken { IfOk result (IsSlotsTaken partition class self.old self.new) }
-        ensures empty { IfOk result (IsEmptyIfRefused 1 self.old.heap.pool) }
-    {
         let want = fill_count(class);
         let placed = self
             .heap
             .roots
             .fill(partition, &mut self.heap.pool, class, want)?;
         self.tell_asked(partition, 1, &placed)?;
-        Ok(placed)
+        let titles = placed.titles.as_slice();
+        if titles.is_empty() {
+            let pool = placed.pool.unwrap();
+            let entry = self.told.refused(partition, Some(class), pool)?;
+            return Ok(Some(entry));
+        }
+        self.tell_fill(at, partition, class, placed.pool, titles)?;
+        Ok(None)
+    }
+
+    // Puts the slots that left the root into the list, in their order, and tells the journal's entry.
+    fn tell_fill(
+        &mut self,
+        at: usize,
+        partition: u32,
+        class: Class,
+        pool: Option<u32>,
+        titles: &[Title],
+    ) -> Result<(), OutOfMemory>
+        requires at { at < length self.old.caches }
+        requires empty { list_in self.old at ≡ [] }
+        requires few { length titles.now ≤ 16 }
+        requires can { CanPut partition self.old }
+        requires journal { partition < length self.old.told.journals }
+        requires entries { length (journal_in self.old.told partition) < 2 ^ 32 }
+        ensures told { OnOk result (IsFillTold partition at class pool titles.now self.old self.new) }
+        ensures at_list { OnOk result (at < length self.new.caches) }
+        ensures many { OnOk result (length (list_in self.new at) ≡ length titles.now) }
+    {
+        let mut entry = RootEntry {
+            line: self.told.line(),
+            act: RootAct::Fill {
+                class,
+                pool,
+                slots: Batch::new(),
+            },
+        };
+        if let RootAct::Fill { slots, .. } = &mut entry.act {
+            self.put_all(at, partition, class, titles, slots)?;
+        }
+        self.told.root(partition, &entry)?;
+        Ok(())
     }
 
     // Tells the pool's entry, if it was asked for so many super pages.
@@ -187,17 +205,18 @@ impl Player {
         partition: u32,
         class: Class,
         titles: &[Title],
-    ) -> Result<Batch, OutOfMemory>
+        batch: &mut Batch,
+    ) -> Result<(), OutOfMemory>
         requires at { at < length self.old.caches }
         requires empty { list_in self.old at ≡ [] }
         requires few { length titles.now ≤ 16 }
         requires can { CanPut partition self.old }
-        ensures put { IfOk result (ArePut partition at class titles.now self.old self.new) }
+        requires no_slots { batch.old ≡ [] }
+        ensures put { OnOk result (ArePut partition at class titles.now self.old self.new batch.new) }
         ensures at_list { OnOk result (at < length self.new.caches) }
         ensures many { OnOk result (length (list_in self.new at) ≡ length titles.now) }
         ensures journals { OnOk result (self.new.told ≡ self.old.told) }
     {
-        let mut batch = Batch::new();
         for title in titles {
             fits(title.len);
             let place = self.table.home(*title, partition, Some(class))?;
@@ -205,7 +224,7 @@ impl Player {
             self.caches.push(at, place);
             self.cached.add(partition, title.len);
         }
-        Ok(batch)
+        Ok(())
     }
 
     // An allocation of a direct map of this shape.
@@ -220,15 +239,16 @@ impl Player {
         ensures { IfOk result (AllocatesMap thread reg partition shape.slot shape.supers self.old self.new) }
     {
         let placed = self.take_map(partition, shape)?;
+        let line = self.told.line();
         let pool = placed.pool.unwrap();
         let Some(title) = placed.titles.as_slice().first() else {
-            let class = None;
-            let entry = self.told.root(partition, RootAct::Full { class, pool })?;
+            let entry = self.told.refused(partition, None, pool)?;
             return Ok(Answer::Full { entry });
         };
         let slot = name_of(*title);
         let len = title.len;
-        self.told.root(partition, RootAct::Map { pool, slot, len })?;
+        let act = RootAct::Map { pool, slot, len };
+        self.told.root(partition, &RootEntry { line, act })?;
         let place = self.table.home(*title, partition, None)?;
         Ok(self.issue(thread, reg, place))
     }

@@ -86,15 +86,15 @@ impl Kept {
 
     // An entry more of a partition's journal. Tells its place there.
     #[inline(always)]
-    pub(crate) fn act(&mut self, partition: u32, entry: RootEntry) -> Result<u32, OutOfMemory>
+    pub(crate) fn act(&mut self, partition: u32, entry: &RootEntry) -> Result<u32, OutOfMemory>
         requires partition { partition < length self.old.journals }
         requires few { length (kept_acts self.old partition) < 2 ^ 32 }
         ensures place { IfOk result (λ place. place ≡ length (kept_acts self.old partition)) }
-        ensures after { OnOk result (self.new ≡ with_kept_act partition entry self.old) }
+        ensures after { OnOk result (self.new ≡ with_kept_act partition entry.now self.old) }
     {
         match &mut self.form {
             Form::Lists { journals, .. } => push_act(journals, partition, entry),
-            Form::Texts { journals, .. } => journals.push(partition, &entry),
+            Form::Texts { journals, .. } => journals.push(partition, entry),
         }
     }
 
@@ -131,13 +131,13 @@ impl Kept {
 }
 
 // An entry more of a partition's journal. Tells its place there.
-#[inline(always)]
-fn push_act(journals: &mut Vec<Acts>, partition: u32, entry: RootEntry) -> Result<u32, OutOfMemory>
+#[inline(never)]
+fn push_act(journals: &mut Vec<Acts>, partition: u32, entry: &RootEntry) -> Result<u32, OutOfMemory>
     requires partition { partition < length journals.old.items }
     requires few { length (slice_index_or journals.old.items partition []) < 2 ^ 32 }
     ensures place { IfOk result (λ place. place ≡ length (slice_index_or journals.old.items partition [])) }
     ensures after { OnOk result (journals.new.items ≡
-        slice_set journals.old.items partition (slice_index_or journals.old.items partition [] ++ entry ∷ [])) }
+        slice_set journals.old.items partition (slice_index_or journals.old.items partition [] ++ entry.now ∷ [])) }
 {
     let journal = &mut journals[partition as usize];
     let place = journal.entries().len() as u32;

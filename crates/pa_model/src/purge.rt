@@ -11,7 +11,7 @@ ghost use Rattle.pa_model.specs.Told.{KeepsForm};
 use crate::player::{CLASSES, Player};
 use pa_buckets::Class;
 use pa_machine::OutOfMemory;
-use pa_record::{Answer, RootAct};
+use pa_record::{Answer, RootAct, RootEntry};
 
 impl Player {
     // Gives back all that the thread's caches have, and decommits the empty spans.
@@ -35,7 +35,9 @@ impl Player {
     {
         let slots = self.give_all(thread, partition)?;
         self.heap.roots.purge(partition);
-        self.told.root(partition, RootAct::Purge)?;
+        let line = self.told.line();
+        let act = RootAct::Purge;
+        self.told.root(partition, &RootEntry { line, act })?;
         Ok(slots)
     }
 

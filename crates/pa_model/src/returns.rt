@@ -1,16 +1,17 @@
-ghost use Rattle.std.specs.Prelude.{◌≡◌, ◌+◌, ◌<◌, ◌≤◌, OnOk, All, drop, length, map, slice_range, sum};
+ghost use Rattle.std.specs.Prelude.{◌≡◌, ◌+◌, ◌<◌, ◌≤◌, [], OnOk, All, drop, length, map, slice_range};
+ghost use Rattle.pa_record.specs.declared.root.RootAct.TheVariants.{Give};
 ghost use Rattle.pa_model.specs.Asks.{CanGive, CanPutBack, CanTakeBack, CanUnmap};
-ghost use Rattle.pa_model.specs.Changes.{gave_back, given, list_in, taken_back, unmapped_at};
+ghost use Rattle.pa_model.specs.Changes.{bytes_at, gave_back, given, list_in, taken_back, unmapped_at};
 ghost use Rattle.pa_model.specs.Playing.{numbered_at};
 ghost use Rattle.pa_model.specs.Tables.{slot_at};
 
 use crate::player::Player;
-use crate::table::Table;
+use crate::table::{Table, fits};
 use arrayvec::ArrayVec;
 use pa_buckets::{Class, cache_limit};
 use pa_layout::{super_page_of, supers_for};
 use pa_machine::{OutOfMemory, Title};
-use pa_record::{Batch, PoolAct, RootAct};
+use pa_record::{Batch, PoolAct, RootAct, RootEntry};
 
 // The most slots that go back to a root at once.
 const BATCH: usize = 16;
@@ -88,11 +89,16 @@ impl Player {
         ensures { OnOk result (self.new ≡ gave_back partition (slice_range (list_in self.old at) from to) self.old) }
     {
         let places = &self.caches.places(at)[from..to];
-        let titles = titles_of(&self.table, places);
-        let slots = batch_of(&self.table, places);
-        let bytes = bytes_of(titles.as_slice());
+        let mut titles = ArrayVec::new();
+        let mut entry = RootEntry {
+            line: self.told.line(),
+            act: RootAct::Give {
+                slots: Batch::new(),
+            },
+        };
+        let bytes = act_given(&self.table, places, &mut titles, &mut entry.act);
         self.heap.roots.give(partition, titles.as_slice());
-        self.told.root(partition, RootAct::Give { slots })?;
+        self.told.root(partition, &entry)?;
         self.cached.remove(partition, titles.len() as u64, bytes);
         Ok(())
     }
@@ -109,42 +115,58 @@ impl Player {
         let count = supers_for(title.len);
         self.told.pool(partition, PoolAct::Give { count, first })?;
         let slot = self.table.numbered(place);
-        self.told.root(partition, RootAct::Unmap { pool, slot })?;
+        let line = self.told.line();
+        let act = RootAct::Unmap { pool, slot };
+        self.told.root(partition, &RootEntry { line, act })?;
         Ok(())
     }
 }
 
-// The titles of the slots in these places, at most 16; the slots with their numbers; and their bytes.
+// Lists the titles of the slots in these places, at most 16, and in the act the slots with their numbers. Tells their bytes.
 #[inline(always)]
-fn titles_of(table: &Table, places: &[u32]) -> ArrayVec<Title, 16>
+fn act_given(
+    table: &Table,
+    places: &[u32],
+    titles: &mut ArrayVec<Title, 16>,
+    act: &mut RootAct,
+) -> u64
     requires few { length places.now ≤ 16 }
     requires among { All (λ i. i < length table.now) places.now }
-    ensures { result.items ≡ map (λ i. (slot_at table.now i).title) places.now }
+    requires no_titles { titles.old.items ≡ [] }
+    requires no_slots { act.old ≡ Give [] }
+    ensures titles { titles.new.items ≡ map (λ i. (slot_at table.now i).title) places.now }
+    ensures slots { act.new ≡ Give (map (numbered_at table.now) places.now) }
+    ensures bytes { result ≡ bytes_at table.now places.now }
 {
-    let mut titles = ArrayVec::new();
-    for place in places {
-        titles.push(table.slot(*place).title);
+    match act {
+        RootAct::Give { slots } => list_given(table, places, titles, slots),
+        _ => unreachable!(),
     }
-    titles
 }
 
+// The same, of slots in a batch.
 #[inline(always)]
-fn batch_of(table: &Table, places: &[u32]) -> Batch
+fn list_given(
+    table: &Table,
+    places: &[u32],
+    titles: &mut ArrayVec<Title, 16>,
+    slots: &mut Batch,
+) -> u64
     requires few { length places.now ≤ 16 }
     requires among { All (λ i. i < length table.now) places.now }
-    ensures { result ≡ map (numbered_at table.now) places.now }
+    requires no_titles { titles.old.items ≡ [] }
+    requires no_slots { slots.old ≡ [] }
+    ensures titles { titles.new.items ≡ map (λ i. (slot_at table.now i).title) places.now }
+    ensures slots { slots.new ≡ map (numbered_at table.now) places.now }
+    ensures bytes { result ≡ bytes_at table.now places.now }
 {
-    let mut batch = Batch::new();
+    let mut bytes = 0;
     for place in places {
-        batch.push(table.numbered(*place));
+        let title = table.slot(*place).title;
+        fits(title.len);
+        titles.push(title);
+        slots.push(table.numbered(*place));
+        bytes += u64::from(title.len);
     }
-    batch
-}
-
-#[inline(always)]
-fn bytes_of(titles: &[Title]) -> u64
-    requires { length titles.now ≤ 16 }
-    ensures { result ≡ sum (map (λ t. t.len) titles.now) }
-{
-    titles.iter().map(|title| u64::from(title.len)).sum()
+    bytes
 }

@@ -1,10 +1,12 @@
 ghost use Rattle.std.specs.Prelude.{◌≡◌, ℕ, ◌+◌, ◌<◌, ◌≤◌, ◌^◌, [], ◌∷◌, ◌++◌, IfOk, OnOk, false, length, slice_index_or};
+ghost use Rattle.pa_record.specs.declared.root.RootAct.TheVariants.{Full};
 ghost use Rattle.pa_record.specs.declared.run.Run.{Run};
 ghost use Rattle.pa_record.specs.RunText.{IsPrintable};
 ghost use Rattle.pa_model.specs.Told.{IsToldRun, IsToldText, journal_in, history_in, with_act, with_exchange};
 ghost use Rattle.pa_model.specs.Begun.{IsUntold};
 
 use crate::kept::Kept;
+use pa_buckets::Class;
 use pa_machine::OutOfMemory;
 use pa_record::{
     Answer, CellEntry, Entry, Held, History, PoolAct, PoolEntry, ReportLine, RootAct, RootEntry,
@@ -126,16 +128,41 @@ impl Told {
         Ok(())
     }
 
-    // An entry of a root's journal on this line. Tells its place there.
+    // An entry more of a root's journal. Tells its place there.
     #[inline(always)]
-    pub(crate) fn root(&mut self, partition: u32, act: RootAct) -> Result<u32, OutOfMemory>
+    pub(crate) fn root(&mut self, partition: u32, entry: &RootEntry) -> Result<u32, OutOfMemory>
         requires partition { partition < length self.old.journals }
         requires few { length (journal_in self.old partition) < 2 ^ 32 }
         ensures place { IfOk result (λ entry. entry ≡ length (journal_in self.old partition)) }
-        ensures after { OnOk result (self.new ≡ with_act partition (record { line = self.old.line; act = act }) self.old) }
+        ensures after { OnOk result (self.new ≡ with_act partition entry.now self.old) }
+    {
+        self.kept.act(partition, entry)
+    }
+
+    // The entry on this line that there was no room for a slot of the class, or for a direct map where none is named. Tells its place
+    // there.
+    #[inline(never)]
+    pub(crate) fn refused(
+        &mut self,
+        partition: u32,
+        class: Option<Class>,
+        pool: u32,
+    ) -> Result<u32, OutOfMemory>
+        requires partition { partition < length self.old.journals }
+        requires few { length (journal_in self.old partition) < 2 ^ 32 }
+        ensures place { IfOk result (λ entry. entry ≡ length (journal_in self.old partition)) }
+        ensures after { OnOk result (self.new ≡ with_act partition (record { line = self.old.line; act = Full class pool }) self.old) }
     {
         let line = self.line;
-        self.kept.act(partition, RootEntry { line, act })
+        let act = RootAct::Full { class, pool };
+        self.kept.act(partition, &RootEntry { line, act })
+    }
+
+    // The number of the line that is played.
+    pub(crate) fn line(&self) -> u32
+        ensures { result ≡ self.now.line }
+    {
+        self.line
     }
 
     // An exchange with a cell on this line. Tells its place in the cell's history.

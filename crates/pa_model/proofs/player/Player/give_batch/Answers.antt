@@ -1,7 +1,8 @@
-use Rattle.std.proofs.Common.{◌≡◌, ◌≢◌, ℕ, ◌-◌, List, map, set, length, drop, sum, sym, ap, ◌∙◌, subst, arith}
+use Rattle.std.proofs.Common.{◌≡◌, ◌≢◌, ℕ, ◌-◌, map, set, length, drop, sym, ap, ◌∙◌, subst, arith}
 use Rattle.std.specs.Prelude.{All, AllPairs, slice_range}
 use Rattle.std.proofs.lemmas.List.{length-take, length-drop, length-map}
 use Rattle.pa_machine.specs.declared.title.Title.{Title}
+use Rattle.pa_record.specs.declared.root.RootAct.{RootAct}
 use Rattle.pa_record.specs.declared.root.RootAct.TheVariants.{Give}
 use Rattle.pa_record.specs.Root.{IsOut, all_returned, names}
 use Rattle.pa_record.specs.Spans.{name_of}
@@ -9,25 +10,25 @@ use Rattle.pa_model.specs.Changes.{list_in, bytes_at, tallied_less}
 use Rattle.pa_model.specs.Playing.{numbered_at, root_of}
 use Rattle.pa_model.specs.Tables.{slot_at}
 use Rattle.pa_model.specs.Told.{with_act}
-use Rattle.pa_model.proofs.Batching.{titles_named, titles_bytes, batch_given}
+use Rattle.pa_model.proofs.Batching.{titles_named, batch_given}
 use Rattle.pa_model.proofs.player.Player.give_batch.Goals as goal
 
 pub give-requires-clause-are_out : goal.give-requires-clause-are_out
 give-requires-clause-are_out c =
     let p = c.args.self.now in
     let xs = slice_range (list_in p c.args.at) c.args.from c.args.to in
-    let e : c.titles_of-titles.result.items ≡ map (λ (i : ℕ). (slot_at p.table i).title) xs =
-    c.titles_of-titles.ensures ∙ ap (λ z. map (λ (i : ℕ). (slot_at p.table i).title) (slice_range z c.args.from c.args.to)) c.places.ensures.places in
-    let named : map name_of c.as_slice-2.result.now ≡ names (map (numbered_at p.table) xs) = ap (map name_of) (c.as_slice-2.ensures.value ∙ e) ∙ titles_named p.table xs in
+    let e : c.act_given-bytes.new.titles.items ≡ map (λ (i : ℕ). (slot_at p.table i).title) xs =
+    c.act_given-bytes.ensures.titles ∙ ap (λ z. map (λ (i : ℕ). (slot_at p.table i).title) (slice_range z c.args.from c.args.to)) c.places.ensures.places in
+    let named : map name_of c.as_slice.result.now ≡ names (map (numbered_at p.table) xs) = ap (map name_of) (c.as_slice.ensures.value ∙ e) ∙ titles_named p.table xs in
     subst (λ z. All (IsOut (root_of p c.args.partition)) z) (sym named) c.requires.can.out.0
 
 pub give-requires-clause-once : goal.give-requires-clause-once
 give-requires-clause-once c =
     let p = c.args.self.now in
     let xs = slice_range (list_in p c.args.at) c.args.from c.args.to in
-    let e : c.titles_of-titles.result.items ≡ map (λ (i : ℕ). (slot_at p.table i).title) xs =
-    c.titles_of-titles.ensures ∙ ap (λ z. map (λ (i : ℕ). (slot_at p.table i).title) (slice_range z c.args.from c.args.to)) c.places.ensures.places in
-    let named : map name_of c.as_slice-2.result.now ≡ names (map (numbered_at p.table) xs) = ap (map name_of) (c.as_slice-2.ensures.value ∙ e) ∙ titles_named p.table xs in
+    let e : c.act_given-bytes.new.titles.items ≡ map (λ (i : ℕ). (slot_at p.table i).title) xs =
+    c.act_given-bytes.ensures.titles ∙ ap (λ z. map (λ (i : ℕ). (slot_at p.table i).title) (slice_range z c.args.from c.args.to)) c.places.ensures.places in
+    let named : map name_of c.as_slice.result.now ≡ names (map (numbered_at p.table) xs) = ap (map name_of) (c.as_slice.ensures.value ∙ e) ∙ titles_named p.table xs in
     subst (λ z. AllPairs ◌≢◌ z) (sym named) c.requires.can.out.1
 
 pub returns : goal.returns
@@ -37,11 +38,11 @@ returns c =
     let xs = slice_range (list_in p c.args.at) c.args.from c.args.to in
     let num = numbered_at p.table in
     let title : ℕ → Title = λ i. (slot_at p.table i).title in
-    let e : c.titles_of-titles.result.items ≡ map title xs =
-    c.titles_of-titles.ensures ∙ ap (λ z. map title (slice_range z c.args.from c.args.to)) c.places.ensures.places in
-    let named : map name_of c.as_slice-2.result.now ≡ names (map num xs) = ap (map name_of) (c.as_slice-2.ensures.value ∙ e) ∙ titles_named p.table xs in
-    let slots : c.batch_of-slots.result ≡ map num xs = c.batch_of-slots.ensures ∙ ap (λ z. map num (slice_range z c.args.from c.args.to)) c.places.ensures.places in
-    let bytes : c.bytes_of-bytes.result ≡ bytes_at p.table xs = c.bytes_of-bytes.ensures ∙ ap (λ (z : List Title). sum (map (λ (t : Title). t.len) z)) (c.as_slice.ensures.value ∙ e) ∙ ap sum (titles_bytes p.table xs) in
+    let e : c.act_given-bytes.new.titles.items ≡ map title xs =
+    c.act_given-bytes.ensures.titles ∙ ap (λ z. map title (slice_range z c.args.from c.args.to)) c.places.ensures.places in
+    let named : map name_of c.as_slice.result.now ≡ names (map num xs) = ap (map name_of) (c.as_slice.ensures.value ∙ e) ∙ titles_named p.table xs in
+    let act : c.act_given-bytes.new.act ≡ Give (map num xs) = c.act_given-bytes.ensures.slots ∙ ap (λ z. Give (map num (slice_range z c.args.from c.args.to))) c.places.ensures.places in
+    let bytes : c.act_given-bytes.result ≡ bytes_at p.table xs = c.act_given-bytes.ensures.bytes ∙ ap (λ z. bytes_at p.table (slice_range z c.args.from c.args.to)) c.places.ensures.places in
     let many : c.len.result ≡ length xs = c.len.ensures.value ∙ ap length e ∙ length-map xs title in
     let a = length-take (c.args.to - c.args.from) (drop c.args.from (list_in p c.args.at)) in
     let b = length-drop c.args.from (list_in p c.args.at) in
@@ -50,5 +51,5 @@ returns c =
     let few = c.requires.few in
     batch_given q xs p c.give.new.self c.root.new.self c.remove.new.self (omega arith) (omega arith)
     (c.give.ensures ∙ ap (λ z. set p.heap.roots q (all_returned z (root_of p q))) named)
-    (c.in_ok-root.ensures.after ∙ ap (λ z. with_act q (record { line = p.told.line; act = Give z }) p.told) slots)
-    (c.remove.ensures ∙ ap (λ z. tallied_less q z c.bytes_of-bytes.result p.cached.of) many ∙ ap (λ z. tallied_less q (length xs) z p.cached.of) bytes)
+    (c.in_ok-root.ensures.after ∙ ap (λ (z : RootAct). with_act q (record { line = c.line.result; act = z }) p.told) act ∙ ap (λ z. with_act q (record { line = z; act = Give (map num xs) }) p.told) c.line.ensures)
+    (c.remove.ensures ∙ ap (λ z. tallied_less q z c.act_given-bytes.result p.cached.of) many ∙ ap (λ z. tallied_less q (length xs) z p.cached.of) bytes)

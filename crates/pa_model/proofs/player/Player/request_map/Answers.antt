@@ -1,4 +1,4 @@
-use Rattle.std.proofs.Common.{List, inl, ap, ◌∙◌}
+use Rattle.std.proofs.Common.{ℕ, List, inl, ap, ◌∙◌}
 use Rattle.std.specs.Prelude.{slice_get}
 use Rattle.pa_machine.specs.declared.title.Title.{Title}
 use Rattle.pa_machine.specs.declared.word.SlotName.{SlotName}
@@ -13,6 +13,7 @@ issue-requires c =
     let title = c.in-Some.title.now in
     let first = first_of c.in_ok-placed.placed.titles.items title (c.in-Some.ensures.value ∙ ap (λ (z : List Title). slice_get z 0) c.as_slice.ensures.value) in
     let told = c.in_ok-root.ensures.after
+    ∙ ap (λ (n : ℕ). with_act c.args.partition (record { line = n; act = Map c.unwrap-pool.result c.name_of-slot.result title.len }) taken.told) c.line-line.ensures
     ∙ ap (λ (n : SlotName). with_act c.args.partition (record { line = taken.told.line; act = Map c.unwrap-pool.result n title.len }) taken.told) c.name_of-slot.ensures in
     record {
       can = c.requires.issue _ c.in_ok-place.place (map_placed c.args.partition c.args.shape.slot c.args.shape.supers c.unwrap-pool.result c.in_ok-place.place c.args.self.now taken _
@@ -26,12 +27,13 @@ returns c =
     let title = c.in-Some.title.now in
     let first = first_of c.in_ok-placed.placed.titles.items title (c.in-Some.ensures.value ∙ ap (λ (z : List Title). slice_get z 0) c.as_slice.ensures.value) in
     let told = c.in_ok-root.ensures.after
+    ∙ ap (λ (n : ℕ). with_act c.args.partition (record { line = n; act = Map c.unwrap-pool.result c.name_of-slot.result title.len }) taken.told) c.line-line.ensures
     ∙ ap (λ (n : SlotName). with_act c.args.partition (record { line = taken.told.line; act = Map c.unwrap-pool.result n title.len }) taken.told) c.name_of-slot.ensures in
     inl (record {
-      mapped = record taken { table = c.home.new.self; told = c.root-2.new.self };
+      mapped = record taken { table = c.home.new.self; told = c.root.new.self };
       place = c.in_ok-place.place;
       placed = map_placed c.args.partition c.args.shape.slot c.args.shape.supers c.unwrap-pool.result c.in_ok-place.place c.args.self.now taken
-          (record taken { table = c.home.new.self; told = c.root-2.new.self }) c.in_ok-placed.placed title first.0 c.home.new.self c.in_ok-placed.ensures first.1 c.unwrap-pool.ensures
+          (record taken { table = c.home.new.self; told = c.root.new.self }) c.in_ok-placed.placed title first.0 c.home.new.self c.in_ok-placed.ensures first.1 c.unwrap-pool.ensures
           c.in_ok-place.ensures.home (ap (λ (z : Lists). record taken { table = c.home.new.self; told = z }) told);
       issued = c.issue.ensures.issued;
       says = c.issue.ensures.answer;
