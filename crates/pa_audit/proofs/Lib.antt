@@ -4,3 +4,4 @@ pub mod Telling
 pub mod Granted
 pub mod Knowing
 pub mod Shortness
+pub mod Alike

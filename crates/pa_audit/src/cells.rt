@@ -8,8 +8,8 @@ ghost use Rattle.pa_audit.specs.Placed.{TellsPlace};
 
 use crate::places::line_where;
 use pa_audit_records::{Salt, exchanges_meet, swaps_meet};
+use pa_dense::DenseRun;
 use pa_machine::OutOfMemory;
-use pa_record::Run;
 use pa_rules::{Place, Played};
 use pa_trace::Trace;
 use std::alloc::Global;
@@ -19,7 +19,7 @@ pub fn cells_fail(
     alloc: Global,
     salt: Salt,
     trace: &Trace,
-    run: &Run,
+    run: &DenseRun,
     records: &[Played],
 ) -> Result<Option<u32>, OutOfMemory>
     requires { CanBeAudited clauses.Cells trace.now run.now records.now }
@@ -33,7 +33,7 @@ pub fn cells_fail(
 fn first_place(
     alloc: Global,
     salt: Salt,
-    run: &Run,
+    run: &DenseRun,
     records: &[Played],
 ) -> Result<Option<Place>, OutOfMemory>
     requires few { length records.now < 65536 }
@@ -42,7 +42,7 @@ fn first_place(
     requires short { HasLines32 run.now }
     ensures { IfOk result (TellsPlace (CellsDemand (history_of run.now) records.now)) }
 {
-    let cells = run.cells.as_slice();
+    let cells = run.cells();
     match swaps_meet(records, cells) {
         Some(at) => Ok(Some(Place::Record(at))),
         None => {

@@ -14,6 +14,7 @@ use crate::records::{lines_fail, registers_fail, slots_fail};
 use crate::report::report_fails;
 use pa_audit_records::{ByKey, Salt, phases_in, record_ends, records_of};
 use pa_audit_report::Known;
+use pa_dense::DenseRun;
 use pa_machine::OutOfMemory;
 use pa_record::Run;
 use pa_rules::{Clause, Played, Verdict};
@@ -32,8 +33,19 @@ pub fn audit(alloc: Global, trace: &Trace, run: &Run) -> Result<Verdict, OutOfMe
     requires short { HasLines32 run.now }
     ensures { IfOk result (λ v. IsVerdict v trace.now run.now) }
 {
-    let records = records_of(alloc, trace.lines.as_slice(), run.entries.as_slice())?;
-    let salt = Salt::of(records.as_slice(), run.roots.as_slice());
+    let dense = DenseRun::of_run(alloc, run)?;
+    audit_dense(alloc, trace, &dense)
+}
+
+/// The same verdict, on a run whose journals are kept densely.
+pub fn audit_dense(alloc: Global, trace: &Trace, run: &DenseRun) -> Result<Verdict, OutOfMemory>
+    requires limits { IsWithinLimits trace.now }
+    requires printable { IsPrintable run.now }
+    requires short { HasLines32 run.now }
+    ensures { IfOk result (λ v. IsVerdict v trace.now run.now) }
+{
+    let records = records_of(alloc, trace.lines.as_slice(), run.entries())?;
+    let salt = Salt::of(records.as_slice(), run.roots());
     let mut known = known_at_first(alloc, salt, trace, records.as_slice())?;
     for at in 0..CLAUSES {
         let clause = clause_of(at);
@@ -100,7 +112,7 @@ fn clause_fails(
     alloc: Global,
     salt: Salt,
     trace: &Trace,
-    run: &Run,
+    run: &DenseRun,
     records: &[Played],
     known: &mut Known,
     clause: Clause,

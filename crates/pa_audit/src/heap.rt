@@ -15,8 +15,8 @@ use crate::places::line_where;
 use pa_audit_heap::{Censuses, journals_meet, pool_meets, refusals_meet};
 use pa_audit_records::phases_in;
 use pa_audit_report::Known;
+use pa_dense::DenseRun;
 use pa_machine::OutOfMemory;
-use pa_record::Run;
 use pa_rules::{Place, Played};
 use pa_trace::Trace;
 use std::alloc::Global;
@@ -25,14 +25,14 @@ use std::alloc::Global;
 pub fn pool_fails(
     alloc: Global,
     trace: &Trace,
-    run: &Run,
+    run: &DenseRun,
     records: &[Played],
 ) -> Result<Option<u32>, OutOfMemory>
     requires { CanBeAudited clauses.Pool trace.now run.now records.now }
     ensures { IfOk result (TellsLine clauses.Pool trace.now run.now) }
 {
-    let pools = run.pool.as_slice();
-    let at = pool_meets(alloc, trace.region, records, pools, run.roots.as_slice())?;
+    let pools = run.pool();
+    let at = pool_meets(alloc, trace.region, records, pools, run.roots())?;
     Ok(line_where(run, pool_place(at)))
 }
 
@@ -51,7 +51,7 @@ fn pool_place(at: Option<u32>) -> Option<Place>
 pub fn roots_fail(
     alloc: Global,
     trace: &Trace,
-    run: &Run,
+    run: &DenseRun,
     records: &[Played],
     known: &mut Known,
 ) -> Result<Option<u32>, OutOfMemory>
@@ -68,7 +68,7 @@ pub fn roots_fail(
 fn first_place(
     alloc: Global,
     trace: &Trace,
-    run: &Run,
+    run: &DenseRun,
     records: &[Played],
     censuses: &mut Vec<Censuses>,
 ) -> Result<Option<Place>, OutOfMemory>
@@ -78,7 +78,7 @@ fn first_place(
     ensures censuses { IfOk result (λ place. place ≡ None → HaveAllCensuses trace.now.partitions (phases_in trace.now.lines) records.now
         run.now.pool.items (journal_of run.now) censuses.new.items) }
 {
-    match refusals_meet(records, run.roots.as_slice()) {
+    match refusals_meet(records, run.roots()) {
         Some(at) => Ok(Some(Place::Record(at))),
         None => {
             let first = first_entry(alloc, trace, run, records, censuses)?;
@@ -94,7 +94,7 @@ fn first_place(
 fn first_entry(
     alloc: Global,
     trace: &Trace,
-    run: &Run,
+    run: &DenseRun,
     records: &[Played],
     censuses: &mut Vec<Censuses>,
 ) -> Result<Option<(u32, u32)>, OutOfMemory>
@@ -104,8 +104,8 @@ fn first_entry(
     ensures censuses { IfOk result (λ entry. entry ≡ None → HaveAllCensuses trace.now.partitions (phases_in trace.now.lines) records.now
         run.now.pool.items (journal_of run.now) censuses.new.items) }
 {
-    let pools = run.pool.as_slice();
-    let roots = run.roots.as_slice();
+    let pools = run.pool();
+    let roots = run.roots();
     let found = journals_meet(
         alloc,
         trace.region,

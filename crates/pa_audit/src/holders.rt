@@ -8,8 +8,8 @@ use crate::records::record_line;
 use pa_audit_holders::{caches_meet, holders_meet, homes_of};
 use pa_audit_records::Salt;
 use pa_audit_report::Known;
+use pa_dense::DenseRun;
 use pa_machine::OutOfMemory;
-use pa_record::Run;
 use pa_rules::Played;
 use pa_trace::Trace;
 use std::alloc::Global;
@@ -19,13 +19,13 @@ pub fn holders_fail(
     alloc: Global,
     salt: Salt,
     trace: &Trace,
-    run: &Run,
+    run: &DenseRun,
     records: &[Played],
 ) -> Result<Option<u32>, OutOfMemory>
     requires { CanBeAudited clauses.Holders trace.now run.now records.now }
     ensures { IfOk result (TellsLine clauses.Holders trace.now run.now) }
 {
-    let place = holders_meet(alloc, salt, records, run.roots.as_slice())?;
+    let place = holders_meet(alloc, salt, records, run.roots())?;
     Ok(line_where(run, place))
 }
 
@@ -35,7 +35,7 @@ pub fn caches_fail(
     alloc: Global,
     salt: Salt,
     trace: &Trace,
-    run: &Run,
+    run: &DenseRun,
     records: &[Played],
     known: &mut Known,
 ) -> Result<Option<u32>, OutOfMemory>
@@ -46,14 +46,14 @@ pub fn caches_fail(
     ensures ends { known.new.ends.items ≡ known.old.ends.items }
     ensures censuses { known.new.censuses.items ≡ known.old.censuses.items }
 {
-    known.homes = homes_of(alloc, salt, run.roots.as_slice())?;
+    known.homes = homes_of(alloc, salt, run.roots())?;
     let found = caches_meet(
         alloc,
         trace.partitions,
         trace.threads,
         records,
         known.ends.as_slice(),
-        run.roots.as_slice(),
+        run.roots(),
         &known.homes,
     )?;
     known.cached = found.cached;

@@ -13,7 +13,7 @@ mod report;
 mod tests;
 
 pub use cells::cells_fail;
-pub use clauses::audit;
+pub use clauses::{audit, audit_dense};
 pub use heap::{pool_fails, roots_fail};
 pub use holders::{caches_fail, holders_fail};
 pub use order::{contents_fail, seen_fails};

@@ -5,8 +5,8 @@ ghost use Rattle.pa_audit.specs.Lined.{CanBeAudited, TellsLine};
 use crate::records::record_line;
 use pa_audit_order::{contents_meet, seen_meets};
 use pa_audit_records::Salt;
+use pa_dense::DenseRun;
 use pa_machine::OutOfMemory;
-use pa_record::Run;
 use pa_rules::Played;
 use pa_trace::Trace;
 use std::alloc::Global;
@@ -15,13 +15,13 @@ use std::alloc::Global;
 pub fn contents_fail(
     alloc: Global,
     trace: &Trace,
-    run: &Run,
+    run: &DenseRun,
     records: &[Played],
 ) -> Result<Option<u32>, OutOfMemory>
     requires { CanBeAudited clauses.Contents trace.now run.now records.now }
     ensures { IfOk result (TellsLine clauses.Contents trace.now run.now) }
 {
-    let at = contents_meet(alloc, records, run.cells.as_slice())?;
+    let at = contents_meet(alloc, records, run.cells())?;
     Ok(record_line(at))
 }
 
@@ -30,12 +30,12 @@ pub fn seen_fails(
     alloc: Global,
     salt: Salt,
     trace: &Trace,
-    run: &Run,
+    run: &DenseRun,
     records: &[Played],
 ) -> Result<Option<u32>, OutOfMemory>
     requires { CanBeAudited clauses.Seen trace.now run.now records.now }
     ensures { IfOk result (TellsLine clauses.Seen trace.now run.now) }
 {
-    let at = seen_meets(alloc, salt, records, run.cells.as_slice())?;
+    let at = seen_meets(alloc, salt, records, run.cells())?;
     Ok(record_line(at))
 }

@@ -5,11 +5,12 @@ ghost use Rattle.pa_rules.specs.Places.{line_at, roots_at, pool_at, cells_at, re
 ghost use Rattle.pa_audit.specs.Lined.{HasLines32};
 ghost use Rattle.pa_audit.specs.Placed.{IsThere};
 
-use pa_record::{History, Journal, Run};
+use pa_dense::{DenseJournal, DenseRun};
+use pa_record::History;
 use pa_rules::Place;
 
 // How many entries the first journals have.
-fn entries_before(roots: &[Journal], end: usize) -> u32
+fn entries_before(roots: &[DenseJournal], end: usize) -> u32
     requires end { end ≤ length roots.now }
     requires short { sum_by length roots.now < 2 ^ 32 - 1 }
     ensures { result ≡ sum_by length (take end roots.now) }
@@ -35,57 +36,57 @@ fn exchanges_before(cells: &[History], end: usize) -> u32
 }
 
 // The first line of the journals.
-fn journals_line(run: &Run) -> u32
+fn journals_line(run: &DenseRun) -> u32
     requires { HasLines32 run.now }
     ensures { result ≡ roots_at run.now }
 {
-    2 + run.entries.len() as u32
+    2 + run.entries().len() as u32
 }
 
 // The first line of the pool.
-fn pool_line(run: &Run) -> u32
+fn pool_line(run: &DenseRun) -> u32
     requires { HasLines32 run.now }
     ensures { result ≡ pool_at run.now }
 {
-    journals_line(run) + entries_before(run.roots.as_slice(), run.roots.len())
+    journals_line(run) + entries_before(run.roots(), run.roots().len())
 }
 
 // The first line of the histories.
-fn histories_line(run: &Run) -> u32
+fn histories_line(run: &DenseRun) -> u32
     requires { HasLines32 run.now }
     ensures { result ≡ cells_at run.now }
 {
-    pool_line(run) + run.pool.len() as u32
+    pool_line(run) + run.pool().len() as u32
 }
 
 // The first line of the report.
-fn report_line(run: &Run) -> u32
+fn report_line(run: &DenseRun) -> u32
     requires { HasLines32 run.now }
     ensures { result ≡ report_at run.now }
 {
-    histories_line(run) + exchanges_before(run.cells.as_slice(), run.cells.len())
+    histories_line(run) + exchanges_before(run.cells(), run.cells().len())
 }
 
 // The line of an entry of a partition's journal.
-fn entry_line(run: &Run, partition: u32, at: u32) -> u32
+fn entry_line(run: &DenseRun, partition: u32, at: u32) -> u32
     requires there { IsThere run.now (places.Root partition at) }
     requires short { HasLines32 run.now }
     ensures { result ≡ line_at run.now (places.Root partition at) }
 {
-    journals_line(run) + entries_before(run.roots.as_slice(), partition as usize) + at
+    journals_line(run) + entries_before(run.roots(), partition as usize) + at
 }
 
 // The line of an exchange with a cell.
-fn exchange_line(run: &Run, cell: u32, at: u32) -> u32
+fn exchange_line(run: &DenseRun, cell: u32, at: u32) -> u32
     requires there { IsThere run.now (places.Cell cell at) }
     requires short { HasLines32 run.now }
     ensures { result ≡ line_at run.now (places.Cell cell at) }
 {
-    histories_line(run) + exchanges_before(run.cells.as_slice(), cell as usize) + at
+    histories_line(run) + exchanges_before(run.cells(), cell as usize) + at
 }
 
 // The line of a place of the run's text.
-fn line_of(run: &Run, place: Place) -> u32
+fn line_of(run: &DenseRun, place: Place) -> u32
     requires there { IsThere run.now place }
     requires short { HasLines32 run.now }
     ensures { result ≡ line_at run.now place }
@@ -100,7 +101,7 @@ fn line_of(run: &Run, place: Place) -> u32
 }
 
 // The line of a place, where there is one.
-pub(crate) fn line_where(run: &Run, place: Option<Place>) -> Option<u32>
+pub(crate) fn line_where(run: &DenseRun, place: Option<Place>) -> Option<u32>
     requires there { IfSome place (IsThere run.now) }
     requires short { HasLines32 run.now }
     ensures { result ≡ option_map (line_at run.now) place }

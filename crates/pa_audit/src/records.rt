@@ -5,8 +5,8 @@ ghost use Rattle.pa_rules.specs.declared.verdict.Clause.TheVariants as clauses;
 ghost use Rattle.pa_audit.specs.Lined.{CanBeAudited, HasLines32, TellsLine};
 
 use pa_audit_records::{Salt, lines_meet, records_are_within, registers_meet, slots_meet};
+use pa_dense::DenseRun;
 use pa_machine::OutOfMemory;
-use pa_record::Run;
 use pa_rules::Played;
 use pa_trace::Trace;
 use std::alloc::Global;
@@ -23,12 +23,12 @@ pub(crate) fn record_line(at: Option<u32>) -> Option<u32>
 }
 
 /// The first line at which the records aren't those that are due.
-pub fn lines_fail(trace: &Trace, run: &Run) -> Option<u32>
+pub fn lines_fail(trace: &Trace, run: &DenseRun) -> Option<u32>
     requires limits { IsWithinLimits trace.now }
     requires short { HasLines32 run.now }
     ensures { TellsLine clauses.Lines trace.now run.now result }
 {
-    record_line(lines_meet(trace.lines.as_slice(), run.entries.as_slice()))
+    record_line(lines_meet(trace.lines.as_slice(), run.entries()))
 }
 
 /// The first line at which a record's answer isn't one that its thread's registers ask for.
@@ -36,14 +36,14 @@ pub fn registers_fail(
     alloc: Global,
     salt: Salt,
     trace: &Trace,
-    run: &Run,
+    run: &DenseRun,
     records: &[Played],
 ) -> Result<Option<u32>, OutOfMemory>
     requires { CanBeAudited clauses.Registers trace.now run.now records.now }
     ensures { IfOk result (TellsLine clauses.Registers trace.now run.now) }
 {
     records_are_within();
-    let at = registers_meet(alloc, salt, records, run.cells.as_slice())?;
+    let at = registers_meet(alloc, salt, records, run.cells())?;
     Ok(record_line(at))
 }
 
@@ -52,7 +52,7 @@ pub fn slots_fail(
     alloc: Global,
     salt: Salt,
     trace: &Trace,
-    run: &Run,
+    run: &DenseRun,
     records: &[Played],
 ) -> Result<Option<u32>, OutOfMemory>
     requires { CanBeAudited clauses.Slots trace.now run.now records.now }

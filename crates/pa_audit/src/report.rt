@@ -7,8 +7,8 @@ ghost use Rattle.pa_audit.specs.Lined.{CanBeAudited, KnowsBefore, TellsLine};
 
 use crate::places::line_where;
 use pa_audit_report::{Known, report_meets};
+use pa_dense::DenseRun;
 use pa_machine::OutOfMemory;
-use pa_record::Run;
 use pa_rules::{Place, Played};
 use pa_trace::Trace;
 use std::alloc::Global;
@@ -18,7 +18,7 @@ use std::alloc::Global;
 pub fn report_fails(
     alloc: Global,
     trace: &Trace,
-    run: &Run,
+    run: &DenseRun,
     records: &[Played],
     known: &Known,
 ) -> Result<Option<u32>, OutOfMemory>

@@ -1,4 +1,5 @@
 ghost use Rattle.std.specs.Prelude.{◌≡◌, ℕ, ◌+◌, ◌≤◌, ◌↔◌, ◌⊎◌, max, IfNone, IfSome, IsTrue};
+ghost use Rattle.pa_dense.specs.Act.{act_of};
 ghost use Rattle.pa_buckets.specs.Classes.{IsClassOf};
 ghost use Rattle.pa_direct.specs.Shapes.{shape_of};
 ghost use Rattle.pa_record.specs.Pool.{FoundNone};
@@ -6,24 +7,25 @@ ghost use Rattle.pa_rules.specs.Roots.{AsksForClass, AsksForMap, IsFreeing, Make
 
 use crate::pool_acts::found_none;
 use pa_buckets::{Class, class_of, raw_of};
+use pa_dense::Act;
 use pa_direct::{GREATEST_SIZE, shape};
-use pa_record::{PoolEntry, RootAct};
+use pa_record::PoolEntry;
 use pa_trace::Op;
 
 // Whether the op makes such an entry of the partition's journal.
-pub(crate) fn makes_entry(pools: &[PoolEntry], partition: u32, act: &RootAct, op: Op) -> bool
-    ensures { IsTrue result ↔ MakesEntry pools.now partition act.now op }
+pub(crate) fn makes_entry(pools: &[PoolEntry], partition: u32, act: Act<'_>, op: Op) -> bool
+    ensures { IsTrue result ↔ MakesEntry pools.now partition (act_of act.entry) op }
 {
     match act {
-        RootAct::Fill { class, .. } => asks_for_class(op, partition, *class),
-        RootAct::Map { len, .. } => makes_map(op, partition, *len),
-        RootAct::Full { class, pool } => match class {
-            Some(class) => asks_for_class(op, partition, *class),
-            None => makes_full_map(pools, op, partition, *pool),
+        Act::Fill { class, .. } => asks_for_class(op, partition, class),
+        Act::Map { len, .. } => makes_map(op, partition, len),
+        Act::Full { class, pool } => match class {
+            Some(class) => asks_for_class(op, partition, class),
+            None => makes_full_map(pools, op, partition, pool),
         },
-        RootAct::Give { .. } => is_freeing(op) || is_purge(op),
-        RootAct::Unmap { .. } => is_freeing(op),
-        RootAct::Purge => is_purge(op),
+        Act::Give { .. } => is_freeing(op) || is_purge(op),
+        Act::Unmap { .. } => is_freeing(op),
+        Act::Purge => is_purge(op),
     }
 }
 

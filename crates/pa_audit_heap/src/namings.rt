@@ -1,10 +1,11 @@
 ghost use Rattle.std.specs.Prelude.{◌≡◌, ◌+◌, ◌<◌, ◌≤◌, ◌^◌, ◌↔◌, IfOk, IsTrue, length, slice_index_or, slice_set};
+ghost use Rattle.pa_dense.specs.Act.{act_of};
 ghost use Rattle.pa_record.specs.Root.{asked_by};
 ghost use Rattle.pa_rules.specs.Roots.{journal_at};
 ghost use Rattle.pa_audit_heap.specs.Namings.{AreNamings, named_by};
 
+use pa_dense::{Act, DenseJournal};
 use pa_machine::OutOfMemory;
-use pa_record::{Journal, RootAct};
 use std::alloc::Global;
 
 // How the journals name an entry of the pool: no entry of theirs does, just one does, which is of this partition and line,
@@ -20,7 +21,7 @@ pub(crate) enum Naming {
 pub(crate) fn namings_of(
     alloc: Global,
     size: usize,
-    roots: &[Journal],
+    roots: &[DenseJournal],
 ) -> Result<Vec<Naming>, OutOfMemory>
     requires few { length roots.now < 2 ^ 32 }
     ensures { IfOk result (λ namings. AreNamings (journal_at roots.now) (length roots.now) 0 size namings.items) }
@@ -35,16 +36,21 @@ pub(crate) fn namings_of(
 }
 
 // Takes the entries of a partition's journal into account.
-fn name_all(namings: &mut Vec<Naming>, roots: &[Journal], partition: u32, journal: &Journal)
+fn name_all(
+    namings: &mut Vec<Naming>,
+    roots: &[DenseJournal],
+    partition: u32,
+    journal: &DenseJournal,
+)
     requires journal { journal_at roots.now partition ≡ journal.now }
     requires before { AreNamings (journal_at roots.now) partition 0 (length namings.old.items) namings.old.items }
     ensures after { AreNamings (journal_at roots.now) (partition + 1) 0 (length namings.old.items) namings.new.items }
 {
     for entry in journal.entries() {
-        if let Some(pool) = asked_by(&entry.act) {
+        if let Some(pool) = asked_by(entry.act()) {
             let naming = Naming::Once {
                 partition,
-                line: entry.line,
+                line: entry.line(),
             };
             name(namings, pool as usize, naming);
         }
@@ -64,15 +70,15 @@ fn name(namings: &mut Vec<Naming>, pool: usize, naming: Naming)
 }
 
 // The entry of the pool that an entry of a journal names.
-pub(crate) fn asked_by(act: &RootAct) -> Option<u32>
-    ensures { result ≡ asked_by act.now }
+pub(crate) fn asked_by(act: Act<'_>) -> Option<u32>
+    ensures { result ≡ asked_by (act_of act.entry) }
 {
     match act {
-        RootAct::Fill { pool, .. } => *pool,
-        RootAct::Map { pool, .. } => Some(*pool),
-        RootAct::Full { pool, .. } => Some(*pool),
-        RootAct::Give { .. } => None,
-        RootAct::Unmap { pool, .. } => Some(*pool),
-        RootAct::Purge => None,
+        Act::Fill { pool, .. } => pool,
+        Act::Map { pool, .. } => Some(pool),
+        Act::Full { pool, .. } => Some(pool),
+        Act::Give { .. } => None,
+        Act::Unmap { pool, .. } => Some(pool),
+        Act::Purge => None,
     }
 }

@@ -13,9 +13,10 @@ ghost use Rattle.pa_rules.specs.Tells.{TellsFirst};
 use crate::first::earlier;
 use crate::namings::{Naming, namings_of};
 use crate::order::Order;
+use pa_dense::DenseJournal;
 use pa_machine::OutOfMemory;
 use pa_place::PoolPlan;
-use pa_record::{Journal, PoolAct, PoolEntry, Taken};
+use pa_record::{PoolAct, PoolEntry, Taken};
 use pa_rules::Played;
 use std::alloc::Global;
 
@@ -26,7 +27,7 @@ pub fn pool_meets(
     supers: u32,
     records: &[Played],
     pools: &[PoolEntry],
-    roots: &[Journal],
+    roots: &[DenseJournal],
 ) -> Result<Option<u32>, OutOfMemory>
     requires supers { supers ≤ 64 }
     requires records { length records.now < 2 ^ 32 }
@@ -101,7 +102,7 @@ fn is_partitions(pools: &[PoolEntry], partition: u32, run: Taken) -> bool
 fn are_named(
     alloc: Global,
     pools: &[PoolEntry],
-    roots: &[Journal],
+    roots: &[DenseJournal],
 ) -> Result<Option<u32>, OutOfMemory>
     requires few { length pools.now < 2 ^ 32 - 1 }
     requires partitions { length roots.now < 2 ^ 32 }

@@ -1,6 +1,7 @@
-use crate::tests::{FREE, First, first_of, numbered, record, seen, took};
+use crate::tests::{FREE, First, first_of, numbered, record, roots_of, seen, took};
 use pa_buckets::Class;
-use pa_record::{Answer, Batch, Journal, RootAct, RootEntry};
+use pa_dense::DenseJournal;
+use pa_record::{Answer, Batch, RootAct, RootEntry};
 use pa_rules::Played;
 use pa_trace::Op;
 use std::alloc::Global;
@@ -8,7 +9,7 @@ use std::test::Fail;
 
 // The worked run of a purge: eight slots of class 0 that leave the root, come back and leave it again, the first of them at
 // the number 2. The last slot that comes back starts at `back`, the last slot of the second fill at `last`.
-fn purge_roots(alloc: Global, back: u32, last: u32) -> Result<Vec<Journal>, Fail> {
+fn purge_roots(alloc: Global, back: u32, last: u32) -> Result<Vec<DenseJournal>, Fail> {
     let class = Class::of(0).ok_or("no such class")?;
     let mut entries = Vec::new(alloc);
     entries.push(RootEntry {
@@ -37,9 +38,7 @@ fn purge_roots(alloc: Global, back: u32, last: u32) -> Result<Vec<Journal>, Fail
             slots: row(2, last),
         },
     })?;
-    let mut roots = Vec::new(alloc);
-    roots.push(Journal::of(entries))?;
-    Ok(roots)
+    Ok(roots_of(alloc, entries)?)
 }
 
 // Eight slots of 16 bytes, the first at this number; the last one starts there.

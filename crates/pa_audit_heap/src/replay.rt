@@ -1,6 +1,8 @@
 ghost use Rattle.std.specs.Prelude.{◌≡◌, ◌≢◌, ℕ, ◌-◌, ◌%◌, ◌<◌, ◌≤◌, ◌^◌, ◌↔◌, IfNone, IfOk, IfSome, IsTrue, All, AllPairs, Contains, length, map, take};
+ghost use Rattle.pa_dense.specs.Act.{act_of};
 ghost use Rattle.pa_layout.specs.Pages.{supers_for};
 ghost use Rattle.pa_machine.specs.declared.title.Title.{Title as Slice};
+ghost use Rattle.pa_record.specs.declared.root.RootAct.{RootAct};
 ghost use Rattle.pa_record.specs.Pool.{new_pool, pool_replayed};
 ghost use Rattle.pa_record.specs.Root.{IsOut, asked_by, names, new_root};
 ghost use Rattle.pa_record.specs.Spans.{name_of};
@@ -11,10 +13,11 @@ use crate::pool::act_fits;
 use crate::pool_acts::{found_none, found_nothing, found_run, gave_run};
 use arrayvec::ArrayVec;
 use pa_buckets::{Class, fill_count};
+use pa_dense::Act;
 use pa_layout::{super_page_of, supers_for};
 use pa_machine::{OutOfMemory, SlotName, Title};
 use pa_place::{Out, Placement, PoolPlan};
-use pa_record::{Numbered, PoolEntry, RootAct};
+use pa_record::{Numbered, PoolEntry};
 use std::alloc::Global;
 
 // A root and the pool that it asks, as the entries of its journal so far have left them.
@@ -38,28 +41,28 @@ impl Replay {
 
     // Whether the entry fits. Where it does it is played. The entry of the pool that it names, if any, comes no earlier than
     // those that the plan has.
-    pub(crate) fn play(&mut self, pools: &[PoolEntry], act: &RootAct) -> Result<bool, OutOfMemory>
+    pub(crate) fn play(&mut self, pools: &[PoolEntry], act: Act<'_>) -> Result<bool, OutOfMemory>
         requires pool { DoAllFit self.old.plan.supers pools.now }
         requires few { length pools.now < 2 ^ 32 - 1 }
         requires step { IsInStep pools.now self.old.plan self.old.root }
         requires turn { self.old.root.turn < 2 ^ 62 }
-        requires size { HasMapSize act.now }
-        requires asks { AsksFrom self.old.plan.entries (asked_by act.now) }
-        ensures { IfOk result (TellsPlay pools.now act.now self.old.plan self.old.root self.new.plan self.new.root) }
+        requires size { HasMapSize (act_of act) }
+        requires asks { AsksFrom self.old.plan.entries (asked_by (act_of act)) }
+        ensures { IfOk result (TellsPlay pools.now (act_of act.entry) self.old.plan self.old.root self.new.plan self.new.root) }
     {
         match act {
-            RootAct::Fill { class, pool, slots } => match pool {
-                None => self.fill(pools, *class, slots.items()),
-                Some(pool) => self.fill_from(pools, *class, *pool, slots.items()),
+            Act::Fill { class, pool, slots } => match pool {
+                None => self.fill(pools, class, slots.items()),
+                Some(pool) => self.fill_from(pools, class, pool, slots.items()),
             },
-            RootAct::Map { pool, slot, len } => self.map(pools, *pool, *slot, *len),
-            RootAct::Full { class, pool } => match class {
-                None => Ok(found_nothing(pools, *pool)),
-                Some(class) => self.full(pools, *class, *pool),
+            Act::Map { pool, slot, len } => self.map(pools, pool, slot, len),
+            Act::Full { class, pool } => match class {
+                None => Ok(found_nothing(pools, pool)),
+                Some(class) => self.full(pools, class, pool),
             },
-            RootAct::Give { slots } => Ok(self.give(pools, slots.items())),
-            RootAct::Unmap { pool, slot } => Ok(self.unmap(pools, *pool, *slot)),
-            RootAct::Purge => {
+            Act::Give { slots } => Ok(self.give(pools, slots.items())),
+            Act::Unmap { pool, slot } => Ok(self.unmap(pools, pool, slot)),
+            Act::Purge => {
                 self.root.purge();
                 Ok(true)
             }

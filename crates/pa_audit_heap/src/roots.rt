@@ -11,8 +11,9 @@ ghost use Rattle.pa_audit_heap.specs.Found.{TellsJournal};
 
 use crate::censuses::Censuses;
 use crate::walk::Walk;
+use pa_dense::{DenseEntry, DenseJournal};
 use pa_machine::OutOfMemory;
-use pa_record::{Journal, PoolEntry, RootEntry};
+use pa_record::PoolEntry;
 use pa_rules::Played;
 use std::alloc::Global;
 
@@ -41,7 +42,7 @@ pub fn journals_meet(
     phases: u32,
     records: &[Played],
     pools: &[PoolEntry],
-    roots: &[Journal],
+    roots: &[DenseJournal],
 ) -> Result<JournalsFound, OutOfMemory>
     requires supers { supers ≤ 64 }
     requires phases { phases < 2 ^ 32 - 1 }
@@ -84,7 +85,7 @@ fn journal_meets(
     phases: u32,
     records: &[Played],
     pools: &[PoolEntry],
-    roots: &[Journal],
+    roots: &[DenseJournal],
     partition: u32,
 ) -> Result<JournalFound, OutOfMemory>
     requires supers { supers ≤ 64 }
@@ -112,7 +113,7 @@ fn journal_meets(
 }
 
 // The entries of a partition's journal; none where it isn't there.
-fn journal_of(roots: &[Journal], partition: u32) -> &[RootEntry]
+fn journal_of(roots: &[DenseJournal], partition: u32) -> &[DenseEntry]
     ensures { result.now ≡ journal_at roots.now partition }
 {
     match roots.get(partition as usize) {

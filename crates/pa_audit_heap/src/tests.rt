@@ -4,6 +4,7 @@ ghost use Rattle.pa_audit_heap.specs.Ordered.{AreOfThreads16};
 ghost use Rattle.pa_rules.specs.Rising.{RiseByLine};
 
 use crate::{JournalsFound, journals_meet, pool_meets, refusals_meet};
+use pa_dense::DenseJournal;
 use pa_machine::{OutOfMemory, SlotName, Word};
 use pa_record::{
     Answer, Census, Journal, Numbered, PoolAct, PoolEntry, RootAct, RootEntry, Seen, Tally,
@@ -30,7 +31,7 @@ pub(crate) fn first_of(
     partitions: u32,
     records: &[Played],
     pools: &[PoolEntry],
-    roots: &[Journal],
+    roots: &[DenseJournal],
 ) -> Result<First, OutOfMemory> {
     match journals_of(alloc, supers, partitions, 1, records, pools, roots)? {
         Ok(found) => match found.misfit {
@@ -49,7 +50,7 @@ fn journals_of(
     phases: u32,
     records: &[Played],
     pools: &[PoolEntry],
-    roots: &[Journal],
+    roots: &[DenseJournal],
 ) -> Result<Result<JournalsFound, First>, OutOfMemory> {
     let few = supers <= 64 && records.len() < 1000 && pools.len() < 1000 && roots.len() < 1000;
     if !few || phases >= 1000 || !are_rising(records) || !are_short(roots) {
@@ -81,7 +82,7 @@ fn are_rising(records: &[Played]) -> bool
 }
 
 // Whether each journal has less than 1,000 entries.
-fn are_short(roots: &[Journal]) -> bool
+fn are_short(roots: &[DenseJournal]) -> bool
     ensures { IsTrue result → (p : ℕ) → length (journal_at roots.now p) < 2 ^ 32 }
 {
     for journal in roots {
@@ -192,8 +193,18 @@ fn unmapped(line: u32, pool: u32, slot: Numbered) -> RootEntry {
     }
 }
 
+// The journals of one partition, whose root did this.
+pub(crate) fn roots_of(
+    alloc: Global,
+    entries: Vec<RootEntry>,
+) -> Result<Vec<DenseJournal>, OutOfMemory> {
+    let mut roots = Vec::new(alloc);
+    roots.push(DenseJournal::of(alloc, &Journal::of(entries))?)?;
+    Ok(roots)
+}
+
 // Its journal, where the third entry's slot starts there and the last one names this entry of the pool.
-fn map_roots(alloc: Global, start: u32, last: u32) -> Result<Vec<Journal>, OutOfMemory> {
+fn map_roots(alloc: Global, start: u32, last: u32) -> Result<Vec<DenseJournal>, OutOfMemory> {
     let mut entries = Vec::new(alloc);
     entries.push(mapped(2, 0, name(0x4000, 0)))?;
     entries.push(unmapped(3, 1, numbered(0x4000, 0, 2)))?;
@@ -207,9 +218,7 @@ fn map_roots(alloc: Global, start: u32, last: u32) -> Result<Vec<Journal>, OutOf
     })?;
     entries.push(unmapped(8, 4, numbered(0x4000, 2, 4)))?;
     entries.push(mapped(9, last, name(0x4000, last)))?;
-    let mut roots = Vec::new(alloc);
-    roots.push(Journal::of(entries))?;
-    Ok(roots)
+    roots_of(alloc, entries)
 }
 
 #[test]

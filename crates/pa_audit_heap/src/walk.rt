@@ -14,8 +14,9 @@ use crate::made::makes_entry;
 use crate::namings::asked_by;
 use crate::order::Order;
 use crate::replay::Replay;
+use pa_dense::DenseEntry;
 use pa_machine::OutOfMemory;
-use pa_record::{PoolEntry, RootEntry};
+use pa_record::PoolEntry;
 use pa_rules::Played;
 use std::alloc::Global;
 
@@ -54,7 +55,7 @@ impl Walk {
         records: &[Played],
         pools: &[PoolEntry],
         partition: u32,
-        journal: &[RootEntry],
+        journal: &[DenseEntry],
         at: usize,
     ) -> Result<bool, OutOfMemory>
         requires records { length records.now < 2 ^ 32 }
@@ -68,13 +69,13 @@ impl Walk {
         ensures { IfOk result (TellsWalk supers partitions phases records.now pools.now partition journal.now at self.new) }
     {
         let entry = &journal[at];
-        let Some(found) = record_of(records, entry.line) else {
+        let Some(found) = record_of(records, entry.line()) else {
             return Ok(false);
         };
-        if partition >= partitions || !makes_entry(pools, partition, &entry.act, found.op) {
+        if partition >= partitions || !makes_entry(pools, partition, entry.act(), found.op) {
             return Ok(false);
         }
-        let asked = asked_by(&entry.act);
+        let asked = asked_by(entry.act());
         if !rises(self.least, asked) {
             return Ok(false);
         }
@@ -83,7 +84,7 @@ impl Walk {
         }
         let over = phases_before(found.phase, phases);
         self.censuses.fill_up(&self.replay.root, over)?;
-        let played = self.replay.play(pools, &entry.act)?;
+        let played = self.replay.play(pools, entry.act())?;
         if !played {
             return Ok(false);
         }

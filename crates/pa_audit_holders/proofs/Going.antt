@@ -156,17 +156,17 @@ none_next f slots j d below h here before known i n d' less gone = elim (cases_l
 ]
 
 -- the slots of an entry, and the moves that name them
-pub names_none : (es : List RootEntry) (e : RootEntry) (course : Course) (slots : List Numbered) → moves_by e.line e.act ≡ map (move_on e.line course) slots → NoneGone es slots ↔ NamesNoneGone es e
-names_none es e course slots is = (
+pub names_none : (es : List RootEntry) (e : RootEntry) (line : ℕ) (course : Course) (slots : List Numbered) → moves_by e.line e.act ≡ map (move_on line course) slots → NoneGone es slots ↔ NamesNoneGone es e
+names_none es e line course slots is = (
   λ none s n (m, (i, below, at), same) gone.
-      let f = move_on e.line course in
+      let f = move_on line course in
       let d : Numbered = record { slot = s; number = 0 } in
       let long = length-map slots f in
       let less : i < length slots = omega (arith, subst (λ zs. i < length zs) is below, long) in
       let here : f (get_or slots i d) ≡ m = sym (get_or-map f slots i d m less) ∙ ap (λ zs. get_or zs i m) (sym is) ∙ at in
       none i n d less (subst (λ z. IsUnmapped es z n) (sym same ∙ ap (λ (z : Move). z.slot) (sym here)) gone),
   λ named i n d below gone.
-      let f = move_on e.line course in
+      let f = move_on line course in
       let long = length-map slots f in
       let m = f (get_or slots i d) in
       let among : Contains (map f slots) m = (i, omega (arith, long, below), get_or-map f slots i d m below) in

@@ -22,18 +22,18 @@ use Rattle.pa_audit_holders.proofs.Moving.{holds_is, holds_was, moves_grown}
 
 -- ---- an entry
 
-pub owners_grown : (ps : List Played) (before : List RootEntry) (e : RootEntry) (course : Course) (slots : List Numbered) (g : ℕ → Option Owner) → moves_by e.line e.act ≡ map (move_on e.line course) slots →
-    HasOwners ps (all_moves before ++ map (move_on e.line course) slots) g → HasOwners ps (all_moves (before ++ e ∷ [])) g
-owners_grown ps before e course slots g is h = subst (λ ms. HasOwners ps ms g) (ap (λ z. all_moves before ++ z) (sym is) ∙ sym (moves_grown before e)) h
+pub owners_grown : (ps : List Played) (before : List RootEntry) (e : RootEntry) (line : ℕ) (course : Course) (slots : List Numbered) (g : ℕ → Option Owner) → moves_by e.line e.act ≡ map (move_on line course) slots →
+    HasOwners ps (all_moves before ++ map (move_on line course) slots) g → HasOwners ps (all_moves (before ++ e ∷ [])) g
+owners_grown ps before e line course slots g is h = subst (λ ms. HasOwners ps ms g) (ap (λ z. all_moves before ++ z) (sym is) ∙ sym (moves_grown before e)) h
 
-pub entry_fits : (ps : List Played) (before : List RootEntry) (e : RootEntry) (course : Course) (slots : List Numbered) (fit stays both : Bool) → moves_by e.line e.act ≡ map (move_on e.line course) slots →
-    IsTrue fit ↔ AllFit ps (all_moves before) (map (move_on e.line course) slots) → IsTrue stays ↔ NoneGone before slots → IsTrue both ↔ (IsTrue fit × IsTrue stays) → IsTrue both ↔ EntryMovesFit ps before e
-entry_fits ps before e course slots fit stays both is moves there joint = (
+pub entry_fits : (ps : List Played) (before : List RootEntry) (e : RootEntry) (line : ℕ) (course : Course) (slots : List Numbered) (fit stays both : Bool) → moves_by e.line e.act ≡ map (move_on line course) slots →
+    IsTrue fit ↔ AllFit ps (all_moves before) (map (move_on line course) slots) → IsTrue stays ↔ NoneGone before slots → IsTrue both ↔ (IsTrue fit × IsTrue stays) → IsTrue both ↔ EntryMovesFit ps before e
+entry_fits ps before e line course slots fit stays both is moves there joint = (
   λ yes. record {
     moves = subst (λ zs. AllFit ps (all_moves before) zs) (sym is) (moves.0 (joint.0 yes).0);
-    there = (names_none before e course slots is).0 (there.0 (joint.0 yes).1);
+    there = (names_none before e line course slots is).0 (there.0 (joint.0 yes).1);
   },
-  λ fits. joint.1 (moves.1 (subst (λ zs. AllFit ps (all_moves before) zs) is fits.moves), there.1 ((names_none before e course slots is).1 fits.there)),
+  λ fits. joint.1 (moves.1 (subst (λ zs. AllFit ps (all_moves before) zs) is fits.moves), there.1 ((names_none before e line course slots is).1 fits.there)),
 )
 
 -- ---- a journal

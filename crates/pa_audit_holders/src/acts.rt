@@ -1,20 +1,22 @@
 ghost use Rattle.std.specs.Prelude.{◌≡◌, ℕ, ◌≤◌, [], ◌∷◌, ◌↔◌, IfNone, IfSome, IsTrue, List, Option, Some, None, length};
+ghost use Rattle.pa_dense.specs.Act.{act_of};
 ghost use Rattle.pa_record.specs.declared.numbered.Numbered.{Numbered as Listed};
 ghost use Rattle.pa_record.specs.declared.root.RootAct.TheVariants as acts;
 ghost use Rattle.pa_rules.specs.Caches.{unmap_at};
 
 use pa_buckets::Class;
+use pa_dense::Act;
 use pa_machine::SlotName;
-use pa_record::{Numbered, RootAct};
+use pa_record::Numbered;
 
 // The slots that the entry filled from the class.
-pub(crate) fn filled_by(act: &RootAct, class: Class) -> Option<&[Numbered]>
-    ensures some { IfSome result (λ slots. (asked : Option ℕ) × (act.now ≡ acts.Fill class asked slots.now)) }
-    ensures none { IfNone result ((asked : Option ℕ) (slots : List Listed) → act.now ≡ acts.Fill class asked slots → ⊥) }
+pub(crate) fn filled_by(act: Act<'_>, class: Class) -> Option<&[Numbered]>
+    ensures some { IfSome result (λ slots. (asked : Option ℕ) × (act_of act.entry ≡ acts.Fill class asked slots.now)) }
+    ensures none { IfNone result ((asked : Option ℕ) (slots : List Listed) → act_of act.entry ≡ acts.Fill class asked slots → ⊥) }
     ensures few { IfSome result (λ slots. length slots.now ≤ 16) }
 {
     match act {
-        RootAct::Fill {
+        Act::Fill {
             class: filled,
             slots,
             ..
@@ -30,21 +32,21 @@ pub(crate) fn filled_by(act: &RootAct, class: Class) -> Option<&[Numbered]>
 }
 
 // Whether the entry made a direct map whose slot this is.
-pub(crate) fn maps(act: &RootAct, slot: SlotName) -> bool
-    ensures { IsTrue result ↔ ((asked len : ℕ) × (act.now ≡ acts.Map asked slot len)) }
+pub(crate) fn maps(act: Act<'_>, slot: SlotName) -> bool
+    ensures { IsTrue result ↔ ((asked len : ℕ) × (act_of act.entry ≡ acts.Map asked slot len)) }
 {
     match act {
-        RootAct::Map { slot: mapped, .. } => is_slot(*mapped, slot),
+        Act::Map { slot: mapped, .. } => is_slot(mapped, slot),
         _ => false,
     }
 }
 
 // Whether the entry found no room for a slot of the class; for a direct map.
-pub(crate) fn lacks_class(act: &RootAct, class: Class) -> bool
-    ensures { IsTrue result ↔ ((asked : ℕ) × (act.now ≡ acts.Full (Some class) asked)) }
+pub(crate) fn lacks_class(act: Act<'_>, class: Class) -> bool
+    ensures { IsTrue result ↔ ((asked : ℕ) × (act_of act.entry ≡ acts.Full (Some class) asked)) }
 {
     match act {
-        RootAct::Full {
+        Act::Full {
             class: Some(lacking),
             ..
         } => lacking.number() == class.number(),
@@ -52,18 +54,18 @@ pub(crate) fn lacks_class(act: &RootAct, class: Class) -> bool
     }
 }
 
-pub(crate) fn lacks_map(act: &RootAct) -> bool
-    ensures { IsTrue result ↔ ((asked : ℕ) × (act.now ≡ acts.Full None asked)) }
+pub(crate) fn lacks_map(act: Act<'_>) -> bool
+    ensures { IsTrue result ↔ ((asked : ℕ) × (act_of act.entry ≡ acts.Full None asked)) }
 {
-    matches!(act, RootAct::Full { class: None, .. })
+    matches!(act, Act::Full { class: None, .. })
 }
 
 // Whether the entry gave a direct map back whose slot this is.
-pub(crate) fn unmaps(act: &RootAct, slot: SlotName) -> bool
-    ensures { IsTrue result ↔ ((asked number : ℕ) × (act.now ≡ unmap_at asked slot number)) }
+pub(crate) fn unmaps(act: Act<'_>, slot: SlotName) -> bool
+    ensures { IsTrue result ↔ ((asked number : ℕ) × (act_of act.entry ≡ unmap_at asked slot number)) }
 {
     match act {
-        RootAct::Unmap { slot: back, .. } => is_slot(back.slot, slot),
+        Act::Unmap { slot: back, .. } => is_slot(back.slot, slot),
         _ => false,
     }
 }
@@ -83,8 +85,8 @@ pub(crate) fn is_same(a: Numbered, b: Numbered) -> bool
 }
 
 // Whether the entry purged its root.
-pub(crate) fn is_purge(act: &RootAct) -> bool
-    ensures { IsTrue result ↔ (act.now ≡ acts.Purge) }
+pub(crate) fn is_purge(act: Act<'_>) -> bool
+    ensures { IsTrue result ↔ (act_of act.entry ≡ acts.Purge) }
 {
-    matches!(act, RootAct::Purge)
+    matches!(act, Act::Purge)
 }

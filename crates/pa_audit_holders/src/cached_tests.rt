@@ -2,13 +2,15 @@ ghost use Rattle.std.specs.Prelude.{◌-◌, ◌<◌, ◌^◌, length};
 
 use crate::homes::homes_of;
 use crate::tests::{
-    FREE, alloc_of, are_homed, are_short, are_within, done, fill, give, made, numbered, purge, row,
+    FREE, alloc_of, are_homed, are_short, are_within, dense_of, done, fill, give, made, numbered,
+    purge, row,
 };
 use crate::{CachesFound, caches_meet};
 use pa_audit_records::{Salt, record_ends, records_of};
 use pa_buckets::Class;
+use pa_dense::DenseJournal;
 use pa_machine::OutOfMemory;
-use pa_record::{Answer, Batch, Entry, Journal, Tally};
+use pa_record::{Answer, Batch, Entry, Tally};
 use pa_trace::{Line, Op};
 use std::alloc::Global;
 use std::test::Fail;
@@ -19,7 +21,7 @@ fn found_in(
     lines: &[Line],
     entries: &[Entry],
     phases: u32,
-    roots: &[Journal],
+    roots: &[DenseJournal],
 ) -> Result<Option<CachesFound>, OutOfMemory>
     requires lines { length lines.now < 2 ^ 32 - 2 }
     requires phases { phases < 2 ^ 32 - 1 }
@@ -48,7 +50,7 @@ fn pair() -> Batch {
 
 // Thread 0 makes a slot of partition 0, for which eight go out, and thread 1 one of partition 1, for which two do. Two phases
 // on, thread 0 frees its slot, and in the phase behind that it purges, which gives the eight back.
-fn journals(alloc: Global) -> Result<Vec<Journal>, Fail> {
+fn journals(alloc: Global) -> Result<Vec<DenseJournal>, Fail> {
     let class = Class::of(0).ok_or("no such class")?;
     let mut first = Vec::new(alloc);
     first.push(fill(2, class, Some(0), row(0, 0x4010)))?;
@@ -58,8 +60,8 @@ fn journals(alloc: Global) -> Result<Vec<Journal>, Fail> {
     second.push(fill(3, class, Some(1), pair()))?;
     second.push(purge(8))?;
     let mut roots = Vec::new(alloc);
-    roots.push(Journal::of(first))?;
-    roots.push(Journal::of(second))?;
+    roots.push(dense_of(alloc, first)?)?;
+    roots.push(dense_of(alloc, second)?)?;
     Ok(roots)
 }
 

@@ -19,8 +19,9 @@ use crate::lines::{ByLine, lines_of};
 use crate::lists::ThreadLists;
 use crate::rows::plays;
 use pa_audit_records::ByKey;
+use pa_dense::DenseJournal;
 use pa_machine::OutOfMemory;
-use pa_record::{Journal, Tally};
+use pa_record::Tally;
 use pa_rules::Played;
 use std::alloc::Global;
 
@@ -45,7 +46,7 @@ pub fn caches_meet(
     threads: u32,
     records: &[Played],
     ends: &[usize],
-    roots: &[Journal],
+    roots: &[DenseJournal],
     homes: &ByKey<Home>,
 ) -> Result<CachesFound, OutOfMemory>
     requires partitions { partitions ≤ 4 }
@@ -111,7 +112,7 @@ fn play_phase(
     partitions: u32,
     threads: u32,
     records: &[Played],
-    roots: &[Journal],
+    roots: &[DenseJournal],
     lines: &[ByLine],
     homes: &ByKey<Home>,
     caches: &mut Vec<ThreadLists>,
@@ -178,7 +179,7 @@ fn no_lists(alloc: Global) -> Result<Vec<ThreadLists>, OutOfMemory>
 fn play(
     alloc: Global,
     partitions: u32,
-    roots: &[Journal],
+    roots: &[DenseJournal],
     lines: &[ByLine],
     homes: &ByKey<Home>,
     told: Played,

@@ -1,11 +1,13 @@
 ghost use Rattle.std.specs.Prelude.{◌≡◌, ℕ, ◌<◌, ◌≤◌, ◌↔◌, [], ◌∷◌, All, IsTrue, drop, length, map};
+ghost use Rattle.pa_dense.specs.Act.{act_of};
 ghost use Rattle.pa_record.specs.declared.root.RootAct.TheVariants as acts;
 ghost use Rattle.pa_audit_holders.specs.Lines.{did_at};
 ghost use Rattle.pa_rules.specs.Caches.{gives};
 ghost use Rattle.pa_audit_holders.specs.Gives.{TellsGives};
 
 use crate::acts::{is_purge, is_same};
-use pa_record::{Numbered, RootAct, RootEntry};
+use pa_dense::{Act, DenseEntry};
+use pa_record::Numbered;
 
 // The most slots that go back to a root at once.
 const BATCH: usize = 16;
@@ -13,7 +15,7 @@ const BATCH: usize = 16;
 // Of the entries in these places, from one place on, those that give these slots back, 16 each and the rest in the last:
 // the place behind them. None where they don't.
 pub(crate) fn gives_from(
-    journal: &[RootEntry],
+    journal: &[DenseEntry],
     places: &[u32],
     at: usize,
     slots: &[Numbered],
@@ -29,7 +31,7 @@ pub(crate) fn gives_from(
         if next >= places.len() {
             return None;
         }
-        if !is_give(&journal[places[next] as usize].act, &slots[from..to]) {
+        if !is_give(journal[places[next] as usize].act(), &slots[from..to]) {
             return None;
         }
         next += 1;
@@ -39,7 +41,7 @@ pub(crate) fn gives_from(
 }
 
 // Whether the entries in these places give these slots back, and are no more.
-pub(crate) fn all_give(journal: &[RootEntry], places: &[u32], slots: &[Numbered]) -> bool
+pub(crate) fn all_give(journal: &[DenseEntry], places: &[u32], slots: &[Numbered]) -> bool
     requires among { All (λ j. j < length journal.now) places.now }
     ensures { IsTrue result ↔ (map (did_at journal.now) places.now ≡ gives slots.now) }
 {
@@ -50,11 +52,11 @@ pub(crate) fn all_give(journal: &[RootEntry], places: &[u32], slots: &[Numbered]
 }
 
 // Whether the entry gives these slots back.
-fn is_give(act: &RootAct, slots: &[Numbered]) -> bool
-    ensures { IsTrue result ↔ (act.now ≡ acts.Give slots.now) }
+fn is_give(act: Act<'_>, slots: &[Numbered]) -> bool
+    ensures { IsTrue result ↔ (act_of act.entry ≡ acts.Give slots.now) }
 {
     match act {
-        RootAct::Give { slots: given } => are_same(given.items(), slots),
+        Act::Give { slots: given } => are_same(given.items(), slots),
         _ => false,
     }
 }
@@ -75,7 +77,7 @@ fn are_same(a: &[Numbered], b: &[Numbered]) -> bool
 }
 
 // Whether the last of the entries in these places stands in this one, and is a purge.
-pub(crate) fn ends_with_purge(journal: &[RootEntry], places: &[u32], at: usize) -> bool
+pub(crate) fn ends_with_purge(journal: &[DenseEntry], places: &[u32], at: usize) -> bool
     requires among { All (λ j. j < length journal.now) places.now }
     requires within { at ≤ length places.now }
     ensures { IsTrue result ↔ (drop at (map (did_at journal.now) places.now) ≡ acts.Purge ∷ []) }
@@ -83,5 +85,5 @@ pub(crate) fn ends_with_purge(journal: &[RootEntry], places: &[u32], at: usize) 
     if at + 1 != places.len() {
         return false;
     }
-    is_purge(&journal[places[at] as usize].act)
+    is_purge(journal[places[at] as usize].act())
 }

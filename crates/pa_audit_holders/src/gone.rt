@@ -1,4 +1,5 @@
 ghost use Rattle.std.specs.Prelude.{◌≡◌, ℕ, ◌+◌, ◌<◌, ◌↔◌, [], ◌∷◌, ◌++◌, IfNone, IfSome, IsTrue, List, OnOk, take};
+ghost use Rattle.pa_dense.specs.Act.{act_of};
 ghost use Rattle.pa_audit_records.specs.ByKeys.{value_at};
 ghost use Rattle.pa_record.specs.declared.root.RootAct.TheVariants as acts;
 ghost use Rattle.pa_record.specs.declared.numbered.Numbered.{Numbered as Slot};
@@ -8,8 +9,9 @@ ghost use Rattle.pa_audit_holders.specs.Gone.{HasGone, IsUnmapped, NoneGone};
 
 use crate::homes::key;
 use pa_audit_records::ByKey;
+use pa_dense::{Act, DenseEntry};
 use pa_machine::{OutOfMemory, SlotName};
-use pa_record::{Numbered, RootAct, RootEntry};
+use pa_record::Numbered;
 
 // Whether the table has the slot.
 fn has(gone: &ByKey<u64>, slot: SlotName) -> bool
@@ -52,22 +54,22 @@ pub(crate) fn none_gone(gone: &ByKey<u64>, slots: &[Numbered]) -> bool
 }
 
 // The slot that an entry of this act takes away for good.
-fn unmapped(act: &RootAct) -> Option<Numbered>
-    ensures some { IfSome result (λ slot. (asked : ℕ) × (act.now ≡ acts.Unmap asked slot)) }
-    ensures none { IfNone result ((asked : ℕ) (slot : Slot) → act.now ≡ acts.Unmap asked slot → ⊥) }
+fn unmapped(act: Act<'_>) -> Option<Numbered>
+    ensures some { IfSome result (λ slot. (asked : ℕ) × (act_of act.entry ≡ acts.Unmap asked slot)) }
+    ensures none { IfNone result ((asked : ℕ) (slot : Slot) → act_of act.entry ≡ acts.Unmap asked slot → ⊥) }
 {
     match act {
-        RootAct::Unmap { slot, .. } => Some(*slot),
+        Act::Unmap { slot, .. } => Some(slot),
         _ => None,
     }
 }
 
 // Enters the slot that an entry takes away for good.
-pub(crate) fn enter_gone(gone: &mut ByKey<u64>, entry: &RootEntry) -> Result<(), OutOfMemory>
+pub(crate) fn enter_gone(gone: &mut ByKey<u64>, entry: &DenseEntry) -> Result<(), OutOfMemory>
     ensures { OnOk result ((before : List Line) → HasGone before (value_at gone.old)
         → HasGone (before ++ entry.now ∷ []) (value_at gone.new)) }
 {
-    match unmapped(&entry.act) {
+    match unmapped(entry.act()) {
         Some(slot) => enter_unmapped(gone, entry, slot),
         None => Ok(()),
     }
@@ -75,7 +77,7 @@ pub(crate) fn enter_gone(gone: &mut ByKey<u64>, entry: &RootEntry) -> Result<(),
 
 fn enter_unmapped(
     gone: &mut ByKey<u64>,
-    entry: &RootEntry,
+    entry: &DenseEntry,
     slot: Numbered,
 ) -> Result<(), OutOfMemory>
     requires { (asked : ℕ) × (entry.now.act ≡ acts.Unmap asked slot) }

@@ -16,8 +16,9 @@ use crate::moves::both;
 use crate::owners::{Owner, first_owner, is_owner, key_at};
 use crate::tables::Table;
 use pa_audit_records::ByKey;
+use pa_dense::DenseJournal;
 use pa_machine::number;
-use pa_record::{Answer, Journal, Numbered, Seen};
+use pa_record::{Answer, Numbered, Seen};
 use pa_rules::Played;
 
 // The slot of which the record tells, at the number that it found.
@@ -54,7 +55,7 @@ fn owner_of(
     records: &[Played],
     firsts: &ByKey<u32>,
     tables: &[Table],
-    roots: &[Journal],
+    roots: &[DenseJournal],
     slot: Numbered,
 ) -> Owner
     requires returns { HasReturns records.now (value_at firsts.now) }
@@ -99,7 +100,7 @@ fn is_issued(
     records: &[Played],
     firsts: &ByKey<u32>,
     tables: &[Table],
-    roots: &[Journal],
+    roots: &[DenseJournal],
     told: Played,
 ) -> bool
     requires returns { HasReturns records.now (value_at firsts.now) }
@@ -117,7 +118,7 @@ fn is_issued(
 }
 
 // Whether no entry took the slot away at this number or a lower one.
-fn is_in_all(records: &[Played], tables: &[Table], roots: &[Journal], slot: Numbered) -> bool
+fn is_in_all(records: &[Played], tables: &[Table], roots: &[DenseJournal], slot: Numbered) -> bool
     requires tables { HaveTables records.now roots.now tables.now }
     ensures { IsTrue result ↔ ((p n : ℕ) → IsUnmapped (journal_at roots.now p) slot.slot n → slot.number < n) }
 {
@@ -130,7 +131,7 @@ fn is_in_all(records: &[Played], tables: &[Table], roots: &[Journal], slot: Numb
 }
 
 // Whether the record found no number at which its slot was gone for good.
-fn stays_there(records: &[Played], tables: &[Table], roots: &[Journal], told: Played) -> bool
+fn stays_there(records: &[Played], tables: &[Table], roots: &[DenseJournal], told: Played) -> bool
     requires tables { HaveTables records.now roots.now tables.now }
     ensures { IsTrue result ↔ StaysThere (journal_at roots.now) told }
 {
@@ -145,7 +146,7 @@ pub(crate) fn first_record(
     records: &[Played],
     firsts: &ByKey<u32>,
     tables: &[Table],
-    roots: &[Journal],
+    roots: &[DenseJournal],
 ) -> Option<u32>
     requires few { length records.now < 2 ^ 32 }
     requires returns { HasReturns records.now (value_at firsts.now) }

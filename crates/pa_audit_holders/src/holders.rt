@@ -9,8 +9,8 @@ use crate::held::first_record;
 use crate::owners::returns_of;
 use crate::tables::walk;
 use pa_audit_records::Salt;
+use pa_dense::DenseJournal;
 use pa_machine::OutOfMemory;
-use pa_record::Journal;
 use pa_rules::{Place, Played};
 use std::alloc::Global;
 
@@ -21,7 +21,7 @@ pub fn holders_meet(
     alloc: Global,
     salt: Salt,
     records: &[Played],
-    roots: &[Journal],
+    roots: &[DenseJournal],
 ) -> Result<Option<Place>, OutOfMemory>
     requires few { length records.now < 2 ^ 32 }
     requires rising { RiseByLine records.now }

@@ -1,11 +1,14 @@
 ghost use Rattle.std.specs.Prelude.{◌-◌, ◌<◌, ◌^◌, length};
 
 use crate::holders_meet;
-use crate::tests::{FREE, alloc_of, are_short, done, fill, give, made, numbered, row, single};
+use crate::tests::{
+    FREE, alloc_of, are_short, dense_of, done, fill, give, made, numbered, row, single,
+};
 use pa_audit_records::{Salt, records_of, slots_meet};
 use pa_buckets::Class;
+use pa_dense::DenseJournal;
 use pa_machine::OutOfMemory;
-use pa_record::{Answer, Entry, Journal, RootAct, RootEntry};
+use pa_record::{Answer, Entry, RootAct, RootEntry};
 use pa_rules::Place;
 use pa_trace::{Line, Op};
 use std::alloc::Global;
@@ -24,7 +27,7 @@ fn first_of(
     alloc: Global,
     lines: &[Line],
     entries: &[Entry],
-    roots: &[Journal],
+    roots: &[DenseJournal],
 ) -> Result<First, OutOfMemory>
     requires lines { length lines.now < 2 ^ 32 - 2 }
 {
@@ -77,7 +80,7 @@ fn again_entries(thread: u32) -> [Entry; 3] {
 }
 
 // One journal, with a fill on line 2 of slots of which the first has this number, and one entry more.
-fn filled(alloc: Global, number: u64, more: Option<RootEntry>) -> Result<Vec<Journal>, Fail> {
+fn filled(alloc: Global, number: u64, more: Option<RootEntry>) -> Result<Vec<DenseJournal>, Fail> {
     let class = Class::of(0).ok_or("no such class")?;
     let mut entries = Vec::new(alloc);
     entries.push(fill(2, class, Some(0), row(number, 0x4010)))?;
@@ -86,7 +89,7 @@ fn filled(alloc: Global, number: u64, more: Option<RootEntry>) -> Result<Vec<Jou
         None => {}
     }
     let mut roots = Vec::new(alloc);
-    roots.push(Journal::of(entries))?;
+    roots.push(dense_of(alloc, entries)?)?;
     Ok(roots)
 }
 
@@ -175,7 +178,7 @@ fn unmap(line: u32, number: u64) -> RootEntry {
 }
 
 // A direct map is made and goes back on line 3; the journal has these entries behind it.
-fn mapped(alloc: Global, more: Option<RootEntry>) -> Result<Vec<Journal>, Fail> {
+fn mapped(alloc: Global, more: Option<RootEntry>) -> Result<Vec<DenseJournal>, Fail> {
     let mut entries = Vec::new(alloc);
     entries.push(map(2))?;
     entries.push(unmap(3, 2))?;
@@ -184,7 +187,7 @@ fn mapped(alloc: Global, more: Option<RootEntry>) -> Result<Vec<Journal>, Fail> 
         None => {}
     }
     let mut roots = Vec::new(alloc);
-    roots.push(Journal::of(entries))?;
+    roots.push(dense_of(alloc, entries)?)?;
     Ok(roots)
 }
 

@@ -9,8 +9,9 @@ ghost use Rattle.pa_audit_holders.specs.Homes.{KnowsHomes, EntersSlots, HasAbove
 
 use pa_audit_records::{ByKey, Salt};
 use pa_buckets::slot_size;
+use pa_dense::{Act, DenseEntry, DenseJournal};
 use pa_machine::{OutOfMemory, SlotName};
-use pa_record::{Journal, Numbered, RootAct, RootEntry};
+use pa_record::Numbered;
 use std::alloc::Global;
 
 /// Where a free slot goes: to the lists of its partition and class, by its number, or, where it has none, to the root of its
@@ -31,7 +32,11 @@ pub(crate) fn key(slot: SlotName) -> u128
 }
 
 /// The homes of all slots that the journals handed out, by the slots' numbers.
-pub fn homes_of(alloc: Global, salt: Salt, roots: &[Journal]) -> Result<ByKey<Home>, OutOfMemory>
+pub fn homes_of(
+    alloc: Global,
+    salt: Salt,
+    roots: &[DenseJournal],
+) -> Result<ByKey<Home>, OutOfMemory>
     requires few { length roots.now < 2 ^ 32 }
     ensures { IfOk result (λ homes. KnowsHomes (journal_at roots.now) (value_at homes)) }
 {
@@ -47,9 +52,9 @@ pub fn homes_of(alloc: Global, salt: Salt, roots: &[Journal]) -> Result<ByKey<Ho
 // Enters the slots that a partition's journal handed out.
 fn enter_all(
     homes: &mut ByKey<Home>,
-    roots: &[Journal],
+    roots: &[DenseJournal],
     partition: u32,
-    journal: &Journal,
+    journal: &DenseJournal,
 ) -> Result<(), OutOfMemory>
     requires journal { journal_at roots.now partition ≡ journal.now }
     requires homes { HasHomes (journal_at roots.now) (value_at homes.old) }
@@ -66,31 +71,31 @@ fn enter_all(
 // Enters the slots that an entry of a partition's journal handed out.
 fn enter_entry(
     homes: &mut ByKey<Home>,
-    roots: &[Journal],
+    roots: &[DenseJournal],
     partition: u32,
-    entry: &RootEntry,
+    entry: &DenseEntry,
 ) -> Result<(), OutOfMemory>
     requires among { Contains (journal_at roots.now partition) entry.now }
     requires homes { HasHomes (journal_at roots.now) (value_at homes.old) }
     ensures homes { OnOk result (HasHomes (journal_at roots.now) (value_at homes.new)) }
     ensures enters { OnOk result (EntersSlots (value_at homes.old) (value_at homes.new) (leaves_by entry.now.act)) }
 {
-    match &entry.act {
-        RootAct::Fill { class, slots, .. } => {
+    match entry.act() {
+        Act::Fill { class, slots, .. } => {
             let home = Home {
                 partition,
                 class: Some(class.number()),
-                bytes: slot_size(*class),
+                bytes: slot_size(class),
             };
             enter_slots(homes, roots, home, slots.items())
         }
-        RootAct::Map { slot, len, .. } => {
+        Act::Map { slot, len, .. } => {
             let home = Home {
                 partition,
                 class: None,
-                bytes: *len,
+                bytes: len,
             };
-            enter(homes, roots, home, *slot)
+            enter(homes, roots, home, slot)
         }
         _ => Ok(()),
     }
@@ -99,7 +104,7 @@ fn enter_entry(
 // Enters slots that have this home.
 fn enter_slots(
     homes: &mut ByKey<Home>,
-    roots: &[Journal],
+    roots: &[DenseJournal],
     home: Home,
     slots: &[Numbered],
 ) -> Result<(), OutOfMemory>
@@ -117,7 +122,7 @@ fn enter_slots(
 // Enters a slot that has this home.
 fn enter(
     homes: &mut ByKey<Home>,
-    roots: &[Journal],
+    roots: &[DenseJournal],
     home: Home,
     slot: SlotName,
 ) -> Result<(), OutOfMemory>
@@ -131,7 +136,7 @@ fn enter(
 }
 
 // The home of a slot. None where no entry handed it out.
-pub(crate) fn home_of(roots: &[Journal], homes: &ByKey<Home>, slot: SlotName) -> Option<Home>
+pub(crate) fn home_of(roots: &[DenseJournal], homes: &ByKey<Home>, slot: SlotName) -> Option<Home>
     requires homes { KnowsHomes (journal_at roots.now) (value_at homes.now) }
     ensures { TellsHome (journal_at roots.now) slot result }
 {

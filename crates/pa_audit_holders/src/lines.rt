@@ -1,11 +1,12 @@
 ghost use Rattle.std.specs.Prelude.{◌≡◌, ℕ, ◌<◌, ◌↔◌, ◌++◌, [], ◌∷◌, IfNone, IfOk, IfSome, IsTrue, OnOk, length, slice_index_or, slice_set};
-ghost use Rattle.pa_record.specs.declared.root.RootAct.{RootAct as Act};
+ghost use Rattle.pa_dense.specs.Act.{act_of};
+ghost use Rattle.pa_record.specs.declared.root.RootAct.{RootAct};
 ghost use Rattle.pa_rules.specs.Roots.{journal_at};
 ghost use Rattle.pa_rules.specs.Caches.{NoActs, OnlyActs, acts_of};
 ghost use Rattle.pa_audit_holders.specs.Lines.{AreOnLines, ArePlacesOf, HaveLines, KnowsLine, NoneBut};
 
+use pa_dense::{Act, DenseEntry, DenseJournal};
 use pa_machine::OutOfMemory;
-use pa_record::{Journal, RootAct, RootEntry};
 use smallvec::SmallVec;
 use std::alloc::Global;
 use std::marker::Model;
@@ -87,7 +88,7 @@ impl ByLine {
     // The places of the entries of those of the journal's lines that are below this number. A journal of no entries takes no
     // memory for its lines.
     #[tactic(auto, using(crate::proofs::Indexing::no_lines))]
-    fn of(alloc: Global, count: usize, journal: &Journal) -> Result<ByLine, OutOfMemory>
+    fn of(alloc: Global, count: usize, journal: &DenseJournal) -> Result<ByLine, OutOfMemory>
         requires few { length journal.now < 4294967296 }
         ensures { IfOk result (AreOnLines journal.now count) }
     {
@@ -108,14 +109,18 @@ impl ByLine {
     }
 
     // The places of the entries, with room for each line below this number.
-    fn of_entries(alloc: Global, count: usize, journal: &Journal) -> Result<ByLine, OutOfMemory>
+    fn of_entries(
+        alloc: Global,
+        count: usize,
+        journal: &DenseJournal,
+    ) -> Result<ByLine, OutOfMemory>
         requires few { length journal.now < 4294967296 }
         ensures { IfOk result (AreOnLines journal.now count) }
     {
         let mut by_line = ByLine::new(alloc, count)?;
         let mut place: u32 = 0;
         for entry in journal.entries() {
-            by_line.enter(entry.line as usize, place)?;
+            by_line.enter(entry.line() as usize, place)?;
             place += 1;
         }
         Ok(by_line)
@@ -136,7 +141,7 @@ impl ByLine {
 pub(crate) fn lines_of(
     alloc: Global,
     count: usize,
-    roots: &[Journal],
+    roots: &[DenseJournal],
 ) -> Result<Vec<ByLine>, OutOfMemory>
     requires few { (p : ℕ) → length (journal_at roots.now p) < 4294967296 }
     ensures { IfOk result (λ tables. HaveLines roots.now count tables.items) }
@@ -150,7 +155,7 @@ pub(crate) fn lines_of(
 }
 
 // The entries of a partition's journal; none where it isn't there.
-pub(crate) fn journal_of(roots: &[Journal], partition: u32) -> &[RootEntry]
+pub(crate) fn journal_of(roots: &[DenseJournal], partition: u32) -> &[DenseEntry]
     ensures { result.now ≡ journal_at roots.now partition }
 {
     match roots.get(partition as usize) {
@@ -161,7 +166,7 @@ pub(crate) fn journal_of(roots: &[Journal], partition: u32) -> &[RootEntry]
 
 // The places of a line's entries in a partition's journal.
 pub(crate) fn places_of<'a>(
-    roots: &[Journal],
+    roots: &[DenseJournal],
     tables: &'a [ByLine],
     line: u32,
     partition: u32,
@@ -176,7 +181,7 @@ pub(crate) fn places_of<'a>(
 }
 
 // Whether the line has no entries in this partition's journal.
-fn is_quiet(roots: &[Journal], tables: &[ByLine], line: u32, partition: u32) -> bool
+fn is_quiet(roots: &[DenseJournal], tables: &[ByLine], line: u32, partition: u32) -> bool
     requires known { KnowsLine roots.now tables.now line }
     ensures { IsTrue result ↔ (acts_of (journal_at roots.now) line partition ≡ []) }
 {
@@ -184,7 +189,13 @@ fn is_quiet(roots: &[Journal], tables: &[ByLine], line: u32, partition: u32) -> 
 }
 
 // Whether this partition is the other one, or the line has no entries in its journal.
-fn is_quiet_but(roots: &[Journal], tables: &[ByLine], line: u32, partition: u32, other: u32) -> bool
+fn is_quiet_but(
+    roots: &[DenseJournal],
+    tables: &[ByLine],
+    line: u32,
+    partition: u32,
+    other: u32,
+) -> bool
     requires known { KnowsLine roots.now tables.now line }
     ensures { IsTrue result ↔ ((partition ≡ other → ⊥) → acts_of (journal_at roots.now) line partition ≡ []) }
 {
@@ -192,7 +203,7 @@ fn is_quiet_but(roots: &[Journal], tables: &[ByLine], line: u32, partition: u32,
 }
 
 // Whether no journal but this partition's has entries of the line.
-pub(crate) fn none_but(roots: &[Journal], tables: &[ByLine], line: u32, partition: u32) -> bool
+pub(crate) fn none_but(roots: &[DenseJournal], tables: &[ByLine], line: u32, partition: u32) -> bool
     requires known { KnowsLine roots.now tables.now line }
     requires few { length roots.now < 4294967296 }
     ensures { IsTrue result ↔ NoneBut (journal_at roots.now) line partition }
@@ -208,7 +219,7 @@ pub(crate) fn none_but(roots: &[Journal], tables: &[ByLine], line: u32, partitio
 }
 
 // Whether the line has no entries.
-pub(crate) fn has_none(roots: &[Journal], tables: &[ByLine], line: u32) -> bool
+pub(crate) fn has_none(roots: &[DenseJournal], tables: &[ByLine], line: u32) -> bool
     requires known { KnowsLine roots.now tables.now line }
     requires few { length roots.now < 4294967296 }
     ensures { IsTrue result ↔ NoActs (journal_at roots.now) line }
@@ -218,15 +229,15 @@ pub(crate) fn has_none(roots: &[Journal], tables: &[ByLine], line: u32) -> bool
 
 // Whether the line's only entry, which is of this partition, did this, as the test says.
 pub(crate) fn only_act<'a>(
-    roots: &'a [Journal],
+    roots: &'a [DenseJournal],
     tables: &[ByLine],
     line: u32,
     partition: u32,
-) -> Option<&'a RootAct>
+) -> Option<Act<'a>>
     requires known { KnowsLine roots.now tables.now line }
     requires few { length roots.now < 4294967296 }
-    ensures some { IfSome result (λ a. OnlyActs (journal_at roots.now) line partition (a.now ∷ [])) }
-    ensures none { IfNone result ((a : Act) → OnlyActs (journal_at roots.now) line partition (a ∷ []) → ⊥) }
+    ensures some { IfSome result (λ a. OnlyActs (journal_at roots.now) line partition (act_of a ∷ [])) }
+    ensures none { IfNone result ((a : RootAct) → OnlyActs (journal_at roots.now) line partition (a ∷ []) → ⊥) }
 {
     if !none_but(roots, tables, line, partition) {
         return None;
@@ -235,5 +246,5 @@ pub(crate) fn only_act<'a>(
     if places.len() != 1 {
         return None;
     }
-    Some(&journal_of(roots, partition)[places[0] as usize].act)
+    Some(journal_of(roots, partition)[places[0] as usize].act())
 }

@@ -1,4 +1,5 @@
 ghost use Rattle.std.specs.Prelude.{◌≡◌, ℕ, ◌+◌, ◌<◌, ◌^◌, ◌↔◌, [], ◌∷◌, ◌++◌, IfOk, IsTrue, List, OnOk, length, map};
+ghost use Rattle.pa_dense.specs.Act.{act_of};
 ghost use Rattle.pa_audit_records.specs.ByKeys.{value_at};
 ghost use Rattle.pa_rules.specs.Holders.{Move, moves_by};
 ghost use Rattle.pa_rules.specs.Rising.{RiseByLine};
@@ -8,8 +9,9 @@ ghost use Rattle.pa_audit_holders.specs.Owners.{AllFit, AreDirect, AreOfRuns, Ha
 
 use crate::owners::{Course, Owner, move_slot};
 use pa_audit_records::{ByKey, record_near};
+use pa_dense::Act;
 use pa_machine::OutOfMemory;
-use pa_record::{Numbered, RootAct};
+use pa_record::Numbered;
 use pa_rules::Played;
 use std::alloc::Global;
 
@@ -55,15 +57,12 @@ pub(crate) struct Moves<'a> {
 }
 
 // The slot of a direct map that an entry of this act moves, at its number; for another act any.
-pub(crate) fn direct_slots(act: &RootAct) -> [Numbered; 1]
-    ensures { AreDirect act.now result }
+pub(crate) fn direct_slots(act: Act<'_>) -> [Numbered; 1]
+    ensures { AreDirect (act_of act.entry) result }
 {
     match act {
-        RootAct::Map { slot, .. } => {
-            let slot = *slot;
-            [Numbered { slot, number: 0 }]
-        }
-        RootAct::Unmap { slot, .. } => [*slot],
+        Act::Map { slot, .. } => [Numbered { slot, number: 0 }],
+        Act::Unmap { slot, .. } => [slot],
         _ => [Numbered::default()],
     }
 }
@@ -87,16 +86,16 @@ fn back(slots: &[Numbered]) -> Moves<'_>
 }
 
 // The slots that an entry of this act moves; a direct map's is the one beside the act.
-pub(crate) fn moves_of<'a>(act: &'a RootAct, direct: &'a [Numbered]) -> Moves<'a>
-    requires { AreDirect act.now direct.now }
-    ensures { (line : ℕ) → moves_by line act.now ≡ map (move_on line result.course) result.slots.now }
+pub(crate) fn moves_of<'a>(act: Act<'a>, direct: &'a [Numbered]) -> Moves<'a>
+    requires { AreDirect (act_of act) direct.now }
+    ensures { (line : ℕ) → moves_by line (act_of act.entry) ≡ map (move_on line result.course) result.slots.now }
 {
     match act {
-        RootAct::Fill { slots, .. } => out(slots.items()),
-        RootAct::Map { .. } => out(direct),
-        RootAct::Give { slots } => back(slots.items()),
-        RootAct::Unmap { .. } => back(direct),
-        RootAct::Full { .. } | RootAct::Purge => out(&[]),
+        Act::Fill { slots, .. } => out(slots.items()),
+        Act::Map { .. } => out(direct),
+        Act::Give { slots } => back(slots.items()),
+        Act::Unmap { .. } => back(direct),
+        Act::Full { .. } | Act::Purge => out(&[]),
     }
 }
 

@@ -10,7 +10,7 @@ use crate::gives::{ends_with_purge, gives_from};
 use crate::lines::{ByLine, journal_of, places_of};
 use crate::lists::ThreadLists;
 use pa_buckets::Class;
-use pa_record::{Journal, RootEntry};
+use pa_dense::{DenseEntry, DenseJournal};
 use pa_rules::Played;
 
 // The number of classes.
@@ -19,7 +19,7 @@ const CLASSES: u32 = 59;
 // A purge gave all lists back, and says how many slots they had.
 pub(crate) fn purged(
     partitions: u32,
-    roots: &[Journal],
+    roots: &[DenseJournal],
     lines: &[ByLine],
     told: Played,
     slots: u32,
@@ -39,7 +39,7 @@ pub(crate) fn purged(
 // Whether the line's entries purge all partitions, and their lists have so many slots.
 fn purges_all(
     partitions: u32,
-    roots: &[Journal],
+    roots: &[DenseJournal],
     lines: &[ByLine],
     line: u32,
     slots: u32,
@@ -61,7 +61,7 @@ fn purges_all(
 
 // Where the line's entries purge a partition, and its lists have no more slots than so many: how many are left.
 fn purges_one(
-    roots: &[Journal],
+    roots: &[DenseJournal],
     lines: &[ByLine],
     line: u32,
     partition: u32,
@@ -84,7 +84,7 @@ fn purges_one(
 
 // The same of the entries in these places of the partition's journal.
 fn purges_lists(
-    journal: &[RootEntry],
+    journal: &[DenseEntry],
     places: &[u32],
     partition: u32,
     slots: usize,

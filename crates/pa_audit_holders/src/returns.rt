@@ -16,15 +16,16 @@ use crate::lines::{ByLine, has_none, journal_of, none_but, only_act, places_of};
 use crate::lists::{FreeSlots, ThreadLists};
 use pa_audit_records::ByKey;
 use pa_buckets::{Class, cache_limit};
+use pa_dense::DenseJournal;
 use pa_machine::{OutOfMemory, SlotName, Step, number};
-use pa_record::{Journal, Numbered, Seen};
+use pa_record::{Numbered, Seen};
 use pa_rules::Played;
 use std::alloc::Global;
 
 // An op was done: its step returned the slot, or the line has no entries.
 pub(crate) fn done(
     alloc: Global,
-    roots: &[Journal],
+    roots: &[DenseJournal],
     lines: &[ByLine],
     homes: &ByKey<Home>,
     told: Played,
@@ -47,7 +48,7 @@ pub(crate) fn done(
 // This step was made.
 fn stepped(
     alloc: Global,
-    roots: &[Journal],
+    roots: &[DenseJournal],
     lines: &[ByLine],
     homes: &ByKey<Home>,
     told: Played,
@@ -76,7 +77,7 @@ fn stepped(
 // A slot was returned, which has this number then.
 fn put_back(
     alloc: Global,
-    roots: &[Journal],
+    roots: &[DenseJournal],
     lines: &[ByLine],
     homes: &ByKey<Home>,
     told: Played,
@@ -98,7 +99,7 @@ fn put_back(
 // A slot whose home this is was returned.
 fn go_home(
     alloc: Global,
-    roots: &[Journal],
+    roots: &[DenseJournal],
     lines: &[ByLine],
     told: Played,
     home: Home,
@@ -126,7 +127,7 @@ fn go_home(
 // A slot becomes the front of its list, and what doesn't stay of that goes back to the root.
 fn put_in_list(
     alloc: Global,
-    roots: &[Journal],
+    roots: &[DenseJournal],
     lines: &[ByLine],
     line: u32,
     bin: &Bin,
@@ -168,7 +169,7 @@ fn how_many_stay(class: Class, slots: &[Numbered]) -> usize
 
 // Whether the line's only entries give these slots of this partition back.
 fn only_gives(
-    roots: &[Journal],
+    roots: &[DenseJournal],
     lines: &[ByLine],
     line: u32,
     partition: u32,
@@ -187,7 +188,7 @@ fn only_gives(
 
 // Whether the line's only entry gives this direct map of this partition back.
 fn is_unmapped(
-    roots: &[Journal],
+    roots: &[DenseJournal],
     lines: &[ByLine],
     line: u32,
     partition: u32,

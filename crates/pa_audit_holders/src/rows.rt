@@ -20,8 +20,9 @@ use crate::lists::{FreeSlots, ThreadLists};
 use crate::purges::purged;
 use crate::returns::done;
 use pa_audit_records::ByKey;
+use pa_dense::DenseJournal;
 use pa_machine::{OutOfMemory, SlotName, number};
-use pa_record::{Answer, Journal, Numbered, Seen};
+use pa_record::{Answer, Numbered, Seen};
 use pa_rules::Played;
 use std::alloc::Global;
 
@@ -29,7 +30,7 @@ use std::alloc::Global;
 pub(crate) fn plays(
     alloc: Global,
     partitions: u32,
-    roots: &[Journal],
+    roots: &[DenseJournal],
     lines: &[ByLine],
     homes: &ByKey<Home>,
     told: Played,
@@ -65,7 +66,7 @@ pub(crate) fn plays(
 // A slot was made.
 fn made(
     alloc: Global,
-    roots: &[Journal],
+    roots: &[DenseJournal],
     lines: &[ByLine],
     told: Played,
     seen: Seen,
@@ -91,7 +92,7 @@ fn made(
 // A slot of a class was made: it was the front of its list.
 fn made_of_class(
     alloc: Global,
-    roots: &[Journal],
+    roots: &[DenseJournal],
     lines: &[ByLine],
     line: u32,
     bin: &Bin,
@@ -121,7 +122,7 @@ fn made_of_class(
 // Whether a slot can be taken from the list: an empty one is filled first, and at any other the line has no entries. Where
 // it can, the list is then the one from which it is taken.
 fn fill_first(
-    roots: &[Journal],
+    roots: &[DenseJournal],
     lines: &[ByLine],
     line: u32,
     bin: &Bin,
@@ -148,7 +149,7 @@ fn fill_first(
 
 // The slots of the line's only entry, if that is a fill of this partition and class.
 fn fill_of<'a>(
-    roots: &'a [Journal],
+    roots: &'a [DenseJournal],
     lines: &[ByLine],
     line: u32,
     bin: &Bin,
@@ -177,7 +178,13 @@ fn is_front(slots: &[Numbered], seen: Seen) -> bool
 }
 
 // Whether the line's only entry made a direct map of this partition whose slot this is.
-fn is_mapped(roots: &[Journal], lines: &[ByLine], line: u32, partition: u32, slot: SlotName) -> bool
+fn is_mapped(
+    roots: &[DenseJournal],
+    lines: &[ByLine],
+    line: u32,
+    partition: u32,
+    slot: SlotName,
+) -> bool
     requires four { length roots.now ≤ 4 }
     requires known { KnowsLine roots.now lines.now line }
     ensures { IsTrue result ↔ ((asked len : ℕ) × OnlyActs (journal_at roots.now) line partition (acts.Map asked slot len ∷ [])) }
@@ -189,7 +196,7 @@ fn is_mapped(roots: &[Journal], lines: &[ByLine], line: u32, partition: u32, slo
 }
 
 // There was no room.
-fn full(roots: &[Journal], lines: &[ByLine], told: Played, cache: &ThreadLists) -> bool
+fn full(roots: &[DenseJournal], lines: &[ByLine], told: Played, cache: &ThreadLists) -> bool
     requires four { length roots.now ≤ 4 }
     requires known { KnowsLine roots.now lines.now told.line }
     requires partition { NamesPartition told.op }
@@ -209,7 +216,7 @@ fn full(roots: &[Journal], lines: &[ByLine], told: Played, cache: &ThreadLists) 
 
 // Whether the list is empty, and the line's only entry found no room for a slot of this partition and class.
 fn is_class_full(
-    roots: &[Journal],
+    roots: &[DenseJournal],
     lines: &[ByLine],
     line: u32,
     bin: &Bin,
@@ -224,7 +231,7 @@ fn is_class_full(
 }
 
 // Whether the line's only entry found no room for a slot of this partition and class; for a direct map.
-fn lacks_room(roots: &[Journal], lines: &[ByLine], line: u32, bin: &Bin) -> bool
+fn lacks_room(roots: &[DenseJournal], lines: &[ByLine], line: u32, bin: &Bin) -> bool
     requires four { length roots.now ≤ 4 }
     requires known { KnowsLine roots.now lines.now line }
     ensures { IsTrue result ↔
@@ -236,7 +243,7 @@ fn lacks_room(roots: &[Journal], lines: &[ByLine], line: u32, bin: &Bin) -> bool
     }
 }
 
-fn is_map_full(roots: &[Journal], lines: &[ByLine], line: u32, partition: u32) -> bool
+fn is_map_full(roots: &[DenseJournal], lines: &[ByLine], line: u32, partition: u32) -> bool
     requires four { length roots.now ≤ 4 }
     requires known { KnowsLine roots.now lines.now line }
     ensures { IsTrue result ↔ ((asked : ℕ) × OnlyActs (journal_at roots.now) line partition (acts.Full None asked ∷ [])) }

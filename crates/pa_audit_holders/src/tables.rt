@@ -9,8 +9,8 @@ use crate::gone::{enter_gone, none_gone};
 use crate::moves::{both, direct_slots, move_slots, moves_of, thread_on};
 use crate::owners::Owner;
 use pa_audit_records::{ByKey, Salt};
+use pa_dense::{DenseEntry, DenseJournal};
 use pa_machine::OutOfMemory;
-use pa_record::{Journal, RootEntry};
 use pa_rules::Played;
 use std::alloc::Global;
 
@@ -37,7 +37,7 @@ fn play(
     records: &[Played],
     firsts: &ByKey<u32>,
     table: &mut Table,
-    entry: &RootEntry,
+    entry: &DenseEntry,
     thread: Option<u32>,
 ) -> Result<bool, OutOfMemory>
     requires known { AreOfRuns records.now }
@@ -48,14 +48,14 @@ fn play(
     ensures fits { IfOk result (λ b. (before : List Line) → KnowsJournal records.now before table.old
         → IsTrue b ↔ EntryMovesFit records.now before entry.now) }
 {
-    let direct = direct_slots(&entry.act);
-    let moves = moves_of(&entry.act, &direct);
+    let direct = direct_slots(entry.act());
+    let moves = moves_of(entry.act(), &direct);
     let stays = none_gone(&table.gone, moves.slots);
     let fit = move_slots(
         records,
         firsts,
         &mut table.owners,
-        entry.line,
+        entry.line(),
         thread,
         moves.course,
         moves.slots,
@@ -80,7 +80,7 @@ pub(crate) fn walk(
     salt: Salt,
     records: &[Played],
     firsts: &ByKey<u32>,
-    journal: &Journal,
+    journal: &DenseJournal,
 ) -> Result<Walked, OutOfMemory>
     requires entries { length journal.now < 2 ^ 32 }
     requires known { AreOfRuns records.now }
@@ -96,7 +96,7 @@ pub(crate) fn walk(
     let mut above = FIRST_LINE;
     let mut at: u32 = 0;
     for entry in journal.entries() {
-        let found = thread_on(records, entry.line, above);
+        let found = thread_on(records, entry.line(), above);
         above = found.above;
         let fits = play(records, firsts, &mut table, entry, found.thread)?;
         misfit = first_misfit(misfit, at, fits);

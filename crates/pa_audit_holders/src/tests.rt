@@ -12,6 +12,7 @@ use crate::caches_meet;
 use crate::homes::{Home, homes_of, key};
 use pa_audit_records::{ByKey, Salt};
 use pa_buckets::{Class, slot_size};
+use pa_dense::{Act, DenseEntry, DenseJournal};
 use pa_machine::{OutOfMemory, SlotName, Word};
 use pa_record::{Answer, Batch, Journal, Numbered, RootAct, RootEntry, Seen};
 use pa_rules::Played;
@@ -28,7 +29,11 @@ enum First {
     Unfit,
 }
 
-fn first_of(alloc: Global, records: &[Played], roots: &[Journal]) -> Result<First, OutOfMemory> {
+fn first_of(
+    alloc: Global,
+    records: &[Played],
+    roots: &[DenseJournal],
+) -> Result<First, OutOfMemory> {
     if records.len() >= 1000 || roots.len() > 4 || !are_short(roots) || !are_within(records) {
         return Ok(First::Unfit);
     }
@@ -66,7 +71,7 @@ fn is_within(found: Played) -> bool
 }
 
 // Whether each journal has less than 1,000 entries.
-pub(crate) fn are_short(roots: &[Journal]) -> bool
+pub(crate) fn are_short(roots: &[DenseJournal]) -> bool
     ensures { IsTrue result → (p : ℕ) → length (journal_at roots.now p) < 4294967296 }
 {
     for journal in roots {
@@ -113,26 +118,26 @@ fn are_slots_homed(homes: &ByKey<Home>, home: Home, slots: &[Numbered]) -> bool
 }
 
 // Whether the home of each slot that the entry handed out is the one that the entry gave it.
-fn is_entry_homed(homes: &ByKey<Home>, partition: u32, entry: &RootEntry) -> bool
+fn is_entry_homed(homes: &ByKey<Home>, partition: u32, entry: &DenseEntry) -> bool
     ensures { IsTrue result → (s : Name) → Contains (leaves_by entry.now.act) s
         → value_at homes.now (name_key s) ≡ Some (home_by partition entry.now.act) }
 {
-    match &entry.act {
-        RootAct::Fill { class, slots, .. } => {
+    match entry.act() {
+        Act::Fill { class, slots, .. } => {
             let home = Home {
                 partition,
                 class: Some(class.number()),
-                bytes: slot_size(*class),
+                bytes: slot_size(class),
             };
             are_slots_homed(homes, home, slots.items())
         }
-        RootAct::Map { slot, len, .. } => {
+        Act::Map { slot, len, .. } => {
             let home = Home {
                 partition,
                 class: None,
-                bytes: *len,
+                bytes: len,
             };
-            is_homed(homes, home, *slot)
+            is_homed(homes, home, slot)
         }
         _ => true,
     }
@@ -140,9 +145,9 @@ fn is_entry_homed(homes: &ByKey<Home>, partition: u32, entry: &RootEntry) -> boo
 
 fn is_journal_homed(
     homes: &ByKey<Home>,
-    roots: &[Journal],
+    roots: &[DenseJournal],
     partition: u32,
-    journal: &Journal,
+    journal: &DenseJournal,
 ) -> bool
     requires journal { journal_at roots.now partition ≡ journal.now }
     ensures { IsTrue result → AreHomedIn (journal_at roots.now) (value_at homes.now) partition }
@@ -156,7 +161,7 @@ fn is_journal_homed(
 }
 
 // Whether each slot of the journals has one home.
-pub(crate) fn are_homed(homes: &ByKey<Home>, roots: &[Journal]) -> bool
+pub(crate) fn are_homed(homes: &ByKey<Home>, roots: &[DenseJournal]) -> bool
     requires { length roots.now < 4294967296 }
     ensures { IsTrue result → (s : Name) → HasOneHome (journal_at roots.now) s }
 {
@@ -240,6 +245,14 @@ pub(crate) fn purge(line: u32) -> RootEntry {
     }
 }
 
+// The journal of these entries.
+pub(crate) fn dense_of(
+    alloc: Global,
+    entries: Vec<RootEntry>,
+) -> Result<DenseJournal, OutOfMemory> {
+    DenseJournal::of(alloc, &Journal::of(entries))
+}
+
 // Eight slots of 16 bytes, the first at this number, the second starts there.
 pub(crate) fn row(number: u64, second: u32) -> Batch {
     let mut batch = Batch::new();
@@ -256,7 +269,7 @@ pub(crate) fn row(number: u64, second: u32) -> Batch {
 
 // A slot of a fill of eight is made, freed and goes back with the others in a purge; the next allocation fills again. The
 // second slot that goes back starts at `second`; an entry more stands on line `more`.
-fn purge_roots(alloc: Global, second: u32, more: u32) -> Result<Vec<Journal>, Fail> {
+fn purge_roots(alloc: Global, second: u32, more: u32) -> Result<Vec<DenseJournal>, Fail> {
     let class = Class::of(0).ok_or("no such class")?;
     let mut entries = Vec::new(alloc);
     entries.push(fill(2, class, Some(0), row(0, 0x4010)))?;
@@ -265,7 +278,7 @@ fn purge_roots(alloc: Global, second: u32, more: u32) -> Result<Vec<Journal>, Fa
     entries.push(fill(5, class, None, row(2, 0x4010)))?;
     entries.push(purge(more))?;
     let mut roots = Vec::new(alloc);
-    roots.push(Journal::of(entries))?;
+    roots.push(dense_of(alloc, entries)?)?;
     Ok(roots)
 }
 
@@ -340,7 +353,7 @@ pub(crate) fn single(number: u64) -> Batch {
 }
 
 // A slot of class 40, of which a thread keeps none, is made and freed twice; the second time it goes back on line `back`.
-fn large_roots(alloc: Global, back: u32) -> Result<Vec<Journal>, Fail> {
+fn large_roots(alloc: Global, back: u32) -> Result<Vec<DenseJournal>, Fail> {
     let class = Class::of(40).ok_or("no such class")?;
     let mut entries = Vec::new(alloc);
     entries.push(fill(2, class, Some(0), single(0)))?;
@@ -348,7 +361,7 @@ fn large_roots(alloc: Global, back: u32) -> Result<Vec<Journal>, Fail> {
     entries.push(fill(4, class, None, single(2)))?;
     entries.push(give(back, single(4)))?;
     let mut roots = Vec::new(alloc);
-    roots.push(Journal::of(entries))?;
+    roots.push(dense_of(alloc, entries)?)?;
     Ok(roots)
 }
 

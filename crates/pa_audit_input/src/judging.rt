@@ -3,7 +3,7 @@ ghost use Rattle.pa_audit_input.specs.Judged.{IsVerdictOn, IsInputFault};
 
 use crate::parts::parts_of;
 use crate::run_part::run_behind;
-use pa_audit::audit;
+use pa_audit::audit_dense;
 use pa_rules::Verdict;
 use pa_trace::{TraceFault, read_trace};
 use std::alloc::Global;
@@ -21,7 +21,7 @@ pub fn judge(alloc: Global, bytes: &[u8]) -> Result<Verdict, TraceFault>
     let (front, back, lines) = parts_of(bytes);
     let trace = read_trace(alloc, front)?;
     let run = run_behind(alloc, front.len(), lines, back)?;
-    match audit(alloc, &trace, &run) {
+    match audit_dense(alloc, &trace, &run) {
         Ok(Verdict::Legal) => Ok(Verdict::Legal),
         Ok(Verdict::Broken(clause, line)) => Ok(Verdict::Broken(clause, lines + line)),
         Err(_) => Err(TraceFault::OutOfMemory),

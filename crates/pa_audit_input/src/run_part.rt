@@ -4,8 +4,8 @@ ghost use Rattle.pa_audit_input.specs.Input.{most_audited};
 ghost use Rattle.pa_audit_input.specs.Cutting.{IsRunPartFault};
 
 use crate::parts::last_cut;
-use pa_reader::{RunFault, read_run};
-use pa_record::Run;
+use pa_dense::DenseRun;
+use pa_reader::{RunFault, read_dense_run};
 use pa_trace::TraceFault;
 use std::alloc::Global;
 
@@ -14,7 +14,12 @@ const MOST_AUDITED: usize = 134_217_728;
 
 // The run whose text these bytes are, which stand behind so many bytes and lines. They are the rest of the input, or of what was read
 // of it, which is one byte more than it may have.
-pub fn run_behind(alloc: Global, before: usize, lines: u32, back: &[u8]) -> Result<Run, TraceFault>
+pub fn run_behind(
+    alloc: Global,
+    before: usize,
+    lines: u32,
+    back: &[u8],
+) -> Result<DenseRun, TraceFault>
     requires before { before ≤ 4194304 }
     requires lines { lines ≤ before }
     requires short { before + length back.now ≤ 134217729 }
@@ -25,7 +30,7 @@ pub fn run_behind(alloc: Global, before: usize, lines: u32, back: &[u8]) -> Resu
     if before + back.len() > MOST_AUDITED {
         return Err(past_fault(alloc, before, lines, back));
     }
-    match read_run(alloc, back) {
+    match read_dense_run(alloc, back) {
         Ok(run) => Ok(run),
         Err(RunFault::BadLine(line)) => Err(TraceFault::BadLine(lines + line)),
         Err(RunFault::OutOfMemory) => Err(TraceFault::OutOfMemory),
@@ -41,7 +46,7 @@ fn past_fault(alloc: Global, before: usize, lines: u32, back: &[u8]) -> TraceFau
 {
     let (whole, count) = last_cut(back);
     let past = TraceFault::Limit(lines + count + 1);
-    match read_run(alloc, whole) {
+    match read_dense_run(alloc, whole) {
         Ok(_) => past,
         Err(RunFault::BadLine(line)) if line <= count => TraceFault::BadLine(lines + line),
         Err(RunFault::BadLine(_)) => past,

@@ -1,6 +1,7 @@
 use crate::marks::told_mark;
+use pa_dense::{Act, DenseJournal};
 use pa_machine::SlotName;
-use pa_record::{Journal, Numbered, RootAct};
+use pa_record::Numbered;
 use pa_rules::Played;
 use std::hash::{DefaultHasher, Hasher};
 
@@ -13,14 +14,14 @@ pub struct Salt {
 
 impl Salt {
     /// The salt of a run's records and journals.
-    pub fn of(records: &[Played], roots: &[Journal]) -> Salt {
+    pub fn of(records: &[Played], roots: &[DenseJournal]) -> Salt {
         let mut state = DefaultHasher::new();
         for record in records {
             stir_record(&mut state, *record);
         }
         for journal in roots {
             for entry in journal.entries() {
-                stir_act(&mut state, &entry.act);
+                stir_act(&mut state, entry.act());
             }
         }
         let low = state.finish();
@@ -45,12 +46,12 @@ fn stir_record(state: &mut DefaultHasher, told: Played) {
 }
 
 // Stirs in the slots that an entry of this act names.
-fn stir_act(state: &mut DefaultHasher, act: &RootAct) {
+fn stir_act(state: &mut DefaultHasher, act: Act<'_>) {
     match act {
-        RootAct::Fill { slots, .. } | RootAct::Give { slots } => stir_all(state, slots.items()),
-        RootAct::Map { slot, .. } => stir(state, *slot, 0),
-        RootAct::Unmap { slot, .. } => stir(state, slot.slot, slot.number),
-        RootAct::Full { .. } | RootAct::Purge => {}
+        Act::Fill { slots, .. } | Act::Give { slots } => stir_all(state, slots.items()),
+        Act::Map { slot, .. } => stir(state, slot, 0),
+        Act::Unmap { slot, .. } => stir(state, slot.slot, slot.number),
+        Act::Full { .. } | Act::Purge => {}
     }
 }
 

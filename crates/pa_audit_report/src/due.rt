@@ -19,8 +19,9 @@ ghost use Rattle.pa_audit_report.specs.Given.{IsGiven};
 use crate::counts::{InUse, in_use_of};
 use crate::known::Known;
 use pa_audit_records::phases_in;
+use pa_dense::DenseRun;
 use pa_machine::OutOfMemory;
-use pa_record::{Census, ReportLine, Run, Tally};
+use pa_record::{Census, ReportLine, Tally};
 use pa_rules::Played;
 use pa_trace::Trace;
 use std::alloc::Global;
@@ -53,7 +54,7 @@ impl Column {
 pub(crate) fn due_report(
     alloc: Global,
     trace: &Trace,
-    run: &Run,
+    run: &DenseRun,
     records: &[Played],
     known: &Known,
 ) -> Result<Vec<ReportLine>, OutOfMemory>
@@ -78,7 +79,7 @@ pub(crate) fn due_report(
 fn column_of(
     alloc: Global,
     trace: &Trace,
-    run: &Run,
+    run: &DenseRun,
     records: &[Played],
     known: &Known,
     phases: u32,

@@ -10,8 +10,9 @@ ghost use Rattle.pa_audit_report.specs.Known.{KnowsHeap};
 
 use crate::due::due_report;
 use crate::known::Known;
+use pa_dense::DenseRun;
 use pa_machine::OutOfMemory;
-use pa_record::{ReportLine, Run};
+use pa_record::ReportLine;
 use pa_rules::Played;
 use pa_trace::Trace;
 use std::alloc::Global;
@@ -21,7 +22,7 @@ use std::alloc::Global;
 pub fn report_meets(
     alloc: Global,
     trace: &Trace,
-    run: &Run,
+    run: &DenseRun,
     records: &[Played],
     known: &Known,
 ) -> Result<Option<u32>, OutOfMemory>
@@ -35,7 +36,7 @@ pub fn report_meets(
     ensures there { IfOk result (λ at. IfSome at (λ i. i ≤ length run.now.report.items)) }
 {
     let due = due_report(alloc, trace, run, records, known)?;
-    Ok(first_other(run.report.as_slice(), due.as_slice()))
+    Ok(first_other(run.report(), due.as_slice()))
 }
 
 // The first place at which the lists differ.

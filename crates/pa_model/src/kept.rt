@@ -5,7 +5,7 @@ ghost use Rattle.pa_printed.specs.Whole.{HasLists, IsTextOfLists};
 ghost use Rattle.pa_model.specs.Begun.{AreEmpty};
 ghost use Rattle.pa_model.specs.Books.{kept_acts, with_kept_act, with_kept_entry};
 
-use crate::acts::Acts;
+use pa_dense::{DenseJournal, journals_of};
 use pa_machine::OutOfMemory;
 use pa_printed::{Journals, Records, run_text};
 use pa_record::{Entry, History, Journal, PoolEntry, ReportLine, RootEntry, Run, write_run};
@@ -17,7 +17,7 @@ use std::marker::Model;
 enum Form {
     Lists {
         entries: Vec<Entry>,
-        journals: Vec<Acts>,
+        journals: Vec<DenseJournal>,
     },
     Texts {
         records: Records,
@@ -50,7 +50,7 @@ impl Kept {
     {
         let mut journals = Vec::with_capacity(alloc, partitions as usize)?;
         for _ in 0..partitions {
-            journals.push(Acts::new(alloc))?;
+            journals.push(DenseJournal::new(alloc))?;
         }
         let form = Form::Lists {
             entries: Vec::with_capacity(alloc, lines)?,
@@ -98,14 +98,17 @@ impl Kept {
         }
     }
 
-    // The lists, where lists are kept. Want of memory is answered where an allocation failed, and nowhere else.
+    // The lists, where lists are kept.
     pub(crate) fn into_lists(self, alloc: Global) -> Result<(Vec<Entry>, Vec<Journal>), OutOfMemory>
         requires form { self.printed ≡ false }
         ensures entries { IfOk result (λ lists. lists.0.items ≡ self.entries) }
         ensures journals { IfOk result (λ lists. lists.1.items ≡ self.journals) }
     {
         match self.form {
-            Form::Lists { entries, journals } => Ok((entries, journals_of(alloc, journals)?)),
+            Form::Lists { entries, journals } => Ok((
+                entries,
+                journals_of(alloc, journals.as_slice())?,
+            )),
             Form::Texts { .. } => unreachable!(),
         }
     }
@@ -132,7 +135,11 @@ impl Kept {
 
 // An entry more of a partition's journal. Tells its place there.
 #[inline(never)]
-fn push_act(journals: &mut Vec<Acts>, partition: u32, entry: &RootEntry) -> Result<u32, OutOfMemory>
+fn push_act(
+    journals: &mut Vec<DenseJournal>,
+    partition: u32,
+    entry: &RootEntry,
+) -> Result<u32, OutOfMemory>
     requires partition { partition < length journals.old.items }
     requires few { length (slice_index_or journals.old.items partition []) < 2 ^ 32 }
     ensures place { IfOk result (λ place. place ≡ length (slice_index_or journals.old.items partition [])) }
@@ -149,7 +156,7 @@ fn push_act(journals: &mut Vec<Acts>, partition: u32, entry: &RootEntry) -> Resu
 fn write_lists(
     alloc: Global,
     entries: Vec<Entry>,
-    journals: Vec<Acts>,
+    journals: Vec<DenseJournal>,
     pool: Vec<PoolEntry>,
     cells: Vec<History>,
     report: Vec<ReportLine>,
@@ -157,7 +164,7 @@ fn write_lists(
     requires { (r : Run) → HasLists entries.items journals.items pool.items cells.items report.items r → IsPrintable r }
     ensures { IfOk result (λ text. IsTextOfLists entries.items journals.items pool.items cells.items report.items text.items) }
 {
-    let roots = journals_of(alloc, journals)?;
+    let roots = journals_of(alloc, journals.as_slice())?;
     let run = Run {
         entries,
         roots,
@@ -166,15 +173,4 @@ fn write_lists(
         report,
     };
     write_run(alloc, &run)
-}
-
-// The journals.
-fn journals_of(alloc: Global, acts: Vec<Acts>) -> Result<Vec<Journal>, OutOfMemory>
-    ensures { IfOk result (λ journals. journals.items ≡ acts.items) }
-{
-    let mut journals = Vec::with_capacity(alloc, acts.len())?;
-    for journal in acts {
-        journals.push(journal.into_journal())?;
-    }
-    Ok(journals)
 }

@@ -1,7 +1,6 @@
 //! The player on one thread: it plays a trace line by line over the plain placement, and tells the whole run.
 #![tactic(auto)]
 
-mod acts;
 mod alloc;
 mod caches;
 mod free_list;

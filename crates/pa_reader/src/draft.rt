@@ -2,8 +2,9 @@ ghost use Rattle.std.specs.Prelude.{◌≡◌, [], ◌∷◌, ◌++◌, IfOk, On
 ghost use Rattle.pa_reader.specs.Gathered.{gathered_with, HasListOf, IsUngathered, TellsGathered};
 
 use crate::Item;
+use pa_dense::{DenseJournal, DenseRun, journals_of};
 use pa_machine::OutOfMemory;
-use pa_record::{Entry, History, Journal, PoolEntry, ReportLine, RootEntry, Run};
+use pa_record::{Entry, History, PoolEntry, ReportLine, Run};
 use std::alloc::Global;
 use std::marker::Model;
 
@@ -12,52 +13,11 @@ const PARTITIONS: u32 = 4;
 
 const CELLS: u32 = 64;
 
-// What was read of one journal so far. It is seen as the list of the entries.
-#[derive(Drop)]
-pub struct Acts {
-    items: Vec<RootEntry>,
-}
-
-impl Model for Acts {
-    ghost use Rattle.std.specs.Prelude.{List};
-    ghost use Rattle.pa_record.specs.declared.root.RootEntry.{RootEntry};
-
-    ghost Value = { List RootEntry };
-
-    ghost view = { λ acts. acts.items.items };
-}
-
-impl Acts {
-    // No entries.
-    fn new(alloc: Global) -> Acts
-        ensures empty { result ≡ [] }
-    {
-        Acts {
-            items: Vec::new(alloc),
-        }
-    }
-
-    // Puts an entry behind the others.
-    fn push(&mut self, entry: RootEntry) -> Result<(), OutOfMemory>
-        ensures pushed { OnOk result (self.new ≡ self.old ++ entry ∷ []) }
-    {
-        self.items.push(entry)?;
-        Ok(())
-    }
-
-    // The journal of them.
-    fn into_journal(self) -> Journal
-        ensures journal { result ≡ self }
-    {
-        Journal::of(self.items)
-    }
-}
-
 // What was read of a run so far: a journal for each partition, a history for each cell. It is seen as its lists.
 #[derive(Drop)]
 pub struct Draft {
     entries: Vec<Entry>,
-    roots: Vec<Acts>,
+    roots: Vec<DenseJournal>,
     pool: Vec<PoolEntry>,
     cells: Vec<History>,
     report: Vec<ReportLine>,
@@ -84,7 +44,7 @@ impl Draft {
     {
         let mut roots = Vec::with_capacity(alloc, PARTITIONS as usize)?;
         for _ in 0..PARTITIONS {
-            roots.push(Acts::new(alloc))?;
+            roots.push(DenseJournal::new(alloc))?;
         }
         let mut cells = Vec::with_capacity(alloc, CELLS as usize)?;
         for _ in 0..CELLS {
@@ -110,7 +70,7 @@ impl Draft {
                 partition,
                 entry,
                 ..
-            } => self.roots[partition as usize].push(entry)?,
+            } => self.roots[partition as usize].push(&entry)?,
             Item::Pool { entry, .. } => self.pool.push(entry)?,
             Item::Cell { cell, entry, .. } => self.cells[cell as usize].push(entry)?,
             Item::Report(line) => self.report.push(line)?,
@@ -123,16 +83,19 @@ impl Draft {
     pub fn into_run(self, alloc: Global) -> Result<Run, OutOfMemory>
         ensures { IfOk result (TellsGathered self) }
     {
-        let mut roots = Vec::with_capacity(alloc, self.roots.len())?;
-        for acts in self.roots {
-            roots.push(acts.into_journal())?;
-        }
         Ok(Run {
             entries: self.entries,
-            roots,
+            roots: journals_of(alloc, self.roots.as_slice())?,
             pool: self.pool,
             cells: self.cells,
             report: self.report,
         })
+    }
+
+    // The same, with its journals kept densely.
+    pub fn into_dense(self) -> DenseRun
+        ensures { TellsGathered self result }
+    {
+        DenseRun::of(self.entries, self.roots, self.pool, self.cells, self.report)
     }
 }

@@ -24,4 +24,4 @@ pub use fault::RunFault;
 pub use item::Item;
 pub use laws::{items_in_order_are_runs, one_bad_line, one_reading, runs_are_in_order};
 pub use line::line_at;
-pub use reading::read_run;
+pub use reading::{read_dense_run, read_run};

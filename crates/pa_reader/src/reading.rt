@@ -1,14 +1,17 @@
 ghost use Rattle.std.specs.Prelude.{◌≡◌, ◌<◌, ◌-◌, ◌^◌, ◌↔◌, Some, ◌++◌, codes, length, IsTrue, IfOk, IfErr};
 ghost use Rattle.pa_record.specs.RunText.{IsRunText};
+ghost use Rattle.pa_record.specs.declared.run.Run.{Run as Told};
 ghost use Rattle.pa_reader.specs.declared.item.Item.TheVariants as items;
 ghost use Rattle.pa_reader.specs.declared.place.Place.TheVariants as places;
 ghost use Rattle.pa_reader.specs.Faults.{IsFaultFrom, IsRunFault};
+ghost use Rattle.pa_reader.specs.Gathered.{TellsGathered};
 
 use crate::RunFault;
 use crate::draft::Draft;
 use crate::field::behind;
 use crate::line::line_at;
 use crate::place::{Place, place_of, stands_behind};
+use pa_dense::DenseRun;
 use pa_record::Run;
 use std::alloc::Global;
 
@@ -21,17 +24,39 @@ pub fn read_run(alloc: Global, bytes: &[u8]) -> Result<Run, RunFault>
     ensures lists { IfOk result (λ r. (length r.roots.items ≡ 4) × (length r.cells.items ≡ 64)) }
     ensures fault { IfErr result (IsRunFault bytes.now) }
 {
+    let draft = read_draft(alloc, bytes)?;
+    Ok(draft.into_run(alloc)?)
+}
+
+/// The same run, with its journals kept densely.
+pub fn read_dense_run(alloc: Global, bytes: &[u8]) -> Result<DenseRun, RunFault>
+    requires { length bytes.now < 2 ^ 32 - 1 }
+    ensures found { IfOk result (λ r. IsRunText r bytes.now) }
+    ensures lists { IfOk result (λ r. (length r.roots.items ≡ 4) × (length r.cells.items ≡ 64)) }
+    ensures fault { IfErr result (IsRunFault bytes.now) }
+{
+    let draft = read_draft(alloc, bytes)?;
+    Ok(draft.into_dense())
+}
+
+// What a run tells whose text the bytes are.
+fn read_draft(alloc: Global, bytes: &[u8]) -> Result<Draft, RunFault>
+    requires { length bytes.now < 2 ^ 32 - 1 }
+    ensures found { IfOk result (λ d. (r : Told) → TellsGathered d r → IsRunText r bytes.now) }
+    ensures lists { IfOk result (λ d. (r : Told) → TellsGathered d r → (length r.roots.items ≡ 4) × (length r.cells.items ≡ 64)) }
+    ensures fault { IfErr result (IsRunFault bytes.now) }
+{
     let Some(rest) = behind(b"run 1\n", bytes) else {
         return Err(RunFault::BadLine(1));
     };
     read_items(alloc, rest)
 }
 
-// The run whose head was read, which is line 1.
-fn read_items(alloc: Global, bytes: &[u8]) -> Result<Run, RunFault>
+// The same where the head was read, which is line 1.
+fn read_items(alloc: Global, bytes: &[u8]) -> Result<Draft, RunFault>
     requires { length bytes.now < 2 ^ 32 - 2 }
-    ensures found { IfOk result (λ r. IsRunText r (codes "run 1\n" ++ bytes.now)) }
-    ensures lists { IfOk result (λ r. (length r.roots.items ≡ 4) × (length r.cells.items ≡ 64)) }
+    ensures found { IfOk result (λ d. (r : Told) → TellsGathered d r → IsRunText r (codes "run 1\n" ++ bytes.now)) }
+    ensures lists { IfOk result (λ d. (r : Told) → TellsGathered d r → (length r.roots.items ≡ 4) × (length r.cells.items ≡ 64)) }
     ensures fault { IfErr result (IsFaultFrom 2 (Some items.Head) bytes.now) }
 {
     let mut draft = Draft::new(alloc)?;
@@ -49,7 +74,7 @@ fn read_items(alloc: Global, bytes: &[u8]) -> Result<Run, RunFault>
         n += 1;
     }
     if is_whole(last, rest) {
-        return Ok(draft.into_run(alloc)?);
+        return Ok(draft);
     }
     Err(RunFault::BadLine(n))
 }

@@ -25,25 +25,25 @@ overflow_cast-result c =
     let k = c.in-Some-first.cell in
     let at = c.in-Some-first.at in
     let own = c.args.run.now.cells.items in
-    let tells = exchanges_of c.as_slice-cells.result.now own c.args.records.now c.in_ok-first-in-None.first (Some (k, at)) c.as_slice-cells.ensures.value c.in-Some-first.is c.in_ok-first-in-None.ensures in
+    let tells = exchanges_of c.cells-cells.result.now own c.args.records.now c.in_ok-first-in-None.first (Some (k, at)) c.cells-cells.ensures.cells c.in-Some-first.is c.in_ok-first-in-None.ensures in
     let less = exchange_short c.args.run.now c.args.records.now k at c.requires.short tells.0 in
     omega (arith, less)
 
 pub returns-in-Some : goal.returns-in-Some
 returns-in-Some c =
     let own = c.args.run.now.cells.items in
-    swap_told (history_at own) c.args.records.now c.in-Some.at (subst (λ cs. Swaps cs c.args.records.now (Some c.in-Some.at)) c.as_slice-cells.ensures.value c.in-Some.ensures)
+    swap_told (history_at own) c.args.records.now c.in-Some.at (subst (λ cs. Swaps cs c.args.records.now (Some c.in-Some.at)) c.cells-cells.ensures.cells c.in-Some.ensures)
 
 pub returns-in-Some-first : goal.returns-in-Some-first
 returns-in-Some-first c =
     let k = c.in-Some-first.cell in
     let at = c.in-Some-first.at in
     let own = c.args.run.now.cells.items in
-    exchange_told (history_at own) c.args.records.now k at (subst (λ cs. Swaps cs c.args.records.now None) c.as_slice-cells.ensures.value c.in-None.ensures)
-    (exchanges_of c.as_slice-cells.result.now own c.args.records.now c.in_ok-first-in-None.first (Some (k, at)) c.as_slice-cells.ensures.value c.in-Some-first.is c.in_ok-first-in-None.ensures)
+    exchange_told (history_at own) c.args.records.now k at (subst (λ cs. Swaps cs c.args.records.now None) c.cells-cells.ensures.cells c.in-None.ensures)
+    (exchanges_of c.cells-cells.result.now own c.args.records.now c.in_ok-first-in-None.first (Some (k, at)) c.cells-cells.ensures.cells c.in-Some-first.is c.in_ok-first-in-None.ensures)
 
 pub returns-in-None-first : goal.returns-in-None-first
 returns-in-None-first c =
     let own = c.args.run.now.cells.items in
-    exchanges_all (history_at own) c.args.records.now (subst (λ cs. Swaps cs c.args.records.now None) c.as_slice-cells.ensures.value c.in-None.ensures)
-    (exchanges_of c.as_slice-cells.result.now own c.args.records.now c.in_ok-first-in-None.first None c.as_slice-cells.ensures.value c.in-None-first.is c.in_ok-first-in-None.ensures)
+    exchanges_all (history_at own) c.args.records.now (subst (λ cs. Swaps cs c.args.records.now None) c.cells-cells.ensures.cells c.in-None.ensures)
+    (exchanges_of c.cells-cells.result.now own c.args.records.now c.in_ok-first-in-None.first None c.cells-cells.ensures.cells c.in-None-first.is c.in_ok-first-in-None.ensures)

@@ -17,7 +17,7 @@ journals_meet-requires-clause-threads c = of_threads c.args.trace.now c.args.run
 
 pub journals_meet-requires-clause-pool : goal.journals_meet-requires-clause-pool
 journals_meet-requires-clause-pool c =
-    subst (λ (es : List PoolEntry). DoAllFit c.args.trace.now.region es) (sym c.as_slice-pools.ensures.value)
+    subst (λ (es : List PoolEntry). DoAllFit c.args.trace.now.region es) (sym c.pool-pools.ensures.pool)
     (pool_fits c.args.trace.now c.args.run.now (c.requires.before clauses.Pool (omega arith)))
 
 pub returns-clause-entry : goal.returns-clause-entry
@@ -25,8 +25,8 @@ returns-clause-entry c =
     let t = c.args.trace.now in
     let ps = c.args.records.now in
     let o = c.in_ok-found.found.misfit in
-    subst (λ (es : List PoolEntry). TellsEntry (λ p j. RootsDemand t.partitions ps es (journal_at c.args.run.now.roots.items) (places.Root p j)) o) c.as_slice-pools.ensures.value
-    (subst (λ (rs : List (List RootEntry)). TellsEntry (λ p j. RootsDemand t.partitions ps c.as_slice-pools.result.now (journal_at rs) (places.Root p j)) o) c.as_slice-roots.ensures.value c.in_ok-found.ensures.misfit)
+    subst (λ (es : List PoolEntry). TellsEntry (λ p j. RootsDemand t.partitions ps es (journal_at c.args.run.now.roots.items) (places.Root p j)) o) c.pool-pools.ensures.pool
+    (subst (λ (rs : List (List RootEntry)). TellsEntry (λ p j. RootsDemand t.partitions ps c.pool-pools.result.now (journal_at rs) (places.Root p j)) o) c.roots-roots.ensures.roots c.in_ok-found.ensures.misfit)
 
 pub returns-clause-censuses : goal.returns-clause-censuses
 returns-clause-censuses c = λ none.
@@ -34,5 +34,5 @@ returns-clause-censuses c = λ none.
     let ps = c.args.records.now in
     let all = c.in_ok-found.found.censuses.items in
     subst (λ n. HaveAllCensuses t.partitions n ps c.args.run.now.pool.items (journal_at c.args.run.now.roots.items) all) (c.phases_in.ensures.phases ∙ ap phases_in c.as_slice.ensures)
-    (subst (λ (es : List PoolEntry). HaveAllCensuses t.partitions c.phases_in.result ps es (journal_at c.args.run.now.roots.items) all) c.as_slice-pools.ensures.value
-    (subst (λ (rs : List (List RootEntry)). HaveAllCensuses t.partitions c.phases_in.result ps c.as_slice-pools.result.now (journal_at rs) all) c.as_slice-roots.ensures.value (c.in_ok-found.ensures.censuses none)))
+    (subst (λ (es : List PoolEntry). HaveAllCensuses t.partitions c.phases_in.result ps es (journal_at c.args.run.now.roots.items) all) c.pool-pools.ensures.pool
+    (subst (λ (rs : List (List RootEntry)). HaveAllCensuses t.partitions c.phases_in.result ps c.pool-pools.result.now (journal_at rs) all) c.roots-roots.ensures.roots (c.in_ok-found.ensures.censuses none)))

@@ -43,7 +43,7 @@ line_where-requires-clause-there c =
     let o = c.in_ok-at.at in
     subst (λ p. IfSome p (IsThere r)) (sym c.pool_place.ensures)
     (place_there clauses.Pool t r (option_map places.Pool o) (pool_rest t r)
-    (places_of t r c.args.records.now c.as_slice-pools.result.now c.as_slice.result.now o c.requires.records c.as_slice-pools.ensures.value c.as_slice.ensures.value c.in_ok-at.ensures))
+    (places_of t r c.args.records.now c.pool-pools.result.now c.roots.result.now o c.requires.records c.pool-pools.ensures.pool c.roots.ensures.roots c.in_ok-at.ensures))
 
 pub returns : goal.returns
 returns c =
@@ -53,4 +53,4 @@ returns c =
     subst (λ p. TellsLine clauses.Pool t r p) (sym c.line_where.ensures)
     (subst (λ p. TellsLine clauses.Pool t r (option_map (line_at r) p)) (sym c.pool_place.ensures)
     (place_told clauses.Pool t r (option_map places.Pool o) (pool_rest t r)
-    (places_of t r c.args.records.now c.as_slice-pools.result.now c.as_slice.result.now o c.requires.records c.as_slice-pools.ensures.value c.as_slice.ensures.value c.in_ok-at.ensures)))
+    (places_of t r c.args.records.now c.pool-pools.result.now c.roots.result.now o c.requires.records c.pool-pools.ensures.pool c.roots.ensures.roots c.in_ok-at.ensures)))

@@ -24,14 +24,14 @@ caches_meet-requires-clause-within c =
 pub caches_meet-requires-clause-kinds : goal.caches_meet-requires-clause-kinds
 caches_meet-requires-clause-kinds c s =
     let before = c.requires.can.before in
-    subst (λ (rs : List (List RootEntry)). HasOneHome (journal_at rs) s) (sym c.as_slice-3.ensures.value)
+    subst (λ (rs : List (List RootEntry)). HasOneHome (journal_at rs) s) (sym c.roots-2.ensures.roots)
     (homes_held c.args.trace.now c.args.run.now (before clauses.Lines (omega arith)) (before clauses.Pool (omega arith)) (before clauses.Roots (omega arith)) s)
 
 pub record_line-requires : goal.record_line-requires
 record_line-requires c =
     let ps = c.args.records.now in
     let few = c.requires.can.few in
-    first_there ps 4294967294 (λ i. CachesDemand c.args.trace.now.partitions (journal_at c.as_slice-3.result.now) ps (places.Record i)) c.in_ok-found.found.misfit (omega (arith, few)) (λ i none x at. absurd (none x at)) c.in_ok-found.ensures.misfit
+    first_there ps 4294967294 (λ i. CachesDemand c.args.trace.now.partitions (journal_at c.roots-2.result.now) ps (places.Record i)) c.in_ok-found.found.misfit (omega (arith, few)) (λ i none x at. absurd (none x at)) c.in_ok-found.ensures.misfit
 
 pub returns-clause-line : goal.returns-clause-line
 returns-clause-line c =
@@ -41,7 +41,7 @@ returns-clause-line c =
     subst (λ o. TellsLine clauses.Caches t r o) (sym c.record_line.ensures)
     (line_told clauses.Caches t r at tt
     (subst (λ (ps : List Played). TellsFirst (λ i. CachesDemand t.partitions (journal_at r.roots.items) ps (places.Record i)) at) c.requires.can.records
-    (subst (λ (rs : List (List RootEntry)). TellsFirst (λ i. CachesDemand t.partitions (journal_at rs) c.args.records.now (places.Record i)) at) c.as_slice-3.ensures.value c.in_ok-found.ensures.misfit)))
+    (subst (λ (rs : List (List RootEntry)). TellsFirst (λ i. CachesDemand t.partitions (journal_at rs) c.args.records.now (places.Record i)) at) c.roots-2.ensures.roots c.in_ok-found.ensures.misfit)))
 
 -- where no line is told there was no misfit
 no_misfit : (o : Option ℕ) → option_map (λ i. 2 + i) o ≡ None → o ≡ None
@@ -55,7 +55,7 @@ returns-clause-lists c = λ none.
     let found = c.in_ok-found.found in
     let no = no_misfit c.in_ok-found.found.misfit (sym c.record_line.ensures ∙ none) in
     record {
-      homes = subst (λ (rs : List (List RootEntry)). KnowsHomes (journal_at rs) (value_at c.in_ok-known.field-0)) c.as_slice.ensures.value c.in_ok-known.ensures;
-      cached = subst (λ (rs : List (List RootEntry)). HaveCached t.partitions t.threads (journal_at rs) ps c.in_ok-found.found.cached.items) c.as_slice-3.ensures.value (c.in_ok-found.ensures.cached no);
-      listed = c.in_ok-found.ensures.many no ∙ ap length c.as_slice-2.ensures.value ∙ c.requires.ends.phases;
+      homes = subst (λ (rs : List (List RootEntry)). KnowsHomes (journal_at rs) (value_at c.in_ok-known.field-0)) c.roots.ensures.roots c.in_ok-known.ensures;
+      cached = subst (λ (rs : List (List RootEntry)). HaveCached t.partitions t.threads (journal_at rs) ps c.in_ok-found.found.cached.items) c.roots-2.ensures.roots (c.in_ok-found.ensures.cached no);
+      listed = c.in_ok-found.ensures.many no ∙ ap length c.as_slice.ensures.value ∙ c.requires.ends.phases;
     }

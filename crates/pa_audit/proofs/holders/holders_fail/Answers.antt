@@ -32,7 +32,7 @@ line_where-requires-clause-there c =
     let t = c.args.trace.now in
     let r = c.args.run.now in
     place_there clauses.Holders t r c.in_ok-place.place (holders_rest t r)
-    (places_of t r c.args.records.now c.as_slice.result.now c.in_ok-place.place c.requires.records c.as_slice.ensures.value c.in_ok-place.ensures)
+    (places_of t r c.args.records.now c.roots.result.now c.in_ok-place.place c.requires.records c.roots.ensures.roots c.in_ok-place.ensures)
 
 pub returns : goal.returns
 returns c =
@@ -40,4 +40,4 @@ returns c =
     let r = c.args.run.now in
     subst (λ o. TellsLine clauses.Holders t r o) (sym c.line_where.ensures)
     (place_told clauses.Holders t r c.in_ok-place.place (holders_rest t r)
-    (places_of t r c.args.records.now c.as_slice.result.now c.in_ok-place.place c.requires.records c.as_slice.ensures.value c.in_ok-place.ensures))
+    (places_of t r c.args.records.now c.roots.result.now c.in_ok-place.place c.requires.records c.roots.ensures.roots c.in_ok-place.ensures))

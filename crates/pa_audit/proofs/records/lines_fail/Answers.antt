@@ -16,5 +16,5 @@ returns c =
     let o = c.lines_meet.result in
     subst (λ o. TellsLine clauses.Lines t r o) (sym c.record_line.ensures)
     (line_told clauses.Lines t r o tt
-    (subst (λ (es : List Entry). TellsFirst (λ i. LinesDemand t.lines es (places.Record i)) o) c.as_slice-2.ensures.value
-    (subst (λ (ls : List Line). TellsFirst (λ i. LinesDemand ls c.as_slice-2.result.now (places.Record i)) o) c.as_slice.ensures c.lines_meet.ensures)))
+    (subst (λ (es : List Entry). TellsFirst (λ i. LinesDemand t.lines es (places.Record i)) o) c.entries.ensures.entries
+    (subst (λ (ls : List Line). TellsFirst (λ i. LinesDemand ls c.entries.result.now (places.Record i)) o) c.as_slice.ensures c.lines_meet.ensures)))

@@ -19,4 +19,4 @@ returns c =
     subst (λ o. TellsLine clauses.Registers t r o) (sym c.record_line.ensures)
     (line_told clauses.Registers t r at tt
     (subst (λ (ps : List Played). TellsFirst (λ i. RegistersDemand usable_of (history_at r.cells.items) ps (places.Record i)) at) c.requires.records
-    (subst (λ (cs : List (List CellEntry)). TellsFirst (λ i. RegistersDemand usable_of (history_at cs) c.args.records.now (places.Record i)) at) c.as_slice.ensures.value c.in_ok-at.ensures)))
+    (subst (λ (cs : List (List CellEntry)). TellsFirst (λ i. RegistersDemand usable_of (history_at cs) c.args.records.now (places.Record i)) at) c.cells.ensures.cells c.in_ok-at.ensures)))

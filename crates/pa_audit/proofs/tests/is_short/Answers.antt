@@ -1,4 +1,4 @@
-use Rattle.std.proofs.Common.{◌≡◌, ◌<◌, List, length, arith, subst}
+use Rattle.std.proofs.Common.{◌<◌, List, length, arith, subst}
 use Rattle.std.specs.Prelude.{All}
 use Rattle.pa_record.specs.declared.root.RootEntry.{RootEntry}
 use Rattle.pa_record.specs.declared.history.CellEntry.{CellEntry}

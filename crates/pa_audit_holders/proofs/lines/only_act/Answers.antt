@@ -1,6 +1,7 @@
-use Rattle.std.proofs.Common.{◌≡◌, List, [], ◌∷◌, get_or, sym, subst}
+use Rattle.std.proofs.Common.{◌≡◌, List, [], ◌∷◌, get_or, sym, ◌∙◌, ap, subst}
 use Rattle.std.proofs.lemmas.Bool.{both_ways}
 use Rattle.pa_rules.specs.Roots.{journal_at}
+use Rattle.pa_record.specs.declared.root.RootAct.{RootAct}
 use Rattle.pa_record.specs.declared.root.RootEntry.{RootEntry}
 use Rattle.pa_rules.specs.Caches.{acts_of}
 use Rattle.pa_audit_holders.proofs.Indexing.{one_there, one_was}
@@ -17,7 +18,8 @@ returns-clause-some c =
     let acts = acts_of (journal_at c.args.roots.now) c.args.line c.args.partition in
     let places = c.places_of-places.result.now in
     let e = c.index-journal_of-places.result in
-    let there = one_there (journal_at c.args.roots.now c.args.partition) places acts e c.places_of-places.ensures c.if-places-ne1.false in (
-      subst (λ (es : List RootEntry). acts ≡ (get_or es (get_or places 0 0) e).act ∷ []) (sym c.journal_of.ensures) there,
+    let there = one_there (journal_at c.args.roots.now c.args.partition) places acts e c.places_of-places.ensures c.if-places-ne1.false in
+    let is = ap (λ (z : RootEntry). z.act) (sym c.index-journal_of-places.is) ∙ sym c.act.ensures.act in (
+      subst (λ (es : List RootEntry). acts ≡ (get_or es (get_or places 0 0) e).act ∷ []) (sym c.journal_of.ensures) there ∙ ap (λ (a : RootAct). a ∷ []) is,
       c.none_but.ensures.0 c.if-not-none_but.false,
     )

@@ -25,8 +25,8 @@ input_of t r lines front back bytes parted trace run count short = record {
   short = (let long = parts_length front back bytes parted in omega (arith, long, short));
 }
 
-pub audit-requires-clause-short : goal.audit-requires-clause-short
-audit-requires-clause-short c =
+pub audit_dense-requires-clause-short : goal.audit_dense-requires-clause-short
+audit_dense-requires-clause-short c =
     let few = run_lines c.in_ok-run.run' c.parts_of-lines.result.1.now c.in_ok-run.ensures.found in
     let long = parts_length c.parts_of-lines.result.0.now c.parts_of-lines.result.1.now c.args.bytes.now c.parts_of-lines.ensures.parted in
     omega (arith, few, long, c.requires)

@@ -14,7 +14,7 @@ returns c =
     let last = c.last_cut-count.ensures.cut.0 in
     let cut = c.last_cut-count.ensures.cut.1 in
     let past = c.requires.past in
-    elim c.match-read_run.branch [
+    elim c.match-read_dense_run.branch [
       | in-Ok w ↦
           subst (IsRunPartFault lines before back) (sym w.result-is)
           (past_good lines before count back whole last w.in-Ok.field-0 cut cut.some past w.in-Ok.ensures.found)

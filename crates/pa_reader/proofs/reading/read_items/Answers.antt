@@ -28,10 +28,10 @@ loop-item-preserved c =
     rw (c.place_of-place.ensures, c.in_ok-put.ensures) next
 
 pub returns-then-is_whole-clause-found : goal.returns-then-is_whole-clause-found
-returns-then-is_whole-clause-found c =
+returns-then-is_whole-clause-found c = λ r told.
     let s = c.loop-item in
     let whole = c.if-is_whole.ensures.0 refl in
-    reads_run s.last s.n s.draft s.rest.now c.args.bytes.now c.in_ok-into_run.field-0 s.invariant (nil_from_length s.rest.now whole.0) whole.1 c.in_ok-into_run.ensures
+    reads_run s.last s.n s.draft s.rest.now c.args.bytes.now r s.invariant (nil_from_length s.rest.now whole.0) whole.1 told
 
 pub returns-clause-fault : goal.returns-clause-fault
 returns-clause-fault c =
@@ -40,6 +40,6 @@ returns-clause-fault c =
     (λ e last. false≢true (c.if-is_whole.ensures.1 (ap length e, last)))
 
 pub returns-then-is_whole-clause-lists : goal.returns-then-is_whole-clause-lists
-returns-then-is_whole-clause-lists c =
+returns-then-is_whole-clause-lists c = λ r told.
     let s = c.loop-item in
-    reads_lists s.last s.n s.draft s.rest.now c.args.bytes.now c.in_ok-into_run.field-0 s.invariant c.in_ok-into_run.ensures
+    reads_lists s.last s.n s.draft s.rest.now c.args.bytes.now r s.invariant told

@@ -19,7 +19,7 @@ loop-entry-preserved c =
       at = ap (λ n. n + 1) l.invariant.at;
       table =
           subst (λ t. AreOnLinesTo c.args.journal.now c.args.count t (l.entry-index + 1)) (sym c.in_ok-enter.ensures)
-          (lines_next c.args.journal.now c.args.count l.by_line l.entry-index l.place f.line f l.invariant.table l.invariant.at is refl);
+          (lines_next c.args.journal.now c.args.count l.by_line l.entry-index l.place c.line.result f l.invariant.table l.invariant.at is (sym c.line.ensures.line));
     }
 
 pub returns : goal.returns

@@ -31,19 +31,14 @@ loop-partition-preserved c =
     all_more c.args.thread c.loop-partition.partition c.args.self.now c.loop-partition.self c.purge_one.new.self c.loop-partition.slots c.in_ok-slots.field-0 c.loop-partition.invariant
     c.loop-partition-test.true c.in_ok-slots.ensures.slots c.in_ok-slots.ensures.purged
 
-pub returns-clause-plays : goal.returns-clause-plays
-returns-clause-plays c =
+pub returns : goal.returns
+returns c =
     let p = c.args.self.now in
     let past = c.loop-partition-test.false in
     let last = c.loop-partition.auto.partition-end in
     let end = all_end c.args.thread c.loop-partition.partition p c.loop-partition.self c.loop-partition.slots c.loop-partition.invariant (omega arith) in
-    plays_as p c.args.thread ops.Purge (purged_from c.args.thread 0 p.partitions p) c.loop-partition.self (answers.Purged (all_listed (caches p c.args.thread) 0 p.partitions))
-    (answers.Purged c.loop-partition.slots) end.0 (ap answers.Purged end.1) (purge_plays p c.args.thread)
-
-pub returns-clause-form : goal.returns-clause-form
-returns-clause-form c =
-    let p = c.args.self.now in
-    let past = c.loop-partition-test.false in
-    let last = c.loop-partition.auto.partition-end in
-    let end = all_end c.args.thread c.loop-partition.partition p c.loop-partition.self c.loop-partition.slots c.loop-partition.invariant (omega arith) in
-    same_form c.loop-partition.self (purged_from c.args.thread 0 p.partitions p) end.0 ∙ purge_form c.args.thread 0 p.partitions p
+    record {
+      plays = plays_as p c.args.thread ops.Purge (purged_from c.args.thread 0 p.partitions p) c.loop-partition.self (answers.Purged (all_listed (caches p c.args.thread) 0 p.partitions))
+          (answers.Purged c.loop-partition.slots) end.0 (ap answers.Purged end.1) (purge_plays p c.args.thread);
+      form = same_form c.loop-partition.self (purged_from c.args.thread 0 p.partitions p) end.0 ∙ purge_form c.args.thread 0 p.partitions p;
+    }

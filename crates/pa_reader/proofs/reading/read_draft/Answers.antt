@@ -1,15 +1,15 @@
 use Rattle.std.proofs.Common.{◌≡◌, List, ℕ, ◌++◌, codes, Result, Ok, Err, Some, IfErr}
-use Rattle.pa_record.specs.declared.run.Run.{Run}
+use Rattle.pa_reader.specs.Gathered.{Gathered}
 use Rattle.pa_reader.specs.declared.item.Item.TheVariants as items
 use Rattle.pa_reader.specs.declared.fault.RunFault.{RunFault}
 use Rattle.pa_reader.specs.declared.fault.RunFault.TheVariants.{BadLine, OutOfMemory}
 use Rattle.pa_reader.specs.Faults.{IsFaultFrom, IsRunFault}
 use Rattle.pa_reader.proofs.FirstBad.{no_head, head_followed}
-use Rattle.pa_reader.proofs.reading.read_run.Goals as goal
+use Rattle.pa_reader.proofs.reading.read_draft.Goals as goal
 
 -- the fault of the lines behind the head is that of all
-fault_of_all : (bytes rest : List ℕ) (r : Result Run RunFault) → bytes ≡ codes "run 1\n" ++ rest → IfErr r (IsFaultFrom 2 (Some items.Head) rest) → IfErr r (IsRunFault bytes)
-fault_of_all bytes rest (Ok run) e h = tt
+fault_of_all : (bytes rest : List ℕ) (r : Result Gathered RunFault) → bytes ≡ codes "run 1\n" ++ rest → IfErr r (IsFaultFrom 2 (Some items.Head) rest) → IfErr r (IsRunFault bytes)
+fault_of_all bytes rest (Ok draft) e h = tt
 fault_of_all bytes rest (Err (BadLine m)) e h = head_followed m bytes rest e h
 fault_of_all bytes rest (Err OutOfMemory) e h = tt
 

@@ -1,5 +1,5 @@
 use Rattle.std.proofs.Common.{◌≡◌, take}
-use Rattle.pa_model.proofs.acts.batch_of.Given as goal
+use Rattle.pa_dense.proofs.entry.batch_of.Given as goal
 
 -- the slots so far
 abbrev pub invariant-loop-slot : goal.invariant-loop-slot

@@ -1,0 +1,3 @@
+pub mod Act
+pub mod Did
+pub mod Lists

