@@ -1,7 +1,7 @@
 ghost use Rattle.std.specs.Prelude.{◌≡◌, ℕ, ◌<◌, List, ◌++◌, Option, IfSome, IfNone};
 ghost use Rattle.std.specs.Option.{option_map};
 ghost use Rattle.pa_text.specs.Hex.{hex};
-ghost use Rattle.pa_text.specs.Reading.{hex_at};
+ghost use Rattle.pa_text.specs.Reading.{hex_at, hex_value};
 
 /// The word that the sixteen digits in front write, hexadecimal and in lower case, and the bytes behind them. Nothing is
 /// read where fewer than sixteen such digits stand in front.
@@ -24,10 +24,30 @@ fn hex_at(bytes: &[u8]) -> Option<(u64, &[u8])>
     ensures digit { option_map {U = ℕ × List ℕ} (λ x. (x.0, x.1.now)) result ≡ hex_at bytes.now }
     ensures small { IfSome result (λ x. x.0 < 16) }
 {
-    match bytes {
-        [digit @ b'0'..=b'9', rest @ ..] => Some((u64::from(*digit - b'0'), rest)),
-        [digit @ b'a'..=b'f', rest @ ..] => Some((u64::from(*digit - b'a' + 10), rest)),
-        _ => None,
+    let [byte, rest @ ..] = bytes else {
+        return None;
+    };
+    Some((hex_value(*byte)?, rest))
+}
+
+// The value of a hexadecimal digit. It is chosen between two values, since a branch on the kind of each digit is often guessed
+// wrong.
+#[inline(always)]
+fn hex_value(byte: u8) -> Option<u64>
+    ensures digit { result ≡ hex_value byte }
+    ensures small { IfSome result (λ d. d < 16) }
+{
+    let decimal = byte.wrapping_sub(b'0');
+    let letter = byte.wrapping_sub(b'a');
+    let value = if decimal < 10 {
+        decimal
+    } else {
+        letter.wrapping_add(10)
+    };
+    if decimal < 10 || letter < 6 {
+        Some(u64::from(value))
+    } else {
+        None
     }
 }
 

@@ -1,4 +1,4 @@
-ghost use Rattle.std.specs.Prelude.{◌≡◌, ◌<◌, [], ◌∷◌, ◌++◌, OnOk, OnErr};
+ghost use Rattle.std.specs.Prelude.{◌≡◌, ◌+◌, ◌%◌, ◌<◌, ◌≤◌, [], ◌∷◌, ◌++◌, OnOk, OnErr};
 ghost use Rattle.std.specs.Fmt.{decimal};
 ghost use Rattle.std.specs.Io.{StartsWith};
 ghost use Rattle.pa_text.specs.Hex.{hex, slot_text};
@@ -25,26 +25,66 @@ pub fn push_byte(out: &mut Text, byte: u8) -> Result<(), OutOfMemory>
 }
 
 /// Appends the number in decimal. After want of memory none of its digits stands there.
+#[tactic(auto, using(crate::proofs::Digits::one))]
 pub fn push_number(out: &mut Text, n: u64) -> Result<(), OutOfMemory>
     ensures pushed { OnOk result (out.new ≡ out.old ++ decimal n) }
     ensures same { OnErr result (out.new ≡ out.old) }
 {
     if n < 10 {
-        return push_digit(out, n as u8);
+        return push_byte(out, digit(n as u32));
     }
+    if n < 100_000 {
+        return push_few(out, n as u32);
+    }
+    push_many(out, n)
+}
+
+// Appends a number of any length, by way of a buffer.
+#[inline(never)]
+fn push_many(out: &mut Text, n: u64) -> Result<(), OutOfMemory>
+    ensures pushed { OnOk result (out.new ≡ out.old ++ decimal n) }
+    ensures same { OnErr result (out.new ≡ out.old) }
+{
     let mut digits = itoa::Buffer::new();
     push_bytes(out, digits.format(n).as_bytes())
 }
 
-// Appends the number, which has one digit.
-#[tactic(auto, using(crate::proofs::Digits::one_digit))]
+// Appends the number, which has two to five digits, as most numbers of a run have. So few are written in place, with no copy.
+#[tactic(auto, using(crate::proofs::Digits::two, crate::proofs::Digits::three, crate::proofs::Digits::four, crate::proofs::Digits::five))]
 #[inline(always)]
-fn push_digit(out: &mut Text, n: u8) -> Result<(), OutOfMemory>
-    requires { n < 10 }
+fn push_few(out: &mut Text, n: u32) -> Result<(), OutOfMemory>
+    requires more { 10 ≤ n }
+    requires few { n < 100000 }
     ensures pushed { OnOk result (out.new ≡ out.old ++ decimal n) }
     ensures same { OnErr result (out.new ≡ out.old) }
 {
-    push_byte(out, b'0' + n)
+    if n >= 10_000 {
+        let digits = [
+            digit(n / 10_000),
+            digit(n / 1000),
+            digit(n / 100),
+            digit(n / 10),
+            digit(n),
+        ];
+        push_bytes(out, &digits)
+    } else if n >= 1000 {
+        let digits = [digit(n / 1000), digit(n / 100), digit(n / 10), digit(n)];
+        push_bytes(out, &digits)
+    } else if n >= 100 {
+        let digits = [digit(n / 100), digit(n / 10), digit(n)];
+        push_bytes(out, &digits)
+    } else {
+        let digits = [digit(n / 10), digit(n)];
+        push_bytes(out, &digits)
+    }
+}
+
+// The last digit of the number.
+#[inline(always)]
+fn digit(n: u32) -> u8
+    ensures { result ≡ 48 + n % 10 }
+{
+    b'0' + (n % 10) as u8
 }
 
 /// Appends the word as sixteen lower-case hexadecimal digits. After want of memory none of them stands there.
@@ -103,6 +143,22 @@ mod tests {
             },
         )?;
         let text = b"0 4294967295 18446744073709551615 0123456789abcdef 00004000.0 fedcba98.17";
+        assert_eq!(rt; out.as_slice(), text.as_slice());
+        Ok(())
+    }
+
+    // The least and the greatest number of each length up to six digits.
+    #[test]
+    fn numbers_of_each_length_are_spelled(rt: HostRuntime) -> Result<(), Fail> {
+        let mut out = Text::new(rt.alloc());
+        let numbers: [u64; 11] = [
+            9, 10, 99, 100, 999, 1000, 9999, 10_000, 99_999, 100_000, 999_999,
+        ];
+        for n in numbers {
+            push_number(&mut out, n)?;
+            push_byte(&mut out, b' ')?;
+        }
+        let text = b"9 10 99 100 999 1000 9999 10000 99999 100000 999999 ";
         assert_eq!(rt; out.as_slice(), text.as_slice());
         Ok(())
     }
