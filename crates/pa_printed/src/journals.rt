@@ -7,7 +7,7 @@ ghost use Rattle.pa_record.specs.Bits.{RootInBits};
 use crate::lines::Lines;
 use pa_machine::OutOfMemory;
 use pa_record::RootEntry;
-use pa_text::{Text, push_bytes};
+use pa_text::Text;
 use std::alloc::Global;
 use std::marker::Model;
 
@@ -73,7 +73,7 @@ fn push_texts(out: &mut Text, journals: &[Lines]) -> Result<(), OutOfMemory>
     ensures fits { OnOk result (AllByRecursion (AllByRecursion RootInBits) (map (λ j. j.entries) journals.now)) }
 {
     for lines in journals {
-        push_bytes(out, lines.text())?;
+        out.append(lines.text())?;
     }
     Ok(())
 }

@@ -91,6 +91,17 @@ impl Text {
         self.len += bytes.len();
         Ok(())
     }
+
+    /// The same for many bytes: they are copied into fresh room, and no spare bytes are filled.
+    pub fn append(&mut self, bytes: &[u8]) -> Result<(), OutOfMemory>
+        ensures pushed { OnOk result (self.new ≡ self.old ++ bytes.now) }
+        ensures same { OnErr result (self.new ≡ self.old) }
+    {
+        self.bytes.truncate(self.len);
+        self.bytes.extend_from_slice(bytes)?;
+        self.len = self.bytes.len();
+        Ok(())
+    }
 }
 
 // Sees to room for so many bytes behind the first `len`, which stay.
@@ -150,8 +161,10 @@ mod tests {
         text.truncate(4);
         text.push(b"")?;
         text.push(b"xy")?;
-        assert_eq!(rt; text.as_slice(), b"abcaxy".as_slice());
-        assert_eq!(rt; text.into_vec().as_slice(), b"abcaxy".as_slice());
+        text.append(b"-many-")?;
+        text.push(b"z")?;
+        assert_eq!(rt; text.as_slice(), b"abcaxy-many-z".as_slice());
+        assert_eq!(rt; text.into_vec().as_slice(), b"abcaxy-many-z".as_slice());
         Ok(())
     }
 }
