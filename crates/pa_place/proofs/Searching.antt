@@ -78,13 +78,19 @@ before_misses name u v before not_after = elim (cases_Bool (holds name u)) [
       ]
 ]
 
--- so what comes before the cut is searched
-pub held_before : (name : SlotName) (ss : List Span) (at : ℕ) (v : Span) → AllPairs IsBefore ss → IsCut name ss (at + 1) → slice_get ss at ≡ Some v → holds name v ≡ true →
-    find (holds name) ss ≡ Some v
-held_before name ss at v order cut e hit =
-    find_first (holds name) ss at v e hit
-    (λ i y less f. before_misses name y v (pairs_at IsBefore ss i at y v order less f e) (cut.before at v (omega arith) e))
+-- so a span that holds it is the one that is found
+held_not_after : (name : SlotName) (v : Span) → holds name v ≡ true → starts_after name v ≡ false
+held_not_after name v hit = elim (cases_Bool (starts_after name v)) [
+  | inl after ↦ absurd (both_ways _ (after_misses name v after) hit)
+  | inr not_after ↦ not_after
+]
 
+pub held_found : (name : SlotName) (ss : List Span) (at : ℕ) (v : Span) → AllPairs IsBefore ss → slice_get ss at ≡ Some v → holds name v ≡ true → find (holds name) ss ≡ Some v
+held_found name ss at v order e hit =
+    find_first (holds name) ss at v e hit
+    (λ i y less f. before_misses name y v (pairs_at IsBefore ss i at y v order less f e) (held_not_after name v hit))
+
+-- and without one before the cut there is none
 pub none_held : (name : SlotName) (ss : List Span) (at : ℕ) (v : Span) → AllPairs IsBefore ss → IsCut name ss (at + 1) → slice_get ss at ≡ Some v → holds name v ≡ false →
     find (holds name) ss ≡ None
 none_held name ss at v order cut e miss = find_nothing (holds name) ss (λ i y f. elim (order_of i at) [

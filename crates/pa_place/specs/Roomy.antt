@@ -1,7 +1,6 @@
 -- A root with the room that was made for what comes next.
 use Rattle.std.specs.Prelude.{◌≡◌, ℕ, ◌≤◌, true, false}
-use Rattle.pa_record.specs.Root.{Root, Filled}
-use Rattle.pa_place.specs.declared.placed.Given.{Given}
+use Rattle.pa_record.specs.Root.{Root}
 use Rattle.pa_place.specs.declared.room.Room.{Room}
 
 -- A root, and the room that there is: for so many takes of a class, for a super page that a pool gives, and for a direct map.
@@ -27,7 +26,3 @@ opened_room room = record room { super_page = false }
 pub record HasTakes (class want : ℕ) (room : Room) : Type 0 where
   pub own : room.class ≡ class
   pub many : want ≤ room.takes
-
--- the root after a take, with the slots that it gave
-abbrev pub with_given : Root → Given → Filled
-with_given after given = record { root = after; titles = given.titles.items }

@@ -3,6 +3,7 @@
 #![tactic(auto)]
 
 mod blanks;
+mod homes;
 mod lists;
 mod looks;
 mod placed;
@@ -20,7 +21,7 @@ mod takes;
 #[cfg(test)]
 mod tests;
 
-pub use placed::{Given, Made, Out, Placed};
+pub use placed::{Made, Out, Placed};
 pub use placement::Placement;
 pub use plain_root::PlainRoot;
 pub use pool_plan::PoolPlan;

@@ -41,7 +41,7 @@ impl Store {
         ensures some { IfSome result (λ t. IsOut (root_of self.now) name × IsTitleOut (root_of self.now) t × (name_of t ≡ name)) }
         ensures none { IfNone result (IsOut (root_of self.now) name → ⊥) }
     {
-        let at = index_holding(&self.spans, name)?;
+        let at = index_holding(&self.spans, &self.homes, name)?;
         self.spans[at].out(name)
     }
 

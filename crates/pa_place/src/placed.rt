@@ -9,13 +9,6 @@ pub struct Placed {
     pub titles: ArrayVec<Title, 16>,
 }
 
-/// What a take gave: the slots, in order, and the batches of slots that it made for the first time.
-#[derive(Debug, Drop, PartialEq, Eq)]
-pub struct Given {
-    pub titles: ArrayVec<Title, 16>,
-    pub made: ArrayVec<Made, 8>,
-}
-
 /// Slots of one span that were made together for the first time: `count` of them, 1 to 1,024, side by side from the first
 /// on.
 #[derive(Clone, Copy, Debug, Default, PartialEq, Eq)]

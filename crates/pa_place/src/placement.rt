@@ -1,4 +1,4 @@
-ghost use Rattle.std.specs.Prelude.{◌≡◌, ◌≢◌, true, ℕ, ◌+◌, ◌-◌, ◌%◌, ◌<◌, ◌≤◌, ◌^◌, IfOk, IfSome, IfNone, OnErr, All, AllPairs, Contains, length, map};
+ghost use Rattle.std.specs.Prelude.{◌≡◌, ◌≢◌, true, [], ℕ, ◌+◌, ◌-◌, ◌%◌, ◌<◌, ◌≤◌, ◌^◌, IfOk, IfSome, IfNone, OnErr, All, AllPairs, Contains, length, map};
 ghost use Rattle.pa_layout.specs.Pages.{super_page_at, supers_for};
 ghost use Rattle.pa_record.specs.declared.taken.Taken.{Taken};
 ghost use Rattle.pa_record.specs.Pool.{IsOneTake, gave};
@@ -75,14 +75,44 @@ impl Placement {
         ensures step { IsStep pool.old.entries pool.new.entries self.old self.new }
         ensures maps { self.new.maps ≡ self.old.maps }
     {
+        let mut titles = ArrayVec::new();
+        let asked = self.fill_into(pool, class, want, &mut titles)?;
+        Ok(Placed {
+            pool: asked,
+            titles,
+        })
+    }
+
+    /// The same, but the slots are put into `titles`, which has none. Tells the index of the pool's entry that it made, if it
+    /// asked the pool. After want of memory the placement, the pool and `titles` are unchanged.
+    #[inline(always)]
+    pub fn fill_into(
+        &mut self,
+        pool: &mut PoolPlan,
+        class: Class,
+        want: u32,
+        titles: &mut ArrayVec<Title, 16>,
+    ) -> Result<Option<u32>, OutOfMemory>
+        requires some { 1 ≤ want }
+        requires few { want ≤ 8 }
+        requires turn { self.old.turn < 2 ^ 62 }
+        requires entries { pool.old.entries < 2 ^ 32 - 1 }
+        requires born { IsBornBelow pool.old.entries self.old }
+        requires none { titles.old.items ≡ [] }
+        ensures filled { IfOk result (λ asked.
+            FillDid class want pool.old pool.new self.old self.new (record { pool = asked; titles = titles.new })) }
+        ensures empty { IfOk result (λ asked. IsEmptyIfRefused 1 pool.old (record { pool = asked; titles = titles.new })) }
+        ensures pool { OnErr result (pool.new ≡ pool.old) }
+        ensures root { OnErr result (self.new ≡ self.old) }
+        ensures titles { OnErr result (titles.new ≡ titles.old) }
+        ensures step { IsStep pool.old.entries pool.new.entries self.old self.new }
+        ensures maps { self.new.maps ≡ self.old.maps }
+    {
         self.root.is_sound();
         self.root.ready(class, want)?;
         let entry = ask(&mut self.root, pool, class);
-        let given = self.root.take(class, want);
-        Ok(Placed {
-            pool: entry,
-            titles: given.titles,
-        })
+        self.root.take(class, want, titles);
+        Ok(entry)
     }
 
     /// Makes a direct map whose slot has `slot` bytes, a multiple of 4,096, in `supers` super pages that the pool is asked

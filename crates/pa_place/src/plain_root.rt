@@ -1,4 +1,4 @@
-ghost use Rattle.std.specs.Prelude.{◌≡◌, ◌≢◌, ℕ, ◌+◌, ◌<◌, ◌≤◌, ◌^◌, true, false, IfOk, IfSome, IfNone, OnOk, All, AllPairs, Contains, is_none, length, map};
+ghost use Rattle.std.specs.Prelude.{◌≡◌, ◌≢◌, ℕ, ◌+◌, ◌<◌, ◌≤◌, ◌^◌, [], true, false, IfOk, IfSome, IfNone, OnOk, All, AllPairs, Contains, is_none, length, map};
 ghost use Rattle.pa_record.specs.Spans.{name_of};
 ghost use Rattle.pa_record.specs.Root.{new_root, span_for, opened, takes, mapped, unmapped, all_returned, purged, IsOut};
 ghost use Rattle.pa_record.specs.Census.{census};
@@ -6,10 +6,10 @@ ghost use Rattle.pa_record.specs.Sound.{IsSound, IsSettled, IsBornBelow};
 ghost use Rattle.pa_place.specs.Made.{AreMadeNow};
 ghost use Rattle.pa_place.specs.Out.{IsOutAs, IsNotOut};
 ghost use Rattle.pa_place.specs.Placed.{IsStep, map_in};
-ghost use Rattle.pa_place.specs.Roomy.{fill_room, map_room, opened_room, HasTakes, with_given};
+ghost use Rattle.pa_place.specs.Roomy.{fill_room, map_room, opened_room, HasTakes};
 
 use crate::blanks::Blanks;
-use crate::placed::{Given, Out};
+use crate::placed::{Made, Out};
 use crate::plain_span::PlainSpan;
 use crate::room::Room;
 use crate::store::Store;
@@ -108,24 +108,32 @@ impl PlainRoot {
         self.store.open(first, entry);
     }
 
-    /// Takes `want` slots of the class, 1 to 8, or as many as there are. There is room for so many takes. It takes no memory.
+    /// Takes `want` slots of the class, 1 to 8, or as many as there are, and puts them into `titles`, which has none. Tells
+    /// the batches of slots that were made for the first time. There is room for so many takes. It takes no memory.
     #[inline(always)]
-    pub fn take(&mut self, class: Class, want: u32) -> Given
+    pub fn take(
+        &mut self,
+        class: Class,
+        want: u32,
+        titles: &mut ArrayVec<Title, 16>,
+    ) -> ArrayVec<Made, 8>
         requires some { 1 ≤ want }
         requires few { want ≤ 8 }
         requires room { HasTakes class want self.old.room }
         requires turn { self.old.root.turn < 2 ^ 62 }
-        ensures took { takes class want self.old.root ≡ with_given self.new.root result }
-        ensures made { AreMadeNow class self.old.root self.new.root result.made.items }
+        requires none { titles.old.items ≡ [] }
+        ensures took { takes class want self.old.root ≡ record { root = self.new.root; titles = titles.new.items } }
+        ensures made { AreMadeNow class self.old.root self.new.root result.items }
         ensures step { (n : ℕ) → IsStep n n self.old.root self.new.root }
         ensures maps { self.new.root.maps ≡ self.old.root.maps }
     {
         let mut blanks = mem::replace(&mut self.spare, Vec::new(self.alloc));
         let mut made = ArrayVec::new();
-        let titles = self.store.takes(class, want, &mut blanks, &mut made);
+        self.store
+            .takes(class, want, &mut blanks, &mut made, titles);
         self.blanks.put(class, blanks);
         self.room = Room::none();
-        Given { titles, made }
+        made
     }
 
     /// Makes room for a direct map: after it `map` wants no memory. The root is unchanged, also after want of memory.

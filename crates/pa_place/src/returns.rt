@@ -68,7 +68,7 @@ impl Store {
         ensures filed { IsFiled self.new }
         ensures many { vec_len self.new.spans ≡ vec_len self.old.spans }
     {
-        if let Some(at) = index_holding(&self.spans, name) {
+        if let Some(at) = index_holding(&self.spans, &self.homes, name) {
             let span = &mut self.spans[at];
             span.put_back(name);
             let state = span.state_back();

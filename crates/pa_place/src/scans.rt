@@ -3,12 +3,29 @@ ghost use Rattle.pa_record.specs.Spans.{Span, holds, is_of, latest, listed, late
 ghost use Rattle.pa_place.specs.Order.{IsBefore, IsCut};
 ghost use Rattle.pa_place.specs.Scans.{span_at};
 
+use crate::homes::Homes;
 use crate::plain_span::PlainSpan;
 use pa_buckets::{Class, State};
 use pa_machine::SlotName;
 
-// Where the span stands in which the slot of that name lies. The spans are in order.
-pub(crate) fn index_holding(spans: &[PlainSpan], name: SlotName) -> Option<usize>
+// Where the span stands in which the slot of that name lies. The spans are in order. They are searched only where the span
+// isn't the one that was last made over the slot's page.
+#[inline]
+pub(crate) fn index_holding(spans: &[PlainSpan], homes: &Homes, name: SlotName) -> Option<usize>
+    requires order { AllPairs IsBefore spans.now }
+    ensures holding { span_at spans.now result ≡ find (holds name) spans.now }
+    ensures within { IfSome result (λ at. at < length spans.now) }
+{
+    let home = homes.guess(name.start);
+    if home < spans.len() && spans[home].holds(name) {
+        Some(home)
+    } else {
+        search(spans, name)
+    }
+}
+
+// The same, by a binary search.
+fn search(spans: &[PlainSpan], name: SlotName) -> Option<usize>
     requires order { AllPairs IsBefore spans.now }
     ensures holding { span_at spans.now result ≡ find (holds name) spans.now }
     ensures within { IfSome result (λ at. at < length spans.now) }

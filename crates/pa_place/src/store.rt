@@ -5,6 +5,7 @@ ghost use Rattle.pa_record.specs.Spans.{name_of};
 ghost use Rattle.pa_place.specs.Placed.{map_in};
 ghost use Rattle.pa_place.specs.Store.{root_of, IsReady, HasRoomFor, HasSuperRoom, HasMapRoom, IsFiled};
 
+use crate::homes::Homes;
 use crate::lists::Lists;
 use crate::plain_span::PlainSpan;
 use pa_buckets::Class;
@@ -17,7 +18,8 @@ use std::alloc::Global;
 const MOST_MEMBERS: usize = 2_147_483_647;
 
 // The root of a partition as lists: the super pages that fills took, of which the last is the current one; the next free
-// partition page of the current one; the next turn; the direct maps; and the spans in the order in which they were made.
+// partition page of the current one; the next turn; the direct maps; and the spans in the order in which they were made,
+// with their lists by states, and a guess for each partition page which span lies over it.
 #[derive(Drop)]
 pub(crate) struct Store {
     pub(crate) supers: Vec<SuperPage>,
@@ -26,6 +28,7 @@ pub(crate) struct Store {
     pub(crate) maps: Vec<Title>,
     pub(crate) spans: Vec<PlainSpan>,
     pub(crate) lists: Lists,
+    pub(crate) homes: Homes,
 }
 
 impl Store {
@@ -36,6 +39,7 @@ impl Store {
     {
         let supers = Vec::with_capacity(alloc, 1)?;
         let lists = Lists::new(alloc)?;
+        let homes = Homes::new(alloc)?;
         Ok(Store {
             supers,
             page: 0,
@@ -43,6 +47,7 @@ impl Store {
             maps: Vec::new(alloc),
             spans: Vec::new(alloc),
             lists,
+            homes,
         })
     }
 

@@ -25,7 +25,7 @@ const LAST_PAGE: u32 = 127;
 
 impl Store {
     // Takes until so many slots are taken or a take finds none. As many blank spans lie ready, and there is room for them.
-    // Tells the batches of slots that were made.
+    // Puts the slots into `titles` and the batches of slots that were made into `made`, which have none.
     #[inline(always)]
     pub(crate) fn takes(
         &mut self,
@@ -33,8 +33,10 @@ impl Store {
         want: u32,
         blanks: &mut Vec<PlainSpan>,
         made: &mut ArrayVec<Made, 8>,
-    ) -> ArrayVec<Title, 16>
+        titles: &mut ArrayVec<Title, 16>,
+    )
         requires none { made.old.items ≡ [] }
+        requires no_titles { titles.old.items ≡ [] }
         requires real { class < 59 }
         requires few { want ≤ 8 }
         requires ready { IsReady (root_of self.old) }
@@ -44,21 +46,19 @@ impl Store {
         requires blanks { HasBlanks class want blanks.old.items }
         requires room { vec_len self.old.spans + want ≤ vec_capacity self.old.spans }
         requires lists { HasRoomToList class (vec_len self.old.spans + want) self.old.lists }
-        ensures filled { takes class want (root_of self.old) ≡ record { root = root_of self.new; titles = result.items } }
+        ensures filled { takes class want (root_of self.old) ≡ record { root = root_of self.new; titles = titles.new.items } }
         ensures cut { made.new.items ≡ takes_cut class want (root_of self.old) }
         ensures many { vec_len self.new.spans ≤ vec_len self.old.spans + want }
         ensures blanks { HasBlanks class 0 blanks.new.items }
         ensures ordered { IsOrdered (root_of self.new) }
         ensures filed { IsFiled self.new }
     {
-        let mut titles = ArrayVec::new();
         for _taken in 0..want {
             match self.take(class, blanks, made) {
                 Some(title) => titles.push(title),
                 None => break,
             }
         }
-        titles
     }
 
     // One take of a slot of the class that may not ask the pool. Some blank spans of the class lie ready, and there is room
@@ -146,9 +146,11 @@ impl Store {
         ensures many { vec_len self.new.spans ≡ vec_len self.old.spans + 1 }
         ensures room { vec_capacity self.new.spans ≡ vec_capacity self.old.spans }
     {
-        let span = span.at(page_start(at.number, self.page), at.born);
-        self.page += span_of(class).pages;
-        self.spans.push_reserved(span);
+        let start = page_start(at.number, self.page);
+        let pages = span_of(class).pages;
+        self.homes.mark(start, pages, self.spans.len());
+        self.page += pages;
+        self.spans.push_reserved(span.at(start, at.born));
     }
 
     // Takes a slot from the span there, which has one that isn't out. Tells the batch of slots that it made, if it made

@@ -3,6 +3,7 @@ ghost use Rattle.pa_place.specs.Tests.{IsYoung, HasOnlyMaps};
 
 use crate::placement::ask;
 use crate::{Out, Placement, PlainRoot, PoolPlan};
+use arrayvec::ArrayVec;
 use pa_buckets::Class;
 use pa_machine::SlotName;
 use pa_record::{Census, Tally};
@@ -311,13 +312,46 @@ fn take(
     let class = Class::of(class).ok_or("no such class")?;
     root.ready(class, want)?;
     ask(root, pool, class);
-    let given = root.take(class, want);
-    assert_eq!(rt; given.titles.as_slice().len(), want as usize);
-    assert_eq!(rt; given.made.as_slice().len(), made.len());
-    for (batch, told) in given.made.as_slice().iter().zip(made) {
+    let mut titles = ArrayVec::new();
+    let batches = root.take(class, want, &mut titles);
+    assert_eq!(rt; titles.as_slice().len(), want as usize);
+    assert_eq!(rt; batches.as_slice().len(), made.len());
+    for (batch, told) in batches.as_slice().iter().zip(made) {
         assert_eq!(rt; batch.first.start, told.0);
         assert_eq!(rt; batch.count, told.1);
     }
+    Ok(())
+}
+
+// The slots of a span are found by each of its pages. None is found under the name of another super page's slot.
+#[test]
+fn slots_by_their_pages(rt: HostRuntime) -> Result<(), Fail> {
+    let mut pool = PoolPlan::new(rt.alloc(), 1)?;
+    let mut placement = Placement::new(rt.alloc())?;
+    let first = Expected {
+        pool: Some(0),
+        starts: &[16384],
+    };
+    fill(&rt, &mut placement, &mut pool, 0, 0, 1, first)?;
+    let second = Expected {
+        pool: None,
+        starts: &[32768, 43008, 53248, 63488, 73728, 83968],
+    };
+    fill(&rt, &mut placement, &mut pool, 1, 32, 6, second)?;
+    let later = SlotName {
+        start: 53248,
+        born: 1,
+    };
+    assert!(rt; placement.out(later) == None);
+    let behind = SlotName {
+        start: 2150400,
+        born: 0,
+    };
+    assert!(rt; placement.out(behind) == None);
+    give(&rt, &mut placement, 2, 83968)?;
+    give(&rt, &mut placement, 3, 53248)?;
+    give(&rt, &mut placement, 4, 16384)?;
+    assert!(rt; placement.census() == census(258, 24576, 65536, [0, 1, 1, 0]));
     Ok(())
 }
 

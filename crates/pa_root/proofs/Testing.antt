@@ -1,6 +1,6 @@
 -- What the tests' calls leave: slots and direct maps that can come back.
 use Rattle.std.proofs.Common.{◌≡◌, ℕ, ◌<◌, List, [], ◌∷◌, ◌++◌, Option, Some, None, map, refl, sym, ◌∙◌, ap, subst, arith}
-use Rattle.std.specs.Prelude.{Contains, ◌↔◌}
+use Rattle.std.specs.Prelude.{Contains}
 use Rattle.std.proofs.lemmas.List.Elements.{Contains-append_left, Contains-append_right}
 use Rattle.pa_machine.specs.declared.title.Title.{Title}
 use Rattle.pa_machine.specs.Holdings.{RawByte}
@@ -8,7 +8,6 @@ use Rattle.pa_region.specs.declared.marks.Mark.{Mark}
 use Rattle.pa_region.specs.declared.marks.Mark.TheVariants.{Stake, Keeper}
 use Rattle.pa_region.specs.declared.view.Made.{Made}
 use Rattle.pa_region.specs.declared.view.View.{View}
-use Rattle.pa_region.specs.Views.{free_of}
 use Rattle.pa_region.specs.Lists.{list_of, IsBeginning}
 use Rattle.pa_region.specs.Hands.{given_after}
 use Rattle.pa_region.specs.Marks.{parcel_of}

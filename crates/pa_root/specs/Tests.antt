@@ -1,5 +1,5 @@
 -- What the tests keep.
-use Rattle.std.specs.Prelude.{◌≡◌, ◌≢◌, ℕ, ◌*◌, ◌≤◌, List, [], ◌∷◌, length, AllPairs, Contains}
+use Rattle.std.specs.Prelude.{◌≢◌, ℕ, ◌*◌, ◌≤◌, List, [], ◌∷◌, length, AllPairs, Contains}
 use Rattle.pa_machine.specs.declared.title.Title.{Title}
 use Rattle.pa_region.specs.declared.view.View.{View}
 use Rattle.pa_record.specs.Root.{Root}

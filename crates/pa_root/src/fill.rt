@@ -168,13 +168,14 @@ fn take_out(
         IsTakenOut p class asked s own.old.view own.new.view result.0.view result.1.items result.2 placement.new.root }
 {
     placement.is_sound();
-    let given = placement.take(class, want);
+    let mut titles = ArrayVec::new();
+    let made = placement.take(class, want, &mut titles);
     placement.is_sound();
-    cut_rows(region, own, given.made.as_slice());
+    cut_rows(region, own, made.as_slice());
     own.aware();
-    let slots = numbers_seen(region, own, given.titles.as_slice());
-    let items = free_items(given.titles.as_slice());
-    let note = region.hand(own, &items[..given.titles.len()], 0, &[]);
+    let slots = numbers_seen(region, own, titles.as_slice());
+    let items = free_items(titles.as_slice());
+    let note = region.hand(own, &items[..titles.len()], 0, &[]);
     own.aware();
-    (note, given.titles, slots)
+    (note, titles, slots)
 }

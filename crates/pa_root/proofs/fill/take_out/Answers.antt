@@ -15,15 +15,15 @@ use Rattle.pa_root.specs.Steps.{titles_in_rows}
 use Rattle.pa_root.proofs.FillSteps.{HasTaken, can_rows, gives, all_free, taken_out}
 use Rattle.pa_root.proofs.fill.take_out.Goals as goal
 
-pub take-given-requires-clause-some : goal.take-given-requires-clause-some
-take-given-requires-clause-some c =
+pub take-made-requires-clause-some : goal.take-made-requires-clause-some
+take-made-requires-clause-some c =
     let real : c.args.class < 59 = search rules in
     let some = (IsRow-of c.args.class real).some_fill in
     let want = c.requires.want in
     omega arith
 
-pub take-given-requires-clause-few : goal.take-given-requires-clause-few
-take-given-requires-clause-few c =
+pub take-made-requires-clause-few : goal.take-made-requires-clause-few
+take-made-requires-clause-few c =
     let real : c.args.class < 59 = search rules in
     let few = (IsRow-of c.args.class real).few_fill in
     let want = c.requires.want in
@@ -34,16 +34,16 @@ cut_rows-requires-clause-able c =
     let (p, asked, s, ready, is) = c.requires.ready in
     let class = c.args.class in
     let u = c.args.own.now.view in
-    let r = c.args.placement.now.root in let after = c.take-given.new.self.root in
-    let rows = c.take-given.result.made.items in let titles = c.take-given.result.titles.items in
-    let took : takes class (fill_of class) r ≡ record { root = after; titles = titles } = ap (λ n. takes class n r) (sym c.requires.want) ∙ c.take-given.ensures.took in
+    let r = c.args.placement.now.root in let after = c.take-made.new.self.root in
+    let rows = c.take-made.result.items in let titles = c.take-made.new.titles.items in
+    let took : takes class (fill_of class) r ≡ record { root = after; titles = titles } = ap (λ n. takes class n r) (sym c.requires.want) ∙ c.take-made.ensures.took in
     let has : HasTaken p class asked s u r after rows titles = record {
       ready = ready;
       is_ready = is;
       sound = c.is_sound.ensures.sound;
       now_sound = c.is_sound-2.ensures.sound;
       took = took;
-      made = c.take-given.ensures.made;
+      made = c.take-made.ensures.made;
     } in
     subst (λ bs. CanCutAll (titles_in_rows bs) u) (sym c.as_slice.ensures.value) (can_rows p class asked s u r after rows titles has)
 
@@ -52,16 +52,16 @@ numbers_seen-slots-requires-clause-free c =
     let (p, asked, s, ready, is) = c.requires.ready in
     let class = c.args.class in
     let u = c.args.own.now.view in let v = c.cut_rows.new.seat.view in
-    let r = c.args.placement.now.root in let after = c.take-given.new.self.root in
-    let rows = c.take-given.result.made.items in let titles = c.take-given.result.titles.items in
-    let took : takes class (fill_of class) r ≡ record { root = after; titles = titles } = ap (λ n. takes class n r) (sym c.requires.want) ∙ c.take-given.ensures.took in
+    let r = c.args.placement.now.root in let after = c.take-made.new.self.root in
+    let rows = c.take-made.result.items in let titles = c.take-made.new.titles.items in
+    let took : takes class (fill_of class) r ≡ record { root = after; titles = titles } = ap (λ n. takes class n r) (sym c.requires.want) ∙ c.take-made.ensures.took in
     let has : HasTaken p class asked s u r after rows titles = record {
       ready = ready;
       is_ready = is;
       sound = c.is_sound.ensures.sound;
       now_sound = c.is_sound-2.ensures.sound;
       took = took;
-      made = c.take-given.ensures.made;
+      made = c.take-made.ensures.made;
     } in
     let cut : v ≡ after_cuts (titles_in_rows rows) u = subst (λ bs. v ≡ after_cuts (titles_in_rows bs) u) c.as_slice.ensures.value c.cut_rows.ensures.view in
     let new : NoneSeen v (titles_in_rows rows) = subst (λ bs. NoneSeen v (titles_in_rows bs)) c.as_slice.ensures.value c.cut_rows.ensures.new in
@@ -73,16 +73,16 @@ hand-note-requires-clause-able c =
     let (p, asked, s, ready, is) = c.requires.ready in
     let class = c.args.class in
     let u = c.args.own.now.view in let v = c.cut_rows.new.seat.view in
-    let r = c.args.placement.now.root in let after = c.take-given.new.self.root in
-    let rows = c.take-given.result.made.items in let titles = c.take-given.result.titles.items in
-    let took : takes class (fill_of class) r ≡ record { root = after; titles = titles } = ap (λ n. takes class n r) (sym c.requires.want) ∙ c.take-given.ensures.took in
+    let r = c.args.placement.now.root in let after = c.take-made.new.self.root in
+    let rows = c.take-made.result.items in let titles = c.take-made.new.titles.items in
+    let took : takes class (fill_of class) r ≡ record { root = after; titles = titles } = ap (λ n. takes class n r) (sym c.requires.want) ∙ c.take-made.ensures.took in
     let has : HasTaken p class asked s u r after rows titles = record {
       ready = ready;
       is_ready = is;
       sound = c.is_sound.ensures.sound;
       now_sound = c.is_sound-2.ensures.sound;
       took = took;
-      made = c.take-given.ensures.made;
+      made = c.take-made.ensures.made;
     } in
     let cut : v ≡ after_cuts (titles_in_rows rows) u = subst (λ bs. v ≡ after_cuts (titles_in_rows bs) u) c.as_slice.ensures.value c.cut_rows.ensures.view in
     let new : NoneSeen v (titles_in_rows rows) = subst (λ bs. NoneSeen v (titles_in_rows bs)) c.as_slice.ensures.value c.cut_rows.ensures.new in
@@ -97,16 +97,16 @@ pub returns-clause-out : goal.returns-clause-out
 returns-clause-out c p asked s ready is =
     let class = c.args.class in
     let u = c.args.own.now.view in let v = c.cut_rows.new.seat.view in
-    let r = c.args.placement.now.root in let after = c.take-given.new.self.root in
-    let rows = c.take-given.result.made.items in let titles = c.take-given.result.titles.items in
-    let took : takes class (fill_of class) r ≡ record { root = after; titles = titles } = ap (λ n. takes class n r) (sym c.requires.want) ∙ c.take-given.ensures.took in
+    let r = c.args.placement.now.root in let after = c.take-made.new.self.root in
+    let rows = c.take-made.result.items in let titles = c.take-made.new.titles.items in
+    let took : takes class (fill_of class) r ≡ record { root = after; titles = titles } = ap (λ n. takes class n r) (sym c.requires.want) ∙ c.take-made.ensures.took in
     let has : HasTaken p class asked s u r after rows titles = record {
       ready = ready;
       is_ready = is;
       sound = c.is_sound.ensures.sound;
       now_sound = c.is_sound-2.ensures.sound;
       took = took;
-      made = c.take-given.ensures.made;
+      made = c.take-made.ensures.made;
     } in
     let cut : v ≡ after_cuts (titles_in_rows rows) u = subst (λ bs. v ≡ after_cuts (titles_in_rows bs) u) c.as_slice.ensures.value c.cut_rows.ensures.view in
     let new : NoneSeen v (titles_in_rows rows) = subst (λ bs. NoneSeen v (titles_in_rows bs)) c.as_slice.ensures.value c.cut_rows.ensures.new in
@@ -121,4 +121,4 @@ returns-clause-out c p asked s ready is =
     taken_out p class asked s u r after rows titles has v cut c.aware.ensures.aware new c.hand-note.new.seat.view c.hand-note.result.view c.numbers_seen-slots.result left given slots
 
 pub returns-clause-turn : goal.returns-clause-turn
-returns-clause-turn c = (c.take-given.ensures.step 0).turn
+returns-clause-turn c = (c.take-made.ensures.step 0).turn

@@ -1,4 +1,4 @@
-use Rattle.std.proofs.Common.{rules, ◌<◌, arith}
+use Rattle.std.proofs.Common.{arith}
 use Rattle.pa_buckets.proofs.Facts.{IsRow-of}
 use Rattle.pa_root.proofs.plain_tests.fill.Goals as goal
 

@@ -1,0 +1,56 @@
+ghost use Rattle.std.specs.Prelude.{◌<◌};
+
+use pa_layout::{PARTITION_PAGE, SUPER_PAGE};
+use pa_machine::OutOfMemory;
+use std::alloc::Global;
+
+// The partition pages of the region: it has 64 super pages at most.
+const PAGES: usize = (64 * (SUPER_PAGE / PARTITION_PAGE)) as usize;
+
+// For each partition page of the region the place of the span that was last made over it, or 0. Nothing is known of it: it
+// is a guess that saves a search, and who uses it looks whether the span there is the one.
+#[derive(Drop)]
+pub(crate) struct Homes {
+    places: Vec<u32>,
+}
+
+impl Homes {
+    // No page is marked.
+    pub(crate) fn new(alloc: Global) -> Result<Homes, OutOfMemory> {
+        Ok(Homes {
+            places: Vec::from_elem(alloc, 0, PAGES)?,
+        })
+    }
+
+    // Marks so many pages, from the one at that byte on, with the place of a span.
+    pub(crate) fn mark(&mut self, start: u32, pages: u32, at: usize) {
+        let Ok(place) = u32::try_from(at) else {
+            return;
+        };
+        let first = page_at(start);
+        for page in first..first + pages as usize {
+            if page < self.places.len() {
+                self.places[page] = place;
+            }
+        }
+    }
+
+    // The place with which the page of that byte is marked, or 0.
+    #[inline]
+    pub(crate) fn guess(&self, start: u32) -> usize {
+        let page = page_at(start);
+        if page < self.places.len() {
+            self.places[page] as usize
+        } else {
+            0
+        }
+    }
+}
+
+// The partition page of a byte, counted through the whole region.
+#[inline]
+fn page_at(start: u32) -> usize
+    ensures { result < 262144 }
+{
+    (start / PARTITION_PAGE) as usize
+}
