@@ -1,21 +1,23 @@
 -- What calls of the placement leave is what an allocation changes.
 use Rattle.std.proofs.Common.{◌≡◌, ℕ, ◌⊎◌, inl, inr, List, [], ◌∷◌, Option, Some, None, sym, ap, ◌∙◌, subst}
-use Rattle.std.specs.Prelude.{slice_get}
+use Rattle.std.specs.Prelude.{length, slice_get, slice_index_or, slice_set}
 use Rattle.pa_machine.specs.declared.title.Title.{Title}
+use Rattle.pa_buckets.specs.Bands.{fill_of}
 use Rattle.pa_record.specs.declared.pool.PoolAct.TheVariants as pool
-use Rattle.pa_record.specs.declared.root.RootAct.TheVariants.{Map}
+use Rattle.pa_record.specs.declared.root.RootAct.TheVariants.{Full, Map}
 use Rattle.pa_record.specs.Pool.{PoolState}
-use Rattle.pa_record.specs.Root.{Root, Filled}
+use Rattle.pa_record.specs.Root.{Root, Filled, new_root}
 use Rattle.pa_record.specs.Spans.{name_of}
 use Rattle.pa_place.specs.declared.placed.Placed.{Placed}
-use Rattle.pa_place.specs.Placed.{MapDid, Maps, with_slots}
+use Rattle.pa_place.specs.Placed.{FillDid, MapDid, Maps, with_slots}
 use Rattle.pa_deeds.specs.Ops.{found_by}
 use Rattle.pa_model.specs.declared.player.Player.{Player}
 use Rattle.pa_model.specs.declared.table.Slot.{Slot}
-use Rattle.pa_model.specs.Calls.{IsMapTaken}
-use Rattle.pa_model.specs.Changes.{IsMapPlaced, acted, asked_in, placed_in, pooled}
+use Rattle.pa_model.specs.Calls.{IsFillTold, IsMapTaken}
+use Rattle.pa_model.specs.Changes.{ArePut, IsFilled, IsMapPlaced, IsUnfilled, acted, asked_in, placed_in, pooled}
 use Rattle.pa_model.specs.Playing.{root_of}
 use Rattle.pa_model.specs.Tables.{IsHome, new_slot}
+use Rattle.pa_model.specs.Told.{Lists, journal_in, with_act}
 
 -- a direct map has one slot or none
 maps_one : (len : ℕ) (before next : PoolState) (r : Root) (filled : Filled) (o : Option ℕ) → Maps len before next r filled o → (filled.titles ≡ []) ⊎ ((t : Title) × (filled.titles ≡ t ∷ []))
@@ -49,6 +51,48 @@ map_placed q len supers asked place p taken r placed title ts table h first asks
       some = one;
       home = subst (λ (z : List Slot). IsHome z table (new_slot title q None) place) (ap (λ (z : Player). z.table) e) home;
       acted = is ∙ ap (λ (z : Player). record (acted q (Map asked (name_of title) title.len ∷ []) z) { table = table }) e;
+    }
+
+-- A list was filled, where the slots that the root gave were put into it and that was told.
+pub filled_told : (q at class want : ℕ) (p told r : Player) (plan : PoolState) (roots : List Root) (placed : Placed) → want ≡ fill_of class
+    → FillDid class want p.heap.pool plan (root_of p q) (slice_index_or roots q new_root) placed → roots ≡ slice_set p.heap.roots q (slice_index_or roots q new_root)
+    → told ≡ asked_in q 1 placed.titles.items placed.pool (record p { heap = record { pool = plan; roots = roots } })
+    → (placed.titles.items ≡ [] → ⊥) → IsFillTold q at class placed.pool placed.titles.items told r → IsFilled q at class p r
+filled_told q at class want p told r plan roots placed many did others asked some h =
+    let after = slice_index_or roots q new_root in
+    let e : told ≡ asked_in q 1 placed.titles.items placed.pool (placed_in q after plan p) =
+    asked ∙ ap (λ (z : List Root). asked_in q 1 placed.titles.items placed.pool (record p { heap = record { pool = plan; roots = z } })) others in record {
+      plan = plan;
+      after = after;
+      placed = placed;
+      put = h.put;
+      slots = h.slots;
+      did = subst (λ (z : ℕ). FillDid class z p.heap.pool plan (root_of p q) after placed) many did;
+      some = some;
+      puts = subst (λ (z : Player). ArePut q at class placed.titles.items z h.put h.slots) e h.puts;
+      acted = h.acted;
+    }
+
+-- There was no room for a slot, where the root gave none and that was told.
+pub unfilled_told : (q class want asked entry : ℕ) (p told : Player) (after : Lists) (plan : PoolState) (roots : List Root) (placed : Placed) → want ≡ fill_of class
+    → FillDid class want p.heap.pool plan (root_of p q) (slice_index_or roots q new_root) placed → roots ≡ slice_set p.heap.roots q (slice_index_or roots q new_root)
+    → told ≡ asked_in q 1 placed.titles.items placed.pool (record p { heap = record { pool = plan; roots = roots } })
+    → placed.titles.items ≡ [] → placed.pool ≡ Some asked → entry ≡ length (journal_in told.told q)
+    → after ≡ with_act q (record { line = told.told.line; act = Full (Some class) asked }) told.told → IsUnfilled q class p (record told { told = after }) entry
+unfilled_told q class want asked entry p told after plan roots placed many did others tells none asks place is =
+    let root = slice_index_or roots q new_root in
+    let e : told ≡ pooled q (pool.Take 1 None) (placed_in q root plan p) =
+    tells ∙ ap (λ (z : List Root). asked_in q 1 placed.titles.items placed.pool (record p { heap = record { pool = plan; roots = z } })) others
+    ∙ ap (λ (z : List Title). asked_in q 1 z placed.pool (placed_in q root plan p)) none ∙ ap (λ (z : Option ℕ). asked_in q 1 [] z (placed_in q root plan p)) asks in record {
+      plan = plan;
+      after = root;
+      placed = placed;
+      asked = asked;
+      did = subst (λ (z : ℕ). FillDid class z p.heap.pool plan (root_of p q) root placed) many did;
+      asks = asks;
+      none = none;
+      acted = ap (λ (z : Lists). record told { told = z }) is ∙ ap (λ (z : Player). acted q (Full (Some class) asked ∷ []) z) e;
+      told = place ∙ ap (λ (z : Player). length (journal_in z.told q)) e;
     }
 
 -- the first of some titles

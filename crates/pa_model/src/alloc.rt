@@ -15,6 +15,7 @@ ghost use Rattle.pa_model.specs.Told.{KeepsForm, journal_in};
 use crate::handle::Handle;
 use crate::player::Player;
 use crate::table::{fits, name_of};
+use arrayvec::ArrayVec;
 use pa_buckets::{Class, class_of, fill_count, raw_of};
 use pa_direct::{GREATEST_SIZE, Shape, shape};
 use pa_layout::super_page_of;
@@ -135,18 +136,18 @@ impl Player {
         ensures some { IfOk result (λ o. IfNone o (list_in self.new at ≢ [])) }
     {
         let want = fill_count(class);
-        let placed = self
+        let mut titles = ArrayVec::new();
+        let asked = self
             .heap
             .roots
-            .fill(partition, &mut self.heap.pool, class, want)?;
-        self.tell_asked(partition, 1, &placed)?;
-        let titles = placed.titles.as_slice();
+            .fill(partition, &mut self.heap.pool, class, want, &mut titles)?;
+        self.tell_asked(partition, 1, asked, titles.as_slice())?;
         if titles.is_empty() {
-            let pool = placed.pool.unwrap();
+            let pool = asked.unwrap();
             let entry = self.told.refused(partition, Some(class), pool)?;
             return Ok(Some(entry));
         }
-        self.tell_fill(at, partition, class, placed.pool, titles)?;
+        self.tell_fill(at, partition, class, asked, titles.as_slice())?;
         Ok(None)
     }
 
@@ -185,13 +186,19 @@ impl Player {
     }
 
     // Tells the pool's entry, if it was asked for so many super pages.
-    fn tell_asked(&mut self, partition: u32, count: u32, placed: &Placed) -> Result<(), OutOfMemory>
-        ensures { OnOk result (self.new ≡ asked_in partition count placed.now.titles.items placed.now.pool self.old) }
+    fn tell_asked(
+        &mut self,
+        partition: u32,
+        count: u32,
+        pool: Option<u32>,
+        titles: &[Title],
+    ) -> Result<(), OutOfMemory>
+        ensures { OnOk result (self.new ≡ asked_in partition count titles.now pool self.old) }
     {
-        match placed.pool {
+        match pool {
             None => Ok(()),
             Some(_) => {
-                let first = first_super(placed.titles.as_slice());
+                let first = first_super(titles);
                 self.told.pool(partition, PoolAct::Take { count, first })
             }
         }
@@ -268,7 +275,7 @@ impl Player {
             .heap
             .roots
             .map(partition, &mut self.heap.pool, shape.slot, count)?;
-        self.tell_asked(partition, count, &placed)?;
+        self.tell_asked(partition, count, placed.pool, placed.titles.as_slice())?;
         Ok(placed)
     }
 

@@ -1,4 +1,4 @@
-ghost use Rattle.std.specs.Prelude.{◌≡◌, ◌<◌, ◌≤◌, ◌-◌, ◌%◌, ◌^◌, ◌≢◌, IfOk, All, AllPairs, Contains, map, length};
+ghost use Rattle.std.specs.Prelude.{◌≡◌, ◌<◌, ◌≤◌, ◌-◌, ◌%◌, ◌^◌, ◌≢◌, [], IfOk, All, AllPairs, Contains, map, length};
 ghost use Rattle.std.specs.Prelude.{slice_index_or, slice_set};
 ghost use Rattle.pa_layout.specs.Pages.{super_page_at, supers_for};
 ghost use Rattle.pa_record.specs.declared.taken.Taken.{Taken};
@@ -10,6 +10,7 @@ ghost use Rattle.pa_record.specs.Sound.{IsBornBelow};
 ghost use Rattle.pa_place.specs.Placed.{FillDid, IsEmptyIfRefused, MapDid};
 ghost use Rattle.pa_model.specs.Begun.{AreNew};
 
+use arrayvec::ArrayVec;
 use pa_buckets::Class;
 use pa_machine::{OutOfMemory, Title};
 use pa_place::{Placed, Placement, PoolPlan};
@@ -52,7 +53,8 @@ impl Roots {
         self.of[partition as usize].census()
     }
 
-    // Fills from the root of a partition: `want` slots of the class, or as many as there are.
+    // Fills from the root of a partition: `want` slots of the class, or as many as there are, into the list, which must
+    // have none. Tells the pool's entry, if the pool was asked.
     #[inline(always)]
     pub(crate) fn fill(
         &mut self,
@@ -60,19 +62,22 @@ impl Roots {
         pool: &mut PoolPlan,
         class: Class,
         want: u32,
-    ) -> Result<Placed, OutOfMemory>
+        titles: &mut ArrayVec<Title, 16>,
+    ) -> Result<Option<u32>, OutOfMemory>
         requires among { partition < length self.old }
         requires some { 1 ≤ want }
         requires few { want ≤ 8 }
         requires turn { (slice_index_or self.old partition new_root).turn < 2 ^ 62 }
         requires entries { pool.old.entries < 2 ^ 32 - 1 }
         requires born { IsBornBelow pool.old.entries (slice_index_or self.old partition new_root) }
-        ensures filled { IfOk result (FillDid class want pool.old pool.new
-            (slice_index_or self.old partition new_root) (slice_index_or self.new partition new_root)) }
-        ensures empty { IfOk result (IsEmptyIfRefused 1 pool.old) }
+        requires no_titles { titles.old.items ≡ [] }
+        ensures filled { IfOk result (λ asked. FillDid class want pool.old pool.new
+            (slice_index_or self.old partition new_root) (slice_index_or self.new partition new_root)
+            (record { pool = asked; titles = titles.new })) }
+        ensures empty { IfOk result (λ asked. IsEmptyIfRefused 1 pool.old (record { pool = asked; titles = titles.new })) }
         ensures others { self.new ≡ slice_set self.old partition (slice_index_or self.new partition new_root) }
     {
-        self.of[partition as usize].fill(pool, class, want)
+        self.of[partition as usize].fill_into(pool, class, want, titles)
     }
 
     // Makes a direct map of a partition.
