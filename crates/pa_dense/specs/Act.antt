@@ -1,11 +1,13 @@
--- What a borrowed act is.
+-- What an act is.
+use Rattle.std.specs.Prelude.{List}
+use Rattle.pa_record.specs.declared.numbered.Numbered.{Numbered}
 use Rattle.pa_record.specs.declared.root.RootAct.{RootAct}
 use Rattle.pa_record.specs.declared.root.RootAct.TheVariants as acts
-use Rattle.pa_dense.specs.declared.act.Act.{Act}
-use Rattle.pa_dense.specs.declared.act.Act.TheVariants.{Fill, Map, Full, Give, Unmap, Purge}
+use Rattle.pa_dense.specs.declared.act.ActWith.{ActWith}
+use Rattle.pa_dense.specs.declared.act.ActWith.TheVariants.{Fill, Map, Full, Give, Unmap, Purge}
 
 -- the act, with its slots as a list
-abbrev pub act_of : Act → RootAct
+abbrev pub act_of : ActWith (List Numbered) → RootAct
 act_of (Fill class pool slots) = acts.Fill class pool slots
 act_of (Map pool slot len) = acts.Map pool slot len
 act_of (Full class pool) = acts.Full class pool

@@ -1,3 +1,2 @@
 pub mod Act
-pub mod Did
 pub mod Lists

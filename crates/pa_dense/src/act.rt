@@ -40,14 +40,14 @@ impl<'a> Slots<'a> {
     }
 }
 
-/// What a root did for one op, with its slots where they are kept. `act_of` is the act that it is.
+/// What a root did for one op, with its slots as `S` keeps them. `act_of` is the act that it is.
 #[derive(Drop)]
-pub enum Act<'a> {
+pub enum ActWith<S> {
     /// Slots of a class went out to a thread's cache, each at its number.
     Fill {
         class: Class,
         pool: Option<u32>,
-        slots: Slots<'a>,
+        slots: S,
     },
     /// A direct map was made, whose slot has `len` bytes.
     Map {
@@ -62,7 +62,7 @@ pub enum Act<'a> {
     },
     /// Slots came back from a thread's cache, each at its number.
     Give {
-        slots: Slots<'a>,
+        slots: S,
     },
     /// A direct map came back.
     Unmap {
@@ -72,3 +72,6 @@ pub enum Act<'a> {
     /// Every empty span was decommitted.
     Purge,
 }
+
+/// What a root did, with its slots lent.
+pub type Act<'a> = ActWith<Slots<'a>>;

@@ -1,47 +1,18 @@
 ghost use Rattle.std.specs.Prelude.{◌≡◌, ◌≤◌, IfOk, length};
 ghost use Rattle.pa_dense.specs.Act.{act_of};
-ghost use Rattle.pa_dense.specs.Did.{IsShort, did_act};
 
-use crate::act::{Act, Slots};
-use pa_buckets::Class;
-use pa_machine::{OutOfMemory, SlotName};
+use crate::act::{Act, ActWith};
+use crate::kept::Kept;
+use pa_machine::OutOfMemory;
 use pa_record::{Batch, Numbered, RootAct, RootEntry};
-use smallvec::SmallVec;
 use std::alloc::Global;
 use std::marker::Model;
-
-// What a root did. One slot takes no memory beside the entry.
-#[derive(Drop)]
-pub(crate) enum Did {
-    Fill {
-        class: Class,
-        pool: Option<u32>,
-        slots: SmallVec<Numbered, 1>,
-    },
-    Map {
-        pool: u32,
-        slot: SlotName,
-        len: u32,
-    },
-    Full {
-        class: Option<Class>,
-        pool: u32,
-    },
-    Give {
-        slots: SmallVec<Numbered, 1>,
-    },
-    Unmap {
-        pool: u32,
-        slot: Numbered,
-    },
-    Purge,
-}
 
 /// An entry of a root's journal that takes no more memory than its slots need. It is seen as that entry.
 #[derive(Drop)]
 pub struct DenseEntry {
     line: u32,
-    did: Did,
+    did: ActWith<Kept>,
 }
 
 impl Model for DenseEntry {
@@ -49,16 +20,14 @@ impl Model for DenseEntry {
 
     ghost Value = { RootEntry };
 
-    ghost use Rattle.pa_dense.specs.Did.{IsShort, did_act};
+    ghost use Rattle.pa_dense.specs.Act.{act_of};
 
-    ghost view = { λ e. record { line = e.line; act = did_act e.did } };
-
-    ghost invariant = { λ e. IsShort e.did };
+    ghost view = { λ e. record { line = e.line; act = act_of e.did } };
 }
 
 impl DenseEntry {
-    /// The entry, kept densely.
-    pub fn of(alloc: Global, entry: &RootEntry) -> Result<DenseEntry, OutOfMemory>
+    // The entry, kept densely.
+    pub(crate) fn of(alloc: Global, entry: &RootEntry) -> Result<DenseEntry, OutOfMemory>
         ensures entry { IfOk result (λ dense. dense ≡ entry.now) }
     {
         Ok(DenseEntry {
@@ -74,13 +43,13 @@ impl DenseEntry {
         self.line
     }
 
-    /// The entry as `RootEntry` has it.
-    pub fn to_entry(&self) -> RootEntry
+    // The entry as `RootEntry` has it.
+    pub(crate) fn to_entry(&self) -> RootEntry
         ensures entry { result ≡ self.now }
     {
         RootEntry {
             line: self.line,
-            act: act_of_did(&self.did),
+            act: root_act_of(self.act()),
         }
     }
 
@@ -89,91 +58,79 @@ impl DenseEntry {
         ensures act { act_of result ≡ self.now.act }
     {
         match &self.did {
-            Did::Fill { class, pool, slots } => Act::Fill {
+            ActWith::Fill { class, pool, slots } => Act::Fill {
                 class: *class,
                 pool: *pool,
-                slots: Slots::of(slots.as_slice()),
+                slots: slots.lent(),
             },
-            Did::Map { pool, slot, len } => Act::Map {
+            ActWith::Map { pool, slot, len } => Act::Map {
                 pool: *pool,
                 slot: *slot,
                 len: *len,
             },
-            Did::Full { class, pool } => Act::Full {
+            ActWith::Full { class, pool } => Act::Full {
                 class: *class,
                 pool: *pool,
             },
-            Did::Give { slots } => Act::Give {
-                slots: Slots::of(slots.as_slice()),
+            ActWith::Give { slots } => Act::Give {
+                slots: slots.lent(),
             },
-            Did::Unmap { pool, slot } => Act::Unmap {
+            ActWith::Unmap { pool, slot } => Act::Unmap {
                 pool: *pool,
                 slot: *slot,
             },
-            Did::Purge => Act::Purge,
+            ActWith::Purge => Act::Purge,
         }
     }
 }
 
 // What the act did, with its slots in a list of their own.
-fn did_of(alloc: Global, act: &RootAct) -> Result<Did, OutOfMemory>
-    ensures act { IfOk result (λ did. did_act did ≡ act.now) }
-    ensures short { IfOk result IsShort }
+fn did_of(alloc: Global, act: &RootAct) -> Result<ActWith<Kept>, OutOfMemory>
+    ensures act { IfOk result (λ did. act_of did ≡ act.now) }
 {
     match act {
-        RootAct::Fill { class, pool, slots } => Ok(Did::Fill {
+        RootAct::Fill { class, pool, slots } => Ok(ActWith::Fill {
             class: *class,
             pool: *pool,
-            slots: SmallVec::from_slice(alloc, slots.items())?,
+            slots: Kept::of(alloc, slots.items())?,
         }),
-        RootAct::Map { pool, slot, len } => Ok(Did::Map {
+        RootAct::Map { pool, slot, len } => Ok(ActWith::Map {
             pool: *pool,
             slot: *slot,
             len: *len,
         }),
-        RootAct::Full { class, pool } => Ok(Did::Full {
+        RootAct::Full { class, pool } => Ok(ActWith::Full {
             class: *class,
             pool: *pool,
         }),
-        RootAct::Give { slots } => Ok(Did::Give {
-            slots: SmallVec::from_slice(alloc, slots.items())?,
+        RootAct::Give { slots } => Ok(ActWith::Give {
+            slots: Kept::of(alloc, slots.items())?,
         }),
-        RootAct::Unmap { pool, slot } => Ok(Did::Unmap {
+        RootAct::Unmap { pool, slot } => Ok(ActWith::Unmap {
             pool: *pool,
             slot: *slot,
         }),
-        RootAct::Purge => Ok(Did::Purge),
+        RootAct::Purge => Ok(ActWith::Purge),
     }
 }
 
 // The act, with its slots in a batch.
-fn act_of_did(did: &Did) -> RootAct
-    requires short { IsShort did.now }
-    ensures act { result ≡ did_act did.now }
+fn root_act_of(act: Act<'_>) -> RootAct
+    ensures act { result ≡ act_of act.entry }
 {
-    match did {
-        Did::Fill { class, pool, slots } => RootAct::Fill {
-            class: *class,
-            pool: *pool,
-            slots: batch_of(slots.as_slice()),
+    match act {
+        Act::Fill { class, pool, slots } => RootAct::Fill {
+            class,
+            pool,
+            slots: batch_of(slots.items()),
         },
-        Did::Map { pool, slot, len } => RootAct::Map {
-            pool: *pool,
-            slot: *slot,
-            len: *len,
+        Act::Map { pool, slot, len } => RootAct::Map { pool, slot, len },
+        Act::Full { class, pool } => RootAct::Full { class, pool },
+        Act::Give { slots } => RootAct::Give {
+            slots: batch_of(slots.items()),
         },
-        Did::Full { class, pool } => RootAct::Full {
-            class: *class,
-            pool: *pool,
-        },
-        Did::Give { slots } => RootAct::Give {
-            slots: batch_of(slots.as_slice()),
-        },
-        Did::Unmap { pool, slot } => RootAct::Unmap {
-            pool: *pool,
-            slot: *slot,
-        },
-        Did::Purge => RootAct::Purge,
+        Act::Unmap { pool, slot } => RootAct::Unmap { pool, slot },
+        Act::Purge => RootAct::Purge,
     }
 }
 

@@ -62,8 +62,8 @@ impl DenseJournal {
         self.items.as_slice()
     }
 
-    /// The journal with each entry as `RootEntry` has it.
-    pub fn to_journal(&self, alloc: Global) -> Result<Journal, OutOfMemory>
+    // The journal with each entry as `RootEntry` has it.
+    pub(crate) fn to_journal(&self, alloc: Global) -> Result<Journal, OutOfMemory>
         ensures journal { IfOk result (λ journal. journal ≡ self.now) }
     {
         let mut entries = Vec::with_capacity(alloc, self.items.len())?;

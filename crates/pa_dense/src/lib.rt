@@ -4,9 +4,10 @@
 mod act;
 mod entry;
 mod journal;
+mod kept;
 mod run;
 
-pub use act::{Act, Slots};
+pub use act::{Act, ActWith, Slots};
 pub use entry::DenseEntry;
 pub use journal::{DenseJournal, journals_of};
 pub use run::DenseRun;
