@@ -1,4 +1,5 @@
-use Rattle.std.proofs.Common.{◌≡◌, ◌≤◌, ℕ, ◌+◌, ◌<◌, List, [], length, take, refl, sym, ◌∙◌, ap, subst}
+-- Runs that have the same lists have the same verdict.
+use Rattle.std.proofs.Common.{◌≡◌, ℕ, ◌+◌, ◌<◌, List, [], length, take, refl, sym, ◌∙◌, ap, subst}
 use Rattle.std.specs.Prelude.{slice_index_or, sum_by}
 use Rattle.pa_trace.specs.declared.script.Trace.{Trace}
 use Rattle.pa_record.specs.declared.entry.Entry.{Entry}
@@ -7,8 +8,6 @@ use Rattle.pa_record.specs.declared.pool.PoolEntry.{PoolEntry}
 use Rattle.pa_record.specs.declared.history.CellEntry.{CellEntry}
 use Rattle.pa_record.specs.declared.report.ReportLine.{ReportLine}
 use Rattle.pa_record.specs.declared.run.Run.{Run}
-use Rattle.std.specs.List.{AllByRecursion}
-use Rattle.pa_record.specs.RunText.{IsPrintable, NamesSlots}
 use Rattle.pa_rules.specs.declared.verdict.Clause.{Clause}
 use Rattle.pa_rules.specs.declared.verdict.Verdict.{Verdict}
 use Rattle.pa_rules.specs.declared.verdict.Verdict.TheVariants.{Legal, Broken}
@@ -24,7 +23,7 @@ use Rattle.pa_dense.specs.Lists.{HasListsOf}
 abbrev told_of : List Entry → List (List RootEntry) → List PoolEntry → List (List CellEntry) → List ReportLine → Told
 told_of es rs ps cs ls = record { entries = es; roots = λ p. slice_index_or rs p []; pools = ps; cells = λ k. slice_index_or cs k []; report = ls }
 
-pub same_told : (a b : Run) → HasListsOf a b → told_by b ≡ told_by a
+same_told : (a b : Run) → HasListsOf a b → told_by b ≡ told_by a
 same_told a b same =
     ap (λ es. told_of es b.roots.items b.pool.items b.cells.items b.report.items) same.entries
     ∙ ap (λ rs. told_of a.entries.items rs b.pool.items b.cells.items b.report.items) same.roots
@@ -47,7 +46,7 @@ lines_of r (places.Pool j) = refl
 lines_of r (places.Cell k j) = refl
 lines_of r (places.Report i) = refl
 
-pub same_line : (a b : Run) → HasListsOf a b → (place : Place) → line_at b place ≡ line_at a place
+same_line : (a b : Run) → HasListsOf a b → (place : Place) → line_at b place ≡ line_at a place
 same_line a b same place =
     lines_of b place
     ∙ ap (λ es. line_of es b.roots.items b.pool.items b.cells.items b.report.items place) same.entries
@@ -71,10 +70,3 @@ same_fails a b t c n same fails = record {
 pub same_verdict : (a b : Run) (t : Trace) (v : Verdict) → HasListsOf a b → IsVerdict v t b → IsVerdict v t a
 same_verdict a b t Legal same legal = subst (IsLegalTold t) (same_told a b same) legal
 same_verdict a b t (Broken c n) same is = (λ d less. same_holds a b t d same (is.0 d less), same_fails a b t c n same is.1)
-
-pub same_printable : (a b : Run) → HasListsOf a b → IsPrintable a → IsPrintable b
-same_printable a b same form = record {
-  roots = subst (λ rs. length rs ≤ 4) (sym same.roots) form.roots;
-  cells = subst (λ cs. length cs ≤ 64) (sym same.cells) form.cells;
-  slots = subst (λ rs. AllByRecursion (AllByRecursion (λ e. NamesSlots e.act)) rs) (sym same.roots) form.slots;
-}
