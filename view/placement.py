@@ -120,8 +120,11 @@ class Root:
         return span
 
     def put_back(self, slot):
+        """The slot of this name goes back. The spans that changed."""
+        return self.give(*self.homes[slot])
+
+    def give(self, span, number):
         """A slot goes back to the front of its span's list. The spans that changed."""
-        span, number = self.homes[slot]
         span.free.append(number)
         span.allocated -= 1
         if span.allocated == 0:
