@@ -1,0 +1,149 @@
+"""A heap of one partition as a program fills it: the placement of `view/placement.py`, with a cache for each thread. The region has
+as many super pages as are asked for."""
+
+from bisect import bisect_left
+from collections import defaultdict
+
+from figures import DIRECT, new_rows
+from placement import PARTITION_PAGE, SIZES, SUPER_PAGE, SYSTEM_PAGE, Pool, Root
+
+ALLOCATE, FREE, RESIZE = range(3)
+COUNT_WORD = 8
+GREATEST = 33_521_656
+
+
+def size_class(size):
+    """The class of a request, or `DIRECT`."""
+    return bisect_left(SIZES, max(size, 1) + COUNT_WORD)
+
+
+def slot_size(size):
+    """The bytes of the slot or direct map that a request gets."""
+    number = size_class(size)
+    return SIZES[number] if number < DIRECT else -(-(size + COUNT_WORD) // SYSTEM_PAGE) * SYSTEM_PAGE
+
+
+def cache_limit(number):
+    """The slots of this class that a thread keeps at most."""
+    return (64, 32, 16, 0)[(number > 7) + (number > 19) + (number > 39)]
+
+
+def fill_count(number):
+    """The slots of this class that a thread asks for at once."""
+    return max(cache_limit(number) // 8, 1)
+
+
+class Heap:
+    """What stands after the events so far: `rows` by class, the caches by thread and class with their fronts last, and of each live
+    object its class, where it is, the size that was asked for, and the bytes of its slot."""
+
+    def __init__(self):
+        self.root, self.pool = Root([]), Pool(0)
+        self.caches, self.live, self.seen = defaultdict(list), {}, {}
+        self.rows = new_rows()
+        self.committed = self.reserved = self.most = self.most_at = self.events = 0
+        self.asked = self.most_asked = 0
+
+    def step(self, act, thread, made, size):
+        """One event of a program."""
+        if act == ALLOCATE:
+            self.allocate(thread, made, size)
+        elif act == FREE:
+            self.free(thread, made)
+        elif act == RESIZE:
+            self.resize(made, size)
+        self.most_asked = max(self.most_asked, self.asked)
+        if self.committed > self.most:
+            self.most, self.most_at = self.committed, self.events
+        self.events += 1
+
+    def allocate(self, thread, made, size):
+        number = size_class(size)
+        if number == DIRECT:
+            place = self.map(size)
+        else:
+            cache = self.caches[thread, number]
+            if not cache:
+                self.fill(number, cache)
+            place = cache.pop()
+            self.rows[number].cached -= SIZES[number]
+        self.live[made] = number, place, size, slot_size(size)
+        self.rows[number].allocate(size, slot_size(size))
+        self.asked += size
+
+    def free(self, thread, made):
+        number, place, size, length = self.live.pop(made)
+        self.rows[number].free(size, length)
+        self.asked -= size
+        if number == DIRECT:
+            self.unmap(place, length)
+        else:
+            self.to_cache(number, self.caches[thread, number], place)
+
+    def resize(self, made, size):
+        """A realloc that keeps its slot."""
+        number, place, old, length = self.live[made]
+        self.live[made] = number, place, size, length
+        self.rows[number].asked += size - old
+        self.asked += size - old
+
+    def take_super_pages(self, count):
+        """The lowest run of free super pages, in a region that grows where there is none."""
+        while (first := self.pool.lowest(count)) is None:
+            self.pool.taken.append(None)
+        self.pool.taken[first : first + count] = [self] * count
+        self.reserved += SUPER_PAGE * count
+        return first
+
+    def map(self, size):
+        length = slot_size(size)
+        count = -(-(length + 2 * PARTITION_PAGE) // SUPER_PAGE)
+        self.commit(DIRECT, length)
+        return self.take_super_pages(count), count
+
+    def unmap(self, place, length):
+        first, count = place
+        self.pool.taken[first : first + count] = [None] * count
+        self.reserved -= SUPER_PAGE * count
+        self.commit(DIRECT, -length)
+
+    def fill(self, number, cache):
+        if self.root.asks(number):
+            self.root.open(self.take_super_pages(1), 0)
+        taken = []
+        while not taken or (len(taken) < fill_count(number) and not self.root.asks(number)):
+            taken.append(self.root.take(number))
+            self.note(taken[-1][0])
+        cache.extend(reversed(taken))
+        self.rows[number].cached += SIZES[number] * len(taken)
+
+    def to_cache(self, number, cache, place):
+        """A slot to the front of a list. Past the limit all but the first half of the limit go back, from the front on."""
+        cache.append(place)
+        self.rows[number].cached += SIZES[number]
+        if len(cache) > cache_limit(number):
+            over = len(cache) - cache_limit(number) // 2
+            self.rows[number].cached -= SIZES[number] * over
+            for span, slot in reversed(cache[:over]):
+                for changed in self.root.give(span, slot):
+                    self.note(changed)
+            del cache[:over]
+
+    def note(self, span):
+        """What a span has committed may have changed."""
+        if span.committed != self.seen.get(span, 0):
+            self.commit(span.size_class, SYSTEM_PAGE * (span.committed - self.seen.get(span, 0)))
+            self.seen[span] = span.committed
+
+    def commit(self, number, more):
+        self.rows[number].committed += more
+        self.committed += more
+
+    def places(self):
+        """The four pairs of slots and bytes, and the spans by state, as a report has them."""
+        spans = self.root.all_spans
+        live = len(self.live), sum(row.slots for row in self.rows)
+        cached = sum(map(len, self.caches.values())), sum(row.cached for row in self.rows)
+        left = [(span.made - span.allocated, span.size) for span in spans]
+        states = [sum(span.state == state for span in spans) for state in (4, 1, 2, 3)]
+        return live, (0, 0), cached, (sum(n for n, _ in left), sum(n * size for n, size in left)), states
