@@ -1,0 +1,100 @@
+"""The trace of a program: which objects it keeps, its text, and one line of what it keeps and loses."""
+
+from heap import ALLOCATE, FREE, RESIZE, Heap
+from keep import HASH, Room, by_classes, by_hash
+from logs import BadLog
+from script import COPY, MOST_LIVE, RESET, THREADS, Script, renumbered, with_refs
+
+MOST_LINES, MOST_BYTES, MOST_SUPER_PAGES = 65_536, 4_194_304, 16
+PICTURE = 70
+
+
+class TooMuch(Exception):
+    """A trace passes a limit: by which measure, and how."""
+
+    def __init__(self, measure, what, number, room):
+        super().__init__(f"too many {what}: {number}, room for {room}")
+        self.measure = measure
+
+
+def fit(measure, what, number, room):
+    if number > room:
+        raise TooMuch(measure, what, number, room)
+
+
+def most_live(events):
+    """The most objects and assumed raw_ptrs that there are at once."""
+    live = most = 0
+    for act, *_ in events:
+        live += {ALLOCATE: 1, COPY: 1, FREE: -1, RESET: -1}.get(act, 0)
+        most = max(most, live)
+    return most
+
+
+def filled(events):
+    """The heap behind these events. An object to which a raw_ptr points goes back when this is reset."""
+    heap, pointed, waiting = Heap(), {}, set()
+    for act, thread, made, size in events:
+        if act == COPY:
+            pointed[made] = size
+            waiting.add(size)
+        elif act == RESET:
+            heap.step(FREE, thread, pointed.pop(made), 0)
+        elif act == FREE and made in waiting:
+            heap.step(RESIZE, thread, made, 0)
+        else:
+            heap.step(act, thread, made, size)
+    return heap
+
+
+def made_of(program, kept, how, refs):
+    """The trace of these objects, and the line about it."""
+    events = renumbered(program.events if kept is None else [event for event in program.events if event[2] in kept])
+    if not events:
+        raise BadLog("no objects fit")
+    events = list(with_refs(events, *refs)) if refs else events
+    fit("live", "live objects", most_live(events), MOST_LIVE)
+    fit("events", "events", len(events), MOST_LINES)
+    heap, script = filled(events), Script(events).play()
+    text = script.text(max(len(heap.pool.taken), 1))
+    fit("size", "super pages", len(heap.pool.taken), MOST_SUPER_PAGES)
+    fit("events", "lines", len(script.lines) + 1, MOST_LINES)
+    fit("events", "bytes", len(text), MOST_BYTES)
+    told = f"{about(program, kept, heap, script, len(text))}; {how}{assumed(events, refs)}"
+    whole = how != HASH and share(program, heap) >= PICTURE
+    return text, told if whole else f"{told}; no picture of the program's fragmentation"
+
+
+def about(program, kept, heap, script, size):
+    """What the trace keeps of the program, and what it cost."""
+    objects, count = len(program.sizes), len(program.sizes if kept is None else kept)
+    told = f"objects {objects} kept {count} ({100 * count / objects:.2f} of 100); greatest asked bytes {program.most_asked}"
+    told += f" kept {heap.most_asked} ({share(program, heap):.1f} of 100); threads {len(program.threads)}"
+    told += f", which share {THREADS}" if len(program.threads) > THREADS else ""
+    return f"{told}; {program.lost()}; lines {len(script.lines) + 1} bytes {size} boundaries {script.boundaries} moves {script.moves}"
+
+
+def share(program, heap):
+    return 100 * heap.most_asked / program.most_asked
+
+
+def assumed(events, refs):
+    copies = sum(act == COPY for act, *_ in events)
+    return f"; raw_ptrs {copies}, assumed: one at every free number {refs[0]}, for {refs[1]} events" if refs else ""
+
+
+def chosen(program, policy, refs):
+    """The trace by this policy; without one all objects where they fit, else whole classes."""
+    if policy in (None, "all"):
+        try:
+            return made_of(program, None, "all objects", refs)
+        except TooMuch:
+            if policy:
+                raise
+    room, choose = Room(MOST_LIVE, 60_000, 24 << 20), by_hash if policy == "hash" else by_classes
+    while True:
+        kept, how = choose(program, room)
+        try:
+            return made_of(program, kept, how, refs)
+        except TooMuch as much:
+            room.less(much.measure)
