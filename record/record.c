@@ -6,7 +6,8 @@
    The log is one shared map of a sparse file: a head of 32 bytes with the number of records, and records of 32 bytes, whose places
    come from one atomic counter. A free takes its place before the call and an allocation after it, so the free of an address always
    stands before the allocation that gets it again; a realloc is two records. The log is opened at the first call and not in a
-   constructor, since constructors allocate. A process that finds the file there, a child for instance, writes NAME.PROCESS. */
+   constructor, since constructors allocate. A program that a process runs in its own place, as a wrapper does, begins the file anew; a
+   process that finds another's file there, as a child does, writes NAME.PROCESS. */
 #define _GNU_SOURCE
 #include <errno.h>
 #include <fcntl.h>
@@ -19,11 +20,11 @@
 #include <unistd.h>
 
 #define ROOM ((size_t)1 << 31)
-#define OFF ((struct log *)-1)
+#define OFF ((struct log *)MAP_FAILED)
 
 enum { ALLOCATED = 1, FREED, BEFORE, AFTER };
 struct record { uint32_t kind, thread; uint64_t address, size, alignment; };
-struct log { char magic[8]; _Atomic uint64_t count; uint64_t unused[2]; struct record records[]; };
+struct log { char magic[8]; _Atomic uint64_t count; uint64_t process, unused; struct record records[]; };
 
 extern void *__libc_malloc(size_t), *__libc_calloc(size_t, size_t), *__libc_realloc(void *, size_t), *__libc_memalign(size_t, size_t);
 extern void __libc_free(void *);
@@ -42,19 +43,30 @@ static void in_child(void) {
     thread = 0;
 }
 
+/* The file of this name, empty: a new one, or the one that this process wrote before it ran another program. */
+static int opened_file(const char *name) {
+    char other[4096];
+    struct log head;
+    int file = open(name, O_RDWR | O_CREAT | O_EXCL | O_CLOEXEC, 0600);
+    if (file >= 0 || errno != EEXIST) return file;
+    file = open(name, O_RDWR | O_CLOEXEC);
+    int whole = file >= 0 && read(file, &head, sizeof head) == (ssize_t)sizeof head;
+    if (whole && head.process == (uint64_t)getpid() && ftruncate(file, 0) == 0) return file;
+    if (file >= 0) close(file);
+    snprintf(other, sizeof other, "%s.%d", name, (int)getpid());
+    return open(other, O_RDWR | O_CREAT | O_TRUNC | O_CLOEXEC, 0600);
+}
+
 static struct log *opened(void) {
     const char *name = getenv("RECORD_FILE");
-    char other[4096];
-    int file = name ? open(name, O_RDWR | O_CREAT | O_EXCL | O_CLOEXEC, 0600) : -1;
-    if (name && file < 0 && errno == EEXIST) {
-        snprintf(other, sizeof other, "%s.%d", name, (int)getpid());
-        file = open(other, O_RDWR | O_CREAT | O_TRUNC | O_CLOEXEC, 0600);
-    }
-    if (file < 0 || ftruncate(file, ROOM) != 0) return OFF;
-    struct log *made = mmap(NULL, ROOM, PROT_READ | PROT_WRITE, MAP_SHARED | MAP_NORESERVE, file, 0);
+    int file = name ? opened_file(name) : -1;
+    if (file < 0) return OFF;
+    struct log *made = OFF;
+    if (ftruncate(file, ROOM) == 0) made = mmap(NULL, ROOM, PROT_READ | PROT_WRITE, MAP_SHARED | MAP_NORESERVE, file, 0);
     close(file);
-    if (made == MAP_FAILED) return OFF;
+    if (made == OFF) return OFF;
     __builtin_memcpy(made->magic, "record 1", 8);
+    made->process = (uint64_t)getpid();
     return made;
 }
 

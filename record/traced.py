@@ -7,6 +7,7 @@ from script import COPY, MOST_LIVE, RESET, THREADS, Script, renumbered, with_ref
 
 MOST_LINES, MOST_BYTES, MOST_SUPER_PAGES = 65_536, 4_194_304, 16
 PICTURE = 70
+TRIES = 40
 
 
 class TooMuch(Exception):
@@ -92,9 +93,11 @@ def chosen(program, policy, refs):
             if policy:
                 raise
     room, choose = Room(MOST_LIVE, 60_000, 24 << 20), by_hash if policy == "hash" else by_classes
-    while True:
+    for last in range(TRIES, -1, -1):
         kept, how = choose(program, room)
         try:
             return made_of(program, kept, how, refs)
         except TooMuch as much:
+            if last == 0:
+                raise
             room.less(much.measure)
