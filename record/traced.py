@@ -48,6 +48,11 @@ def filled(events):
     return heap
 
 
+def region(least, threads):
+    """The super pages of the head: the least that `model` needs; more with several threads, whose order `replay` may choose."""
+    return max(least, 1) if threads == 1 else min(least + least // 4 + 1, MOST_SUPER_PAGES)
+
+
 def made_of(program, kept, how, refs):
     """The trace of these objects, and the line about it."""
     events = renumbered(program.events if kept is None else [event for event in program.events if event[2] in kept])
@@ -57,7 +62,7 @@ def made_of(program, kept, how, refs):
     fit("live", "live objects", most_live(events), MOST_LIVE)
     fit("events", "events", len(events), MOST_LINES)
     heap, script = filled(events), Script(events).play()
-    text = script.text(max(len(heap.pool.taken), 1))
+    text = script.text(region(len(heap.pool.taken), script.own))
     fit("size", "super pages", len(heap.pool.taken), MOST_SUPER_PAGES)
     fit("events", "lines", len(script.lines) + 1, MOST_LINES)
     fit("events", "bytes", len(text), MOST_BYTES)
