@@ -5,7 +5,7 @@ from bisect import bisect_left
 from collections import defaultdict
 
 from figures import DIRECT, new_rows
-from placement import PARTITION_PAGE, SIZES, SUPER_PAGE, SYSTEM_PAGE, Pool, Root
+from placement import ACTIVE, DECOMMITTED, EMPTY, FULL, PARTITION_PAGE, SIZES, SUPER_PAGE, SYSTEM_PAGE, Pool, Root
 
 ALLOCATE, FREE, RESIZE = range(3)
 COUNT_WORD = 8
@@ -145,5 +145,5 @@ class Heap:
         live = len(self.live), sum(row.slots for row in self.rows)
         cached = sum(map(len, self.caches.values())), sum(row.cached for row in self.rows)
         left = [(span.made - span.allocated, span.size) for span in spans]
-        states = [sum(span.state == state for span in spans) for state in (4, 1, 2, 3)]
+        states = [sum(span.state == state for span in spans) for state in (FULL, ACTIVE, EMPTY, DECOMMITTED)]
         return live, (0, 0), cached, (sum(n for n, _ in left), sum(n * size for n, size in left)), states

@@ -130,6 +130,8 @@ def read_text(program, data):
             right = reader.line(program, line)
         except BadLog as why:
             raise BadLog(f"line {n}: {why}") from None
+        except (IndexError, ValueError):
+            right = False
         if not right:
             raise BadLog(f"line {n}: this is no line of {reader.name}")
 
@@ -189,7 +191,7 @@ class Heaptrack:
 
     def line(self, program, line):
         if line[:1] not in ("+", "-"):
-            return line[:2] in ("v ", "x ", "X ", "I ", "m ", "t ", "c ", "R ", "A", "# ")
+            return re.match("[A-Za-z#]( |$)", line) is not None
         found = self.CALL.fullmatch(line)
         if found and found[1]:
             program.allocate(0, int(found[2], 16), int(found[1], 16))
@@ -227,7 +229,8 @@ class Calls:
     """What valgrind's and ltrace's lines have: a call by its name, its arguments and what came back."""
 
     def call(self, program, thread, name, arguments, result):
-        numbers = [int(number, 0) for number in re.findall(r"0[xX][0-9a-fA-F]+|[0-9]+", arguments)]
+        words = re.findall(r"0[xX][0-9a-fA-F]+|[0-9]+|nil", arguments)
+        numbers = [0 if word == "nil" else int(word, 0) for word in words]
         result = int(result or "0", 0)
         if name == "free" or name.startswith("_Zd"):
             program.free(thread, numbers[0])
