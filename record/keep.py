@@ -37,7 +37,8 @@ class Share:
 
     def need(self, room):
         """The greatest part of the room that they take."""
-        return max(have / max(most, 1) for have, most in ((max(self.most), room.live), (self.events, room.events), (self.slots, room.size)))
+        needs = (max(self.most), room.live), (self.events, room.events), (self.slots, room.size)
+        return max(need / max(most, 1) for need, most in needs)
 
 
 def shares(program):

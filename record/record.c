@@ -6,12 +6,13 @@
    The log is one shared map of a sparse file: a head of 32 bytes with the number of records, and records of 32 bytes, whose places
    come from one atomic counter. A free takes its place before the call and an allocation after it, so the free of an address always
    stands before the allocation that gets it again; a realloc is two records. The log is opened at the first call and not in a
-   constructor, since constructors allocate. A program that a process runs in its own place, as a wrapper does, begins the file anew; a
-   process that finds another's file there, as a child does, writes NAME.PROCESS. */
+   constructor, since constructors allocate. The file of a process that has ended, or that runs another program in its own place as a
+   wrapper does, is begun anew; where another process writes it, as a child finds it, NAME.PROCESS is written. */
 #define _GNU_SOURCE
 #include <errno.h>
 #include <fcntl.h>
 #include <pthread.h>
+#include <signal.h>
 #include <stdatomic.h>
 #include <stdint.h>
 #include <stdio.h>
@@ -19,6 +20,7 @@
 #include <sys/mman.h>
 #include <unistd.h>
 
+#define MAGIC "record 1"
 #define ROOM ((size_t)1 << 31)
 #define OFF ((struct log *)MAP_FAILED)
 
@@ -43,15 +45,20 @@ static void in_child(void) {
     thread = 0;
 }
 
-/* The file of this name, empty: a new one, or the one that this process wrote before it ran another program. */
+/* Whether a file has the log of this process, or of one that has ended. */
+static int is_over(int file) {
+    struct log head;
+    if (read(file, &head, sizeof head) != (ssize_t)sizeof head || __builtin_memcmp(head.magic, MAGIC, sizeof head.magic)) return 0;
+    return head.process == (uint64_t)getpid() || (kill((pid_t)head.process, 0) != 0 && errno == ESRCH);
+}
+
+/* The file of this name, empty, or that of NAME.PROCESS. */
 static int opened_file(const char *name) {
     char other[4096];
-    struct log head;
     int file = open(name, O_RDWR | O_CREAT | O_EXCL | O_CLOEXEC, 0600);
     if (file >= 0 || errno != EEXIST) return file;
     file = open(name, O_RDWR | O_CLOEXEC);
-    int whole = file >= 0 && read(file, &head, sizeof head) == (ssize_t)sizeof head;
-    if (whole && head.process == (uint64_t)getpid() && ftruncate(file, 0) == 0) return file;
+    if (file >= 0 && is_over(file) && ftruncate(file, 0) == 0) return file;
     if (file >= 0) close(file);
     snprintf(other, sizeof other, "%s.%d", name, (int)getpid());
     return open(other, O_RDWR | O_CREAT | O_TRUNC | O_CLOEXEC, 0600);
@@ -65,7 +72,7 @@ static struct log *opened(void) {
     if (ftruncate(file, ROOM) == 0) made = mmap(NULL, ROOM, PROT_READ | PROT_WRITE, MAP_SHARED | MAP_NORESERVE, file, 0);
     close(file);
     if (made == OFF) return OFF;
-    __builtin_memcpy(made->magic, "record 1", 8);
+    __builtin_memcpy(made->magic, MAGIC, sizeof made->magic);
     made->process = (uint64_t)getpid();
     return made;
 }

@@ -8,7 +8,8 @@ SAME = {
     "mtrace": "= Start\n@ ./a:[0x1] + 0x1000 0x18\n@ ./a:(f+1)[0x1] + 0x2000 0x64\n@ ./a:[0x1] < 0x2000\n@ ./a:[0x1] > 0x3000 0x384\n"
     "@ ./a:[0x1] - 0x1000\n@ ./a:[0x1] + 0x1000 0x3c\n@ ./a:[0x1] - 0x3000\n= End\n",
     "valgrind": "==9== Memcheck, a memory error detector\n--9-- malloc(24) = 0x1000\n--9-- realloc(0x0,100)malloc(100) = 0x2000\n"
-    "--9-- realloc(0x2000,900) = 0x3000\n--8-- malloc(5) = 0x9000\n--9-- _ZdlPv(0x1000)\n--9-- calloc(15,4) = 0x1000\n--9-- realloc(0x3000,0)free(0x3000)\n--9--  = 0\n",
+    "--9-- realloc(0x2000,900) = 0x3000\n--8-- malloc(5) = 0x9000\n--9-- _ZdlPv(0x1000)\n--9-- calloc(15,4) = 0x1000\n"
+    "--9-- realloc(0x3000,0)free(0x3000)\n--9--  = 0\n",
     "ltrace": "9 a->malloc(24)  = 0x1000\n9 libx.so.1->calloc(25, 4 <unfinished ...>\n9 <... calloc resumed> ) = 0x2000\n"
     "9 a->realloc(0x2000, 900) = 0x3000\n9 a->free(0x1000 <unfinished ...>\n9 <... free resumed> ) = <void>\n"
     "9 a->memalign(16, 60) = 0x1000\n9 a->free(0x3000) = <void>\n9 +++ exited (status 0) +++\n",
