@@ -9,9 +9,8 @@ use Rattle.std.proofs.lemmas.Slice.Zip.{length-zip}
 use Rattle.std.proofs.lemmas.Option.{slice_get_within}
 use Rattle.pa_machine.specs.declared.word.SlotName.{SlotName}
 use Rattle.pa_trace.specs.declared.script.Trace.{Trace}
-use Rattle.pa_trace.specs.declared.script.Op.{Op}
 use Rattle.pa_trace.specs.declared.script.Op.TheVariants as ops
-use Rattle.pa_trace.specs.Limits.{IsOpWithin, IsWithinLimits}
+use Rattle.pa_trace.specs.Limits.{IsWithinLimits}
 use Rattle.pa_record.specs.declared.run.Run.{Run}
 use Rattle.pa_record.specs.RunText.{history_of, journal_of}
 use Rattle.pa_rules.specs.declared.played.Played.{Played}
@@ -35,10 +34,11 @@ use Rattle.pa_audit_heap.specs.Ordered.{AreOfThreads16}
 use Rattle.pa_audit_heap.specs.Replayed.{DoAllFit}
 use Rattle.pa_audit_heap.proofs.Rising.{due_have_lines}
 use Rattle.pa_audit_holders.specs.Homes.{HasOneHome}
-use Rattle.pa_audit_holders.specs.Rows.{IsOfThreads, NamesPartition}
+use Rattle.pa_audit_holders.specs.Rows.{IsOfThreads}
 use Rattle.pa_audit_report.specs.Given.{AreRecordsOf}
 use Rattle.pa_audit.specs.Lined.{HasLines32}
 use Rattle.pa_audit.proofs.Placing.{AsksThere}
+use Rattle.pa_audit_report.proofs.Before.{names_within}
 
 -- ---- records
 
@@ -66,22 +66,12 @@ swaps_held t r ps same holds i = subst (λ qs. CellsDemand (history_of r) qs (pl
 pub exchanges_held : (t : Trace) (r : Run) (ps : List Played) → AreRecordsOf t r ps → Holds clauses.Cells t r → (k j : ℕ) → CellsDemand (history_of r) ps (places.Cell k j)
 exchanges_held t r ps same holds k j = subst (λ qs. CellsDemand (history_of r) qs (places.Cell k j)) (sym same) (holds (places.Cell k j))
 
-names_partition : (partitions : ℕ) (op : Op) → partitions ≤ 4 → IsOpWithin partitions op → NamesPartition op
-names_partition partitions (ops.Alloc reg partition size) few h = let less = h.1 in omega (arith, few, less)
-names_partition partitions (ops.Copy from to) few h = tt
-names_partition partitions (ops.Reset reg) few h = tt
-names_partition partitions (ops.Free reg) few h = tt
-names_partition partitions (ops.Write reg value) few h = tt
-names_partition partitions (ops.Read reg place) few h = tt
-names_partition partitions (ops.Swap cell reg) few h = tt
-names_partition partitions ops.Purge few h = tt
-
 pub all_of_threads : (t : Trace) (r : Run) (ps : List Played) → AreRecordsOf t r ps → IsWithinLimits t → Holds clauses.Lines t r → All IsOfThreads ps
 all_of_threads t r ps same limits holds k d below =
     let lines = subst (λ qs. AreLines t.lines qs) (sym same) (records_are_lines.lines t.lines r.entries.items (are_due t r holds)) in
     let (thread, op) = records_within t ps (get_or ps k d) limits lines (Contains-get_or ps k d below) in
     let few = limits.head.2 in
-    (omega (arith, few, thread), names_partition t.partitions (get_or ps k d).op limits.head.1.1 op)
+    (omega (arith, few, thread), names_within t.partitions (get_or ps k d).op limits.head.1.1 op)
 
 -- ---- the pool and the journals
 
@@ -102,9 +92,6 @@ list_short xs p = elim (cases_lt p (length xs)) [
   | inl there ↦ let most = sum_by_more_le length xs p [] there in omega (arith, most)
   | inr past ↦ let none = ap length (get_or_past xs p [] past) in omega (arith, none)
 ]
-
-pub journals_short : (r : Run) → HasLines32 r → (p : ℕ) → length (journal_of r p) < 2 ^ 32
-journals_short r short p = let most = list_short r.roots.items p in omega (arith, most, short)
 
 pub histories_short : (r : Run) → HasLines32 r → (k : ℕ) → length (history_of r k) < 2 ^ 32
 histories_short r short k = let most = list_short r.cells.items k in omega (arith, most, short)

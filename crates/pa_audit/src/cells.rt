@@ -1,5 +1,6 @@
 ghost use Rattle.std.specs.Prelude.{◌<◌, ◌≤◌, IfOk, length};
 ghost use Rattle.pa_record.specs.RunText.{history_of};
+ghost use Rattle.pa_trace.specs.Limits.{cell_count};
 ghost use Rattle.pa_rules.specs.declared.verdict.Clause.TheVariants as clauses;
 ghost use Rattle.pa_rules.specs.RecordDemands.{CellsDemand};
 ghost use Rattle.pa_rules.specs.Rising.{RiseByLine};
@@ -38,7 +39,7 @@ fn first_place(
 ) -> Result<Option<Place>, OutOfMemory>
     requires few { length records.now < 65536 }
     requires rising { RiseByLine records.now }
-    requires cells { length run.now.cells.items ≤ 64 }
+    requires cells { length run.now.cells.items ≤ cell_count }
     requires short { HasLines32 run.now }
     ensures { IfOk result (TellsPlace (CellsDemand (history_of run.now) records.now)) }
 {

@@ -5,7 +5,7 @@ ghost use Rattle.pa_audit.specs.Lined.{CanBeAudited, TellsLine};
 
 use crate::places::line_where;
 use crate::records::record_line;
-use pa_audit_holders::{caches_meet, holders_meet, homes_of};
+use pa_audit_holders::{Books, caches_meet, holders_meet, homes_of};
 use pa_audit_records::Salt;
 use pa_audit_report::Known;
 use pa_dense::DenseRun;
@@ -47,15 +47,8 @@ pub fn caches_fail(
     ensures censuses { known.new.censuses.items ≡ known.old.censuses.items }
 {
     known.homes = homes_of(alloc, salt, run.roots())?;
-    let found = caches_meet(
-        alloc,
-        trace.partitions,
-        trace.threads,
-        records,
-        known.ends.as_slice(),
-        run.roots(),
-        &known.homes,
-    )?;
+    let books = Books::of(alloc, trace.partitions, records, run.roots(), &known.homes)?;
+    let found = caches_meet(alloc, &books, trace.threads, known.ends.as_slice())?;
     known.cached = found.cached;
     Ok(record_line(found.misfit))
 }

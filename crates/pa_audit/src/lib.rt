@@ -9,8 +9,6 @@ mod order;
 mod places;
 mod records;
 mod report;
-#[cfg(test)]
-mod tests;
 
 pub use cells::cells_fail;
 pub use clauses::{audit, audit_dense};

@@ -1,6 +1,6 @@
 -- What a root has at the end of each phase, while its journal is walked over.
-use Rattle.std.proofs.Common.{◌≡◌, ℕ, ◌+◌, ◌-◌, ◌<◌, ◌≤◌, ◌⊎◌, List, [], ◌∷◌, ◌++◌, length, min, max, Some, refl, sym, ◌∙◌, ap, subst, append_assoc, arith, inl, inr}
-use Rattle.std.specs.Prelude.{All, slice_get}
+use Rattle.std.proofs.Common.{◌≡◌, ℕ, ◌+◌, ◌-◌, ◌<◌, ◌≤◌, ◌⊎◌, List, [], ◌∷◌, ◌++◌, length, min, max, refl, sym, ◌∙◌, ap, subst, append_assoc, arith, inl, inr}
+use Rattle.std.specs.Prelude.{All}
 use Rattle.std.proofs.lemmas.Bool.{cases_lt}
 use Rattle.std.proofs.lemmas.List.{append-nil}
 use Rattle.std.proofs.lemmas.List.Elements.{All-nil, All-push, All-weaker}
@@ -13,25 +13,8 @@ use Rattle.pa_record.specs.Root.{new_root, root_replayed}
 use Rattle.pa_rules.specs.declared.played.Played.{Played}
 use Rattle.pa_rules.specs.Order.{IsOfLine}
 use Rattle.pa_rules.specs.Report.{AreUntil, HasCensus, InPhases, PastPhases}
-use Rattle.pa_audit_records.proofs.Cutting.{each_none, each_next, long_next}
+use Rattle.pa_audit_records.proofs.Cutting.{each_none}
 use Rattle.pa_audit_heap.specs.Walking.{AreCounted, AreFilledUp}
-
--- ---- filling up
-
-pub filled_none : (c : Census) (before : List Census) → AreFilledUp c (length before) before before
-filled_none c before = record { many = omega arith; each = λ i d at. inl at }
-
-pub filled_more : (c : Census) (to : ℕ) (before now next : List Census) → AreFilledUp c to before now → length before ≤ to → next ≡ now ++ c ∷ [] → AreFilledUp c (to + 1) before next
-filled_more c to before now next h up is =
-    let many = h.many in
-    let long : length now ≡ to = omega (arith, many, up) in
-    record {
-      many = omega (arith, long_next now next c to is long, up);
-      each = each_next (λ i d. (slice_get before i ≡ Some d) ⊎ ((length before ≤ i) × (d ≡ c))) now next c to is long h.each (inr (up, refl));
-    }
-
-pub filled_enough : (c : Census) (to : ℕ) (before : List Census) → to ≤ length before → AreFilledUp c to before before
-filled_enough c to before enough = record { many = omega (arith, enough); each = λ i d at. inl at }
 
 -- ---- phases
 

@@ -7,7 +7,7 @@ use Rattle.pa_record.specs.declared.root.RootEntry.{RootEntry}
 use Rattle.pa_record.specs.Pool.{PoolState, new_pool}
 use Rattle.pa_record.specs.Root.{Root, asked_by, new_root, root_next, root_replayed}
 use Rattle.pa_record.specs.Sound.{IsBornBelow, AsksFrom, least_after}
-use Rattle.pa_record.proofs.Members.{not_in_none, not_some, of_some}
+use Rattle.pa_lists.proofs.Members.{not_in_none, not_some, of_some}
 use Rattle.pa_record.proofs.Replaying.{replayed_push}
 use Rattle.pa_rules.specs.declared.played.Played.{Played}
 use Rattle.pa_rules.specs.declared.verdict.Place.TheVariants as places
@@ -16,11 +16,12 @@ use Rattle.pa_rules.specs.HeapDemands.{EntryFits, RootsDemand}
 use Rattle.pa_audit_heap.specs.declared.replay.Replay.{Replay}
 use Rattle.pa_audit_heap.specs.Replayed.{IsPlayedBy}
 use Rattle.pa_audit_heap.specs.Replaying.{HasAsked, IsReplayed}
-use Rattle.pa_audit_heap.proofs.Listed.{front_more, one_there, none_past}
+use Rattle.pa_audit_heap.proofs.Listed.{front_more}
 use Rattle.pa_rules.specs.Tells.{TellsFirst}
 use Rattle.pa_audit_heap.specs.Tells.{TellsEntry}
 use Rattle.pa_audit_heap.proofs.Naming.{all_journals}
 use Rattle.pa_audit_heap.proofs.Rooting.{in_step}
+use Rattle.pa_lists.proofs.Indexed.{one_at, none_past}
 
 -- the start
 pub replayed_none : (supers : ℕ) (pools : List PoolEntry) (es : List RootEntry) (r : Replay) → r.root ≡ new_root → r.plan ≡ new_pool supers → IsReplayed supers pools es 0 r 0
@@ -44,7 +45,7 @@ asks_cases es i a e at h = elim (cases_lt h.index i) [
   | inr more ↦
       let k = h.below in
       let same : h.index ≡ i = omega arith in
-      let one = one_there es i h.entry e (subst (λ n. slice_get es n ≡ Some h.entry) same h.at) at in
+      let one = one_at es i h.entry e (subst (λ n. slice_get es n ≡ Some h.entry) same h.at) at in
       inr (ap (λ (z : RootEntry). asked_by z.act) (sym one) ∙ h.names)
 ]
 
@@ -105,7 +106,7 @@ not_rises supers pools roots p i e r least (Some b) h asks low rises = elim h.re
 -- an entry that meets its clause, as the walk over its journal tells it
 pub meets_here : (partitions : ℕ) (ps : List Played) (pools : List PoolEntry) (es : List RootEntry) (p j : ℕ) (e : RootEntry) → slice_get es j ≡ Some e → EntryFits partitions ps pools (λ q. es) p j e
     → RootsDemand partitions ps pools (λ q. es) (places.Root p j)
-meets_here partitions ps pools es p j e at fits d at' = subst (EntryFits partitions ps pools (λ q. es) p j) (one_there es j e d at at') fits
+meets_here partitions ps pools es p j e at fits d at' = subst (EntryFits partitions ps pools (λ q. es) p j) (one_at es j e d at at') fits
 
 -- the clause speaks of one journal
 pub meets_among : (partitions : ℕ) (ps : List Played) (pools : List PoolEntry) (roots : Journals) (es : List RootEntry) (p j : ℕ) → es ≡ roots p

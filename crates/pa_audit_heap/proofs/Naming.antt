@@ -12,8 +12,8 @@ use Rattle.pa_rules.specs.Roots.{Journals, IsEntry, Names, journal_at}
 use Rattle.pa_audit_heap.specs.declared.namings.Naming.{Naming}
 use Rattle.pa_audit_heap.specs.declared.namings.Naming.TheVariants.{Nobody, Once, Again}
 use Rattle.pa_audit_heap.specs.Namings.{NamesAbove, IsNaming, AreNamings, IsNamed, named_by}
-use Rattle.pa_record.proofs.Members.{of_some, not_some}
-use Rattle.pa_audit_heap.proofs.Listed.{one_there}
+use Rattle.pa_lists.proofs.Members.{of_some, not_some}
+use Rattle.pa_lists.proofs.Indexed.{one_at}
 
 above_more : (p i q n : ℕ) → IsAbove p i q n → IsAbove p i q (n + 1)
 above_more p i q n (inl less) = inl less
@@ -44,7 +44,7 @@ naming_other roots q n j f naming is other h = naming_same roots q n q (n + 1) j
       | inr (same, at) ↦
           let (e, is', asked) = names.1 in
           let there : slice_get (roots q) n ≡ Some e = subst (λ k. slice_get (roots q) k ≡ Some e) at (subst (λ s. slice_get (roots s) i ≡ Some e) same is') in
-          let one = one_there (roots q) n e f there is in
+          let one = one_at (roots q) n e f there is in
           absurd (other (ap (λ (z : RootEntry). asked_by z.act) (sym one) ∙ asked))
     ]) h
 
@@ -151,7 +151,7 @@ naming_is roots q j e (Once partition line) all (i, f, above, is, asked, on, onl
     let (k, g, is', asked', on') = named.named in
     let (p, at) = only e.partition k (reaches roots q e.partition k j all (g, is', asked')) in
     let there : slice_get (roots partition) i ≡ Some g = subst (λ m. slice_get (roots partition) m ≡ Some g) at (subst (λ s. slice_get (roots s) k ≡ Some g) p is') in
-    let same = one_there (roots partition) i f g is there in
+    let same = one_at (roots partition) i f g is there in
     let l : line ≡ e.line = sym on ∙ ap (λ (z : RootEntry). z.line) same ∙ on' in
     ap (λ s. Once s line) (sym p) ∙ ap (Once e.partition) l
 naming_is roots q j e Again all (p, i, s, k, first, second, differ) named = absurd (differ (named.once p s i k first.1 second.1))

@@ -8,8 +8,8 @@ use Rattle.pa_rules.specs.Order.{IsOfLine, StandsBefore}
 use Rattle.pa_rules.specs.RecordDemands.{ComesInOrder}
 use Rattle.pa_audit_heap.specs.declared.order.Order.{Order}
 use Rattle.pa_audit_heap.specs.Ordered.{AreOfThreads16, IsTheRecord, IsBehind, entered_by, Admits, IsAmong, HasSeen}
-use Rattle.pa_audit_heap.proofs.Listed.{one_there, none_past}
-use Rattle.pa_audit_heap.proofs.Telling.{met_more}
+use Rattle.pa_lists.proofs.Indexed.{one_at, none_past}
+use Rattle.pa_lists.proofs.Tests.{met_more}
 
 -- what is among the first lines is among more
 among_more : (ps : List Played) (lines : List ℕ) (j : ℕ) (x : Played) → IsAmong ps lines j x → IsAmong ps lines (j + 1) x
@@ -21,7 +21,7 @@ among_cases ps lines j n x at h = elim (cases_lt h.index j) [
   | inr more ↦
       let k = h.below in
       let e : h.index ≡ j = omega arith in
-      let same = one_there lines j h.line n (subst (λ i. slice_get lines i ≡ Some h.line) e h.at) at in
+      let same = one_at lines j h.line n (subst (λ i. slice_get lines i ≡ Some h.line) e h.at) at in
       inr (subst (λ m. IsOfLine ps m x) same h.holds)
 ]
 
@@ -87,7 +87,7 @@ order_enters ps lines j n o x few h at (is, one) behind =
 pub order_met : (ps : List Played) (lines : List ℕ) (j n : ℕ) (o : Order) (x : Played) → HasSeen ps lines j o → slice_get lines j ≡ Some n → IsTheRecord ps n (Some x) → IsBehind o x
     → ComesInOrder ps lines j
 order_met ps lines j n o x h at (is, one) behind i m n' y z at' at'' less among is' among' is'' before =
-    let same = one z (among', is'' ∙ one_there lines j n' n at'' at) in
+    let same = one z (among', is'' ∙ one_at lines j n' n at'' at) in
     let there : IsAmong ps lines j y = record { index = i; line = m; below = less; at = at'; holds = (among, is') } in
     let a = h.line y there in
     let b = h.phase y there in
@@ -99,7 +99,7 @@ order_met ps lines j n o x h at (is, one) behind i m n' y z at' at'' less among 
     ]
 
 pub order_met_none : (ps : List Played) (lines : List ℕ) (j n : ℕ) → slice_get lines j ≡ Some n → ((x : Played) → IsOfLine ps n x → ⊥) → ComesInOrder ps lines j
-order_met_none ps lines j n at none i m n' y z at' at'' less among is' among' is'' before = none z (among', is'' ∙ one_there lines j n' n at'' at)
+order_met_none ps lines j n at none i m n' y z at' at'' less among is' among' is'' before = none z (among', is'' ∙ one_at lines j n' n at'' at)
 
 -- one of a record that isn't behind the last one doesn't
 pub order_unmet : (ps : List Played) (lines : List ℕ) (j n : ℕ) (o : Order) (x : Played) → HasSeen ps lines j o → slice_get lines j ≡ Some n → IsOfLine ps n x → (IsBehind o x → ⊥)

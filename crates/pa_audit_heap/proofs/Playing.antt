@@ -12,8 +12,9 @@ use Rattle.pa_rules.specs.declared.verdict.Place.TheVariants as places
 use Rattle.pa_rules.specs.Roots.{Journals}
 use Rattle.pa_rules.specs.HeapDemands.{PoolDemand}
 use Rattle.pa_audit_heap.specs.Parts.{FitsPool, IsNamedAt, ComesAt}
-use Rattle.pa_audit_heap.proofs.Listed.{front_more, one_there, none_past, map_place}
-use Rattle.pa_audit_heap.proofs.Telling.{met_more}
+use Rattle.pa_audit_heap.proofs.Listed.{front_more}
+use Rattle.pa_lists.proofs.Indexed.{one_at, none_past, map_at}
+use Rattle.pa_lists.proofs.Tests.{met_more}
 
 -- the plan is that of the first entries, all of which fit
 pub record IsPlayed (supers : ℕ) (pools : List PoolEntry) (i : ℕ) (plan : PoolState) : Type 0 where
@@ -32,7 +33,7 @@ played_next supers pools i plan next e at is after =
 fits_here : (supers : ℕ) (pools : List PoolEntry) (i : ℕ) (plan : PoolState) (e : PoolEntry) → slice_get pools i ≡ Some e → plan ≡ pool_replayed (take i pools) (new_pool supers)
     → PoolActFits pools e.partition e.act plan → FitsPool supers pools i
 fits_here supers pools i plan e at is fits d at' =
-    subst (λ (z : PoolEntry). PoolActFits pools z.partition z.act (pool_replayed (take i pools) (new_pool supers))) (one_there pools i e d at at')
+    subst (λ (z : PoolEntry). PoolActFits pools z.partition z.act (pool_replayed (take i pools) (new_pool supers))) (one_at pools i e d at at')
     (subst (PoolActFits pools e.partition e.act) is fits)
 
 pub played_more : (supers : ℕ) (pools : List PoolEntry) (i : ℕ) (plan next : PoolState) (e : PoolEntry) → IsPlayed supers pools i plan → slice_get pools i ≡ Some e
@@ -71,7 +72,7 @@ parts_are supers ps pools roots j (fits, both) e at = record {
 
 comes_at : (supers : ℕ) (ps : List Played) (pools : List PoolEntry) (roots : Journals) (j : ℕ) → PoolDemand supers ps pools roots (places.Pool j) → ComesAt ps pools j
 comes_at supers ps pools roots j demand i m n x y at at' =
-    let (e, there, same) = map_place (λ (e : PoolEntry). e.line) pools j n at' in
+    let (e, there, same) = map_at (λ (e : PoolEntry). e.line) pools j n at' in
     (demand e there).order i m n x y at at'
 
 pub are_parts : (supers : ℕ) (ps : List Played) (pools : List PoolEntry) (roots : Journals) (j : ℕ) → PoolDemand supers ps pools roots (places.Pool j)

@@ -1,7 +1,5 @@
 -- Records that are full, and classes of sizes.
-use Rattle.std.proofs.Common.{◌≡◌, ℕ, ◌<◌, ◌≤◌, List, length, get_or, Some, subst, arith}
-use Rattle.pa_buckets.specs.Classes.{IsClassOf}
-use Rattle.pa_buckets.proofs.Facts.{IsRow-of}
+use Rattle.std.proofs.Common.{◌≡◌, ℕ, ◌<◌, ◌≤◌, List, length, get_or, Some, subst}
 use Rattle.pa_trace.specs.declared.script.Op.TheVariants as ops
 use Rattle.pa_record.specs.declared.entry.Answer.TheVariants as answers
 use Rattle.pa_record.specs.declared.root.RootEntry.{RootEntry}
@@ -11,13 +9,9 @@ use Rattle.pa_rules.specs.declared.verdict.Place.TheVariants as places
 use Rattle.pa_rules.specs.HeapDemands.{RootsDemand}
 use Rattle.std.specs.Prelude.{slice_get}
 use Rattle.std.proofs.lemmas.Option.{slice_get-get_or}
-use Rattle.pa_audit_heap.proofs.Listed.{none_past, one_there}
 use Rattle.pa_rules.specs.Roots.{Journals, IsEntry, IsFull}
 use Rattle.pa_audit_heap.specs.Parts.{NamesFull}
-
--- a raw size that a class has isn't above the greatest slot
-pub class_small : (raw class : ℕ) → IsClassOf raw class → raw ≤ 917504
-class_small raw class h = let row = IsRow-of class h.real in omega (arith, h.fits, row.greatest_slot)
+use Rattle.pa_lists.proofs.Indexed.{one_at, none_past}
 
 -- entry j of the partition's journal is a Full of the line
 abbrev pub HasFull : Journals → ℕ → ℕ → ℕ → Type 0
@@ -48,4 +42,4 @@ pub named_past : (roots : Journals) (ps : List Played) (i : ℕ) → length ps �
 named_past roots ps i past x at = absurd (none_past ps i x past at)
 
 pub named_here : (roots : Journals) (ps : List Played) (i : ℕ) → i < length ps → NamesFull roots (get_or ps i no_played) → NamesFullAt roots ps i
-named_here roots ps i within h x at = subst (NamesFull roots) (one_there ps i (get_or ps i no_played) x (slice_get-get_or ps i no_played within) at) h
+named_here roots ps i within h x at = subst (NamesFull roots) (one_at ps i (get_or ps i no_played) x (slice_get-get_or ps i no_played within) at) h

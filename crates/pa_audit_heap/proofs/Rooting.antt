@@ -21,10 +21,10 @@ use Rattle.pa_record.proofs.PoolSteps.{pool_answers, pool_is_sound}
 use Rattle.pa_place.specs.declared.placed.Placed.{Placed}
 use Rattle.pa_place.specs.Placed.{Fills, Maps, FillDid, MapDid, IsStep, filled_by, mapped_by, map_in, with_slots}
 use Rattle.pa_audit_heap.specs.Replayed.{DoAllFit, IsInStep, IsPlayedBy, TellsPlay}
-use Rattle.pa_audit_heap.proofs.Listed.{option_place}
 use Rattle.pa_audit_heap.proofs.Playing.{played_entries, played_next}
 use Rattle.std.proofs.lemmas.Bool.{cases_Bool, false≢true}
 use Rattle.std.proofs.lemmas.Option.{slice_get_within}
+use Rattle.pa_lists.proofs.Indexed.{option_cases}
 
 pub none_some : {A : Type 0} (o : Option A) → IsNone o → IsSome o → ⊥
 none_some None none some = absurd (false≢true some)
@@ -57,13 +57,10 @@ pub record IsAt (pools : List PoolEntry) (supers j : ℕ) (a : PoolAct) (plan : 
   pub fits : PoolActFits pools partition a plan
   pub next : (after : PoolState) → after ≡ pool_next a plan → after ≡ pool_replayed (take (j + 1) pools) (new_pool supers)
 
-pub did_within : (pools : List PoolEntry) (j : ℕ) (a : PoolAct) → act_at pools j ≡ Some a → j < length pools
-did_within pools j a did = let (e, at, is) = option_place (λ (e : PoolEntry). e.act) (slice_get pools j) a did in slice_get_within pools j e at
-
 pub at_entry : (pools : List PoolEntry) (supers j : ℕ) (a : PoolAct) (plan : PoolState) → DoAllFit supers pools → act_at pools j ≡ Some a
     → plan ≡ pool_replayed (take j pools) (new_pool supers) → IsAt pools supers j a plan
 at_entry pools supers j a plan all did is =
-    let (e, at, same) = option_place (λ (e : PoolEntry). e.act) (slice_get pools j) a did in
+    let (e, at, same) = option_cases (λ (e : PoolEntry). e.act) (slice_get pools j) a did in
     let within = slice_get_within pools j e at in
     record {
       within = within;

@@ -8,7 +8,7 @@ use Rattle.pa_machine.specs.declared.word.SlotName.{SlotName}
 use Rattle.pa_record.specs.declared.numbered.Numbered.{Numbered}
 use Rattle.pa_record.specs.Spans.{name_of}
 use Rattle.pa_record.specs.Root.{names}
-use Rattle.pa_record.proofs.Pairs.{pairs_push}
+use Rattle.pa_lists.proofs.Pairs.{pairs_push}
 
 -- what fills a place past the end
 abbrev pub no_name : SlotName

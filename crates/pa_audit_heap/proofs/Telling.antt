@@ -1,5 +1,5 @@
 -- What two tellings give together, and what a pass tells at its exits.
-use Rattle.std.proofs.Common.{◌≡◌, ℕ, ◌+◌, ◌<◌, ◌≤◌, Option, Some, None, subst, arith, inl, inr}
+use Rattle.std.proofs.Common.{◌≡◌, ℕ, ◌+◌, ◌<◌, ◌≤◌, Option, Some, None, arith, inl, inr}
 use Rattle.std.proofs.lemmas.Bool.{cases_lt, lt-ltb, le-ltb}
 use Rattle.pa_rules.specs.Tells.{TellsFirst}
 use Rattle.pa_audit_heap.specs.Tells.{least_place}
@@ -21,10 +21,3 @@ tells_same P Q (Some i) f g p = (λ q. p.0 (g i q), λ j less. f j (p.1 j less))
 -- all places up to the end meet it, and past the end nothing is asked
 pub tells_none : (P : ℕ → Type 0) (n : ℕ) → ((j : ℕ) → j < n → P j) → ((j : ℕ) → n ≤ j → P j) → TellsFirst P None
 tells_none P n here past j = elim (cases_lt j n) [ inl less ↦ here j less | inr more ↦ past j more ]
-
--- one place more
-pub met_more : (P : ℕ → Type 0) (n : ℕ) → ((j : ℕ) → j < n → P j) → P n → (j : ℕ) → j < n + 1 → P j
-met_more P n here at j less = elim (cases_lt j n) [
-  | inl below ↦ here j below
-  | inr more ↦ let e : n ≡ j = omega arith in subst P e at
-]

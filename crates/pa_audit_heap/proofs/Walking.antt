@@ -18,8 +18,9 @@ use Rattle.pa_audit_heap.specs.Replaying.{IsReplayed}
 use Rattle.pa_audit_heap.specs.Walking.{AreCounted, AreFilledUp, IsWalked}
 use Rattle.pa_audit_heap.proofs.Counting.{counted_filled, counted_more, counted_none}
 use Rattle.pa_audit_heap.proofs.Journaling.{replayed_more, replayed_none, rises_here}
-use Rattle.pa_audit_heap.proofs.Listed.{front_more, map_there}
+use Rattle.pa_audit_heap.proofs.Listed.{front_more}
 use Rattle.pa_audit_heap.proofs.Ordering.{order_enters, order_met, order_unmet}
+use Rattle.pa_lists.proofs.Indexed.{at_map}
 
 -- ---- before the first entry
 
@@ -56,7 +57,7 @@ fits_next supers partitions phases ps pools es p j w e x h at t fits = record {
   fits = subst (RootActFits pools e.act) h.replayed.root fits;
   rises = rises_here supers pools (λ q. es) p j e w.replay w.least h.replayed t.from;
   line = (x, t.is.0, t.makes);
-  order = order_met ps (map (λ (f : RootEntry). f.line) es) j e.line w.order x h.seen (map_there (λ (f : RootEntry). f.line) es j e at) t.is t.behind;
+  order = order_met ps (map (λ (f : RootEntry). f.line) es) j e.line w.order x h.seen (at_map (λ (f : RootEntry). f.line) es j e at) t.is t.behind;
 }
 
 -- and the walk goes on behind it
@@ -70,7 +71,7 @@ walked_next supers partitions phases ps pools es p j w next e x few h at t order
     let counted = counted_filled phases ps pools (take j es) w.order.phase x.phase (min phases (x.phase - 1)) w.censuses next.censuses (census w.replay.root) h.counted filled (ap census h.replayed.root) later refl in
     let more = counted_more phases ps pools (take j es) e x next.censuses counted t.is.0 in
     record {
-      seen = subst (HasSeen ps lines (j + 1)) (sym order) (order_enters ps lines j e.line w.order x few h.seen (map_there (λ (f : RootEntry). f.line) es j e at) t.is t.behind);
+      seen = subst (HasSeen ps lines (j + 1)) (sym order) (order_enters ps lines j e.line w.order x few h.seen (at_map (λ (f : RootEntry). f.line) es j e at) t.is t.behind);
       replayed = replayed_more supers pools es j e w.replay next.replay w.least next.least h.replayed at t.from played least;
       bound = bound;
       counted = subst (λ (o : Order). AreCounted phases ps pools (take (j + 1) es) o.phase next.censuses) (sym order)
@@ -81,4 +82,4 @@ walked_next supers partitions phases ps pools es p j w next e x few h at t order
 pub unmet_order : (supers partitions phases : ℕ) (ps : List Played) (pools : List PoolEntry) (es : List RootEntry) (p j : ℕ) (w : Walk) (e : RootEntry) (x : Played)
     → IsWalked supers phases ps pools es j w → slice_get es j ≡ Some e → IsTheRecord ps e.line (Some x) → (IsBehind w.order x → ⊥) → EntryFits partitions ps pools (λ q. es) p j e → ⊥
 unmet_order supers partitions phases ps pools es p j w e x h at is ahead fits =
-    order_unmet ps (map (λ (f : RootEntry). f.line) es) j e.line w.order x h.seen (map_there (λ (f : RootEntry). f.line) es j e at) is.0 ahead fits.order
+    order_unmet ps (map (λ (f : RootEntry). f.line) es) j e.line w.order x h.seen (at_map (λ (f : RootEntry). f.line) es j e at) is.0 ahead fits.order

@@ -1,12 +1,13 @@
 -- Records in the order of their lines, and entries in the order of their records.
 use Rattle.std.specs.Prelude.{◌≡◌, ℕ, ◌<◌, ◌≤◌, ◌⊎◌, Bool, true, false, List, length, Option, Some, None, Contains, slice_get, slice_index, slice_set}
+use Rattle.pa_trace.specs.Limits.{most_threads}
 use Rattle.pa_rules.specs.declared.played.Played.{Played}
 use Rattle.pa_rules.specs.Order.{IsOfLine}
 use Rattle.pa_audit_heap.specs.declared.order.Order.{Order}
 
 -- the records' threads are of the 16
 abbrev pub AreOfThreads16 : List Played → Type 0
-AreOfThreads16 ps = (x : Played) → Contains ps x → x.thread < 16
+AreOfThreads16 ps = (x : Played) → Contains ps x → x.thread < most_threads
 
 -- the one record of a line, and none where there is none
 abbrev pub IsTheRecord : List Played → ℕ → Option Played → Type 0
@@ -40,7 +41,7 @@ pub record IsAmong (ps : List Played) (lines : List ℕ) (j : ℕ) (x : Played) 
 -- The order has the greatest line of each thread and the greatest phase of the records of the first j of these lines, and 0
 -- where there is none.
 pub record HasSeen (ps : List Played) (lines : List ℕ) (j : ℕ) (o : Order) : Type 0 where
-  pub threads : length o.lines ≡ 16
+  pub threads : length o.lines ≡ most_threads
   pub line : (x : Played) → IsAmong ps lines j x → x.line ≤ slice_index o.lines x.thread
   pub phase : (x : Played) → IsAmong ps lines j x → x.phase ≤ o.phase
   pub at_line : (t : ℕ) →

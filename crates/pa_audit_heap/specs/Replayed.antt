@@ -1,5 +1,6 @@
 -- A root and its pool, entry by entry of a journal.
 use Rattle.std.specs.Prelude.{◌≡◌, ℕ, ◌+◌, ◌%◌, ◌<◌, ◌≤◌, Bool, true, false, List, length, take}
+use Rattle.pa_layout.specs.Limits.{most_supers}
 use Rattle.pa_layout.specs.Pages.{supers_for}
 use Rattle.pa_record.specs.declared.pool.PoolEntry.{PoolEntry}
 use Rattle.pa_record.specs.declared.root.RootAct.{RootAct}
@@ -22,7 +23,7 @@ pub record IsInStep (pools : List PoolEntry) (plan : PoolState) (r : Root) : Typ
 -- a direct map has the size of a shape
 abbrev pub HasMapSize : RootAct → Type 0
 HasMapSize (Fill class asked slots) = Unit {0}
-HasMapSize (Map asked slot len) = (len % 4096 ≡ 0) × (0 < len) × (supers_for len ≤ 16)
+HasMapSize (Map asked slot len) = (len % 4096 ≡ 0) × (0 < len) × (supers_for len ≤ most_supers)
 HasMapSize (Full class asked) = Unit {0}
 HasMapSize (Give slots) = Unit {0}
 HasMapSize (Unmap asked slot) = Unit {0}

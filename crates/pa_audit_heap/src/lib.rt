@@ -11,13 +11,9 @@ mod namings;
 mod order;
 mod pool;
 mod pool_acts;
-#[cfg(test)]
-mod purge_tests;
 mod refusals;
 mod replay;
 mod roots;
-#[cfg(test)]
-mod tests;
 mod walk;
 
 pub use censuses::Censuses;

@@ -8,7 +8,7 @@ ghost use Rattle.pa_rules.specs.Roots.{AsksForClass, AsksForMap, IsFreeing, Make
 use crate::pool_acts::found_none;
 use pa_buckets::{Class, class_of, raw_of};
 use pa_dense::Act;
-use pa_direct::{GREATEST_SIZE, shape};
+use pa_direct::{GREATEST_IN_CLASS, GREATEST_SIZE, shape};
 use pa_record::PoolEntry;
 use pa_trace::Op;
 
@@ -67,7 +67,7 @@ fn map_size(op: Op, partition: u32) -> Option<u32>
             size,
             ..
         } => {
-            if asked == partition && 917496 < size && size <= GREATEST_SIZE {
+            if asked == partition && GREATEST_IN_CLASS < size && size <= GREATEST_SIZE {
                 Some(size)
             } else {
                 None

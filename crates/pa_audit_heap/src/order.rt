@@ -1,18 +1,20 @@
 ghost use Rattle.std.specs.Prelude.{◌≡◌, ℕ, ◌<◌, ◌^◌, ◌↔◌, IsTrue, List, length};
+ghost use Rattle.pa_trace.specs.Limits.{most_threads};
 ghost use Rattle.pa_rules.specs.declared.played.Played.{Played as Record};
 ghost use Rattle.pa_audit_heap.specs.Ordered.{AreOfThreads16, IsBehind, entered_by, Admits, HasSeen};
 ghost use Rattle.pa_rules.specs.Rising.{RiseByLine};
 
 use crate::lookup::record_of;
 use pa_rules::Played;
+use pa_trace::MOST_THREADS;
 
 // The most threads of a trace.
-pub(crate) const MOST_THREADS: usize = 16;
+pub(crate) const THREADS: usize = MOST_THREADS as usize;
 
 // Entries in the order of their records: the last line of each thread, and the last phase; 0 where there is none.
 #[derive(Drop)]
 pub(crate) struct Order {
-    pub(crate) lines: [u32; 16],
+    pub(crate) lines: [u32; THREADS],
     pub(crate) phase: u32,
 }
 
@@ -22,7 +24,7 @@ impl Order {
         ensures { (ps : List Record) (lines : List ℕ) → HasSeen ps lines 0 result }
     {
         Order {
-            lines: [0; MOST_THREADS],
+            lines: [0; THREADS],
             phase: 0,
         }
     }
@@ -42,7 +44,7 @@ impl Order {
 
     // Whether the record is behind the last one. Where it is it is the last one from then on.
     pub(crate) fn enter(&mut self, found: Played) -> bool
-        requires { found.thread < 16 }
+        requires { found.thread < most_threads }
         ensures behind { IsTrue result ↔ IsBehind self.old found }
         ensures entered { IsTrue result → self.new ≡ entered_by found self.old }
     {

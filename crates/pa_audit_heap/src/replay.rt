@@ -1,4 +1,5 @@
 ghost use Rattle.std.specs.Prelude.{◌≡◌, ◌≢◌, ℕ, ◌-◌, ◌%◌, ◌<◌, ◌≤◌, ◌^◌, ◌↔◌, IfNone, IfOk, IfSome, IsTrue, All, AllPairs, Contains, length, map, take};
+ghost use Rattle.pa_layout.specs.Limits.{most_supers};
 ghost use Rattle.pa_dense.specs.Act.{act_of};
 ghost use Rattle.pa_layout.specs.Pages.{supers_for};
 ghost use Rattle.pa_machine.specs.declared.title.Title.{Title as Slice};
@@ -138,7 +139,7 @@ impl Replay {
         requires step { IsInStep pools.now self.old.plan self.old.root }
         requires whole { len % 4096 ≡ 0 }
         requires some { 0 < len }
-        requires supers { supers_for len ≤ 16 }
+        requires supers { supers_for len ≤ most_supers }
         requires ahead { self.old.plan.entries ≤ asked }
         ensures { IfOk result
             (TellsPlay pools.now (RootAct.Map asked slot len) self.old.plan self.old.root self.new.plan self.new.root) }

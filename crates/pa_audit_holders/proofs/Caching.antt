@@ -12,7 +12,7 @@ use Rattle.pa_record.specs.declared.entry.Answer.TheVariants as answers
 use Rattle.pa_record.specs.declared.numbered.Numbered.{Numbered}
 use Rattle.pa_record.specs.declared.root.RootAct.{RootAct}
 use Rattle.pa_record.specs.declared.root.RootAct.TheVariants.{Fill}
-use Rattle.pa_record.proofs.Members.{of_some}
+use Rattle.pa_lists.proofs.Members.{of_some}
 use Rattle.pa_rules.specs.declared.played.Played.{Played}
 use Rattle.pa_rules.specs.declared.verdict.Place.TheVariants as places
 use Rattle.pa_rules.specs.Played.{step_of}
@@ -20,13 +20,14 @@ use Rattle.pa_rules.specs.Roots.{Journals}
 use Rattle.pa_rules.specs.Caches.{Cache, Caches, CacheRow, CachesTo, DoneRow, FilledFirst, FrontIs, FullRow, MadeRow, NoActs, ReturnRow, SameLists, kept, no_caches, with_cache, with_list}
 use Rattle.pa_rules.specs.HeapDemands.{CachesDemand}
 use Rattle.pa_rules.specs.Tells.{TellsFirst}
+use Rattle.pa_rules.proofs.Asking.{class_once, class_or_map}
+use Rattle.pa_rules.proofs.CachesAfter.{caches_snoc}
 use Rattle.pa_audit_holders.specs.Homes.{HasOneHome}
 use Rattle.pa_audit_holders.specs.Cached.{CachesSoFar, TellsPlayed}
 use Rattle.pa_audit_holders.specs.Rows.{TellsNext}
-use Rattle.pa_one_run.proofs.roots.Classes.{class_once, class_or_map}
-use Rattle.pa_one_run.proofs.lines.Cuts.{caches_snoc}
-use Rattle.pa_audit_records.proofs.Walking.{not_there, here_is}
-use Rattle.pa_audit_records.proofs.Telling.{met_more}
+use Rattle.pa_audit_records.proofs.Walking.{here_is}
+use Rattle.pa_lists.proofs.Indexed.{none_past}
+use Rattle.pa_lists.proofs.Tests.{met_more}
 
 -- every slot of the journals has one kind
 abbrev pub HaveOneKind : Journals → Type 0
@@ -61,8 +62,10 @@ made_one roots x seen cache next other (inl (p, class, xs, rest, asks, filled, f
     let (e, f) = class_once x.op q p class' class asks' asks in
     list_one roots x.line p class seen cache next other (xs, rest, filled, front, becomes)
     (subst (λ z. ListRow roots x.line seen cache other z class) e (subst (λ z. ListRow roots x.line seen cache other q z) f (ys, rest', filled', front', becomes')))
-made_one roots x seen cache next other (inl (p, class, xs, rest, asks, filled, front, becomes)) (inr (q, size, asked, len, asks', only', becomes')) = absurd (class_or_map x.op p q class size asks asks')
-made_one roots x seen cache next other (inr (p, size, asked, len, asks, only, becomes)) (inl (q, class, ys, rest', asks', filled', front', becomes')) = absurd (class_or_map x.op q p class size asks' asks)
+made_one roots x seen cache next other (inl (p, class, xs, rest, asks, filled, front, becomes)) (inr (q, size, asked, len, asks', only', becomes')) =
+    absurd (class_or_map x.op p q class size asks asks')
+made_one roots x seen cache next other (inr (p, size, asked, len, asks, only, becomes)) (inl (q, class, ys, rest', asks', filled', front', becomes')) =
+    absurd (class_or_map x.op q p class size asks' asks)
 made_one roots x seen cache next other (inr (p, size, asked, len, asks, only, becomes)) (inr (q, size', asked', len', asks', only', becomes')) =
     one_becomes next other cache becomes becomes'
 
@@ -73,7 +76,8 @@ full_one roots x cache next other (inr (p, size, i, asks, only, becomes)) (inl (
 full_one roots x cache next other (inr (p, size, i, asks, only, becomes)) (inr (q, size', j, asks', only', becomes')) = one_becomes next other cache becomes becomes'
 
 -- a slot came back
-back_one : (roots : Journals) (x : Played) (slot : Numbered) (cache next other : Cache) → HasOneHome roots slot.slot → ReturnRow roots x slot cache next → ReturnRow roots x slot cache other → next ≡ other
+back_one : (roots : Journals) (x : Played) (slot : Numbered) (cache next other : Cache) → HasOneHome roots slot.slot
+    → ReturnRow roots x slot cache next → ReturnRow roots x slot cache other → next ≡ other
 back_one roots x slot cache next other kind (inl (p, class, of, only, becomes)) (inl (q, class', of', only', becomes')) =
     let (e, f) = kind.class p q class class' of of' in
     one_becomes next other (with_list cache p class (kept class (slot ∷ cache p class))) becomes
@@ -83,7 +87,8 @@ back_one roots x slot cache next other kind (inl (p, class, of, only, becomes)) 
 back_one roots x slot cache next other kind (inr (p, i, number, direct, only, becomes)) (inl (q, class, of, only', becomes')) = absurd (kind.either q p class of direct)
 back_one roots x slot cache next other kind (inr (p, i, number, direct, only, becomes)) (inr (q, j, number', direct', only', becomes')) = one_becomes next other cache becomes becomes'
 
-done_one : (roots : Journals) (x : Played) (o : Option Step) (seen : Seen) (cache next other : Cache) → HaveOneKind roots → DoneRow roots x o seen cache next → DoneRow roots x o seen cache other → next ≡ other
+done_one : (roots : Journals) (x : Played) (o : Option Step) (seen : Seen) (cache next other : Cache) → HaveOneKind roots
+    → DoneRow roots x o seen cache next → DoneRow roots x o seen cache other → next ≡ other
 done_one roots x None seen cache next other kinds (none, becomes) (none', becomes') = one_becomes next other cache becomes becomes'
 done_one roots x (Some step) seen cache next other kinds (inl (returns, row)) (inl (returns', row')) =
     back_one roots x (record { slot = seen.slot; number = number_of seen.found.0 + 1 }) cache next other (kinds seen.slot) row row'
@@ -94,7 +99,8 @@ done_one roots x (Some step) seen cache next other kinds (inr (not, none, become
 quiet_one : (roots : Journals) (x : Played) (cache next other : Cache) → NoActs roots x.line × SameLists next cache → NoActs roots x.line × SameLists other cache → next ≡ other
 quiet_one roots x cache next other (none, becomes) (none', becomes') = one_becomes next other cache becomes becomes'
 
-pub row_one : (partitions : ℕ) (roots : Journals) (x : Played) (a : Answer) (cache next other : Cache) → HaveOneKind roots → CacheRow partitions roots x a cache next → CacheRow partitions roots x a cache other → next ≡ other
+pub row_one : (partitions : ℕ) (roots : Journals) (x : Played) (a : Answer) (cache next other : Cache) → HaveOneKind roots
+    → CacheRow partitions roots x a cache next → CacheRow partitions roots x a cache other → next ≡ other
 row_one partitions roots x (answers.Made seen usable) cache next other kinds row row' = made_one roots x seen cache next other row row'
 row_one partitions roots x (answers.Done seen) cache next other kinds row row' = done_one roots x (step_of x.op) seen cache next other kinds row row'
 row_one partitions roots x (answers.Full entry) cache next other kinds row row' = full_one roots x cache next other row row'
@@ -104,7 +110,8 @@ row_one partitions roots x a cache next other kinds row row' = quiet_one roots x
 -- ---- the walk
 
 -- the lists that records lead to are one
-pub caches_one : (partitions : ℕ) (roots : Journals) (all after other : Caches) (ps : List Played) → HaveOneKind roots → CachesTo partitions roots all ps after → CachesTo partitions roots all ps other → after ≡ other
+pub caches_one : (partitions : ℕ) (roots : Journals) (all after other : Caches) (ps : List Played) → HaveOneKind roots
+    → CachesTo partitions roots all ps after → CachesTo partitions roots all ps other → after ≡ other
 caches_one partitions roots all after other [] kinds h k = h ∙ sym k
 caches_one partitions roots all after other (x ∷ ps) kinds (next, row, more) (next', row', more') =
     let same : next' ≡ next = row_one partitions roots x x.answer (all x.thread) next' next kinds row' row in
@@ -144,7 +151,7 @@ pub caches_all : (partitions : ℕ) (roots : Journals) (ps : List Played) (all :
     → TellsFirst (λ k. CachesDemand partitions roots ps (places.Record k)) None
 caches_all partitions roots ps all i end h j = elim (cases_lt j i) [
   | inl before ↦ h.met j before
-  | inr least ↦ λ x at. absurd (not_there ps j x (omega (arith, end, least)) at)
+  | inr least ↦ λ x at. absurd (none_past ps j x (omega (arith, end, least)) at)
 ]
 
 -- all records were played
@@ -154,10 +161,7 @@ played_all partitions roots ps all end None past h = caches_all partitions roots
 played_all partitions roots ps all end (Some i) past h = h
 
 -- where none fails they are played
-pub played_none : (partitions : ℕ) (roots : Journals) (ps : List Played) (all : Caches) (end : ℕ) (o : Option ℕ) → (IsSome o → ⊥) → TellsPlayed partitions roots ps all end o → CachesSoFar partitions roots ps all end
+pub played_none : (partitions : ℕ) (roots : Journals) (ps : List Played) (all : Caches) (end : ℕ) (o : Option ℕ) → (IsSome o → ⊥)
+    → TellsPlayed partitions roots ps all end o → CachesSoFar partitions roots ps all end
 played_none partitions roots ps all end None none h = h
 played_none partitions roots ps all end (Some i) none h = absurd (none refl)
-
-pub no_misfit : (o : Option ℕ) → (IsSome o → ⊥) → o ≡ None
-no_misfit None none = refl
-no_misfit (Some i) none = absurd (none refl)

@@ -25,21 +25,6 @@ pub record AreEmptied (lists now : List (List Numbered)) (first at rest : ℕ) :
   pub these : (k : ℕ) → first ≤ k → k < at → get_or now k [] ≡ []
   pub others : (k : ℕ) → (first ≤ k → at ≤ k) → get_or now k [] ≡ get_or lists k []
 
-pub emptied_start : (lists : List (List Numbered)) (first rest : ℕ) → rest ≡ listed_slots (from_place lists first) 0 59 → AreEmptied lists lists first first rest
-emptied_start lists first rest is = record {
-  many = refl;
-  low = omega arith;
-  left = record { classes = omega arith; slots = is ∙ none_before };
-  these = λ k low high. absurd (omega (arith, low, high));
-  others = λ k other. refl;
-}
-  where
-    none_before : listed_slots (from_place lists first) 0 59 ≡ listed_slots (from_place lists first) (first - first) (first + 59 - first)
-    none_before =
-        let k : 0 ≡ first - first = omega arith in
-        let n : 59 ≡ first + 59 - first = omega arith in
-        ap (λ z. listed_slots (from_place lists first) z 59) k ∙ ap (λ z. listed_slots (from_place lists first) (first - first) z) n
-
 pub emptied_within : (lists now : List (List Numbered)) (first at rest : ℕ) → AreEmptied lists now first at rest → 0 < rest → at < first + 59
 emptied_within lists now first at rest h some =
     let low = h.low in
@@ -106,12 +91,6 @@ emptied_these lists now first at rest h none k up high = elim (cases_lt k at) [
       let here : first + (k - first) ≡ k = omega (arith, up) in
       h.others k (λ more. past) ∙ ap (λ z. get_or lists z []) (sym here) ∙ left_none (from_place lists first) (at - first) (first + 59 - at) rest (k - first) h.left (omega (arith, none)) (omega (arith, past)) (omega (arith, high, up))
 ]
-
-pub emptied_others : (lists now : List (List Numbered)) (first at rest : ℕ) → AreEmptied lists now first at rest → (k : ℕ) → (first ≤ k → first + 59 ≤ k) → get_or now k [] ≡ get_or lists k []
-emptied_others lists now first at rest h k other =
-    let all = h.left.classes in
-    let low = h.low in
-    h.others k (λ up. let past = other up in omega (arith, past, all, low))
 
 -- ---- partition by partition
 

@@ -1,10 +1,10 @@
 -- The entries of a line that give slots back, batch by batch.
-use Rattle.std.proofs.Common.{◌≡◌, ℕ, zero, suc, ◌+◌, ◌-◌, ◌<◌, ◌≤◌, min, List, [], ◌∷◌, ◌++◌, drop, take, get_or, length, map, Some, None, refl, sym, ◌∙◌, ap, arith, inl, inr}
+use Rattle.std.proofs.Common.{◌≡◌, ℕ, ◌+◌, ◌-◌, ◌<◌, ◌≤◌, min, List, [], ◌∷◌, ◌++◌, drop, take, get_or, length, map, Some, None, sym, ◌∙◌, ap, arith, inl, inr}
 use Rattle.std.specs.Prelude.{All}
 use Rattle.std.proofs.Math.ListN.{drop_of_length-le}
 use Rattle.std.proofs.Math.Seq.{take_all}
 use Rattle.std.proofs.lemmas.Bool.{cases_lt}
-use Rattle.std.proofs.lemmas.List.{append-nil, drop_more, length-append, length-drop, drop-drop, get_or-map, get_or_default}
+use Rattle.std.proofs.lemmas.List.{append-nil, drop_more, length-drop, drop-drop, get_or-map, get_or_default}
 use Rattle.pa_record.specs.declared.numbered.Numbered.{Numbered}
 use Rattle.pa_record.specs.declared.root.RootEntry.{RootEntry}
 use Rattle.pa_record.specs.declared.root.RootAct.{RootAct}
@@ -12,29 +12,12 @@ use Rattle.pa_record.specs.declared.root.RootAct.TheVariants.{Give, Purge}
 use Rattle.pa_rules.specs.Caches.{batches, gives}
 use Rattle.pa_audit_holders.specs.Lines.{did_at, no_entry}
 use Rattle.pa_audit_holders.specs.Gives.{TellsGives}
+use Rattle.pa_rules.proofs.Batches.{gives_more}
 
 drop_past : {X : Type 0} (xs : List X) (k : ℕ) → length xs ≤ k → drop k xs ≡ []
 drop_past xs k past = drop_of_length-le xs past
 
 -- ---- batches
-
-batches_same : (n m : ℕ) (xs : List Numbered) → length xs ≤ n → length xs ≤ m → batches n xs ≡ batches m xs
-batches_same zero zero xs a b = refl
-batches_same zero (suc m) [] a b = refl
-batches_same zero (suc m) (x ∷ xs) a b = absurd (omega arith)
-batches_same (suc n) zero [] a b = refl
-batches_same (suc n) zero (x ∷ xs) a b = absurd (omega arith)
-batches_same (suc n) (suc m) [] a b = refl
-batches_same (suc n) (suc m) (x ∷ xs) a b =
-    let e = length-drop 16 (x ∷ xs) in
-    ap (λ z. Give (take 16 (x ∷ xs)) ∷ z) (batches_same n m (drop 16 (x ∷ xs)) (omega arith) (omega arith))
-
--- the first 16 go back first
-pub gives_more : (xs : List Numbered) → 0 < length xs → gives xs ≡ Give (take 16 xs) ∷ gives (drop 16 xs)
-gives_more [] some = absurd (omega arith)
-gives_more (x ∷ xs) some =
-    let e = length-drop 16 (x ∷ xs) in
-    ap (λ z. Give (take 16 (x ∷ xs)) ∷ z) (batches_same (length xs) (length (drop 16 (x ∷ xs))) (drop 16 (x ∷ xs)) (omega arith) (omega arith))
 
 pub gives_none : (xs : List Numbered) (k : ℕ) → length xs ≤ k → gives (drop k xs) ≡ []
 gives_none xs k past = ap gives (drop_of_length-le xs past)
@@ -125,17 +108,6 @@ act_found journal places next e among within =
     get_or-map (did_at journal) places next 0 Purge within ∙ ap (λ (z : RootEntry). z.act) (get_or_default journal (get_or places next 0) no_entry e (among next 0 within))
 
 -- ---- no other entries
-
-pub gave_all : (acts : List RootAct) (xs : List Numbered) (end : ℕ) → TellsGives acts 0 xs (Some end) → end ≡ length acts → acts ≡ gives xs
-gave_all acts xs end (gave, within) last = gave ∙ ap (λ z. gives xs ++ z) (drop_past acts end (omega (arith, last))) ∙ append-nil (gives xs)
-
-pub all_gave : (acts : List RootAct) (xs : List Numbered) (end : ℕ) → TellsGives acts 0 xs (Some end) → acts ≡ gives xs → end ≡ length acts
-all_gave acts xs end (gave, within) is =
-    let long = length-append (gives xs) (drop end acts) in
-    let rest = length-drop end acts in
-    let one : length acts ≡ length (gives xs) = ap length is in
-    let two : length acts ≡ length (gives xs ++ drop end acts) = ap length gave in
-    omega (arith, long, rest, one, two, within)
 
 pub gave_not : (acts : List RootAct) (xs : List Numbered) → TellsGives acts 0 xs None → acts ≡ gives xs → ⊥
 gave_not acts xs none is = none [] (is ∙ sym (append-nil (gives xs)))

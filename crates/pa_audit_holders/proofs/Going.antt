@@ -3,14 +3,14 @@ use Rattle.std.proofs.Common.{◌≡◌, ℕ, ◌+◌, ◌<◌, ◌≤◌, ◌�
 use Rattle.std.specs.Prelude.{Contains, IsSome, slice_get}
 use Rattle.std.proofs.lemmas.Bool.{cases_eq, cases_lt, false≢true}
 use Rattle.std.proofs.lemmas.List.{get_or_append_left, get_or_default, get_or-map, length-map, length_push}
-use Rattle.std.proofs.lemmas.Option.{get_or_from_slice_get, slice_get-get_or, slice_get_past, slice_get_within}
-use Rattle.pa_record.proofs.PoolSteps.{slice_get_at, slice_get_more}
+use Rattle.std.proofs.lemmas.Option.{get_or_from_slice_get, slice_get-get_or, slice_get_within}
+use Rattle.pa_record.proofs.PoolSteps.{slice_get_more}
 use Rattle.pa_machine.specs.declared.word.SlotName.{SlotName}
 use Rattle.pa_record.specs.declared.numbered.Numbered.{Numbered}
 use Rattle.pa_record.specs.declared.root.RootEntry.{RootEntry}
 use Rattle.pa_record.specs.declared.root.RootAct.{RootAct}
 use Rattle.pa_record.specs.declared.root.RootAct.TheVariants.{Unmap}
-use Rattle.pa_record.proofs.Members.{not_some, of_some}
+use Rattle.pa_lists.proofs.Members.{not_some, of_some}
 use Rattle.pa_audit_records.specs.Keys.{name_key}
 use Rattle.pa_audit_records.specs.Tables.{Puts}
 use Rattle.pa_audit_records.proofs.Putting.{same_key}
@@ -18,6 +18,7 @@ use Rattle.pa_rules.specs.Holders.{Move, moves_by}
 use Rattle.pa_audit_holders.specs.declared.owners.Course.{Course}
 use Rattle.pa_audit_holders.specs.Owners.{move_on}
 use Rattle.pa_audit_holders.specs.Gone.{HasGone, IsUnmapped, NamesNoneGone, NoneGone, lesser_of}
+use Rattle.pa_lists.proofs.Indexed.{slice_get_at}
 
 -- ---- one entry more
 
@@ -123,15 +124,6 @@ gone_entered es e f g asked key slot old n is low same was least puts h =
 -- a key that is set twice has what it got last
 pub puts_over : (f m g : ℕ → Option ℕ) (k v w : ℕ) → Puts f m k v → Puts m g k w → Puts f g k w
 puts_over f m g k v w first next = record { here = next.here; other = λ q ne. next.other q ne ∙ first.other q ne }
-
--- ---- no entries
-
-pub gone_start : (f : ℕ → Option ℕ) → ((q : ℕ) → f q ≡ None) → HasGone [] f
-gone_start f none = record {
-  hit = λ s k low at. absurd (not_some k (sym (none (name_key s)) ∙ at));
-  least = λ s k n low at gone. absurd (not_some k (sym (none (name_key s)) ∙ at));
-  miss = λ s n low at (i, asked, e, there, is). not_some e (sym (slice_get_past {X = RootEntry} [] i (omega arith)) ∙ there);
-}
 
 -- ---- what the table tells
 

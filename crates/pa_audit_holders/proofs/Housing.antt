@@ -10,7 +10,7 @@ use Rattle.pa_record.specs.declared.numbered.Numbered.{Numbered}
 use Rattle.pa_record.specs.declared.root.RootEntry.{RootEntry}
 use Rattle.pa_record.specs.Laws.{leaves_by}
 use Rattle.pa_record.specs.Root.{names}
-use Rattle.pa_record.proofs.Members.{first_in, not_in_none, of_some, not_some}
+use Rattle.pa_lists.proofs.Members.{first_in, not_in_none, of_some, not_some}
 use Rattle.pa_rules.specs.Roots.{Journals, IsEntry, journal_at}
 use Rattle.pa_audit_records.specs.Keys.{name_key}
 use Rattle.pa_audit_records.specs.Tables.{Puts}

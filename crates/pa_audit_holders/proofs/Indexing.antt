@@ -4,14 +4,14 @@ use Rattle.std.specs.Prelude.{All, filter, slice_get, Some}
 use Rattle.std.proofs.lemmas.Option.{slice_get_within, get_or_from_slice_get}
 use Rattle.std.proofs.Math.Seq.{take_all}
 use Rattle.std.proofs.lemmas.Bool.{cases_eq, cases_lt, eq-eqb, ne_eqb}
-use Rattle.std.proofs.lemmas.List.{append-nil, map-append, get_or_append_left, get_or_past, get_or_push, get_or-set_same, get_or-set_other, length-append, length-map, length-set, set_past}
+use Rattle.std.proofs.lemmas.List.{append-nil, map-append, get_or_past, get_or-set_same, get_or-set_other, length-map, length-set, set_past}
 use Rattle.std.proofs.lemmas.List.Elements.{All-push, filter_more}
 use Rattle.pa_record.specs.declared.root.RootEntry.{RootEntry}
 use Rattle.pa_record.specs.declared.root.RootAct.{RootAct}
 use Rattle.pa_rules.specs.Roots.{journal_at}
 use Rattle.pa_record.specs.declared.root.RootAct.TheVariants.{Purge}
-use Rattle.pa_rules.specs.Caches.{NoActs, acts_of}
-use Rattle.pa_audit_holders.specs.Lines.{no_entry, did_at, acts_on, ArePlacesOf, AreOnLines, HaveLines, KnowsLine, NoneBut}
+use Rattle.pa_rules.specs.Caches.{acts_of}
+use Rattle.pa_audit_holders.specs.Lines.{no_entry, did_at, acts_on, ArePlacesOf, AreOnLines, KnowsLine, NoneBut}
 use Rattle.pa_audit_holders.proofs.Giving.{act_found}
 
 abbrev act_in : RootEntry → RootAct
@@ -99,12 +99,6 @@ pub record HaveLinesTo (roots : List (List RootEntry)) (count : ℕ) (tables : L
   pub many : length tables ≡ p
   pub each : (q : ℕ) → q < p → AreOnLines (journal_at roots q) count (get_or tables q [])
 
-pub knows_line : (roots : List (List RootEntry)) (count line : ℕ) (tables given : List (List (List ℕ))) → HaveLines roots count tables → given ≡ tables → line < count → KnowsLine roots given line
-knows_line roots count line tables given h same less = subst (λ (t : List (List (List ℕ))). KnowsLine roots t line) (sym same) (record {
-  many = h.many;
-  each = λ p below. h.each p below line less;
-})
-
 -- a journal that isn't there has no entries
 pub no_acts_past : (roots : List (List RootEntry)) (line p : ℕ) → length roots ≤ p → acts_of (journal_at roots) line p ≡ []
 no_acts_past roots line p past = ap (λ es. acts_on es line) (get_or_past roots p [] past)
@@ -125,34 +119,7 @@ lines_next journal count table j place line e h same at is =
           (lines_miss journal count table j h below (subst (λ k. count ≤ k) (sym on) past))
     ])
 
--- ---- journal by journal
-
-pub tables_next : (roots : List (List RootEntry)) (count : ℕ) (tables : List (List (List ℕ))) (p : ℕ) (journal : List RootEntry) (table : List (List ℕ)) → HaveLinesTo roots count tables p → journal_at roots p ≡ journal →
-    AreOnLines journal count table → HaveLinesTo roots count (tables ++ table ∷ []) (p + 1)
-tables_next roots count tables p journal table h is has =
-    let long = h.many in
-    record {
-      many = length-append tables (table ∷ []) ∙ ap (λ n. n + 1) h.many;
-      each = λ q less. elim (cases_lt q p) [
-        | inl before ↦ subst (λ t. AreOnLines (journal_at roots q) count t) (sym (get_or_append_left tables (table ∷ []) [] q (omega (arith, long, before)))) (h.each q before)
-        | inr least ↦
-            let same : p ≡ q = omega (arith, less, least) in
-            subst (λ k. AreOnLines (journal_at roots k) count (get_or (tables ++ table ∷ []) k [])) same
-            (subst (λ t. AreOnLines (journal_at roots p) count t) (sym (get_or_push tables table [] p h.many)) (subst (λ es. AreOnLines es count table) (sym is) has))
-      ];
-    }
-
-pub tables_whole : (roots : List (List RootEntry)) (count : ℕ) (tables : List (List (List ℕ))) (p : ℕ) → HaveLinesTo roots count tables p → p ≡ length roots → HaveLines roots count tables
-tables_whole roots count tables p h end = record { many = h.many ∙ end; each = λ q less. h.each q (omega (arith, end, less)) }
-
 -- ---- a line's places
-
-pub places_there : (roots : List (List RootEntry)) (tables : List (List (List ℕ))) (line p : ℕ) (table : List (List ℕ)) → KnowsLine roots tables line → slice_get tables p ≡ Some table →
-    ArePlacesOf (journal_at roots p) (get_or table line []) (acts_of (journal_at roots) line p)
-places_there roots tables line p table known at =
-    let long = known.many in
-    let within = slice_get_within tables p table at in
-    subst (λ t. ArePlacesOf (journal_at roots p) (get_or t line []) (acts_of (journal_at roots) line p)) (get_or_from_slice_get tables p table [] at) (known.each p (omega (arith, long, within)))
 
 pub places_none : (roots : List (List RootEntry)) (tables : List (List (List ℕ))) (line p : ℕ) → KnowsLine roots tables line → length tables ≤ p →
     ArePlacesOf (journal_at roots p) [] (acts_of (journal_at roots) line p)
@@ -161,13 +128,6 @@ places_none roots tables line p known past =
     record { among = λ i d less. absurd (omega (arith, less)); did = sym (no_acts_past roots line p (omega (arith, long, past))) }
 
 -- ---- how many entries a line has
-
-pub quiet_is : (journal : List RootEntry) (places : List ℕ) (acts : List RootAct) → ArePlacesOf journal places acts → length places ≡ 0 → acts ≡ []
-quiet_is journal [] acts h none = sym h.did
-quiet_is journal (x ∷ places) acts h none = absurd (omega (arith, none))
-
-pub quiet_was : (journal : List RootEntry) (places : List ℕ) (acts : List RootAct) → ArePlacesOf journal places acts → acts ≡ [] → length places ≡ 0
-quiet_was journal places acts h none = sym (length-map places (did_at journal)) ∙ ap length (h.did ∙ none)
 
 pub none_more : (roots : List (List RootEntry)) (line p n : ℕ) → ((q : ℕ) → q < n → (q ≡ p → ⊥) → acts_of (journal_at roots) line q ≡ []) → ((n ≡ p → ⊥) → acts_of (journal_at roots) line n ≡ [])
     → (q : ℕ) → q < n + 1 → (q ≡ p → ⊥) → acts_of (journal_at roots) line q ≡ []
@@ -180,12 +140,6 @@ pub none_all : (roots : List (List RootEntry)) (line p n : ℕ) → ((q : ℕ) �
 none_all roots line p n h end q other = elim (cases_lt q n) [
   | inl before ↦ h q before other
   | inr past ↦ no_acts_past roots line q (omega (arith, end, past))
-]
-
-pub none_of_all : (roots : List (List RootEntry)) (line : ℕ) → acts_of (journal_at roots) line 0 ≡ [] → NoneBut (journal_at roots) line 0 → NoActs (journal_at roots) line
-none_of_all roots line here others q = elim (cases_eq q 0) [
-  | inl same ↦ ap (acts_of (journal_at roots) line) same ∙ here
-  | inr other ↦ others q other
 ]
 
 one_of : {X : Type 0} (xs : List X) (d : X) → length xs ≡ 1 → xs ≡ get_or xs 0 d ∷ []

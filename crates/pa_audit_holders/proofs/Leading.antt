@@ -8,32 +8,19 @@ use Rattle.pa_machine.specs.declared.word.SlotName.{SlotName}
 use Rattle.pa_machine.specs.declared.word.Step.{Step}
 use Rattle.pa_machine.specs.Count.{number_of}
 use Rattle.pa_machine.specs.Run.{IsReturning}
-use Rattle.pa_trace.specs.declared.script.Op.{Op}
-use Rattle.pa_trace.specs.declared.script.Op.TheVariants as ops
 use Rattle.pa_record.specs.declared.entry.Seen.{Seen}
 use Rattle.pa_record.specs.declared.numbered.Numbered.{Numbered}
 use Rattle.pa_record.specs.declared.root.RootAct.TheVariants.{Full, Map}
 use Rattle.pa_rules.specs.declared.played.Played.{Played}
 use Rattle.pa_rules.specs.Roots.{Journals, AsksForClass, AsksForMap}
 use Rattle.pa_rules.specs.Caches.{Cache, CacheRow, DoneRow, FilledFirst, FrontIs, FullRow, IsDirect, IsOfClass, MadeRow, NoActs, OnlyActs, PurgedRow, ReturnRow, SameLists, gives, kept, spilled, unmap_at, with_list}
-use Rattle.pa_one_run.proofs.roots.Classes.{class_once, map_once, class_or_map}
+use Rattle.pa_rules.proofs.Asking.{class_once, map_once, class_or_map}
 use Rattle.pa_audit_holders.specs.Gives.{PurgesAll, whole_purge}
 use Rattle.pa_audit_holders.specs.Homes.{HasOneHome, IsHomeless}
 use Rattle.pa_audit_holders.specs.Lists.{cache_in, caches_in}
 use Rattle.pa_audit_holders.proofs.Listing.{caches_set}
 use Rattle.pa_audit_holders.proofs.Caching.{filled_one}
-use Rattle.pa_audit_holders.specs.Rows.{BackRow, ClassRow, NamesPartition, TellsFilled, TellsNext, TellsRow}
-
--- an op that asks for a class or a direct map names one of the four partitions
-pub class_within : (op : Op) (p class : ℕ) → NamesPartition op → AsksForClass op p class → p < 4
-class_within (ops.Alloc r q m) p class within (reg, size, is, of) = let same : q ≡ p = cc is in subst (λ k. k < 4) same within
-class_within (ops.Copy from to) p class within (reg, size, is, of) = absurd (cc is)
-class_within (ops.Reset r) p class within (reg, size, is, of) = absurd (cc is)
-class_within (ops.Free r) p class within (reg, size, is, of) = absurd (cc is)
-class_within (ops.Write r v) p class within (reg, size, is, of) = absurd (cc is)
-class_within (ops.Read r v) p class within (reg, size, is, of) = absurd (cc is)
-class_within (ops.Swap r v) p class within (reg, size, is, of) = absurd (cc is)
-class_within ops.Purge p class within (reg, size, is, of) = absurd (cc is)
+use Rattle.pa_audit_holders.specs.Rows.{BackRow, ClassRow, TellsFilled, TellsNext, TellsRow}
 
 same_as : (after cache : Cache) → after ≡ cache → SameLists after cache
 same_as after cache e = λ p c. ap (λ (z : Cache). z p c) e
@@ -158,14 +145,6 @@ done_returning roots x step seen cache after b returns h =
     back next (inl (is, row)) = row
     back next (inr (not, none, becomes)) = absurd (not returns)
 
-pub done_other : (roots : Journals) (x : Played) (step : Step) (seen : Seen) (cache : Cache) (b : Bool) → (IsReturning step seen.found.0 → ⊥) → IsTrue b ↔ NoActs roots x.line
-    → TellsRow (DoneRow roots x (Some step) seen cache) cache b
-done_other roots x step seen cache b other test = row_stays (DoneRow roots x (Some step) seen cache) (NoActs roots x.line) cache b test (λ none. inr (other, none, λ p c. refl)) back
-  where
-    back : (next : Cache) → DoneRow roots x (Some step) seen cache next → NoActs roots x.line
-    back next (inl (is, row)) = absurd (other is)
-    back next (inr (not, none, becomes)) = none
-
 pub done_none : (roots : Journals) (x : Played) (seen : Seen) (cache : Cache) (b : Bool) → IsTrue b ↔ NoActs roots x.line → TellsRow (DoneRow roots x None seen cache) cache b
 done_none roots x seen cache b test = row_stays (DoneRow roots x None seen cache) (NoActs roots x.line) cache b test (λ none. (none, λ p c. refl)) (λ next row. row.0)
 
@@ -178,11 +157,6 @@ purged_row partitions roots x slots cache after none (acts, counted) = (acts, co
 pub purged_was : (partitions : ℕ) (roots : Journals) (x : Played) (slots : ℕ) (cache after : Cache) → PurgedRow partitions roots x slots cache after → PurgesAll partitions roots x.line slots cache
 unfolding whole_purge
 purged_was partitions roots x slots cache after (acts, counted, none) = (acts, counted)
-
--- ---- any other answer
-
-pub row_quiet : (partitions : ℕ) (roots : Journals) (x : Played) (cache : Cache) (b : Bool) → IsTrue b ↔ NoActs roots x.line → TellsRow (λ next. NoActs roots x.line × SameLists next cache) cache b
-row_quiet partitions roots x cache b test = row_stays (λ next. NoActs roots x.line × SameLists next cache) (NoActs roots x.line) cache b test (λ none. (none, λ p c. refl)) (λ next row. row.0)
 
 -- ---- a list that changes
 

@@ -6,11 +6,11 @@ pub mod Remaining
 pub mod Clearing
 pub mod Giving
 pub mod Indexing
+pub mod Paging
 pub mod Housing
 pub mod Acting
 pub mod Purging
 pub mod Leading
-pub mod Homed
 pub mod Owning
 pub mod Threading
 pub mod Moving

@@ -1,7 +1,6 @@
 -- The moves of an entry's slots, and of a journal's entries.
 use Rattle.std.proofs.Common.{◌≡◌, ℕ, ◌+◌, ◌<◌, ◌≤◌, ◌↔◌, Bool, true, false, List, [], ◌∷◌, ◌++◌, get_or, length, map, take, Option, Some, None, refl, sym, ◌∙◌, ap, subst, arith, append_assoc, inl, inr}
 use Rattle.std.specs.Prelude.{IsTrue, filter}
-use Rattle.std.proofs.Math.Seq.{take_all}
 use Rattle.std.proofs.lemmas.Bool.{cases_lt, false≢true}
 use Rattle.std.proofs.lemmas.List.{append-nil, map_more}
 use Rattle.std.proofs.lemmas.List.Concat.{flat_map-append}
@@ -40,14 +39,6 @@ moved_start ps line course slots f = record {
   owners = λ ms h. subst (λ z. HasOwners ps z f) (sym (append-nil ms)) h;
   fits = λ ms h. (λ yes. tt, λ all. refl);
 }
-
-pub moved_all : (ps : List Played) (line : ℕ) (course : Course) (slots : List Numbered) (f g : ℕ → Option Owner) (i : ℕ) (all : Bool) → length slots ≤ i → AreMoved ps line course slots f g i all → AreMoved ps line course slots f g (length slots) all
-moved_all ps line course slots f g i all end h =
-    let whole : take i slots ≡ take (length slots) slots = take_all i slots end ∙ sym (take_all (length slots) slots (omega arith)) in
-    record {
-      owners = λ ms own. subst (λ xs. HasOwners ps (ms ++ map (move_on line course) xs) g) whole (h.owners ms own);
-      fits = λ ms own. subst (λ xs. IsTrue all ↔ AllFit ps ms (map (move_on line course) xs)) whole (h.fits ms own);
-    }
 
 pub moved_more : (ps : List Played) (line : ℕ) (course : Course) (slots : List Numbered) (f g k : ℕ → Option Owner) (i : ℕ) (d : Numbered) (all fits both : Bool) → i < length slots → AreMoved ps line course slots f g i all
     → ((ms : List Move) → HasOwners ps ms g → HasOwners ps (ms ++ move_on line course (get_or slots i d) ∷ []) k)

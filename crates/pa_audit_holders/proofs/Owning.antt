@@ -1,7 +1,7 @@
 -- Who holds a free slot at a number, move by move.
 use Rattle.std.proofs.Common.{◌≡◌, ℕ, ◌+◌, ◌<◌, ◌≤◌, ◌↔◌, true, false, List, [], ◌∷◌, ◌++◌, get_or, length, Option, Some, None, refl, sym, ◌∙◌, ap, subst, arith, ◌⊎◌, inl, inr}
 use Rattle.std.specs.Prelude.{Contains, filter, slice_get}
-use Rattle.std.proofs.lemmas.Bool.{cases_eq, cases_lt, eq-eqb, ne_eqb}
+use Rattle.std.proofs.lemmas.Bool.{cases_eq, cases_lt, ne_eqb}
 use Rattle.std.proofs.lemmas.List.{append-nil, get_or_default}
 use Rattle.std.proofs.lemmas.Option.{slice_get-get_or, get_or_from_slice_get}
 use Rattle.std.proofs.lemmas.List.Elements.{filter-append}
@@ -10,7 +10,7 @@ use Rattle.pa_machine.specs.Count.{number_of}
 use Rattle.pa_machine.specs.Run.{Mark, IsFirstAt, IsRunFrom}
 use Rattle.pa_machine.proofs.Runs.{number_stepped, same_slot_cases, same_slot_yes, same_slot_no}
 use Rattle.pa_record.specs.declared.numbered.Numbered.{Numbered}
-use Rattle.pa_record.proofs.Members.{in_cases, not_in_none, not_some, of_some}
+use Rattle.pa_lists.proofs.Members.{in_cases, not_in_none, not_some, of_some}
 use Rattle.pa_rules.specs.declared.played.Played.{Played}
 use Rattle.pa_rules.specs.Played.{marks_of}
 use Rattle.pa_rules.specs.Order.{IsOfLine}
@@ -27,8 +27,9 @@ use Rattle.pa_audit_holders.specs.declared.owners.Course.TheVariants.{Out, Back}
 use Rattle.pa_audit_holders.specs.declared.owners.Owner.{Owner}
 use Rattle.pa_audit_holders.specs.declared.owners.Owner.TheVariants.{Nobody, Root, Thread}
 use Rattle.pa_audit_holders.specs.Owners.{AreOfRuns, EntersReturn, MoveFits, HasOwners, HasReturned, HasReturns, HasReturnsTo, HolderNow, IsNeeded, TellsOwner, TellsThread, made_owner, move_on, needed_owner, owner_after, way_of}
-use Rattle.pa_verdict.proofs.Lists.{in_at}
+use Rattle.pa_lists.proofs.Indexed.{in_at}
 use Rattle.pa_verdict.proofs.Runs.{same_run}
+use Rattle.pa_verdict.proofs.Holding.{own_move}
 
 -- ---- one first holder
 
@@ -112,9 +113,6 @@ after_line ps h last [] m (x, of, to) = (x, of)
 after_line ps h last (n ∷ ms) m (y, of, to) = after_line ps (made_by n.way y) last ms m to
 
 -- ---- a move's own moves
-
-own_move : (m : Move) → is_move_of m.slot m.number m ≡ true
-own_move m = rw (same_slot_yes m.slot m.slot refl, eq-eqb m.number m.number refl) refl
 
 other_move : (m : Move) (s : SlotName) (k : ℕ) → (m.slot ≡ s → m.number ≡ k → ⊥) → is_move_of s k m ≡ false
 other_move m s k other = elim (same_slot_cases m.slot s) [
@@ -230,32 +228,8 @@ first_nobody ps at s k h sized some is last (f, inr (x, back, e), to) = h.miss s
 
 -- ---- who returned each slot
 
-pub entered_return : (x : Played) (f g : ℕ → Option ℕ) (slot : Numbered) → IsSized slot.slot slot.number → HasReturned x slot.slot slot.number → ((s : SlotName) (k : ℕ) → HasReturned x s k → (s ≡ slot.slot) × (k ≡ slot.number))
-    → Puts f g (word_key slot.slot slot.number) x.thread → EntersReturn x f g
-entered_return x f g slot within back one puts = record {
-  hit = λ s k t sized at. elim (cases_eq (word_key s k) (word_key slot.slot slot.number)) [
-    | inl e ↦
-        let (a, b) = same_place s slot.slot k slot.number sized within e in
-        inr (subst (λ z. HasReturned x z k) (sym a) (subst (λ z. HasReturned x slot.slot z) (sym b) back), sym (of_some x.thread t (sym puts.here ∙ ap g (sym e) ∙ at)))
-    | inr apart ↦ inl (sym (puts.other (word_key s k) apart) ∙ at)
-  ];
-  kept = λ s k sized at. elim (cases_eq (word_key s k) (word_key slot.slot slot.number)) [
-    | inl e ↦ absurd (not_some x.thread (sym at ∙ ap g e ∙ puts.here))
-    | inr apart ↦ sym (puts.other (word_key s k) apart) ∙ at
-  ];
-  has = λ s k sized back' at.
-      let (a, b) = one s k back' in
-      not_some x.thread (sym at ∙ ap (λ z. g (word_key z k)) a ∙ ap (λ z. g (word_key slot.slot z)) b ∙ puts.here);
-}
-
 pub entered_no_return : (x : Played) (f : ℕ → Option ℕ) → ((s : SlotName) (k : ℕ) → HasReturned x s k → ⊥) → EntersReturn x f f
 entered_no_return x f none = record { hit = λ s k t sized at. inl at; kept = λ s k sized at. at; has = λ s k sized back at. none s k back }
-
--- a record returned one slot at most
-pub one_return : (x : Played) (s t : SlotName) (k n : ℕ) → HasReturned x s k → HasReturned x t n → (s ≡ t) × (k ≡ n)
-one_return x s t k n (m, p, is, slot, made, back, number) (m', p', is', slot', made', back', number') =
-    let same : m ≡ m' = of_some m m' (sym is ∙ is') in
-    (sym slot ∙ ap (λ (z : Mark). z.slot) same ∙ slot', sym number ∙ ap (λ (z : Mark). number_of z.found + 1) same ∙ number')
 
 pub returns_start : (ps : List Played) (f : ℕ → Option ℕ) → ((q : ℕ) → f q ≡ None) → HasReturnsTo ps 0 f
 returns_start ps f none = record { hit = λ s k t sized at. absurd (not_some t (sym (none (word_key s k)) ∙ at)); miss = λ s k i x sized at less. absurd (omega (arith, less)) }

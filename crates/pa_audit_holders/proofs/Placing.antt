@@ -11,16 +11,13 @@ use Rattle.pa_rules.specs.Roots.{Journals, journal_at}
 use Rattle.pa_rules.specs.HeapDemands.{HoldersDemand}
 use Rattle.pa_rules.specs.Tells.{TellsFirst}
 use Rattle.pa_audit_holders.specs.declared.tables.Table.{Table}
-use Rattle.pa_audit_holders.specs.Holding.{EntriesSoFar, EntryMovesFitAt, HaveTables, KnowsJournal, TellsHolders, entry_place, first_in}
+use Rattle.pa_audit_holders.specs.Holding.{EntriesSoFar, EntryMovesFitAt, KnowsJournal, TellsHolders, entry_place, first_in}
 use Rattle.pa_audit_holders.proofs.Tabling.{entry_demand}
 
 -- the tables of the first n journals
 pub record HaveTablesTo (ps : List Played) (roots : List (List RootEntry)) (tables : List Table) (n : ℕ) : Type 0 where
   pub many : length tables ≡ n
   pub each : (p : ℕ) (d : Table) → p < n → KnowsJournal ps (journal_at roots p) (get_or tables p d)
-
-pub tables_start : (ps : List Played) (roots : List (List RootEntry)) (tables : List Table) → length tables ≡ 0 → HaveTablesTo ps roots tables 0
-tables_start ps roots tables none = record { many = none; each = λ p d less. absurd (omega (arith, less)) }
 
 pub tables_more : (ps : List Played) (roots : List (List RootEntry)) (tables after : List Table) (t : Table) (n : ℕ) → after ≡ tables ++ t ∷ [] → KnowsJournal ps (journal_at roots n) t → HaveTablesTo ps roots tables n → HaveTablesTo ps roots after (n + 1)
 tables_more ps roots tables after t n is here h =
@@ -36,11 +33,6 @@ tables_more ps roots tables after t n is here h =
             subst (λ z. KnowsJournal ps (journal_at roots p) z) (sym (get_or_push tables t d p last)) (subst (λ z. KnowsJournal ps (journal_at roots z) t) place here)
       ];
     })
-
-pub tables_all : (ps : List Played) (roots : List (List RootEntry)) (tables : List Table) (n : ℕ) → n ≡ length roots → HaveTablesTo ps roots tables n → HaveTables ps roots tables
-tables_all ps roots tables n end h =
-    let many = h.many in
-    record { many = many ∙ end; each = λ p d less. h.each p d (omega (arith, less, many)) }
 
 -- ---- the first entry
 
@@ -73,9 +65,6 @@ past_entries ps roots n p j end past e at =
     let none : journal_at roots p ≡ [] = get_or_past roots p [] (omega (arith, end, past)) in
     let within = slice_get_within (journal_at roots p) j e at in
     absurd (omega (arith, within, ap (λ (es : List RootEntry). length es) none))
-
-pub tells_record : (ps : List Played) (roots : Journals) (i : ℕ) → TellsFirst (λ i. HoldersDemand ps roots (places.Record i)) (Some i) → TellsHolders ps roots (Some (places.Record i))
-tells_record ps roots i tells = tells
 
 pub tells_entry : (ps : List Played) (roots : List (List RootEntry)) (n : ℕ) (misfit : Option (ℕ × ℕ)) → length roots ≤ n → EntriesSoFar ps (journal_at roots) n misfit →
     TellsFirst (λ i. HoldersDemand ps (journal_at roots) (places.Record i)) None → TellsHolders ps (journal_at roots) (entry_place misfit)

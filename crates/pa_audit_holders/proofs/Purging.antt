@@ -29,12 +29,6 @@ pub purging_start : (acts : List RootAct) (lists : ℕ → List Numbered) (slots
 unfolding whole_count whole_purge
 purging_start acts lists slots = record { within = omega arith; low = omega arith; counted = refl; onto = λ e. e; back = λ e. e }
 
--- the next list has more slots than are left
-pub purging_over : (acts : List RootAct) (lists : ℕ → List Numbered) (slots k n at left len : ℕ) → IsPurging acts lists slots k (suc n) at left → len ≡ length (lists k) → left < len → TellsPurge acts lists slots None
-purging_over acts lists slots k n at left len h is more e few =
-    let counted : slots + (length (lists k) + listed_slots lists (k + 1) n) ≡ left + whole_count lists = h.counted in
-    omega (arith, counted, few, is, more)
-
 -- it doesn't go back
 pub purging_not : (acts : List RootAct) (lists : ℕ → List Numbered) (slots k n at left : ℕ) (xs : List Numbered) → IsPurging acts lists slots k (suc n) at left → xs ≡ lists k → TellsGives acts at xs None
     → TellsPurge acts lists slots None
@@ -111,8 +105,3 @@ pub all_end : (partitions : ℕ) (roots : Journals) (line slots : ℕ) (cache : 
 all_end partitions roots line slots cache p left end h none =
     let counted : slots + 0 ≡ left + all_listed cache 0 partitions = h.counted in
     (λ q less. h.acts q (omega (arith, end, less)), omega (arith, counted, none))
-
-pub all_left : (partitions : ℕ) (roots : Journals) (line slots : ℕ) (cache : Cache) (p left : ℕ) → ArePurging partitions roots line slots cache p 0 left → PurgesAll partitions roots line slots cache → left ≡ 0
-all_left partitions roots line slots cache p left h (acts, all) =
-    let counted : slots + 0 ≡ left + all_listed cache 0 partitions = h.counted in
-    omega (arith, counted, all)

@@ -1,12 +1,16 @@
 -- What the threads' lists have together.
-use Rattle.std.proofs.Common.{◌≡◌, ℕ, suc, ◌+◌, List, length, take, ◌∙◌, ap, arith}
+use Rattle.std.proofs.Common.{◌≡◌, ℕ, ◌+◌, List, length, map, take, sym, ◌∙◌, ap, subst, arith}
+use Rattle.pa_record.specs.declared.numbered.Numbered.{Numbered}
 use Rattle.pa_record.specs.declared.report.Tally.{Tally}
 use Rattle.pa_rules.specs.declared.played.Played.{Played}
 use Rattle.pa_rules.specs.Roots.{Journals}
 use Rattle.pa_rules.specs.Caches.{Cache, Caches, listed_slots}
-use Rattle.pa_rules.specs.Report.{cached_bytes, cached_slots, listed_bytes}
-use Rattle.pa_audit_holders.specs.Cached.{AreCachedAt, HaveLed, HaveListed, IsListed}
-use Rattle.pa_audit_holders.specs.Lists.{IsListedBy}
+use Rattle.pa_rules.specs.Report.{cached_bytes, cached_slots, listed_bytes, until}
+use Rattle.pa_audit_records.specs.Cuts.{IsCut, IsLow}
+use Rattle.pa_audit_records.proofs.Cutting.{until_is}
+use Rattle.pa_audit_holders.specs.Cached.{AreCachedAt, CachesSoFar, HaveLed, HaveListed, IsListed}
+use Rattle.pa_audit_holders.specs.Lists.{IsListedBy, caches_in}
+use Rattle.pa_lists.proofs.Tests.{one_more}
 
 pub cached_at : (partitions threads : ℕ) (roots : Journals) (ps : List Played) (end : ℕ) (all : Caches) (tallies : List Tally) → HaveLed partitions roots ps end all → HaveListed threads all tallies
     → AreCachedAt partitions threads roots (take end ps) tallies
@@ -15,12 +19,34 @@ cached_at partitions threads roots ps end all tallies h listed = record {
   each = λ p low. let is = listed.each p low in (all, h, is.slots, is.bytes);
 }
 
+-- ---- phase by phase
+
+-- what is known at the end of a phase, whose records and those before it are the first so many
+pub record IsEnded (partitions threads : ℕ) (roots : Journals) (ps : List Played) (phase count : ℕ) (caches : List (List (List Numbered))) (tallies : List Tally) : Type 0 where
+  pub low : IsLow (map (λ (x : Played). x.phase) ps) phase count
+  pub sixteen : length caches ≡ 16
+  pub walk : CachesSoFar partitions roots ps (caches_in caches) count
+  pub listed : HaveListed threads (caches_in caches) tallies
+  pub here : AreCachedAt partitions threads roots (until phase ps) tallies
+
+pub phase_ended : (partitions threads : ℕ) (roots : Journals) (ps : List Played) (phase count end : ℕ) (caches : List (List (List Numbered))) (tallies : List Tally)
+    → IsCut (map (λ (x : Played). x.phase) ps) phase end → count ≡ end → length caches ≡ 16
+    → CachesSoFar partitions roots ps (caches_in caches) end → HaveListed threads (caches_in caches) tallies
+    → IsEnded partitions threads roots ps phase count caches tallies
+phase_ended partitions threads roots ps phase count end caches tallies cut same many walk listed =
+    subst (λ n. IsEnded partitions threads roots ps phase n caches tallies) (sym same) (record {
+      low = cut.front;
+      sixteen = many;
+      walk = walk;
+      listed = listed;
+      here = subst (λ xs. AreCachedAt partitions threads roots xs tallies) (until_is ps phase end cut)
+          (cached_at partitions threads roots ps end (caches_in caches) tallies walk.led listed);
+    })
+
 -- ---- thread by thread
 
-one_more : (t : ℕ) → t + 1 ≡ suc t
-one_more t = omega arith
-
-pub listed_next : (all : Caches) (cache : Cache) (p t : ℕ) (sum one after : Tally) → IsListed t all p sum → IsListedBy cache p one → cache ≡ all t → after ≡ record { slots = sum.slots + one.slots; bytes = sum.bytes + one.bytes }
+pub listed_next : (all : Caches) (cache : Cache) (p t : ℕ) (sum one after : Tally) → IsListed t all p sum → IsListedBy cache p one
+    → cache ≡ all t → after ≡ record { slots = sum.slots + one.slots; bytes = sum.bytes + one.bytes }
     → IsListed (t + 1) all p after
 listed_next all cache p t sum one after h by there is =
     let a : one.slots ≡ listed_slots (all t p) 0 59 = by.slots ∙ ap (λ (z : Cache). listed_slots (z p) 0 59) there in

@@ -1,6 +1,7 @@
 -- What records lead to, and what the threads' lists have then.
 use Rattle.std.specs.Prelude.{◌≡◌, ℕ, ◌+◌, ◌<◌, List, Option, Some, None, length, slice_index_or, take}
 use Rattle.pa_record.specs.declared.report.Tally.{Tally}
+use Rattle.pa_trace.specs.Limits.{most_partitions}
 use Rattle.pa_rules.specs.declared.played.Played.{Played}
 use Rattle.pa_rules.specs.declared.verdict.Place.TheVariants as places
 use Rattle.pa_rules.specs.Roots.{Journals}
@@ -36,13 +37,13 @@ pub record IsListed (threads : ℕ) (all : Caches) (p : ℕ) (tally : Tally) : T
 
 -- so for each of four partitions
 pub record HaveListed (threads : ℕ) (all : Caches) (tallies : List Tally) : Type 0 where
-  pub many : length tallies ≡ 4
-  pub each : (p : ℕ) → p < 4 → IsListed threads all p (slice_index_or tallies p no_slots)
+  pub many : length tallies ≡ most_partitions
+  pub each : (p : ℕ) → p < most_partitions → IsListed threads all p (slice_index_or tallies p no_slots)
 
 -- the tallies of the caches after these records
 pub record AreCachedAt (partitions threads : ℕ) (roots : Journals) (xs : List Played) (tallies : List Tally) : Type 0 where
-  pub many : length tallies ≡ 4
-  pub each : (p : ℕ) → p < 4 → IsCached partitions threads roots xs p (slice_index_or tallies p no_slots)
+  pub many : length tallies ≡ most_partitions
+  pub each : (p : ℕ) → p < most_partitions → IsCached partitions threads roots xs p (slice_index_or tallies p no_slots)
 
 -- those at the end of each phase
 abbrev pub HaveCached : ℕ → ℕ → Journals → List Played → List (List Tally) → Type 0

@@ -1,5 +1,6 @@
 -- Slots that go back to a root, and the entries of a line that say so.
 use Rattle.std.specs.Prelude.{◌≡◌, ℕ, ◌+◌, ◌<◌, ◌≤◌, List, ◌++◌, length, drop, Option, Some, None}
+use Rattle.pa_buckets.specs.Limits.{class_count}
 use Rattle.pa_record.specs.declared.numbered.Numbered.{Numbered}
 use Rattle.pa_record.specs.declared.root.RootAct.{RootAct}
 use Rattle.pa_rules.specs.Roots.{Journals}
@@ -12,10 +13,10 @@ TellsGives acts at xs None = (rest : List RootAct) → drop at acts ≡ gives xs
 
 -- what a purge does in a partition whose lists these are, and how many slots they have
 unfoldable pub whole_purge : (ℕ → List Numbered) → List RootAct
-whole_purge lists = purge_acts lists 0 59
+whole_purge lists = purge_acts lists 0 class_count
 
 unfoldable pub whole_count : (ℕ → List Numbered) → ℕ
-whole_count lists = listed_slots lists 0 59
+whole_count lists = listed_slots lists 0 class_count
 
 -- A line's entries purge the partition whose lists these are, and so many slots are left to be counted; or they don't, or
 -- the lists have more slots than there are to count.

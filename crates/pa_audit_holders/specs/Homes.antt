@@ -1,5 +1,6 @@
 -- Where a free slot goes: to the lists of its partition and class, or to its root.
 use Rattle.std.specs.Prelude.{◌≡◌, ℕ, ◌<◌, nat_lt, if◌then◌else◌, List, Option, Some, None, IsSome, Contains}
+use Rattle.pa_buckets.specs.Limits.{class_count}
 use Rattle.pa_buckets.specs.Table.{slot_of}
 use Rattle.pa_machine.specs.declared.word.SlotName.{SlotName}
 use Rattle.pa_record.specs.declared.pool.PoolEntry.{PoolEntry}
@@ -17,7 +18,7 @@ use Rattle.pa_audit_holders.specs.declared.homes.Home.{Home}
 
 -- a fill gave the slot this partition and class, one of the 59, or it is a direct map of this partition
 abbrev pub IsHomeIn : Journals → SlotName → ℕ → Option ℕ → Type 0
-IsHomeIn roots s p (Some class) = IsOfClass roots s p class × (class < 59)
+IsHomeIn roots s p (Some class) = IsOfClass roots s p class × (class < class_count)
 IsHomeIn roots s p None = IsDirect roots s p
 
 -- so it is of this home, and its bytes are those

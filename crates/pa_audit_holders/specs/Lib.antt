@@ -7,3 +7,4 @@ pub mod Cached
 pub mod Owners
 pub mod Gone
 pub mod Holding
+pub mod Books

@@ -1,14 +1,17 @@
 -- The lists of the threads' caches, in tables, and what they have together.
 use Rattle.std.specs.Prelude.{◌≡◌, ℕ, ◌+◌, ◌-◌, ◌*◌, ◌<◌, ◌≤◌, nat_lt, if◌then◌else◌, List, [], All, length, slice_index_or}
+use Rattle.pa_buckets.specs.Limits.{class_count}
 use Rattle.pa_buckets.specs.Table.{slot_of}
 use Rattle.pa_record.specs.declared.numbered.Numbered.{Numbered}
 use Rattle.pa_record.specs.declared.report.Tally.{Tally}
+use Rattle.pa_trace.specs.Limits.{most_partitions}
+use Rattle.pa_rules.specs.Limits.{list_count}
 use Rattle.pa_rules.specs.Caches.{Cache, Caches, listed_slots}
 use Rattle.pa_rules.specs.Report.{listed_bytes}
 
 -- the lists of one thread, 59 of each partition; one that isn't there is empty
 abbrev pub cache_in : List (List Numbered) → Cache
-cache_in lists p class = if nat_lt class 59 then slice_index_or lists (59 * p + class) [] else []
+cache_in lists p class = if nat_lt class class_count then slice_index_or lists (class_count * p + class) [] else []
 
 -- those of all threads
 abbrev pub caches_in : List (List (List Numbered)) → Caches
@@ -20,17 +23,17 @@ no_slots = record { slots = 0; bytes = 0 }
 
 -- the tally is that of a thread's lists of partition p
 pub record IsListedBy (cache : Cache) (p : ℕ) (tally : Tally) : Type 0 where
-  pub slots : tally.slots ≡ listed_slots (cache p) 0 59
-  pub bytes : tally.bytes ≡ listed_bytes (λ class. length (cache p class)) 0 59
+  pub slots : tally.slots ≡ listed_slots (cache p) 0 class_count
+  pub bytes : tally.bytes ≡ listed_bytes (λ class. length (cache p class)) 0 class_count
 
 -- What is true of a thread's lists and of their sums.
 --   many, short: the lists are 59 of each of four partitions, none longer than a thread keeps or than a fill is
 --   four, each: a sum of each partition is that of its lists
 pub record AreSummed (lists : List (List Numbered)) (sums : List Tally) : Type 0 where
-  pub many : length lists ≡ 236
+  pub many : length lists ≡ list_count
   pub short : All (λ slots. length slots ≤ 64) lists
-  pub four : length sums ≡ 4
-  pub each : (p : ℕ) → p < 4 → IsListedBy (cache_in lists) p (slice_index_or sums p no_slots)
+  pub four : length sums ≡ most_partitions
+  pub each : (p : ℕ) → p < most_partitions → IsListedBy (cache_in lists) p (slice_index_or sums p no_slots)
 
 -- the tally of lists of which one of a class had so many slots, and has so many now
 abbrev pub changed_by : Tally → ℕ → ℕ → ℕ → Tally

@@ -4,6 +4,7 @@ use Rattle.pa_trace.specs.declared.script.Op.{Op}
 use Rattle.pa_trace.specs.declared.script.Op.TheVariants as ops
 use Rattle.pa_record.specs.declared.entry.Seen.{Seen}
 use Rattle.pa_record.specs.declared.numbered.Numbered.{Numbered}
+use Rattle.pa_trace.specs.Limits.{most_partitions, most_threads}
 use Rattle.pa_rules.specs.declared.played.Played.{Played}
 use Rattle.pa_rules.specs.Roots.{Journals}
 use Rattle.pa_rules.specs.Caches.{Cache, CacheRow, Caches, FilledFirst, FrontIs, OnlyActs, SameLists, gives, kept, spilled, with_cache, with_list}
@@ -32,7 +33,7 @@ BackRow roots line p class slot cache after =
 
 -- the record is of one of 16 threads, and its op names one of four partitions
 abbrev pub NamesPartition : Op → Type 0
-NamesPartition (ops.Alloc reg partition size) = partition < 4
+NamesPartition (ops.Alloc reg partition size) = partition < most_partitions
 NamesPartition (ops.Copy from to) = Unit {0}
 NamesPartition (ops.Reset reg) = Unit {0}
 NamesPartition (ops.Free reg) = Unit {0}
@@ -42,7 +43,7 @@ NamesPartition (ops.Swap cell reg) = Unit {0}
 NamesPartition ops.Purge = Unit {0}
 
 abbrev pub IsOfThreads : Played → Type 0
-IsOfThreads x = (x.thread < 16) × NamesPartition x.op
+IsOfThreads x = (x.thread < most_threads) × NamesPartition x.op
 
 -- the record's row leads from these lists to those; or it leads to none
 pub record TellsNext (partitions : ℕ) (roots : Journals) (x : Played) (all after : Caches) (b : Bool) : Type 0 where

@@ -1,12 +1,11 @@
-ghost use Rattle.std.specs.Prelude.{◌≡◌, ℕ, ◌+◌, ◌↔◌, max, IfNone, IfSome, IsTrue};
+ghost use Rattle.std.specs.Prelude.{◌≡◌, ℕ, ◌+◌, max, IfNone, IfSome};
 ghost use Rattle.pa_buckets.specs.Classes.{IsClassOf};
-ghost use Rattle.pa_machine.specs.Run.{IsReturning};
 ghost use Rattle.pa_rules.specs.Played.{step_of};
 ghost use Rattle.pa_rules.specs.Roots.{AsksForClass, AsksForMap};
 
 use pa_buckets::{Class, class_of, raw_of};
-use pa_direct::GREATEST_SIZE;
-use pa_machine::{Step, Word, held, refs};
+use pa_direct::{GREATEST_IN_CLASS, GREATEST_SIZE};
+use pa_machine::Step;
 use pa_trace::Op;
 
 // A partition, and a class of its slots.
@@ -59,7 +58,7 @@ pub(crate) fn map_asked(op: Op) -> Option<u32>
             size,
             ..
         } => {
-            if 917496 < size && size <= GREATEST_SIZE {
+            if GREATEST_IN_CLASS < size && size <= GREATEST_SIZE {
                 Some(partition)
             } else {
                 None
@@ -79,16 +78,5 @@ pub(crate) fn step_of(op: Op) -> Option<Step>
         Op::Free { .. } => Some(Step::Free),
         Op::Write { .. } => Some(Step::Write),
         _ => None,
-    }
-}
-
-// Whether the step that found this word returned the slot.
-pub(crate) fn returns(step: Step, found: Word) -> bool
-    ensures { IsTrue result ↔ IsReturning step found.0 }
-{
-    match step {
-        Step::Reset => !held(found) && refs(found) == 1,
-        Step::Free => held(found) && refs(found) == 0,
-        Step::Issue | Step::Copy | Step::Write => false,
     }
 }

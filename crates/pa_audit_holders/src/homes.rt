@@ -5,7 +5,7 @@ ghost use Rattle.pa_record.specs.Laws.{leaves_by};
 ghost use Rattle.pa_record.specs.Root.{names};
 ghost use Rattle.pa_rules.specs.Roots.{journal_at};
 ghost use Rattle.pa_audit_records.specs.Keys.{name_key};
-ghost use Rattle.pa_audit_holders.specs.Homes.{KnowsHomes, EntersSlots, HasAbove, HasHomes, IsHomeOf, TellsHome, home_at};
+ghost use Rattle.pa_audit_holders.specs.Homes.{KnowsHomes, EntersSlots, HasAbove, HasHomes, IsHomeOf, home_at};
 
 use pa_audit_records::{ByKey, Salt};
 use pa_buckets::slot_size;
@@ -19,7 +19,7 @@ use std::alloc::Global;
 #[derive(Clone, Copy)]
 pub struct Home {
     pub partition: u32,
-    pub(crate) class: Option<u32>,
+    pub class: Option<u32>,
     pub bytes: u32,
 }
 
@@ -133,17 +133,6 @@ fn enter(
 {
     homes.put(key(slot), home)?;
     Ok(())
-}
-
-// The home of a slot. None where no entry handed it out.
-pub(crate) fn home_of(roots: &[DenseJournal], homes: &ByKey<Home>, slot: SlotName) -> Option<Home>
-    requires homes { KnowsHomes (journal_at roots.now) (value_at homes.now) }
-    ensures { TellsHome (journal_at roots.now) slot result }
-{
-    match homes.find(key(slot)) {
-        Some(home) => Some(home),
-        None => None,
-    }
 }
 
 /// The home of a slot, where the table has one.

@@ -4,16 +4,13 @@
 
 mod acts;
 mod asks;
+mod books;
 mod cached;
-#[cfg(test)]
-mod cached_tests;
 mod caches;
 mod gives;
 mod gone;
 mod held;
 mod holders;
-#[cfg(test)]
-mod holders_tests;
 mod homes;
 mod laws;
 mod lines;
@@ -24,9 +21,8 @@ mod purges;
 mod returns;
 mod rows;
 mod tables;
-#[cfg(test)]
-mod tests;
 
+pub use books::Books;
 pub use caches::{CachesFound, caches_meet};
 pub use holders::holders_meet;
 pub use homes::{Home, found_home, homes_of};

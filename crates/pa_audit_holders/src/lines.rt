@@ -1,12 +1,10 @@
-ghost use Rattle.std.specs.Prelude.{◌≡◌, ℕ, ◌<◌, ◌↔◌, ◌++◌, [], ◌∷◌, IfNone, IfOk, IfSome, IsTrue, OnOk, length, slice_index_or, slice_set};
-ghost use Rattle.pa_dense.specs.Act.{act_of};
-ghost use Rattle.pa_record.specs.declared.root.RootAct.{RootAct};
+ghost use Rattle.std.specs.Prelude.{◌≡◌, ℕ, ◌<◌, ◌++◌, [], ◌∷◌, All, IfOk, OnOk, length, slice_index_or, slice_set};
 ghost use Rattle.pa_rules.specs.Roots.{journal_at};
-ghost use Rattle.pa_rules.specs.Caches.{NoActs, OnlyActs, acts_of};
-ghost use Rattle.pa_audit_holders.specs.Lines.{AreOnLines, ArePlacesOf, HaveLines, KnowsLine, NoneBut};
+ghost use Rattle.pa_audit_holders.specs.Lines.{AreOnLines, HaveLines};
 
-use pa_dense::{Act, DenseEntry, DenseJournal};
+use pa_dense::{DenseEntry, DenseJournal};
 use pa_machine::OutOfMemory;
+use pa_rules::Played;
 use smallvec::SmallVec;
 use std::alloc::Global;
 use std::marker::Model;
@@ -127,7 +125,7 @@ impl ByLine {
     }
 
     // The places of the entries of a line; none where there is no such line.
-    fn places(&self, line: u32) -> &[u32]
+    pub(crate) fn places(&self, line: u32) -> &[u32]
         ensures { result.now ≡ slice_index_or self.now line [] }
     {
         match self.lines.get(line as usize) {
@@ -135,6 +133,17 @@ impl ByLine {
             None => &[],
         }
     }
+}
+
+// A number above the lines of all records.
+pub(crate) fn lines_below(records: &[Played]) -> usize
+    ensures { All (λ x. x.line < result) records.now }
+{
+    let mut most: u32 = 0;
+    for record in records {
+        most = most.max(record.line);
+    }
+    most as usize + 1
 }
 
 // The places of the entries of all journals on lines below this number.
@@ -162,89 +171,4 @@ pub(crate) fn journal_of(roots: &[DenseJournal], partition: u32) -> &[DenseEntry
         Some(journal) => journal.entries(),
         None => &[],
     }
-}
-
-// The places of a line's entries in a partition's journal.
-pub(crate) fn places_of<'a>(
-    roots: &[DenseJournal],
-    tables: &'a [ByLine],
-    line: u32,
-    partition: u32,
-) -> &'a [u32]
-    requires known { KnowsLine roots.now tables.now line }
-    ensures { ArePlacesOf (journal_at roots.now partition) result.now (acts_of (journal_at roots.now) line partition) }
-{
-    match tables.get(partition as usize) {
-        Some(table) => table.places(line),
-        None => &[],
-    }
-}
-
-// Whether the line has no entries in this partition's journal.
-fn is_quiet(roots: &[DenseJournal], tables: &[ByLine], line: u32, partition: u32) -> bool
-    requires known { KnowsLine roots.now tables.now line }
-    ensures { IsTrue result ↔ (acts_of (journal_at roots.now) line partition ≡ []) }
-{
-    places_of(roots, tables, line, partition).is_empty()
-}
-
-// Whether this partition is the other one, or the line has no entries in its journal.
-fn is_quiet_but(
-    roots: &[DenseJournal],
-    tables: &[ByLine],
-    line: u32,
-    partition: u32,
-    other: u32,
-) -> bool
-    requires known { KnowsLine roots.now tables.now line }
-    ensures { IsTrue result ↔ ((partition ≡ other → ⊥) → acts_of (journal_at roots.now) line partition ≡ []) }
-{
-    partition == other || is_quiet(roots, tables, line, partition)
-}
-
-// Whether no journal but this partition's has entries of the line.
-pub(crate) fn none_but(roots: &[DenseJournal], tables: &[ByLine], line: u32, partition: u32) -> bool
-    requires known { KnowsLine roots.now tables.now line }
-    requires few { length roots.now < 4294967296 }
-    ensures { IsTrue result ↔ NoneBut (journal_at roots.now) line partition }
-{
-    let mut at: u32 = 0;
-    for _journal in roots {
-        if !is_quiet_but(roots, tables, line, at, partition) {
-            return false;
-        }
-        at += 1;
-    }
-    true
-}
-
-// Whether the line has no entries.
-pub(crate) fn has_none(roots: &[DenseJournal], tables: &[ByLine], line: u32) -> bool
-    requires known { KnowsLine roots.now tables.now line }
-    requires few { length roots.now < 4294967296 }
-    ensures { IsTrue result ↔ NoActs (journal_at roots.now) line }
-{
-    is_quiet(roots, tables, line, 0) && none_but(roots, tables, line, 0)
-}
-
-// Whether the line's only entry, which is of this partition, did this, as the test says.
-pub(crate) fn only_act<'a>(
-    roots: &'a [DenseJournal],
-    tables: &[ByLine],
-    line: u32,
-    partition: u32,
-) -> Option<Act<'a>>
-    requires known { KnowsLine roots.now tables.now line }
-    requires few { length roots.now < 4294967296 }
-    ensures some { IfSome result (λ a. OnlyActs (journal_at roots.now) line partition (act_of a ∷ [])) }
-    ensures none { IfNone result ((a : RootAct) → OnlyActs (journal_at roots.now) line partition (a ∷ []) → ⊥) }
-{
-    if !none_but(roots, tables, line, partition) {
-        return None;
-    }
-    let places = places_of(roots, tables, line, partition);
-    if places.len() != 1 {
-        return None;
-    }
-    Some(journal_of(roots, partition)[places[0] as usize].act())
 }

@@ -1,20 +1,21 @@
 ghost use Rattle.std.specs.Prelude.{◌≡◌, ℕ, ◌+◌, ◌<◌, ◌≤◌, [], ◌∷◌, ◌↔◌, All, IfOk, IsTrue, OnErr, OnOk, drop, length, slice_index_or, take};
+ghost use Rattle.pa_buckets.specs.Limits.{class_count};
+ghost use Rattle.pa_trace.specs.Limits.{most_partitions};
 ghost use Rattle.pa_rules.specs.Caches.{listed_slots, with_list};
 ghost use Rattle.pa_audit_holders.specs.Lists.{AreSummed, HasPart, IsListedBy, cache_in, changed_by, no_slots};
 
 use pa_buckets::{Class, slot_size};
 use pa_machine::OutOfMemory;
 use pa_record::{Numbered, Tally};
+use pa_rules::LISTS;
+use pa_trace::MOST_PARTITIONS;
 use std::alloc::Global;
 use std::marker::Model;
 use std::mem;
 
-// The number of lists of one thread: of four partitions with 59 classes each.
-const LISTS: u32 = 236;
+const PARTITIONS: usize = MOST_PARTITIONS as usize;
 
-const PARTITIONS: usize = 4;
-
-const CLASSES: usize = 59;
+const CLASSES: usize = pa_buckets::CLASSES as usize;
 
 // The least number of unused places that are put in front of free slots.
 const LEAST_UNUSED: usize = 4;
@@ -118,7 +119,7 @@ impl FreeSlots {
 #[derive(Drop)]
 pub(crate) struct ThreadLists {
     lists: Vec<FreeSlots>,
-    sums: [Tally; 4],
+    sums: [Tally; MOST_PARTITIONS as usize],
 }
 
 impl Model for ThreadLists {
@@ -158,22 +159,22 @@ impl ThreadLists {
 
     // The slots of a partition's list, front first.
     pub(crate) fn list(&self, partition: u32, class: Class) -> &[Numbered]
-        requires partition { partition < 4 }
+        requires partition { partition < most_partitions }
         ensures slots { result.now ≡ cache_in self.now partition class }
         ensures few { length result.now ≤ 64 }
     {
-        self.lists[59 * partition as usize + class.number() as usize].items()
+        self.lists[CLASSES * partition as usize + class.number() as usize].items()
     }
 
     // Puts other slots, at most 64, in place of those of a partition's list, which it hands out.
     pub(crate) fn replace(&mut self, partition: u32, class: Class, slots: FreeSlots) -> FreeSlots
-        requires partition { partition < 4 }
+        requires partition { partition < most_partitions }
         requires few { length slots ≤ 64 }
         ensures slots { result ≡ cache_in self.old partition class }
         ensures few { length result ≤ 64 }
         ensures after { cache_in self.new ≡ with_list (cache_in self.old) partition class slots }
     {
-        let at = 59 * partition as usize + class.number() as usize;
+        let at = CLASSES * partition as usize + class.number() as usize;
         let after = slots.len();
         let replaced = mem::replace(&mut self.lists[at], slots);
         let before = replaced.len();
@@ -184,7 +185,7 @@ impl ThreadLists {
 
     // What the lists of a partition have together.
     pub(crate) fn sum(&self, partition: u32) -> Tally
-        requires partition { partition < 4 }
+        requires partition { partition < most_partitions }
         ensures listed { IsListedBy (cache_in self.now) partition result }
         ensures few { result.slots ≤ 3776 }
         ensures small { result.bytes ≤ 3464495104 }
@@ -209,7 +210,7 @@ fn put_unused(slots: &mut Vec<Numbered>) -> Result<usize, OutOfMemory>
 }
 
 // The sums of lists that are all empty.
-fn no_sums() -> [Tally; 4]
+fn no_sums() -> [Tally; MOST_PARTITIONS as usize]
     ensures { result ≡ no_slots ∷ no_slots ∷ no_slots ∷ no_slots ∷ [] }
 {
     let none = Tally { slots: 0, bytes: 0 };
@@ -217,7 +218,7 @@ fn no_sums() -> [Tally; 4]
 }
 
 // Empties the lists, of which each partition's have this sum.
-fn clear_all(lists: &mut Vec<FreeSlots>, sums: &[Tally; 4])
+fn clear_all(lists: &mut Vec<FreeSlots>, sums: &[Tally; MOST_PARTITIONS as usize])
     requires { AreSummed lists.old.items sums.now }
     ensures many { length lists.new.items ≡ length lists.old.items }
     ensures empty { All (λ slots. slots ≡ []) lists.new.items }
@@ -230,11 +231,11 @@ fn clear_all(lists: &mut Vec<FreeSlots>, sums: &[Tally; 4])
 // Empties a partition's lists, which stand from this place on and have so many slots. Those behind the last of them that has
 // some are left alone.
 fn clear_from(lists: &mut Vec<FreeSlots>, first: usize, slots: u64)
-    requires within { first + 59 ≤ length lists.old.items }
-    requires slots { slots ≡ listed_slots (λ class. slice_index_or lists.old.items (first + class) []) 0 59 }
+    requires within { first + class_count ≤ length lists.old.items }
+    requires slots { slots ≡ listed_slots (λ class. slice_index_or lists.old.items (first + class) []) 0 class_count }
     ensures many { length lists.new.items ≡ length lists.old.items }
-    ensures these { (at : ℕ) → first ≤ at → at < first + 59 → slice_index_or lists.new.items at [] ≡ [] }
-    ensures others { (at : ℕ) → (first ≤ at → first + 59 ≤ at)
+    ensures these { (at : ℕ) → first ≤ at → at < first + class_count → slice_index_or lists.new.items at [] ≡ [] }
+    ensures others { (at : ℕ) → (first ≤ at → first + class_count ≤ at)
         → slice_index_or lists.new.items at [] ≡ slice_index_or lists.old.items at [] }
 {
     let mut rest = slots as usize;

@@ -7,7 +7,7 @@ ghost use Rattle.pa_audit_records.specs.Seeking.{IsOnLine};
 ghost use Rattle.pa_audit_holders.specs.declared.owners.Course.TheVariants as courses;
 ghost use Rattle.pa_audit_holders.specs.Owners.{AllFit, AreDirect, AreOfRuns, HasOwners, HasReturns, TellsThread, move_on};
 
-use crate::owners::{Course, Owner, move_slot};
+use crate::owners::{Course, Mover, Owner, move_slot};
 use pa_audit_records::{ByKey, record_near};
 use pa_dense::Act;
 use pa_machine::OutOfMemory;
@@ -106,27 +106,26 @@ pub(crate) fn both(a: bool, b: bool) -> bool
     a && b
 }
 
-// Moves slots, one after the other, by an entry of a line. Tells whether each has the holder that it needs.
+// Moves slots, one after the other. Tells whether each has the holder that it needs.
 pub(crate) fn move_slots(
     records: &[Played],
     firsts: &ByKey<u32>,
     owners: &mut ByKey<Owner>,
-    line: u32,
-    thread: Option<u32>,
+    mover: Mover,
     course: Course,
     slots: &[Numbered],
 ) -> Result<bool, OutOfMemory>
     requires known { AreOfRuns records.now }
     requires returns { HasReturns records.now (value_at firsts.now) }
-    requires thread { TellsThread records.now line thread }
+    requires thread { TellsThread records.now mover.line mover.thread }
     ensures owners { OnOk result ((ms : List Move) → HasOwners records.now ms (value_at owners.old)
-        → HasOwners records.now (ms ++ map (move_on line course) slots.now) (value_at owners.new)) }
+        → HasOwners records.now (ms ++ map (move_on mover.line course) slots.now) (value_at owners.new)) }
     ensures fits { IfOk result (λ b. (ms : List Move) → HasOwners records.now ms (value_at owners.old)
-        → IsTrue b ↔ AllFit records.now ms (map (move_on line course) slots.now)) }
+        → IsTrue b ↔ AllFit records.now ms (map (move_on mover.line course) slots.now)) }
 {
     let mut all = true;
     for slot in slots {
-        let fits = move_slot(records, firsts, owners, line, thread, course, *slot)?;
+        let fits = move_slot(records, firsts, owners, mover, course, *slot)?;
         all = both(all, fits);
     }
     Ok(all)

@@ -6,9 +6,9 @@ ghost use Rattle.pa_audit_records.specs.Keys.{word_key};
 ghost use Rattle.pa_audit_records.specs.Marks.{IsSized};
 ghost use Rattle.pa_audit_holders.specs.Owners.{AreOfRuns, EntersReturn, MoveFits, HasOwners, HasReturned, HasReturns, IsNeeded, TellsOwner, TellsThread, made_owner, move_on};
 
-use crate::asks::{returns, step_of};
+use crate::asks::step_of;
 use pa_audit_records::{ByKey, Salt};
-use pa_machine::{OutOfMemory, SlotName, number};
+use pa_machine::{OutOfMemory, SlotName, number, returns};
 use pa_record::{Answer, Numbered};
 use pa_rules::Played;
 use std::alloc::Global;
@@ -169,25 +169,31 @@ fn is_needed(held: Owner, course: Course, thread: Option<u32>) -> bool
     }
 }
 
-// Moves a slot at a number, by an entry of a line. Tells whether its holder is the one that the move needs.
+// Who moves slots: an entry on this line, whose record is of this thread where there is one.
+#[derive(Clone, Copy)]
+pub(crate) struct Mover {
+    pub(crate) line: u32,
+    pub(crate) thread: Option<u32>,
+}
+
+// Moves a slot at a number. Tells whether its holder is the one that the move needs.
 pub(crate) fn move_slot(
     records: &[Played],
     firsts: &ByKey<u32>,
     owners: &mut ByKey<Owner>,
-    line: u32,
-    thread: Option<u32>,
+    mover: Mover,
     course: Course,
     slot: Numbered,
 ) -> Result<bool, OutOfMemory>
     requires known { AreOfRuns records.now }
     requires returns { HasReturns records.now (value_at firsts.now) }
-    requires thread { TellsThread records.now line thread }
+    requires thread { TellsThread records.now mover.line mover.thread }
     ensures owners { OnOk result ((ms : List Move) → HasOwners records.now ms (value_at owners.old)
-        → HasOwners records.now (ms ++ move_on line course slot ∷ []) (value_at owners.new)) }
+        → HasOwners records.now (ms ++ move_on mover.line course slot ∷ []) (value_at owners.new)) }
     ensures fits { IfOk result (λ b. (ms : List Move) → HasOwners records.now ms (value_at owners.old)
-        → IsTrue b ↔ MoveFits records.now ms (move_on line course slot)) }
+        → IsTrue b ↔ MoveFits records.now ms (move_on mover.line course slot)) }
 {
     let held = owner_now(records, firsts, owners, slot);
-    owners.put(key_at(slot), made(held, course, thread))?;
-    Ok(is_needed(held, course, thread))
+    owners.put(key_at(slot), made(held, course, mover.thread))?;
+    Ok(is_needed(held, course, mover.thread))
 }

@@ -1,35 +1,24 @@
 ghost use Rattle.std.specs.Prelude.{◌≡◌, ◌<◌, ◌≤◌, ◌↔◌, All, IsTrue, length, map};
+ghost use Rattle.pa_trace.specs.Limits.{most_partitions};
 ghost use Rattle.pa_rules.specs.Roots.{journal_at};
 ghost use Rattle.pa_rules.specs.Caches.{PurgedRow, acts_of};
 ghost use Rattle.pa_audit_holders.specs.Gives.{PurgesAll, TellsPurge};
-ghost use Rattle.pa_audit_holders.specs.Lines.{KnowsLine, did_at};
+ghost use Rattle.pa_audit_holders.specs.Lines.{did_at};
 ghost use Rattle.pa_audit_holders.specs.Lists.{cache_in};
 ghost use Rattle.pa_audit_holders.specs.Rows.{TellsRow};
 
+use crate::books::Page;
 use crate::gives::{ends_with_purge, gives_from};
-use crate::lines::{ByLine, journal_of, places_of};
 use crate::lists::ThreadLists;
 use pa_buckets::Class;
-use pa_dense::{DenseEntry, DenseJournal};
-use pa_rules::Played;
-
-// The number of classes.
-const CLASSES: u32 = 59;
+use pa_dense::DenseEntry;
 
 // A purge gave all lists back, and says how many slots they had.
-pub(crate) fn purged(
-    partitions: u32,
-    roots: &[DenseJournal],
-    lines: &[ByLine],
-    told: Played,
-    slots: u32,
-    cache: &mut ThreadLists,
-) -> bool
-    requires partitions { partitions ≤ 4 }
-    requires known { KnowsLine roots.now lines.now told.line }
-    ensures { TellsRow (PurgedRow partitions (journal_at roots.now) told slots (cache_in cache.old)) (cache_in cache.new) result }
+pub(crate) fn purged(page: &Page<'_>, slots: u32, cache: &mut ThreadLists) -> bool
+    ensures { TellsRow (PurgedRow page.now.partitions (journal_at page.now.roots) page.now.told slots (cache_in cache.old))
+        (cache_in cache.new) result }
 {
-    if !purges_all(partitions, roots, lines, told.line, slots, cache) {
+    if !purges_all(page, slots, cache) {
         return false;
     }
     cache.clear();
@@ -37,21 +26,12 @@ pub(crate) fn purged(
 }
 
 // Whether the line's entries purge all partitions, and their lists have so many slots.
-fn purges_all(
-    partitions: u32,
-    roots: &[DenseJournal],
-    lines: &[ByLine],
-    line: u32,
-    slots: u32,
-    cache: &ThreadLists,
-) -> bool
-    requires partitions { partitions ≤ 4 }
-    requires known { KnowsLine roots.now lines.now line }
-    ensures { IsTrue result ↔ PurgesAll partitions (journal_at roots.now) line slots (cache_in cache.now) }
+fn purges_all(page: &Page<'_>, slots: u32, cache: &ThreadLists) -> bool
+    ensures { IsTrue result ↔ PurgesAll page.now.partitions (journal_at page.now.roots) page.now.told.line slots (cache_in cache.now) }
 {
     let mut left = slots as usize;
-    for partition in 0..partitions {
-        let Some(rest) = purges_one(roots, lines, line, partition, left, cache) else {
+    for partition in 0..page.partitions() {
+        let Some(rest) = purges_one(page, partition, left, cache) else {
             return false;
         };
         left = rest;
@@ -60,26 +40,12 @@ fn purges_all(
 }
 
 // Where the line's entries purge a partition, and its lists have no more slots than so many: how many are left.
-fn purges_one(
-    roots: &[DenseJournal],
-    lines: &[ByLine],
-    line: u32,
-    partition: u32,
-    slots: usize,
-    cache: &ThreadLists,
-) -> Option<usize>
-    requires partition { partition < 4 }
-    requires known { KnowsLine roots.now lines.now line }
-    ensures { TellsPurge (acts_of (journal_at roots.now) line partition) (cache_in cache.now partition) slots result }
+fn purges_one(page: &Page<'_>, partition: u32, slots: usize, cache: &ThreadLists) -> Option<usize>
+    requires partition { partition < most_partitions }
+    ensures { TellsPurge (acts_of (journal_at page.now.roots) page.now.told.line partition) (cache_in cache.now partition) slots result }
 {
-    let places = places_of(roots, lines, line, partition);
-    purges_lists(
-        journal_of(roots, partition),
-        places,
-        partition,
-        slots,
-        cache,
-    )
+    let places = page.places(partition);
+    purges_lists(page.journal(partition), places, partition, slots, cache)
 }
 
 // The same of the entries in these places of the partition's journal.
@@ -91,7 +57,7 @@ fn purges_lists(
     cache: &ThreadLists,
 ) -> Option<usize>
     requires among { All (λ j. j < length journal.now) places.now }
-    requires partition { partition < 4 }
+    requires partition { partition < most_partitions }
     ensures { TellsPurge (map (did_at journal.now) places.now) (cache_in cache.now partition) slots result }
 {
     let mut left = slots;

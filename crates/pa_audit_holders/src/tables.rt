@@ -7,7 +7,7 @@ ghost use Rattle.pa_audit_holders.specs.Holding.{EntryMovesFit, EntryMovesFitAt,
 
 use crate::gone::{enter_gone, none_gone};
 use crate::moves::{both, direct_slots, move_slots, moves_of, thread_on};
-use crate::owners::Owner;
+use crate::owners::{Mover, Owner};
 use pa_audit_records::{ByKey, Salt};
 use pa_dense::{DenseEntry, DenseJournal};
 use pa_machine::OutOfMemory;
@@ -51,12 +51,13 @@ fn play(
     let direct = direct_slots(entry.act());
     let moves = moves_of(entry.act(), &direct);
     let stays = none_gone(&table.gone, moves.slots);
+    let line = entry.line();
+    let mover = Mover { line, thread };
     let fit = move_slots(
         records,
         firsts,
         &mut table.owners,
-        entry.line(),
-        thread,
+        mover,
         moves.course,
         moves.slots,
     )?;

@@ -4,10 +4,9 @@ use Rattle.std.specs.List.{AllByRecursion}
 use Rattle.std.proofs.lemmas.Bool.{cases_eq, cases_lt}
 use Rattle.std.proofs.lemmas.List.{length-append, append-nil}
 use Rattle.pa_trace.specs.declared.fault.TraceFault.{TraceFault}
-use Rattle.pa_trace.specs.declared.fault.TraceFault.TheVariants.{BadLine, Limit, OutOfMemory}
-use Rattle.pa_trace.specs.Faults.{with_front, lines_of, IsFirstFault, IsFirstOf, IsFirstBehind}
+use Rattle.pa_trace.specs.Faults.{with_front, lines_of, IsFirstFault}
 use Rattle.pa_trace.proofs.Cuts.{lf_front, other_front}
-use Rattle.pa_trace.proofs.Early.{fault_early}
+use Rattle.pa_trace.proofs.Early.{first_early}
 use Rattle.pa_trace.proofs.Firsts.{one_fault}
 use Rattle.pa_trace.proofs.Found.{some_fault}
 use Rattle.pa_reader.specs.declared.item.Item.{Item}
@@ -21,28 +20,11 @@ use Rattle.pa_audit_input.proofs.Parting.{some_parting}
 
 -- ---- the trace's part
 
--- want of memory is no first fault
-never_behind : (partitions threads : ℕ) (lines : List (List ℕ)) (n before : ℕ) → IsFirstBehind partitions threads n before lines OutOfMemory → ⊥
-never_behind partitions threads [] n before h = h
-never_behind partitions threads (line ∷ lines) n before (inl h) = h
-never_behind partitions threads (line ∷ lines) n before (inr h) = never_behind partitions threads lines (n + 1) (before + length line) h.4
-
-never_of : (lines : List (List ℕ)) → IsFirstOf lines OutOfMemory → ⊥
-never_of [] h = cc
-never_of (line ∷ lines) (inl h) = h
-never_of (line ∷ lines) (inr h) = never_behind h.1 h.2 lines 2 (length line) h.6
-
--- a fault of 4,194,305 bytes is that of all that begins with them
-first_stays : (e : TraceFault) (p more : List ℕ) → length p ≡ 4194305 → IsFirstFault e p → IsFirstFault e (p ++ more)
-first_stays (BadLine n) p more full h = fault_early (BadLine n) p more full h
-first_stays (Limit n) p more full h = fault_early (Limit n) p more full h
-first_stays OutOfMemory p more full h = absurd (never_of (lines_of p) h)
-
 long_fault : (e : TraceFault) (p z w : List ℕ) → length p ≡ 4194305 → IsFirstFault e (p ++ z) → IsFirstFault e (p ++ w)
 long_fault e p z w full h =
     let found = some_fault p (λ t input. let s = input.short in omega (arith, s, full)) in
-    let same : found.0 ≡ e = one_fault found.0 e (p ++ z) (first_stays found.0 p z full found.1) h in
-    first_stays e p w full (subst (λ (x : TraceFault). IsFirstFault x p) same found.1)
+    let same : found.0 ≡ e = one_fault found.0 e (p ++ z) (first_early found.0 p z full found.1) h in
+    first_early e p w full (subst (λ (x : TraceFault). IsFirstFault x p) same found.1)
 
 -- what begins longer text begins shorter one
 prefix_of : (a b c d : List ℕ) → a ++ b ≡ c ++ d → length c ≤ length a → (v : List ℕ) × (a ≡ c ++ v)

@@ -8,7 +8,7 @@ use Rattle.std.proofs.lemmas.Slice.Zip.{length-zip}
 use Rattle.pa_trace.specs.declared.script.Trace.{Trace}
 use Rattle.pa_record.specs.declared.report.ReportLine.{ReportLine}
 use Rattle.pa_record.specs.declared.run.Run.{Run}
-use Rattle.pa_record.proofs.Members.{not_some}
+use Rattle.pa_lists.proofs.Members.{not_some}
 use Rattle.pa_rules.specs.declared.played.Played.{Played}
 use Rattle.pa_rules.specs.declared.verdict.Clause.{Clause}
 use Rattle.pa_rules.specs.declared.verdict.Clause.TheVariants as clauses

@@ -21,10 +21,6 @@ same_or (x ∷ a) (y ∷ b) =
       | inr other ↦ inr (λ e. other (cc))
     ]
 
--- a byte other than an LF, in front of no lines and of some
-other_none : (b : ℕ) (lines : List (List ℕ)) → lines ≡ [] → with_front b lines ≡ (b ∷ []) ∷ []
-other_none b lines e = rw e refl
-
 -- ---- the first lines of a text are the lines of a text, and so are the others
 
 abbrev AreCut : List (List ℕ) → List (List ℕ) → Type 0

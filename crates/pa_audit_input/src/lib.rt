@@ -5,8 +5,6 @@ mod judging;
 mod laws;
 mod parts;
 mod run_part;
-#[cfg(test)]
-mod tests;
 
 pub use judging::judge;
 pub use laws::{early_audit_fault, one_audit_answer};

@@ -1,5 +1,6 @@
 ghost use Rattle.std.specs.Prelude.{◌≡◌, ◌+◌, ◌≤◌, length, IfOk, IfErr, OnOk};
 ghost use Rattle.pa_record.specs.RunText.{IsRunText};
+ghost use Rattle.pa_trace.specs.Limits.{most_bytes};
 ghost use Rattle.pa_audit_input.specs.Input.{most_audited};
 ghost use Rattle.pa_audit_input.specs.Cutting.{IsRunPartFault};
 
@@ -20,7 +21,7 @@ pub fn run_behind(
     lines: u32,
     back: &[u8],
 ) -> Result<DenseRun, TraceFault>
-    requires before { before ≤ 4194304 }
+    requires before { before ≤ most_bytes }
     requires lines { lines ≤ before }
     requires short { before + length back.now ≤ 134217729 }
     ensures found { IfOk result (λ r. IsRunText r back.now) }
@@ -39,7 +40,7 @@ pub fn run_behind(
 
 // The fault of bytes that are one more than an input may have: the last line is past the limit, or a line before it is bad.
 fn past_fault(alloc: Global, before: usize, lines: u32, back: &[u8]) -> TraceFault
-    requires before { before ≤ 4194304 }
+    requires before { before ≤ most_bytes }
     requires lines { lines ≤ before }
     requires past { before + length back.now ≡ 134217729 }
     ensures { IsRunPartFault lines before back.now result }

@@ -8,7 +8,7 @@ use Rattle.std.proofs.lemmas.Option.{slice_get_within, get_or_from_slice_get}
 use Rattle.pa_machine.specs.Count.{number_of}
 use Rattle.pa_machine.specs.Run.{Mark}
 use Rattle.pa_record.specs.declared.history.CellEntry.{CellEntry}
-use Rattle.pa_record.proofs.Members.{of_some, not_some}
+use Rattle.pa_lists.proofs.Members.{of_some, not_some}
 use Rattle.pa_rules.specs.declared.played.Played.{Played}
 use Rattle.pa_rules.specs.declared.verdict.Place.TheVariants as places
 use Rattle.pa_rules.specs.Cells.{history_at}
@@ -17,7 +17,7 @@ use Rattle.pa_rules.specs.RecordDemands.{IsRecord, SeenDemand}
 use Rattle.pa_rules.specs.Rising.{RiseByLine}
 use Rattle.pa_rules.specs.Seen.{IsBefore, Standing, Handing, Between, left_number}
 use Rattle.pa_rules.proofs.Rising.{rises}
-use Rattle.pa_verdict.proofs.Lists.{in_at, one_at}
+use Rattle.pa_lists.proofs.Indexed.{in_at, one_at}
 use Rattle.pa_audit_records.specs.Keys.{word_key}
 use Rattle.pa_audit_records.specs.Tables.{Puts}
 use Rattle.pa_audit_records.proofs.Walking.{here_is}
@@ -26,6 +26,7 @@ use Rattle.pa_audit_order.specs.Looks.{look_by, NumbersRise}
 use Rattle.pa_audit_records.specs.Cuts.{RiseByPhase}
 use Rattle.pa_audit_order.specs.Steps.{HasNoExchange}
 use Rattle.pa_audit_order.proofs.Leaving.{look_told, look_none}
+use Rattle.pa_rules.proofs.Marking.{found_left}
 
 -- ---- no exchange
 
@@ -92,12 +93,6 @@ pub record RisesSoFar (ps : List Played) (at : ℕ → Option ℕ) (k : ℕ) : T
   pub rise : (i j : ℕ) (x y : Played) (m n : Mark) → i < j → j < k → IsRecord ps i x → IsRecord ps j y → mark_of x ≡ Some m → mark_of y ≡ Some n → m.slot ≡ n.slot → left_number m ≤ number_of n.found
   pub left : (i : ℕ) (x : Played) (m : Mark) → i < k → IsRecord ps i x → mark_of x ≡ Some m → (v : ℕ) × (at (word_key m.slot 0) ≡ Some v) × (left_number m ≤ v)
 
-pub rises_start : (ps : List Played) (at : ℕ → Option ℕ) → RisesSoFar ps at 0
-rises_start ps at = record {
-  rise = λ i j x y m n less below. absurd (omega (arith, below));
-  left = λ i x m below. absurd (omega (arith, below));
-}
-
 -- the record at place k
 here_k : (ps : List Played) (k j : ℕ) (d y : Played) → k < length ps → j < k + 1 → k ≤ j → IsRecord ps j y → get_or ps k d ≡ y
 here_k ps k j d y below less from at = let same : j ≡ k = omega (arith, less, from) in sym (one_of ps j k y (get_or ps k d) at (here_is ps k d below) same)
@@ -115,10 +110,6 @@ rises_quiet ps at k d below tells h =
         | inr last ↦ absurd (not_some m (sym none ∙ ap mark_of (here_k ps k i d x below within last there) ∙ is))
       ];
     }
-
--- a mark leaves no lower number than it finds
-found_left : (m : Mark) → number_of m.found ≤ left_number m
-found_left m = omega arith
 
 pub rises_more : (ps : List Played) (f g : ℕ → Option ℕ) (k : ℕ) (d : Played) (m : Mark) → k < length ps → mark_of (get_or ps k d) ≡ Some m → Puts f g (word_key m.slot 0) (left_number m) → unwrap_or (f (word_key m.slot 0)) 0 ≤ number_of m.found
     → RisesSoFar ps f k → RisesSoFar ps g (k + 1)

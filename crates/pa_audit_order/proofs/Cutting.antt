@@ -7,11 +7,11 @@ use Rattle.std.proofs.lemmas.List.Sums.{sum_by-set}
 use Rattle.std.proofs.lemmas.List.Elements.{Contains-append_left, Contains-push, Contains-push_cases}
 use Rattle.std.proofs.lemmas.Option.{slice_get_within}
 use Rattle.pa_record.specs.declared.history.CellEntry.{CellEntry}
-use Rattle.pa_record.proofs.Members.{of_some, not_some, not_in_none}
+use Rattle.pa_lists.proofs.Members.{of_some, not_some, not_in_none}
 use Rattle.pa_rules.specs.declared.played.Played.{Played}
 use Rattle.pa_rules.specs.RecordDemands.{IsRecord}
 use Rattle.pa_rules.specs.Seen.{IsBefore, Standing, Handing, Between}
-use Rattle.pa_verdict.proofs.Lists.{in_at, one_at}
+use Rattle.pa_lists.proofs.Indexed.{in_at, one_at}
 use Rattle.pa_rules.specs.Rising.{RiseByLine}
 use Rattle.pa_rules.proofs.Rising.{rises}
 use Rattle.pa_audit_records.proofs.Walking.{here_is}

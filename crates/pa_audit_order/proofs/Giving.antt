@@ -7,32 +7,21 @@ use Rattle.pa_record.specs.declared.entry.Seen.{Seen}
 use Rattle.pa_record.specs.declared.entry.Answer.{Answer}
 use Rattle.pa_record.specs.declared.entry.Answer.TheVariants as answers
 use Rattle.pa_record.specs.declared.history.CellEntry.{CellEntry}
-use Rattle.pa_record.proofs.Members.{of_some}
+use Rattle.pa_lists.proofs.Members.{of_some}
 use Rattle.pa_rules.specs.declared.played.Played.{Played}
-use Rattle.pa_rules.specs.declared.register.Reg.{Reg}
 use Rattle.pa_rules.specs.declared.verdict.Place.TheVariants as places
 use Rattle.pa_rules.specs.Contents.{IsContent, HasRegs, IsReadAllowed}
 use Rattle.pa_rules.specs.RecordDemands.{IsRecord, RegistersDemand, ContentsDemand}
-use Rattle.pa_rules.specs.Registers.{Facts, Regs, AllRegs, RowsTo, no_regs, with_thread}
+use Rattle.pa_rules.specs.Registers.{Reg, Regs, AllRegs, RowsTo, no_regs}
 use Rattle.pa_rules.specs.Sizes.{usable_of}
-use Rattle.pa_one_run.proofs.rows.Handles.{row_leads}
-use Rattle.pa_verdict.proofs.Lists.{cut_at}
+use Rattle.pa_lists.proofs.Indexed.{cut_at, slice_get_at}
 use Rattle.pa_rules.specs.Rising.{RiseByLine}
 use Rattle.pa_audit_records.specs.Rows.{MayAnswer}
 use Rattle.pa_audit_records.specs.Tables.{regs_in, regs_next, AreRegsOf, facts_by}
 use Rattle.pa_audit_records.proofs.Rowing.{row_may}
-use Rattle.pa_audit_records.proofs.Walking.{RegsSoFar, here_is, regs_more}
+use Rattle.pa_audit_records.proofs.Walking.{RegsSoFar, here_is, regs_more, rows_one}
 use Rattle.pa_audit_order.specs.Given.{MayFindPoison, MayGive}
 use Rattle.pa_audit_order.proofs.Stamping.{one_place}
-
--- the registers that a list of records leads to are one
-rows_one : (facts : Facts) (all after other : AllRegs) (ps : List Played) → RowsTo facts all ps after → RowsTo facts all ps other → after ≡ other
-rows_one facts all after other [] h k = h ∙ sym k
-rows_one facts all after other (p ∷ ps) (next, row, more) (next', row', more') =
-    let one = (row_leads facts p.op (all p.thread) p.answer next row).registers in
-    let two = (row_leads facts p.op (all p.thread) p.answer next' row').registers in
-    let same : next' ≡ next = λ i r. (two r ∙ sym (one r)) i in
-    rows_one facts (with_thread all p.thread next) after other ps more (subst (λ (z : Regs). RowsTo facts (with_thread all p.thread z) ps other) same more')
 
 -- the clause of the registers takes the walk on
 pub regs_on : (cells : ℕ → List CellEntry) (ps : List Played) (list later : List Reg) (i : ℕ) (d : Played) → i < length ps → ((j : ℕ) → RegistersDemand usable_of cells ps (places.Record j)) → RegsSoFar cells ps list i
@@ -49,10 +38,6 @@ regs_on cells ps list later i d below demand h has =
 walk_has : (cells : ℕ → List CellEntry) (ps : List Played) (list : List Reg) (i : ℕ) (x : Played) → IsRecord ps i x → RegsSoFar cells ps list i → HasRegs usable_of cells ps x (regs_in list x.thread)
 walk_has cells ps list i x at h = (take i ps, drop (suc i) ps, regs_in list, cut_at ps i x at, h.rows, refl)
 
-behind : {A : Type 0} (xs ys : List A) (x : A) → slice_get (xs ++ x ∷ ys) (length xs) ≡ Some x
-behind [] ys x = refl
-behind (z ∷ zs) ys x = behind zs ys x
-
 front_of : {A : Type 0} (xs ys : List A) → take (length xs) (xs ++ ys) ≡ xs
 front_of [] [] = refl
 front_of [] (y ∷ ys) = refl
@@ -62,7 +47,7 @@ front_of (z ∷ zs) ys = ap (λ t. z ∷ t) (front_of zs ys)
 walk_only : (cells : ℕ → List CellEntry) (ps : List Played) (list : List Reg) (i : ℕ) (x : Played) (regs : Regs) → RiseByLine ps → IsRecord ps i x → RegsSoFar cells ps list i → HasRegs usable_of cells ps x regs
     → regs ≡ regs_in list x.thread
 walk_only cells ps list i x regs rising at h (before, after, all, parts, rows, is) =
-    let there : slice_get ps (length before) ≡ Some x = ap (λ zs. slice_get zs (length before)) parts ∙ behind before after x in
+    let there : slice_get ps (length before) ≡ Some x = ap (λ zs. slice_get zs (length before)) parts ∙ slice_get_at before after x in
     let place : length before ≡ i = one_place ps (length before) i x x rising there at refl in
     let front : before ≡ take i ps = sym (front_of before (x ∷ after)) ∙ ap (take (length before)) (sym parts) ∙ ap (λ n. take n ps) place in
     let facts = facts_by cells ps in

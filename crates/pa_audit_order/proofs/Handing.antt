@@ -6,13 +6,13 @@ use Rattle.std.proofs.lemmas.List.{length_push}
 use Rattle.pa_trace.specs.declared.script.Op.TheVariants.{Swap}
 use Rattle.pa_record.specs.declared.entry.Answer.TheVariants.{Swapped}
 use Rattle.pa_record.specs.declared.history.CellEntry.{CellEntry}
-use Rattle.pa_record.proofs.Members.{of_some, not_some}
+use Rattle.pa_lists.proofs.Members.{of_some, not_some}
 use Rattle.pa_rules.specs.declared.played.Played.{Played}
 use Rattle.pa_rules.specs.declared.verdict.Place.TheVariants as places
 use Rattle.pa_rules.specs.Cells.{IsExchange}
 use Rattle.pa_rules.specs.RecordDemands.{IsRecord, CellsDemand}
 use Rattle.pa_rules.specs.Seen.{HandsTo}
-use Rattle.pa_verdict.proofs.Lists.{in_at, one_at}
+use Rattle.pa_lists.proofs.Indexed.{in_at, one_at}
 use Rattle.pa_audit_records.specs.Seeking.{IsOnLine, NoneOnLine}
 use Rattle.pa_rules.specs.Rising.{RiseByLine}
 use Rattle.pa_audit_records.specs.Tables.{Puts}
@@ -25,9 +25,6 @@ use Rattle.pa_audit_order.proofs.Stamping.{one_place}
 -- of the records so far the table has the last of each thread
 abbrev pub AreLast : List Played → (ℕ → Option ℕ) → ℕ → Type 0
 AreLast ps at k = (t : ℕ) → IsLastOf ps t k (at t)
-
-pub last_start : (ps : List Played) (at : ℕ → Option ℕ) → ((q : ℕ) → at q ≡ None) → AreLast ps at 0
-last_start ps at none t = subst (IsLastOf ps t 0) (sym (none t)) (λ j x less is of. omega (arith, less))
 
 last_kept : (ps : List Played) (t k : ℕ) (d : Played) (o : Option ℕ) → k < length ps → ((get_or ps k d).thread ≡ t → ⊥) → IsLastOf ps t k o → IsLastOf ps t (k + 1) o
 last_kept ps t k d None below other none = λ j x less at of. elim (cases_lt j k) [
@@ -67,9 +64,6 @@ push_at (z ∷ zs) x y (suc i) at = elim (push_at zs x y i at) [
   | inl early ↦ inl early
   | inr (last, same) ↦ inr (ap suc last, same)
 ]
-
-pub previous_start : (ps : List Played) → ArePrevious ps [] 0
-previous_start ps = record { long = refl; last = λ i y o is here. absurd (not_some o is) }
 
 pub previous_more : (ps : List Played) (table : List (Option ℕ)) (f : ℕ → Option ℕ) (k : ℕ) (d : Played) (o : Option ℕ) → k < length ps → o ≡ f (get_or ps k d).thread → AreLast ps f k → ArePrevious ps table k
     → ArePrevious ps (table ++ o ∷ []) (k + 1)

@@ -5,7 +5,7 @@ use Rattle.std.proofs.lemmas.Bool.{cases_eq}
 use Rattle.std.specs.Option.{option_map}
 use Rattle.pa_machine.specs.declared.word.SlotName.{SlotName}
 use Rattle.pa_machine.specs.Run.{Mark}
-use Rattle.pa_record.proofs.Members.{of_some, not_some}
+use Rattle.pa_lists.proofs.Members.{of_some, not_some}
 use Rattle.pa_rules.specs.declared.played.Played.{Played}
 use Rattle.pa_rules.specs.Played.{mark_of}
 use Rattle.pa_rules.specs.Seen.{left_number}

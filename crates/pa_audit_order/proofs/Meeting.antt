@@ -6,14 +6,14 @@ use Rattle.std.proofs.lemmas.Option.{slice_get_within}
 use Rattle.pa_machine.specs.Count.{number_of}
 use Rattle.pa_machine.specs.Run.{Mark}
 use Rattle.pa_record.specs.declared.history.CellEntry.{CellEntry}
-use Rattle.pa_record.proofs.Members.{of_some, not_in_none}
+use Rattle.pa_lists.proofs.Members.{of_some, not_in_none}
 use Rattle.pa_rules.specs.declared.played.Played.{Played}
 use Rattle.pa_rules.specs.declared.verdict.Place.TheVariants as places
 use Rattle.pa_rules.specs.Played.{mark_of}
 use Rattle.pa_rules.specs.RecordDemands.{IsRecord, SeenDemand}
 use Rattle.pa_rules.specs.Seen.{IsBefore, Standing, Handing, Between, left_number}
 use Rattle.pa_rules.specs.Tells.{TellsFirst}
-use Rattle.pa_verdict.proofs.Lists.{at_in, in_at, one_at}
+use Rattle.pa_lists.proofs.Indexed.{at_in, in_at, one_at}
 use Rattle.pa_audit_records.specs.Keys.{word_key}
 use Rattle.pa_rules.specs.Rising.{RiseByLine}
 use Rattle.pa_audit_records.specs.Rows.{IsPlayedWithin}
@@ -112,9 +112,6 @@ met_fresh cells ps marked floor k left y h here sized demand =
         omega (arith, most, mine)
 
 -- ---- the threads
-
-pub below_start : (ps : List Played) (Meets : ℕ → Type 0) → TellsBelow ps 0 Meets None
-below_start ps Meets i x at less = absurd (omega (arith, less))
 
 met_below : (ps : List Played) (Meets : ℕ → Type 0) (t j : ℕ) (x : Played) → (x.thread < t → Meets j) → (x.thread ≡ t → Meets j) → x.thread < t + 1 → Meets j
 met_below ps Meets t j x early here less = elim (cases_lt x.thread t) [

@@ -9,14 +9,14 @@ use Rattle.pa_trace.specs.declared.script.Op.TheVariants as ops
 use Rattle.pa_record.specs.declared.entry.Seen.{Seen}
 use Rattle.pa_record.specs.declared.entry.Answer.{Answer}
 use Rattle.pa_record.specs.declared.entry.Answer.TheVariants.{Made, Done}
-use Rattle.pa_record.proofs.Members.{of_some, not_some}
+use Rattle.pa_lists.proofs.Members.{of_some, not_some}
 use Rattle.pa_rules.specs.declared.played.Played.{Played}
 use Rattle.pa_rules.specs.Contents.{IsMadeAt, IsWrittenAt, IsContent, IsFreedBy, IsNextFree}
 use Rattle.pa_rules.specs.RecordDemands.{IsRecord}
-use Rattle.pa_verdict.proofs.Lists.{at_in, in_at}
+use Rattle.pa_lists.proofs.Indexed.{at_in, in_at, none_past}
 use Rattle.pa_audit_records.specs.Keys.{name_key, word_key}
 use Rattle.pa_audit_records.proofs.Putting.{same_key}
-use Rattle.pa_audit_records.proofs.Walking.{here_is, not_there}
+use Rattle.pa_audit_records.proofs.Walking.{here_is}
 use Rattle.pa_audit_order.specs.declared.numbers.Kind.{Kind}
 use Rattle.pa_audit_order.specs.declared.numbers.Kind.TheVariants.{Fill, Free}
 use Rattle.pa_audit_order.specs.Keyed.{HasNoKey, IsGreatest, IsLeast}
@@ -27,7 +27,7 @@ use Rattle.pa_audit_order.specs.Numbers.{seen_by, put_by, DoesAt, IsOneAt, AreBy
 pub below_length : (ps : List Played) (i : ℕ) (x : Played) → IsRecord ps i x → i < length ps
 below_length ps i x at = elim (cases_lt i (length ps)) [
   | inl less ↦ less
-  | inr most ↦ absurd (not_there ps i x most at)
+  | inr most ↦ absurd (none_past ps i x most at)
 ]
 
 knownis : (ps : List Played) (i : ℕ) (d x : Played) → IsRecord ps i x → get_or ps i d ≡ x
@@ -39,9 +39,6 @@ key_within : (s t : SlotName) (a b n : ℕ) → s.start < 4294967296 → t.start
 key_within s t a b n start start' low most from below =
     let names : name_key t ≡ name_key s = omega (arith, low, most, from, below) in
     (same_key t s start' start names, omega (arith, from, names), omega (arith, below, names))
-
-pub table_within : (kind : Kind) (ps : List Played) (f : ℕ → Option ℕ) (q i : ℕ) → AreByNumber kind ps f (length ps) → f q ≡ Some i → i < length ps
-table_within kind ps f q i h at = let (x, s, n, less, here, does, key) = h.hit q i at in less
 
 -- the record that the table has at a key between two of slot s
 record IsFound (kind : Kind) (ps : List Played) (s : SlotName) (a b q i : ℕ) (d : Played) : Type 0 where

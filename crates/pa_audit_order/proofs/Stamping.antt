@@ -16,7 +16,7 @@ use Rattle.pa_trace.specs.declared.script.Op.TheVariants as ops
 use Rattle.pa_record.specs.declared.entry.Seen.{Seen}
 use Rattle.pa_record.specs.declared.entry.Answer.{Answer}
 use Rattle.pa_record.specs.declared.entry.Answer.TheVariants.{Made, Done}
-use Rattle.pa_record.proofs.Members.{in_cases, not_in_none, of_some, not_some}
+use Rattle.pa_lists.proofs.Members.{in_cases, not_in_none, of_some, not_some}
 use Rattle.pa_rules.specs.declared.played.Played.{Played}
 use Rattle.pa_rules.specs.declared.verdict.Place.TheVariants as places
 use Rattle.pa_rules.specs.Played.{mark_of_answer, mark_at, marks_of}
@@ -158,12 +158,6 @@ one_at kind ps rising slots i j x y s n at at' does does' =
     one_place ps i j x y rising at at' (sym a.line ∙ ap (λ (z : Mark). z.line) mark ∙ b.line)
 
 -- ---- the table
-
-pub table_start : (kind : Kind) (ps : List Played) (at : ℕ → Option ℕ) → ((q : ℕ) → at q ≡ None) → AreByNumber kind ps at 0
-table_start kind ps at none = record {
-  hit = λ q i is. absurd (not_some i (sym (none q) ∙ is));
-  whole = λ i x s n less is does. absurd (omega (arith, less));
-}
 
 pub table_skip : (kind : Kind) (ps : List Played) (at : ℕ → Option ℕ) (k : ℕ) (d : Played) → k < length ps → seen_by kind (get_or ps k d).op (get_or ps k d).answer ≡ None → AreByNumber kind ps at k
     → AreByNumber kind ps at (k + 1)

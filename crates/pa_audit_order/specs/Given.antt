@@ -7,7 +7,7 @@ use Rattle.pa_trace.specs.declared.script.Op.{Op}
 use Rattle.pa_trace.specs.declared.script.Op.TheVariants as ops
 use Rattle.pa_record.specs.declared.entry.Answer.{Answer}
 use Rattle.pa_record.specs.declared.entry.Answer.TheVariants.{Value, Dangling}
-use Rattle.pa_rules.specs.declared.register.Reg.TheVariants.{Ref}
+use Rattle.pa_rules.specs.declared.register.Register.TheVariants.{Ref}
 use Rattle.pa_rules.specs.declared.played.Played.{Played}
 use Rattle.pa_rules.specs.Registers.{Regs}
 use Rattle.pa_rules.specs.Contents.{IsContent, IsNextFree}

@@ -20,7 +20,7 @@ use crate::numbers::{Kind, by_number};
 use pa_audit_records::Registers;
 use pa_machine::{OutOfMemory, POISON, SlotName, number};
 use pa_record::{Answer, History};
-use pa_rules::{Played, Reg};
+use pa_rules::{Played, Register};
 use pa_trace::Op;
 use std::alloc::Global;
 use std::collections::BTreeMap;
@@ -163,7 +163,7 @@ fn reads_raw(registers: &Registers, told: Played, slot: SlotName) -> bool
     ensures { IsTrue result ↔ ReadsRaw (regs_in registers.now told.thread) told.op slot }
 {
     match told.op {
-        Op::Read { reg, .. } => registers.get(told.thread, reg) == Reg::Ref(slot),
+        Op::Read { reg, .. } => registers.get(told.thread, reg) == Register::Ref(slot),
         _ => false,
     }
 }

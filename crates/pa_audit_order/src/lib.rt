@@ -10,10 +10,6 @@ mod looks;
 mod numbers;
 mod rises;
 mod seen;
-#[cfg(test)]
-mod seen_tests;
-#[cfg(test)]
-mod tests;
 
 pub use contents::contents_meet;
 pub use seen::seen_meets;

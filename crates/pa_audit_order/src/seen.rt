@@ -18,10 +18,8 @@ use pa_audit_records::Salt;
 use pa_machine::OutOfMemory;
 use pa_record::History;
 use pa_rules::Played;
+use pa_trace::MOST_THREADS;
 use std::alloc::Global;
-
-// Threads of a trace at most.
-const THREADS: u32 = 16;
 
 /// The index of the first record that is before itself, by its thread, by phases and by handles that were handed over, or
 /// finds a lower number of its slot than a record that is before it left; none where no record does.
@@ -45,7 +43,7 @@ pub fn seen_meets(
     let previous = previous_of(alloc, salt, records)?;
     let givers = givers_of(alloc, records, cells)?;
     let mut first = None;
-    for thread in 0..THREADS {
+    for thread in 0..MOST_THREADS {
         let told = walk(alloc, salt, records, &previous, &givers, cells, thread)?;
         first = earlier(first, told);
     }

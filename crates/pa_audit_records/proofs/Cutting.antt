@@ -4,12 +4,12 @@ use Rattle.std.specs.Prelude.{Contains, AllPairs, slice_get, nat_le}
 use Rattle.std.proofs.lemmas.Bool.{cases_lt, cases_eq, le-leb, lt-leb}
 use Rattle.std.proofs.lemmas.List.{length-append, length-map}
 use Rattle.std.proofs.lemmas.Option.{slice_get_within, get_or_from_slice_get, slice_get-get_or}
-use Rattle.pa_record.proofs.Joined.{map_cases}
-use Rattle.pa_record.proofs.Members.{not_some, of_some}
-use Rattle.pa_record.proofs.Pairs.{pairs_cons, pairs_head, pairs_none, pairs_tail}
+use Rattle.pa_lists.proofs.Joined.{map_cases}
+use Rattle.pa_lists.proofs.Members.{not_some, of_some}
+use Rattle.pa_lists.proofs.Pairs.{pairs_cons, pairs_head, pairs_none, pairs_tail}
+use Rattle.pa_record.proofs.Filtered.{filter_none}
 use Rattle.pa_rules.specs.declared.played.Played.{Played}
 use Rattle.pa_rules.specs.Report.{until}
-use Rattle.pa_one_run.proofs.lines.Lists.{filter_none}
 use Rattle.pa_audit_records.specs.Cuts.{HasEach, IsCut, IsLow, RiseByPhase}
 
 -- ---- places
@@ -33,9 +33,6 @@ long_next xs ys y n is long = let a = length-append xs (y ∷ []) in ap length i
 
 pub low_none : (phases : List ℕ) (phase : ℕ) → IsLow phases phase 0
 low_none phases phase = record { within = omega arith; low = λ k n at less. absurd (omega (arith, less)) }
-
-pub low_later : (phases : List ℕ) (n m end : ℕ) → n ≤ m → IsLow phases n end → IsLow phases m end
-low_later phases n m end up h = record { within = h.within; low = λ k x at less. let y = h.low k x at less in omega arith }
 
 pub low_more : (phases : List ℕ) (n end x : ℕ) → slice_get phases end ≡ Some x → x ≤ n → IsLow phases n end → IsLow phases n (end + 1)
 low_more phases n end x at few h =

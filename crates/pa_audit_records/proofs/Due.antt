@@ -11,6 +11,7 @@ use Rattle.pa_rules.specs.declared.verdict.Place.TheVariants as places
 use Rattle.pa_rules.specs.Played.{op_lines, key_of_line, key_of_entry}
 use Rattle.pa_rules.specs.RecordDemands.{LinesDemand}
 use Rattle.pa_rules.specs.Tells.{TellsFirst}
+use Rattle.pa_lists.proofs.Elements.{length_map}
 
 -- the keys of the records that are due
 abbrev pub due : ℕ → ℕ → List Line → List (ℕ × ℕ)
@@ -64,10 +65,6 @@ within : {A : Type 0} (xs : List A) (i : ℕ) → i < length xs → slice_get xs
 within [] i h e = omega (arith, h)
 within (x ∷ xs) zero h e = cc
 within (x ∷ xs) (suc i) h e = within xs i (omega (arith, h)) e
-
-length_map : {A B : Type 0} (f : A → B) (xs : List A) → length (map f xs) ≡ length xs
-length_map f [] = refl
-length_map f (x ∷ xs) = ap suc (length_map f xs)
 
 over : (ls : List Line) (es : List Entry) (n at : ℕ) → DueSoFar ls es [] n at → at < length es → TellsFirst (λ i. LinesDemand ls es (places.Record i)) (Some at)
 over ls es n at h more = (

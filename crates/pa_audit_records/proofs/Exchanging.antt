@@ -9,23 +9,23 @@ use Rattle.pa_record.specs.declared.entry.Answer.{Answer}
 use Rattle.pa_record.specs.declared.history.CellEntry.{CellEntry}
 use Rattle.pa_record.specs.declared.history.Held.{Held}
 use Rattle.pa_record.specs.declared.history.Held.TheVariants.{Nothing}
-use Rattle.pa_record.proofs.Members.{of_some, not_some}
+use Rattle.pa_lists.proofs.Members.{of_some, not_some}
 use Rattle.pa_rules.specs.declared.played.Played.{Played}
 use Rattle.pa_rules.specs.declared.verdict.Place.TheVariants as places
 use Rattle.pa_rules.specs.Cells.{IsExchange, history_at}
 use Rattle.pa_rules.specs.Order.{StandsBefore}
 use Rattle.pa_rules.specs.RecordDemands.{IsAbove, WasGiven, ExchangeFits, CellsDemand}
 use Rattle.pa_rules.proofs.ByLines.{same_record}
-use Rattle.pa_verdict.proofs.Lists.{map_at, at_map, one_at}
+use Rattle.pa_lists.proofs.Indexed.{map_at, at_map, one_at, none_past}
 use Rattle.pa_audit_records.specs.Exchanges.{NamesExchange, SwapFits, IsSwapOf, TellsPair, AreLinesKnown, IsEarlier, HasLatest, IsRecordOfSwap, FitsNow}
 use Rattle.pa_rules.specs.Rising.{RiseByLine}
 use Rattle.pa_rules.specs.Tells.{TellsFirst}
 use Rattle.pa_audit_records.specs.Tables.{Puts}
-use Rattle.pa_audit_records.proofs.Telling.{met_more}
-use Rattle.pa_audit_records.proofs.Walking.{here_is, not_there}
+use Rattle.pa_audit_records.proofs.Walking.{here_is}
 use Rattle.pa_audit_records.specs.Seeking.{IsOnLine}
 use Rattle.pa_audit_records.proofs.Seeking.{line_is}
 use Rattle.pa_audit_records.proofs.Stepping.{records_differ}
+use Rattle.pa_lists.proofs.Tests.{met_more}
 
 -- ---- the records
 
@@ -258,7 +258,7 @@ cell_end cells known k n end h = record {
           let same : l ≡ k = omega (arith, less, late) in
           elim (cases_lt i n) [
             | inl inside ↦ inr (same, inside)
-            | inr outside ↦ absurd (not_there (cells k) i f (omega (arith, end, outside)) (ap (λ z. slice_get (cells z) i) (sym same) ∙ at))
+            | inr outside ↦ absurd (none_past (cells k) i f (omega (arith, end, outside)) (ap (λ z. slice_get (cells z) i) (sym same) ∙ at))
           ]
     ]
 

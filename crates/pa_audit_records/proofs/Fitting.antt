@@ -6,7 +6,7 @@ use Rattle.pa_machine.specs.declared.word.SlotName.{SlotName}
 use Rattle.pa_machine.specs.declared.word.Step.{Step}
 use Rattle.pa_machine.specs.Count.{CanStep}
 use Rattle.pa_machine.specs.Run.{Mark, IsFirstAt}
-use Rattle.pa_record.proofs.Members.{of_some, not_some}
+use Rattle.pa_lists.proofs.Members.{of_some, not_some}
 use Rattle.pa_rules.specs.declared.played.Played.{Played}
 use Rattle.pa_rules.specs.Played.{mark_of, marks_of}
 use Rattle.pa_rules.specs.RecordDemands.{IsRecord}
@@ -15,13 +15,13 @@ use Rattle.pa_rules.proofs.Phases.{mark_in}
 use Rattle.pa_rules.proofs.Marking.{mark_line}
 use Rattle.pa_rules.specs.declared.verdict.Place.TheVariants as places
 use Rattle.pa_rules.specs.RecordDemands.{SlotsDemand}
-use Rattle.pa_verdict.proofs.Lists.{at_in}
+use Rattle.pa_lists.proofs.Indexed.{at_in, none_past}
 use Rattle.pa_verdict.proofs.Runs.{same_run}
 use Rattle.pa_audit_records.specs.Keys.{word_key}
 use Rattle.pa_audit_records.specs.Marks.{IsSized}
 use Rattle.pa_rules.specs.Rising.{RiseByLine}
 use Rattle.pa_audit_records.specs.Steps.{AreFirsts, AreReached, HasAllSlots, StepFits, MarkFits}
-use Rattle.pa_audit_records.proofs.Walking.{here_is, not_there}
+use Rattle.pa_audit_records.proofs.Walking.{here_is}
 use Rattle.pa_audit_records.proofs.Stepping.{same_place, records_differ, first_is, first_none}
 use Rattle.pa_rules.proofs.Rising.{rises}
 
@@ -112,7 +112,7 @@ slots_more ps firsts before at n d below f h kept new i x m less here is = elim 
 pub slots_all : (ps : List Played) (at : ℕ → Option ℕ) (n : ℕ) → length ps ≤ n → HasSlotsBelow ps at n → HasAllSlots ps at
 slots_all ps at n end h i x m here is = elim (cases_lt i n) [
   | inl less ↦ h i x m less here is
-  | inr most ↦ absurd (not_there ps i x (omega (arith, end, most)) here)
+  | inr most ↦ absurd (none_past ps i x (omega (arith, end, most)) here)
 ]
 
 -- an empty table reaches nothing

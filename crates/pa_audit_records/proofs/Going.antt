@@ -9,8 +9,9 @@ use Rattle.std.proofs.lemmas.List.Elements.{filter_map-append}
 use Rattle.pa_machine.specs.declared.word.SlotName.{SlotName}
 use Rattle.pa_machine.specs.declared.word.Step.{Step}
 use Rattle.pa_machine.specs.Run.{Mark, Slots}
-use Rattle.pa_machine.proofs.Runs.{HasRuns, runs_none, runs_same, runs_look, runs_step, slots_of_runs}
-use Rattle.pa_record.proofs.Members.{not_some}
+use Rattle.pa_machine.specs.Runs.{HasRuns}
+use Rattle.pa_machine.proofs.Runs.{runs_none, runs_same, runs_look, runs_step, slots_of_runs}
+use Rattle.pa_lists.proofs.Members.{not_some}
 use Rattle.pa_rules.specs.declared.played.Played.{Played}
 use Rattle.pa_rules.specs.declared.verdict.Place.TheVariants as places
 use Rattle.pa_rules.specs.Played.{mark_of, marks_of}
@@ -20,7 +21,7 @@ use Rattle.pa_rules.proofs.Running.{mark_from}
 use Rattle.pa_rules.proofs.Phases.{mark_in}
 use Rattle.pa_rules.proofs.Marking.{mark_line}
 use Rattle.pa_rules.proofs.Rising.{rises}
-use Rattle.pa_verdict.proofs.Lists.{at_in, in_at}
+use Rattle.pa_lists.proofs.Indexed.{at_in, in_at}
 use Rattle.pa_audit_records.specs.Along.{word_by, LeadsOn}
 use Rattle.pa_audit_records.specs.Keys.{name_key}
 use Rattle.pa_audit_records.proofs.Walking.{here_is}

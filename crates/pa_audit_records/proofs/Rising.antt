@@ -9,8 +9,8 @@ use Rattle.pa_trace.specs.declared.script.Op.{Op}
 use Rattle.pa_trace.specs.declared.script.Op.TheVariants as ops
 use Rattle.pa_trace.specs.Limits.{IsOpWithin, IsLineWithin}
 use Rattle.pa_record.specs.declared.entry.Entry.{Entry}
-use Rattle.pa_record.proofs.Members.{not_in_none, in_cases}
-use Rattle.pa_record.proofs.Pairs.{pairs_none, pairs_cons}
+use Rattle.pa_lists.proofs.Members.{not_in_none, in_cases}
+use Rattle.pa_lists.proofs.Pairs.{pairs_none, pairs_cons}
 use Rattle.pa_rules.specs.declared.played.Played.{Played}
 use Rattle.pa_rules.specs.Played.{op_lines, beside, played}
 use Rattle.pa_rules.specs.Rising.{RiseByLine}

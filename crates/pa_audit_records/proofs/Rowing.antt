@@ -8,13 +8,13 @@ use Rattle.pa_trace.specs.declared.script.Op.{Op}
 use Rattle.pa_trace.specs.declared.script.Op.TheVariants as ops
 use Rattle.pa_record.specs.declared.entry.Seen.{Seen}
 use Rattle.pa_record.specs.declared.entry.Answer.{Answer}
-use Rattle.pa_record.specs.declared.entry.Answer.TheVariants.{Made, Done, SecondFree, NotOwner, StaleReset, StaleUse, Nothing, Filled, NotRef, TooLarge, Full, Swapped}
+use Rattle.pa_record.specs.declared.entry.Answer.TheVariants.{Made, Done, Value, Dangling, SecondFree, NotOwner, StaleReset, StaleUse, Nothing, Filled, NotRef, TooLarge, Full, Swapped}
 use Rattle.pa_record.specs.declared.history.CellEntry.{CellEntry}
-use Rattle.pa_rules.specs.declared.register.Reg.{Reg}
-use Rattle.pa_rules.specs.declared.register.Reg.TheVariants.{Empty, Own, Ref, Freed, Cleared}
-use Rattle.pa_rules.specs.Registers.{Facts, Regs, Row, Becomes, with, RequestRow, AllocRow, CopyToRow, CopyRow, ResetRow, FreeRow, WriteRow, ReadRow, SwapRow, reg_of, no_regs}
-use Rattle.pa_one_run.proofs.rows.Handles.{change_of, changed, found_by}
-use Rattle.pa_audit_records.specs.Rows.{IsDoneAt, AnswersRequest, AnswersAlloc, AnswersCopyTo, AnswersCopy, AnswersReset, AnswersFree, AnswersWrite, AnswersRead, AnswersSwap, MayAnswer}
+use Rattle.pa_rules.specs.declared.register.Register.TheVariants.{Empty, Own, Ref, Freed, Cleared}
+use Rattle.pa_rules.specs.Registers.{Reg, Facts, Regs, Row, Becomes, with, RequestRow, AllocRow, CopyToRow, CopyRow, ResetRow, FreeRow, WriteRow, ReadFromRow, ReadRow, SwapRow, reg_of, no_regs}
+use Rattle.pa_rules.proofs.Nexts.{by_held, held_by}
+use Rattle.pa_audit_records.specs.Rows.{IsDoneAt, AnswersRequest, AnswersAlloc, AnswersCopyTo, AnswersCopy, AnswersReset, AnswersFree, AnswersWrite, AnswersReadFrom, AnswersRead, AnswersSwap, MayAnswer}
+use Rattle.pa_rules.specs.Changes.{change_of, changed, found_in}
 use Rattle.pa_audit_records.specs.Tables.{regs_in, with_register, AreRegsOf}
 
 -- ---- the list of the registers
@@ -65,7 +65,7 @@ set_register list t r holds below within u k = elim (cases_lt k 64) [
       ])
 ]
 
-empty_at : (n k : ℕ) → get_or (replicate n Empty) k Empty ≡ Empty
+empty_at : (n k : ℕ) → get_or {A = Reg} (replicate n Empty) k Empty ≡ Empty
 empty_at zero k = refl
 empty_at (suc n) zero = refl
 empty_at (suc n) (suc k) = empty_at n k
@@ -114,21 +114,28 @@ reset_may Cleared regs after reg answer h = h.0
 free_may : (r : Reg) (regs after : Regs) (reg : ℕ) (answer : Answer) → FreeRow r regs reg answer after → AnswersFree r answer
 free_may Empty regs after reg answer h = h.0
 free_may (Own s) regs after reg answer h = (h.0, h.1, h.2)
-free_may (Ref s) regs after reg answer h = (h.0, h.1, h.3)
+free_may (Ref s) regs after reg answer h = (h.0, h.1, held_by h.0.found.0 answer (NotOwner h.0) (SecondFree (Some h.0)) h.3)
 free_may Freed regs after reg answer h = h.0
 free_may Cleared regs after reg answer h = h.0
 
 write_may : (r : Reg) (regs after : Regs) (answer : Answer) → WriteRow r regs answer after → AnswersWrite r answer
 write_may Empty regs after answer h = h.0
 write_may (Own s) regs after answer h = (h.0, h.1, h.3)
-write_may (Ref s) regs after answer h = (h.0, h.1, h.3)
+write_may (Ref s) regs after answer h = (h.0, h.1, held_by h.0.found.0 answer (NotOwner h.0) (StaleUse (Some h.0)) h.3)
 write_may Freed regs after answer h = h.0
 write_may Cleared regs after answer h = h.0
 
+read_from_may : (s : SlotName) (facts : Facts) (regs after : Regs) (place : ℕ) (answer : Answer) →
+    ReadFromRow s facts regs place answer after →
+    AnswersReadFrom s (facts.usable_at s) place answer
+read_from_may s facts regs after place answer (b, inl h) = inl h
+read_from_may s facts regs after place answer (b, inr (near, seen, value, slot, h)) =
+    inr (near, value, (seen, slot, held_by seen.found.0 answer (Value seen value) (Dangling seen value) h))
+
 read_may : (r : Reg) (facts : Facts) (regs after : Regs) (place : ℕ) (answer : Answer) → ReadRow r facts regs place answer after → AnswersRead r facts.usable_at place answer
 read_may Empty facts regs after place answer h = h.0
-read_may (Own s) facts regs after place answer h = h.1
-read_may (Ref s) facts regs after place answer h = h.1
+read_may (Own s) facts regs after place answer h = read_from_may s facts regs after place answer h
+read_may (Ref s) facts regs after place answer h = read_from_may s facts regs after place answer h
 read_may Freed facts regs after place answer h = h.0
 read_may Cleared facts regs after place answer h = h.0
 
@@ -197,29 +204,44 @@ may_reset Cleared facts regs reg answer h = (h, keeps facts (ops.Reset reg) regs
 may_free : (r : Reg) (facts : Facts) (regs : Regs) (reg : ℕ) (answer : Answer) → AnswersFree r answer → FreeRow r regs reg answer (changed regs (change_of facts.cells (ops.Free reg) answer))
 may_free Empty facts regs reg answer h = (h, keeps facts (ops.Free reg) regs answer Nothing h refl)
 may_free (Own s) facts regs reg answer (seen, slot, is) = (seen, slot, is, sets facts (ops.Free reg) regs answer (Done seen) reg Freed is refl)
-may_free (Ref s) facts regs reg answer (seen, slot, inl h) = (seen, slot, keeps facts (ops.Free reg) regs answer (NotOwner seen) h.1 refl, inl h)
-may_free (Ref s) facts regs reg answer (seen, slot, inr h) = (seen, slot, keeps facts (ops.Free reg) regs answer (SecondFree (Some seen)) h.1 refl, inr h)
+may_free (Ref s) facts regs reg answer (seen, slot, is) = elim (by_held seen.found.0 (NotOwner seen) (SecondFree (Some seen))) [
+  | inl h ↦ (seen, slot, keeps facts (ops.Free reg) regs answer (NotOwner seen) (is ∙ h.1) refl, inl (h.0, is ∙ h.1))
+  | inr h ↦ (seen, slot, keeps facts (ops.Free reg) regs answer (SecondFree (Some seen)) (is ∙ h.1) refl, inr (h.0, is ∙ h.1))
+]
 may_free Freed facts regs reg answer h = (h, keeps facts (ops.Free reg) regs answer (SecondFree None) h refl)
 may_free Cleared facts regs reg answer h = (h, keeps facts (ops.Free reg) regs answer (StaleUse None) h refl)
 
 may_write : (r : Reg) (regs : Regs) (answer : Answer) → AnswersWrite r answer → WriteRow r regs answer regs
 may_write Empty regs answer h = (h, λ k. refl)
 may_write (Own s) regs answer h = (h.0, h.1, (λ k. refl), h.2)
-may_write (Ref s) regs answer h = (h.0, h.1, (λ k. refl), h.2)
+may_write (Ref s) regs answer (seen, slot, is) = elim (by_held seen.found.0 (NotOwner seen) (StaleUse (Some seen))) [
+  | inl h ↦ (seen, slot, (λ k. refl), inl (h.0, is ∙ h.1))
+  | inr h ↦ (seen, slot, (λ k. refl), inr (h.0, is ∙ h.1))
+]
 may_write Freed regs answer h = (h, λ k. refl)
 may_write Cleared regs answer h = (h, λ k. refl)
 
+may_read_from : (s : SlotName) (facts : Facts) (regs : Regs) (place : ℕ) (answer : Answer) →
+    AnswersReadFrom s (facts.usable_at s) place answer →
+    ReadFromRow s facts regs place answer regs
+may_read_from s facts regs place answer (inl h) = ((λ k. refl), inl h)
+may_read_from s facts regs place answer (inr (near, value, (seen, slot, is))) = elim
+    (by_held seen.found.0 (Value seen value) (Dangling seen value)) [
+      | inl h ↦ ((λ k. refl), inr (near, seen, value, slot, inl (h.0, is ∙ h.1)))
+      | inr h ↦ ((λ k. refl), inr (near, seen, value, slot, inr (h.0, is ∙ h.1)))
+    ]
+
 may_read : (r : Reg) (facts : Facts) (regs : Regs) (place : ℕ) (answer : Answer) → AnswersRead r facts.usable_at place answer → ReadRow r facts regs place answer regs
 may_read Empty facts regs place answer h = (h, λ k. refl)
-may_read (Own s) facts regs place answer h = ((λ k. refl), h)
-may_read (Ref s) facts regs place answer h = ((λ k. refl), h)
+may_read (Own s) facts regs place answer h = may_read_from s facts regs place answer h
+may_read (Ref s) facts regs place answer h = may_read_from s facts regs place answer h
 may_read Freed facts regs place answer h = (h, λ k. refl)
 may_read Cleared facts regs place answer h = (h, λ k. refl)
 
 may_swap : (facts : Facts) (regs : Regs) (cell reg : ℕ) (answer : Answer) → AnswersSwap (facts.cells cell) (regs reg) answer
     → SwapRow (facts.cells cell) regs reg answer (changed regs (change_of facts.cells (ops.Swap cell reg) answer))
 may_swap facts regs cell reg answer (entry, e, is, at, gave) =
-    (entry, e, is, at, gave, sets facts (ops.Swap cell reg) regs answer (Swapped entry) reg (reg_of e.found) is (ap (λ (o : Option CellEntry). Some (reg, reg_of (found_by o))) at))
+    (entry, e, is, at, gave, sets facts (ops.Swap cell reg) regs answer (Swapped entry) reg (reg_of e.found) is (ap (λ (o : Option CellEntry). Some (reg, reg_of (found_in o))) at))
 
 pub may_row : (facts : Facts) (op : Op) (regs : Regs) (answer : Answer) → MayAnswer facts op regs answer → Row facts op regs answer (changed regs (change_of facts.cells op answer))
 may_row facts (ops.Alloc reg partition size) regs answer h = may_alloc (regs reg) facts regs reg partition size answer h

@@ -8,7 +8,7 @@ use Rattle.std.proofs.lemmas.Option.{slice_get_within, get_or_from_slice_get}
 use Rattle.pa_rules.specs.declared.played.Played.{Played}
 use Rattle.pa_rules.specs.Rising.{RiseByLine}
 use Rattle.pa_rules.proofs.Rising.{rises}
-use Rattle.pa_verdict.proofs.Lists.{at_in, in_at}
+use Rattle.pa_lists.proofs.Indexed.{at_in, in_at}
 use Rattle.pa_audit_records.specs.Seeking.{IsOnLine, NoneOnLine}
 use Rattle.pa_audit_records.proofs.Walking.{here_is}
 

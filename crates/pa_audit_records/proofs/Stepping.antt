@@ -7,16 +7,17 @@ use Rattle.pa_machine.specs.declared.word.Step.{Step}
 use Rattle.pa_machine.specs.declared.word.Word.{Word}
 use Rattle.pa_machine.specs.Count.{CanStep, stepped}
 use Rattle.pa_machine.specs.Run.{Mark, IsFirstAt}
-use Rattle.pa_machine.proofs.Runs.{same_slot_cases, IsPath, path_push, run_of_path}
+use Rattle.pa_machine.proofs.Runs.{same_slot_cases, path_push, run_of_path}
 use Rattle.std.proofs.lemmas.List.Elements.{Contains-append_left, Contains-push, Contains-push_cases}
-use Rattle.pa_record.proofs.Members.{of_some, not_some, first_in, in_cases, not_in_none}
+use Rattle.pa_machine.specs.Runs.{IsPath}
+use Rattle.pa_lists.proofs.Members.{of_some, not_some, first_in, in_cases, not_in_none}
 use Rattle.pa_rules.specs.declared.played.Played.{Played}
 use Rattle.pa_rules.specs.Played.{mark_of, marks_of}
 use Rattle.pa_rules.specs.RecordDemands.{IsRecord}
 use Rattle.pa_rules.proofs.Running.{OtherRecord, one_mark, mark_from, marks_differ}
 use Rattle.pa_rules.proofs.Phases.{mark_in}
 use Rattle.pa_rules.proofs.Marking.{mark_line}
-use Rattle.pa_verdict.proofs.Lists.{at_in, in_at}
+use Rattle.pa_lists.proofs.Indexed.{at_in, in_at}
 use Rattle.pa_audit_records.specs.Keys.{name_key, word_key}
 use Rattle.pa_audit_records.specs.Marks.{IsSized}
 use Rattle.pa_rules.specs.Rising.{RiseByLine}
@@ -24,7 +25,7 @@ use Rattle.pa_rules.proofs.Rising.{rises}
 use Rattle.pa_audit_records.specs.Steps.{IsStepOf, IsStepAt, IsSizedMark, AreFirstsFrom, AreFirsts, IsNextWord, IsLastWord, HasRunOf, AreReached}
 use Rattle.pa_audit_records.specs.Tables.{Puts}
 use Rattle.pa_audit_records.proofs.Putting.{same_key}
-use Rattle.pa_audit_records.proofs.Walking.{here_is, not_there}
+use Rattle.pa_audit_records.proofs.Walking.{here_is}
 
 pub same_place : (s t : SlotName) (v w : ℕ) → IsSized s v → IsSized t w → word_key s v ≡ word_key t w → (s ≡ t) × (v ≡ w)
 same_place s t v w h k same =
@@ -37,13 +38,6 @@ same_place s t v w h k same =
 one_step_of : (x : Played) (q r : ℕ) → IsStepOf x q → IsStepOf x r → q ≡ r
 one_step_of x q r (m, is, made, at) (n, is', made', at') =
     sym at ∙ ap (λ (z : Mark). word_key z.slot z.found) (of_some m n (sym is ∙ is')) ∙ at'
-
-pub firsts_none : (ps : List Played) (f : ℕ → Option ℕ) (k : ℕ) → length ps ≤ k → ((q : ℕ) → f q ≡ None) → AreFirstsFrom ps f k
-firsts_none ps f k end none = record {
-  hit = λ q i at. absurd (not_some i (sym (none q) ∙ at));
-  miss = λ q j at from (x, is, step). not_there ps j x (omega (arith, end, from)) is;
-  sized = λ i x from is. absurd (not_there ps i x (omega (arith, end, from)) is);
-}
 
 sized_more : (ps : List Played) (f : ℕ → Option ℕ) (k : ℕ) (d : Played) → k < length ps → AreFirstsFrom ps f (k + 1) → IsSizedMark (get_or ps k d) → (i : ℕ) (x : Played) → k ≤ i → IsRecord ps i x → IsSizedMark x
 sized_more ps f k d below h here i x from is = elim (cases_lt k i) [

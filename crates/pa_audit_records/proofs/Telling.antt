@@ -3,13 +3,6 @@ use Rattle.std.proofs.Common.{◌≡◌, ℕ, ◌+◌, ◌<◌, ◌≤◌, Some,
 use Rattle.std.proofs.lemmas.Bool.{cases_lt}
 use Rattle.pa_rules.specs.Tells.{TellsFirst}
 
--- one place more meets it
-pub met_more : (P : ℕ → Type 0) (i : ℕ) → ((j : ℕ) → j < i → P j) → P i → (j : ℕ) → j < i + 1 → P j
-met_more P i h here j less = elim (cases_lt j i) [
-  | inl before ↦ h j before
-  | inr least ↦ let same : i ≡ j = omega (arith, less, least) in subst P same here
-]
-
 -- the first place that doesn't
 pub tells_at : (P : ℕ → Type 0) (i at : ℕ) → at ≡ i → (P i → ⊥) → ((j : ℕ) → j < i → P j) → TellsFirst P (Some at)
 tells_at P i at same unmet met = subst (λ k. TellsFirst P (Some k)) (sym same) (unmet, met)

@@ -3,27 +3,21 @@ use Rattle.std.proofs.Common.{◌≡◌, ℕ, zero, suc, ◌+◌, ◌<◌, ◌�
 use Rattle.std.specs.Prelude.{slice_get, Contains}
 use Rattle.pa_record.specs.declared.history.CellEntry.{CellEntry}
 use Rattle.pa_rules.specs.declared.played.Played.{Played}
-use Rattle.pa_rules.specs.Registers.{Facts, Regs, AllRegs, Row, RowsTo, with_thread, no_regs}
-use Rattle.pa_one_run.proofs.rows.Handles.{change_of, changed, row_leads}
+use Rattle.pa_rules.specs.Registers.{Reg, Facts, Regs, AllRegs, Row, RowsTo, with_thread, no_regs}
 use Rattle.std.proofs.lemmas.List.{take_more}
 use Rattle.std.proofs.lemmas.Bool.{cases_lt}
-use Rattle.pa_record.proofs.Members.{of_some, not_some}
-use Rattle.pa_rules.specs.declared.register.Reg.{Reg}
+use Rattle.pa_lists.proofs.Members.{of_some}
 use Rattle.pa_rules.specs.declared.verdict.Place.TheVariants as places
 use Rattle.pa_rules.specs.RecordDemands.{RegistersDemand}
 use Rattle.pa_rules.specs.Sizes.{usable_of}
-use Rattle.pa_verdict.proofs.Lists.{at_in}
+use Rattle.pa_lists.proofs.Indexed.{at_in, none_past}
 use Rattle.pa_verdict.proofs.Walks.{rows_end}
 use Rattle.pa_rules.specs.Tells.{TellsFirst}
+use Rattle.pa_rules.specs.Changes.{change_of, changed}
+use Rattle.pa_rules.proofs.Leading.{row_leads}
 use Rattle.pa_audit_records.specs.Rows.{MayAnswer}
 use Rattle.pa_audit_records.specs.Tables.{regs_in, regs_next, AreRegsOf, facts_by}
 use Rattle.pa_audit_records.proofs.Rowing.{row_may, may_row}
-
--- no record stands past the end
-pub not_there : {A : Type 0} (xs : List A) (i : ℕ) (x : A) → length xs ≤ i → slice_get xs i ≡ Some x → ⊥
-not_there [] i x end at = not_some x at
-not_there (y ∷ ys) zero x end at = omega (arith, end)
-not_there (y ∷ ys) (suc i) x end at = not_there ys i x (omega (arith, end)) at
 
 -- Each record so far has the answer that its registers ask for, and the list has the registers after them.
 pub record RegsSoFar (cells : ℕ → List CellEntry) (ps : List Played) (list : List Reg) (i : ℕ) : Type 0 where
@@ -34,7 +28,7 @@ same_regs : (list : List Reg) (all : AllRegs) → AreRegsOf list all → regs_in
 same_regs list all h = λ i t r. (h t r) i
 
 -- the registers that a list of records leads to are one
-rows_one : (facts : Facts) (all after other : AllRegs) (ps : List Played) → RowsTo facts all ps after → RowsTo facts all ps other → after ≡ other
+pub rows_one : (facts : Facts) (all after other : AllRegs) (ps : List Played) → RowsTo facts all ps after → RowsTo facts all ps other → after ≡ other
 rows_one facts all after other [] h k = h ∙ sym k
 rows_one facts all after other (p ∷ ps) (next, row, more) (next', row', more') =
     let one = (row_leads facts p.op (all p.thread) p.answer next row).registers in
@@ -92,5 +86,5 @@ regs_more cells ps list later i d below h may has =
 pub regs_all : (cells : ℕ → List CellEntry) (ps : List Played) (list : List Reg) (i : ℕ) → length ps ≤ i → RegsSoFar cells ps list i → TellsFirst (λ k. RegistersDemand usable_of cells ps (places.Record k)) None
 regs_all cells ps list i end h j = elim (cases_lt j i) [
   | inl before ↦ h.met j before
-  | inr least ↦ λ x at. absurd (not_there ps j x (omega (arith, end, least)) at)
+  | inr least ↦ λ x at. absurd (none_past ps j x (omega (arith, end, least)) at)
 ]

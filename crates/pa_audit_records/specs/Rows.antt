@@ -1,18 +1,21 @@
--- What answer an op may have by what the registers hold, without the registers after it. For each row one line.
-use Rattle.std.specs.Prelude.{◌≡◌, ℕ, ◌*◌, ◌<◌, ◌≤◌, ◌⊎◌, List, Some, None, slice_get}
+-- What answer an op may have by what the registers hold, without the registers after it.
+use Rattle.std.specs.Prelude.{◌≡◌, ℕ, ◌*◌, ◌<◌, ◌≤◌, ◌⊎◌, List, Some, Result, Ok, Err, slice_get}
 use Rattle.pa_machine.specs.declared.word.SlotName.{SlotName}
-use Rattle.pa_machine.specs.Count.{held_of, refs_of}
+use Rattle.pa_machine.specs.Count.{refs_of}
 use Rattle.pa_direct.specs.Shapes.{greatest_size}
 use Rattle.pa_trace.specs.declared.script.Op.{Op}
 use Rattle.pa_trace.specs.declared.script.Op.TheVariants as ops
 use Rattle.pa_record.specs.declared.entry.Seen.{Seen}
 use Rattle.pa_record.specs.declared.entry.Answer.{Answer}
-use Rattle.pa_record.specs.declared.entry.Answer.TheVariants.{Made, Done, Value, Dangling, SecondFree, NotOwner, StaleReset, StaleUse, Nothing, Filled, NotRef, Shared, OutOfRange, TooLarge, Full, Swapped, Purged}
+use Rattle.pa_record.specs.declared.entry.Answer.TheVariants.{Made, Done, Filled, Shared, OutOfRange, TooLarge, Full, Swapped, Purged}
 use Rattle.pa_record.specs.declared.history.CellEntry.{CellEntry}
-use Rattle.pa_rules.specs.declared.register.Reg.{Reg}
-use Rattle.pa_rules.specs.declared.register.Reg.TheVariants.{Empty, Own, Ref, Freed, Cleared}
+use Rattle.pa_trace.specs.Limits.{register_count, most_threads}
+use Rattle.pa_rules.specs.declared.register.Register.TheVariants.{Empty, Own, Ref, Freed, Cleared}
+use Rattle.pa_rules.specs.declared.register.Next.{Next}
+use Rattle.pa_rules.specs.declared.register.Next.TheVariants.{Refused, Step, Look}
 use Rattle.pa_rules.specs.declared.played.Played.{Played}
-use Rattle.pa_rules.specs.Registers.{Facts, Regs, handle_of}
+use Rattle.pa_rules.specs.Registers.{Reg, Facts, Regs, handle_of}
+use Rattle.pa_rules.specs.Nexts.{copy_next, reset_next, free_next, write_next, read_next, looked_free, looked_write, looked_read}
 
 -- the answer is a step of the slot that was done
 abbrev pub IsDoneAt : SlotName → Answer → Type 0
@@ -41,56 +44,49 @@ AnswersCopyTo (Ref t) s answer = answer ≡ Filled
 AnswersCopyTo Freed s answer = IsDoneAt s answer
 AnswersCopyTo Cleared s answer = IsDoneAt s answer
 
+-- an op that its register alone refuses has that answer; else its step on the slot, or its look at it, is answered so
+abbrev pub AnswersOne : (SlotName → Answer → Type 0) → Result SlotName Answer → Answer → Type 0
+AnswersOne goes (Ok s) answer = goes s answer
+AnswersOne goes (Err refusal) answer = answer ≡ refusal
+
+abbrev pub AnswersNext : (steps looks : SlotName → Answer → Type 0) → Next SlotName → Answer → Type 0
+AnswersNext steps looks (Refused refusal) answer = answer ≡ refusal
+AnswersNext steps looks (Step s) answer = steps s answer
+AnswersNext steps looks (Look s) answer = looks s answer
+
 -- a copy, by what both registers hold
 abbrev pub AnswersCopy : Reg → Reg → Answer → Type 0
-AnswersCopy Empty into answer = answer ≡ Nothing
-AnswersCopy (Own s) into answer = AnswersCopyTo into s answer
-AnswersCopy (Ref s) into answer = AnswersCopyTo into s answer
-AnswersCopy Freed into answer = answer ≡ StaleUse None
-AnswersCopy Cleared into answer = answer ≡ StaleUse None
+AnswersCopy holds into answer = AnswersOne (λ s a. AnswersCopyTo into s a) (copy_next holds) answer
 
 -- a reset, a free, a write, by what the register holds
 abbrev pub AnswersReset : Reg → Answer → Type 0
-AnswersReset Empty answer = answer ≡ Nothing
-AnswersReset (Own s) answer = answer ≡ NotRef
-AnswersReset (Ref s) answer = IsDoneAt s answer
-AnswersReset Freed answer = answer ≡ NotRef
-AnswersReset Cleared answer = answer ≡ StaleReset
+AnswersReset holds answer = AnswersOne IsDoneAt (reset_next holds) answer
+
+-- the answer of a look at slot s, by what it saw
+abbrev pub IsLookedAt : (Seen → Answer) → SlotName → Answer → Type 0
+IsLookedAt looked s answer = (seen : Seen) × (seen.slot ≡ s) × (answer ≡ looked seen)
 
 abbrev pub AnswersFree : Reg → Answer → Type 0
-AnswersFree Empty answer = answer ≡ Nothing
-AnswersFree (Own s) answer = IsDoneAt s answer
-AnswersFree (Ref s) answer =
-    (seen : Seen) × (seen.slot ≡ s)
-    × (((held_of seen.found.0 ≡ 1) × (answer ≡ NotOwner seen)) ⊎ ((held_of seen.found.0 ≡ 0) × (answer ≡ SecondFree (Some seen))))
-AnswersFree Freed answer = answer ≡ SecondFree None
-AnswersFree Cleared answer = answer ≡ StaleUse None
+AnswersFree holds answer = AnswersNext IsDoneAt (IsLookedAt looked_free) (free_next holds) answer
 
-abbrev pub AnswersWrite : Reg → Answer → Type 0
-AnswersWrite Empty answer = answer ≡ Nothing
-AnswersWrite (Own s) answer =
+-- the owner's step, or that raw_ptrs point to the slot
+abbrev pub AnswersOwnWrite : SlotName → Answer → Type 0
+AnswersOwnWrite s answer =
     (seen : Seen) × (seen.slot ≡ s)
     × (((0 < refs_of seen.found.0) × (answer ≡ Shared seen)) ⊎ ((refs_of seen.found.0 ≡ 0) × (answer ≡ Done seen)))
-AnswersWrite (Ref s) answer =
-    (seen : Seen) × (seen.slot ≡ s)
-    × (((held_of seen.found.0 ≡ 1) × (answer ≡ NotOwner seen)) ⊎ ((held_of seen.found.0 ≡ 0) × (answer ≡ StaleUse (Some seen))))
-AnswersWrite Freed answer = answer ≡ StaleUse None
-AnswersWrite Cleared answer = answer ≡ StaleUse None
+
+abbrev pub AnswersWrite : Reg → Answer → Type 0
+AnswersWrite holds answer = AnswersNext AnswersOwnWrite (IsLookedAt looked_write) (write_next holds) answer
 
 -- a read of a word of slot s, of which so many bytes are usable
 abbrev pub AnswersReadFrom : SlotName → ℕ → ℕ → Answer → Type 0
 AnswersReadFrom s usable place answer =
     ((usable ≤ 8 * place) × (answer ≡ OutOfRange))
-    ⊎ ((8 * place < usable) × (seen : Seen) × (value : ℕ) × (seen.slot ≡ s)
-    × (((held_of seen.found.0 ≡ 1) × (answer ≡ Value seen value)) ⊎ ((held_of seen.found.0 ≡ 0) × (answer ≡ Dangling seen value))))
+    ⊎ ((8 * place < usable) × (value : ℕ) × IsLookedAt (λ seen. looked_read seen value) s answer)
 
 -- a read, by what the register holds; the usable number is that of its slot
 abbrev pub AnswersRead : Reg → (SlotName → ℕ) → ℕ → Answer → Type 0
-AnswersRead Empty usable_at place answer = answer ≡ Nothing
-AnswersRead (Own s) usable_at place answer = AnswersReadFrom s (usable_at s) place answer
-AnswersRead (Ref s) usable_at place answer = AnswersReadFrom s (usable_at s) place answer
-AnswersRead Freed usable_at place answer = answer ≡ StaleUse None
-AnswersRead Cleared usable_at place answer = answer ≡ StaleUse None
+AnswersRead holds usable_at place answer = AnswersOne (λ s a. AnswersReadFrom s (usable_at s) place a) (read_next holds) answer
 
 -- an exchange with a cell of this history: it gave what the register held
 abbrev pub AnswersSwap : List CellEntry → Reg → Answer → Type 0
@@ -110,15 +106,15 @@ MayAnswer facts ops.Purge regs answer = (slots : ℕ) × (answer ≡ Purged slot
 
 -- the registers that an op names are below 64
 abbrev pub NamesRegisters : Op → Type 0
-NamesRegisters (ops.Alloc reg partition size) = reg < 64
-NamesRegisters (ops.Copy from to) = (from < 64) × (to < 64)
-NamesRegisters (ops.Reset reg) = reg < 64
-NamesRegisters (ops.Free reg) = reg < 64
-NamesRegisters (ops.Write reg value) = reg < 64
-NamesRegisters (ops.Read reg place) = reg < 64
-NamesRegisters (ops.Swap cell reg) = reg < 64
+NamesRegisters (ops.Alloc reg partition size) = reg < register_count
+NamesRegisters (ops.Copy from to) = (from < register_count) × (to < register_count)
+NamesRegisters (ops.Reset reg) = reg < register_count
+NamesRegisters (ops.Free reg) = reg < register_count
+NamesRegisters (ops.Write reg value) = reg < register_count
+NamesRegisters (ops.Read reg place) = reg < register_count
+NamesRegisters (ops.Swap cell reg) = reg < register_count
 NamesRegisters ops.Purge = Unit {0}
 
 -- the record is of one of 16 threads, and its op names registers that there are
 abbrev pub IsPlayedWithin : Played → Type 0
-IsPlayedWithin x = (x.thread < 16) × NamesRegisters x.op
+IsPlayedWithin x = (x.thread < most_threads) × NamesRegisters x.op

@@ -4,13 +4,13 @@ use Rattle.std.specs.Option.{unwrap_or}
 use Rattle.pa_machine.specs.declared.word.SlotName.{SlotName}
 use Rattle.pa_trace.specs.declared.script.Op.{Op}
 use Rattle.pa_trace.specs.declared.script.Op.TheVariants.{Read}
+use Rattle.pa_trace.specs.Limits.{register_count}
 use Rattle.pa_rules.specs.declared.played.Played.{Played}
-use Rattle.pa_rules.specs.declared.register.Reg.{Reg}
-use Rattle.pa_rules.specs.declared.register.Reg.TheVariants.{Empty}
+use Rattle.pa_rules.specs.declared.register.Register.TheVariants.{Empty}
 use Rattle.pa_record.specs.declared.history.CellEntry.{CellEntry}
 use Rattle.pa_rules.specs.Sizes.{usable_of}
-use Rattle.pa_rules.specs.Registers.{AllRegs, Facts, usable_in, with, with_thread}
-use Rattle.pa_one_run.proofs.rows.Handles.{change_of, changed}
+use Rattle.pa_rules.specs.Registers.{Reg, AllRegs, Facts, usable_in, with, with_thread}
+use Rattle.pa_rules.specs.Changes.{change_of, changed}
 use Rattle.pa_audit_records.specs.Keys.{name_key}
 
 -- key k has v now, the others what they had
@@ -36,7 +36,7 @@ SuitsReads ps at = (x : Played) → Contains ps x → ReadsSlot x.op → AreUsab
 
 -- the registers of all threads in a list, 64 of each thread; one that isn't there is empty
 abbrev pub regs_in : List Reg → AllRegs
-regs_in list t r = if nat_lt r 64 then slice_index_or list (64 * t + r) Empty else Empty
+regs_in list t r = if nat_lt r register_count then slice_index_or list (register_count * t + r) Empty else Empty
 
 -- they are the same
 abbrev pub AreRegsOf : List Reg → AllRegs → Type 0

@@ -1,13 +1,14 @@
 ghost use Rattle.std.specs.Prelude.{◌≡◌, slice_get};
 ghost use Rattle.pa_rules.specs.Cells.{history_at};
-ghost use Rattle.pa_one_run.proofs.rows.Handles.{change_of, found_by as found_in};
+ghost use Rattle.pa_rules.specs.Changes.{change_of, found_in};
 ghost use Rattle.pa_audit_records.specs.Rows.{IsPlayedWithin};
 ghost use Rattle.pa_audit_records.specs.Tables.{AreRegsOf, regs_in, regs_next};
 
 use crate::registers::Registers;
 use crate::rows::{exchange, register};
+use pa_machine::SlotName;
 use pa_record::{Answer, Held, History};
-use pa_rules::{Played, Reg};
+use pa_rules::{Played, Register};
 use pa_trace::Op;
 
 // What the exchange of this index with the cell found, and nothing where there is none.
@@ -21,24 +22,24 @@ fn found_by(cells: &[History], cell: u32, entry: u32) -> Held
 }
 
 // The register that a record's answer changes, and what it holds then.
-fn change_by(cells: &[History], op: Op, answer: Answer) -> Option<(u32, Reg)>
+fn change_by(cells: &[History], op: Op, answer: Answer) -> Option<(u32, Register<SlotName>)>
     ensures { result ≡ change_of (history_at cells.now) op answer }
 {
     match op {
         Op::Alloc { reg, .. } => match answer {
-            Answer::Made { seen, .. } => Some((reg, Reg::Own(seen.slot))),
+            Answer::Made { seen, .. } => Some((reg, Register::Own(seen.slot))),
             _ => None,
         },
         Op::Copy { to, .. } => match answer {
-            Answer::Done { seen } => Some((to, Reg::Ref(seen.slot))),
+            Answer::Done { seen } => Some((to, Register::Ref(seen.slot))),
             _ => None,
         },
         Op::Reset { reg } => match answer {
-            Answer::Done { .. } => Some((reg, Reg::Cleared)),
+            Answer::Done { .. } => Some((reg, Register::Cleared)),
             _ => None,
         },
         Op::Free { reg } => match answer {
-            Answer::Done { .. } => Some((reg, Reg::Freed)),
+            Answer::Done { .. } => Some((reg, Register::Freed)),
             _ => None,
         },
         Op::Swap { cell, reg } => match answer {

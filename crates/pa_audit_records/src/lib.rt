@@ -16,8 +16,6 @@ mod rows;
 mod salt;
 mod slots;
 mod steps;
-#[cfg(test)]
-mod tests;
 mod usable;
 mod walk;
 

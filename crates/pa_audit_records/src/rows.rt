@@ -1,14 +1,15 @@
 ghost use Rattle.std.specs.Prelude.{◌≡◌, ◌↔◌, ◌≤◌, IsTrue, slice_get};
 ghost use Rattle.pa_rules.specs.Cells.{history_at};
 ghost use Rattle.pa_rules.specs.Registers.{handle_of, reg_of};
+ghost use Rattle.pa_rules.specs.Nexts.{looked_free, looked_read, looked_write};
 ghost use Rattle.pa_rules.specs.Sizes.{usable_of};
-ghost use Rattle.pa_audit_records.specs.Rows.{IsDoneAt, AnswersRequest, AnswersAlloc, AnswersCopyTo, AnswersCopy, AnswersReset, AnswersFree, AnswersWrite, AnswersReadFrom, AnswersSwap};
+ghost use Rattle.pa_audit_records.specs.Rows.{IsDoneAt, AnswersRequest, AnswersAlloc, AnswersCopyTo, AnswersCopy, AnswersReset, AnswersFree, AnswersOwnWrite, AnswersWrite, AnswersReadFrom, AnswersSwap, IsLookedAt};
 
 use crate::usable::usable_for;
 use pa_direct::GREATEST_SIZE;
-use pa_machine::{SlotName, held, refs};
+use pa_machine::{SlotName, refs};
 use pa_record::{Answer, CellEntry, Held, History};
-use pa_rules::Reg;
+use pa_rules::{Next, Register, looked_free, looked_read, looked_write};
 
 // Whether the answer is a step of the slot that was done.
 fn is_done(slot: SlotName, answer: Answer) -> bool
@@ -35,82 +36,103 @@ fn may_request(size: u32, answer: Answer) -> bool
 }
 
 // Whether an allocation may, by what its register holds.
-pub(crate) fn may_alloc(holds: Reg, size: u32, answer: Answer) -> bool
+pub(crate) fn may_alloc(holds: Register<SlotName>, size: u32, answer: Answer) -> bool
     ensures { IsTrue result ↔ AnswersAlloc holds (usable_of size) size answer }
 {
-    match holds {
-        Reg::Own(_) | Reg::Ref(_) => matches!(answer, Answer::Filled),
-        Reg::Empty | Reg::Freed | Reg::Cleared => may_request(size, answer),
+    if holds.has_handle() {
+        matches!(answer, Answer::Filled)
+    } else {
+        may_request(size, answer)
     }
 }
 
 // Whether a copy of a handle to the slot may, by what the second register holds.
-fn may_copy_to(into: Reg, slot: SlotName, answer: Answer) -> bool
+fn may_copy_to(into: Register<SlotName>, slot: SlotName, answer: Answer) -> bool
     ensures { IsTrue result ↔ AnswersCopyTo into slot answer }
 {
-    match into {
-        Reg::Own(_) | Reg::Ref(_) => matches!(answer, Answer::Filled),
-        Reg::Empty | Reg::Freed | Reg::Cleared => is_done(slot, answer),
+    if into.has_handle() {
+        matches!(answer, Answer::Filled)
+    } else {
+        is_done(slot, answer)
     }
 }
 
 // Whether a copy may, by what both registers hold.
-pub(crate) fn may_copy(holds: Reg, into: Reg, answer: Answer) -> bool
+pub(crate) fn may_copy(holds: Register<SlotName>, into: Register<SlotName>, answer: Answer) -> bool
     ensures { IsTrue result ↔ AnswersCopy holds into answer }
 {
-    match holds {
-        Reg::Empty => matches!(answer, Answer::Nothing),
-        Reg::Own(slot) | Reg::Ref(slot) => may_copy_to(into, slot, answer),
-        Reg::Freed | Reg::Cleared => matches!(answer, Answer::StaleUse { seen: None }),
+    match holds.for_copy() {
+        Ok(slot) => may_copy_to(into, slot, answer),
+        Err(refusal) => answer == refusal,
     }
 }
 
 // Whether a reset may.
-pub(crate) fn may_reset(holds: Reg, answer: Answer) -> bool
+pub(crate) fn may_reset(holds: Register<SlotName>, answer: Answer) -> bool
     ensures { IsTrue result ↔ AnswersReset holds answer }
 {
-    match holds {
-        Reg::Empty => matches!(answer, Answer::Nothing),
-        Reg::Ref(slot) => is_done(slot, answer),
-        Reg::Own(_) | Reg::Freed => matches!(answer, Answer::NotRef),
-        Reg::Cleared => matches!(answer, Answer::StaleReset),
+    match holds.for_reset() {
+        Ok(slot) => is_done(slot, answer),
+        Err(refusal) => answer == refusal,
     }
 }
 
 // Whether a free may.
-pub(crate) fn may_free(holds: Reg, answer: Answer) -> bool
+pub(crate) fn may_free(holds: Register<SlotName>, answer: Answer) -> bool
     ensures { IsTrue result ↔ AnswersFree holds answer }
 {
-    match holds {
-        Reg::Empty => matches!(answer, Answer::Nothing),
-        Reg::Own(slot) => is_done(slot, answer),
-        Reg::Ref(slot) => match answer {
-            Answer::NotOwner { seen } => seen.slot == slot && held(seen.found),
-            Answer::SecondFree { seen: Some(seen) } => seen.slot == slot && !held(seen.found),
-            _ => false,
-        },
-        Reg::Freed => matches!(answer, Answer::SecondFree { seen: None }),
-        Reg::Cleared => matches!(answer, Answer::StaleUse { seen: None }),
+    match holds.for_free() {
+        Next::Refused(refusal) => answer == refusal,
+        Next::Step(slot) => is_done(slot, answer),
+        Next::Look(slot) => may_free_through(slot, answer),
+    }
+}
+
+// Whether a free through a `raw_ptr` to the slot may.
+fn may_free_through(slot: SlotName, answer: Answer) -> bool
+    ensures { IsTrue result ↔ IsLookedAt looked_free slot answer }
+{
+    match answer {
+        Answer::NotOwner { seen } => seen.slot == slot && answer == looked_free(seen),
+        Answer::SecondFree { seen: Some(seen) } => {
+            seen.slot == slot && answer == looked_free(seen)
+        }
+        _ => false,
     }
 }
 
 // Whether a write may.
-pub(crate) fn may_write(holds: Reg, answer: Answer) -> bool
+pub(crate) fn may_write(holds: Register<SlotName>, answer: Answer) -> bool
     ensures { IsTrue result ↔ AnswersWrite holds answer }
 {
-    match holds {
-        Reg::Empty => matches!(answer, Answer::Nothing),
-        Reg::Own(slot) => match answer {
-            Answer::Shared { seen } => seen.slot == slot && refs(seen.found) > 0,
-            Answer::Done { seen } => seen.slot == slot && refs(seen.found) == 0,
-            _ => false,
-        },
-        Reg::Ref(slot) => match answer {
-            Answer::NotOwner { seen } => seen.slot == slot && held(seen.found),
-            Answer::StaleUse { seen: Some(seen) } => seen.slot == slot && !held(seen.found),
-            _ => false,
-        },
-        Reg::Freed | Reg::Cleared => matches!(answer, Answer::StaleUse { seen: None }),
+    match holds.for_write() {
+        Next::Refused(refusal) => answer == refusal,
+        Next::Step(slot) => may_write_own(slot, answer),
+        Next::Look(slot) => may_write_through(slot, answer),
+    }
+}
+
+// Whether a write by the owner of the slot may.
+fn may_write_own(slot: SlotName, answer: Answer) -> bool
+    ensures { IsTrue result ↔ AnswersOwnWrite slot answer }
+{
+    match answer {
+        Answer::Shared { seen } => seen.slot == slot && refs(seen.found) > 0,
+        Answer::Done { seen } => seen.slot == slot && refs(seen.found) == 0,
+        _ => false,
+    }
+}
+
+// Whether a write through a `raw_ptr` to the slot may.
+fn may_write_through(slot: SlotName, answer: Answer) -> bool
+    ensures { IsTrue result ↔ IsLookedAt looked_write slot answer }
+{
+    match answer {
+        Answer::NotOwner { seen } => seen.slot == slot && answer == looked_write(seen),
+        Answer::StaleUse { seen: Some(seen) } => {
+            seen.slot == slot && answer == looked_write(seen)
+        }
+        _ => false,
     }
 }
 
@@ -122,31 +144,33 @@ pub(crate) fn may_read_from(slot: SlotName, usable: u32, place: u32, answer: Ans
         return matches!(answer, Answer::OutOfRange);
     }
     match answer {
-        Answer::Value { seen, .. } => seen.slot == slot && held(seen.found),
-        Answer::Dangling { seen, .. } => seen.slot == slot && !held(seen.found),
+        Answer::Value { seen, value } => seen.slot == slot && answer == looked_read(seen, value),
+        Answer::Dangling { seen, value } => {
+            seen.slot == slot && answer == looked_read(seen, value)
+        }
         _ => false,
     }
 }
 
 // The handle that a register holds.
-fn handle(holds: Reg) -> Held
+fn handle(holds: Register<SlotName>) -> Held
     ensures { result ≡ handle_of holds }
 {
     match holds {
-        Reg::Own(slot) => Held::Own(slot),
-        Reg::Ref(slot) => Held::Ref(slot),
-        Reg::Empty | Reg::Freed | Reg::Cleared => Held::Nothing,
+        Register::Own(slot) => Held::Own(slot),
+        Register::Ref(slot) => Held::Ref(slot),
+        Register::Empty | Register::Freed | Register::Cleared => Held::Nothing,
     }
 }
 
 // The register that holds a handle.
-pub(crate) fn register(held: Held) -> Reg
+pub(crate) fn register(held: Held) -> Register<SlotName>
     ensures { result ≡ reg_of held }
 {
     match held {
-        Held::Nothing => Reg::Empty,
-        Held::Own(slot) => Reg::Own(slot),
-        Held::Ref(slot) => Reg::Ref(slot),
+        Held::Nothing => Register::Empty,
+        Held::Own(slot) => Register::Own(slot),
+        Held::Ref(slot) => Register::Ref(slot),
     }
 }
 
@@ -161,7 +185,12 @@ pub fn exchange(cells: &[History], cell: u32, entry: u32) -> Option<CellEntry>
 }
 
 // Whether an exchange with the cell may, by what the register holds.
-pub(crate) fn may_swap(cells: &[History], cell: u32, holds: Reg, answer: Answer) -> bool
+pub(crate) fn may_swap(
+    cells: &[History],
+    cell: u32,
+    holds: Register<SlotName>,
+    answer: Answer,
+) -> bool
     ensures { IsTrue result ↔ AnswersSwap (history_at cells.now cell) holds answer }
 {
     match answer {

@@ -18,7 +18,7 @@ use crate::salt::Salt;
 use crate::usable::usables;
 use pa_machine::{OutOfMemory, SlotName};
 use pa_record::{Answer, History};
-use pa_rules::{Played, Reg};
+use pa_rules::{Played, Register};
 use pa_trace::Op;
 use std::alloc::Global;
 
@@ -79,15 +79,12 @@ fn usable_at(usables: &ByKey<u32>, slot: SlotName) -> u32
 }
 
 // Whether a read may have this answer, by what its register holds.
-fn may_read(usables: &ByKey<u32>, holds: Reg, place: u32, answer: Answer) -> bool
+fn may_read(usables: &ByKey<u32>, holds: Register<SlotName>, place: u32, answer: Answer) -> bool
     ensures { (ps : List Played) → AreUsables ps (value_at usables.now) → IsTrue result ↔ AnswersRead holds (usable_in ps) place answer }
 {
-    match holds {
-        Reg::Empty => matches!(answer, Answer::Nothing),
-        Reg::Own(slot) | Reg::Ref(slot) => {
-            may_read_from(slot, usable_at(usables, slot), place, answer)
-        }
-        Reg::Freed | Reg::Cleared => matches!(answer, Answer::StaleUse { seen: None }),
+    match holds.for_read() {
+        Ok(slot) => may_read_from(slot, usable_at(usables, slot), place, answer),
+        Err(refusal) => answer == refusal,
     }
 }
 

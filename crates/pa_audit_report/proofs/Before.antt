@@ -6,7 +6,7 @@ use Rattle.pa_trace.specs.declared.script.Op.{Op}
 use Rattle.pa_trace.specs.declared.script.Op.TheVariants as ops
 use Rattle.pa_trace.specs.Limits.{IsOpWithin, IsWithinLimits}
 use Rattle.pa_record.specs.declared.run.Run.{Run}
-use Rattle.pa_record.proofs.Members.{first_in, later_in}
+use Rattle.pa_lists.proofs.Members.{first_in, later_in}
 use Rattle.std.proofs.lemmas.List.Elements.{All-cons, All-nil}
 use Rattle.pa_rules.specs.declared.played.Played.{Played}
 use Rattle.pa_rules.specs.declared.verdict.Clause.TheVariants as clauses
@@ -27,7 +27,7 @@ use Rattle.pa_audit_report.specs.Given.{HoldBefore, IsGiven}
 
 -- ---- threads and partitions
 
-names_within : (partitions : ℕ) (op : Op) → partitions ≤ 4 → IsOpWithin partitions op → NamesPartition op
+pub names_within : (partitions : ℕ) (op : Op) → partitions ≤ 4 → IsOpWithin partitions op → NamesPartition op
 names_within partitions (ops.Alloc reg partition size) few (r, below, s) = omega (arith, few, below)
 names_within partitions (ops.Copy from to) few within = tt
 names_within partitions (ops.Reset reg) few within = tt

@@ -27,6 +27,8 @@ use Rattle.pa_audit_report.specs.Given.{IsGiven}
 use Rattle.pa_audit_holders.specs.Homes.{KnowsHomes}
 use Rattle.pa_audit_records.proofs.Cutting.{each_next, long_next}
 use Rattle.pa_audit_report.proofs.Tallying.{live_is, quarantined_is}
+use Rattle.pa_lists.proofs.Tests.{one_more}
+use Rattle.pa_rules.proofs.ReportLines.{phases_push}
 
 -- ---- what is given
 
@@ -79,16 +81,6 @@ partitions_push n q zero = let e : q ≡ q + 0 = omega arith in ap (λ z. (n, z)
 partitions_push n q (suc k) =
     let e : q + 1 + k ≡ q + suc k = omega arith in
     ap (λ zs. (n, q) ∷ zs) (partitions_push n (q + 1) k ∙ ap (λ z. partitions_of n (q + 1) k ++ (n, z) ∷ []) e)
-
-phases_push : (m n k : ℕ) → phases_of m n (suc k) ≡ phases_of m n k ++ partitions_of (n + k) 0 m
-phases_push m n zero = let e : n ≡ n + 0 = omega arith in append-nil (partitions_of n 0 m) ∙ ap (λ z. partitions_of z 0 m) e
-phases_push m n (suc k) =
-    let e : n + 1 + k ≡ n + suc k = omega arith in
-    ap (λ zs. partitions_of n 0 m ++ zs) (phases_push m (n + 1) k ∙ ap (λ z. phases_of m (n + 1) k ++ partitions_of z 0 m) e)
-    ∙ sym (append_assoc (partitions_of n 0 m) (phases_of m (n + 1) k) (partitions_of (n + suc k) 0 m))
-
-one_more : (n : ℕ) → n + 1 ≡ suc n
-one_more n = omega arith
 
 pub gathers_none : (phases partitions : ℕ) (columns : List (List ReportLine)) (lines : List ReportLine) → lines ≡ [] → GathersTo phases partitions columns 0 0 lines
 gathers_none phases partitions columns lines none threads ps pools roots are = subst (λ ls. IsReportTo partitions threads ps pools roots 0 0 ls) (sym none)

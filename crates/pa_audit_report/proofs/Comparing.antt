@@ -11,8 +11,9 @@ use Rattle.pa_record.specs.declared.report.ReportLine.{ReportLine}
 use Rattle.pa_record.specs.declared.report.Tally.{Tally}
 use Rattle.pa_record.specs.Census.{census}
 use Rattle.pa_record.specs.Root.{new_root, root_replayed}
-use Rattle.pa_record.proofs.Members.{not_some}
+use Rattle.pa_lists.proofs.Members.{not_some}
 use Rattle.pa_record.proofs.Same.{same_line, same_tally}
+use Rattle.pa_record.proofs.OneSum.{one_sum}
 use Rattle.pa_rules.specs.declared.played.Played.{Played}
 use Rattle.pa_rules.specs.declared.verdict.Place.TheVariants as places
 use Rattle.pa_rules.specs.Caches.{Caches, no_caches}
@@ -23,11 +24,10 @@ use Rattle.pa_rules.specs.Tells.{TellsFirst}
 use Rattle.pa_rules.proofs.FourPlaces.{one_until}
 use Rattle.pa_rules.proofs.Numbering.{rising_differ}
 use Rattle.pa_legal.proofs.Titling.{one_kind}
-use Rattle.pa_one_run.proofs.lines.Lists.{one_sum}
-use Rattle.pa_audit_heap.proofs.Listed.{member_at, option_place}
 use Rattle.pa_audit_holders.proofs.Caching.{caches_one}
 use Rattle.pa_audit_report.specs.Given.{IsGiven}
 use Rattle.pa_audit_report.proofs.Columns.{kinds_given}
+use Rattle.pa_lists.proofs.Indexed.{at_in, option_cases}
 
 -- where a line belongs
 abbrev key : ReportLine → ℕ × ℕ
@@ -70,7 +70,7 @@ module _ (supers partitions threads : ℕ) (ps : List Played) (pools : List Pool
     same_meets i same = (
       slice_get-map key report i ∙ ap (option_map key) same
           ∙ sym (slice_get-map key due i) ∙ ap (λ zs. slice_get zs i) d.places,
-      λ l at. All-contains (IsReportLine partitions threads ps pools roots) due l d.right (member_at due i l (sym same ∙ at)),
+      λ l at. All-contains (IsReportLine partitions threads ps pools roots) due l d.right (at_in due i l (sym same ∙ at)),
     )
 
     meets_same : (i : ℕ) → ReportDemand phases partitions threads ps pools roots report (places.Report i) → slice_get report i ≡ slice_get due i
@@ -86,8 +86,8 @@ module _ (supers partitions threads : ℕ) (ps : List Played) (pools : List Pool
         by_line : (o : Option ReportLine) → slice_get report i ≡ o → slice_get report i ≡ slice_get due i
         by_line None at = at ∙ none_of (slice_get due i) (sym (ap (option_map key) at) ∙ said)
         by_line (Some l) at =
-            let (m, there, is) = option_place key (slice_get due i) (key l) (sym said ∙ ap (option_map key) at) in
-            let wanted = All-contains (IsReportLine partitions threads ps pools roots) due m d.right (member_at due i m there) in
+            let (m, there, is) = option_cases key (slice_get due i) (key l) (sym said ∙ ap (option_map key) at) in
+            let wanted = All-contains (IsReportLine partitions threads ps pools roots) due m d.right (at_in due i m there) in
             let one = one_line l m (sym (ap (λ (z : ℕ × ℕ). z.0) is)) (sym (ap (λ (z : ℕ × ℕ). z.1) is)) (right l at) wanted in
             at ∙ ap Some one ∙ sym there
 

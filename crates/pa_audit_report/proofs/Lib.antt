@@ -3,4 +3,4 @@ mod Counting
 mod Tallying
 mod Columns
 mod Comparing
-mod Before
+pub mod Before

@@ -7,7 +7,7 @@ use Rattle.pa_machine.specs.declared.word.SlotName.{SlotName}
 use Rattle.pa_record.specs.declared.root.RootAct.{RootAct}
 use Rattle.pa_record.specs.declared.root.RootEntry.{RootEntry}
 use Rattle.pa_record.specs.Laws.{leaves_by}
-use Rattle.pa_record.proofs.Members.{not_some, first_in}
+use Rattle.pa_lists.proofs.Members.{not_some, first_in}
 use Rattle.pa_rules.specs.Roots.{Journals}
 use Rattle.pa_rules.specs.Report.{HasSize}
 use Rattle.pa_audit_records.specs.Keys.{name_key}

@@ -1,4 +1,5 @@
 ghost use Rattle.std.specs.Prelude.{◌≡◌, ℕ, ◌+◌, ◌<◌, ◌≤◌, ◌^◌, [], IfOk, IfSome, IfNone, Option, length, take};
+ghost use Rattle.pa_trace.specs.Limits.{most_partitions};
 ghost use Rattle.pa_audit_records.specs.ByKeys.{value_at};
 ghost use Rattle.pa_machine.specs.declared.word.Step.TheVariants as steps;
 ghost use Rattle.pa_legal.specs.Tallies.{leaves};
@@ -8,7 +9,7 @@ ghost use Rattle.pa_audit_report.specs.Counts.{DoesNothing, HasCounted, HasRoom,
 
 use pa_audit_holders::{Home, found_home};
 use pa_audit_records::ByKey;
-use pa_machine::{OutOfMemory, SlotName, Word, held, refs};
+use pa_machine::{OutOfMemory, SlotName, Step, Word, refs, returns};
 use pa_record::{Answer, Seen, Tally};
 use pa_rules::Played;
 use pa_trace::Op;
@@ -38,7 +39,7 @@ pub(crate) fn in_use_of(
     ends: &[usize],
     homes: &ByKey<Home>,
 ) -> Result<Vec<InUse>, OutOfMemory>
-    requires partition { partition < 4 }
+    requires partition { partition < most_partitions }
     requires few { length records.now < 65536 }
     requires ends { AreRecordCuts records.now ends.now }
     ensures many { IfOk result (λ uses. length uses.items ≡ length ends.now) }
@@ -64,7 +65,7 @@ fn count_on(
     from: usize,
     end: usize,
 ) -> Count
-    requires partition { partition < 4 }
+    requires partition { partition < most_partitions }
     requires few { length records.now < 65536 }
     requires order { from ≤ end }
     requires within { end ≤ length records.now }
@@ -86,7 +87,7 @@ fn count_record(
     count: Count,
     at: usize,
 ) -> Count
-    requires partition { partition < 4 }
+    requires partition { partition < most_partitions }
     requires few { length records.now < 65536 }
     requires within { at < length records.now }
     requires counted { HasCounted (value_at homes.now) partition (take at records.now) count }
@@ -103,7 +104,7 @@ fn count_record(
 
 // The bytes of a slot of this partition.
 fn bytes_in(partition: u32, homes: &ByKey<Home>, slot: SlotName) -> Option<u32>
-    requires partition { partition < 4 }
+    requires partition { partition < most_partitions }
     ensures some { IfSome result (IsBytesOf (value_at homes.now) partition slot) }
     ensures small { IfSome result (λ b. b < 4294967296) }
     ensures none { IfNone result (IsOfOther (value_at homes.now) partition slot) }
@@ -171,7 +172,7 @@ fn done(op: Op, seen: Seen) -> Option<Stepped>
 fn is_last(found: Word) -> bool
     ensures { result ≡ leaves steps.Reset found.0 }
 {
-    !held(found) && refs(found) == 1
+    returns(Step::Reset, found)
 }
 
 // The count with a step on a slot of so many bytes.

@@ -1,5 +1,5 @@
 ghost use Rattle.std.specs.Prelude.{◌≡◌, ℕ, ◌+◌, ◌-◌, ◌<◌, ◌≤◌, ◌^◌, IfOk, List, Option, length};
-ghost use Rattle.pa_trace.specs.Limits.{IsWithinLimits};
+ghost use Rattle.pa_trace.specs.Limits.{IsWithinLimits, most_partitions};
 ghost use Rattle.pa_rules.specs.Roots.{journal_at};
 ghost use Rattle.pa_rules.specs.Legal.{phases_in};
 ghost use Rattle.pa_rules.specs.Report.{IsReport};
@@ -23,7 +23,7 @@ use pa_dense::DenseRun;
 use pa_machine::OutOfMemory;
 use pa_record::{Census, ReportLine, Tally};
 use pa_rules::Played;
-use pa_trace::Trace;
+use pa_trace::{MOST_PARTITIONS, Trace};
 use std::alloc::Global;
 use std::marker::Model;
 
@@ -121,12 +121,12 @@ fn column_of(
 // The line of a partition at the end of a phase, by its place among those that stand in the lists.
 fn line_at(
     uses: &[InUse],
-    cached: &[[Tally; 4]],
+    cached: &[[Tally; MOST_PARTITIONS as usize]],
     censuses: &[Census],
     partition: u32,
     at: u32,
 ) -> ReportLine
-    requires partition { partition < 4 }
+    requires partition { partition < most_partitions }
     requires at { at < 2 ^ 32 - 1 }
     requires used { at < length uses.now }
     requires listed { at < length cached.now }

@@ -2,6 +2,7 @@ use pa_audit_heap::Censuses;
 use pa_audit_holders::Home;
 use pa_audit_records::ByKey;
 use pa_record::Tally;
+use pa_trace::MOST_PARTITIONS;
 
 /// What the checkers of earlier clauses leave for that of the report: how many records are of the first phases, from phase 1 on; the
 /// homes of the slots that journals handed out; and for the end of each phase what the threads' lists have of each of four partitions,
@@ -10,6 +11,6 @@ use pa_record::Tally;
 pub struct Known {
     pub ends: Vec<usize>,
     pub homes: ByKey<Home>,
-    pub cached: Vec<[Tally; 4]>,
+    pub cached: Vec<[Tally; MOST_PARTITIONS as usize]>,
     pub censuses: Vec<Censuses>,
 }

@@ -6,8 +6,6 @@ mod counts;
 mod due;
 mod known;
 mod report;
-#[cfg(test)]
-mod tests;
 
 pub use known::Known;
-pub use report::report_meets;
+pub use report::{first_other, report_meets};

@@ -39,8 +39,8 @@ pub fn report_meets(
     Ok(first_other(run.report(), due.as_slice()))
 }
 
-// The first place at which the lists differ.
-pub(crate) fn first_other(lines: &[ReportLine], due: &[ReportLine]) -> Option<u32>
+/// The first place at which the lists of lines differ.
+pub fn first_other(lines: &[ReportLine], due: &[ReportLine]) -> Option<u32>
     requires { length lines.now < 2 ^ 32 - 1 }
     ensures first { TellsFirst (λ i. slice_get lines.now i ≡ slice_get due.now i) result }
     ensures there { IfSome result (λ i. i ≤ length lines.now) }

@@ -84,3 +84,7 @@ limit_of-last c low high = equal_from limit_of (λ _. 0) 40 19 refl c (omega ari
 pub fill_of-limit : (c : ℕ) → c < 59 → fill_of c ≡ max (limit_of c / 8) 1
 unfolding limit_of fill_of
 fill_of-limit c real = equal_below fill_of (λ k. max (limit_of k / 8) 1) 59 refl c real
+
+pub sixteen_bytes : slot_of 0 ≡ 16
+unfolding rows row_of slot_of
+sixteen_bytes = refl

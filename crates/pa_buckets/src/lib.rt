@@ -12,3 +12,4 @@ mod table;
 pub use classes::{Class, cache_limit, class_of, fill_count, raw_of, slot_size, span_of};
 pub use laws::{rows_follow_the_rule, rows_have_bounds, rule_gives_one_span};
 pub use spans::{SpanShape, State};
+pub use table::CLASSES;

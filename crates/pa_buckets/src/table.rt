@@ -1,7 +1,7 @@
 use crate::spans::SpanShape;
 
 /// The number of classes.
-pub(crate) const CLASSES: usize = 59;
+pub const CLASSES: u32 = 59;
 
 // A class: its slot size in bytes, and the shape of its spans.
 pub(crate) struct Row {
@@ -25,7 +25,7 @@ macro_rules! row {
 }
 
 // The classes from 0 on.
-pub(crate) static ROWS: [Row; CLASSES] = [
+pub(crate) static ROWS: [Row; CLASSES as usize] = [
     row!(16, 1, 4, 1024, 0),
     row!(32, 1, 4, 512, 0),
     row!(48, 1, 4, 341, 16),

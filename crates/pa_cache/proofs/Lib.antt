@@ -1,3 +1,2 @@
 pub mod Middle
 pub mod Keeping
-pub mod Rows

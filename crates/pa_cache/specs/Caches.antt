@@ -3,6 +3,7 @@ use Rattle.std.specs.Prelude.{◌≡◌, ◌≢◌, ℕ, ◌+◌, ◌<◌, ◌�
 use Rattle.pa_machine.specs.declared.title.Title.{Title}
 use Rattle.pa_machine.specs.Count.{number_of}
 use Rattle.pa_machine.specs.Titles.{count_word}
+use Rattle.pa_buckets.specs.Limits.{class_count}
 use Rattle.pa_buckets.specs.Table.{slot_of}
 use Rattle.pa_buckets.specs.Bands.{limit_of}
 use Rattle.pa_region.specs.declared.view.View.{View}
@@ -16,7 +17,7 @@ pub record CacheList : Type 0 where
 -- What the type keeps: the class is one of the 59, each title has its slot size, no title stands twice, and there are at
 -- most 8 more than the limit.
 pub record IsCache (c : CacheList) : Type 0 where
-  pub class : c.class < 59
+  pub class : c.class < class_count
   pub sized : All (λ (t : Title). t.len ≡ slot_of c.class) c.titles
   pub different : AllPairs ◌≢◌ c.titles
   pub few : length c.titles ≤ limit_of c.class + 8

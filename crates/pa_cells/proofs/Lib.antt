@@ -1,3 +1,2 @@
 pub mod Histories
 pub mod Starting
-pub mod TestSlot

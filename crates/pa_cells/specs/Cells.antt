@@ -6,6 +6,7 @@ use Rattle.pa_record.specs.declared.history.CellEntry.{CellEntry}
 use Rattle.pa_record.specs.declared.history.Held.{Held}
 use Rattle.pa_record.specs.declared.history.Held.TheVariants.{Nothing}
 use Rattle.pa_record.specs.Numbers.{held_numbers}
+use Rattle.pa_trace.specs.Limits.{cell_count}
 use Rattle.pa_region.specs.declared.view.Made.{Made}
 use Rattle.pa_region.specs.declared.view.View.{View}
 use Rattle.pa_region.specs.Views.{least_stake}
@@ -74,8 +75,8 @@ pub record AreExchanges (list : List Made) (histories : List (List CellEntry)) (
 --   holds: a cell holds what its last exchange gave
 --   few: the greatest room of a history
 pub record IsCells (c : CellsHeld) : Type 0 where
-  pub cells : length c.histories ≡ 64
-  pub held : length c.parked ≡ 64
+  pub cells : length c.histories ≡ cell_count
+  pub held : length c.parked ≡ cell_count
   pub host : HostsKeeper 5 c.view
   pub exchanged : (xs : List Exchange) × AreExchanges (list_of 5 c.view) c.histories xs
   pub chain : (k : ℕ) → IsChain Nothing (cell_history c.histories k)
@@ -88,7 +89,7 @@ AreOf region parked = (k : ℕ) → IfSome (cell_holds parked k) (λ p. p.note.r
 
 -- 64 empty cells, with this view of their seat
 abbrev pub empty_cells : View → CellsHeld
-empty_cells v = record { view = v; histories = replicate 64 []; parked = replicate 64 None }
+empty_cells v = record { view = v; histories = replicate cell_count []; parked = replicate cell_count None }
 
 -- the entry of an exchange that gives this to a cell which holds that
 abbrev pub exchange_entry : (line : ℕ) → (given found : Option ParkedHandle) → CellEntry

@@ -16,6 +16,7 @@ use Rattle.pa_record.specs.declared.history.Held.TheVariants as held
 use Rattle.pa_record.specs.Numbers.{root_numbers}
 use Rattle.pa_record.specs.Spans.{name_of}
 use Rattle.pa_record.specs.Root.{names}
+use Rattle.pa_trace.specs.Limits.{most_partitions}
 use Rattle.pa_region.specs.declared.view.Made.{Made}
 use Rattle.pa_region.specs.declared.view.View.{View}
 use Rattle.pa_region.specs.Views.{free_of, own_of, ref_of, stake_of}
@@ -44,7 +45,7 @@ HandsOut None t act = (pool : ℕ) × (act ≡ Map pool (name_of t) t.len)
 
 -- A view has seen how the handle's slot was made: in the list of its partition's keeper stands the entry that handed it out.
 pub record HasSeenMade (h : Handle) (v : View) : Type 0 where
-  pub partition : h.partition < 4
+  pub partition : h.partition < most_partitions
   pub entry : (m : Made) × (e : RootEntry) × Contains (list_of h.partition v) m × (m.numbers ≡ root_numbers e)
       × HandsOut h.class h.title e.act
 

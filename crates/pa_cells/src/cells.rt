@@ -1,5 +1,6 @@
 ghost use Rattle.std.specs.Prelude.{◌≡◌, ◌<◌, ◌≤◌, ◌+◌, ℕ, [], ◌∷◌, ◌++◌, length, replicate, slice_set, slice_index_or, IfOk, IfErr, IfSome, IfNone, None};
 ghost use Rattle.pa_record.specs.declared.history.CellEntry.{CellEntry};
+ghost use Rattle.pa_trace.specs.Limits.{cell_count};
 ghost use Rattle.pa_region.specs.Views.{stake_of};
 ghost use Rattle.pa_region.specs.Lists.{keeper_of, list_of};
 ghost use Rattle.pa_region.specs.Lending.{CanLend};
@@ -15,7 +16,7 @@ use std::marker::{Model, PhantomData};
 use std::mem;
 
 // How many cells there are.
-const CELLS: usize = 64;
+const CELLS: usize = pa_trace::CELLS as usize;
 
 // How many entries a history has at most.
 const MOST: usize = 2_147_483_647;
@@ -88,7 +89,7 @@ impl<N: Name> Cells<N> {
         requires regions { (region.now ≡ N.region) × (seat.old.region ≡ N.region) }
         requires given { IfSome given (λ p. p.note.region ≡ N.region) }
         requires able { CanLend seat.old.view }
-        requires cell { cell < 64 }
+        requires cell { cell < cell_count }
         ensures region { seat.new.region ≡ seat.old.region }
         ensures again { CanLend seat.new.view }
         ensures index { IfOk result (λ r. r.0 ≡ length (cell_history self.old.histories cell)) }
@@ -132,7 +133,7 @@ impl<N: Name> Cells<N> {
 
 // Histories of no exchanges, one for each cell.
 fn no_histories(alloc: Global) -> Result<Vec<History>, OutOfMemory>
-    ensures { IfOk result (λ v. v.items ≡ replicate 64 []) }
+    ensures { IfOk result (λ v. v.items ≡ replicate cell_count []) }
 {
     let mut histories = Vec::with_capacity(alloc, CELLS)?;
     for _ in 0..CELLS {
@@ -143,7 +144,7 @@ fn no_histories(alloc: Global) -> Result<Vec<History>, OutOfMemory>
 
 // Nothing in each cell.
 fn nothing_parked(alloc: Global) -> Result<Vec<Option<Parked>>, OutOfMemory>
-    ensures { IfOk result (λ v. v.items ≡ replicate 64 None) }
+    ensures { IfOk result (λ v. v.items ≡ replicate cell_count None) }
 {
     let mut parked: Vec<Option<Parked>> = Vec::with_capacity(alloc, CELLS)?;
     for _ in 0..CELLS {

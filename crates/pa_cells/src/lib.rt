@@ -8,8 +8,6 @@ mod cells;
 mod handle;
 mod laws;
 mod numbers;
-#[cfg(test)]
-mod tests;
 
 pub use cells::Cells;
 pub use handle::{Handle, Parked};

@@ -9,9 +9,7 @@ use Rattle.pa_trace.specs.Grammar.{IsTraceText, IsSameTrace}
 use Rattle.pa_trace.specs.Faults.{lines_of}
 use Rattle.pa_trace.proofs.Texts.{one_trace}
 use Rattle.pa_record.specs.declared.entry.Entry.{Entry}
-use Rattle.pa_record.specs.declared.history.CellEntry.{CellEntry}
 use Rattle.pa_record.specs.declared.pool.PoolEntry.{PoolEntry}
-use Rattle.pa_record.specs.declared.report.ReportLine.{ReportLine}
 use Rattle.pa_record.specs.declared.run.Run.{Run}
 use Rattle.pa_record.specs.RunText.{IsRunText, IsSameRun}
 use Rattle.pa_record.proofs.OneRun.{one_run}
@@ -20,7 +18,6 @@ use Rattle.pa_rules.specs.declared.verdict.Verdict.{Verdict}
 use Rattle.pa_rules.specs.declared.verdict.Verdict.TheVariants.{Legal, Broken}
 use Rattle.pa_rules.specs.declared.verdict.Place.{Place}
 use Rattle.pa_rules.specs.declared.verdict.Place.TheVariants as places
-use Rattle.pa_rules.specs.Roots.{Journals}
 use Rattle.pa_rules.specs.Told.{Told, told_by}
 use Rattle.pa_rules.specs.Legal.{IsLegalTold}
 use Rattle.pa_rules.specs.Places.{line_at, roots_at, pool_at, cells_at, report_at}
@@ -29,16 +26,7 @@ use Rattle.pa_verdict.proofs.Verdict.{one_verdict}
 use Rattle.pa_audit_input.specs.Input.{IsAudited}
 use Rattle.pa_audit_input.specs.Judged.{IsVerdictOn}
 use Rattle.pa_audit_input.proofs.Parting.{one_parting}
-
--- two that tell the same lists
-same_lists : (a b : Told) → a.entries ≡ b.entries → a.roots ≡ b.roots → a.pools ≡ b.pools → a.cells ≡ b.cells → a.report ≡ b.report → a ≡ b
-same_lists a b entries roots pools cells report =
-    let first : List Entry → Told = λ x. record a { entries = x } in
-    let second : Journals → Told = λ x. record a { entries = b.entries; roots = x } in
-    let third : List PoolEntry → Told = λ x. record a { entries = b.entries; roots = b.roots; pools = x } in
-    let fourth : (ℕ → List CellEntry) → Told = λ x. record b { cells = x; report = a.report } in
-    let fifth : List ReportLine → Told = λ x. record b { report = x } in
-    ap first entries ∙ (ap second roots ∙ (ap third pools ∙ (ap fourth cells ∙ ap fifth report)))
+use Rattle.pa_rules.proofs.SameTold.{same_lists}
 
 same_told : (a b : Run) → IsSameRun a b → told_by a ≡ told_by b
 same_told a b h = same_lists (told_by a) (told_by b) h.entries (fun_ext h.roots) h.pool (fun_ext h.cells) h.report

@@ -6,20 +6,12 @@
 #![tactic(auto)]
 
 mod answers;
-#[cfg(test)]
-mod audit_tests;
 mod command;
-#[cfg(test)]
-mod gate_tests;
 mod input;
 mod laws;
 mod outcome;
 mod output;
-#[cfg(test)]
-mod replay_tests;
 mod status;
-#[cfg(test)]
-mod tests;
 mod top;
 
 pub use laws::one_thread_prints_as_model;

@@ -20,14 +20,11 @@ use pa_one_run::one_thread_in_file_order;
 use pa_record::write_run;
 use pa_rules::Verdict;
 use pa_runner::{Gate, run_trace};
-use pa_trace::{Trace, read_trace};
+use pa_trace::{MOST_BYTES, Trace, read_trace};
 use std::alloc::Global;
 use std::marker::Sync;
 use std::sync::Wait;
 use std::thread::Threads;
-
-// The most bytes of a trace.
-const MOST_BYTES: usize = 4_194_304;
 
 // The most bytes of a trace and a run.
 const MOST_AUDITED: usize = 134_217_728;

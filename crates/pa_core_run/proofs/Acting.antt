@@ -16,9 +16,8 @@ use Rattle.pa_rules.specs.declared.played.Played.{Played}
 use Rattle.pa_rules.specs.Played.{mark_of}
 use Rattle.pa_core_steps.specs.Turns.{IsDone}
 use Rattle.pa_core_steps.proofs.Joining.{run_good, run_one, run_join}
-use Rattle.pa_core_steps.proofs.Freeing.{own_held}
-use Rattle.pa_core_steps.proofs.Handling.{ref_held}
 use Rattle.pa_core_run.specs.Playing.{read_by, step_event, read_events, mark_events, told_events, HasRead, Finds, AreBeside, Plays}
+use Rattle.pa_machine.proofs.Holding.{own_title, ref_title}
 
 abbrev no_title : Title
 no_title = record { start = 0; len = 0; born = 0 }
@@ -58,8 +57,8 @@ abbrev pub HasHandle : State → ℕ → Title → Type 0
 HasHandle s k t = Holds s k (OwnAs t Clean) ⊎ Holds s k (RefOf t)
 
 pub handle_held : (s : State) (k : ℕ) (t : Title) → HasHandle s k t → IsTitleHeld (total_of s) t
-handle_held s k t (inl own) = own_held s k t Clean own
-handle_held s k t (inr ref) = ref_held s k t ref
+handle_held s k t (inl own) = own_title s k t Clean own
+handle_held s k t (inr ref) = ref_title s k t ref
 
 -- with it each of the title's words can be read
 load_run : (s : State) (k : ℕ) (t : Title) (q : ℕ) → IsGoodState s → HasActor s k → HasHandle s k t → Covers t (8 * q) → IsRunTo s (Load k (8 * q) ∷ []) s

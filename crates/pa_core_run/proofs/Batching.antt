@@ -13,15 +13,15 @@ use Rattle.pa_machine.proofs.Amounts.{free_self}
 use Rattle.pa_machine.proofs.Lasting.{run_start}
 use Rattle.pa_machine.proofs.Totals.{of_actor_here, of_actor_apart}
 use Rattle.pa_record.specs.Spans.{name_of}
-use Rattle.pa_record.proofs.Members.{first_in, later_in, in_cases, not_in_none}
-use Rattle.pa_rules.proofs.Counted.{once}
+use Rattle.pa_lists.proofs.Members.{first_in, later_in, in_cases, not_in_none}
 use Rattle.pa_core_steps.proofs.Joining.{run_join}
-use Rattle.pa_core_steps.proofs.Storing.{free_held}
+use Rattle.pa_rules.specs.Once.{once}
 use Rattle.pa_core_run.specs.Ledger.{Ledger, Titles, IsShown, IsPaid}
 use Rattle.pa_core_run.specs.Moves.{HaveNames, named_in, asking, IsReached}
 use Rattle.pa_core_run.proofs.Showing.{free_pieces}
 use Rattle.pa_core_run.proofs.Moving.{keeping, hand_shown, IsHanded}
 use Rattle.pa_core_run.proofs.Listing.{free_piece}
+use Rattle.pa_machine.proofs.Holding.{free_title}
 
 -- the titles that actor 0 has for the roots, with these
 abbrev pub kept_with : (Title → Type 0) → List Title → Title → Type 0
@@ -66,7 +66,7 @@ module _ (names : Titles) (actors bytes k : ℕ) (some : 0 < k) (below : k < act
         words = λ x ne. refl;
         contents = λ x ne. refl;
       } in
-      hand_shown (keeping names K) (kept_with K (t ∷ [])) actors bytes b (asking b free) s k 0 (FreeItem t) t h below (omega arith) has (free_held s k t has) (free_pieces t) paid refl
+      hand_shown (keeping names K) (kept_with K (t ∷ [])) actors bytes b (asking b free) s k 0 (FreeItem t) t h below (omega arith) has (free_title s k t has) (free_pieces t) paid refl
       (λ u kept.
       let l = of_actor_apart k 0 (FreePiece t ∷ []) (FreeTitle u) (λ z. omega arith) in
       let g = of_actor_here 0 (FreePiece t ∷ []) (FreeTitle u) in

@@ -8,13 +8,14 @@ use Rattle.pa_machine.specs.Events.{State}
 use Rattle.pa_record.specs.Spans.{name_of}
 use Rattle.pa_record.specs.Laws.{times}
 use Rattle.pa_rules.specs.declared.played.Played.{Played}
-use Rattle.pa_rules.specs.declared.register.Reg.{Reg}
+use Rattle.pa_rules.specs.Registers.{Reg}
 use Rattle.pa_rules.specs.Caches.{Cache}
 use Rattle.pa_rules.proofs.Counted.{times_cons}
 use Rattle.pa_turns.specs.Shown.{owns, points}
 use Rattle.pa_core_steps.proofs.Joining.{run_join}
-use Rattle.pa_one_run.proofs.Filed.{Parts, IsFiled}
-use Rattle.pa_one_run.proofs.roots.Replays.{root_at}
+use Rattle.pa_one_run.specs.Parts.{Parts}
+use Rattle.pa_one_run.specs.Before.{root_at}
+use Rattle.pa_one_run.proofs.Filed.{IsFiled}
 use Rattle.pa_core_run.specs.Ledger.{Titles, IsShown}
 use Rattle.pa_core_run.specs.Moves.{StandOnce, AllApart, named_in, asking, CanBeCut, IsReached}
 use Rattle.pa_core_run.specs.Standing.{Standing, in_registers, in_lists, ledger_of}

@@ -17,14 +17,10 @@ use Rattle.pa_rules.proofs.Marking.{mark_line}
 use Rattle.pa_rules.proofs.Running.{first_line}
 use Rattle.pa_rules.proofs.Phases.{mark_in}
 use Rattle.pa_legal.proofs.Words.{same_word}
-use Rattle.pa_one_run.proofs.Filed.{Parts, IsFiled}
+use Rattle.pa_one_run.specs.Parts.{Parts}
+use Rattle.pa_one_run.proofs.Filed.{IsFiled}
 use Rattle.pa_one_run.proofs.lines.Cuts.{same_played}
-
-made_mark : (q : Played) (seen : Seen) (usable : ℕ) → q.answer ≡ Made seen usable → mark_of q ≡ Some (mark_at q.line seen (Some steps.Issue))
-made_mark q seen usable e = rw e refl
-
-written_mark : (q : Played) (seen : Seen) (reg value : ℕ) → q.op ≡ ops.Write reg value → q.answer ≡ Done seen → mark_of q ≡ Some (mark_at q.line seen (Some steps.Write))
-written_mark q seen reg value op e = rw (e, op) refl
+use Rattle.pa_one_run.proofs.words.Reading.{made_mark, written_mark}
 
 -- one number of a slot has one step
 pub step_once : (a : Parts) (q y : Played) (m n : Mark) (p r : Step) → IsFiled a → Contains a.ps q → Contains a.ps y → mark_of q ≡ Some m → mark_of y ≡ Some n → m.step ≡ Some p → n.step ≡ Some r →

@@ -8,18 +8,21 @@ use Rattle.pa_trace.specs.declared.script.Op.TheVariants as ops
 use Rattle.pa_record.specs.declared.history.CellEntry.{CellEntry}
 use Rattle.pa_record.specs.declared.history.Held.{Held}
 use Rattle.pa_record.specs.declared.history.Held.TheVariants as held
-use Rattle.pa_record.proofs.Members.{of_some, not_some, first_in, later_in}
-use Rattle.pa_rules.specs.declared.register.Reg.TheVariants.{Own, Ref}
+use Rattle.pa_lists.proofs.Members.{of_some, not_some, first_in, later_in}
+use Rattle.pa_rules.specs.declared.register.Register.TheVariants.{Own, Ref}
 use Rattle.pa_rules.specs.declared.played.Played.{Played}
 use Rattle.pa_rules.specs.Played.{mark_of}
 use Rattle.pa_rules.specs.Registers.{Row, with, reg_of}
 use Rattle.pa_rules.specs.Caches.{SameLists, NoActs}
-use Rattle.pa_one_run.proofs.lines.Sorting.{below, below_next, below_gap, in_below}
+use Rattle.pa_rules.specs.Changes.{swapped_of}
+use Rattle.pa_rules.proofs.Leading.{slot_in}
+use Rattle.pa_one_run.specs.Parts.{Parts, cell_line}
+use Rattle.pa_one_run.specs.Before.{below, root_at, facts_of, gave_last}
+use Rattle.pa_one_run.proofs.lines.Sorting.{below_next, below_gap, in_below}
 use Rattle.pa_one_run.proofs.lines.Cuts.{early_in, cut_here, exchange_made}
-use Rattle.pa_one_run.proofs.Filed.{Parts, IsFiled, cell_line}
-use Rattle.pa_one_run.proofs.rows.Handles.{facts_of, slot_in, slot_held, swapped_of, holds_made}
-use Rattle.pa_one_run.proofs.rows.Exchanges.{gave_last, exchange_here, exchange_op, cell_steady}
-use Rattle.pa_one_run.proofs.roots.Replays.{root_at}
+use Rattle.pa_one_run.proofs.Filed.{IsFiled}
+use Rattle.pa_one_run.proofs.rows.Handles.{slot_held, holds_made}
+use Rattle.pa_one_run.proofs.rows.Exchanges.{exchange_here, exchange_op, cell_steady}
 use Rattle.pa_core_run.specs.Playing.{AreBeside}
 use Rattle.pa_core_run.specs.Ledger.{IsShown}
 use Rattle.pa_core_run.specs.Standing.{Standing, ledger_of}

@@ -9,12 +9,12 @@ use Rattle.pa_record.specs.declared.pool.PoolEntry.{PoolEntry}
 use Rattle.pa_record.specs.declared.root.RootAct.{RootAct}
 use Rattle.pa_record.specs.declared.root.RootAct.TheVariants.{Fill}
 use Rattle.pa_record.specs.Pool.{act_at}
-use Rattle.pa_record.specs.Spans.{title_at, name_of}
+use Rattle.pa_record.specs.Spans.{name_of}
 use Rattle.pa_record.specs.Root.{Root, Filled, takes, opened_by, super_of, names, root_next, IsJournal, IsOut, asked_by, all_asked}
 use Rattle.pa_record.specs.Sound.{IsSound, IsBornBelow, IsMade, AsksFrom, least_after_all}
 use Rattle.pa_record.specs.Steps.{IsFilled}
 use Rattle.pa_record.specs.Laws.{IsNameOut}
-use Rattle.pa_record.proofs.Pairs.{pairs_head, pairs_tail}
+use Rattle.pa_lists.proofs.Pairs.{pairs_head, pairs_tail}
 use Rattle.pa_record.proofs.Titles.{made_born, rise_parts}
 use Rattle.pa_record.proofs.Filling.{takes_filled, opened_sound}
 use Rattle.pa_record.proofs.Mapping.{born_more}
@@ -22,16 +22,19 @@ use Rattle.pa_record.proofs.Lawful.{journal_leaves}
 use Rattle.pa_deeds.specs.Deeds.{root_after}
 use Rattle.pa_rules.specs.Caches.{OnlyActs}
 use Rattle.pa_rules.specs.declared.played.Played.{Played}
+use Rattle.pa_one_run.specs.Parts.{Parts, entry_line}
+use Rattle.pa_one_run.specs.Before.{root_at}
 use Rattle.pa_one_run.proofs.lines.Sorting.{below_next}
-use Rattle.pa_one_run.proofs.Filed.{Parts, IsFiled, entry_line}
-use Rattle.pa_one_run.proofs.roots.Replays.{root_at, front_journal, on_line}
+use Rattle.pa_one_run.proofs.Filed.{IsFiled}
+use Rattle.pa_one_run.proofs.roots.Replays.{front_journal, on_line}
 use Rattle.pa_one_run.proofs.roots.Requests.{one_fits}
 use Rattle.pa_core_run.specs.Moves.{StandOnce}
 use Rattle.pa_core_run.specs.Standing.{Standing}
 use Rattle.pa_core_run.specs.Fronts.{IsFrontOf}
 use Rattle.pa_core_run.proofs.NextFronts.{root_line}
 use Rattle.pa_core_run.proofs.FrontPool.{journal_before}
-use Rattle.pa_core_run.proofs.Growing.{rise_rest}
+use Rattle.pa_record.proofs.Leaving.{slot_out, name_cases}
+use Rattle.pa_deeds.proofs.Sharing.{rise_rest}
 
 -- ---- one root
 
@@ -53,14 +56,6 @@ opened_by_sound : (pools : List PoolEntry) (o : Option ℕ) (n : ℕ) (r : Root)
 opened_by_sound pools None n r asks sound born = sound
 opened_by_sound pools (Some j) n r asks sound born = opened_sound (super_of (act_at pools j)) j r sound (born_more n j r asks born)
 
--- a slot that is out has its name out; and a name that is out is a slot's or a direct map's
-pub named_out : (r : Root) (name : SlotName) → IsOut r name → IsNameOut r name
-named_out r name (s, among, number, o) = (title_at s number, inl (s, among, number, record { provisioned = o.provisioned; named = refl; out = o.out }, refl), o.named)
-
-pub name_cases : (r : Root) (name : SlotName) → IsNameOut r name → IsOut r name ⊎ ((t : Title) × Contains r.maps t × (name ≡ name_of t))
-name_cases r name (t, inl (s, among, number, o, is), same) = inl (subst (λ x. IsOut r x) (sym same) (s, among, number, o))
-name_cases r name (t, inr mapped, same) = inr (t, mapped, same)
-
 pub slot_not_map : (r : Root) (t u : Title) → IsSound r → IsMade r t → Contains r.maps u → name_of t ≡ name_of u → ⊥
 slot_not_map r t u sound made mapped same =
     let (at, member, is) = made_born r t sound made in
@@ -76,7 +71,7 @@ differ_once (t ∷ ts) differ = (
 module _ (r after : Root) (titles : List Title) (f : IsFilledTo r after titles) (sound : IsSound r) where
   pub name_stays : (name : SlotName) → IsNameOut r name → IsNameOut after name
   name_stays name out = elim (name_cases r name out) [
-    | inl slot ↦ named_out after name (f.stays name slot)
+    | inl slot ↦ slot_out after name (f.stays name slot)
     | inr (t, mapped, same) ↦ (t, inr (subst (λ ts. Contains ts t) (sym f.maps) mapped), same)
   ]
 

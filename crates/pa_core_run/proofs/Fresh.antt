@@ -4,13 +4,14 @@ use Rattle.std.specs.Prelude.{Contains}
 use Rattle.std.proofs.lemmas.List.Elements.{Contains-append_left, Contains-append_right, Contains-append_cases}
 use Rattle.pa_machine.specs.declared.title.Title.{Title}
 use Rattle.pa_machine.proofs.Same.{title_tells}
-use Rattle.pa_record.specs.Spans.{Span, numbers, title_at}
+use Rattle.pa_record.specs.Spans.{Span, title_at}
 use Rattle.pa_record.specs.Root.{Root}
-use Rattle.pa_record.proofs.Members.{not_in_none, first_in, later_in, in_cases}
-use Rattle.pa_record.proofs.Joined.{map_in, map_cases, flat_in, flat_cases}
-use Rattle.pa_record.proofs.Counting.{numbers_in, numbers_has}
+use Rattle.pa_lists.proofs.Members.{not_in_none, first_in, later_in, in_cases}
+use Rattle.pa_lists.proofs.Joined.{map_in, map_cases, flat_in, flat_cases}
+use Rattle.pa_lists.proofs.Different.{numbers_in, numbers_has}
 use Rattle.pa_deeds.specs.Shared.{IsThere}
 use Rattle.pa_core_run.specs.Moves.{StandOnce}
+use Rattle.pa_lists.specs.Numbers.{numbers}
 
 -- ---- the titles of a root
 

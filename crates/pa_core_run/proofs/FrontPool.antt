@@ -1,5 +1,5 @@
 -- The journals and the pool before a line: they share as those of a whole run do, so no two titles that are there at once share a byte.
-use Rattle.std.proofs.Common.{◌≡◌, ℕ, ◌<◌, List, [], ◌∷◌, ◌++◌, Option, Some, None, refl, sym, ◌∙◌, ap, subst, arith, inl, inr, append_assoc}
+use Rattle.std.proofs.Common.{◌≡◌, ℕ, ◌<◌, List, [], ◌∷◌, ◌++◌, Option, Some, None, refl, sym, ◌∙◌, ap, subst, append_assoc}
 use Rattle.std.specs.Prelude.{Contains, slice_get, option_map, map}
 use Rattle.std.proofs.lemmas.List.{append-nil}
 use Rattle.pa_machine.specs.declared.title.Title.{Title}
@@ -12,58 +12,33 @@ use Rattle.pa_record.specs.declared.root.RootAct.{RootAct}
 use Rattle.pa_record.specs.declared.root.RootAct.TheVariants.{Fill, Map, Full, Give, Unmap, Purge}
 use Rattle.pa_record.specs.Spans.{name_of}
 use Rattle.pa_record.specs.Pool.{PoolActFits, PoolReplays, IsPool, act_at}
-use Rattle.pa_record.specs.Root.{Root, new_root, takes, opened, super_of, names, root_next, root_replayed, RootActFits, RootReplays, asked_by}
-use Rattle.pa_record.proofs.Members.{first_in, later_in}
-use Rattle.pa_record.proofs.PoolSteps.{pool_grows, pool_is_sound}
+use Rattle.pa_record.specs.Root.{Root, new_root, takes, opened, super_of, names, root_next, RootActFits, RootReplays, asked_by}
+use Rattle.pa_lists.proofs.Members.{first_in, later_in}
+use Rattle.pa_record.proofs.PoolSteps.{pool_grows}
 use Rattle.pa_deeds.specs.Deeds.{root_at as root_of}
 use Rattle.pa_deeds.specs.Pooled.{pool_at as pool_of}
 use Rattle.pa_deeds.specs.Shared.{SharePool, IsThere, AreOneOrApart}
-use Rattle.pa_deeds.proofs.Pooling.{get_cases}
 use Rattle.pa_deeds.proofs.Sharing.{titles_share_no_byte}
-use Rattle.pa_one_run.proofs.lines.Sorting.{below, on, past, in_below, below_on_past, get_below, below_get}
-use Rattle.pa_one_run.proofs.lines.Lists.{get_in, both_have}
-use Rattle.pa_one_run.proofs.Filed.{Parts, IsFiled, entry_line, pool_line}
-use Rattle.pa_one_run.proofs.roots.Replays.{root_at, front_journal, named_of}
+use Rattle.pa_one_run.specs.Parts.{Parts, entry_line, pool_line}
+use Rattle.pa_one_run.specs.Before.{below, on, past, root_at}
+use Rattle.pa_one_run.proofs.lines.Sorting.{in_below, below_on_past, get_below, below_get}
+use Rattle.pa_lists.proofs.Elements.{both_have}
+use Rattle.pa_one_run.proofs.Filed.{IsFiled}
+use Rattle.pa_one_run.proofs.roots.Replays.{front_journal, named_of, next_same, replayed_same}
+use Rattle.pa_lists.proofs.Indexed.{at_in}
+use Rattle.pa_deeds.proofs.Runs.{fits_before}
 
 -- ---- the first entries of the pool
-
-before_fits : (supers : ℕ) (before es : List PoolEntry) (partition : ℕ) (act : PoolAct) → IsPool supers before → PoolActFits (before ++ es) partition act (pool_of supers before) →
-    PoolActFits before partition act (pool_of supers before)
-before_fits supers before es partition (pool.Take count found) h fits = fits
-before_fits supers before es partition (pool.Give count first) h (t, one, (e, there, same)) =
-    let sound = pool_is_sound.sound supers before h in
-    let counted = pool_is_sound.counted supers before in
-    let (low, found) = sound.found t one.among in
-    elim (get_cases before es t.entry e there) [
-      | inl old ↦ (t, one, (e, old, same))
-      | inr (k, at, is) ↦ absurd (omega arith)
-    ]
 
 pool_front : (supers : ℕ) (pools before es rest : List PoolEntry) → pools ≡ before ++ (es ++ rest) → IsPool supers before → PoolReplays pools (es ++ rest) (pool_of supers before) → IsPool supers (before ++ es)
 pool_front supers pools before [] rest parts h fits = subst (λ z. IsPool supers z) (sym (append-nil before)) h
 pool_front supers pools before (e ∷ es) rest parts h fits =
-    let act = before_fits supers before (e ∷ (es ++ rest)) e.partition e.act h (subst (λ z. PoolActFits z e.partition e.act (pool_of supers before)) parts fits.0) in
+    let act = fits_before supers before (e ∷ (es ++ rest)) e.partition e.act h (subst (λ z. PoolActFits z e.partition e.act (pool_of supers before)) parts fits.0) in
     subst (λ z. IsPool supers z) (append_assoc before (e ∷ []) es)
     (pool_front supers pools (before ++ e ∷ []) es rest (parts ∙ sym (append_assoc before (e ∷ []) (es ++ rest))) (pool_grows.fits supers before e h act)
     (subst (λ s. PoolReplays pools (es ++ rest) s) (sym (pool_grows.next supers before e)) fits.1))
 
 -- ---- a journal beside two pools that have the entries that it names
-
-next_same : (pools other : List PoolEntry) (act : RootAct) (r : Root) → ((j : ℕ) → asked_by act ≡ Some j → act_at pools j ≡ act_at other j) → root_next pools act r ≡ root_next other act r
-next_same pools other (Fill class None slots) r h = refl
-next_same pools other (Fill class (Some j) slots) r h = ap (λ (o : Option PoolAct). (takes class (fill_of class) (opened (super_of o) j r)).root) (h j refl)
-next_same pools other (Map asked slot len) r h = refl
-next_same pools other (Full class asked) r h = refl
-next_same pools other (Give slots) r h = refl
-next_same pools other (Unmap asked slot) r h = refl
-next_same pools other Purge r h = refl
-
-replayed_same : (pools other : List PoolEntry) (es : List RootEntry) (r : Root) → ((e : RootEntry) (j : ℕ) → Contains es e → asked_by e.act ≡ Some j → act_at pools j ≡ act_at other j) →
-    root_replayed pools es r ≡ root_replayed other es r
-replayed_same pools other [] r h = refl
-replayed_same pools other (e ∷ es) r h =
-    replayed_same pools other es (root_next pools e.act r) (λ f j among. h f j (later_in e f es among))
-    ∙ ap (λ s. root_replayed other es s) (next_same pools other e.act r (λ j. h e j (first_in e es)))
 
 act_fits : (pools other : List PoolEntry) (act : RootAct) (r : Root) → ((j : ℕ) → asked_by act ≡ Some j → act_at pools j ≡ act_at other j) → RootActFits pools act r → RootActFits other act r
 act_fits pools other (Fill class None slots) r same fits = fits
@@ -110,7 +85,7 @@ module _ (a : Parts) (n : ℕ) (h : IsFiled a) where
     named = λ j e at.
         let full = below_get pool_line n a.pools j e h.order.pool at in
         let (i, f, there, asks, line) = h.pool.named j e full in
-        let low = (in_below pool_line n a.pools e (get_in (pool_before a n) j e at)).1 in
+        let low = (in_below pool_line n a.pools e (at_in (pool_before a n) j e at)).1 in
         (i, (f, get_below entry_line n (a.roots e.partition) i f (h.order.journals e.partition) there (subst (λ m. m < n) (sym line) low), asks));
     once = λ j p q i k e at (f, there, asks) (g, other, names_it).
         h.pool.once j p q i k e (below_get pool_line n a.pools j e h.order.pool at)

@@ -24,13 +24,14 @@ use Rattle.pa_rules.specs.Caches.{acts_of, batches, gives, purge_acts}
 use Rattle.pa_rules.specs.Flow.{back_in}
 use Rattle.pa_rules.proofs.Counted.{back_append}
 use Rattle.pa_rules.proofs.Totals.{times_in}
-use Rattle.pa_one_run.proofs.lines.Sorting.{on}
-use Rattle.pa_one_run.proofs.Filed.{Parts, IsFiled, entry_line}
-use Rattle.pa_one_run.proofs.roots.Replays.{root_at, front_journal, line_replays}
+use Rattle.pa_one_run.specs.Parts.{Parts, entry_line}
+use Rattle.pa_one_run.specs.Before.{on, root_at}
+use Rattle.pa_one_run.proofs.Filed.{IsFiled}
+use Rattle.pa_one_run.proofs.roots.Replays.{front_journal, line_replays}
 use Rattle.pa_core_run.specs.Standing.{Standing}
 use Rattle.pa_core_run.specs.Fronts.{ThereIn, KeptIn, IsFrontOf}
 use Rattle.pa_core_run.proofs.NextFronts.{root_line}
-use Rattle.pa_core_run.proofs.FilledRoots.{name_cases, named_out}
+use Rattle.pa_record.proofs.Leaving.{slot_out, name_cases}
 
 -- ---- one root
 
@@ -123,7 +124,7 @@ gives_back pools (act ∷ acts) r sound giving fits =
 module _ (acts : List RootAct) (r after : Root) (back : GivesBack acts r after) where
   name_stays : (name : SlotName) → back_in name acts ≡ 0 → IsNameOut r name → IsNameOut after name
   name_stays name none out = elim (name_cases r name out) [
-    | inl slot ↦ named_out after name (back.stays name none slot)
+    | inl slot ↦ slot_out after name (back.stays name none slot)
     | inr (t, mapped, same) ↦ (t, inr (subst (λ ts. Contains ts t) (sym back.maps) mapped), same)
   ]
 

@@ -13,21 +13,17 @@ use Rattle.pa_record.proofs.Stepping.{next_is}
 use Rattle.pa_record.proofs.Titles.{rise_parts}
 use Rattle.pa_record.proofs.Lawful.{journal_leaves}
 use Rattle.pa_legal.proofs.Naming.{IsGood, good_next}
-use Rattle.pa_one_run.proofs.lines.Sorting.{below, on, past, in_below, below_all, below_on_past}
-use Rattle.pa_one_run.proofs.Filed.{Parts, IsFiled, entry_line}
-use Rattle.pa_one_run.proofs.roots.Replays.{root_at, front_journal}
-use Rattle.pa_core_run.proofs.NextFronts.{replayed_both}
+use Rattle.pa_one_run.specs.Parts.{Parts, entry_line}
+use Rattle.pa_one_run.specs.Before.{below, on, past, root_at}
+use Rattle.pa_one_run.proofs.lines.Sorting.{in_below, below_all, below_on_past}
+use Rattle.pa_one_run.proofs.Filed.{IsFiled}
+use Rattle.pa_one_run.proofs.roots.Replays.{front_journal}
 use Rattle.pa_core_run.proofs.FrontPool.{journal_before}
+use Rattle.pa_record.proofs.Replaying.{replays_rest}
+use Rattle.pa_deeds.proofs.Sharing.{rise_rest, root_parts}
+use Rattle.pa_deeds.proofs.Unmapping.{least_rises}
 
 -- ---- entries after entries
-
-replays_rest : (pools : List PoolEntry) (xs ys : List RootEntry) (r : Root) → RootReplays pools (xs ++ ys) r → RootReplays pools ys (root_replayed pools xs r)
-replays_rest pools [] ys r h = h
-replays_rest pools (x ∷ xs) ys r h = replays_rest pools xs ys (root_next pools x.act r) h.1
-
-pub rise_rest : (least : ℕ) (xs ys : List RootEntry) → RiseFrom least (all_asked (xs ++ ys)) → RiseFrom (least_after_all least xs) (all_asked ys)
-rise_rest least [] ys h = h
-rise_rest least (x ∷ xs) ys h = rise_rest (least_after least (asked_by x.act)) xs ys (rise_parts least (asked_by x.act) (all_asked (xs ++ ys)) h).1
 
 made_stays : (pools : List PoolEntry) (es : List RootEntry) (n : ℕ) (r : Root) (t : Title) → IsGood n r → RootReplays pools es r → RiseFrom n (all_asked es) → IsMade r t → IsMade (root_replayed pools es r) t
 made_stays pools [] n r t good fits rise made = made
@@ -40,18 +36,6 @@ made_stays pools (e ∷ es) n r t good fits rise made =
 least_parts : (n : ℕ) (xs ys : List RootEntry) → least_after_all n (xs ++ ys) ≡ least_after_all (least_after_all n xs) ys
 least_parts n [] ys = refl
 least_parts n (x ∷ xs) ys = least_parts (least_after n (asked_by x.act)) xs ys
-
-least_one : (n : ℕ) (o : Option ℕ) → AsksFrom n o → n ≤ least_after n o
-least_one n None asks = omega arith
-least_one n (Some j) asks = omega arith
-
-least_rises : (n : ℕ) (es : List RootEntry) → RiseFrom n (all_asked es) → n ≤ least_after_all n es
-least_rises n [] rise = omega arith
-least_rises n (e ∷ es) rise =
-    let (asks, rest) = rise_parts n (asked_by e.act) (all_asked es) rise in
-    let a = least_one n (asked_by e.act) asks in
-    let b = least_rises (least_after n (asked_by e.act)) es rest in
-    omega arith
 
 -- the root has no super page by this entry of the pool, and may get none
 abbrev pub HasNoSuper : ℕ → ℕ → Root → Type 0
@@ -76,13 +60,13 @@ module _ (pools : List PoolEntry) (front more : List RootEntry) (h : IsJournal p
 
   grown : (t : Title) → IsMade (root_replayed pools front new_root) t → IsMade (root_replayed pools (front ++ more) new_root) t
   grown t made =
-      subst (λ (r : Root). IsMade r t) (sym (replayed_both pools front more new_root))
+      subst (λ (r : Root). IsMade r t) (sym (root_parts pools front more new_root))
       (made_stays pools more (least_after_all 0 front) (root_replayed pools front new_root) t good_front (replays_rest pools front more new_root h.replays) (rise_rest 0 front more h.rise) made)
 
   no_super_grown : (b : ℕ) → HasNoSuper b (least_after_all 0 front) (root_replayed pools front new_root) → (at : SuperPage) → Contains (root_replayed pools (front ++ more) new_root).supers at → at.born ≡ b → ⊥
   no_super_grown b none at member same =
       no_super_stays pools more b (least_after_all 0 front) (root_replayed pools front new_root) good_front (replays_rest pools front more new_root h.replays) (rise_rest 0 front more h.rise) none at
-      (subst (λ (r : Root). Contains r.supers at) (replayed_both pools front more new_root) member) same
+      (subst (λ (r : Root). Contains r.supers at) (root_parts pools front more new_root) member) same
 
 -- ---- from line to line
 

@@ -17,28 +17,28 @@ use Rattle.pa_trace.specs.declared.script.Op.TheVariants as ops
 use Rattle.pa_record.specs.declared.entry.Seen.{Seen}
 use Rattle.pa_record.specs.declared.entry.Answer.TheVariants as answers
 use Rattle.pa_record.specs.Spans.{name_of}
-use Rattle.pa_rules.specs.declared.register.Reg.TheVariants.{Own}
+use Rattle.pa_rules.specs.declared.register.Register.TheVariants.{Own}
 use Rattle.pa_rules.specs.declared.played.Played.{Played}
 use Rattle.pa_rules.specs.Played.{mark_of, mark_at}
 use Rattle.pa_rules.specs.Registers.{Becomes, with}
 use Rattle.pa_rules.specs.Caches.{Cache, with_cache}
 use Rattle.pa_rules.specs.Contents.{IsContent}
 use Rattle.pa_rules.specs.Flow.{listed_times}
-use Rattle.pa_rules.proofs.Counted.{once}
 use Rattle.pa_turns.specs.Shown.{over, with_slot}
 use Rattle.pa_turns.specs.Turns.{HoldsNone}
 use Rattle.pa_turns.proofs.Balance.{at_slot, at_other_slot}
-use Rattle.pa_one_run.proofs.Filed.{Parts, IsFiled}
-use Rattle.pa_one_run.proofs.roots.Replays.{root_at}
+use Rattle.pa_one_run.proofs.Filed.{IsFiled}
 use Rattle.pa_one_run.proofs.roots.Classes.{made_class}
 use Rattle.pa_core_steps.specs.Turns.{IsDone, stores}
-use Rattle.pa_core_steps.proofs.Storing.{free_held}
+use Rattle.pa_rules.specs.Once.{once}
+use Rattle.pa_one_run.specs.Parts.{Parts}
+use Rattle.pa_one_run.specs.Before.{root_at}
 use Rattle.pa_core_run.specs.Playing.{AreBeside}
 use Rattle.pa_core_run.specs.Ledger.{Titles, IsShown}
 use Rattle.pa_core_run.specs.Standing.{Standing, in_lists, ledger_of}
 use Rattle.pa_core_run.specs.Fronts.{MadeIn, titles_in, IsFrontOf}
 use Rattle.pa_core_run.proofs.Acting.{play_step}
-use Rattle.pa_core_run.proofs.Paying.{over_same, IsSet}
+use Rattle.pa_core_run.proofs.Paying.{IsSet}
 use Rattle.pa_core_run.proofs.Stepping.{issue_stands}
 use Rattle.pa_core_run.proofs.Named.{made_unique, HasTitle, class_title, direct_title}
 use Rattle.pa_core_run.proofs.Contents.{content_made}
@@ -47,6 +47,8 @@ use Rattle.pa_core_run.proofs.NextFronts.{among, lists_beside, regs_left, cache_
 use Rattle.pa_core_run.proofs.Records.{Outcome}
 use Rattle.pa_core_run.proofs.Stepped.{next_st, below, set_named, stores_beside}
 use Rattle.pa_core_run.proofs.Fronted.{lists_here}
+use Rattle.pa_turns.proofs.Handles.{over_same}
+use Rattle.pa_machine.proofs.Holding.{free_title}
 
 module _ (a : Parts) (before rest : List Played) (x : Played) (h : IsFiled a) (parts : a.ps ≡ before ++ x ∷ rest) (st : Standing) (f : IsFrontOf a x.line before (x ∷ rest) st) (s : State)
     (shown : IsShown (titles_in a (root_at a x.line)) (a.threads + 1) (2097152 * a.supers) (ledger_of a.partitions st) s) where
@@ -115,7 +117,7 @@ module _ (a : Parts) (before rest : List Played) (x : Played) (h : IsFiled a) (p
       let had = lists_mine list (name_of u) in
       let piece = free_piece (MadeIn a) t u (made_unique a h) made m2 ∙ ap (once (name_of u)) name in
       omega arith) in
-      let held = free_held mid (suc x.thread) t free in
+      let held = free_title mid (suc x.thread) t free in
       let found = found_word a before rest x h parts st f m is in
       let P : ℕ → Type 0 = λ w. IsContent a.ps seen.slot (number_of w + 1) (content seen.slot) in
       let Q : ℕ → Type 0 = λ v. IsContent a.ps seen.slot (number_of seen.found.0 + 1) v in

@@ -12,22 +12,24 @@ use Rattle.pa_record.specs.declared.entry.Answer.TheVariants as answers
 use Rattle.pa_record.specs.declared.root.RootAct.TheVariants.{Map}
 use Rattle.pa_record.specs.Spans.{name_of}
 use Rattle.pa_record.specs.Laws.{leaves_by}
-use Rattle.pa_record.proofs.Members.{first_in}
-use Rattle.pa_rules.specs.declared.register.Reg.{Reg}
-use Rattle.pa_rules.specs.declared.register.Reg.TheVariants.{Empty, Own, Ref, Freed, Cleared}
+use Rattle.pa_lists.proofs.Members.{first_in}
+use Rattle.pa_rules.specs.declared.register.Register.TheVariants.{Empty, Own, Ref, Freed, Cleared}
 use Rattle.pa_rules.specs.declared.played.Played.{Played}
-use Rattle.pa_rules.specs.Registers.{Facts, Regs, Row, AllocRow, RequestRow}
+use Rattle.pa_rules.specs.Registers.{Reg, Facts, Regs, Row, AllocRow, RequestRow}
 use Rattle.pa_rules.specs.Roots.{MakesEntry, AsksForMap}
 use Rattle.pa_rules.specs.Caches.{CacheRow, MadeRow, IsOfClass}
 use Rattle.pa_rules.specs.Sizes.{usable_of, slot_size_for}
 use Rattle.pa_rules.proofs.Sizes.{sizes_fit}
 use Rattle.pa_rules.proofs.Owned.{title_of, HasLen}
+use Rattle.pa_rules.proofs.Asking.{class_or_map, map_once}
 use Rattle.pa_legal.proofs.flow.Rows.{line_entry}
-use Rattle.pa_one_run.proofs.Filed.{Parts, IsFiled}
+use Rattle.pa_one_run.specs.Parts.{Parts}
+use Rattle.pa_one_run.specs.Before.{facts_of}
+use Rattle.pa_one_run.proofs.Filed.{IsFiled}
 use Rattle.pa_one_run.proofs.lines.Cuts.{entry_made, record_row, same_played}
-use Rattle.pa_one_run.proofs.lines.Lists.{parts_at}
-use Rattle.pa_one_run.proofs.roots.Classes.{made_class, class_or_map, map_once}
-use Rattle.pa_one_run.proofs.rows.Handles.{facts_of, row_at}
+use Rattle.pa_lists.proofs.Elements.{parts_at}
+use Rattle.pa_one_run.proofs.roots.Classes.{made_class}
+use Rattle.pa_one_run.proofs.rows.Handles.{row_at}
 use Rattle.pa_core_run.specs.Fronts.{MadeIn}
 use Rattle.pa_core_run.proofs.Named.{made_unique}
 

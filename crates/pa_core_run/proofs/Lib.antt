@@ -45,4 +45,3 @@ pub mod Spilled
 pub mod Purging
 pub mod Purged
 pub mod Whole
-pub mod PlayedWorked

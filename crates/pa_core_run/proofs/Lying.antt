@@ -1,6 +1,5 @@
 -- Where titles lie: they are of whole words, long enough, and inside the region.
-use Rattle.std.proofs.Common.{◌≡◌, ℕ, ◌+◌, ◌*◌, ◌%◌, ◌≤◌, sym, ◌∙◌, ap, subst, arith, inl, inr}
-use Rattle.std.proofs.lemmas.Nat.{mul-mod_first}
+use Rattle.std.proofs.Common.{◌≡◌, ℕ, ◌+◌, ◌*◌, ◌%◌, ◌≤◌, sym, ◌∙◌, subst, arith, inl, inr}
 use Rattle.pa_machine.specs.declared.title.Title.{Title}
 use Rattle.pa_layout.specs.Pages.{supers_for}
 use Rattle.pa_buckets.specs.Table.{slot_of}
@@ -11,8 +10,11 @@ use Rattle.pa_record.specs.Sound.{IsMade, IsMadeBy}
 use Rattle.pa_record.proofs.PoolSteps.{pool_is_sound}
 use Rattle.pa_record.proofs.Lawful.{journal_leaves}
 use Rattle.pa_deeds.proofs.Runs.{run_of, taken_or_given}
-use Rattle.pa_one_run.proofs.Filed.{Parts, IsFiled}
-use Rattle.pa_one_run.proofs.roots.Replays.{root_at, front_journal}
+use Rattle.pa_one_run.specs.Parts.{Parts}
+use Rattle.pa_one_run.specs.Before.{root_at}
+use Rattle.pa_one_run.proofs.Filed.{IsFiled}
+use Rattle.pa_one_run.proofs.roots.Replays.{front_journal}
+use Rattle.pa_lists.proofs.Tests.{times_whole}
 
 -- a title of whole words and at least two of them, which ends by a byte
 pub record LiesIn (bytes : ℕ) (t : Title) : Type 0 where
@@ -20,10 +22,6 @@ pub record LiesIn (bytes : ℕ) (t : Title) : Type 0 where
   pub len_aligned : t.len % 8 ≡ 0
   pub long : 16 ≤ t.len
   pub inside : t.start + t.len ≤ bytes
-
--- a multiple of a number of whole words is of whole words
-times_whole : (x n : ℕ) → x % 8 ≡ 0 → (x * n) % 8 ≡ 0
-times_whole x n e = let none : (0 * n) % 8 ≡ 0 = omega arith in sym (mul-mod_first x n 8) ∙ ap (λ k. (k * n) % 8) e ∙ none
 
 at_whole : (bytes : ℕ) (s : Span) (n : ℕ) → s.place % 8 ≡ 0 → slot_of s.class % 8 ≡ 0 → 16 ≤ slot_of s.class → (title_at s n).start + (title_at s n).len ≤ bytes → LiesIn bytes (title_at s n)
 at_whole bytes s n place slot long inside =

@@ -6,7 +6,7 @@ use Rattle.pa_machine.specs.Events.{State}
 use Rattle.pa_machine.proofs.Lasting.{run_start}
 use Rattle.pa_record.specs.Spans.{name_of}
 use Rattle.pa_record.specs.Sound.{TitlesApart}
-use Rattle.pa_record.proofs.Members.{first_in, later_in, in_cases, not_in_none}
+use Rattle.pa_lists.proofs.Members.{first_in, later_in, in_cases, not_in_none}
 use Rattle.pa_core_steps.proofs.Joining.{run_join}
 use Rattle.pa_core_run.specs.Ledger.{Ledger, Titles, IsShown}
 use Rattle.pa_core_run.specs.Moves.{AllApart, CanBeCut, IsReached}

@@ -12,18 +12,21 @@ use Rattle.pa_record.specs.Spans.{title_at, name_of}
 use Rattle.pa_record.specs.Root.{Root, map_title, mapped, names}
 use Rattle.pa_record.specs.Sound.{IsMade, IsMadeBy, TitlesApart, least_after_all}
 use Rattle.pa_record.specs.Laws.{IsNameOut}
-use Rattle.pa_record.proofs.Members.{not_in_none, first_in}
+use Rattle.pa_lists.proofs.Members.{not_in_none, first_in}
 use Rattle.pa_record.proofs.Titles.{made_born}
 use Rattle.pa_record.proofs.Lawful.{journal_leaves}
 use Rattle.pa_deeds.specs.Shared.{IsThere}
 use Rattle.pa_rules.specs.declared.played.Played.{Played}
 use Rattle.pa_rules.specs.Caches.{Cache, OnlyActs, with_list}
-use Rattle.pa_rules.proofs.Counted.{once, times_cons}
+use Rattle.pa_rules.specs.Once.{once}
+use Rattle.pa_rules.proofs.Counted.{times_cons}
 use Rattle.pa_rules.proofs.Following.{titles_follow}
+use Rattle.pa_one_run.specs.Parts.{Parts}
+use Rattle.pa_one_run.specs.Before.{root_at}
 use Rattle.pa_one_run.proofs.lines.Cuts.{cut_here}
-use Rattle.pa_one_run.proofs.lines.Lists.{in_one}
-use Rattle.pa_one_run.proofs.Filed.{Parts, IsFiled}
-use Rattle.pa_one_run.proofs.roots.Replays.{root_at, front_journal, act_entry}
+use Rattle.pa_lists.proofs.Elements.{in_one}
+use Rattle.pa_one_run.proofs.Filed.{IsFiled}
+use Rattle.pa_one_run.proofs.roots.Replays.{front_journal, act_entry}
 use Rattle.pa_one_run.proofs.roots.Requests.{one_fits, makes}
 use Rattle.pa_core_run.specs.Ledger.{IsShown}
 use Rattle.pa_core_run.specs.Moves.{named_in, CanBeCut}
@@ -39,8 +42,9 @@ use Rattle.pa_core_run.proofs.Growing.{made_later, made_at_end, least_later}
 use Rattle.pa_core_run.proofs.Unmade.{never_word}
 use Rattle.pa_core_run.proofs.Lying.{ends_inside}
 use Rattle.pa_core_run.proofs.Issued.{listing, lists_mine, IsBrought}
-use Rattle.pa_core_run.proofs.FilledRoots.{name_cases, root_one, root_other, asks_new}
+use Rattle.pa_core_run.proofs.FilledRoots.{root_one, root_other, asks_new}
 use Rattle.pa_core_run.proofs.Bringing.{titles_come}
+use Rattle.pa_record.proofs.Leaving.{name_cases}
 
 -- a name that is out stays out when a direct map comes
 name_stays : (r : Root) (t : Title) (name : SlotName) → IsNameOut r name → IsNameOut (mapped t r) name

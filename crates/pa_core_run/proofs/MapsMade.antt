@@ -13,15 +13,17 @@ use Rattle.pa_record.specs.declared.root.RootAct.TheVariants.{Fill, Map, Full, G
 use Rattle.pa_record.specs.Pool.{act_at}
 use Rattle.pa_record.specs.Root.{Root, new_root, opened, super_of, names, empties, map_title, without_map, root_next, root_replayed, RootActFits, RootReplays, RiseFrom, asked_by, all_asked}
 use Rattle.pa_record.specs.Sound.{AsksFrom, least_after, IsMapBy, IsMadeBy}
-use Rattle.pa_record.proofs.Members.{not_in_none, first_in, later_in, in_cases}
+use Rattle.pa_lists.proofs.Members.{not_in_none, first_in, later_in, in_cases}
 use Rattle.pa_record.proofs.Filling.{takes_filled, opened_sound}
 use Rattle.pa_record.proofs.Returning.{all_returned_is, times_is}
 use Rattle.pa_record.proofs.Mapping.{without_map_in, born_more}
 use Rattle.pa_record.proofs.Titles.{new_sound, new_born, rise_parts}
 use Rattle.pa_legal.proofs.Naming.{IsGood, good_next}
+use Rattle.pa_one_run.specs.Parts.{Parts, entry_line}
+use Rattle.pa_one_run.specs.Before.{root_at}
 use Rattle.pa_one_run.proofs.lines.Sorting.{in_below}
-use Rattle.pa_one_run.proofs.Filed.{Parts, IsFiled, entry_line}
-use Rattle.pa_one_run.proofs.roots.Replays.{root_at, front_journal}
+use Rattle.pa_one_run.proofs.Filed.{IsFiled}
+use Rattle.pa_one_run.proofs.roots.Replays.{front_journal}
 use Rattle.pa_core_run.proofs.FrontPool.{journal_before}
 
 -- a map that is there after an entry was there before, or the entry made it

@@ -7,16 +7,17 @@ use Rattle.pa_buckets.proofs.Facts.{IsRow-of}
 use Rattle.pa_record.specs.Spans.{name_of}
 use Rattle.pa_record.specs.Laws.{leaves_by}
 use Rattle.pa_record.specs.Sound.{IsMadeBy}
-use Rattle.pa_record.proofs.Members.{first_in}
+use Rattle.pa_lists.proofs.Members.{first_in}
 use Rattle.pa_record.proofs.Lawful.{journal_leaves}
 use Rattle.pa_rules.specs.declared.played.Played.{Played}
 use Rattle.pa_rules.specs.Roots.{MakesEntry}
 use Rattle.pa_rules.specs.Caches.{IsOfClass, IsDirect}
 use Rattle.pa_rules.proofs.Following.{titles_follow}
 use Rattle.pa_rules.proofs.Owned.{title_of}
-use Rattle.pa_one_run.proofs.Filed.{Parts, IsFiled, IsMadeIn}
+use Rattle.pa_one_run.specs.Parts.{Parts}
+use Rattle.pa_one_run.proofs.Filed.{IsFiled, IsMadeIn}
 use Rattle.pa_one_run.proofs.lines.Cuts.{entry_made}
-use Rattle.pa_one_run.proofs.lines.Lists.{in_front}
+use Rattle.pa_lists.proofs.Elements.{in_front}
 use Rattle.pa_one_run.proofs.roots.Classes.{made_class}
 use Rattle.pa_core_run.specs.Fronts.{MadeIn}
 use Rattle.pa_core_run.specs.Moves.{HaveNames}

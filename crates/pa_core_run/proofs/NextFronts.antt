@@ -14,39 +14,35 @@ use Rattle.pa_record.specs.declared.pool.PoolEntry.{PoolEntry}
 use Rattle.pa_record.specs.declared.root.RootAct.TheVariants.{Full}
 use Rattle.pa_record.specs.Root.{Root, new_root, root_next, root_replayed}
 use Rattle.pa_deeds.specs.Deeds.{root_after}
-use Rattle.pa_record.proofs.Members.{not_in_none}
-use Rattle.pa_record.proofs.Joined.{map_in}
-use Rattle.pa_rules.specs.declared.register.Reg.{Reg}
+use Rattle.pa_lists.proofs.Members.{not_in_none}
+use Rattle.pa_lists.proofs.Joined.{map_in}
 use Rattle.pa_rules.specs.declared.played.Played.{Played}
 use Rattle.pa_rules.specs.Played.{mark_of}
-use Rattle.pa_rules.specs.Registers.{Regs, AllRegs, Facts, Row, RowsTo, Becomes, with, with_thread, no_regs}
+use Rattle.pa_rules.specs.Registers.{Reg, Regs, AllRegs, Facts, Row, RowsTo, Becomes, with, with_thread, no_regs}
 use Rattle.pa_rules.proofs.Counted.{listed_agree}
 use Rattle.pa_rules.specs.Caches.{Cache, CacheRow, SameLists, NoActs, OnlyActs, acts_of, with_cache, no_caches}
 use Rattle.pa_rules.specs.Contents.{IsContent}
 use Rattle.pa_rules.specs.Flow.{listed_times}
+use Rattle.pa_rules.proofs.CachesAfter.{caches_snoc}
 use Rattle.pa_turns.specs.Shown.{over}
-use Rattle.pa_one_run.proofs.lines.Sorting.{below, on, on_in, below_gap, below_next}
-use Rattle.pa_one_run.proofs.lines.Cuts.{caches_snoc}
-use Rattle.pa_one_run.proofs.lines.Lists.{in_middle}
-use Rattle.pa_one_run.proofs.Filed.{Parts, IsFiled, entry_line, cell_line, stepped_by, word_after}
+use Rattle.pa_one_run.specs.Parts.{Parts, entry_line, cell_line}
+use Rattle.pa_one_run.specs.Before.{stepped_by, word_after, below, on, root_at, facts_of, gave_last}
+use Rattle.pa_one_run.proofs.lines.Sorting.{on_in, below_gap, below_next}
+use Rattle.pa_lists.proofs.Elements.{in_middle}
+use Rattle.pa_one_run.proofs.Filed.{IsFiled}
 use Rattle.pa_one_run.proofs.words.Found.{found_is, step_can, word_same, word_other, word_here}
-use Rattle.pa_one_run.proofs.rows.Handles.{facts_of}
-use Rattle.pa_one_run.proofs.rows.Exchanges.{gave_last, exchange_op}
-use Rattle.pa_one_run.proofs.roots.Replays.{root_at}
+use Rattle.pa_one_run.proofs.rows.Exchanges.{exchange_op}
 use Rattle.pa_core_run.specs.Standing.{Standing, in_lists}
 use Rattle.pa_core_run.specs.Fronts.{IsFrontOf}
-use Rattle.pa_core_run.proofs.Paying.{over_same, IsSet}
+use Rattle.pa_core_run.proofs.Paying.{IsSet}
+use Rattle.pa_deeds.proofs.Sharing.{root_parts}
+use Rattle.pa_turns.proofs.Handles.{over_same}
 
 -- one record more
 rows_snoc : (facts : Facts) (first all : AllRegs) (before : List Played) (x : Played) (next : Regs) → RowsTo facts first before all → Row facts x.op (all x.thread) x.answer next →
     RowsTo facts first (before ++ x ∷ []) (with_thread all x.thread next)
 rows_snoc facts first all [] x next to row = (next, subst (λ (r : AllRegs). Row facts x.op (r x.thread) x.answer next) to row, ap (λ (r : AllRegs). with_thread r x.thread next) to)
 rows_snoc facts first all (y ∷ before) x next (after, here, to) row = (after, here, rows_snoc facts (with_thread first y.thread after) all before x next to row)
-
--- entries after entries, and what entries do is what their acts do
-pub replayed_both : (pools : List PoolEntry) (es fs : List RootEntry) (r : Root) → root_replayed pools (es ++ fs) r ≡ root_replayed pools fs (root_replayed pools es r)
-replayed_both pools [] fs r = refl
-replayed_both pools (e ∷ es) fs r = replayed_both pools es fs (root_next pools e.act r)
 
 pub replayed_acts : (pools : List PoolEntry) (es : List RootEntry) (r : Root) → root_replayed pools es r ≡ root_after pools (map (λ (e : RootEntry). e.act) es) r
 replayed_acts pools [] r = refl
@@ -122,7 +118,7 @@ module _ (a : Parts) (before rest : List Played) (x : Played) (h : IsFiled a) (p
       let steady = h.order.journals p in
       let cut = below_next entry_line x.line (x.line + 1) (a.roots p) (omega arith) (λ e member up. omega arith) steady in
       ap (λ es. root_replayed a.pools es new_root) cut
-      ∙ (replayed_both a.pools (below entry_line x.line (a.roots p)) (on entry_line x.line (a.roots p)) new_root ∙ replayed_acts a.pools (on entry_line x.line (a.roots p)) (root_at a x.line p))
+      ∙ (root_parts a.pools (below entry_line x.line (a.roots p)) (on entry_line x.line (a.roots p)) new_root ∙ replayed_acts a.pools (on entry_line x.line (a.roots p)) (root_at a x.line p))
 
   -- where the line's one entry is a refusal, the roots stay
   pub roots_refused : (p : ℕ) (class : Option ℕ) (asked : ℕ) → OnlyActs a.roots x.line p (Full class asked ∷ []) → root_at a (x.line + 1) ≡ root_at a x.line

@@ -12,30 +12,15 @@ use Rattle.pa_machine.proofs.Parts.{own_none, ref_none}
 use Rattle.pa_machine.proofs.Amounts.{own_self, ref_self}
 use Rattle.pa_machine.proofs.Totals.{of_actor_here, of_actor_apart}
 use Rattle.pa_record.specs.Spans.{name_of}
-use Rattle.pa_rules.specs.declared.register.Reg.{Reg}
-use Rattle.pa_rules.specs.declared.register.Reg.TheVariants.{Own, Ref}
-use Rattle.pa_rules.specs.Registers.{Regs, with, reg_of}
-use Rattle.pa_turns.specs.Shown.{owns, points, over}
+use Rattle.pa_rules.specs.declared.register.Register.TheVariants.{Own, Ref}
+use Rattle.pa_rules.specs.Registers.{Reg, Regs, with, reg_of}
+use Rattle.pa_turns.specs.Shown.{owns, points}
 use Rattle.pa_core_run.specs.Ledger.{IsPaid}
 use Rattle.pa_core_run.specs.Standing.{Standing, in_registers, in_lists, ledger_of}
 use Rattle.pa_core_run.specs.Moves.{HaveNames}
+use Rattle.pa_turns.proofs.Handles.{over_same, over_one}
 
 -- ---- sums
-
-pub over_same : (n : ℕ) (f g : ℕ → ℕ) → ((i : ℕ) → g i ≡ f i) → over n g ≡ over n f
-over_same zero f g h = refl
-over_same (suc n) f g h = omega (arith, over_same n f g h, h n)
-
-over_past : (n i : ℕ) (f g : ℕ → ℕ) → n ≤ i → ((j : ℕ) → (j ≡ i → ⊥) → g j ≡ f j) → over n g ≡ over n f
-over_past zero i f g le h = refl
-over_past (suc n) i f g le h = let ne : n ≡ i → ⊥ = λ e. omega (arith, e) in omega (arith, over_past n i f g (omega arith) h, h n ne)
-
-pub over_one : (n i : ℕ) (f g : ℕ → ℕ) → i < n → ((j : ℕ) → (j ≡ i → ⊥) → g j ≡ f j) → over n g + f i ≡ over n f + g i
-over_one zero i f g lt h = absurd (omega arith)
-over_one (suc n) i f g lt h = elim (cases_eq n i) [
-  | inl e ↦ omega (arith, over_past n i f g (omega arith) h, ap f e, ap g e)
-  | inr ne ↦ omega (arith, over_one n i f g (omega arith) h, h n ne)
-]
 
 -- ---- pieces by name
 

@@ -7,17 +7,17 @@ use Rattle.pa_trace.specs.declared.script.Op.TheVariants as ops
 use Rattle.pa_record.specs.declared.entry.Answer.TheVariants as answers
 use Rattle.pa_record.specs.declared.root.RootAct.{RootAct}
 use Rattle.pa_record.specs.declared.root.RootAct.TheVariants.{Purge}
-use Rattle.pa_rules.specs.declared.register.Reg.{Reg}
 use Rattle.pa_rules.specs.declared.played.Played.{Played}
 use Rattle.pa_rules.specs.Played.{mark_of, mark_of_answer}
-use Rattle.pa_rules.specs.Registers.{Row, Becomes, reg_of}
+use Rattle.pa_rules.specs.Registers.{Reg, Row, Becomes, reg_of}
 use Rattle.pa_rules.specs.Roots.{MakesEntry}
 use Rattle.pa_rules.specs.Told.{told_by}
-use Rattle.pa_one_run.proofs.Legality.{parts_of, filed}
-use Rattle.pa_one_run.proofs.Filed.{Parts, IsFiled}
+use Rattle.pa_one_run.specs.Parts.{Parts, parts_of}
+use Rattle.pa_one_run.specs.Before.{root_at, facts_of}
+use Rattle.pa_one_run.proofs.Legality.{filed}
+use Rattle.pa_one_run.proofs.Filed.{IsFiled}
 use Rattle.pa_one_run.proofs.lines.Cuts.{entry_made, same_played}
-use Rattle.pa_one_run.proofs.rows.Handles.{facts_of}
-use Rattle.pa_one_run.proofs.roots.Replays.{root_at, act_entry}
+use Rattle.pa_one_run.proofs.roots.Replays.{act_entry}
 use Rattle.pa_core_run.specs.Laws.{PurgedRecordsArePlayed}
 use Rattle.pa_core_run.specs.Playing.{AreBeside}
 use Rattle.pa_core_run.specs.Ledger.{IsShown}
@@ -25,7 +25,6 @@ use Rattle.pa_core_run.specs.Standing.{Standing, in_registers, in_lists, ledger_
 use Rattle.pa_core_run.specs.Fronts.{MadeIn, KeptIn, titles_in, IsFrontOf, CanBePlayed}
 use Rattle.pa_core_run.proofs.Acting.{play_none}
 use Rattle.pa_core_run.proofs.Moving.{keeping}
-use Rattle.pa_core_run.proofs.Paying.{over_same}
 use Rattle.pa_core_run.proofs.NextFronts.{among, regs_left, row_here, front_next, cells_left, regs_same, words_same, right_same, lists_left}
 use Rattle.pa_core_run.proofs.Records.{Outcome}
 use Rattle.pa_core_run.proofs.Stepped.{next_st}
@@ -35,6 +34,7 @@ use Rattle.pa_core_run.proofs.Bringing.{titles_go}
 use Rattle.pa_core_run.proofs.Issued.{names_next}
 use Rattle.pa_core_run.proofs.Given.{there_given}
 use Rattle.pa_core_run.proofs.Purging.{purged_row, purge_in, giving, purged_titled, purged_titles, kept_next, lists_fall}
+use Rattle.pa_turns.proofs.Handles.{over_same}
 
 module _ (a : Parts) (before rest : List Played) (x : Played) (h : IsFiled a) (some : 1 ≤ a.partitions) (parts : a.ps ≡ before ++ x ∷ rest) (st : Standing) (f : IsFrontOf a x.line before (x ∷ rest) st) (s : State)
     (shown : IsShown (titles_in a (root_at a x.line)) (a.threads + 1) (2097152 * a.supers) (ledger_of a.partitions st) s) (slots : ℕ) (answer : x.answer ≡ answers.Purged slots) where

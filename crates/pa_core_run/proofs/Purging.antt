@@ -11,15 +11,16 @@ use Rattle.pa_record.specs.declared.numbered.Numbered.{Numbered}
 use Rattle.pa_record.specs.declared.root.RootEntry.{RootEntry}
 use Rattle.pa_record.specs.declared.root.RootAct.TheVariants.{Purge}
 use Rattle.pa_record.specs.Spans.{name_of}
-use Rattle.pa_record.proofs.Members.{not_in_none, first_in}
+use Rattle.pa_lists.proofs.Members.{not_in_none, first_in}
 use Rattle.pa_rules.specs.declared.played.Played.{Played}
 use Rattle.pa_rules.specs.Caches.{Cache, CacheRow, PurgedRow, acts_of, gives, purge_acts}
 use Rattle.pa_rules.specs.Flow.{listed_times, back_in}
 use Rattle.pa_rules.proofs.Counted.{stands, stands_append, back_purge, listed_none}
 use Rattle.pa_turns.specs.Shown.{over}
 use Rattle.pa_turns.proofs.Handles.{over_part}
-use Rattle.pa_one_run.proofs.Filed.{Parts, IsFiled}
-use Rattle.pa_one_run.proofs.roots.Replays.{root_at}
+use Rattle.pa_one_run.specs.Parts.{Parts}
+use Rattle.pa_one_run.specs.Before.{root_at}
+use Rattle.pa_one_run.proofs.Filed.{IsFiled}
 use Rattle.pa_core_run.specs.Ledger.{IsShown}
 use Rattle.pa_core_run.specs.Moves.{named_in}
 use Rattle.pa_core_run.specs.Standing.{Standing, in_lists, ledger_of}

@@ -20,22 +20,23 @@ use Rattle.pa_record.specs.declared.root.RootAct.{RootAct}
 use Rattle.pa_record.specs.declared.numbered.Numbered.{Numbered}
 use Rattle.pa_record.specs.Spans.{name_of}
 use Rattle.pa_rules.specs.Roots.{Journals}
-use Rattle.pa_rules.specs.declared.register.Reg.{Reg}
-use Rattle.pa_rules.specs.declared.register.Reg.TheVariants.{Empty, Own, Ref, Freed, Cleared}
+use Rattle.pa_rules.specs.declared.register.Register.TheVariants.{Empty, Own, Ref, Freed, Cleared}
 use Rattle.pa_rules.specs.declared.played.Played.{Played}
 use Rattle.pa_rules.specs.Played.{mark_of, mark_at, mark_of_answer, step_of}
-use Rattle.pa_rules.specs.Registers.{Regs, Row, usable_in, Becomes, with, AllocRow, RequestRow, CopyRow, CopyToRow, ResetRow, FreeRow, WriteRow, ReadRow, ReadFromRow}
+use Rattle.pa_rules.specs.Registers.{Reg, Regs, Row, usable_in, Becomes, with, AllocRow, RequestRow, CopyRow, CopyToRow, ResetRow, FreeRow, WriteRow, ReadRow, ReadFromRow}
 use Rattle.pa_rules.specs.Caches.{Cache, CacheRow, SameLists, NoActs, acts_of, DoneRow, purge_acts, gives}
 use Rattle.pa_rules.specs.Contents.{IsContent, IsReadExact}
 use Rattle.pa_rules.specs.Sizes.{usable_of}
 use Rattle.pa_turns.specs.Turns.{HoldsNone}
-use Rattle.pa_one_run.proofs.Filed.{Parts, IsFiled}
+use Rattle.pa_one_run.proofs.Filed.{IsFiled}
 use Rattle.pa_rules.specs.Told.{told_by}
-use Rattle.pa_one_run.proofs.Legality.{parts_of, filed}
+use Rattle.pa_rules.proofs.Leading.{slot_in}
+use Rattle.pa_one_run.specs.Parts.{Parts, parts_of}
+use Rattle.pa_one_run.specs.Before.{root_at, facts_of}
+use Rattle.pa_one_run.proofs.Legality.{filed}
 use Rattle.pa_core_run.specs.Laws.{QuietRecordsArePlayed}
-use Rattle.pa_one_run.proofs.lines.Lists.{in_front}
-use Rattle.pa_one_run.proofs.rows.Handles.{facts_of, slot_in, holds_made}
-use Rattle.pa_one_run.proofs.roots.Replays.{root_at}
+use Rattle.pa_lists.proofs.Elements.{in_front}
+use Rattle.pa_one_run.proofs.rows.Handles.{holds_made}
 use Rattle.pa_core_run.specs.Playing.{read_by, HasRead}
 use Rattle.pa_core_run.specs.Ledger.{IsShown}
 use Rattle.pa_core_run.specs.Standing.{Standing, ledger_of}

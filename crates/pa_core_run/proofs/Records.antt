@@ -9,27 +9,28 @@ use Rattle.pa_machine.proofs.Lasting.{run_start}
 use Rattle.pa_trace.specs.declared.script.Op.TheVariants as ops
 use Rattle.pa_record.specs.Root.{Root}
 use Rattle.pa_record.specs.Spans.{name_of}
-use Rattle.pa_rules.specs.declared.register.Reg.{Reg}
-use Rattle.pa_rules.specs.declared.register.Reg.TheVariants.{Own, Ref}
+use Rattle.pa_rules.specs.declared.register.Register.TheVariants.{Own, Ref}
 use Rattle.pa_rules.specs.declared.played.Played.{Played}
 use Rattle.pa_rules.specs.Played.{mark_of}
-use Rattle.pa_rules.specs.Registers.{Becomes, reg_of}
+use Rattle.pa_rules.specs.Registers.{Reg, Becomes, reg_of}
 use Rattle.pa_rules.specs.Caches.{SameLists}
 use Rattle.pa_rules.specs.Contents.{IsContent}
 use Rattle.pa_turns.specs.Shown.{owns, points}
-use Rattle.pa_one_run.proofs.Filed.{Parts, IsFiled, word_after}
+use Rattle.pa_one_run.proofs.Filed.{IsFiled}
 use Rattle.std.proofs.lemmas.List.Elements.{All-contains}
-use Rattle.pa_one_run.proofs.rows.Handles.{slot_in, holds_made}
-use Rattle.pa_one_run.proofs.roots.Replays.{root_at}
+use Rattle.pa_rules.proofs.Leading.{slot_in}
+use Rattle.pa_one_run.specs.Parts.{Parts}
+use Rattle.pa_one_run.specs.Before.{word_after, root_at}
+use Rattle.pa_one_run.proofs.rows.Handles.{holds_made}
 use Rattle.pa_core_run.specs.Playing.{Plays, read_by, HasRead}
 use Rattle.pa_core_run.specs.Ledger.{Ledger, Titles, IsShown}
 use Rattle.pa_core_run.specs.Standing.{Standing, in_registers, ledger_of}
 use Rattle.pa_core_run.specs.Fronts.{MadeIn, titles_in, IsFrontOf, ShowsFront}
 use Rattle.pa_core_run.proofs.Acting.{play_none, play_look, HasHandle, handle_held}
-use Rattle.pa_core_run.proofs.Paying.{over_same}
 use Rattle.pa_core_run.proofs.Stepping.{has_handle}
 use Rattle.pa_core_run.proofs.Named.{made_unique, HasTitle, made_title}
 use Rattle.pa_core_run.proofs.NextFronts.{after_record, among, regs_left, cache_left, front_next, cells_left, found_word, regs_same, lists_same, words_same, right_same}
+use Rattle.pa_turns.proofs.Handles.{over_same}
 
 -- a ledger that asks no more, of the same words and contents
 shown_alike : (names : Titles) (actors bytes : ℕ) (b next : Ledger) (s : State) → IsShown names actors bytes b s → ((k : ℕ) (x : SlotName) → next.own k x ≡ b.own k x) → ((k : ℕ) (x : SlotName) → next.ref k x ≡ b.ref k x) →

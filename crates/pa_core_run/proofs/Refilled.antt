@@ -11,16 +11,18 @@ use Rattle.pa_record.specs.Spans.{name_of}
 use Rattle.pa_record.specs.Root.{Root}
 use Rattle.pa_record.specs.Sound.{IsSound, IsMade, TitlesApart}
 use Rattle.pa_record.specs.Laws.{IsNameOut, times}
-use Rattle.pa_record.proofs.Members.{first_in, later_in}
+use Rattle.pa_lists.proofs.Members.{first_in, later_in}
 use Rattle.pa_record.proofs.Lawful.{journal_leaves}
 use Rattle.pa_deeds.specs.Shared.{IsThere}
 use Rattle.pa_rules.specs.declared.played.Played.{Played}
 use Rattle.pa_rules.specs.Caches.{Cache, OnlyActs, with_list}
 use Rattle.pa_rules.proofs.Counted.{stands}
 use Rattle.pa_rules.proofs.Following.{titles_follow}
+use Rattle.pa_one_run.specs.Parts.{Parts}
+use Rattle.pa_one_run.specs.Before.{root_at}
 use Rattle.pa_one_run.proofs.lines.Cuts.{cut_here}
-use Rattle.pa_one_run.proofs.Filed.{Parts, IsFiled}
-use Rattle.pa_one_run.proofs.roots.Replays.{root_at, front_journal}
+use Rattle.pa_one_run.proofs.Filed.{IsFiled}
+use Rattle.pa_one_run.proofs.roots.Replays.{front_journal}
 use Rattle.pa_core_run.specs.Ledger.{IsShown}
 use Rattle.pa_core_run.specs.Moves.{StandOnce, AllApart, named_in, CanBeCut}
 use Rattle.pa_core_run.specs.Standing.{Standing, in_lists, ledger_of}
@@ -34,8 +36,9 @@ use Rattle.pa_core_run.proofs.Growing.{made_at_end}
 use Rattle.pa_core_run.proofs.Unmade.{new_word}
 use Rattle.pa_core_run.proofs.Lying.{ends_inside, slot_lies}
 use Rattle.pa_core_run.proofs.Issued.{listing, lists_mine, IsBrought}
-use Rattle.pa_core_run.proofs.FilledRoots.{IsFilledTo, named_out, slot_not_map, differ_once, name_stays, was_kept, root_other, filled_titles, filled_names, filled_root}
+use Rattle.pa_core_run.proofs.FilledRoots.{IsFilledTo, slot_not_map, differ_once, name_stays, was_kept, root_other, filled_titles, filled_names, filled_root}
 use Rattle.pa_core_run.proofs.Bringing.{named_times, titles_come}
+use Rattle.pa_record.proofs.Leaving.{slot_out}
 
 module _ (a : Parts) (before rest : List Played) (x : Played) (h : IsFiled a) (parts : a.ps ≡ before ++ x ∷ rest) (st : Standing) (f : IsFrontOf a x.line before (x ∷ rest) st) (s : State)
     (shown : IsShown (titles_in a (root_at a x.line)) (a.threads + 1) (2097152 * a.supers) (ledger_of a.partitions st) s)
@@ -151,7 +154,7 @@ module _ (a : Parts) (before rest : List Played) (x : Played) (h : IsFiled a) (p
       | inl old ↦ inl (p, old, λ out. away (name_stays old_root new_root taken fill sound_old (name_of u) out))
       | inr it ↦ inr it
     ],
-    λ among. away (named_out new_root (name_of u) (fill.out u among)),
+    λ among. away (slot_out new_root (name_of u) (fill.out u among)),
   )
 
   kept_next : (u : Title) → KeptIn (root_at a (x.line + 1)) u → kept_without Cut taken u

@@ -12,20 +12,20 @@ use Rattle.pa_record.specs.declared.numbered.Numbered.{Numbered}
 use Rattle.pa_record.specs.declared.root.RootAct.TheVariants.{Fill, Map}
 use Rattle.pa_record.specs.Root.{names}
 use Rattle.pa_rules.specs.declared.played.Played.{Played}
-use Rattle.pa_rules.specs.declared.register.Reg.{Reg}
-use Rattle.pa_rules.specs.declared.register.Reg.TheVariants.{Empty, Own, Ref, Freed, Cleared}
-use Rattle.pa_rules.specs.Registers.{Facts, Regs, Row, Becomes, AllocRow, RequestRow, with}
+use Rattle.pa_rules.specs.declared.register.Register.TheVariants.{Empty, Own, Ref, Freed, Cleared}
+use Rattle.pa_rules.specs.Registers.{Reg, Facts, Regs, Row, Becomes, AllocRow, RequestRow, with}
 use Rattle.pa_rules.specs.Roots.{AsksForClass, AsksForMap}
 use Rattle.pa_rules.specs.Caches.{Cache, CacheRow, SameLists, MadeRow, FilledFirst, FrontIs, OnlyActs, with_list}
 use Rattle.pa_rules.specs.Flow.{listed_times}
-use Rattle.pa_rules.proofs.Counted.{once, stands, times_cons, list_changed}
+use Rattle.pa_rules.proofs.Counted.{stands, times_cons, list_changed}
 use Rattle.pa_turns.specs.Shown.{over}
 use Rattle.pa_turns.specs.Turns.{HoldsNone}
 use Rattle.pa_rules.specs.Told.{told_by}
-use Rattle.pa_one_run.proofs.Legality.{parts_of, filed}
-use Rattle.pa_one_run.proofs.Filed.{Parts, IsFiled}
-use Rattle.pa_one_run.proofs.rows.Handles.{facts_of}
-use Rattle.pa_one_run.proofs.roots.Replays.{root_at}
+use Rattle.pa_rules.specs.Once.{once}
+use Rattle.pa_one_run.specs.Parts.{Parts, parts_of}
+use Rattle.pa_one_run.specs.Before.{root_at, facts_of}
+use Rattle.pa_one_run.proofs.Legality.{filed}
+use Rattle.pa_one_run.proofs.Filed.{IsFiled}
 use Rattle.pa_core_run.specs.Laws.{MadeRecordsArePlayed}
 use Rattle.pa_core_run.specs.Ledger.{IsShown}
 use Rattle.pa_core_run.specs.Standing.{Standing, ledger_of}

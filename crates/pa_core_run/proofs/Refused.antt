@@ -2,17 +2,16 @@
 use Rattle.std.proofs.Common.{◌≡◌, ℕ, ◌+◌, List, ◌∷◌, ◌++◌, Some, None, sym, ◌∙◌, ap, subst, inl, inr}
 use Rattle.pa_trace.specs.declared.script.Op.TheVariants as ops
 use Rattle.pa_record.specs.declared.entry.Answer.TheVariants as answers
-use Rattle.pa_rules.specs.declared.register.Reg.{Reg}
-use Rattle.pa_rules.specs.declared.register.Reg.TheVariants.{Empty, Own, Ref, Freed, Cleared}
+use Rattle.pa_rules.specs.declared.register.Register.TheVariants.{Empty, Own, Ref, Freed, Cleared}
 use Rattle.pa_rules.specs.declared.played.Played.{Played}
 use Rattle.pa_rules.specs.Played.{mark_of_answer}
-use Rattle.pa_rules.specs.Registers.{Facts, Regs, Row, Becomes, AllocRow, RequestRow}
+use Rattle.pa_rules.specs.Registers.{Reg, Facts, Regs, Row, Becomes, AllocRow, RequestRow}
 use Rattle.pa_rules.specs.Caches.{Cache, CacheRow, SameLists, FullRow}
 use Rattle.pa_rules.specs.Told.{told_by}
-use Rattle.pa_one_run.proofs.Legality.{parts_of, filed}
-use Rattle.pa_one_run.proofs.Filed.{Parts, IsFiled}
-use Rattle.pa_one_run.proofs.rows.Handles.{facts_of}
-use Rattle.pa_one_run.proofs.roots.Replays.{root_at}
+use Rattle.pa_one_run.specs.Parts.{Parts, parts_of}
+use Rattle.pa_one_run.specs.Before.{root_at, facts_of}
+use Rattle.pa_one_run.proofs.Legality.{filed}
+use Rattle.pa_one_run.proofs.Filed.{IsFiled}
 use Rattle.pa_core_run.specs.Laws.{RefusedRecordsArePlayed}
 use Rattle.pa_core_run.specs.Fronts.{CanBePlayed}
 use Rattle.pa_core_run.proofs.NextFronts.{regs_left, row_here, cache_left, cache_row, roots_refused}

@@ -17,16 +17,16 @@ use Rattle.pa_record.specs.declared.entry.Answer.TheVariants as answers
 use Rattle.pa_record.specs.declared.numbered.Numbered.{Numbered}
 use Rattle.pa_record.specs.Spans.{name_of}
 use Rattle.pa_record.specs.Root.{names}
-use Rattle.pa_rules.specs.declared.register.Reg.{Reg}
-use Rattle.pa_rules.specs.declared.register.Reg.TheVariants.{Empty, Own, Ref, Freed, Cleared}
+use Rattle.pa_rules.specs.declared.register.Register.TheVariants.{Empty, Own, Ref, Freed, Cleared}
 use Rattle.pa_rules.specs.declared.played.Played.{Played}
 use Rattle.pa_rules.specs.Played.{mark_of, mark_at, step_of}
-use Rattle.pa_rules.specs.Registers.{Row, ResetRow, FreeRow}
+use Rattle.pa_rules.specs.Registers.{Reg, Row, ResetRow, FreeRow}
 use Rattle.pa_rules.specs.Caches.{Cache, with_list}
-use Rattle.pa_rules.proofs.Counted.{once, times_cons}
-use Rattle.pa_one_run.proofs.Filed.{Parts, IsFiled}
-use Rattle.pa_one_run.proofs.rows.Handles.{facts_of}
-use Rattle.pa_one_run.proofs.roots.Replays.{root_at}
+use Rattle.pa_rules.specs.Once.{once}
+use Rattle.pa_rules.proofs.Counted.{times_cons}
+use Rattle.pa_one_run.specs.Parts.{Parts}
+use Rattle.pa_one_run.specs.Before.{root_at, facts_of}
+use Rattle.pa_one_run.proofs.Filed.{IsFiled}
 use Rattle.pa_core_run.specs.Playing.{AreBeside}
 use Rattle.pa_core_run.specs.Ledger.{IsShown}
 use Rattle.pa_core_run.specs.Standing.{Standing, in_registers, in_lists, ledger_of}

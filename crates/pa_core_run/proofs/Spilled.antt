@@ -12,16 +12,17 @@ use Rattle.pa_record.specs.declared.entry.Answer.TheVariants as answers
 use Rattle.pa_record.specs.declared.numbered.Numbered.{Numbered}
 use Rattle.pa_record.specs.declared.root.RootAct.{RootAct}
 use Rattle.pa_record.specs.declared.root.RootAct.TheVariants.{Give}
-use Rattle.pa_record.proofs.Members.{not_in_none}
+use Rattle.pa_lists.proofs.Members.{not_in_none}
 use Rattle.pa_rules.specs.declared.played.Played.{Played}
 use Rattle.pa_rules.specs.Played.{step_of}
 use Rattle.pa_rules.specs.Caches.{CacheRow, SameLists, OnlyActs, IsOfClass, DoneRow, acts_of, unmap_at, with_list, gives, kept, spilled}
 use Rattle.pa_rules.specs.Told.{told_by}
 use Rattle.pa_rules.proofs.Flowing.{class_real}
-use Rattle.pa_one_run.proofs.lines.Lists.{in_one}
-use Rattle.pa_one_run.proofs.Filed.{Parts, IsFiled}
-use Rattle.pa_one_run.proofs.Legality.{parts_of, filed}
-use Rattle.pa_one_run.proofs.roots.Replays.{root_at}
+use Rattle.pa_one_run.specs.Parts.{Parts, parts_of}
+use Rattle.pa_one_run.specs.Before.{root_at}
+use Rattle.pa_lists.proofs.Elements.{in_one}
+use Rattle.pa_one_run.proofs.Filed.{IsFiled}
+use Rattle.pa_one_run.proofs.Legality.{filed}
 use Rattle.pa_core_run.specs.Ledger.{IsShown}
 use Rattle.pa_core_run.specs.Laws.{SpilledRecordsArePlayed}
 use Rattle.pa_core_run.specs.Standing.{Standing, ledger_of}

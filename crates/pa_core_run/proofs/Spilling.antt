@@ -1,25 +1,21 @@
 -- A slot that came to the front of a list which spills: what doesn't stay of the list goes back to the root.
-use Rattle.std.proofs.Common.{◌≡◌, ℕ, suc, ◌+◌, ◌*◌, ◌/◌, ◌<◌, ◌≤◌, List, [], ◌∷◌, ◌++◌, length, take, drop, sym, ◌∙◌, ap, subst, arith, inl, inr}
-use Rattle.std.specs.Prelude.{Contains, nat_lt}
-use Rattle.std.proofs.lemmas.Bool.{cases_Bool, cases_eq, cases_lt}
-use Rattle.std.proofs.lemmas.List.{take-append-drop}
-use Rattle.std.proofs.lemmas.List.Elements.{Contains-append_right}
+use Rattle.std.proofs.Common.{◌≡◌, ℕ, suc, ◌+◌, ◌*◌, ◌/◌, ◌<◌, ◌≤◌, List, [], ◌∷◌, ◌++◌, sym, ◌∙◌, ap, subst, arith, inl, inr}
+use Rattle.std.proofs.lemmas.Bool.{cases_eq}
 use Rattle.pa_machine.specs.declared.word.SlotName.{SlotName}
 use Rattle.pa_machine.specs.declared.title.Title.{Title}
 use Rattle.pa_machine.specs.Events.{State}
-use Rattle.pa_buckets.specs.Bands.{limit_of}
 use Rattle.pa_record.specs.declared.numbered.Numbered.{Numbered}
-use Rattle.pa_record.specs.declared.root.RootEntry.{RootEntry}
 use Rattle.pa_record.specs.Spans.{name_of}
-use Rattle.pa_record.proofs.Members.{not_in_none, in_cases}
+use Rattle.pa_lists.proofs.Members.{in_cases}
 use Rattle.pa_rules.specs.declared.played.Played.{Played}
 use Rattle.pa_rules.specs.Caches.{Cache, SameLists, OnlyActs, IsOfClass, acts_of, with_list, gives, kept, spilled}
 use Rattle.pa_rules.specs.Flow.{listed_times, back_in}
 use Rattle.pa_rules.proofs.Counted.{stands, stands_kept, list_changed, back_gives}
 use Rattle.pa_rules.proofs.Flowing.{class_real}
 use Rattle.pa_turns.specs.Shown.{over}
-use Rattle.pa_one_run.proofs.Filed.{Parts, IsFiled}
-use Rattle.pa_one_run.proofs.roots.Replays.{root_at}
+use Rattle.pa_one_run.specs.Parts.{Parts}
+use Rattle.pa_one_run.specs.Before.{root_at}
+use Rattle.pa_one_run.proofs.Filed.{IsFiled}
 use Rattle.pa_core_run.specs.Ledger.{IsShown}
 use Rattle.pa_core_run.specs.Moves.{named_in, IsReached}
 use Rattle.pa_core_run.specs.Standing.{Standing, ledger_of}
@@ -38,23 +34,7 @@ use Rattle.pa_core_run.proofs.Returned.{titles_back}
 use Rattle.pa_core_run.proofs.Growing.{made_at_end}
 use Rattle.pa_core_run.proofs.Given.{AreGiving, giving_gives, there_given, kept_given}
 use Rattle.pa_core_run.proofs.Titled.{AreTitlesOf, lists_known, titles_for, named_stands, title_among}
-
--- what doesn't stay of a list stood in it
-spilled_in : (class : ℕ) (xs : List Numbered) (m : Numbered) → Contains (spilled class xs) m → Contains xs m
-spilled_in class xs m among = elim (cases_Bool (nat_lt (limit_of class) (length xs))) [
-  | inl over ↦
-      let k = limit_of class / 2 in
-      let back : Contains (drop k xs) m = rw over at among in
-      subst (λ zs. Contains zs m) (take-append-drop k xs) (Contains-append_right (take k xs) (drop k xs) m back)
-  | inr within ↦ let none : Contains [] m = rw within at among in absurd (not_in_none m none)
-]
-
--- a partition whose journal has an entry is one of the trace's
-class_inside : (a : Parts) (y : SlotName) (p class : ℕ) → IsFiled a → IsOfClass a.roots y p class → p < a.partitions
-class_inside a y p class h (e, asked, slots, among, is, member) = elim (cases_lt p a.partitions) [
-  | inl inside ↦ inside
-  | inr past ↦ absurd (not_in_none e (subst (λ (es : List RootEntry). Contains es e) (h.journals.none_past p past) among))
-]
+use Rattle.pa_one_run.proofs.numbers.NextNumbers.{spilled_in, class_partition}
 
 module _ (a : Parts) (before rest : List Played) (x : Played) (h : IsFiled a) (parts : a.ps ≡ before ++ x ∷ rest) (st : Standing) (f : IsFrontOf a x.line before (x ∷ rest) st) (s : State)
     (shown : IsShown (titles_in a (root_at a x.line)) (a.threads + 1) (2097152 * a.supers) (ledger_of a.partitions st) s)
@@ -95,7 +75,7 @@ module _ (a : Parts) (before rest : List Played) (x : Played) (h : IsFiled a) (p
       let split = stands_kept y class list in
       let full = ap (stands y) (list_changed (st.caches x.thread) p class list) in
       let named = named_stands a back ts titled.1 y in
-      let fall = less_lists a.partitions p class y list_full left (kept class list) (stands y back) real (class_inside a slot.slot p class h of)
+      let fall = less_lists a.partitions p class y list_full left (kept class list) (stands y back) real (class_partition a slot.slot p class h of)
       (λ q c. becomes q c ∙ list_twice (st.caches x.thread) p class list (kept class list) q c) (omega arith) in
       omega arith
 

@@ -18,27 +18,25 @@ use Rattle.pa_trace.specs.declared.script.Op.TheVariants as ops
 use Rattle.pa_record.specs.declared.entry.Seen.{Seen}
 use Rattle.pa_record.specs.declared.entry.Answer.TheVariants as answers
 use Rattle.pa_record.specs.Spans.{name_of}
-use Rattle.pa_rules.specs.declared.register.Reg.{Reg}
-use Rattle.pa_rules.specs.declared.register.Reg.TheVariants.{Own, Ref, Freed, Cleared}
+use Rattle.pa_rules.specs.declared.register.Register.TheVariants.{Own, Ref, Freed, Cleared}
 use Rattle.pa_rules.specs.declared.played.Played.{Played}
 use Rattle.pa_rules.specs.Played.{mark_of, mark_at}
-use Rattle.pa_rules.specs.Registers.{Becomes, with}
+use Rattle.pa_rules.specs.Registers.{Reg, Becomes, with}
 use Rattle.pa_rules.specs.Caches.{Cache, SameLists, NoActs}
 use Rattle.pa_rules.specs.Contents.{IsContent}
 use Rattle.pa_turns.specs.Shown.{with_slot}
 use Rattle.pa_turns.specs.Turns.{HoldsNone}
 use Rattle.pa_turns.proofs.Contents.{held_before}
 use Rattle.pa_turns.proofs.Balance.{at_slot, at_other_slot}
-use Rattle.pa_one_run.proofs.Filed.{Parts, IsFiled, word_after}
-use Rattle.pa_one_run.proofs.rows.Handles.{slot_in}
-use Rattle.pa_one_run.proofs.roots.Replays.{root_at}
+use Rattle.pa_one_run.proofs.Filed.{IsFiled}
 use Rattle.pa_core_steps.specs.Turns.{IsDone, left_by, poisons, stores}
 use Rattle.pa_core_run.specs.Playing.{read_by, AreBeside, Plays}
 use Rattle.pa_core_run.specs.Ledger.{Titles, IsShown}
 use Rattle.pa_core_run.specs.Standing.{Standing, in_lists, ledger_of}
 use Rattle.pa_core_run.specs.Fronts.{MadeIn, titles_in, IsFrontOf}
-use Rattle.pa_core_steps.proofs.Freeing.{own_held}
-use Rattle.pa_core_steps.proofs.Handling.{ref_held}
+use Rattle.pa_rules.proofs.Leading.{slot_in}
+use Rattle.pa_one_run.specs.Parts.{Parts}
+use Rattle.pa_one_run.specs.Before.{word_after, root_at}
 use Rattle.pa_core_run.proofs.Acting.{play_step, handle_held}
 use Rattle.pa_core_run.proofs.Paying.{IsSet, set_at, set_apart}
 use Rattle.pa_core_run.proofs.Stepping.{has_own, has_ref, has_handle, copy_stands, reset_stands, free_stands, write_stands}
@@ -46,6 +44,7 @@ use Rattle.pa_core_run.proofs.Named.{made_unique}
 use Rattle.pa_core_run.proofs.Contents.{content_left, content_written}
 use Rattle.pa_core_run.proofs.NextFronts.{after_record, among, regs_left, cache_left, found_word, can_step, set_by, roots_left, lists_beside, lists_same, right_after}
 use Rattle.pa_core_run.proofs.Records.{Outcome, few, shows_next, named_title}
+use Rattle.pa_machine.proofs.Holding.{own_title, ref_title}
 
 -- poisons and stores of an actor are beside its step
 pub poisons_beside : (n k : ℕ) (t : Title) → AreBeside k (poisons n k t)
@@ -192,7 +191,7 @@ module _ (a : Parts) (before rest : List Played) (x : Played) (h : IsFiled a) (p
       let set = set_given t m Reset reg Cleared list name (set_by a before rest x h parts st f m Reset reg Cleared st.content is refl reg_few other becomes (λ y ne. refl)) in
       let can = subst (λ y. CanStep Reset (st.word y)) (sym name) (can_step a before rest x h parts st f m Reset is refl) in
       let names_it = names ∙ ap Ref (sym name) in
-      let held = ref_held s (suc x.thread) t (has_ref names_here a.partitions (a.threads + 1) bytes_here st s shown (made_unique a h) x.thread reg t below reg_few made names_it) in
+      let held = ref_title s (suc x.thread) t (has_ref names_here a.partitions (a.threads + 1) bytes_here st s shown (made_unique a h) x.thread reg t below reg_few made names_it) in
       let turned = reset_stands names_here a.partitions (a.threads + 1) bytes_here st s shown (made_unique a h) (given_st list) x.thread reg t below made names_it can set refl (lists t made name (shown.words t held)) in
       turned_given m Reset t (RefPiece t ∷ []) (λ k. []) list is refl (rw op refl) made name (shown.words t held) (λ k. tt)
       (right_after a before rest x h parts st f m Reset st.content is refl (λ y ne. refl)
@@ -209,7 +208,7 @@ module _ (a : Parts) (before rest : List Played) (x : Played) (h : IsFiled a) (p
       let set = set_given t m Free reg Freed list name (set_by a before rest x h parts st f m Free reg Freed st.content is refl reg_few other becomes (λ y ne. refl)) in
       let can = subst (λ y. CanStep Free (st.word y)) (sym name) (can_step a before rest x h parts st f m Free is refl) in
       let names_it = names ∙ ap Own (sym name) in
-      let held = own_held s (suc x.thread) t Clean (has_own names_here a.partitions (a.threads + 1) bytes_here st s shown (made_unique a h) x.thread reg t below reg_few made names_it) in
+      let held = own_title s (suc x.thread) t Clean (has_own names_here a.partitions (a.threads + 1) bytes_here st s shown (made_unique a h) x.thread reg t below reg_few made names_it) in
       let turned = free_stands names_here a.partitions (a.threads + 1) bytes_here st s shown (made_unique a h) (given_st list) x.thread reg t below made names_it can set (lists t made name (shown.words t held)) in
       turned_given m Free t (OwnPiece t Clean ∷ []) (λ k. poisons (content_count t) k t) list is refl (rw op refl) made name (shown.words t held) (λ k. poisons_beside (content_count t) k t)
       (right_after a before rest x h parts st f m Free st.content is refl (λ y ne. refl)
@@ -241,7 +240,7 @@ module _ (a : Parts) (before rest : List Played) (x : Played) (h : IsFiled a) (p
       let now : content seen.slot ≡ value = at_slot st.content seen.slot value in
       let turned = write_stands names_here a.partitions (a.threads + 1) bytes_here st s shown (made_unique a h) (next_st content) x.thread reg value t below made names_it
       (ap (λ y. refs_of (st.word y)) name ∙ (ap refs_of (sym found) ∙ alone)) can set (ap content name ∙ now) (same_lists content lists) in
-      let held = own_held s (suc x.thread) t Clean (has_own names_here a.partitions (a.threads + 1) bytes_here st s shown (made_unique a h) x.thread reg t below reg_few made names_it) in
+      let held = own_title s (suc x.thread) t Clean (has_own names_here a.partitions (a.threads + 1) bytes_here st s shown (made_unique a h) x.thread reg t below reg_few made names_it) in
       let P : ℕ → Type 0 = λ w. IsContent a.ps seen.slot (number_of w + 1) (content seen.slot) in
       let Q : ℕ → Type 0 = λ v. IsContent a.ps seen.slot (number_of seen.found.0 + 1) v in
       turned_plays m Write t (OwnPiece t Clean ∷ []) (OwnPiece t Clean ∷ []) (λ k. stores (content_count t) 0 k t value) content is refl (rw op refl) made name (shown.words t held) (λ k. stores_beside (content_count t) 0 k t value) no_acts

@@ -12,24 +12,24 @@ use Rattle.pa_machine.specs.declared.event.Event.TheVariants.{Count}
 use Rattle.pa_machine.specs.Count.{CanStep, stepped, refs_of}
 use Rattle.pa_machine.specs.Titles.{content_count, count_word, HasContentFrom}
 use Rattle.pa_machine.specs.Holdings.{Piece, RawPiece, FreePiece, OwnPiece, RefPiece, FreeTitle, OwnOf, OwnAs, RefOf, amount, held_in}
-use Rattle.pa_machine.specs.Events.{State, HasActor, Holds, of_actor, total_of, returned_at}
+use Rattle.pa_machine.specs.Events.{State, HasActor, Holds, of_actor, total_of}
 use Rattle.pa_machine.specs.Trail.{IsGoodState}
 use Rattle.pa_machine.proofs.Same.{title_tells, state_self}
 use Rattle.pa_machine.proofs.Totals.{tally_of, total_exchanged}
-use Rattle.pa_machine.proofs.Amounts.{returned_cases, state_here}
+use Rattle.pa_machine.proofs.Amounts.{state_here}
 use Rattle.pa_machine.proofs.Happening.{in_total, few_owns}
 use Rattle.pa_machine.proofs.Keeps.{own_of_state}
 use Rattle.pa_record.specs.Spans.{name_of}
-use Rattle.pa_rules.specs.declared.register.Reg.TheVariants.{Own, Ref, Freed, Cleared}
+use Rattle.pa_rules.specs.declared.register.Register.TheVariants.{Own, Ref, Freed, Cleared}
 use Rattle.pa_turns.specs.Shown.{owns, points}
 use Rattle.pa_turns.specs.Turns.{HoldsNone}
 use Rattle.pa_turns.proofs.Handles.{over_part}
 use Rattle.pa_turns.proofs.Words.{owns_one, points_one}
 use Rattle.pa_turns.proofs.Balance.{none_owns}
 use Rattle.pa_core_steps.specs.Turns.{IsTurn, IsDone, left_by, poisons, stores}
-use Rattle.pa_core_steps.proofs.Freeing.{own_held, frees_can_happen}
-use Rattle.pa_core_steps.proofs.Handling.{ref_held, copies_can_happen, resets_can_happen}
-use Rattle.pa_core_steps.proofs.Storing.{free_held, writes_can_happen, issues_can_happen}
+use Rattle.pa_core_steps.proofs.Freeing.{frees_can_happen}
+use Rattle.pa_core_steps.proofs.Handling.{copies_can_happen, resets_can_happen}
+use Rattle.pa_core_steps.proofs.Storing.{writes_can_happen, issues_can_happen}
 use Rattle.pa_core_steps.proofs.Turning.{turn_then}
 use Rattle.pa_core_run.specs.Ledger.{Titles, IsShown, IsPaid}
 use Rattle.pa_core_run.specs.Standing.{Standing, in_lists, ledger_of}
@@ -38,6 +38,8 @@ use Rattle.pa_core_run.proofs.Showing.{no_pieces, free_pieces, ref_pieces, own_p
 use Rattle.pa_core_run.proofs.Moving.{turn_shown}
 use Rattle.pa_core_run.proofs.Acting.{HasHandle, handle_held}
 use Rattle.pa_core_run.proofs.Paying.{owns_piece, points_piece, IsSet, set_paid}
+use Rattle.pa_machine.proofs.Noting.{returned_states}
+use Rattle.pa_machine.proofs.Holding.{own_title, ref_title, free_title}
 
 -- an op's turn is a turn
 pub done_turn : (s after : State) (actor : ℕ) (t : Title) (p : Step) (lost gained : List Piece) (first : List Event) → IsGoodState s → IsDone s actor t p lost gained first after →
@@ -78,13 +80,6 @@ own_some t (OwnPiece u b ∷ ps) some = elim (title_tells u t) [
       let r = rest.1 in
       (rest.0, omega arith)
 ]
-
--- what a step gives back has no owner and no raw_ptr
-returned_own : (w : ℕ) (t u : Title) → held_in (returned_at w t) (OwnOf u) ≡ 0
-returned_own w t u = elim (returned_cases w t) [ inl y ↦ rw y.1 refl | inr n ↦ rw n.1 refl ]
-
-returned_as : (w : ℕ) (t : Title) (a : OwnState) → held_in (returned_at w t) (OwnAs t a) ≡ 0
-returned_as w t a = elim (returned_cases w t) [ inl y ↦ rw y.1 refl | inr n ↦ rw n.1 refl ]
 
 module _ (names : Titles) (partitions actors bytes : ℕ) (st : Standing) (s : State) (h : IsShown names actors bytes (ledger_of partitions st) s) (unique : HaveNames names.Made) where
   -- a register's owner is an Own of the thread's actor, and its raw_ptr a Ref
@@ -149,7 +144,7 @@ module _ (names : Titles) (partitions actors bytes : ℕ) (st : Standing) (s : S
       (after : State) × IsDone s (suc k) t Reset (RefPiece t ∷ []) (left_by Reset s t) [] after × IsShown names actors bytes (ledger_of partitions next) after
   reset_stands next k reg t below made pointer can set content lists =
       let ref = has_ref k reg t below set.few made pointer in
-      let held = ref_held s (suc k) t ref in
+      let held = ref_title s (suc k) t ref in
       let word = h.words t held in
       let has = has_actor (suc k) below in
       let r = resets_can_happen s (suc k) t h.good has ref (subst (λ w. CanStep Reset w) (sym word) can) in
@@ -162,7 +157,7 @@ module _ (names : Titles) (partitions actors bytes : ℕ) (st : Standing) (s : S
         r.1,
         turn_shown names actors bytes (ledger_of partitions st) (ledger_of partitions next) s r.0 (suc k) t (RefPiece t ∷ []) (left_by Reset s t) (stepped Reset (count_word s.words t)) (Count (suc k) t Reset ∷ []) h (omega arith) below held (ref_pieces t) (returned_pieces (stepped Reset (count_word s.words t)) t) turn
             (subst (λ w. IsPaid names.Made (ledger_of partitions st) (ledger_of partitions next) (of_actor (suc k) (RefPiece t ∷ [])) (of_actor (suc k) (left_by Reset s t)) t (stepped Reset w)) (sym word) paid)
-            (λ some. subst (λ v. HasContentFrom r.0.words t 0 v) (sym content) (own_stays r.0 (suc k) t (RefPiece t ∷ []) (left_by Reset s t) _ _ has turn (returned_as (stepped Reset (count_word s.words t)) t Clean) r.2 some)),
+            (λ some. subst (λ v. HasContentFrom r.0.words t 0 v) (sym content) (own_stays r.0 (suc k) t (RefPiece t ∷ []) (left_by Reset s t) _ _ has turn (returned_states (stepped Reset (count_word s.words t)) t Clean) r.2 some)),
       )
 
   -- a free
@@ -172,7 +167,7 @@ module _ (names : Titles) (partitions actors bytes : ℕ) (st : Standing) (s : S
       (after : State) × IsDone s (suc k) t Free (OwnPiece t Clean ∷ []) (left_by Free s t) (poisons (content_count t) (suc k) t) after × IsShown names actors bytes (ledger_of partitions next) after
   free_stands next k reg t below made owner can set lists =
       let own = has_own k reg t below set.few made owner in
-      let held = own_held s (suc k) t Clean own in
+      let held = own_title s (suc k) t Clean own in
       let word = h.words t held in
       let has = has_actor (suc k) below in
       let r = frees_can_happen s (suc k) t h.good has own (subst (λ w. CanStep Free w) (sym word) can) in
@@ -187,7 +182,7 @@ module _ (names : Titles) (partitions actors bytes : ℕ) (st : Standing) (s : S
             (subst (λ w. IsPaid names.Made (ledger_of partitions st) (ledger_of partitions next) (of_actor (suc k) (OwnPiece t Clean ∷ [])) (of_actor (suc k) (left_by Free s t)) t (stepped Free w)) (sym word) paid)
             (λ some.
             let e = total_exchanged s.holdings r.0.holdings (suc k) (suc k) (OwnPiece t Clean ∷ []) (left_by Free s t) turn.holdings has has (OwnAs t Clean) in
-            let z = returned_as (stepped Free (count_word s.words t)) t Clean in
+            let z = returned_states (stepped Free (count_word s.words t)) t Clean in
             let o = state_here t Clean in
             let part = (tally_of s.holdings).part t Clean in
             let few = few_owns s t h.good (own_of_state (total_of s) t Clean (tally_of s.holdings) (in_total s (suc k) (OwnAs t Clean) own)) in
@@ -202,7 +197,7 @@ module _ (names : Titles) (partitions actors bytes : ℕ) (st : Standing) (s : S
       × IsShown names actors bytes (ledger_of partitions next) after
   write_stands next k reg value t below made owner alone can set content lists =
       let own = has_own k reg t below set.few made owner in
-      let held = own_held s (suc k) t Clean own in
+      let held = own_title s (suc k) t Clean own in
       let word = h.words t held in
       let has = has_actor (suc k) below in
       let r = writes_can_happen s (suc k) t value h.good has own (ap refs_of word ∙ alone) (subst (λ w. CanStep Write w) (sym word) can) in
@@ -225,7 +220,7 @@ module _ (names : Titles) (partitions actors bytes : ℕ) (st : Standing) (s : S
       (after : State) × IsDone s (suc k) t Issue (FreePiece t ∷ []) (OwnPiece t Clean ∷ []) (stores (content_count t) 0 (suc k) t 0) after
       × IsShown names actors bytes (ledger_of partitions next) after
   issue_stands next k reg t below made none can set content free lists =
-      let held = free_held s (suc k) t free in
+      let held = free_title s (suc k) t free in
       let word = h.words t held in
       let has = has_actor (suc k) below in
       let r = issues_can_happen s (suc k) t h.good has free (subst (λ w. CanStep Issue w) (sym word) can) in

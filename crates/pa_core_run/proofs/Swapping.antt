@@ -16,14 +16,11 @@ use Rattle.pa_machine.proofs.Totals.{of_actor_here, of_actor_apart}
 use Rattle.pa_machine.proofs.Happening.{in_total}
 use Rattle.pa_machine.proofs.Lasting.{run_start}
 use Rattle.pa_record.specs.Spans.{name_of}
-use Rattle.pa_rules.specs.declared.register.Reg.{Reg}
-use Rattle.pa_rules.specs.Registers.{with, handle_of, reg_of}
-use Rattle.pa_rules.specs.declared.register.Reg.TheVariants.{Empty, Own, Ref, Freed, Cleared}
+use Rattle.pa_rules.specs.Registers.{Reg, with, handle_of, reg_of}
+use Rattle.pa_rules.specs.declared.register.Register.TheVariants.{Empty, Own, Ref, Freed, Cleared}
 use Rattle.pa_turns.specs.Shown.{owns, points, over}
-use Rattle.pa_turns.proofs.Handles.{over_part}
+use Rattle.pa_turns.proofs.Handles.{over_part, over_same, over_one}
 use Rattle.pa_turns.proofs.Words.{owns_one, points_one}
-use Rattle.pa_core_steps.proofs.Freeing.{own_held}
-use Rattle.pa_core_steps.proofs.Handling.{ref_held}
 use Rattle.pa_core_steps.proofs.Joining.{run_join}
 use Rattle.pa_core_run.specs.Playing.{AreBeside}
 use Rattle.pa_core_run.specs.Ledger.{Ledger, Titles, IsShown, IsPaid}
@@ -32,8 +29,9 @@ use Rattle.pa_core_run.proofs.Showing.{ref_pieces, own_pieces}
 use Rattle.pa_core_run.proofs.Moving.{hand_shown}
 use Rattle.pa_core_run.proofs.Stepping.{own_some}
 use Rattle.pa_core_run.proofs.Acting.{beside_both}
-use Rattle.pa_core_run.proofs.Paying.{over_same, over_one, set_at, set_apart, owns_piece, points_piece}
+use Rattle.pa_core_run.proofs.Paying.{set_at, set_apart, owns_piece, points_piece}
 use Rattle.pa_core_run.specs.Standing.{Standing, in_registers, in_lists, ledger_of}
+use Rattle.pa_machine.proofs.Holding.{own_title, ref_title}
 
 -- what a handle has of each slot, as numbers by actor: one actor has it, the others nothing
 abbrev pub has_at : (SlotName → Reg → ℕ) → ℕ → Reg → ℕ → SlotName → ℕ
@@ -141,7 +139,7 @@ module _ (names : Titles) (actors bytes : ℕ) (unique : HaveNames names.Made) w
         words = λ y ne. g.word y;
         contents = λ y ne. g.content y;
       } in
-      let r = hand_shown names names.Kept actors bytes b next s from to (OwnItem t) t h from_below to_below has (own_held s from t Clean has) (own_pieces t) paid (g.content (name_of t))
+      let r = hand_shown names names.Kept actors bytes b next s from to (OwnItem t) t h from_below to_below has (own_title s from t Clean has) (own_pieces t) paid (g.content (name_of t))
       (λ u kept.
       let had = h.kept u kept in
       let p = piece_at points from (Own x) (OwnPiece t Clean ∷ []) (FreeTitle u) (name_of u) refl 0 in
@@ -182,7 +180,7 @@ module _ (names : Titles) (actors bytes : ℕ) (unique : HaveNames names.Made) w
         words = λ y ne. g.word y;
         contents = λ y ne. g.content y;
       } in
-      let r = hand_shown names names.Kept actors bytes b next s from to (RefItem t) t h from_below to_below has (ref_held s from t has) (ref_pieces t) paid (g.content (name_of t))
+      let r = hand_shown names names.Kept actors bytes b next s from to (RefItem t) t h from_below to_below has (ref_title s from t has) (ref_pieces t) paid (g.content (name_of t))
       (λ u kept.
       let had = h.kept u kept in
       let p = piece_at owns from (Ref x) (RefPiece t ∷ []) (FreeTitle u) (name_of u) refl 0 in

@@ -12,16 +12,16 @@ use Rattle.pa_machine.proofs.Parts.{free_none}
 use Rattle.pa_machine.proofs.Lasting.{run_start}
 use Rattle.pa_machine.proofs.Totals.{of_actor_here, of_actor_apart}
 use Rattle.pa_record.specs.Spans.{name_of}
-use Rattle.pa_record.proofs.Members.{first_in, later_in, in_cases, not_in_none}
-use Rattle.pa_rules.proofs.Counted.{once}
+use Rattle.pa_lists.proofs.Members.{first_in, later_in, in_cases, not_in_none}
 use Rattle.pa_core_steps.proofs.Joining.{run_join}
-use Rattle.pa_core_steps.proofs.Storing.{free_held}
+use Rattle.pa_rules.specs.Once.{once}
 use Rattle.pa_core_run.specs.Ledger.{Ledger, Titles, IsShown, IsPaid}
 use Rattle.pa_core_run.specs.Moves.{HaveNames, StandOnce, named_in, asking, IsReached}
 use Rattle.pa_core_run.proofs.Showing.{free_pieces}
 use Rattle.pa_core_run.proofs.Moving.{keeping, hand_shown, IsHanded}
 use Rattle.pa_core_run.proofs.Listing.{free_piece}
 use Rattle.pa_core_run.proofs.Batching.{asks_less}
+use Rattle.pa_machine.proofs.Holding.{free_title}
 
 -- the titles that actor 0 has for the roots, without these
 abbrev pub kept_without : (Title → Type 0) → List Title → Title → Type 0
@@ -50,7 +50,7 @@ module _ (names : Titles) (actors bytes k : ℕ) (some : 0 < k) (below : k < act
         words = λ x ne. refl;
         contents = λ x ne. refl;
       } in
-      hand_shown (keeping names K) (kept_without K (t ∷ [])) actors bytes b (asking b free) s 0 k (FreeItem t) t h (omega arith) below holds (free_held s 0 t holds) (free_pieces t) paid refl
+      hand_shown (keeping names K) (kept_without K (t ∷ [])) actors bytes b (asking b free) s 0 k (FreeItem t) t h (omega arith) below holds (free_title s 0 t holds) (free_pieces t) paid refl
       (λ u kept.
       let l = of_actor_here 0 (FreePiece t ∷ []) (FreeTitle u) in
       let none = (free_none t u (λ e. kept.1 (subst (λ (v : Title). Contains (t ∷ []) v) e (first_in t [])))).free in

@@ -7,13 +7,14 @@ use Rattle.pa_record.specs.declared.numbered.Numbered.{Numbered}
 use Rattle.pa_record.specs.Spans.{name_of}
 use Rattle.pa_record.specs.Root.{names}
 use Rattle.pa_record.specs.Laws.{times}
-use Rattle.pa_record.proofs.Members.{not_in_none, first_in, later_in, in_cases}
-use Rattle.pa_record.proofs.Joined.{map_cases}
+use Rattle.pa_lists.proofs.Members.{not_in_none, first_in, later_in, in_cases}
+use Rattle.pa_lists.proofs.Joined.{map_cases}
 use Rattle.pa_rules.specs.declared.played.Played.{Played}
 use Rattle.pa_rules.proofs.Counted.{stands}
 use Rattle.pa_rules.proofs.FourPlaces.{times_member}
 use Rattle.pa_rules.proofs.Known.{IsKnown, all_known}
-use Rattle.pa_one_run.proofs.Filed.{Parts, IsFiled}
+use Rattle.pa_one_run.specs.Parts.{Parts}
+use Rattle.pa_one_run.proofs.Filed.{IsFiled}
 use Rattle.pa_core_run.specs.Moves.{named_in}
 use Rattle.pa_core_run.specs.Standing.{Standing}
 use Rattle.pa_core_run.specs.Fronts.{MadeIn, IsFrontOf}

@@ -21,32 +21,32 @@ use Rattle.pa_record.specs.Spans.{name_of}
 use Rattle.pa_record.specs.Laws.{IsNameOut, leaves_by}
 use Rattle.pa_record.specs.Root.{new_root, root_replayed}
 use Rattle.pa_record.specs.Sound.{IsMade, IsMadeBy}
-use Rattle.pa_record.proofs.Members.{not_in_none, first_in, of_some, not_some}
+use Rattle.pa_lists.proofs.Members.{not_in_none, first_in, of_some, not_some}
 use Rattle.pa_record.proofs.Titles.{made_born}
 use Rattle.pa_record.proofs.Lawful.{journal_leaves}
 use Rattle.pa_rules.specs.declared.played.Played.{Played}
-use Rattle.pa_rules.specs.Played.{mark_of, mark_at, look_at, mark_of_answer}
+use Rattle.pa_rules.specs.Played.{mark_of, mark_at, mark_of_answer}
 use Rattle.pa_rules.specs.Caches.{no_caches, with_cache}
 use Rattle.pa_rules.specs.Flow.{busy}
 use Rattle.pa_rules.proofs.Running.{busy_some}
 use Rattle.pa_rules.proofs.Following.{titles_follow}
 use Rattle.pa_rules.proofs.Owned.{title_of}
-use Rattle.pa_one_run.proofs.Filed.{Parts, IsFiled, IsMadeIn, stepped_by, word_after}
-use Rattle.pa_one_run.proofs.lines.Cuts.{IsCut, cut_next, caches_snoc, record_row}
-use Rattle.pa_one_run.proofs.lines.Lists.{in_front, parts_at}
+use Rattle.pa_rules.proofs.CachesAfter.{caches_snoc}
+use Rattle.pa_one_run.specs.Parts.{Parts}
+use Rattle.pa_one_run.specs.Before.{stepped_by, word_after, root_at}
+use Rattle.pa_one_run.proofs.Filed.{IsFiled, IsMadeIn}
+use Rattle.pa_one_run.proofs.lines.Cuts.{IsCut, cut_next, record_row}
+use Rattle.pa_lists.proofs.Elements.{in_front, parts_at}
 use Rattle.pa_one_run.proofs.words.Found.{found_is, step_can, word_same, word_other, word_here}
 use Rattle.pa_one_run.proofs.roots.Classes.{made_class}
-use Rattle.pa_one_run.proofs.roots.Replays.{root_at, front_journal}
+use Rattle.pa_one_run.proofs.roots.Replays.{front_journal}
 use Rattle.pa_one_run.proofs.rows.Handles.{done_made}
 use Rattle.pa_one_run.proofs.numbers.Once.{once}
 use Rattle.pa_core_run.proofs.Named.{made_unique}
 use Rattle.pa_core_run.proofs.Growing.{made_later, made_at_end, no_super_later}
+use Rattle.pa_rules.proofs.Marking.{not_look}
 
 -- ---- who steps
-
-not_look : (line : ℕ) (o : Option Seen) (m : Mark) (p : Step) → look_at line o ≡ Some m → m.step ≡ Some p → ⊥
-not_look line None m p is step = not_some m is
-not_look line (Some seen) m p is step = not_some p (ap (λ (z : Mark). z.step) (of_some (mark_at line seen None) m is) ∙ step)
 
 -- an answer that tells of a step made the slot, or did the op
 abbrev Steps : Answer → Mark → Type 0

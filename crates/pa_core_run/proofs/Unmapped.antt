@@ -13,9 +13,11 @@ use Rattle.pa_rules.specs.Played.{step_of}
 use Rattle.pa_rules.specs.Caches.{CacheRow, DoneRow, SameLists, OnlyActs, IsDirect, acts_of, unmap_at}
 use Rattle.pa_rules.specs.Told.{told_by}
 use Rattle.pa_legal.proofs.holders.Records.{unmap_returns}
-use Rattle.pa_one_run.proofs.Legality.{parts_of, filed}
-use Rattle.pa_one_run.proofs.Filed.{Parts, IsFiled}
-use Rattle.pa_one_run.proofs.roots.Replays.{root_at, act_entry}
+use Rattle.pa_one_run.specs.Parts.{Parts, parts_of}
+use Rattle.pa_one_run.specs.Before.{root_at}
+use Rattle.pa_one_run.proofs.Legality.{filed}
+use Rattle.pa_one_run.proofs.Filed.{IsFiled}
+use Rattle.pa_one_run.proofs.roots.Replays.{act_entry}
 use Rattle.pa_one_run.proofs.roots.Requests.{one_fits}
 use Rattle.pa_one_run.proofs.roots.Classes.{class_or_direct}
 use Rattle.pa_core_run.specs.Laws.{UnmappedRecordsArePlayed}

@@ -12,18 +12,21 @@ use Rattle.pa_record.specs.Spans.{name_of}
 use Rattle.pa_record.specs.Root.{Root, map_title, unmapped, names}
 use Rattle.pa_record.specs.Sound.{IsSound, IsMade, IsMadeBy}
 use Rattle.pa_record.specs.Laws.{IsNameOut}
-use Rattle.pa_record.proofs.Members.{first_in}
+use Rattle.pa_lists.proofs.Members.{first_in}
 use Rattle.pa_record.proofs.Lawful.{journal_leaves}
 use Rattle.pa_deeds.specs.Shared.{IsThere}
 use Rattle.pa_rules.specs.declared.played.Played.{Played}
 use Rattle.pa_rules.specs.Caches.{Cache, SameLists, OnlyActs, with_list}
-use Rattle.pa_rules.proofs.Counted.{once, stands, times_cons, list_changed}
+use Rattle.pa_rules.proofs.Counted.{stands, times_cons, list_changed}
 use Rattle.pa_rules.proofs.Running.{one_by}
 use Rattle.pa_rules.proofs.Following.{titles_follow}
 use Rattle.pa_core_steps.proofs.Joining.{run_join}
-use Rattle.pa_one_run.proofs.lines.Lists.{in_one}
-use Rattle.pa_one_run.proofs.Filed.{Parts, IsFiled}
-use Rattle.pa_one_run.proofs.roots.Replays.{root_at, front_journal, act_entry}
+use Rattle.pa_rules.specs.Once.{once}
+use Rattle.pa_one_run.specs.Parts.{Parts}
+use Rattle.pa_one_run.specs.Before.{root_at}
+use Rattle.pa_lists.proofs.Elements.{in_one}
+use Rattle.pa_one_run.proofs.Filed.{IsFiled}
+use Rattle.pa_one_run.proofs.roots.Replays.{front_journal, act_entry}
 use Rattle.pa_core_run.specs.Ledger.{IsShown}
 use Rattle.pa_core_run.specs.Moves.{named_in, IsReached}
 use Rattle.pa_core_run.specs.Standing.{Standing, in_lists, ledger_of}
@@ -37,13 +40,14 @@ use Rattle.pa_core_run.proofs.Listing.{less_lists}
 use Rattle.pa_core_run.proofs.NextFronts.{cache_left}
 use Rattle.pa_core_run.proofs.Growing.{made_at_end}
 use Rattle.pa_core_run.proofs.Unmade.{entry_inside}
-use Rattle.pa_core_run.proofs.FilledRoots.{root_one, root_other, named_out, name_cases, slot_not_map}
+use Rattle.pa_core_run.proofs.FilledRoots.{root_one, root_other, slot_not_map}
 use Rattle.pa_core_run.proofs.Fronted.{lists_here}
 use Rattle.pa_core_run.proofs.Issued.{lists_mine, names_next}
 use Rattle.pa_core_run.proofs.Refills.{list_back}
 use Rattle.pa_core_run.proofs.MapsMade.{map_made, other_stays}
 use Rattle.pa_core_run.proofs.Stepped.{given_st}
 use Rattle.pa_core_run.proofs.Returned.{titles_back}
+use Rattle.pa_record.proofs.Leaving.{slot_out, name_cases}
 
 module _ (a : Parts) (before rest : List Played) (x : Played) (h : IsFiled a) (parts : a.ps ≡ before ++ x ∷ rest) (st : Standing) (f : IsFrontOf a x.line before (x ∷ rest) st) (s : State)
     (shown : IsShown (titles_in a (root_at a x.line)) (a.threads + 1) (2097152 * a.supers) (ledger_of a.partitions st) s)
@@ -79,7 +83,7 @@ module _ (a : Parts) (before rest : List Played) (x : Played) (h : IsFiled a) (p
   -- a slot that is out stays out
   slot_stays : (u : Title) → IsMade old_root u → IsNameOut old_root (name_of u) → IsNameOut (unmapped slot.slot old_root) (name_of u)
   slot_stays u made out = elim (name_cases old_root (name_of u) out) [
-    | inl is_out ↦ named_out (unmapped slot.slot old_root) (name_of u) is_out
+    | inl is_out ↦ slot_out (unmapped slot.slot old_root) (name_of u) is_out
     | inr (v, member, same) ↦ absurd (slot_not_map old_root u v sound_old made member same)
   ]
 

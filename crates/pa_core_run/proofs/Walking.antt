@@ -8,18 +8,18 @@ use Rattle.pa_machine.specs.Trail.{IsGoodState, IsRunTo}
 use Rattle.pa_machine.proofs.Lasting.{run_start}
 use Rattle.pa_record.specs.declared.history.Held.TheVariants.{Nothing}
 use Rattle.pa_record.specs.Root.{Root, new_root, root_replayed}
-use Rattle.pa_record.proofs.Members.{first_in}
+use Rattle.pa_lists.proofs.Members.{first_in}
 use Rattle.pa_rules.specs.declared.played.Played.{Played}
-use Rattle.pa_one_run.proofs.lines.Sorting.{below, below_gap}
+use Rattle.pa_one_run.proofs.lines.Sorting.{below_gap}
 use Rattle.pa_one_run.proofs.lines.Cuts.{IsCut, cut_start, cut_here, cut_next, recorded_cases, entries_recorded, cells_recorded}
-use Rattle.pa_one_run.proofs.Filed.{Parts, IsFiled, entry_line, cell_line}
-use Rattle.pa_one_run.proofs.rows.Exchanges.{gave_last}
-use Rattle.pa_one_run.proofs.roots.Replays.{root_at}
+use Rattle.pa_one_run.proofs.Filed.{IsFiled}
 use Rattle.pa_rules.specs.Told.{told_by}
-use Rattle.pa_one_run.proofs.Legality.{parts_of, filed}
+use Rattle.pa_one_run.proofs.Legality.{filed}
 use Rattle.pa_core_run.specs.Laws.{PlayedRecordsMakeARun}
 use Rattle.pa_core_run.proofs.Beginning.{start_of, start_is, start_good, start_shows}
 use Rattle.pa_core_steps.proofs.Joining.{run_good, run_join}
+use Rattle.pa_one_run.specs.Parts.{Parts, entry_line, cell_line, parts_of}
+use Rattle.pa_one_run.specs.Before.{below, root_at, gave_last}
 use Rattle.pa_core_run.specs.Playing.{told_events, IsPlayedAs, PlaysTo}
 use Rattle.pa_core_run.specs.Ledger.{IsShown}
 use Rattle.pa_core_run.specs.Standing.{ledger_of}

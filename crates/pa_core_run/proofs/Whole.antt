@@ -9,8 +9,9 @@ use Rattle.pa_rules.specs.declared.played.Played.{Played}
 use Rattle.pa_rules.specs.Played.{step_of}
 use Rattle.pa_rules.specs.Caches.{CacheRow, DoneRow, NoActs}
 use Rattle.pa_rules.specs.Told.{told_by}
-use Rattle.pa_one_run.proofs.Filed.{Parts, IsFiled}
-use Rattle.pa_one_run.proofs.Legality.{parts_of, filed}
+use Rattle.pa_one_run.specs.Parts.{Parts, parts_of}
+use Rattle.pa_one_run.proofs.Filed.{IsFiled}
+use Rattle.pa_one_run.proofs.Legality.{filed}
 use Rattle.pa_core_run.specs.Playing.{FileRunsArePlayed}
 use Rattle.pa_core_run.specs.Fronts.{ShowsFront}
 use Rattle.pa_core_run.proofs.NextFronts.{cache_left, cache_row}

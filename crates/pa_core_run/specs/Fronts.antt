@@ -14,11 +14,8 @@ use Rattle.pa_rules.specs.Caches.{Caches, CachesTo, no_caches}
 use Rattle.pa_rules.specs.Registers.{AllRegs, RowsTo}
 use Rattle.pa_rules.specs.Contents.{IsContent}
 use Rattle.pa_deeds.specs.Shared.{IsThere}
-use Rattle.pa_one_run.proofs.lines.Sorting.{below}
-use Rattle.pa_one_run.proofs.Filed.{Parts, cell_line, word_after}
-use Rattle.pa_one_run.proofs.rows.Handles.{HasRegisters, facts_of}
-use Rattle.pa_one_run.proofs.rows.Exchanges.{gave_last}
-use Rattle.pa_one_run.proofs.roots.Replays.{root_at}
+use Rattle.pa_one_run.specs.Parts.{Parts, cell_line}
+use Rattle.pa_one_run.specs.Before.{word_after, below, root_at, HasRegisters, facts_of, gave_last}
 use Rattle.pa_core_run.specs.Playing.{Plays}
 use Rattle.pa_core_run.specs.Ledger.{Titles, IsShown}
 use Rattle.pa_core_run.specs.Standing.{Standing, ledger_of}

@@ -12,7 +12,7 @@ use Rattle.pa_rules.specs.declared.played.Played.{Played}
 use Rattle.pa_rules.specs.Caches.{NoActs, acts_of}
 use Rattle.pa_rules.specs.Told.{told_by, records_of}
 use Rattle.pa_rules.specs.Legal.{IsFileRun}
-use Rattle.pa_one_run.proofs.Legality.{parts_of}
+use Rattle.pa_one_run.specs.Parts.{parts_of}
 use Rattle.pa_core_run.specs.Playing.{HasCoreRun}
 use Rattle.pa_core_run.specs.Fronts.{CanBePlayed}
 

@@ -4,4 +4,3 @@ pub mod Standing
 pub mod Fronts
 pub mod Moves
 pub mod Laws
-pub mod Worked

@@ -9,7 +9,7 @@ use Rattle.pa_machine.specs.Events.{State, Holds}
 use Rattle.pa_machine.specs.Trail.{IsRunTo}
 use Rattle.pa_record.specs.Spans.{name_of}
 use Rattle.pa_record.specs.Sound.{TitlesApart}
-use Rattle.pa_rules.proofs.Counted.{once}
+use Rattle.pa_rules.specs.Once.{once}
 use Rattle.pa_core_run.specs.Playing.{AreBeside}
 use Rattle.pa_core_run.specs.Ledger.{Ledger, Titles, IsShown}
 

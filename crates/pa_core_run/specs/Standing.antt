@@ -1,9 +1,10 @@
 -- What stands before a line, and the ledger that the core is to show then.
 use Rattle.std.specs.Prelude.{ℕ, zero, suc}
 use Rattle.pa_machine.specs.declared.word.SlotName.{SlotName}
+use Rattle.pa_buckets.specs.Limits.{class_count}
 use Rattle.pa_record.specs.declared.history.Held.{Held}
-use Rattle.pa_rules.specs.declared.register.Reg.{Reg}
-use Rattle.pa_rules.specs.Registers.{AllRegs, reg_of}
+use Rattle.pa_trace.specs.Limits.{register_count, cell_count}
+use Rattle.pa_rules.specs.Registers.{Reg, AllRegs, reg_of}
 use Rattle.pa_rules.specs.Caches.{Caches}
 use Rattle.pa_rules.specs.Flow.{listed_times}
 use Rattle.pa_turns.specs.Shown.{owns, points, over}
@@ -19,13 +20,13 @@ pub record Standing : Type 0 where
 
 -- what an actor's registers have in all; those of actor 0 are the cells
 abbrev pub in_registers : (Reg → ℕ) → Standing → ℕ → ℕ
-in_registers f st zero = over 64 (λ k. f (reg_of (st.held k)))
-in_registers f st (suc k) = over 64 (λ r. f (st.regs k r))
+in_registers f st zero = over cell_count (λ k. f (reg_of (st.held k)))
+in_registers f st (suc k) = over register_count (λ r. f (st.regs k r))
 
 -- how often a thread's lists have the slot, over all partitions
 abbrev pub in_lists : ℕ → Standing → SlotName → ℕ → ℕ
 in_lists partitions st x zero = 0
-in_lists partitions st x (suc k) = over partitions (λ p. listed_times x (st.caches k p) 0 59)
+in_lists partitions st x (suc k) = over partitions (λ p. listed_times x (st.caches k p) 0 class_count)
 
 abbrev pub ledger_of : ℕ → Standing → Ledger
 ledger_of partitions st =

@@ -1,5 +1,4 @@
 ghost use Rattle.pa_core_run.specs.Playing.{FileRunsArePlayed};
-ghost use Rattle.pa_core_run.specs.Worked.{WorkedRunsArePlayed};
 ghost use Rattle.pa_core_run.specs.Moves.{TitlesComeAndGo};
 ghost use Rattle.pa_core_run.specs.Laws.{MadeRecordsArePlayed, PlayedRecordsMakeARun, PurgedRecordsArePlayed, QuietRecordsArePlayed, RefusedRecordsArePlayed, SpilledRecordsArePlayed, UnmappedRecordsArePlayed};
 
@@ -7,11 +6,6 @@ ghost use Rattle.pa_core_run.specs.Laws.{MadeRecordsArePlayed, PlayedRecordsMake
 /// are played one after the other, each by enabled events, and the core is good at every moment.
 pub fn file_runs_are_played()
     ensures { FileRunsArePlayed }
-{}
-
-/// Three runs of one thread, which were worked out by hand, have one.
-pub fn worked_runs_are_played()
-    ensures { WorkedRunsArePlayed }
 {}
 
 /// The law that a run in the order of its lines has a run of the core, from its start, where each of its records can be

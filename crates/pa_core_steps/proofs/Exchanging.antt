@@ -25,10 +25,6 @@ exchanges_then hs mid later lost1 gained1 lost2 gained2 lost gained p q same = (
       omega arith,
 )
 
--- nothing is exchanged
-pub exchanges_none : (hs : List (List Piece)) → Exchanges hs nobody nobody hs
-exchanges_none hs = (refl, λ k x below. refl)
-
 -- one actor's pieces become others
 pub actor_changes : (hs : List (List Piece)) (actor : ℕ) (lost gained now : List Piece) → actor < length hs →
     ((x : Thing) → held_in now x + held_in lost x ≡ held_in (get_or hs actor []) x + held_in gained x) →

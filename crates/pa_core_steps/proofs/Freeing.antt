@@ -7,20 +7,14 @@ use Rattle.pa_machine.specs.declared.title.OwnState.TheVariants.{Clean, Poisoned
 use Rattle.pa_machine.specs.declared.event.Event.TheVariants.{Count, Poison}
 use Rattle.pa_machine.specs.Count.{CanStep, stepped}
 use Rattle.pa_machine.specs.Titles.{content_count, content_place, count_place, count_word, progress, poison}
-use Rattle.pa_machine.specs.Holdings.{OwnPiece, OwnAs, IsTitleHeld}
-use Rattle.pa_machine.specs.Events.{State, HasActor, Holds, total_of, returned_at}
+use Rattle.pa_machine.specs.Holdings.{OwnPiece, OwnAs}
+use Rattle.pa_machine.specs.Events.{State, HasActor, Holds, returned_at}
 use Rattle.pa_machine.specs.Trail.{IsGoodState}
-use Rattle.pa_machine.proofs.Totals.{tally_of}
-use Rattle.pa_machine.proofs.Happening.{in_total}
-use Rattle.pa_machine.proofs.Keeps.{own_of_state}
 use Rattle.pa_machine.proofs.Amounts.{state_here, word_written, word_unwritten}
 use Rattle.pa_core_steps.specs.Turns.{IsTurn, poisons, FreesCanHappen}
 use Rattle.pa_core_steps.proofs.Possible.{lose_own}
 use Rattle.pa_core_steps.proofs.Turning.{turn_then, step_of, turn_good, turn_actor}
-
--- who has an Own holds its title
-pub own_held : (s : State) (actor : ℕ) (t : Title) (a : OwnState) → Holds s actor (OwnAs t a) → IsTitleHeld (total_of s) t
-own_held s actor t a has = let p = own_of_state (total_of s) t a (tally_of s.holdings) (in_total s actor (OwnAs t a) has) in omega arith
+use Rattle.pa_machine.proofs.Holding.{own_title}
 
 -- the next content word of an Own becomes poison
 one_poisoned : (s : State) (actor : ℕ) (t : Title) (a : OwnState) → IsGoodState s → HasActor s actor → Holds s actor (OwnAs t a) →
@@ -28,7 +22,7 @@ one_poisoned : (s : State) (actor : ℕ) (t : Title) (a : OwnState) → IsGoodSt
     (after : State) × IsTurn s actor t (OwnPiece t a ∷ []) (OwnPiece t (Poisoned (1 + progress a)) ∷ []) (count_word s.words t) (poisons 1 actor t) after
     × Holds after actor (OwnAs t (Poisoned (1 + progress a)))
 one_poisoned s actor t a good has own room =
-    let r = step_of s actor t (OwnPiece t a ∷ []) (OwnPiece t (Poisoned (progress a + 1)) ∷ []) (content_place t (progress a)) poison (Poison actor t) good (own_held s actor t a own)
+    let r = step_of s actor t (OwnPiece t a ∷ []) (OwnPiece t (Poisoned (progress a + 1)) ∷ []) (content_place t (progress a)) poison (Poison actor t) good (own_title s actor t a own)
     (omega arith, omega arith) has (lose_own s actor t a own) (has, (a, own, omega arith)) (λ after h. (a, own, h)) in
     let e : progress a + 1 ≡ 1 + progress a = omega arith in
     let w = word_unwritten s.words t poison (progress a) (omega arith) in
@@ -76,7 +70,7 @@ all_poisoned (suc n) s actor t good has own some room =
 
 pub frees_can_happen : FreesCanHappen
 frees_can_happen s actor t good has own can =
-    let held = own_held s actor t Clean own in
+    let held = own_title s actor t Clean own in
     let well = good.divided.well t held in
     let long = well.long in
     let n = content_count t in
@@ -84,7 +78,7 @@ frees_can_happen s actor t good has own can =
     let mid = r.0 in
     let good2 = turn_good s mid actor t _ _ _ _ good r.1 in
     let has2 = turn_actor s mid actor t _ _ _ _ has r.1 in
-    let held2 = own_held mid actor t (Poisoned n) r.2 in
+    let held2 = own_title mid actor t (Poisoned n) r.2 in
     let word = r.1.word_left in
     let can2 = subst (λ (w : ℕ). CanStep Free w) (sym word) can in
     let q = step_of mid actor t (OwnPiece t (Poisoned n) ∷ []) (returned_at (stepped Free (count_word mid.words t)) t) (count_place t) (stepped Free (count_word mid.words t)) (Count actor t Free)

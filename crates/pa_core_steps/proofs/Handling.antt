@@ -6,17 +6,13 @@ use Rattle.pa_machine.specs.declared.title.OwnState.TheVariants.{Clean}
 use Rattle.pa_machine.specs.declared.event.Event.TheVariants.{Count}
 use Rattle.pa_machine.specs.Count.{stepped}
 use Rattle.pa_machine.specs.Titles.{content_place, count_place, count_word, HasContentFrom}
-use Rattle.pa_machine.specs.Holdings.{RefPiece, RefOf, IsTitleHeld}
-use Rattle.pa_machine.specs.Events.{State, Holds, total_of, returned_at}
-use Rattle.pa_machine.proofs.Happening.{in_total}
+use Rattle.pa_machine.specs.Holdings.{RefPiece, IsTitleHeld}
+use Rattle.pa_machine.specs.Events.{State, total_of, returned_at}
 use Rattle.pa_machine.proofs.Amounts.{word_written, content_unwritten}
 use Rattle.pa_core_steps.specs.Turns.{IsTurn, CopiesCanHappen, ResetsCanHappen}
 use Rattle.pa_core_steps.proofs.Possible.{lose_nothing, lose_ref}
 use Rattle.pa_core_steps.proofs.Turning.{step_of, turn_none}
-use Rattle.pa_core_steps.proofs.Freeing.{own_held}
-
-pub ref_held : (s : State) (actor : ℕ) (t : Title) → Holds s actor (RefOf t) → IsTitleHeld (total_of s) t
-ref_held s actor t has = let p = in_total s actor (RefOf t) has in omega arith
+use Rattle.pa_machine.proofs.Holding.{own_title, ref_title}
 
 -- a step on the count word leaves the content
 pub content_stays : (s after : State) (t : Title) (v : ℕ) → after.words ≡ set s.words (count_place t) v → (value : ℕ) → HasContentFrom s.words t 0 value → HasContentFrom after.words t 0 value
@@ -25,7 +21,7 @@ content_stays s after t v words value all i low below =
 
 pub copies_can_happen : CopiesCanHappen
 copies_can_happen s actor t good has holds can =
-    let held : IsTitleHeld (total_of s) t = elim holds [ inl own ↦ own_held s actor t Clean own | inr ref ↦ ref_held s actor t ref ] in
+    let held : IsTitleHeld (total_of s) t = elim holds [ inl own ↦ own_title s actor t Clean own | inr ref ↦ ref_title s actor t ref ] in
     let v = stepped Copy (count_word s.words t) in
     let r = step_of s actor t [] (RefPiece t ∷ []) (count_place t) v (Count actor t Copy) good held (omega arith, omega arith) has (lose_nothing s actor) (has, holds, can) (λ after h. h) in
     let left = word_written s.words t v (good.divided.well t held) in (
@@ -36,7 +32,7 @@ copies_can_happen s actor t good has holds can =
 
 pub resets_can_happen : ResetsCanHappen
 resets_can_happen s actor t good has ref can =
-    let held = ref_held s actor t ref in
+    let held = ref_title s actor t ref in
     let v = stepped Reset (count_word s.words t) in
     let r = step_of s actor t (RefPiece t ∷ []) (returned_at v t) (count_place t) v (Count actor t Reset) good held (omega arith, omega arith) has (lose_ref s actor t ref) (has, ref, can) (λ after h. h) in
     let left = word_written s.words t v (good.divided.well t held) in (

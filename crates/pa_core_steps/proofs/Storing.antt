@@ -8,20 +8,16 @@ use Rattle.pa_machine.specs.declared.title.OwnState.TheVariants.{Clean, Dirty}
 use Rattle.pa_machine.specs.declared.event.Event.TheVariants.{Count, Store}
 use Rattle.pa_machine.specs.Count.{CanStep, stepped, refs_of}
 use Rattle.pa_machine.specs.Titles.{IsWellFormed, content_count, content_place, count_place, content_at, count_word, HasContentFrom, IsContentOf}
-use Rattle.pa_machine.specs.Holdings.{FreePiece, OwnPiece, FreeTitle, OwnAs, IsTitleHeld}
-use Rattle.pa_machine.specs.Events.{State, HasActor, Holds, HoldsOpen, total_of, IsAfter}
+use Rattle.pa_machine.specs.Holdings.{FreePiece, OwnPiece, FreeTitle, OwnAs}
+use Rattle.pa_machine.specs.Events.{State, HasActor, Holds, HoldsOpen, IsAfter}
 use Rattle.pa_machine.specs.Trail.{IsGoodState}
-use Rattle.pa_machine.proofs.Happening.{in_total}
 use Rattle.pa_machine.proofs.Amounts.{state_here, word_written, word_unwritten, content_written, content_other}
 use Rattle.pa_core_steps.specs.Turns.{IsTurn, stores, WritesCanHappen, IssuesCanHappen}
 use Rattle.pa_core_steps.proofs.Possible.{lose_own, lose_free, lose_nothing}
 use Rattle.pa_core_steps.proofs.Exchanging.{nothing_of, exchanges_both}
 use Rattle.pa_core_steps.proofs.Turning.{turn_then, step_of, turn_good, turn_actor}
-use Rattle.pa_core_steps.proofs.Freeing.{own_held}
 use Rattle.pa_core_steps.proofs.Handling.{content_stays}
-
-pub free_held : (s : State) (actor : ℕ) (t : Title) → Holds s actor (FreeTitle t) → IsTitleHeld (total_of s) t
-free_held s actor t has = let p = in_total s actor (FreeTitle t) has in omega arith
+use Rattle.pa_machine.proofs.Holding.{own_title, free_title}
 
 -- the byte of content word i, and its word
 byte_of : (n : ℕ) (t : Title) (i : ℕ) → IsWellFormed n t → i < content_count t →
@@ -62,7 +58,7 @@ own_store : (s : State) (actor : ℕ) (t : Title) (a : OwnState) (i value : ℕ)
     × Holds after actor (OwnAs t Dirty)
     × ((k : ℕ) → k < content_count t → (k ≡ i) ⊎ (content_at s.words t k ≡ value) → content_at after.words t k ≡ value)
 own_store s actor t a i value good has holds alone below =
-    let held = own_held s actor t a holds.1 in
+    let held = own_title s actor t a holds.1 in
     let well = good.divided.well t held in
     let at_byte = byte_of (length s.words) t i well below in
     let r = step_of s actor t (OwnPiece t a ∷ []) (OwnPiece t Dirty ∷ []) (content_place t i) value (Store actor (t.start + 8 * i) value) good held (omega arith, omega arith) has
@@ -104,7 +100,7 @@ free_store : (s : State) (actor : ℕ) (t : Title) (i value : ℕ) → IsGoodSta
     × Holds after actor (FreeTitle t)
     × ((k : ℕ) → k < content_count t → (k ≡ i) ⊎ (content_at s.words t k ≡ value) → content_at after.words t k ≡ value)
 free_store s actor t i value good has holds below =
-    let held = free_held s actor t holds in
+    let held = free_title s actor t holds in
     let well = good.divided.well t held in
     let at_byte = byte_of (length s.words) t i well below in
     let r = step_of s actor t [] [] (content_place t i) value (Store actor (t.start + 8 * i) value) good held (omega arith, omega arith) has
@@ -150,7 +146,7 @@ some_content n t well = let c = well.long in let b = well.len_aligned in (conten
 
 pub writes_can_happen : WritesCanHappen
 writes_can_happen s actor t value good has own alone can =
-    let held = own_held s actor t Clean own in
+    let held = own_title s actor t Clean own in
     let some = some_content (length s.words) t (good.divided.well t held) in
     let n = some.0 in
     let r = own_stores n s actor t Clean 0 value good has (inl refl, own) alone (omega arith) in
@@ -158,7 +154,7 @@ writes_can_happen s actor t value good has own alone can =
     let word = r.1.word_left in
     let good2 = turn_good s mid actor t _ _ _ _ good r.1 in
     let has2 = turn_actor s mid actor t _ _ _ _ has r.1 in
-    let held2 = own_held mid actor t Dirty r.2 in
+    let held2 = own_title mid actor t Dirty r.2 in
     let can2 = subst (λ (w : ℕ). CanStep Write w) (sym word) can in
     let v = stepped Write (count_word mid.words t) in
     let all : HasContentFrom mid.words t 0 value = λ k low inside. r.3 k inside (inl low) in
@@ -180,7 +176,7 @@ writes_can_happen s actor t value good has own alone can =
 
 pub issues_can_happen : IssuesCanHappen
 issues_can_happen s actor t good has free can =
-    let held = free_held s actor t free in
+    let held = free_title s actor t free in
     let some = some_content (length s.words) t (good.divided.well t held) in
     let n = some.0 in
     let r = free_stores n s actor t 0 0 good has free (omega arith) in
@@ -188,7 +184,7 @@ issues_can_happen s actor t good has free can =
     let word = r.1.word_left in
     let good2 = turn_good s mid actor t _ _ _ _ good r.1 in
     let has2 = turn_actor s mid actor t _ _ _ _ has r.1 in
-    let held2 = free_held mid actor t r.2 in
+    let held2 = free_title mid actor t r.2 in
     let can2 = subst (λ (w : ℕ). CanStep Issue w) (sym word) can in
     let v = stepped Issue (count_word mid.words t) in
     let all : HasContentFrom mid.words t 0 0 = λ k low inside. r.3 k inside (inl low) in

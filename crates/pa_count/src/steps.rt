@@ -1,11 +1,11 @@
-ghost use Rattle.std.specs.Prelude.{◌≡◌, ◌↔◌, ◌<◌, ◌⊎◌, IsTrue};
+ghost use Rattle.std.specs.Prelude.{◌≡◌, ◌↔◌, ◌<◌, ◌⊎◌};
 ghost use Rattle.pa_machine.specs.declared.word.Step.TheVariants.{Issue, Copy, Reset, Free, Write};
 ghost use Rattle.pa_machine.specs.Run.{IsReturning};
 ghost use Rattle.pa_region.specs.Views.{HasStake, free_of};
 ghost use Rattle.pa_region.specs.Moves.{CanCount};
 ghost use Rattle.pa_region.specs.Shares.{IsUser, IsStepMade, IsLooked};
 
-use pa_machine::{Step, Title, Word, held, refs};
+use pa_machine::{Step, Title, Word, returns};
 use pa_region::{Region, Seat, releases_leave};
 
 /// What a release did to the slot: somebody else still holds it, or it was the last to let go and the slot is free.
@@ -90,134 +90,9 @@ fn release(region: &Region, seat: &mut Seat, title: Title, step: Step) -> (Word,
 {
     let found = region.count_step(seat, title, step);
     releases_leave();
-    if returned(step, found) {
+    if returns(step, found) {
         (found, Fate::Last)
     } else {
         (found, Fate::Kept)
-    }
-}
-
-// Whether the step that found this word was the one that returned the slot.
-fn returned(step: Step, found: Word) -> bool
-    ensures { IsTrue result ↔ IsReturning step found.0 }
-{
-    match step {
-        Step::Reset => !held(found) && refs(found) == 1,
-        Step::Free => held(found) && refs(found) == 0,
-        Step::Issue | Step::Copy | Step::Write => false,
-    }
-}
-
-#[cfg(test)]
-mod tests {
-    use super::*;
-    use pa_region::{
-        a_cut_leaves_other_bytes, a_cut_leaves_zeros, a_new_region_can_be_cut,
-        an_uncut_gives_bytes_back, new_words_are_zero,
-    };
-    use std::test::Fail;
-    use std::thread;
-
-    #[test]
-    fn a_slot_is_issued_and_pointed_to(rt: HostRuntime) -> Result<(), Fail> {
-        let first = Title {
-            start: 0x4000,
-            len: 16,
-            born: 0,
-        };
-        let second = Title {
-            start: 0x4010,
-            len: 16,
-            born: 0,
-        };
-        let (region, mut seat) = Region::new(rt.alloc(), 1, 16)?;
-        new_words_are_zero();
-        a_new_region_can_be_cut();
-        a_cut_leaves_other_bytes();
-        a_cut_leaves_zeros();
-        region.cut(&mut seat, first);
-        region.cut(&mut seat, second);
-        assert_eq!(rt; issue(&region, &mut seat, first).0, 0);
-        assert_eq!(rt; copy(&region, &mut seat, first).0, 0x1000001);
-        assert_eq!(rt; look(&region, &mut seat, first).0, 0x2000003);
-        let (found, fate) = reset(&region, &mut seat, first);
-        assert_eq!(rt; found.0, 0x2000003);
-        assert_eq!(rt; fate, Fate::Kept);
-        assert_eq!(rt; issue(&region, &mut seat, second).0, 0);
-        let closed = region.close(seat);
-        assert_eq!(rt; closed.word(0x4008), 0x3000001);
-        assert_eq!(rt; closed.word(0x4018), 0x1000001);
-        Ok(())
-    }
-
-    // A reset by whoever has the seat, which is handed on.
-    fn reset_by(region: &Region, seat: Seat, title: Title) -> (Seat, (Word, Fate))
-        requires region { seat.region ≡ region.now }
-        requires able { CanCount Reset title seat.view }
-        ensures { IsStepMade Reset title result.1.0.0 seat result.0 }
-    {
-        let mut seat = seat;
-        let released = reset(region, &mut seat, title);
-        (seat, released)
-    }
-
-    // A region has one seat until seats can be split, so the two threads have it one after the other.
-    #[test]
-    fn two_threads_reset_a_slot(rt: HostRuntime) -> Result<(), Fail> {
-        let title = Title {
-            start: 0x4000,
-            len: 16,
-            born: 0,
-        };
-        let (region, mut seat) = Region::new(rt.alloc(), 1, 16)?;
-        new_words_are_zero();
-        a_new_region_can_be_cut();
-        a_cut_leaves_zeros();
-        region.cut(&mut seat, title);
-        issue(&region, &mut seat, title);
-        copy(&region, &mut seat, title);
-        copy(&region, &mut seat, title);
-        let shared = &region;
-        let ((seat, first), ()) = thread::join(&rt, move || reset_by(shared, seat, title), || ());
-        let ((), (_, second)) = thread::join(&rt, || (), move || reset_by(shared, seat, title));
-        assert_eq!(rt; first, (Word(0x3000005), Fate::Kept));
-        assert_eq!(rt; second, (Word(0x4000003), Fate::Kept));
-        Ok(())
-    }
-
-    // The bytes of a slot that is made raw again are cut for one that is born later.
-    #[test]
-    fn bytes_are_cut_again(rt: HostRuntime) -> Result<(), Fail> {
-        let old = Title {
-            start: 0x4000,
-            len: 16,
-            born: 0,
-        };
-        let new = Title {
-            start: 0x4000,
-            len: 16,
-            born: 1,
-        };
-        let (region, mut seat) = Region::new(rt.alloc(), 1, 1)?;
-        new_words_are_zero();
-        a_new_region_can_be_cut();
-        an_uncut_gives_bytes_back();
-        a_cut_leaves_zeros();
-        region.cut(&mut seat, old);
-        region.uncut(&mut seat, old);
-        region.cut(&mut seat, new);
-        assert_eq!(rt; issue(&region, &mut seat, new).0, 0);
-        let closed = region.close(seat);
-        assert_eq!(rt; closed.word(0x4008), 0x1000001);
-        Ok(())
-    }
-
-    #[test]
-    fn a_new_region_is_closed(rt: HostRuntime) -> Result<(), Fail> {
-        let (region, seat) = Region::new(rt.alloc(), 1, 0)?;
-        assert_eq!(rt; seat.stake(), 0);
-        let closed = region.close(seat);
-        assert_eq!(rt; closed.word(0), 0);
-        Ok(())
     }
 }

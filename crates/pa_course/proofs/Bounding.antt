@@ -3,7 +3,7 @@ use Rattle.std.proofs.Common.{◌≡◌, ℕ, zero, suc, ◌-◌, ◌<◌, ◌�
 use Rattle.std.specs.Prelude.{Contains}
 use Rattle.std.specs.List.{AllByRecursion as Each}
 use Rattle.std.proofs.lemmas.Bool.{cases_lt, eq-eqb}
-use Rattle.pa_record.proofs.Members.{not_in_none}
+use Rattle.pa_lists.proofs.Members.{not_in_none}
 use Rattle.pa_region.specs.declared.view.Made.{Made}
 use Rattle.pa_region.specs.declared.view.View.{View}
 use Rattle.pa_region.specs.Lists.{list_of, made_with, entered_in, IsBeginning}
@@ -15,11 +15,11 @@ use Rattle.pa_rules.specs.Legal.{phases_in}
 use Rattle.pa_told.specs.Told.{ToldRecord}
 use Rattle.pa_plays.specs.Workers.{WorkerValue}
 use Rattle.pa_plays.specs.Plays.{PlaysOne, PlaysAll}
-use Rattle.pa_plays.proofs.Entered.{entered_append}
 use Rattle.pa_course.specs.Courses.{Course, IsCourse, Closes, HasSeenAll}
 use Rattle.pa_course.specs.Telling.{CoursesLeaveNonePast}
 use Rattle.pa_course.proofs.Chaining.{heard_next, starts_of, sees_last}
 use Rattle.pa_course.proofs.Playing.{sees_then, sees_all, logged}
+use Rattle.pa_told.proofs.Listing.{entered_append}
 
 not_none : (m : Made) (ms : List Made) → m ∷ ms ≡ [] → ⊥
 not_none m ms e = cc

@@ -1,17 +1,15 @@
 -- The small course meets all that is asked of a course.
-use Rattle.std.proofs.Common.{◌≡◌, ℕ, zero, suc, ◌<◌, ◌≤◌, List, [], ◌∷◌, ltb, eqb, map, filter, replicate, refl, sym, ◌∙◌, ap, subst, arith, inl, inr, append-nil}
+use Rattle.std.proofs.Common.{◌≡◌, ℕ, ◌<◌, ◌≤◌, List, [], ◌∷◌, ltb, eqb, map, filter, replicate, refl, sym, ◌∙◌, ap, subst, arith, inl, inr, append-nil}
 use Rattle.std.specs.Prelude.{◌+◌, Contains}
 use Rattle.std.proofs.lemmas.Bool.{cases_Bool, cases_lt, cases_eq}
 use Rattle.pa_buckets.specs.Table.{rows, row_of, slot_of}
 use Rattle.pa_trace.specs.Limits.{IsWithinLimits}
 use Rattle.pa_record.specs.declared.root.RootEntry.{RootEntry}
 use Rattle.pa_record.specs.declared.report.ReportLine.{ReportLine}
-use Rattle.pa_record.proofs.Members.{not_in_none, in_cases}
+use Rattle.pa_lists.proofs.Members.{not_in_none, in_cases}
 use Rattle.pa_region.specs.Views.{HasEveryStake}
-use Rattle.pa_region.specs.Pairs.{log_among}
 use Rattle.pa_region.specs.Takes.{log_of}
 use Rattle.pa_region.specs.Aware.{IsAware}
-use Rattle.pa_region.specs.Start.{stakes_from}
 use Rattle.pa_region.proofs.Awareness.{aware_of}
 use Rattle.pa_region.proofs.FirstLists.{stake_count}
 use Rattle.pa_region.proofs.Opens.{opens}
@@ -30,6 +28,7 @@ use Rattle.pa_course.specs.Example.{small_trace, small_view, small_stock, small_
 use Rattle.pa_course.proofs.Keepers.{courses_tell_all}
 use Rattle.pa_course.proofs.Lining.{courses_tell_lines}
 use Rattle.pa_course.proofs.Playing.{sees_itself}
+use Rattle.pa_region.proofs.ReadsFirst.{first_log}
 
 -- ---- an op that does nothing
 
@@ -89,13 +88,6 @@ no_counts o n = record {
 
 -- ---- the seats
 
-no_logs : (k from count : ℕ) → log_among k (stakes_from from count) ≡ []
-no_logs k from zero = refl
-no_logs k from (suc count) = elim (cases_Bool (eqb from k)) [
-  | inl y ↦ rw y refl
-  | inr m ↦ rw m (no_logs k (suc from) count)
-]
-
 seat_aware : IsAware small_seat
 seat_aware = aware_of (replicate (262144 + 16) 0) (small_seat ∷ []) 0 small_seat (opens 262144 0 (omega arith)) refl
 
@@ -148,8 +140,8 @@ tells : (n : ℕ) → HasHeardAll 1 (λ k. small_worker (small_until n)) small_s
 tells n = record {
   aware = seat_aware;
   every = every;
-  logs = λ k few. no_logs k 0 16 ∙ sym (worker_log k);
-  idle = λ k past. no_logs k 0 16;
+  logs = λ k few. first_log k 0 16 ∙ sym (worker_log k);
+  idle = λ k past. first_log k 0 16;
   sees = λ k few. sees;
 }
 

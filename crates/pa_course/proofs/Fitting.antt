@@ -8,7 +8,6 @@ use Rattle.pa_record.specs.declared.pool.PoolEntry.{PoolEntry}
 use Rattle.pa_record.specs.declared.root.RootEntry.{RootEntry}
 use Rattle.pa_record.specs.Numbers.{root_numbers, pool_numbers}
 use Rattle.pa_record.proofs.OneEntry.{one_root, one_pool, one_cell}
-use Rattle.pa_record.proofs.PoolSteps.{slice_get_at}
 use Rattle.pa_region.specs.declared.view.Made.{Made}
 use Rattle.pa_region.specs.declared.view.View.{View}
 use Rattle.pa_region.specs.Lists.{list_of, IsBeginning}
@@ -38,6 +37,7 @@ use Rattle.pa_course.proofs.Grouping.{rising, within, in_group, from_group}
 use Rattle.pa_course.proofs.Leading.{answer_of}
 use Rattle.pa_course.proofs.Lengthening.{handed_out, handed_home}
 use Rattle.pa_course.proofs.Playing.{HasPlayed, sees_then}
+use Rattle.pa_lists.proofs.Indexed.{slice_get_at}
 
 -- an entry at its place of a list, as what the list is in numbers has it
 numbered_at : {A : Type 0} (numbers : A → List ℕ) (list older rest : List Made) (es : List A) (m : Made) (e : A) → ((a b : A) → numbers a ≡ numbers b → a ≡ b) →

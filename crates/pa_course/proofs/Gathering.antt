@@ -1,5 +1,5 @@
 -- How the main seat hears what all workers have seen, and how they hear from it.
-use Rattle.std.proofs.Common.{◌≡◌, ℕ, ◌+◌, ◌<◌, false, List, [], ◌∷◌, ◌++◌, refl, sym, ◌∙◌, ap, subst, arith, inl, inr, eqb}
+use Rattle.std.proofs.Common.{◌≡◌, ℕ, ◌+◌, ◌<◌, List, [], ◌∷◌, ◌++◌, refl, sym, ◌∙◌, ap, subst, arith, inl, inr, eqb}
 use Rattle.std.specs.Prelude.{not}
 use Rattle.std.specs.List.{sum_by}
 use Rattle.std.proofs.lemmas.List.{append-nil}
@@ -19,7 +19,7 @@ use Rattle.pa_region.specs.Aware.{IsAware}
 use Rattle.pa_region.specs.Takes.{log_of}
 use Rattle.pa_region.proofs.HandStep.{hand_parts}
 use Rattle.pa_region.proofs.JoinStep.{united_parts}
-use Rattle.pa_region.proofs.LendBack.{marked_here, given_stake, given_beside, log_filter, log_right}
+use Rattle.pa_region.proofs.LendBack.{marked_here, given_stake, given_beside, log_filter, log_right, marked_beside}
 use Rattle.pa_region.proofs.SeenJoin.{seen_left, seen_right}
 use Rattle.pa_region.proofs.TakeLaws.{left_begins, right_begins}
 use Rattle.pa_rules.specs.Caches.{SameLists}
@@ -52,10 +52,6 @@ first_logged k (s ∷ a) b has =
       | inl y ↦ rw y.0 refl
       | inr n ↦ let z : one (eqb s.number k) ≡ 0 = ap one n.0 in rw n.0 (first_logged k a b (omega arith))
     ]
-
--- the parcel doesn't have other stakes
-not_marked : (r k : ℕ) → (k ≡ r → ⊥) → (stake_parcel r).stakes k ≡ false
-not_marked r k ne = elim (eqb_tells r k) [ inl y ↦ absurd (ne (sym y.1)) | inr n ↦ rw n.0 refl ]
 
 -- ---- what a seat has after it took a note in, and after it handed one over
 
@@ -154,7 +150,7 @@ module _ (threads k : ℕ) (whole seat : View) (answered : HasAnswered threads k
   }
 
   log_left : (j : ℕ) → (j ≡ k → ⊥) → log_of j (left_after (stake_parcel k) seat) ≡ log_of j seat
-  log_left j ne = log_filter (λ n. not ((stake_parcel k).stakes n)) j seat.stakes (ap not (not_marked k j ne))
+  log_left j ne = log_filter (λ n. not ((stake_parcel k).stakes n)) j seat.stakes (ap not (marked_beside k j ne))
 
   answer_next : k < threads → HasAnswered threads (k + 1) whole (left_after (stake_parcel k) seat)
   answer_next few =

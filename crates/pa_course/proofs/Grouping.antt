@@ -6,9 +6,9 @@ use Rattle.std.proofs.lemmas.List.Elements.{filter-append}
 use Rattle.pa_trace.specs.declared.script.Trace.{Trace}
 use Rattle.pa_trace.specs.Limits.{IsWithinLimits}
 use Rattle.pa_record.specs.declared.entry.Answer.TheVariants.{Nothing}
-use Rattle.pa_record.proofs.Joined.{map_in, filter_cases, filter_in}
-use Rattle.pa_record.proofs.Members.{first_in, later_in}
-use Rattle.pa_record.proofs.Pairs.{pairs_head, pairs_tail}
+use Rattle.pa_lists.proofs.Joined.{map_in, filter_cases, filter_in}
+use Rattle.pa_lists.proofs.Members.{first_in, later_in}
+use Rattle.pa_lists.proofs.Pairs.{pairs_head, pairs_tail}
 use Rattle.pa_rules.specs.declared.played.Played.{Played}
 use Rattle.pa_rules.specs.Played.{OpLine, op_lines, op_line_of, AreLines}
 use Rattle.pa_rules.specs.Legal.{phases_in}

@@ -2,7 +2,6 @@
 use Rattle.std.proofs.Common.{◌≡◌, ℕ, List, [], ◌∷◌, ◌++◌, sym, ◌∙◌, ap, subst}
 use Rattle.std.specs.Prelude.{Contains}
 use Rattle.pa_machine.specs.declared.word.SlotName.{SlotName}
-use Rattle.pa_record.proofs.Members.{first_in, later_in}
 use Rattle.pa_rules.specs.declared.played.Played.{Played}
 use Rattle.pa_rules.specs.Registers.{Regs, Facts, Row}
 use Rattle.pa_rules.specs.Roots.{Journals}
@@ -13,10 +12,10 @@ use Rattle.pa_told.specs.Said.{ReadsIts, HasToldRows}
 use Rattle.pa_plays.specs.Stocks.{regs_of}
 use Rattle.pa_plays.specs.Workers.{WorkerValue}
 use Rattle.pa_plays.specs.Outcomes.{Outcome, row_facts}
-use Rattle.pa_plays.specs.Plays.{PlaysOne, PlaysAll, AnswersIn}
+use Rattle.pa_plays.specs.Plays.{PlaysAll, AnswersIn}
 use Rattle.pa_plays.specs.Following.{FitsAll}
-use Rattle.pa_plays.proofs.Following.{seen_before}
-use Rattle.pa_course.proofs.Playing.{sees_all, HasPlayed}
+use Rattle.pa_plays.proofs.Following.{seen_before, first_answer}
+use Rattle.pa_course.proofs.Playing.{HasPlayed}
 
 -- record by record of one thread, the rows of its registers lead to these
 abbrev pub RowsLead : (SlotName → ℕ) → Facts → Regs → List ToldRecord → Regs → Type 0
@@ -48,19 +47,6 @@ answer_of o w v xs x p fits among = p.one.does.answers o (record {
   seen = seen_before o p.after.stock.view v.stock.view p.last.lists fits.seen;
   acts = fits.acts x among;
 })
-
--- the first op's answer, and that the rest fits
-first_answer : (o : Outcome) (w next v : WorkerValue) (x : ToldRecord) (xs : List ToldRecord) → PlaysOne w next x → PlaysAll next xs v → FitsAll o w.stock.partitions v.stock.view (x ∷ xs) →
-    AnswersIn o w.stock next.stock x × FitsAll o next.stock.partitions v.stock.view xs
-first_answer o w next v x xs one more fits = (
-  one.does.answers o (record {
-    many = fits.many;
-    run = fits.run;
-    seen = seen_before o next.stock.view v.stock.view (sees_all next v xs more).lists fits.seen;
-    acts = fits.acts x (first_in x xs);
-  }),
-  record { many = fits.many ∙ sym one.does.same.1; run = fits.run; seen = fits.seen; acts = λ y among. fits.acts y (later_in x y xs among) },
-)
 
 pub rows_lead : (o : Outcome) (w v : WorkerValue) (xs : List ToldRecord) → PlaysAll w xs v → FitsAll o w.stock.partitions v.stock.view xs →
     RowsLead o.sizes (row_facts o) (regs_of w.stock.registers) xs (regs_of v.stock.registers)

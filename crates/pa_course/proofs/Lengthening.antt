@@ -1,13 +1,12 @@
 -- The journals give each slot one length and one partition, by themselves and the pool's entries that they name.
-use Rattle.std.proofs.Common.{◌≡◌, ℕ, zero, suc, ◌<◌, ◌≤◌, true, List, [], ◌∷◌, Option, Some, None, slice_get, refl, sym, ◌∙◌, ap, subst, arith, inl, inr}
+use Rattle.std.proofs.Common.{◌≡◌, ℕ, zero, suc, ◌<◌, ◌≤◌, List, [], ◌∷◌, Option, Some, None, slice_get, refl, sym, ◌∙◌, ap, subst, arith, inl, inr}
 use Rattle.std.specs.Prelude.{Contains}
 use Rattle.std.specs.List.{list_any}
-use Rattle.std.proofs.lemmas.Bool.{true≢false, cases_Bool, cases_lt, cases_eq, or_cases, both_ways}
+use Rattle.std.proofs.lemmas.Bool.{cases_Bool, cases_lt, cases_eq, both_ways}
 use Rattle.std.proofs.lemmas.List.Elements.{Contains-append_left, Contains-append_right, Contains-append_cases}
 use Rattle.pa_machine.specs.declared.title.Title.{Title}
 use Rattle.pa_machine.specs.declared.word.SlotName.{SlotName}
 use Rattle.pa_machine.specs.Run.{same_slot}
-use Rattle.pa_machine.proofs.Runs.{same_slot_eq, same_slot_yes}
 use Rattle.pa_buckets.specs.Table.{slot_of}
 use Rattle.pa_buckets.proofs.Facts.{IsRow-of}
 use Rattle.pa_record.specs.declared.pool.PoolEntry.{PoolEntry}
@@ -20,27 +19,17 @@ use Rattle.pa_record.specs.Sound.{IsMade, IsMapBy, IsMadeBy}
 use Rattle.pa_record.specs.Laws.{leaves_by}
 use Rattle.pa_record.proofs.Asked.{titles_are_asked}
 use Rattle.pa_record.proofs.MadeBy.{map_taken}
-use Rattle.pa_record.proofs.Members.{not_in_none, first_in, later_in, in_cases, of_some}
+use Rattle.pa_lists.proofs.Members.{not_in_none, first_in, in_cases, of_some}
 use Rattle.pa_record.proofs.Titles.{made_apart, made_or_map, journal_replayed}
 use Rattle.pa_rules.specs.Roots.{Journals, Names}
 use Rattle.pa_rules.proofs.Naming.{asked_is}
 use Rattle.pa_rules.proofs.Owned.{title_of, HasLen}
 use Rattle.pa_cells.specs.Handles.{HandsOut}
-use Rattle.pa_told.specs.Lengths.{titles_by, titles_of, length_among, lengths_by}
+use Rattle.pa_told.specs.Lengths.{titles_by, titles_of, lengths_by}
 use Rattle.pa_told.specs.Homes.{homes_by}
 use Rattle.pa_told.proofs.Filters.{place_at}
-use Rattle.pa_told.proofs.Sizing.{made_listed, listed_made}
-
--- a title among others that agree with it has the length of its name
-length_is : (ts : List Title) (t : Title) → Contains ts t → ((u : Title) → Contains ts u → name_of u ≡ name_of t → u.len ≡ t.len) → length_among ts (name_of t) ≡ t.len
-length_is [] t among same = absurd (not_in_none t among)
-length_is (u ∷ us) t among same = elim (cases_Bool (same_slot (name_of u) (name_of t))) [
-  | inl y ↦ rw y (same u (first_in u us) (same_slot_eq (name_of u) (name_of t) y))
-  | inr n ↦ rw n (elim (in_cases u t us among) [
-    | inl e ↦ absurd (both_ways _ n (same_slot_yes (name_of u) (name_of t) (ap name_of e)))
-    | inr later ↦ length_is us t later (λ w member. same w (later_in u w us member))
-  ])
-]
+use Rattle.pa_told.proofs.Sizing.{made_listed, listed_made, length_is}
+use Rattle.pa_told.proofs.Homing.{named_there, there_named}
 
 -- the entry of the pool that a direct map names is that of its slot
 map_asked : (pools : List PoolEntry) (es : List RootEntry) (r : Root) (e : RootEntry) (asked len : ℕ) (slot : SlotName) → RootReplays pools es r → Contains es e →
@@ -57,24 +46,6 @@ map_asked pools (f ∷ es) r e asked len slot fits among act = elim (in_cases f 
 
 map_len : (asked len asked' len' : ℕ) (slot slot' : SlotName) → Map asked slot len ≡ Map asked' slot' len' → len ≡ len'
 map_len asked len asked' len' slot slot' e = cc
-
--- a list has a title of that name, or none
-named_there : (ts : List Title) (s : SlotName) → list_any (λ (t : Title). same_slot (name_of t) s) ts ≡ true → (t : Title) × Contains ts t × (name_of t ≡ s)
-named_there [] s h = absurd (true≢false (sym h))
-named_there (u ∷ us) s h = elim (or_cases (same_slot (name_of u) s) (list_any (λ (t : Title). same_slot (name_of t) s) us) h) [
-  | inl here ↦ (u, first_in u us, same_slot_eq (name_of u) s here)
-  | inr rest ↦ let (t, among, is) = named_there us s rest in (t, later_in u t us among, is)
-]
-
-there_named : (ts : List Title) (s : SlotName) (t : Title) → Contains ts t → name_of t ≡ s → list_any (λ (t : Title). same_slot (name_of t) s) ts ≡ true
-there_named [] s t among is = absurd (not_in_none t among)
-there_named (u ∷ us) s t among is = elim (cases_Bool (same_slot (name_of u) s)) [
-  | inl y ↦ rw y refl
-  | inr n ↦ rw n (elim (in_cases u t us among) [
-    | inl e ↦ absurd (both_ways _ n (same_slot_yes (name_of u) s (ap name_of e ∙ is)))
-    | inr later ↦ there_named us s t later is
-  ])
-]
 
 module _ (pools : List PoolEntry) (roots : Journals) where
   -- where no other partition makes a title of the name

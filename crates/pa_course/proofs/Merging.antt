@@ -2,11 +2,12 @@
 use Rattle.std.proofs.Common.{◌≡◌, ℕ, Bool, true, false, ◌&&◌, List, [], ◌∷◌, ◌++◌, map, take, drop, filter, refl, sym, ◌∙◌, ap, subst, inl, inr}
 use Rattle.std.specs.Prelude.{Contains}
 use Rattle.std.proofs.lemmas.Bool.{cases_Bool, eq-eqb, eqb-true}
-use Rattle.pa_record.proofs.Members.{first_in, later_in}
+use Rattle.pa_lists.proofs.Members.{first_in, later_in}
 use Rattle.pa_rules.specs.Played.{OpLine, op_line_of}
 use Rattle.pa_told.specs.Told.{ToldRecord, played_in}
 use Rattle.pa_course.specs.Courses.{is_line_of}
 use Rattle.pa_course.specs.Merged.{without_line, merged_by_lines}
+use Rattle.pa_lists.proofs.Tests.{both_true}
 
 -- the op lines of told records
 abbrev pub lines_told : List ToldRecord → List OpLine
@@ -38,10 +39,6 @@ no_lines (x ∷ xs) e = absurd cc
 -- a line is of its own thread and phase, and of no other
 own_group : (o : OpLine) → is_line_of o.phase o.thread o ≡ true
 own_group o = rw (eq-eqb o.phase o.phase refl, eq-eqb o.thread o.thread refl) refl
-
-both_true : (a b : Bool) → (a && b) ≡ true → (a ≡ true) × (b ≡ true)
-both_true true b e = (refl, e)
-both_true false b e = absurd cc
 
 pub group_is : (n k : ℕ) (o : OpLine) → is_line_of n k o ≡ true → (o.phase ≡ n) × (o.thread ≡ k)
 group_is n k o e =

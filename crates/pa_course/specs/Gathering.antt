@@ -1,5 +1,6 @@
 -- How the main seat hears what all workers have seen at a phase's end, one after the other, and how they hear from it.
 use Rattle.std.specs.Prelude.{◌≡◌, ℕ, ◌+◌, ◌<◌, ◌≤◌, []}
+use Rattle.pa_trace.specs.Limits.{most_threads}
 use Rattle.pa_region.specs.declared.view.View.{View}
 use Rattle.pa_region.specs.Views.{stake_of}
 use Rattle.pa_region.specs.Waiting.{unclean_of}
@@ -14,7 +15,7 @@ use Rattle.pa_course.specs.Courses.{HasSeenAll, HasHeardAll, Hears}
 
 -- The main seat while workers play: it has the stakes that are no thread's, with empty logs, and no unclean Own.
 pub record IsMain (threads : ℕ) (seat : View) : Type 0 where
-  pub own : (k : ℕ) → threads ≤ k → k < 16 → 0 < stake_of seat k
+  pub own : (k : ℕ) → threads ≤ k → k < most_threads → 0 < stake_of seat k
   pub idle : (k : ℕ) → threads ≤ k → log_of k seat ≡ []
   pub clean : unclean_of seat ≡ 0
 
@@ -56,7 +57,7 @@ pub record WorkersHear : Type 0 where
   pub none : (threads : ℕ) (ends : ℕ → WorkerValue) (first whole : View) → HasHeardSome threads threads ends first whole →
       HasAnswered threads 0 whole whole
   pub can : (threads k : ℕ) (whole seat : View) → HasAnswered threads k whole seat → CanHand (stake_parcel k) seat
-  pub for : (threads k : ℕ) (whole seat : View) → HasAnswered threads k whole seat → 0 < stake_of whole k → k < 16 →
+  pub for : (threads k : ℕ) (whole seat : View) → HasAnswered threads k whole seat → 0 < stake_of whole k → k < most_threads →
       IsForThread k (given_after (stake_parcel k) seat)
   pub next : (threads k : ℕ) (whole seat : View) → HasAnswered threads k whole seat → k < threads →
       HasAnswered threads (k + 1) whole (left_after (stake_parcel k) seat)

@@ -1,5 +1,6 @@
 -- A line of the report, from what the workers counted and have cached at the end of its phase, and from the census of its root.
 use Rattle.std.specs.Prelude.{◌≡◌, ℕ, zero, suc, ◌+◌, ◌-◌, List, length, Contains}
+use Rattle.pa_buckets.specs.Limits.{class_count}
 use Rattle.pa_trace.specs.declared.script.Trace.{Trace}
 use Rattle.pa_record.specs.declared.report.ReportLine.{ReportLine}
 use Rattle.pa_record.specs.declared.report.Tally.{Tally}
@@ -32,8 +33,8 @@ pub record IsLeftOf (into out : Count → Tally) (p threads : ℕ) (workers : �
 
 -- The tally is what the lists of these workers have of partition p.
 pub record IsCachedBy (p threads : ℕ) (workers : ℕ → WorkerValue) (tally : Tally) : Type 0 where
-  pub slots : tally.slots ≡ sum_over (λ k. listed_slots (listed_in (workers k).stock p) 0 59) threads
-  pub bytes : tally.bytes ≡ sum_over (λ k. listed_bytes (λ class. length (listed_in (workers k).stock p class)) 0 59) threads
+  pub slots : tally.slots ≡ sum_over (λ k. listed_slots (listed_in (workers k).stock p) 0 class_count) threads
+  pub bytes : tally.bytes ≡ sum_over (λ k. listed_bytes (λ class. length (listed_in (workers k).stock p class)) 0 class_count) threads
 
 -- The line says what the workers, as they were at the end of its phase, and the root of its partition tell.
 pub record IsLineBy (t : Trace) (c : Course) (v : View) (l : ReportLine) : Type 0 where

@@ -1,7 +1,7 @@
 -- The records of a course in the order of the trace's lines, and what the run became.
 use Rattle.std.specs.Prelude.{◌≡◌, ℕ, ◌<◌, ◌≤◌, List, [], ◌∷◌, ◌++◌, map, take, drop, nat_lt, if◌then◌else◌}
 use Rattle.pa_trace.specs.declared.script.Trace.{Trace}
-use Rattle.pa_trace.specs.Limits.{IsWithinLimits}
+use Rattle.pa_trace.specs.Limits.{IsWithinLimits, most_partitions}
 use Rattle.pa_record.specs.declared.history.Held.TheVariants.{Nothing}
 use Rattle.pa_record.specs.declared.report.ReportLine.{ReportLine}
 use Rattle.pa_record.specs.Pool.{IsPool}
@@ -67,9 +67,9 @@ pub record IsLeftBehind (t : Trace) (r : Told) (v : View) (ts : List ToldRecord)
   pub entries : r.entries ≡ map entry_of (played_in ts)
   pub pool : IsPoolList (list_of 4 v) r.pools
   pub fits : IsPool t.region r.pools
-  pub lists : (p : ℕ) → p < 4 → IsJournalOf (list_of p v) (r.roots p)
+  pub lists : (p : ℕ) → p < most_partitions → IsJournalOf (list_of p v) (r.roots p)
   pub journals : (p : ℕ) → IsJournal r.pools (r.roots p)
-  pub past : (p : ℕ) → 4 ≤ p → r.roots p ≡ []
+  pub past : (p : ℕ) → most_partitions ≤ p → r.roots p ≡ []
   pub numbers : AreNumbered r.roots
   pub exchanges : map (λ (m : Made). m.numbers) (list_of 5 v) ≡ map exchange_numbers xs
   pub cells : (k : ℕ) → r.cells k ≡ entries_with k xs

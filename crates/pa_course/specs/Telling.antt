@@ -1,7 +1,7 @@
 -- What follows of a course: each layer says what it is asked.
 use Rattle.std.specs.Prelude.{◌≡◌, ℕ, ◌<◌, ◌≤◌, List, [], map, filter, Contains}
 use Rattle.pa_trace.specs.declared.script.Trace.{Trace}
-use Rattle.pa_trace.specs.Limits.{IsWithinLimits}
+use Rattle.pa_trace.specs.Limits.{IsWithinLimits, most_partitions}
 use Rattle.pa_record.specs.declared.report.ReportLine.{ReportLine}
 use Rattle.pa_region.specs.declared.view.View.{View}
 use Rattle.pa_region.specs.Lists.{list_of}
@@ -49,7 +49,7 @@ CoursesTellCells =
 abbrev pub CoursesLeaveNonePast : Type 0
 CoursesLeaveNonePast =
     (t : Trace) (c : Course) (v : View) → IsWithinLimits t → IsCourse t (phases_in t.lines) c → Closes (c.seats (phases_in t.lines)) v →
-    (p : ℕ) → t.partitions ≤ p → p < 4 → list_of p v ≡ []
+    (p : ℕ) → t.partitions ≤ p → p < most_partitions → list_of p v ≡ []
 
 -- Each worker has the records of its thread so far, in order; and a title that a stretch says was made raw again goes back by an
 -- entry of the same record. That asks nothing of the close, so the records can be merged before it.

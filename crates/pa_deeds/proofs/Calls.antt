@@ -18,8 +18,8 @@ use Rattle.pa_record.specs.Pool.{PoolState, took, IsLowest}
 use Rattle.pa_record.specs.Spans.{name_of}
 use Rattle.pa_record.specs.Root.{Root, Filled, takes, opened, names, span_for, root_next, RootActFits, asked_by}
 use Rattle.pa_record.specs.Sound.{IsSound, IsBornBelow, AsksFrom, least_after_all}
-use Rattle.pa_record.proofs.Members.{not_in_none, not_some, of_some}
-use Rattle.pa_record.proofs.Joined.{map_cases}
+use Rattle.pa_lists.proofs.Members.{not_in_none, not_some, of_some}
+use Rattle.pa_lists.proofs.Joined.{map_cases}
 use Rattle.pa_record.proofs.PoolSteps.{pool_grows}
 use Rattle.pa_record.proofs.Lawful.{fill_keeps, journal_leaves}
 use Rattle.pa_record.proofs.Mapping.{born_more}
@@ -36,7 +36,8 @@ use Rattle.pa_deeds.specs.Ops.{only_in, IsCalled, found_by, asked_for, HasNumber
 use Rattle.pa_deeds.proofs.Numbering.{LeavesAt}
 use Rattle.pa_deeds.proofs.Acting.{asks_none, not_full_made}
 use Rattle.pa_deeds.proofs.First.{not_cons, first_start, page_super}
-use Rattle.pa_deeds.proofs.Single.{only_member, IsOneAct, one_called, next_low, entries_are, asks_once, full_index, alloc_place, not_done_made, not_done_full}
+use Rattle.pa_deeds.proofs.Single.{IsOneAct, one_called, next_low, entries_are, asks_once, full_index, alloc_place, not_done_made, not_done_full}
+use Rattle.pa_lists.proofs.Elements.{in_one}
 
 -- ---- the slots of a fill
 
@@ -78,7 +79,7 @@ module _ (supers partitions n p class usable : ℕ) (ps : List Played) (x : Play
       let got : titles ≡ (takes class (fill_of class) (root_at pools roots p)).titles = ap (λ (f : Filled). f.titles) is in
       one_called supers partitions n p ps x pools [] roots (Fill class None xs) all (with_list (all x.thread) p class rest) h after plan
       (fill_act [] None (real, some, ap (λ zs. map name_of zs) (sym got) ∙ named) tt)
-      (asks_none supers n p pools (Fill class None xs ∷ []) (λ a among. ap asked_by (sym (only_member (Fill class None xs) a among))))
+      (asks_none supers n p pools (Fill class None xs ∷ []) (λ a among. ap asked_by (sym (in_one (Fill class None xs) a among))))
       (sym (ap (λ (f : Filled). f.root) is))
       (ap (pool_at supers) (append-nil pools) ∙ sym same)
 

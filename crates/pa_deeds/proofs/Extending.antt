@@ -1,9 +1,7 @@
 -- The run with a line more.
-use Rattle.std.proofs.Common.{◌≡◌, ℕ, ◌+◌, ◌<◌, List, [], ◌∷◌, ◌++◌, filter, Option, Some, None, sym, ◌∙◌, ap, subst, arith, inl, inr}
+use Rattle.std.proofs.Common.{◌≡◌, ℕ, ◌+◌, ◌<◌, List, [], ◌∷◌, ◌++◌, Option, Some, None, sym, ◌∙◌, ap, subst, arith, inl, inr}
 use Rattle.std.specs.Prelude.{Contains}
-use Rattle.std.proofs.lemmas.List.Concat.{flat_map-append}
-use Rattle.std.proofs.lemmas.List.Elements.{filter-append, Contains-append_left, Contains-push, Contains-push_cases}
-use Rattle.pa_machine.specs.declared.word.SlotName.{SlotName}
+use Rattle.std.proofs.lemmas.List.Elements.{Contains-append_left, Contains-push, Contains-push_cases}
 use Rattle.pa_trace.specs.declared.script.Op.{Op}
 use Rattle.pa_trace.specs.declared.script.Op.TheVariants as ops
 use Rattle.pa_record.specs.declared.entry.Answer.TheVariants as answers
@@ -13,28 +11,19 @@ use Rattle.pa_record.specs.declared.root.RootAct.{RootAct}
 use Rattle.pa_record.specs.declared.root.RootAct.TheVariants.{Fill, Map, Full, Give, Unmap, Purge}
 use Rattle.pa_record.proofs.PoolSteps.{slice_get_more, act_at_more, pool_grows}
 use Rattle.pa_record.proofs.Lawful.{journal_grows}
-use Rattle.pa_record.proofs.Pairs.{pairs_push}
+use Rattle.pa_lists.proofs.Pairs.{pairs_push}
 use Rattle.pa_rules.specs.declared.played.Played.{Played}
 use Rattle.pa_rules.specs.Roots.{Journals, IsEntry, MakesEntry, MakesFull, IsFull}
 use Rattle.pa_rules.specs.Caches.{Cache, Caches, with_cache, no_caches}
-use Rattle.pa_rules.specs.Holders.{Move, moves_by}
-use Rattle.pa_legal.specs.Numbers.{all_moves, is_of, moves_of, at_after, at_end, IsNumbered}
+use Rattle.pa_legal.specs.Numbers.{moves_of, IsNumbered}
 use Rattle.pa_legal.specs.Known.{UnmapsNext}
 use Rattle.pa_deeds.specs.Deeds.{Acts, entries_at, grown, root_at, root_after, IsPlacedTo, IsDeed}
 use Rattle.pa_deeds.specs.Laws.{LineExtends, LineReplays}
 use Rattle.pa_deeds.proofs.Growing.{IsMore, grown_cases, grown_old, lines_before, journal_more, sorted_more}
 use Rattle.pa_deeds.proofs.Rows.{Stays, caches_stay, caches_push}
+use Rattle.pa_legal.proofs.Growing.{moves_append, numbered_append}
 
 -- ---- moves
-
-pub moves_append : (es fs : List RootEntry) (s : SlotName) → moves_of (es ++ fs) s ≡ moves_of es s ++ moves_of fs s
-moves_append es fs s =
-    ap (λ ms. filter (is_of s) ms) (flat_map-append (λ (e : RootEntry). moves_by e.line e.act) es fs)
-    ∙ filter-append (is_of s) (all_moves es) (all_moves fs)
-
-pub numbered_append : (at : Option ℕ) (ms ns : List Move) → IsNumbered at ms → IsNumbered (at_end at ms) ns → IsNumbered at (ms ++ ns)
-numbered_append at [] ns h k = k
-numbered_append at (m ∷ ms) ns h k = (h.0, numbered_append (at_after m.way m.number) ms ns h.1 k)
 
 -- ---- what makes an entry, over a longer pool
 

@@ -7,19 +7,19 @@ use Rattle.std.proofs.lemmas.Bool.{cases_lt}
 use Rattle.std.proofs.lemmas.Option.{slice_get_within, get_or_from_slice_get}
 use Rattle.std.proofs.lemmas.List.Sorted.{IsNonDecreasingBy-short}
 use Rattle.pa_trace.specs.declared.script.Line.{Line}
-use Rattle.pa_trace.specs.declared.script.Line.TheVariants.{Phase, Do}
 use Rattle.pa_record.specs.declared.pool.PoolEntry.{PoolEntry}
 use Rattle.pa_record.specs.declared.root.RootEntry.{RootEntry}
-use Rattle.pa_record.proofs.Members.{not_in_none, not_some, in_cases}
-use Rattle.pa_record.proofs.Pairs.{pairs_none}
-use Rattle.pa_record.proofs.Joined.{map_in}
+use Rattle.pa_lists.proofs.Members.{not_in_none, not_some}
+use Rattle.pa_lists.proofs.Pairs.{pairs_none}
+use Rattle.pa_lists.proofs.Joined.{map_in}
 use Rattle.pa_rules.specs.declared.played.Played.{Played}
-use Rattle.pa_rules.specs.Played.{OpLine, AreLines, op_lines, op_line_of}
+use Rattle.pa_rules.specs.Played.{AreLines, op_line_of}
 use Rattle.pa_rules.specs.Order.{StandsBefore}
 use Rattle.pa_deeds.specs.Deeds.{IsPlacedTo}
 use Rattle.pa_deeds.specs.Pooled.{IsPooledTo}
 use Rattle.pa_deeds.specs.Laws.{StartsEmpty, LinePasses, PlacedAreRoots, SameIsPlaced}
-use Rattle.pa_deeds.proofs.Pooling.{get_in}
+use Rattle.pa_lists.proofs.Indexed.{at_in}
+use Rattle.pa_rules.proofs.Lined.{lines_phases}
 
 -- ---- the start
 
@@ -77,37 +77,6 @@ line_passes = record {
 
 -- ---- the order of the lines is that of the phases
 
-lines_from : (n phase : ℕ) (ls : List Line) (a : OpLine) → Contains (op_lines n phase ls) a → (n ≤ a.line) × (phase ≤ a.phase)
-lines_from n phase [] a among = absurd (not_in_none a among)
-lines_from n phase (Phase ∷ ls) a among = let (line, part) = lines_from (n + 1) (phase + 1) ls a among in (omega arith, omega arith)
-lines_from n phase (Do thread op ∷ ls) a among = elim (in_cases (record { line = n; thread = thread; phase = phase; op = op }) a (op_lines (n + 1) phase ls) among) [
-  | inl e ↦
-      let line : n ≡ a.line = ap (λ (z : OpLine). z.line) e in
-      let part : phase ≡ a.phase = ap (λ (z : OpLine). z.phase) e in
-      (omega arith, omega arith)
-  | inr rest ↦ let (line, part) = lines_from (n + 1) phase ls a rest in (omega arith, part)
-]
-
--- an op line of an earlier phase has a lesser line
-lines_phases : (n phase : ℕ) (ls : List Line) (a b : OpLine) → Contains (op_lines n phase ls) a → Contains (op_lines n phase ls) b → a.phase < b.phase → a.line < b.line
-lines_phases n phase [] a b first second less = absurd (not_in_none a first)
-lines_phases n phase (Phase ∷ ls) a b first second less = lines_phases (n + 1) (phase + 1) ls a b first second less
-lines_phases n phase (Do thread op ∷ ls) a b first second less =
-    let here : OpLine = record { line = n; thread = thread; phase = phase; op = op } in
-    elim (in_cases here b (op_lines (n + 1) phase ls) second) [
-      | inl e ↦
-          let (line, part) = lines_from n phase (Do thread op ∷ ls) a first in
-          let same : phase ≡ b.phase = ap (λ (z : OpLine). z.phase) e in
-          absurd (omega arith)
-      | inr later ↦ elim (in_cases here a (op_lines (n + 1) phase ls) first) [
-        | inl e ↦
-            let (line, part) = lines_from (n + 1) phase ls b later in
-            let same : n ≡ a.line = ap (λ (z : OpLine). z.line) e in
-            omega arith
-        | inr before ↦ lines_phases (n + 1) phase ls a b before later less
-      ]
-    ]
-
 pub phases_rise : (ls : List Line) (ps : List Played) (x y : Played) → AreLines ls ps → Contains ps x → Contains ps y → x.phase < y.phase → x.line < y.line
 phases_rise ls ps x y lines first second less =
     lines_phases 2 1 ls (op_line_of x) (op_line_of y)
@@ -135,7 +104,7 @@ pub placed_are_roots : PlacedAreRoots
 placed_are_roots supers partitions n ls ps pools roots all filed h g = (
   record {
     journals = h.journals;
-    lines = λ p j e there. h.lines p e (get_in (roots p) j e there);
+    lines = λ p j e there. h.lines p e (at_in (roots p) j e there);
     order = λ p i j e f x y first second of of' before.
         let less = before_is_less ls ps x y filed of.0 of'.0 before in
         let a = of.1 in

@@ -6,10 +6,11 @@ use Rattle.pa_machine.specs.declared.title.Title.{Title}
 use Rattle.pa_layout.specs.Pages.{page_place, super_page_at}
 use Rattle.pa_buckets.specs.Table.{pages_of, slot_of}
 use Rattle.pa_record.specs.declared.taken.SuperPage.{SuperPage}
-use Rattle.pa_record.specs.Spans.{Span, title_at, numbers, more_slots, with_free, listed}
+use Rattle.pa_record.specs.Spans.{Span, title_at, more_slots, with_free, listed}
 use Rattle.pa_record.specs.Root.{Root, Filled, new_span, at_page, found_or_new, span_for, front_taken, taken_from, one_take, and_then, takes, opened}
-use Rattle.pa_record.proofs.Members.{not_some, of_some}
+use Rattle.pa_lists.proofs.Members.{not_some, of_some}
 use Rattle.pa_record.proofs.Filling.{opened_current}
+use Rattle.pa_lists.specs.Numbers.{numbers}
 
 pub not_cons : {A : Type 0} (x : A) (xs : List A) → [] ≡ x ∷ xs → ⊥
 not_cons x xs e = cc

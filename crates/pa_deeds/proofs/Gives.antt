@@ -9,8 +9,8 @@ use Rattle.pa_record.specs.declared.root.RootAct.{RootAct}
 use Rattle.pa_record.specs.declared.root.RootAct.TheVariants.{Give, Purge}
 use Rattle.pa_record.specs.Root.{Root, names, all_returned, purged, root_next, asked_by}
 use Rattle.pa_record.specs.Sound.{IsSound}
-use Rattle.pa_record.proofs.Members.{not_in_none, in_cases}
-use Rattle.pa_record.proofs.Joined.{map_cases}
+use Rattle.pa_lists.proofs.Members.{not_in_none, in_cases}
+use Rattle.pa_lists.proofs.Joined.{map_cases}
 use Rattle.pa_rules.specs.Caches.{batches, gives, purge_acts}
 use Rattle.pa_rules.specs.Holders.{Back, Move, move_of, moves_by}
 use Rattle.pa_deeds.specs.Deeds.{root_after, ActsFit}

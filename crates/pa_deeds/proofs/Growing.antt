@@ -11,8 +11,8 @@ use Rattle.pa_record.specs.declared.root.RootEntry.{RootEntry}
 use Rattle.pa_record.specs.declared.root.RootAct.{RootAct}
 use Rattle.pa_record.specs.Root.{Root, new_root, root_next, root_replayed, RootActFits, IsJournal, asked_by}
 use Rattle.pa_record.specs.Sound.{least_after, least_after_all}
-use Rattle.pa_record.proofs.Members.{first_in, later_in}
-use Rattle.pa_record.proofs.Joined.{map_cases, map_in}
+use Rattle.pa_lists.proofs.Members.{first_in, later_in}
+use Rattle.pa_lists.proofs.Joined.{map_cases, map_in}
 use Rattle.pa_record.proofs.Lawful.{journal_grows}
 use Rattle.pa_rules.specs.Roots.{Journals}
 use Rattle.pa_rules.specs.Caches.{acts_of}

@@ -18,8 +18,8 @@ use Rattle.pa_record.specs.Spans.{name_of}
 use Rattle.pa_record.specs.Root.{names, IsOut}
 use Rattle.pa_record.specs.Sound.{IsMadeBy}
 use Rattle.pa_record.specs.Laws.{times, IsNameOut}
-use Rattle.pa_record.proofs.Members.{not_in_none}
-use Rattle.pa_record.proofs.Joined.{map_cases}
+use Rattle.pa_lists.proofs.Members.{not_in_none}
+use Rattle.pa_lists.proofs.Joined.{map_cases}
 use Rattle.pa_record.proofs.Titles.{made_born}
 use Rattle.pa_record.proofs.Lawful.{journal_leaves}
 use Rattle.pa_record.proofs.Leaving.{name_cases}
@@ -34,14 +34,15 @@ use Rattle.pa_rules.proofs.Running.{busy_some}
 use Rattle.pa_rules.proofs.Known.{all_known}
 use Rattle.pa_rules.proofs.Owned.{title_of}
 use Rattle.pa_rules.proofs.Flowing.{class_leaves, class_real}
-use Rattle.pa_rules.proofs.FourPlaces.{HasLeft, IsOnce, slot_once}
+use Rattle.pa_rules.proofs.FourPlaces.{HasLeft, IsOnce, slot_once, times_member}
 use Rattle.pa_rules.proofs.Totals.{some_cached}
 use Rattle.pa_legal.proofs.Titling.{one_kind}
 use Rattle.pa_deeds.specs.Deeds.{root_at}
 use Rattle.pa_deeds.specs.Pooled.{IsSoFar}
 use Rattle.pa_deeds.specs.Ops.{AreOut, all_of, ListsAreOut}
 use Rattle.pa_deeds.proofs.Filing.{placed_are_roots}
-use Rattle.pa_deeds.proofs.Lists.{once_differ, All-members, times_member}
+use Rattle.pa_deeds.proofs.Lists.{once_differ}
+use Rattle.pa_lists.proofs.Elements.{all_from_members}
 
 -- ---- numbers of threads
 
@@ -172,7 +173,7 @@ module _ (supers partitions n : ℕ) (ls : List Line) (ps : List Played) (pools 
   )
     where
       members_out : (P : SlotName → Type 0) → ((m : Numbered) → Contains (all_of (all t p) 0 59) m → P m.slot) → All P (names (all_of (all t p) 0 59))
-      members_out P each = All-members P (names (all_of (all t p) 0 59)) (λ s among.
+      members_out P each = all_from_members P (names (all_of (all t p) 0 59)) (λ s among.
           let (m, member, is) = map_cases (λ (z : Numbered). z.slot) (all_of (all t p) 0 59) s among in
           subst P is (each m member))
 

@@ -3,21 +3,20 @@ use Rattle.std.proofs.Common.{◌≡◌, ◌≢◌, ℕ, zero, suc, ◌+◌, ◌
 use Rattle.std.specs.Prelude.{Contains, All, AllPairs}
 use Rattle.std.proofs.lemmas.Bool.{cases_eq}
 use Rattle.std.proofs.lemmas.List.{map-append}
-use Rattle.std.proofs.lemmas.List.Elements.{All-cons, All-head, All-tail, All-contains}
+use Rattle.std.proofs.lemmas.List.Elements.{All-tail, All-contains}
 use Rattle.pa_machine.specs.declared.word.SlotName.{SlotName}
-use Rattle.pa_machine.proofs.Runs.{same_slot_cases}
 use Rattle.pa_record.specs.declared.numbered.Numbered.{Numbered}
 use Rattle.pa_record.specs.Root.{Root, names, all_returned, returned, IsOut}
 use Rattle.pa_record.specs.Sound.{IsSound}
 use Rattle.pa_record.specs.Laws.{times}
-use Rattle.pa_record.proofs.Members.{first_in, later_in}
-use Rattle.pa_record.proofs.Pairs.{pairs_none, pairs_cons}
+use Rattle.pa_lists.proofs.Members.{first_in}
+use Rattle.pa_lists.proofs.Pairs.{pairs_none, pairs_cons}
 use Rattle.pa_record.proofs.Lawful.{return_keeps}
 use Rattle.pa_record.proofs.Leaving.{once_or_not}
 use Rattle.pa_rules.proofs.Counted.{times_cons}
-use Rattle.pa_rules.proofs.Flowing.{not_once}
 use Rattle.pa_rules.proofs.Totals.{some_times}
 use Rattle.pa_deeds.specs.Ops.{AreOut, PartsAreOut, all_of}
+use Rattle.pa_lists.proofs.Elements.{all_front, all_from_members}
 
 -- ---- slots that differ, by how often each stands in the list
 
@@ -48,16 +47,6 @@ once_differ (x ∷ xs) few =
     omega arith)
     (once_differ xs (λ s. let a = times_cons s x xs in let b = few s in omega arith))
 
-pub times_member : (s : SlotName) (xs : List SlotName) → 1 ≤ times s xs → Contains xs s
-times_member s [] some = absurd (omega arith)
-times_member s (x ∷ xs) some = elim (same_slot_cases s x) [
-  | inl e ↦ subst (λ z. Contains (x ∷ xs) z) (sym e) (first_in x xs)
-  | inr other ↦
-      let a = times_cons s x xs in
-      let b = not_once s x other in
-      later_in x s xs (times_member s xs (omega arith))
-]
-
 -- ---- parts
 
 pub names_append : (xs ys : List Numbered) → names (xs ++ ys) ≡ names xs ++ names ys
@@ -66,10 +55,6 @@ names_append xs ys = map-append (λ (n : Numbered). n.slot) xs ys
 parts_out : (r : Root) (xs ys : List Numbered) → AreOut r (xs ++ ys) → All (IsOut r) (names xs ++ names ys) × AllPairs ◌≢◌ (names xs ++ names ys)
 parts_out r xs ys h = (subst (λ z. All (IsOut r) z) (names_append xs ys) h.0, subst (λ z. AllPairs ◌≢◌ z) (names_append xs ys) h.1)
 
-All-left : {A : Type 0} (P : A → Type 0) (xs ys : List A) → All P (xs ++ ys) → All P xs
-All-left P [] ys h = λ k d low. absurd (omega arith)
-All-left P (x ∷ xs) ys h = All-cons P x xs (All-head P x (xs ++ ys) h) (All-left P xs ys (All-tail P x (xs ++ ys) h))
-
 All-right : {A : Type 0} (P : A → Type 0) (xs ys : List A) → All P (xs ++ ys) → All P ys
 All-right P [] ys h = h
 All-right P (x ∷ xs) ys h = All-right P xs ys (All-tail P x (xs ++ ys) h)
@@ -77,7 +62,7 @@ All-right P (x ∷ xs) ys h = All-right P xs ys (All-tail P x (xs ++ ys) h)
 front : (r : Root) (xs ys : List Numbered) → AreOut r (xs ++ ys) → AreOut r xs
 front r xs ys h =
     let (out, differ) = parts_out r xs ys h in (
-      All-left (IsOut r) (names xs) (names ys) out,
+      all_front (IsOut r) (names xs) (names ys) out,
       once_differ (names xs) (λ s. let a = times_append s (names xs) (names ys) in let b = differ_once s (names xs ++ names ys) differ in omega arith),
     )
 
@@ -88,10 +73,6 @@ behind r xs ys h =
       once_differ (names ys) (λ s. let a = times_append s (names xs) (names ys) in let b = differ_once s (names xs ++ names ys) differ in omega arith),
     )
 
-pub All-members : {A : Type 0} (P : A → Type 0) (xs : List A) → ((x : A) → Contains xs x → P x) → All P xs
-All-members P [] h = λ k d low. absurd (omega arith)
-All-members P (x ∷ xs) h = All-cons P x xs (h x (first_in x xs)) (All-members P xs (λ y among. h y (later_in x y xs among)))
-
 -- what comes back leaves the others out
 rest : (r : Root) (xs ys : List Numbered) → IsSound r → AreOut r (xs ++ ys) → AreOut (all_returned (names xs) r) ys
 rest r xs ys sound h =
@@ -99,7 +80,7 @@ rest r xs ys sound h =
     let (first, once) = front r xs ys h in
     let (second, once') = behind r xs ys h in
     let back = return_keeps.returns r (names xs) sound first once in (
-      All-members (IsOut (all_returned (names xs) r)) (names ys) (λ s among. back.stays s
+      all_from_members (IsOut (all_returned (names xs) r)) (names ys) (λ s among. back.stays s
           (λ there.
           let a = some_times s (names xs) there in
           let b = some_times s (names ys) among in

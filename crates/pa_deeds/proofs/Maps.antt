@@ -13,8 +13,8 @@ use Rattle.pa_record.specs.declared.root.RootAct.TheVariants.{Map, Full}
 use Rattle.pa_record.specs.Pool.{PoolState, took, IsLowest}
 use Rattle.pa_record.specs.Spans.{name_of}
 use Rattle.pa_record.specs.Root.{Root, Filled, map_title, mapped, RootActFits}
-use Rattle.pa_record.proofs.Members.{of_some}
-use Rattle.pa_record.proofs.PoolSteps.{slice_get_at, pool_grows}
+use Rattle.pa_lists.proofs.Members.{of_some}
+use Rattle.pa_record.proofs.PoolSteps.{pool_grows}
 use Rattle.pa_record.proofs.Calling.{calls_fit}
 use Rattle.pa_rules.specs.declared.played.Played.{Played}
 use Rattle.pa_rules.specs.Roots.{Journals, AsksForMap, MakesEntry}
@@ -28,8 +28,10 @@ use Rattle.pa_deeds.specs.Ops.{only_in, IsCalled, found_by, asked_for, MapIsDone
 use Rattle.pa_deeds.proofs.Numbering.{LeavesAt, never_moved}
 use Rattle.pa_deeds.proofs.Acting.{not_full_made}
 use Rattle.pa_deeds.proofs.First.{not_cons, page_super}
-use Rattle.pa_deeds.proofs.Single.{only_member, IsOneAct, one_called, next_low, entries_are, left_born, asks_once, not_done_made}
+use Rattle.pa_deeds.proofs.Single.{IsOneAct, one_called, next_low, entries_are, left_born, asks_once, not_done_made}
 use Rattle.pa_deeds.proofs.Calls.{full_called}
+use Rattle.pa_lists.proofs.Indexed.{slice_get_at}
+use Rattle.pa_lists.proofs.Elements.{in_one}
 
 module _ (supers partitions n p size usable asked : ℕ) (ps : List Played) (x : Played) (pools : List PoolEntry) (roots : Journals) (all : Caches) (seen : Seen) (t : Title)
     (h : IsPlacedTo partitions n ps pools roots all) (line : x.line ≡ n) (made : x.answer ≡ answers.Made seen usable) (asks : AsksForMap x.op p size) (below : p < partitions)
@@ -37,7 +39,7 @@ module _ (supers partitions n p size usable asked : ℕ) (ps : List Played) (x :
   -- its name is new: no entry of the journal let it out
   map_leaves : (s : SlotName) → asked ≡ length pools → seen.slot.born ≡ asked → LeavesAt (roots p) (Map asked seen.slot (shape_of size).slot) s
   map_leaves s at born m line k among way slot there =
-      let e : record { line = line; slot = seen.slot; number = 0; way = Out } ≡ m = only_member _ m among in
+      let e : record { line = line; slot = seen.slot; number = 0; way = Out } ≡ m = in_one _ m among in
       let same : seen.slot ≡ s = ap (λ (z : Move). z.slot) e ∙ slot in
       let none : moves_of (roots p) seen.slot ≡ [] =
       never_moved pools (roots p) seen.slot (h.journals p) (λ f member leaves. let low = left_born supers partitions n ps pools roots all h p f seen.slot member leaves in omega arith) in

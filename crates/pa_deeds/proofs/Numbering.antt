@@ -9,24 +9,24 @@ use Rattle.pa_machine.proofs.Runs.{same_slot_eq}
 use Rattle.pa_record.specs.declared.pool.PoolEntry.{PoolEntry}
 use Rattle.pa_record.specs.declared.root.RootEntry.{RootEntry}
 use Rattle.pa_record.specs.declared.root.RootAct.{RootAct}
-use Rattle.pa_record.specs.declared.root.RootAct.TheVariants.{Fill, Map, Full, Give, Unmap, Purge}
 use Rattle.pa_record.specs.Root.{new_root, root_next, root_replayed, IsJournal}
 use Rattle.pa_record.specs.Sound.{least_after_all}
-use Rattle.pa_record.specs.Laws.{leaves_by, comes_by, times, times_left, times_back}
-use Rattle.pa_record.proofs.Members.{not_in_none, first_in, later_in, in_cases}
-use Rattle.pa_record.proofs.Joined.{filter_cases}
+use Rattle.pa_record.specs.Laws.{leaves_by, times, times_left, times_back}
+use Rattle.pa_lists.proofs.Members.{not_in_none, first_in, later_in, in_cases}
+use Rattle.pa_lists.proofs.Joined.{filter_cases}
 use Rattle.pa_record.proofs.Leaving.{out_is_left}
 use Rattle.pa_record.proofs.Lawful.{journal_grows}
 use Rattle.pa_rules.proofs.Counted.{times_cons}
 use Rattle.pa_rules.proofs.Flowing.{not_once}
 use Rattle.pa_rules.specs.Holders.{Way, Out, Back, Move, moves_by}
 use Rattle.pa_legal.specs.Turns.{is_out}
-use Rattle.pa_legal.specs.Numbers.{is_of, moves_of, HasAt, at_after, at_end, IsNumbered}
+use Rattle.pa_legal.specs.Numbers.{is_of, moves_of, HasAt, at_end, IsNumbered}
 use Rattle.pa_legal.proofs.flow.Counts.{is_back}
 use Rattle.pa_legal.proofs.Standing.{counted, had, walk, acts_out, acts_back, journal_out, journal_back, none_had}
 use Rattle.pa_deeds.specs.Deeds.{entries_at, ActsFit}
 use Rattle.pa_deeds.proofs.Growing.{least_push}
-use Rattle.pa_deeds.proofs.Extending.{moves_append, numbered_append}
+use Rattle.pa_legal.proofs.Growing.{moves_append, numbered_append, none_counted, at_end_append}
+use Rattle.pa_legal.proofs.Converse.{left_snoc, back_snoc, act_way}
 
 -- ---- one entry
 
@@ -58,22 +58,6 @@ move_counted w m (n ∷ ms) among is =
           omega arith
       | inr later ↦ let ih = move_counted w m ms later is in omega arith
     ]
-
-left_push : (s : SlotName) (es : List RootEntry) (e : RootEntry) → times_left s (es ++ e ∷ []) ≡ times_left s es + times s (leaves_by e.act)
-left_push s [] e = omega arith
-left_push s (x ∷ es) e = let ih = left_push s es e in omega arith
-
-back_push : (s : SlotName) (es : List RootEntry) (e : RootEntry) → times_back s (es ++ e ∷ []) ≡ times_back s es + times s (comes_by e.act)
-back_push s [] e = omega arith
-back_push s (x ∷ es) e = let ih = back_push s es e in omega arith
-
-one_way : (s : SlotName) (act : RootAct) → (times s (leaves_by act) ≡ 0) ⊎ (times s (comes_by act) ≡ 0)
-one_way s (Fill class asked slots) = inr refl
-one_way s (Map asked slot len) = inr refl
-one_way s (Full class asked) = inr refl
-one_way s (Give slots) = inl refl
-one_way s (Unmap asked slot) = inl refl
-one_way s Purge = inr refl
 
 -- the slot left a journal as often as it came back, or once more
 pub left_or_back : (pools : List PoolEntry) (journal : List RootEntry) (s : SlotName) → IsJournal pools journal → (times_back s journal ≤ times_left s journal) × (times_left s journal ≤ times_back s journal + 1)
@@ -112,11 +96,11 @@ one_numbered pools journal e s h h' numbered leaves =
     few =
         let a = acts_out e.line s e.act in
         let b = acts_back e.line s e.act in
-        let c = left_push s journal e in
-        let d = back_push s journal e in
+        let c = left_snoc s journal e in
+        let d = back_snoc s journal e in
         let (low, high) = left_or_back pools journal s h in
         let (low', high') = left_or_back pools (journal ++ e ∷ []) s h' in
-        elim (one_way s e.act) [ inl none ↦ omega arith | inr none ↦ omega arith ]
+        elim (act_way s e.act) [ inl none ↦ omega arith | inr none ↦ omega arith ]
 
     each : (m : Move) → Contains (filter (is_of s) (moves_by e.line e.act)) m → HasAt (at_end (Some 0) (moves_of journal s)) m.way m.number
     each m among =
@@ -128,34 +112,26 @@ one_numbered pools journal e s h h' numbered leaves =
         by_way m Out way among member slot =
             let some = move_counted is_out m (filter (is_of s) (moves_by e.line e.act)) among (ap is_out way) in
             let a = acts_out e.line s e.act in
-            let b = left_push s journal e in
-            let c = back_push s journal e in
+            let b = left_snoc s journal e in
+            let c = back_snoc s journal e in
             let (low, high) = left_or_back pools journal s h in
             let (low', high') = left_or_back pools (journal ++ e ∷ []) s h' in
             let w = weighed in
-            let one : had (at_end (Some 0) (moves_of journal s)) ≡ 1 = elim (one_way s e.act) [ inl none ↦ omega arith | inr none ↦ omega arith ] in
+            let one : had (at_end (Some 0) (moves_of journal s)) ≡ 1 = elim (act_way s e.act) [ inl none ↦ omega arith | inr none ↦ omega arith ] in
             let (k, is) = had_some (at_end (Some 0) (moves_of journal s)) one in
             is ∙ ap Some (sym (leaves m e.line k member way slot is))
         by_way m Back way among member slot =
             let some = move_counted is_back m (filter (is_of s) (moves_by e.line e.act)) among (ap is_back way) in
             let a = acts_back e.line s e.act in
-            let b = left_push s journal e in
-            let c = back_push s journal e in
+            let b = left_snoc s journal e in
+            let c = back_snoc s journal e in
             let (low, high) = left_or_back pools journal s h in
             let (low', high') = left_or_back pools (journal ++ e ∷ []) s h' in
             let w = weighed in
-            let none : had (at_end (Some 0) (moves_of journal s)) ≡ 0 = elim (one_way s e.act) [ inl none ↦ omega arith | inr none ↦ omega arith ] in
+            let none : had (at_end (Some 0) (moves_of journal s)) ≡ 0 = elim (act_way s e.act) [ inl none ↦ omega arith | inr none ↦ omega arith ] in
             none_had (at_end (Some 0) (moves_of journal s)) none
 
 -- ---- a slot that never left
-
-no_moves : (ms : List Move) → counted is_out ms ≡ 0 → counted is_back ms ≡ 0 → ms ≡ []
-no_moves [] none none' = refl
-no_moves (m ∷ ms) none none' = absurd (by_way m.way refl)
-  where
-    by_way : (w : Way) → m.way ≡ w → ⊥
-    by_way Out way = let some = move_counted is_out m (m ∷ ms) (first_in m ms) (ap is_out way) in omega arith
-    by_way Back way = let some = move_counted is_back m (m ∷ ms) (first_in m ms) (ap is_back way) in omega arith
 
 times_none : (s : SlotName) (ss : List SlotName) → (Contains ss s → ⊥) → times s ss ≡ 0
 times_none s [] none = refl
@@ -179,13 +155,9 @@ never_moved pools journal s h none =
     let (low, high) = left_or_back pools journal s h in
     let a = journal_out s journal in
     let b = journal_back s journal in
-    no_moves (moves_of journal s) (omega arith) (omega arith)
+    none_counted (moves_of journal s) (omega arith) (omega arith)
 
 -- ---- the acts of a line
-
-at_end_append : (at : Option ℕ) (ms ns : List Move) → at_end at (ms ++ ns) ≡ at_end (at_end at ms) ns
-at_end_append at [] ns = refl
-at_end_append at (m ∷ ms) ns = at_end_append (at_after m.way m.number) ms ns
 
 -- nothing leaves by these acts
 abbrev pub NothingLeaves : List RootAct → Type 0

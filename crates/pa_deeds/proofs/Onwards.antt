@@ -8,7 +8,7 @@ use Rattle.pa_record.specs.declared.pool.PoolEntry.{PoolEntry}
 use Rattle.pa_record.specs.declared.report.Tally.{Tally}
 use Rattle.pa_record.specs.Census.{census}
 use Rattle.pa_record.specs.Root.{new_root, root_replayed}
-use Rattle.pa_record.proofs.Members.{not_in_none, first_in, later_in}
+use Rattle.pa_lists.proofs.Members.{not_in_none, first_in, later_in}
 use Rattle.pa_record.proofs.Lawful.{journal_grows}
 use Rattle.pa_rules.specs.declared.played.Played.{Played}
 use Rattle.pa_rules.specs.Roots.{Journals}
@@ -18,7 +18,7 @@ use Rattle.pa_deeds.specs.Deeds.{Acts, entries_at, grown, root_at, IsPlacedTo}
 use Rattle.pa_deeds.specs.Onward.{GoesOn, RunGoesOn, CachesStay, PhaseEnds}
 use Rattle.pa_deeds.proofs.Growing.{acts_at, acts_append, acts_none, entry_at}
 use Rattle.pa_deeds.proofs.Rows.{Stays, caches_stay as rows_stay}
-use Rattle.pa_deeds.proofs.Lists.{All-members}
+use Rattle.pa_lists.proofs.Elements.{all_from_members}
 
 -- ---- it goes on
 
@@ -98,10 +98,10 @@ module _ (partitions n m phase : ℕ) (ps later : List Played) (pools more : Lis
   entries_until p = record {
     rest = g.journals p;
     parts = g.grown p;
-    in_phases = All-members (InPhases later phase) (roots p) (λ e among.
+    in_phases = all_from_members (InPhases later phase) (roots p) (λ e among.
         let (x, of, makes) = h.lines p e among in
         (x, (subst (λ zs. Contains zs x) (sym g.played) (Contains-append_left ps g.records x of.0), of.1), low x of.0));
-    past_phases = All-members (PastPhases later phase) (g.journals p) (λ e among.
+    past_phases = all_from_members (PastPhases later phase) (g.journals p) (λ e among.
         let (x, of, makes) = k.lines p e (subst (λ zs. Contains zs e) (sym (g.grown p)) (Contains-append_right (roots p) (g.journals p) e among)) in
         let after = g.below p e among in
         let line = of.1 in

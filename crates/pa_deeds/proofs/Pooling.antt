@@ -1,6 +1,6 @@
 -- The pool with a line's entry more.
 use Rattle.std.proofs.Common.{◌≡◌, ℕ, zero, suc, ◌+◌, ◌<◌, List, [], ◌∷◌, ◌++◌, length, Option, Some, None, refl, sym, ◌∙◌, ap, subst, arith, ◌⊎◌, inl, inr, length-append}
-use Rattle.std.specs.Prelude.{Contains, slice_get}
+use Rattle.std.specs.Prelude.{slice_get}
 use Rattle.std.proofs.lemmas.Bool.{cases_eq}
 use Rattle.std.proofs.lemmas.List.{append-nil}
 use Rattle.std.proofs.lemmas.List.Elements.{Contains-push_cases}
@@ -8,18 +8,14 @@ use Rattle.pa_record.specs.declared.pool.PoolEntry.{PoolEntry}
 use Rattle.pa_record.specs.declared.root.RootEntry.{RootEntry}
 use Rattle.pa_record.specs.declared.root.RootAct.{RootAct}
 use Rattle.pa_record.specs.Root.{asked_by}
-use Rattle.pa_record.proofs.Members.{not_some, of_some, first_in, later_in}
-use Rattle.pa_record.proofs.PoolSteps.{slice_get_more, slice_get_at, pool_grows}
+use Rattle.pa_lists.proofs.Members.{not_some, of_some}
+use Rattle.pa_record.proofs.PoolSteps.{slice_get_more, pool_grows}
 use Rattle.pa_rules.specs.Roots.{Journals, IsEntry, Names}
 use Rattle.pa_deeds.specs.Deeds.{Acts, entries_at, grown}
 use Rattle.pa_deeds.specs.Pooled.{IsPooledTo, AsksNone, AsksOnce}
 use Rattle.pa_deeds.specs.Laws.{PoolExtends}
 use Rattle.pa_deeds.proofs.Growing.{sorted_push}
-
-pub get_in : {A : Type 0} (xs : List A) (i : ℕ) (x : A) → slice_get xs i ≡ Some x → Contains xs x
-get_in [] i x e = absurd (not_some x e)
-get_in (y ∷ ys) zero x e = subst (λ z. Contains (y ∷ ys) z) (of_some y x e) (first_in y ys)
-get_in (y ∷ ys) (suc i) x e = later_in y x ys (get_in ys i x e)
+use Rattle.pa_lists.proofs.Indexed.{at_in, slice_get_at}
 
 -- an element of two lists is one of the first, or stands behind it
 pub get_cases : {A : Type 0} (xs ys : List A) (i : ℕ) (x : A) → slice_get (xs ++ ys) i ≡ Some x → (slice_get xs i ≡ Some x) ⊎ ((k : ℕ) × (i ≡ length xs + k) × (slice_get ys k ≡ Some x))
@@ -52,7 +48,7 @@ module _ (supers n : ℕ) (pools : List PoolEntry) (roots : Journals) (acts : Ac
   names_old : (p i j : ℕ) → Names (grown roots n acts) p i j → Names roots p i j
   names_old p i j names = elim (names_cases roots n acts p i j names) [
     | inl old ↦ old
-    | inr (k, a, at, is, asked) ↦ absurd (none_named (asked_by a) j (asks p a (get_in (acts p) k a is)) asked)
+    | inr (k, a, at, is, asked) ↦ absurd (none_named (asked_by a) j (asks p a (at_in (acts p) k a is)) asked)
   ]
 
   same_pool : IsPooledTo supers (n + 1) pools (grown roots n acts)

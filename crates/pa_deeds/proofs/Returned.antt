@@ -22,8 +22,8 @@ use Rattle.pa_record.specs.declared.root.RootAct.TheVariants.{Unmap, Purge}
 use Rattle.pa_record.specs.Root.{Root, names, all_returned, purged, IsOut, asked_by}
 use Rattle.pa_record.specs.Sound.{least_after_all}
 use Rattle.pa_record.specs.Laws.{times}
-use Rattle.pa_record.proofs.Members.{not_in_none, not_some, of_some}
-use Rattle.pa_record.proofs.Pairs.{pairs_cons}
+use Rattle.pa_lists.proofs.Members.{not_in_none, not_some, of_some}
+use Rattle.pa_lists.proofs.Pairs.{pairs_cons}
 use Rattle.pa_record.proofs.Lawful.{journal_leaves}
 use Rattle.pa_rules.specs.declared.played.Played.{Played}
 use Rattle.pa_rules.specs.Played.{step_of}
@@ -46,18 +46,15 @@ use Rattle.pa_deeds.proofs.Listed.{returned_out, lists_are_out}
 
 -- ---- the ops that free
 
-not_none : {A : Type 0} (x : A) → None ≡ Some x → ⊥
-not_none x e = not_some x e
-
 pub frees_by : (op : Op) (step : Step) (w : ℕ) → step_of op ≡ Some step → IsReturning step w → IsFreeing op
-frees_by (ops.Alloc reg partition size) step w is returning = absurd (not_none step is)
+frees_by (ops.Alloc reg partition size) step w is returning = absurd (not_some step is)
 frees_by (ops.Copy from to) step w is returning = absurd (subst (λ z. IsReturning z w) (sym (of_some steps.Copy step is)) returning)
 frees_by (ops.Reset reg) step w is returning = inr (reg, refl)
 frees_by (ops.Free reg) step w is returning = inl (reg, refl)
 frees_by (ops.Write reg value) step w is returning = absurd (subst (λ z. IsReturning z w) (sym (of_some steps.Write step is)) returning)
-frees_by (ops.Read reg place) step w is returning = absurd (not_none step is)
-frees_by (ops.Swap cell reg) step w is returning = absurd (not_none step is)
-frees_by ops.Purge step w is returning = absurd (not_none step is)
+frees_by (ops.Read reg place) step w is returning = absurd (not_some step is)
+frees_by (ops.Swap cell reg) step w is returning = absurd (not_some step is)
+frees_by ops.Purge step w is returning = absurd (not_some step is)
 
 give_makes : (pools : List PoolEntry) (p : ℕ) (op : Op) (a : RootAct) → IsFreeing op ⊎ (op ≡ ops.Purge) → IsGive a → MakesEntry pools p a op
 give_makes pools p op a frees (slots, is) = subst (λ z. MakesEntry pools p z op) (sym is) frees

@@ -1,16 +1,16 @@
 -- A run that an entry of the pool took is taken until another gives it.
-use Rattle.std.proofs.Common.{◌≡◌, ℕ, zero, suc, ◌+◌, List, [], ◌∷◌, ◌++◌, length, Option, Some, None, refl, sym, ◌∙◌, ap, subst, arith, ◌⊎◌, inl, inr, append_assoc, length-append}
-use Rattle.std.specs.Prelude.{Contains, slice_get, option_map, ◌==◌}
-use Rattle.std.proofs.lemmas.Bool.{cases_Bool, cases_eq, ne_eqb}
+use Rattle.std.proofs.Common.{◌≡◌, ℕ, zero, suc, ◌+◌, List, [], ◌∷◌, ◌++◌, length, Some, None, refl, sym, ◌∙◌, ap, subst, arith, ◌⊎◌, inl, inr, append_assoc, length-append}
+use Rattle.std.specs.Prelude.{Contains, slice_get, ◌==◌}
+use Rattle.std.proofs.lemmas.Bool.{cases_eq}
 use Rattle.std.proofs.lemmas.List.{append-nil}
 use Rattle.std.proofs.lemmas.List.Elements.{Contains-append_left, Contains-push}
 use Rattle.pa_record.specs.declared.taken.Taken.{Taken}
 use Rattle.pa_record.specs.declared.pool.PoolEntry.{PoolEntry}
 use Rattle.pa_record.specs.declared.pool.PoolAct.{PoolAct}
 use Rattle.pa_record.specs.declared.pool.PoolAct.TheVariants as pool
-use Rattle.pa_record.specs.Pool.{PoolState, IsPartitions, PoolActFits, PoolReplays, IsPool, pool_next, without_run, FoundRun}
-use Rattle.pa_record.proofs.Members.{not_in_none, not_some, of_some, first_in, later_in, in_cases}
-use Rattle.pa_record.proofs.PoolSteps.{pool_grows, pool_is_sound}
+use Rattle.pa_record.specs.Pool.{PoolState, IsPartitions, PoolActFits, PoolReplays, IsPool, pool_next, FoundRun}
+use Rattle.pa_lists.proofs.Members.{not_some, of_some}
+use Rattle.pa_record.proofs.PoolSteps.{pool_grows, pool_is_sound, without_keeps, act_of}
 use Rattle.pa_deeds.specs.Pooled.{pool_at}
 use Rattle.pa_deeds.proofs.Pooling.{get_cases}
 
@@ -23,7 +23,7 @@ pub record Moment (supers : ℕ) (pools : List PoolEntry) (k : ℕ) (e : PoolEnt
   pub fits : IsPool supers before
   pub acts : PoolActFits before e.partition e.act (pool_at supers before)
 
-fits_before : (supers : ℕ) (before es : List PoolEntry) (partition : ℕ) (act : PoolAct) → IsPool supers before → PoolActFits (before ++ es) partition act (pool_at supers before) →
+pub fits_before : (supers : ℕ) (before es : List PoolEntry) (partition : ℕ) (act : PoolAct) → IsPool supers before → PoolActFits (before ++ es) partition act (pool_at supers before) →
     PoolActFits before partition act (pool_at supers before)
 fits_before supers before es partition (pool.Take count found) h fits = fits
 fits_before supers before es partition (pool.Give count first) h (t, one, (e, there, same)) =
@@ -96,18 +96,6 @@ one_first supers pools t u h among among' same =
     let some' = sound.some u among' in
     sound.owned t u t.first among among' (omega arith, omega arith) (omega arith, omega arith)
 
-without_keeps : (first : ℕ) (ts : List Taken) (u : Taken) → Contains ts u → (u.first ≡ first → ⊥) → Contains (without_run first ts) u
-without_keeps first [] u among other = absurd (not_in_none u among)
-without_keeps first (t ∷ ts) u among other = elim (in_cases t u ts among) [
-  | inl e ↦
-      let miss = ne_eqb t.first first (λ hit. other (ap (λ (z : Taken). z.first) (sym e) ∙ hit)) in
-      rw miss (subst (λ z. Contains (t ∷ without_run first ts) z) e (first_in t (without_run first ts)))
-  | inr rest ↦ elim (cases_Bool (t.first == first)) [
-    | inl hit ↦ rw hit rest
-    | inr miss ↦ rw miss (later_in t u (without_run first ts) (without_keeps first ts u rest other))
-  ]
-]
-
 -- a run stays, or the entry gives what begins there
 keeps : (act : PoolAct) (s : PoolState) (u : Taken) → Contains s.taken u → Contains (pool_next act s).taken u ⊎ ((count first : ℕ) × (act ≡ pool.Give count first) × (u.first ≡ first))
 keeps (pool.Take count None) s u among = inl among
@@ -143,13 +131,9 @@ walk supers pools before (e ∷ es) u parts h fits among =
           inr (length before, e, before, es, record { when = m; there = among; act = act; owner = owner })
     ]
 
-pub entry_of : (o : Option PoolEntry) (a : PoolAct) → option_map (λ (e : PoolEntry). e.act) o ≡ Some a → (e : PoolEntry) × (o ≡ Some e) × (e.act ≡ a)
-entry_of None a is = absurd (not_some a is)
-entry_of (Some e) a is = (e, refl, of_some e.act a is)
-
 pub taken_or_given : (supers : ℕ) (pools : List PoolEntry) (j count first : ℕ) → IsPool supers pools → FoundRun pools j count first → IsTakenOrGiven supers pools (run_of j first count)
 taken_or_given supers pools j count first h found =
-    let (e, at, act) = entry_of (slice_get pools j) (pool.Take count (Some first)) found in
+    let (e, at, act) = act_of (slice_get pools j) (pool.Take count (Some first)) found in
     let (front, behind, m) = moment supers pools j e h at in
     let next : pool_at supers (front ++ e ∷ []) ≡ pool_next (pool.Take count (Some first)) (pool_at supers front) = pool_grows.next supers front e ∙ ap (λ a. pool_next a (pool_at supers front)) act in
     let entry : (pool_at supers front).entries ≡ j = pool_is_sound.counted supers front ∙ m.when.place in

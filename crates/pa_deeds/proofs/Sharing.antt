@@ -11,11 +11,11 @@ use Rattle.pa_record.specs.declared.pool.PoolAct.TheVariants as pool
 use Rattle.pa_record.specs.declared.root.RootEntry.{RootEntry}
 use Rattle.pa_record.specs.Root.{Root, new_root, root_next, root_replayed, RootReplays, RiseFrom, IsJournal, asked_by, all_asked, map_title, IsTitleOut}
 use Rattle.pa_record.specs.Sound.{IsSound, IsSettled, IsBornBelow, IsMade, TitlesApart, least_after, least_after_all}
-use Rattle.pa_record.proofs.Members.{not_in_none, of_some, in_cases}
-use Rattle.pa_record.proofs.Pairs.{pairs_head, pairs_tail}
-use Rattle.pa_record.proofs.PoolSteps.{pool_is_sound, slice_get_more, slice_get_at}
+use Rattle.pa_lists.proofs.Members.{not_in_none, of_some, in_cases}
+use Rattle.pa_lists.proofs.Pairs.{pairs_head, pairs_tail}
+use Rattle.pa_record.proofs.PoolSteps.{pool_is_sound, slice_get_more, act_of}
 use Rattle.pa_record.proofs.Stepping.{next_is}
-use Rattle.pa_record.proofs.Titles.{rise_parts, made_apart, made_born}
+use Rattle.pa_record.proofs.Titles.{rise_parts, made_apart, made_born, least_more}
 use Rattle.pa_record.proofs.Owned.{roots_are_taken}
 use Rattle.pa_record.proofs.Lawful.{journal_leaves}
 use Rattle.pa_record.proofs.Asked.{titles_are_asked}
@@ -23,20 +23,18 @@ use Rattle.pa_rules.specs.Roots.{Journals}
 use Rattle.pa_deeds.specs.Deeds.{root_at}
 use Rattle.pa_deeds.specs.Pooled.{pool_at}
 use Rattle.pa_deeds.specs.Shared.{SharePool, IsThere, AreOneOrApart, TitlesShareNoByte}
-use Rattle.pa_deeds.proofs.Runs.{WasGiven, run_of, one_first, taken_or_given, entry_of}
-use Rattle.pa_deeds.proofs.Unmapping.{least_one, owner_is, unmap_of, live, map_run, of_placed}
+use Rattle.pa_deeds.proofs.Runs.{WasGiven, run_of, one_first, taken_or_given}
+use Rattle.pa_deeds.proofs.Unmapping.{owner_is, unmap_of, live, map_run, of_placed}
+use Rattle.pa_lists.proofs.Indexed.{slice_get_at}
+use Rattle.pa_record.proofs.Replaying.{replays_rest}
 
 -- ---- the super pages of a root, entry by entry
 
-root_parts : (pools : List PoolEntry) (xs ys : List RootEntry) (r : Root) → root_replayed pools (xs ++ ys) r ≡ root_replayed pools ys (root_replayed pools xs r)
+pub root_parts : (pools : List PoolEntry) (xs ys : List RootEntry) (r : Root) → root_replayed pools (xs ++ ys) r ≡ root_replayed pools ys (root_replayed pools xs r)
 root_parts pools [] ys r = refl
 root_parts pools (x ∷ xs) ys r = root_parts pools xs ys (root_next pools x.act r)
 
-replays_rest : (pools : List PoolEntry) (xs ys : List RootEntry) (r : Root) → RootReplays pools (xs ++ ys) r → RootReplays pools ys (root_replayed pools xs r)
-replays_rest pools [] ys r h = h
-replays_rest pools (x ∷ xs) ys r h = replays_rest pools xs ys (root_next pools x.act r) h.1
-
-rise_rest : (least : ℕ) (xs ys : List RootEntry) → RiseFrom least (all_asked (xs ++ ys)) → RiseFrom (least_after_all least xs) (all_asked ys)
+pub rise_rest : (least : ℕ) (xs ys : List RootEntry) → RiseFrom least (all_asked (xs ++ ys)) → RiseFrom (least_after_all least xs) (all_asked ys)
 rise_rest least [] ys h = h
 rise_rest least (x ∷ xs) ys h = rise_rest (least_after least (asked_by x.act)) xs ys (rise_parts least (asked_by x.act) (all_asked (xs ++ ys)) h).1
 
@@ -49,7 +47,7 @@ later_supers pools (e ∷ es) n r at sound few old fits rise member =
     let next = next_is pools e.act n r sound few old asks fits.0 in
     elim (later_supers pools es (least_after n (asked_by e.act)) (root_next pools e.act r) at next.sound next.settled next.born fits.1 rest member) [
       | inl there ↦ next.supers at there
-      | inr later ↦ let up = least_one n (asked_by e.act) asks in inr (omega arith)
+      | inr later ↦ let up = least_more n (asked_by e.act) asks in inr (omega arith)
     ]
 
 -- ---- two titles of one root
@@ -120,7 +118,7 @@ module _ (supers : ℕ) (pools : List PoolEntry) (roots : Journals) (h : SharePo
       let left = journal_leaves pools (roots p) journal in
       let (first, found, low, high) = roots_are_taken.own pools (root_at pools roots p) t left.sound (roots_are_taken.journal pools (roots p) journal) made in
       let (i, f, there, asked) = titles_are_asked pools (roots p) t journal (inl made) in
-      let (d, at, act) = entry_of (slice_get pools t.born) (pool.Take 1 (Some first)) found in
+      let (d, at, act) = act_of (slice_get pools t.born) (pool.Take 1 (Some first)) found in
       let own = owner_is supers pools roots h t.born p i d at (f, there, asked) in
       elim (taken_or_given supers pools t.born 1 first h.fits found) [
         | inl taken ↦ (first, 1, record { taken = taken; from = omega arith; to = omega arith; entry = d; at = at; own = own })

@@ -1,5 +1,5 @@
 -- The deed of a line with one act, which names the pool's next entry or none.
-use Rattle.std.proofs.Common.{◌≡◌, ℕ, ◌<◌, ◌≤◌, List, [], ◌∷◌, ◌++◌, length, Some, refl, sym, ◌∙◌, ap, subst, arith, inl, inr}
+use Rattle.std.proofs.Common.{◌≡◌, ℕ, ◌<◌, ◌≤◌, List, [], ◌∷◌, ◌++◌, length, Some, refl, sym, ◌∙◌, ap, subst, arith}
 use Rattle.std.specs.Prelude.{Contains, slice_get}
 use Rattle.std.proofs.lemmas.Option.{slice_get_within}
 use Rattle.pa_machine.specs.declared.word.SlotName.{SlotName}
@@ -15,8 +15,7 @@ use Rattle.pa_record.specs.Pool.{PoolState, PoolActFits}
 use Rattle.pa_record.specs.Root.{Root, root_next, RootActFits, asked_by}
 use Rattle.pa_record.specs.Sound.{AsksFrom, least_after_all}
 use Rattle.pa_record.specs.Laws.{leaves_by}
-use Rattle.pa_record.proofs.Members.{not_in_none, in_cases}
-use Rattle.pa_record.proofs.PoolSteps.{slice_get_at, pool_is_sound}
+use Rattle.pa_record.proofs.PoolSteps.{pool_is_sound}
 use Rattle.pa_record.proofs.Lawful.{journal_grows}
 use Rattle.pa_record.proofs.Asked.{titles_are_asked}
 use Rattle.pa_record.proofs.Calling.{calls_fit}
@@ -31,9 +30,8 @@ use Rattle.pa_deeds.specs.Pooled.{pool_at, Asks}
 use Rattle.pa_deeds.specs.Ops.{only_in, IsCalled}
 use Rattle.pa_deeds.proofs.Numbering.{LeavesAt, one_numbered}
 use Rattle.pa_deeds.proofs.Acting.{only_here, only_else, acted_called}
-
-pub only_member : {A : Type 0} (a b : A) → Contains (a ∷ []) b → a ≡ b
-only_member a b among = elim (in_cases a b [] among) [ inl e ↦ e | inr none ↦ absurd (not_in_none b none) ]
+use Rattle.pa_lists.proofs.Indexed.{slice_get_at}
+use Rattle.pa_lists.proofs.Elements.{in_one}
 
 -- What a line owes of its one act.
 pub record IsOneAct (partitions n p : ℕ) (x : Played) (pools more : List PoolEntry) (roots : Journals) (act : RootAct) (cache next : Cache) : Type 0 where
@@ -62,7 +60,7 @@ module _ (supers partitions n p : ℕ) (ps : List Played) (x : Played) (pools mo
         line = a.line;
         below = a.below;
         fits = (a.fits, a.asks, tt);
-        makes = λ b among. subst (λ z. MakesEntry (pools ++ more) p z x.op) (only_member act b among) a.makes;
+        makes = λ b among. subst (λ z. MakesEntry (pools ++ more) p z x.op) (in_one act b among) a.makes;
         refusal = λ j reg q size full op.
             let (place, at, is) = a.refusal j reg q size full op in (
               record { line = n; act = act },

@@ -17,7 +17,7 @@ use Rattle.pa_record.specs.Pool.{gave}
 use Rattle.pa_record.specs.Spans.{name_of}
 use Rattle.pa_record.specs.Root.{new_root, root_replayed, map_title, unmapped, RootActFits}
 use Rattle.pa_record.specs.Sound.{IsMadeBy}
-use Rattle.pa_record.proofs.Members.{not_in_none}
+use Rattle.pa_lists.proofs.Members.{not_in_none}
 use Rattle.pa_record.proofs.PoolSteps.{pool_grows}
 use Rattle.pa_record.proofs.Owned.{roots_are_taken}
 use Rattle.pa_record.proofs.Titles.{made_born}
@@ -38,9 +38,11 @@ use Rattle.pa_deeds.proofs.Growing.{grown_cases, grown_old}
 use Rattle.pa_deeds.proofs.Numbering.{LeavesAt}
 use Rattle.pa_deeds.proofs.Acting.{by_place}
 use Rattle.pa_deeds.proofs.First.{page_super}
-use Rattle.pa_deeds.proofs.Single.{only_member, one_called, next_low, asks_once, not_full_done}
+use Rattle.pa_deeds.proofs.Single.{one_called, next_low, asks_once, not_full_done}
 use Rattle.pa_deeds.proofs.Returned.{frees_by, done_row}
-use Rattle.pa_deeds.proofs.Unmapping.{left_member, maps_are_taken}
+use Rattle.pa_deeds.proofs.Unmapping.{maps_are_taken}
+use Rattle.pa_lists.proofs.Elements.{in_one}
+use Rattle.pa_rules.proofs.FourPlaces.{left_member}
 
 one_seen : (a : Answer) (seen other : Seen) → a ≡ answers.Done seen → a ≡ answers.Done other → seen ≡ other
 one_seen a seen other e f = cc
@@ -79,7 +81,7 @@ module _ (supers partitions n p : ℕ) (ps : List Played) (x : Played) (pools : 
 
   unmap_leaves : (s : SlotName) → LeavesAt (roots p) (unmap_at (length pools) seen.slot (number_of seen.found.0 + 1)) s
   unmap_leaves s m at k among way slot there =
-      let e = only_member (move_of at Back (record { slot = seen.slot; number = number_of seen.found.0 + 1 })) m among in
+      let e = in_one (move_of at Back (record { slot = seen.slot; number = number_of seen.found.0 + 1 })) m among in
       absurd (out_not_back (ap (λ (z : Move). z.way) e ∙ way))
 
   unmaps_next : UnmapsNext (grown roots n (only_in p (unmap_at (length pools) seen.slot (number_of seen.found.0 + 1) ∷ []))) x
@@ -88,7 +90,7 @@ module _ (supers partitions n p : ℕ) (ps : List Played) (x : Played) (pools : 
     | inr new ↦
         let one : unmap_at (length pools) seen.slot (number_of seen.found.0 + 1) ≡ e.act =
         by_place (λ q bs. Contains bs e.act → unmap_at (length pools) seen.slot (number_of seen.found.0 + 1) ≡ e.act) p (unmap_at (length pools) seen.slot (number_of seen.found.0 + 1) ∷ [])
-        (only_member _ e.act) (λ q ne none. absurd (not_in_none e.act none)) q new.0 in
+        (in_one _ e.act) (λ q ne none. absurd (not_in_none e.act none)) q new.0 in
         let is = unmap_slot e.act (length pools) asked (record { slot = seen.slot; number = number_of seen.found.0 + 1 }) slot one act in
         sym (ap (λ (z : Numbered). z.number) is) ∙ ap (λ (z : Seen). number_of z.found.0 + 1) (one_seen x.answer seen other returns.answer done)
   ]

@@ -1,7 +1,6 @@
 -- The super pages of a direct map that is mapped are taken: who gave them would have unmapped it.
 use Rattle.std.proofs.Common.{◌≡◌, ℕ, zero, suc, ◌+◌, ◌<◌, ◌≤◌, List, [], ◌∷◌, ◌++◌, length, Option, Some, None, refl, sym, ◌∙◌, ap, subst, arith, inl, inr, append_assoc, length-append}
 use Rattle.std.specs.Prelude.{Contains, slice_get, option_map}
-use Rattle.std.proofs.lemmas.Bool.{cases_eq}
 use Rattle.std.proofs.lemmas.List.{append-nil}
 use Rattle.std.proofs.lemmas.List.Elements.{Contains-append_left, Contains-append_right, Contains-append_cases}
 use Rattle.pa_machine.specs.declared.title.Title.{Title}
@@ -20,11 +19,10 @@ use Rattle.pa_record.specs.Spans.{name_of}
 use Rattle.pa_record.specs.Root.{Root, new_root, root_next, root_replayed, RootReplays, RootActFits, RiseFrom, IsJournal, asked_by, all_asked, map_title}
 use Rattle.pa_record.specs.Sound.{AsksFrom, least_after, least_after_all}
 use Rattle.pa_record.specs.Laws.{leaves_by, comes_by, times, times_left, times_back, IsNameOut}
-use Rattle.pa_record.proofs.Members.{not_in_none, not_some, of_some, first_in, later_in, in_cases}
-use Rattle.pa_record.proofs.Joined.{map_cases, map_in}
-use Rattle.pa_record.proofs.Same.{same_slot}
-use Rattle.pa_record.proofs.Titles.{rise_parts}
-use Rattle.pa_record.proofs.PoolSteps.{slice_get_more, slice_get_at}
+use Rattle.pa_lists.proofs.Members.{not_in_none, not_some, of_some, first_in, in_cases}
+use Rattle.pa_lists.proofs.Joined.{map_cases, map_in}
+use Rattle.pa_record.proofs.Titles.{rise_parts, least_more}
+use Rattle.pa_record.proofs.PoolSteps.{slice_get_more, act_of}
 use Rattle.pa_record.proofs.Owned.{roots_are_taken}
 use Rattle.pa_record.proofs.Lawful.{journal_leaves}
 use Rattle.pa_record.proofs.Leaving.{out_is_left}
@@ -42,8 +40,10 @@ use Rattle.pa_deeds.specs.Ops.{MapsAreTaken}
 use Rattle.pa_deeds.specs.Shared.{SharePool}
 use Rattle.pa_deeds.proofs.Numbering.{none_left}
 use Rattle.pa_deeds.proofs.First.{page_super}
-use Rattle.pa_deeds.proofs.Lists.{times_member}
-use Rattle.pa_deeds.proofs.Runs.{Moment, WasGiven, run_of, one_first, taken_or_given, entry_of}
+use Rattle.pa_deeds.proofs.Runs.{Moment, WasGiven, run_of, one_first, taken_or_given}
+use Rattle.pa_lists.proofs.Indexed.{slice_get_at}
+use Rattle.pa_rules.proofs.FourPlaces.{left_member}
+use Rattle.pa_machine.proofs.Runs.{slot_parts}
 
 -- ---- parts of a journal
 
@@ -60,15 +60,11 @@ asks_at : (least : ℕ) (xs ys : List RootEntry) (f : RootEntry) → RiseFrom le
 asks_at least [] ys f h = (rise_parts least (asked_by f.act) (all_asked ys) h).0
 asks_at least (x ∷ xs) ys f h = asks_at (least_after least (asked_by x.act)) xs ys f (rise_parts least (asked_by x.act) (all_asked (xs ++ f ∷ ys)) h).1
 
-pub least_one : (least : ℕ) (o : Option ℕ) → AsksFrom least o → least ≤ least_after least o
-least_one least None h = omega arith
-least_one least (Some j) h = omega arith
-
-least_rises : (least : ℕ) (xs : List RootEntry) → RiseFrom least (all_asked xs) → least ≤ least_after_all least xs
+pub least_rises : (least : ℕ) (xs : List RootEntry) → RiseFrom least (all_asked xs) → least ≤ least_after_all least xs
 least_rises least [] h = omega arith
 least_rises least (x ∷ xs) h =
     let (asks, rest) = rise_parts least (asked_by x.act) (all_asked xs) h in
-    let a = least_one least (asked_by x.act) asks in
+    let a = least_more least (asked_by x.act) asks in
     let ih = least_rises (least_after least (asked_by x.act)) xs rest in
     omega arith
 
@@ -85,13 +81,6 @@ asked_low least k (x ∷ xs) e h among asked =
           omega arith
       | inr later ↦ asked_low (least_after least (asked_by x.act)) k xs e rest later asked
     ]
-
-pub left_member : (s : SlotName) (es : List RootEntry) → 1 ≤ times_left s es → (e : RootEntry) × Contains es e × Contains (leaves_by e.act) s
-left_member s [] some = absurd (omega arith)
-left_member s (e ∷ es) some = elim (cases_eq (times s (leaves_by e.act)) 0) [
-  | inl none ↦ let (f, member, leaves) = left_member s es (omega arith) in (f, later_in e f es member, leaves)
-  | inr more ↦ (e, first_in e es, times_member s (leaves_by e.act) (omega arith))
-]
 
 left_append : (s : SlotName) (xs ys : List RootEntry) → times_left s (xs ++ ys) ≡ times_left s xs + times_left s ys
 left_append s [] ys = omega arith
@@ -239,7 +228,7 @@ module _ (supers : ℕ) (pools : List PoolEntry) (roots : Journals) (h : SharePo
       ]
 
   same_name : (first : ℕ) (s t : SlotName) → s.start ≡ page_place first 1 → t.start ≡ page_place first 1 → s.born ≡ t.born → s ≡ t
-  same_name first s t a b born = same_slot s t (a ∙ sym b) born
+  same_name first s t a b born = slot_parts s t (a ∙ sym b) born
 
   -- the run of a map that goes back is there until then
   pub live : (fuel k first : ℕ) (e : PoolEntry) (before after : List PoolEntry) (slot : Numbered) (len : ℕ) (f : RootEntry) (xs ys : List RootEntry) → k < fuel → Moment supers pools k e before after →
@@ -282,7 +271,7 @@ module _ (supers : ℕ) (pools : List PoolEntry) (roots : Journals) (h : SharePo
   map_run p t member =
       let (first, found, start) = (roots_are_taken.journal pools (roots p) (h.journals p)).maps t member in
       let (i, names) = map_named p (roots p) [] t (sym (append-nil (roots p))) (h.journals p) member in
-      let (d, at, act) = entry_of (slice_get pools t.born) (pool.Take (supers_for t.len) (Some first)) found in
+      let (d, at, act) = act_of (slice_get pools t.born) (pool.Take (supers_for t.len) (Some first)) found in
       let owner = owner_is t.born p i d at names in
       elim (taken_or_given supers pools t.born (supers_for t.len) first h.fits found) [
         | inl there ↦ (first, start, there, (d, at, owner))

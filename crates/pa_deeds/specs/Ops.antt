@@ -6,6 +6,7 @@ use Rattle.pa_machine.specs.declared.word.Step.{Step}
 use Rattle.pa_machine.specs.Count.{number_of}
 use Rattle.pa_machine.specs.Run.{IsReturning}
 use Rattle.pa_layout.specs.Pages.{super_page_at, supers_for}
+use Rattle.pa_buckets.specs.Limits.{class_count}
 use Rattle.pa_buckets.specs.Bands.{fill_of}
 use Rattle.pa_direct.specs.Shapes.{shape_of}
 use Rattle.pa_trace.specs.declared.script.Op.{Op}
@@ -198,13 +199,13 @@ all_of lists class (suc n) = lists class ++ all_of lists (class + 1) n
 
 -- what a purge does in each of the first partitions
 abbrev pub purge_in : ℕ → Cache → Acts
-purge_in partitions cache q = if nat_lt q partitions then purge_acts (cache q) 0 59 else []
+purge_in partitions cache q = if nat_lt q partitions then purge_acts (cache q) 0 class_count else []
 
 -- What a thread's lists have is out of its roots, each slot once.
 abbrev pub ListsAreOut : Type 0
 ListsAreOut =
     (supers partitions n p t : ℕ) (ls : List Line) (ps : List Played) (pools : List PoolEntry) (roots : Journals) (all : Caches) →
-    IsSoFar supers partitions n ls ps pools roots all → AreOut (root_at pools roots p) (all_of (all t p) 0 59)
+    IsSoFar supers partitions n ls ps pools roots all → AreOut (root_at pools roots p) (all_of (all t p) 0 class_count)
 
 abbrev pub PurgeIsDone : Type 0
 PurgeIsDone =
@@ -214,7 +215,7 @@ PurgeIsDone =
     IsDone supers partitions n x pools [] roots (purge_in partitions (all x.thread)) (all x.thread) (λ p class. [])
     × ((p : ℕ) → p < partitions →
     root_at pools (grown roots n (purge_in partitions (all x.thread))) p ≡
-    purged (all_returned (names (all_of (all x.thread p) 0 59)) (root_at pools roots p)))
+    purged (all_returned (names (all_of (all x.thread p) 0 class_count)) (root_at pools roots p)))
 
 -- ---- parts of what is out
 

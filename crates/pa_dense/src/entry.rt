@@ -1,10 +1,9 @@
 ghost use Rattle.std.specs.Prelude.{◌≡◌, ◌≤◌, IfOk, length};
 ghost use Rattle.pa_dense.specs.Act.{act_of};
 
-use crate::act::{Act, ActWith};
 use crate::kept::Kept;
 use pa_machine::OutOfMemory;
-use pa_record::{Batch, Numbered, RootAct, RootEntry};
+use pa_record::{Act, ActWith, Batch, LentEntry, Numbered, RootAct, RootEntry};
 use std::alloc::Global;
 use std::marker::Model;
 
@@ -27,12 +26,12 @@ impl Model for DenseEntry {
 
 impl DenseEntry {
     // The entry, kept densely.
-    pub(crate) fn of(alloc: Global, entry: &RootEntry) -> Result<DenseEntry, OutOfMemory>
+    pub(crate) fn of(alloc: Global, entry: &LentEntry<'_>) -> Result<DenseEntry, OutOfMemory>
         ensures entry { IfOk result (λ dense. dense ≡ entry.now) }
     {
         Ok(DenseEntry {
-            line: entry.line,
-            did: did_of(alloc, &entry.act)?,
+            line: entry.line(),
+            did: did_of(alloc, entry.act())?,
         })
     }
 
@@ -85,32 +84,32 @@ impl DenseEntry {
 }
 
 // What the act did, with its slots in a list of their own.
-fn did_of(alloc: Global, act: &RootAct) -> Result<ActWith<Kept>, OutOfMemory>
-    ensures act { IfOk result (λ did. act_of did ≡ act.now) }
+fn did_of(alloc: Global, act: &Act<'_>) -> Result<ActWith<Kept>, OutOfMemory>
+    ensures act { IfOk result (λ did. act_of did ≡ act_of act.now) }
 {
     match act {
-        RootAct::Fill { class, pool, slots } => Ok(ActWith::Fill {
+        Act::Fill { class, pool, slots } => Ok(ActWith::Fill {
             class: *class,
             pool: *pool,
-            slots: Kept::of(alloc, slots.items())?,
+            slots: Kept::of(alloc, slots.lent().items())?,
         }),
-        RootAct::Map { pool, slot, len } => Ok(ActWith::Map {
+        Act::Map { pool, slot, len } => Ok(ActWith::Map {
             pool: *pool,
             slot: *slot,
             len: *len,
         }),
-        RootAct::Full { class, pool } => Ok(ActWith::Full {
+        Act::Full { class, pool } => Ok(ActWith::Full {
             class: *class,
             pool: *pool,
         }),
-        RootAct::Give { slots } => Ok(ActWith::Give {
-            slots: Kept::of(alloc, slots.items())?,
+        Act::Give { slots } => Ok(ActWith::Give {
+            slots: Kept::of(alloc, slots.lent().items())?,
         }),
-        RootAct::Unmap { pool, slot } => Ok(ActWith::Unmap {
+        Act::Unmap { pool, slot } => Ok(ActWith::Unmap {
             pool: *pool,
             slot: *slot,
         }),
-        RootAct::Purge => Ok(ActWith::Purge),
+        Act::Purge => Ok(ActWith::Purge),
     }
 }
 

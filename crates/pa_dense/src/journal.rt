@@ -2,7 +2,7 @@ ghost use Rattle.std.specs.Prelude.{◌≡◌, [], ◌∷◌, ◌++◌, IfOk, On
 
 use crate::entry::DenseEntry;
 use pa_machine::OutOfMemory;
-use pa_record::{Journal, RootEntry};
+use pa_record::{Journal, LentEntry};
 use std::alloc::Global;
 use std::marker::Model;
 
@@ -35,7 +35,7 @@ impl DenseJournal {
     }
 
     /// Puts the entry behind the others. After want of memory the journal is as before.
-    pub fn push(&mut self, entry: &RootEntry) -> Result<(), OutOfMemory>
+    pub fn push(&mut self, entry: &LentEntry<'_>) -> Result<(), OutOfMemory>
         ensures pushed { OnOk result (self.new ≡ self.old ++ entry.now ∷ []) }
         ensures same { OnErr result (self.new ≡ self.old) }
     {
@@ -50,7 +50,7 @@ impl DenseJournal {
     {
         let mut dense = DenseJournal::new(alloc);
         for entry in journal.entries() {
-            dense.push(entry)?;
+            dense.push(&entry.lent())?;
         }
         Ok(dense)
     }

@@ -1,8 +1,7 @@
 ghost use Rattle.std.specs.Prelude.{◌≡◌, ◌≤◌, IfOk, length};
 
-use crate::act::Slots;
 use pa_machine::OutOfMemory;
-use pa_record::Numbered;
+use pa_record::{LentSlots, Numbered};
 use smallvec::SmallVec;
 use std::alloc::Global;
 use std::marker::Model;
@@ -36,9 +35,9 @@ impl Kept {
     }
 
     // The slots, lent.
-    pub(crate) fn lent(&self) -> Slots<'_>
+    pub(crate) fn lent(&self) -> LentSlots<'_>
         ensures slots { result ≡ self.now }
     {
-        Slots::of(self.of.as_slice())
+        LentSlots::of(self.of.as_slice())
     }
 }

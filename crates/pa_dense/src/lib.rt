@@ -1,13 +1,12 @@
 //! A journal whose entries stand close together: a walk over it touches a fifth of the memory that `Journal` takes.
 #![tactic(auto)]
 
-mod act;
 mod entry;
 mod journal;
 mod kept;
 mod run;
 
-pub use act::{Act, ActWith, Slots};
 pub use entry::DenseEntry;
 pub use journal::{DenseJournal, journals_of};
+pub use pa_record::{Act, ActWith};
 pub use run::DenseRun;

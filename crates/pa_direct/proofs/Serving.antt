@@ -1,7 +1,6 @@
 -- What a direct map has room for.
-use Rattle.std.proofs.Common.{ℕ, sym, subst, arith}
-use Rattle.pa_direct.specs.declared.maps.Shape.{Shape}
-use Rattle.pa_direct.specs.Shapes.{shape_of, IsDirectSize, IsShape, Serves}
+use Rattle.std.proofs.Common.{ℕ, arith}
+use Rattle.pa_direct.specs.Shapes.{shape_of, IsDirectSize, Serves}
 
 -- the shape of a request for a direct map serves it
 pub Serves-of : (size : ℕ) → IsDirectSize size → Serves (shape_of size) size
@@ -14,9 +13,3 @@ Serves-of size direct = record {
   guards = omega arith;
   least = omega arith;
 }
-
--- a shape that some request has serves that request
-pub IsShape-serves : (s : Shape) → IsShape s → (size : ℕ) × IsDirectSize size × Serves s size
-IsShape-serves s (size, direct, is) =
-    let P : Shape → Type 0 = λ t. Serves t size in
-    (size, direct, subst P (sym is) (Serves-of size direct))

@@ -1,5 +1,6 @@
 -- The shape of a direct map.
 use Rattle.std.specs.Prelude.{◌≡◌, ℕ, ◌+◌, ◌-◌, ◌*◌, ◌/◌, ◌%◌, ◌<◌, ◌≤◌}
+use Rattle.pa_layout.specs.Limits.{most_supers}
 use Rattle.pa_layout.specs.Pages.{supers_for}
 use Rattle.pa_direct.specs.declared.maps.Shape.{Shape}
 
@@ -37,7 +38,7 @@ pub record Serves (shape : Shape) (size : ℕ) : Type 0 where
   pub usable : size ≤ shape.slot - 8
   pub close : shape.slot < size + 8 + 4096
   pub some_supers : 1 ≤ shape.supers
-  pub few_supers : shape.supers ≤ 16
+  pub few_supers : shape.supers ≤ most_supers
   pub guards : shape.slot + 32768 ≤ 2097152 * shape.supers
   pub least : 2097152 * (shape.supers - 1) < shape.slot + 32768
 

@@ -9,4 +9,4 @@ mod sizes;
 
 pub use laws::shapes_leave_room;
 pub use maps::Shape;
-pub use sizes::{GREATEST_SIZE, shape};
+pub use sizes::{GREATEST_IN_CLASS, GREATEST_SIZE, shape};

@@ -7,6 +7,9 @@ use pa_layout::{SYSTEM_PAGE, supers_for};
 /// The greatest request that is served, in bytes: with it the slot and its guards fill 16 super pages.
 pub const GREATEST_SIZE: u32 = 33_521_656;
 
+/// The greatest request that a class serves, in bytes.
+pub const GREATEST_IN_CLASS: u32 = 917_496;
+
 // Bytes of a count word.
 const COUNT_WORD: u32 = 8;
 
@@ -24,39 +27,4 @@ pub fn shape(size: u32) -> Option<Shape>
     let slot = (size + COUNT_WORD).div_ceil(SYSTEM_PAGE) * SYSTEM_PAGE;
     let supers = supers_for(slot);
     Some(Shape { slot, supers })
-}
-
-#[cfg(test)]
-mod tests {
-    use super::*;
-
-    #[test]
-    fn shapes_on_both_sides_of_an_edge(rt: HostRuntime) {
-        let least = Shape {
-            slot: 921600,
-            supers: 1,
-        };
-        let middle = Shape {
-            slot: 2002944,
-            supers: 1,
-        };
-        let last_in_one = Shape {
-            slot: 2064384,
-            supers: 1,
-        };
-        let first_in_two = Shape {
-            slot: 2068480,
-            supers: 2,
-        };
-        let greatest = Shape {
-            slot: 33521664,
-            supers: 16,
-        };
-        assert!(rt; shape(917497) == Some(least));
-        assert!(rt; shape(2000000) == Some(middle));
-        assert!(rt; shape(2064376) == Some(last_in_one));
-        assert!(rt; shape(2064377) == Some(first_in_two));
-        assert!(rt; shape(33521656) == Some(greatest));
-        assert!(rt; shape(33521657) == None);
-    }
 }

@@ -1,6 +1,6 @@
 -- What a reset or a free says whose slot went to the front of its list.
-use Rattle.std.proofs.Common.{◌≡◌, ℕ, suc, ◌+◌, ◌<◌, ◌≤◌, true, List, [], ◌∷◌, length, map, Some, refl, sym, ◌∙◌, ap, subst, arith, inl, inr}
-use Rattle.std.specs.Prelude.{Contains, max, slice_set, if◌then◌else◌}
+use Rattle.std.proofs.Common.{◌≡◌, ℕ, ◌+◌, ◌<◌, ◌≤◌, true, List, [], ◌∷◌, length, Some, refl, sym, ◌∙◌, ap, subst, arith, inl, inr}
+use Rattle.std.specs.Prelude.{max, slice_set, if◌then◌else◌}
 use Rattle.pa_machine.specs.declared.title.Title.{Title}
 use Rattle.pa_machine.specs.declared.word.Step.TheVariants as steps
 use Rattle.pa_machine.specs.Count.{number_of}
@@ -25,13 +25,11 @@ use Rattle.pa_rules.specs.Played.{mark_at}
 use Rattle.pa_rules.specs.Roots.{Journals}
 use Rattle.pa_rules.specs.Caches.{SameLists, OnlyActs, NoActs, IsOfClass, ReturnRow, with_list, gives}
 use Rattle.pa_cells.specs.declared.handle.Handle.{Handle}
-use Rattle.pa_cells.specs.Handles.{HasSeenMade}
 use Rattle.pa_root.specs.Handing.{at_number_seen}
-use Rattle.pa_plays.specs.declared.register.Register.{Register}
-use Rattle.pa_plays.specs.declared.register.Register.TheVariants.{Own, Ref, Freed, Cleared}
-use Rattle.pa_plays.specs.Stocks.{StockValue, IsStock, register_in, regs_of, titles_in, listed_in}
+use Rattle.pa_rules.specs.declared.register.Register.TheVariants.{Own, Ref, Freed, Cleared}
+use Rattle.pa_plays.specs.Stocks.{StockRegister, StockValue, IsStock, register_in, regs_of, titles_in, listed_in}
 use Rattle.pa_plays.specs.Workers.{HasItsStake}
-use Rattle.pa_stock.specs.Changes.{LetsGo, IsBack, IsPut, put_in_front}
+use Rattle.pa_stock.specs.Changes.{LetsGo, IsPut, put_in_front}
 use Rattle.pa_plays.specs.Plays.{DoesOp}
 use Rattle.pa_plays.proofs.Registers.{regs_set}
 use Rattle.pa_plays.proofs.Seeing.{made_kept, slot_in_run, home_of}
@@ -44,21 +42,17 @@ use Rattle.pa_heap.proofs.Resetting.{reset_row}
 use Rattle.pa_stock.proofs.Freeing.{can_step, freed, freed_view}
 use Rattle.pa_heap.proofs.Freeing.{free_row, touched_free}
 use Rattle.pa_heap.proofs.Returning.{stays_whole, front_lists}
-
--- as many numbered titles as titles
-mapped : {A B : Type 0} (f : A → B) (xs : List A) → length (map f xs) ≡ length xs
-mapped f [] = refl
-mapped f (x ∷ xs) = ap suc (mapped f xs)
+use Rattle.pa_lists.proofs.Elements.{length_map}
 
 -- The row of a slot that went to the front of its list, which had room: nothing was given back.
-pub returned_row : (s : StockValue) (w : View) (rs : List Register) (roots : Journals) (x : Played) (h : Handle) (c n : ℕ) → IsStock s → h.partition < 4 → c < 59 →
+pub returned_row : (s : StockValue) (w : View) (rs : List StockRegister) (roots : Journals) (x : Played) (h : Handle) (c n : ℕ) → IsStock s → h.partition < 4 → c < 59 →
     ((u : Title) → 0 < free_of s.view u → seen_of w u ≡ seen_of s.view u) → seen_of w h.title ≡ n →
     IsOfClass roots (name_of h.title) h.partition c → NoActs roots x.line → length (titles_in s.caches h.partition c) < limit_of c →
     ReturnRow roots x (record { slot = name_of h.title; number = n }) (listed_in s) (listed_in (record s { view = w; registers = rs; caches = put_in_front h.partition c h.title s.caches }))
 returned_row s w rs roots x h c n is low small numbers seen of none room =
     let front : Numbered = record { slot = name_of h.title; number = n } in
     let xs = listed_in s h.partition c in
-    let long : length (listed_in s h.partition c) ≡ length (titles_in s.caches h.partition c) = mapped (at_number_seen s.view) (titles_in s.caches h.partition c) in
+    let long : length (listed_in s h.partition c) ≡ length (titles_in s.caches h.partition c) = length_map (at_number_seen s.view) (titles_in s.caches h.partition c) in
     let few : length (front ∷ listed_in s h.partition c) ≤ limit_of c = omega arith in
     let whole = stays_whole c (front ∷ xs) few in
     inl (
@@ -134,27 +128,6 @@ free_listed counts owns states s r word c h is aware stake budget below own foun
       reader = tt;
       home = λ m e. (h.partition, home_of o h.partition (mark_at line (seen_at h word) (Some steps.Free)) m e slot.size);
     })
-
--- What a call knows of the title that its reset returned.
-pub reset_back : (s mid : StockValue) (r : ℕ) (h : Handle) (seen : Seen) → IsStock s → IsAware s.view → r < 64 → register_in s.registers r ≡ Ref h → LetsGo steps.Reset h r Cleared s.view seen s mid →
-    free_of mid.view h.title ≡ 1 → IsBack h mid
-reset_back s mid r h seen is aware below ref gone free =
-    let knows = register_has s r h is below (inr ref) in
-    record {
-      free = omega arith;
-      new = λ p class among. user_not_free s.view h.title aware knows.0 (is.lists.free p class h.title (subst (λ (z : StockValue). Contains (titles_in z.caches p class) h.title) gone.after_is among));
-      made = subst (λ (z : StockValue). HasSeenMade h z.view) (sym gone.after_is) (made_kept h s.view (after_count steps.Reset h.title seen.found.0 s.view) refl knows.1);
-    }
-
-pub free_back : (s mid : StockValue) (r : ℕ) (h : Handle) (seen : Seen) → IsStock s → IsAware s.view → r < 64 → register_in s.registers r ≡ Own h → LetsGo steps.Free h r Freed (poisoned h.title s.view) seen s mid →
-    free_of mid.view h.title ≡ 1 → IsBack h mid
-free_back s mid r h seen is aware below own gone free =
-    let knows = register_has s r h is below (inl own) in
-    record {
-      free = omega arith;
-      new = λ p class among. user_not_free s.view h.title aware knows.0 (is.lists.free p class h.title (subst (λ (z : StockValue). Contains (titles_in z.caches p class) h.title) gone.after_is among));
-      made = subst (λ (z : StockValue). HasSeenMade h z.view) (sym gone.after_is) (made_kept h s.view (freed_view s.view h.title seen.found.0) refl knows.1);
-    }
 
 -- The op that was answered when the slot went to its list.
 pub reset_put : CountLeaves → (s mid after : StockValue) (r : ℕ) (h : Handle) (seen : Seen) → IsStock s → IsAware s.view → HasItsStake s → 0 < s.view.budget → r < 64 →

@@ -12,12 +12,13 @@ use Rattle.pa_region.specs.Moves.{IsFound, after_count}
 use Rattle.pa_region.specs.Leaves.{CountLeaves}
 use Rattle.pa_region.specs.Aware.{IsAware}
 use Rattle.pa_rules.specs.Played.{mark_at}
-use Rattle.pa_rules.specs.declared.register.Reg.TheVariants as reg
+use Rattle.pa_rules.specs.declared.register.Register.TheVariants as reg
 use Rattle.pa_rules.specs.Registers.{Regs, with, Becomes, CopyRow, CopyToRow}
+use Rattle.pa_rules.specs.Nexts.{HasSomeHandle}
+use Rattle.pa_rules.proofs.Nexts.{copy_filled}
 use Rattle.pa_cells.specs.declared.handle.Handle.{Handle}
-use Rattle.pa_plays.specs.declared.register.Register.{Register}
-use Rattle.pa_plays.specs.declared.register.Register.TheVariants.{Empty, Own, Ref, Freed, Cleared}
-use Rattle.pa_plays.specs.Stocks.{StockValue, IsStock, HasHandleTo, HasNoHandle, register_in, as_reg, regs_of}
+use Rattle.pa_rules.specs.declared.register.Register.TheVariants.{Empty, Own, Ref, Freed, Cleared}
+use Rattle.pa_plays.specs.Stocks.{StockRegister, StockValue, IsStock, HasHandleTo, HasNoHandle, register_in, as_reg, regs_of}
 use Rattle.pa_plays.specs.Workers.{HasItsStake}
 use Rattle.pa_plays.specs.Plays.{DoesOp}
 use Rattle.pa_stock.specs.Changes.{PointsTo}
@@ -26,16 +27,16 @@ use Rattle.pa_plays.proofs.Seeing.{made_kept, slot_in_run, home_of}
 use Rattle.pa_stock.proofs.Leaving.{least_is, user_not_free, touched_count}
 use Rattle.pa_plays.proofs.Stocks.{register_has}
 use Rattle.pa_plays.proofs.Quiet.{quiet_does}
-use Rattle.pa_plays.proofs.Refusing.{copy_refuses}
+use Rattle.pa_plays.proofs.Refusing.{plain_does}
 use Rattle.pa_stock.proofs.Copying.{can_copy, copied}
 
 -- the rows: of the first register, by its handle; of the second, which has none
-copy_row : (r : Register) (h : Handle) (regs : Regs) (to : ℕ) (answer : Answer) (after : Regs) → HasHandleTo h r →
+copy_row : (r : StockRegister) (h : Handle) (regs : Regs) (to : ℕ) (answer : Answer) (after : Regs) → HasHandleTo h r →
     CopyToRow (regs to) (name_of h.title) regs to answer after → CopyRow (as_reg r) regs to answer after
 copy_row r h regs to answer after (inl own) row = subst (λ x. CopyRow (as_reg x) regs to answer after) (sym own) row
 copy_row r h regs to answer after (inr ref) row = subst (λ x. CopyRow (as_reg x) regs to answer after) (sym ref) row
 
-copy_to_row : (r : Register) (h : Handle) (word : ℕ) (regs : Regs) (to : ℕ) (after : Regs) → HasNoHandle r →
+copy_to_row : (r : StockRegister) (h : Handle) (word : ℕ) (regs : Regs) (to : ℕ) (after : Regs) → HasNoHandle r →
     Becomes after (with regs to (reg.Ref (name_of h.title))) →
     CopyToRow (as_reg r) (name_of h.title) regs to (answers.Done (record { slot = name_of h.title; found = record { 0 = word } })) after
 copy_to_row Empty h word regs to after bare becomes = (record { slot = name_of h.title; found = record { 0 = word } }, refl, refl, becomes)
@@ -81,24 +82,12 @@ point_does counts s after from to h seen is aware stake budget below within has 
     (subst (DoesOp line (ops.Copy from to) (answers.Done (record { slot = name_of h.title; found = record { 0 = seen.found.0 } })) s) (sym points.after_is)
     (copied_does counts s from to seen.found.0 h is aware stake budget below within has bare points.found line))
 
--- the second register has a handle
-abbrev pub HasSome : Register → Type 0
-HasSome Empty = ⊥
-HasSome (Own h) = Unit {0}
-HasSome (Ref h) = Unit {0}
-HasSome Freed = ⊥
-HasSome Cleared = ⊥
-
-filled_row : (r : Register) (h : Handle) (regs : Regs) (to : ℕ) → HasSome r → CopyToRow (as_reg r) (name_of h.title) regs to answers.Filled regs
-filled_row Empty h regs to some = absurd some
-filled_row (Own g) h regs to some = (refl, λ k. refl)
-filled_row (Ref g) h regs to some = (refl, λ k. refl)
-filled_row Freed h regs to some = absurd some
-filled_row Cleared h regs to some = absurd some
-
-pub copy_filled : (s : StockValue) (from to : ℕ) (h : Handle) (r : Register) → IsStock s → HasHandleTo h (register_in s.registers from) →
-    r ≡ register_in s.registers to → HasSome r → (line : ℕ) → DoesOp line (ops.Copy from to) answers.Filled s s
-copy_filled s from to h r is has at some =
-    copy_refuses s from to (register_in s.registers from) answers.Filled is tt refl
-    (copy_row (register_in s.registers from) h (regs_of s.registers) to answers.Filled (regs_of s.registers) has
-    (subst (λ x. CopyToRow (as_reg x) (name_of h.title) (regs_of s.registers) to answers.Filled (regs_of s.registers)) at (filled_row r h (regs_of s.registers) to some)))
+-- and where the second register has a handle
+pub copy_fills : (s : StockValue) (from to : ℕ) (h : Handle) → IsStock s → HasHandleTo h (register_in s.registers from) →
+    HasSomeHandle (register_in s.registers to) →
+    (line : ℕ) → DoesOp line (ops.Copy from to) answers.Filled s s
+copy_fills s from to h is has some =
+    plain_does s (ops.Copy from to) answers.Filled is tt tt
+    (λ o run sees. copy_row (register_in s.registers from) h (regs_of s.registers) to answers.Filled (regs_of s.registers) has
+    (copy_filled (λ (x : Handle). name_of x.title) (register_in s.registers to) (name_of h.title) (regs_of s.registers) to some))
+    (λ o line phase run sees. tt)

@@ -12,7 +12,7 @@ use Rattle.pa_record.specs.declared.history.CellEntry.{CellEntry}
 use Rattle.pa_record.specs.declared.history.Held.TheVariants as held
 use Rattle.pa_record.specs.Spans.{name_of}
 use Rattle.pa_record.specs.declared.root.RootEntry.{RootEntry}
-use Rattle.pa_record.proofs.Members.{in_cases, not_in_none, not_some}
+use Rattle.pa_lists.proofs.Members.{in_cases, not_in_none, not_some}
 use Rattle.pa_region.specs.declared.view.Entry.{Entry}
 use Rattle.pa_region.specs.declared.view.Entry.TheVariants.{Entered, Counted, Looked, Uncut}
 use Rattle.pa_region.specs.declared.view.Made.{Made}
@@ -32,9 +32,8 @@ use Rattle.pa_cache.specs.Caches.{CacheList}
 use Rattle.pa_root.specs.Handing.{numbered_by}
 use Rattle.pa_cells.specs.Handles.{ParkedHandle, GiversLackHandles, held_as}
 use Rattle.pa_cells.specs.Cells.{exchange_entry}
-use Rattle.pa_plays.specs.declared.register.Register.{Register}
-use Rattle.pa_plays.specs.declared.register.Register.TheVariants.{Empty, Own, Ref, Freed, Cleared}
-use Rattle.pa_plays.specs.Stocks.{StockValue, IsStock, HasNoHandle, register_in, as_reg, regs_of, titles_in, listed_in}
+use Rattle.pa_rules.specs.declared.register.Register.TheVariants.{Empty, Own, Ref, Freed, Cleared}
+use Rattle.pa_plays.specs.Stocks.{StockRegister, StockValue, IsStock, HasNoHandle, register_in, as_reg, regs_of, titles_in, listed_in}
 use Rattle.pa_plays.specs.Workers.{HasItsStake}
 use Rattle.pa_plays.specs.Outcomes.{Outcome, IsOutcome, ActsAreOf}
 use Rattle.pa_stock.specs.Exchanging.{Parks, SwapsHandles, TakesIn, handle_register, register_of, found_register, handle_parcel}
@@ -42,7 +41,8 @@ use Rattle.pa_plays.specs.Plays.{DoesOp}
 use Rattle.pa_plays.proofs.Registers.{set_at}
 use Rattle.pa_plays.proofs.Quiet.{same_titles}
 use Rattle.pa_plays.proofs.Entered.{Rests}
-use Rattle.pa_stock.proofs.Parking.{rests_none, parked_rests, taken_rests, holds_given, frees_kept}
+use Rattle.pa_stock.proofs.Parking.{rests_none, parked_rests, taken_rests, holds_given}
+use Rattle.pa_root.proofs.Seeing.{free_kept}
 
 -- what was given is what the register had, as histories name it
 pub given_is : (p : ParkedHandle) → held_as (Some p) ≡ handle_of (as_reg (register_of p))
@@ -52,7 +52,7 @@ given_is p = go p.own
     go true = refl
     go false = refl
 
-pub none_given : (r : Register) → HasNoHandle r → held.Nothing ≡ handle_of (as_reg r)
+pub none_given : (r : StockRegister) → HasNoHandle r → held.Nothing ≡ handle_of (as_reg r)
 none_given Empty is = refl
 none_given (Own h) is = absurd is
 none_given (Ref h) is = absurd is
@@ -223,7 +223,7 @@ swap_does line cell reg index given found s a b d is phase = (
         let free = is.stock.lists.free p c t among in
         let well = is.stock.lists.well p c t among in
         let free_a : 0 < free_of a.view t = let f = is.first.frees t in omega arith in
-        let free_b : 0 < free_of b.view t = let f = frees_kept a.view b.view t swap.lends.keeps in omega arith in
+        let free_b : 0 < free_of b.view t = let f = free_kept a.view b.view t swap.lends.keeps in omega arith in
         is.last.numbers well.0 t well.1 free_b
         ∙ (kept_number a.view b.view well.0 t is.awares.0 is.awares.1 swap.lends.keeps well.1 free_a
         ∙ is.first.numbers well.0 t well.1 free))
@@ -245,7 +245,7 @@ takes_rests joins seen stay b d reg (Some p) aware both takes =
 
 gave_is : (s a : StockValue) (reg : ℕ) (given : Option ParkedHandle) → Parks reg given s a → held_as given ≡ handle_of (regs_of s.registers reg)
 gave_is s a reg None parks = none_given (register_in s.registers reg) parks.1
-gave_is s a reg (Some p) parks = given_is p ∙ ap (λ (r : Register). handle_of (as_reg r)) (sym parks.0)
+gave_is s a reg (Some p) parks = given_is p ∙ ap (λ (r : StockRegister). handle_of (as_reg r)) (sym parks.0)
 
 -- what else stays of the stock: its parts but the view and the registers, of which there are as many
 record Frames (reg : ℕ) (s a : StockValue) : Type 0 where
@@ -255,7 +255,7 @@ record Frames (reg : ℕ) (s a : StockValue) : Type 0 where
   count : length a.registers ≡ length s.registers
   others : (k : ℕ) → (k == reg) ≡ false → register_in a.registers k ≡ register_in s.registers k
 
-frame_set : (s : StockValue) (v : View) (reg : ℕ) (r : Register) → reg < length s.registers → Frames reg s (record s { view = v; registers = slice_set s.registers reg r })
+frame_set : (s : StockValue) (v : View) (reg : ℕ) (r : StockRegister) → reg < length s.registers → Frames reg s (record s { view = v; registers = slice_set s.registers reg r })
 frame_set s v reg r within = record {
   thread = refl;
   partitions = refl;
@@ -291,7 +291,7 @@ exchange_does law joins seen stay line cell reg index given found s a b d is bel
     let within : reg < length s.registers = let n = is.handles.count in omega arith in
     let frame = parks_frame s a reg given within parks in
     let same : b.registers ≡ a.registers = ap (λ (z : StockValue). z.registers) swap.same in
-    let inside : reg < length b.registers = let n = frame.count in let m : length b.registers ≡ length a.registers = ap (λ (rs : List Register). length rs) same in omega arith in
+    let inside : reg < length b.registers = let n = frame.count in let m : length b.registers ≡ length a.registers = ap (λ (rs : List StockRegister). length rs) same in omega arith in
     let at_end = (takes_is b d reg found takes).1 in
     swap_does line cell reg index given found s a b d
     (record {
@@ -310,7 +310,7 @@ exchange_does law joins seen stay line cell reg index given found s a b d is bel
     go : (k : ℕ) → b.registers ≡ a.registers → Frames reg s a → (c : Bool) → (k == reg) ≡ c →
         (if c then found_register found else register_in b.registers k) ≡ (if c then found_register found else register_in s.registers k)
     go k same frame true e = refl
-    go k same frame false e = ap (λ (rs : List Register). register_in rs k) same ∙ frame.others k e
+    go k same frame false e = ap (λ (rs : List StockRegister). register_in rs k) same ∙ frame.others k e
 
 -- ---- what the parts need of one another
 

@@ -9,9 +9,8 @@ use Rattle.pa_buckets.specs.Bands.{fill_of}
 use Rattle.pa_direct.specs.Shapes.{shape_of, IsDirectSize}
 use Rattle.pa_record.specs.declared.root.RootAct.TheVariants as act
 use Rattle.pa_record.specs.Spans.{name_of}
-use Rattle.pa_record.proofs.Members.{in_cases, not_in_none, first_in, later_in}
+use Rattle.pa_lists.proofs.Members.{in_cases, not_in_none, first_in, later_in}
 use Rattle.pa_region.specs.declared.view.View.{View}
-use Rattle.pa_region.specs.Views.{seen_of}
 use Rattle.pa_region.specs.Hands.{united}
 use Rattle.pa_region.specs.Aware.{IsAware}
 use Rattle.pa_rules.specs.Caches.{FilledFirst, OnlyActs}
@@ -28,10 +27,7 @@ use Rattle.pa_heap.proofs.Issuing.{Bringing}
 use Rattle.pa_heap.proofs.Taking.{first_alone, front_is}
 use Rattle.pa_stock.proofs.Taking.{took_free, took_new, took_same, took_number, took_enters}
 use Rattle.pa_stock.proofs.Fetching.{fill_act, fill_asking, fill_made, fill_took, map_asking, map_took, mapped_slot}
-
--- the titles are told at the note's numbers
-same_numbers : (v w : View) (ts : List Title) → ((t : Title) → Contains ts t → seen_of v t ≡ seen_of w t) → numbered_by v ts ≡ numbered_by w ts
-same_numbers v w ts same = same_titles w v ts same
+use Rattle.pa_root.proofs.CallGives.{same_numbers}
 
 -- the first can be issued
 pub fill_back : (line p c : ℕ) (s : StockValue) (u n : View) (t : Title) (rest : List Title) (gives : FillGives s.thread p line c (fill_of c) s.view u n (t ∷ rest)) → IsStock s →

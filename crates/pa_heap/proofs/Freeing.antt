@@ -14,13 +14,12 @@ use Rattle.pa_region.specs.Moves.{IsFound}
 use Rattle.pa_region.specs.Leaves.{CountLeaves, OwnsChange, StatesAreOwns}
 use Rattle.pa_quarantine.specs.Filling.{poisoned}
 use Rattle.pa_region.specs.Aware.{IsAware}
-use Rattle.pa_rules.specs.declared.register.Reg.TheVariants as reg
+use Rattle.pa_rules.specs.declared.register.Register.TheVariants as reg
 use Rattle.pa_rules.specs.Played.{mark_at}
 use Rattle.pa_rules.specs.Registers.{Regs, with, Becomes, FreeRow}
 use Rattle.pa_cells.specs.declared.handle.Handle.{Handle}
-use Rattle.pa_plays.specs.declared.register.Register.{Register}
-use Rattle.pa_plays.specs.declared.register.Register.TheVariants.{Own, Freed}
-use Rattle.pa_plays.specs.Stocks.{StockValue, IsStock, register_in, as_reg, regs_of}
+use Rattle.pa_rules.specs.declared.register.Register.TheVariants.{Own, Freed}
+use Rattle.pa_plays.specs.Stocks.{StockRegister, StockValue, IsStock, register_in, as_reg, regs_of}
 use Rattle.pa_plays.specs.Workers.{HasItsStake}
 use Rattle.pa_stock.specs.Changes.{LetsGo}
 use Rattle.pa_plays.specs.Plays.{DoesOp}
@@ -47,7 +46,7 @@ touched_free counts owns states s r word h is stake budget below own found held 
     (least_is s.thread s.view is.stake stake).0 leaves.lists leaves.seen held (λ u. let x = leaves.frees u in omega arith)
     (found.not_older, now_seen t (number_of word + 1) (seen_of w t) (seen_of s.view t) (leaves.seen t))
 
-pub free_row : (q : Register) (h : Handle) (seen : Seen) (regs : Regs) (r : ℕ) (after : Regs) → q ≡ Own h → seen.slot ≡ name_of h.title → Becomes after (with regs r reg.Freed) →
+pub free_row : (q : StockRegister) (h : Handle) (seen : Seen) (regs : Regs) (r : ℕ) (after : Regs) → q ≡ Own h → seen.slot ≡ name_of h.title → Becomes after (with regs r reg.Freed) →
     FreeRow (as_reg q) regs r (answers.Done seen) after
 free_row q h seen regs r after own slot becomes = subst (λ x. FreeRow (as_reg x) regs r (answers.Done seen) after) (sym own) (seen, slot, refl, becomes)
 

@@ -12,7 +12,8 @@ use Rattle.pa_record.specs.declared.entry.Seen.{Seen}
 use Rattle.pa_record.specs.declared.pool.PoolEntry.{PoolEntry}
 use Rattle.pa_record.specs.declared.root.RootAct.{RootAct}
 use Rattle.pa_record.specs.declared.root.RootAct.TheVariants as act
-use Rattle.pa_record.proofs.Members.{in_cases, not_in_none, not_some}
+use Rattle.pa_record.specs.Spans.{name_of}
+use Rattle.pa_lists.proofs.Members.{in_cases, not_in_none, not_some}
 use Rattle.pa_region.specs.declared.view.Entry.{Entry}
 use Rattle.pa_region.specs.declared.view.Entry.TheVariants.{Entered}
 use Rattle.pa_region.specs.declared.view.View.{View}
@@ -21,6 +22,9 @@ use Rattle.pa_region.specs.Aware.{IsAware}
 use Rattle.pa_region.proofs.LendBack.{kept_number}
 use Rattle.pa_rules.specs.declared.played.Played.{Played}
 use Rattle.pa_rules.specs.Registers.{AllocRow}
+use Rattle.pa_rules.specs.Nexts.{HasSomeHandle}
+use Rattle.pa_rules.proofs.Nexts.{alloc_filled}
+use Rattle.pa_cells.specs.declared.handle.Handle.{Handle}
 use Rattle.pa_rules.specs.Caches.{Cache, SameLists, OnlyActs, FullRow}
 use Rattle.pa_rules.specs.Roots.{Journals, MakesEntry}
 use Rattle.pa_told.specs.Indices.{IsFullAt}
@@ -28,7 +32,6 @@ use Rattle.pa_pool.specs.Calls.{take_entry}
 use Rattle.pa_root.specs.declared.fault.FillFault.TheVariants.{Full}
 use Rattle.pa_root.specs.Handing.{IsFullFor, numbered_by, root_entry}
 use Rattle.pa_root.specs.Making.{EntersTwo}
-use Rattle.pa_plays.specs.declared.register.Register.{Register}
 use Rattle.pa_plays.specs.Stocks.{StockValue, IsStock, HasNoHandle, register_in, as_reg, regs_of, titles_in, listed_in}
 use Rattle.pa_plays.specs.Outcomes.{Outcome, IsSeenOf, row_facts}
 use Rattle.pa_stock.specs.Allocating.{FindsNone}
@@ -40,17 +43,24 @@ use Rattle.pa_plays.proofs.AskedFor.{Asks, asks_two, it_asks, only_acts, act_at,
 use Rattle.pa_heap.proofs.Issuing.{alloc_row}
 use Rattle.pa_stock.proofs.Taking.{two_uncut}
 
--- the row of an allocation whose register is this
-pub alloc_refuses : (s : StockValue) (i p size : ℕ) (r : Register) (answer : Answer) → IsStock s → IsPlain answer → r ≡ register_in s.registers i →
-    ((o : Outcome) → AllocRow (as_reg r) (row_facts o) (regs_of s.registers) i size answer (regs_of s.registers)) → (line : ℕ) → DoesOp line (ops.Alloc i p size) answer s s
-alloc_refuses s i p size r answer is plain at row =
-    plain_does s (ops.Alloc i p size) answer is tt plain
-    (λ o run sees. subst (λ x. AllocRow (as_reg x) (row_facts o) (regs_of s.registers) i size answer (regs_of s.registers)) at (row o)) (λ o line phase run sees. tt)
+-- an allocation that is refused by its register or its size alone
+alloc_refuses : (s : StockValue) (i p size : ℕ) (answer : Answer) → IsStock s → IsPlain answer →
+    ((o : Outcome) → AllocRow (as_reg (register_in s.registers i)) (row_facts o) (regs_of s.registers) i size answer
+    (regs_of s.registers)) →
+    (line : ℕ) → DoesOp line (ops.Alloc i p size) answer s s
+alloc_refuses s i p size answer is plain row =
+    plain_does s (ops.Alloc i p size) answer is tt plain (λ o run sees. row o) (λ o line phase run sees. tt)
+
+pub alloc_fills : (s : StockValue) (i p size : ℕ) → IsStock s → HasSomeHandle (register_in s.registers i) → (line : ℕ) →
+    DoesOp line (ops.Alloc i p size) answers.Filled s s
+alloc_fills s i p size is some =
+    alloc_refuses s i p size answers.Filled is tt
+    (λ o. alloc_filled (λ (h : Handle). name_of h.title) (register_in s.registers i) (row_facts o) (regs_of s.registers) i size some)
 
 pub too_large : (s : StockValue) (i p size : ℕ) → IsStock s → HasNoHandle (register_in s.registers i) → greatest_size < size → (line : ℕ) →
     DoesOp line (ops.Alloc i p size) answers.TooLarge s s
 too_large s i p size is bare big =
-    alloc_refuses s i p size (register_in s.registers i) answers.TooLarge is tt refl
+    alloc_refuses s i p size answers.TooLarge is tt
     (λ o. alloc_row (register_in s.registers i) (row_facts o) (regs_of s.registers) i size answers.TooLarge (regs_of s.registers) bare (inl (big, refl, λ k. refl)))
 
 -- ---- there was no room
@@ -157,7 +167,3 @@ full_map_does line size r p j s after (full, same) is aware now inner bare direc
     (full_does line size r p j (shape_of size).supers None s after.view full is aware now inner bare direct.1
     (λ o stands. (size, (r, refl, direct), ap (option_map (λ (e : PoolEntry). e.act)) stands))
     (λ roots x later is_op only lists. inr (p, size, full.asked, (r, is_op, direct), only, lists)))
-
--- the budget is as it was
-pub full_budget : (line p count j : ℕ) (class : Option ℕ) (s after : StockValue) → FindsNone line p count class s after (Full j) → s.view.budget ≤ after.view.budget + 1
-full_budget line p count j class s after (full, same) = let e = full.enters.lends.keeps.budget in omega arith

@@ -14,8 +14,8 @@ use Rattle.pa_record.specs.declared.root.RootEntry.{RootEntry}
 use Rattle.pa_record.specs.declared.root.RootAct.TheVariants.{Give, Unmap}
 use Rattle.pa_record.specs.Numbers.{root_numbers}
 use Rattle.pa_record.specs.Spans.{name_of}
-use Rattle.pa_record.proofs.Joined.{map_cases}
-use Rattle.pa_record.proofs.Members.{in_cases, not_in_none}
+use Rattle.pa_lists.proofs.Joined.{map_cases}
+use Rattle.pa_lists.proofs.Members.{in_cases, not_in_none}
 use Rattle.pa_region.specs.declared.view.Entry.{Entry}
 use Rattle.pa_region.specs.declared.view.Entry.TheVariants.{Counted, Entered, Uncut}
 use Rattle.pa_region.specs.declared.view.Made.{Made}
@@ -33,8 +33,7 @@ use Rattle.pa_told.specs.Said.{ReadsIts}
 use Rattle.pa_root.specs.Handing.{root_entry}
 use Rattle.pa_cells.specs.declared.handle.Handle.{Handle}
 use Rattle.pa_cells.specs.Handles.{HasSeenMade, SlotsStaySeen}
-use Rattle.pa_plays.specs.declared.register.Register.{Register}
-use Rattle.pa_plays.specs.Stocks.{StockValue, regs_of, listed_in}
+use Rattle.pa_plays.specs.Stocks.{StockRegister, StockValue, regs_of, listed_in}
 use Rattle.pa_plays.specs.Outcomes.{Outcome, IsOutcome, IsSeenOf, row_facts}
 use Rattle.pa_plays.specs.Entering.{EntersCells, HasSeenSome}
 use Rattle.pa_plays.specs.Plays.{DoesOp, AnswersIn}
@@ -50,7 +49,7 @@ abbrev pub left_at : Handle → ℕ → Numbered
 left_at h word = record { slot = name_of h.title; number = number_of word + 1 }
 
 -- What a reset or a free knows whose step returned its slot: its seat had the view w then, and these registers.
-pub record HasReturned (op : Op) (step : Step) (h : Handle) (word : ℕ) (s : StockValue) (w : View) (rs : List Register) : Type 0 where
+pub record HasReturned (op : Op) (step : Step) (h : Handle) (word : ℕ) (s : StockValue) (w : View) (rs : List StockRegister) : Type 0 where
   pub freeing : IsFreeing op
   pub cells : (list : List Made) (x : ToldRecord) → entered_in 5 x.stretch ≡ [] → EntersCells op list x
   pub told : (sizes : SlotName → ℕ) (es : List Entry) → IsStepTold (title_of sizes (name_of h.title)) step word 0 es →
@@ -92,7 +91,7 @@ step_no_uncut t u step word value e = cc
 -- ---- slots are given
 
 -- Where slots were given, and the lists are as the row asks.
-pub gives_does : SlotsStaySeen → (op : Op) (step : Step) (h : Handle) (class word line : ℕ) (s after : StockValue) (w : View) (rs : List Register)
+pub gives_does : SlotsStaySeen → (op : Op) (step : Step) (h : Handle) (class word line : ℕ) (s after : StockValue) (w : View) (rs : List StockRegister)
     (ms : List Made) → HasReturned op step h word s w rs → h.class ≡ Some class →
     after.thread ≡ s.thread → after.partitions ≡ s.partitions → after.registers ≡ rs →
     Entering s.thread line (map (Entered h.partition) ms) w after.view →

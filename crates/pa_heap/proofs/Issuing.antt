@@ -15,7 +15,7 @@ use Rattle.pa_record.specs.declared.entry.Answer.TheVariants as answers
 use Rattle.pa_record.specs.declared.pool.PoolEntry.{PoolEntry}
 use Rattle.pa_record.specs.declared.root.RootAct.{RootAct}
 use Rattle.pa_record.specs.Spans.{name_of}
-use Rattle.pa_record.proofs.Members.{in_cases, not_in_none}
+use Rattle.pa_lists.proofs.Members.{in_cases, not_in_none}
 use Rattle.pa_region.specs.declared.view.Entry.{Entry}
 use Rattle.pa_region.specs.declared.view.Entry.TheVariants.{Counted, Uncut}
 use Rattle.pa_region.specs.declared.view.View.{View}
@@ -25,7 +25,7 @@ use Rattle.pa_region.specs.Moves.{CanCount, IsFound}
 use Rattle.pa_region.specs.Leaves.{CountLeaves}
 use Rattle.pa_quarantine.specs.Filling.{zeroed}
 use Rattle.pa_rules.specs.declared.played.Played.{Played}
-use Rattle.pa_rules.specs.declared.register.Reg.TheVariants as reg
+use Rattle.pa_rules.specs.declared.register.Register.TheVariants as reg
 use Rattle.pa_rules.specs.Played.{mark_at}
 use Rattle.pa_rules.specs.Registers.{Facts, Regs, with, Becomes, AllocRow, RequestRow}
 use Rattle.pa_rules.specs.Caches.{Cache, SameLists, OnlyActs, MadeRow}
@@ -34,9 +34,8 @@ use Rattle.pa_rules.specs.Sizes.{usable_of}
 use Rattle.pa_told.specs.Touches.{is_touch, touches}
 use Rattle.pa_cells.specs.declared.handle.Handle.{Handle}
 use Rattle.pa_cache.specs.Caches.{CacheList}
-use Rattle.pa_plays.specs.declared.register.Register.{Register}
-use Rattle.pa_plays.specs.declared.register.Register.TheVariants.{Empty, Own, Ref, Freed, Cleared}
-use Rattle.pa_plays.specs.Stocks.{StockValue, IsStock, HasNoHandle, register_in, as_reg, regs_of, titles_in, listed_in}
+use Rattle.pa_rules.specs.declared.register.Register.TheVariants.{Empty, Own, Ref, Freed, Cleared}
+use Rattle.pa_plays.specs.Stocks.{StockRegister, StockValue, IsStock, HasNoHandle, register_in, as_reg, regs_of, titles_in, listed_in}
 use Rattle.pa_plays.specs.Workers.{HasItsStake}
 use Rattle.pa_plays.specs.Outcomes.{row_facts}
 use Rattle.pa_stock.specs.Changes.{IsBack}
@@ -48,9 +47,10 @@ use Rattle.pa_plays.proofs.Touching.{entry_logs}
 use Rattle.pa_stock.proofs.Leaving.{least_is}
 use Rattle.pa_stock.proofs.Looking.{seen_at}
 use Rattle.pa_plays.proofs.Quiet.{quiet_record, same_titles}
-use Rattle.pa_plays.proofs.Entered.{Entering, TellsOf, entering_both, entered_append, entered_does, makes_each}
+use Rattle.pa_plays.proofs.Entered.{Entering, TellsOf, entering_both, entered_does, makes_each}
 use Rattle.pa_plays.proofs.AskedFor.{Asks, it_asks, only_acts, act_at, root_elsewhere}
 use Rattle.pa_stock.proofs.Issuing.{issued, issued_view, not_listed}
+use Rattle.pa_told.proofs.Listing.{entered_append}
 
 -- what the step leaves of the view before the zeros
 pub issued_enters : CountLeaves → (s : StockValue) (line word : ℕ) (t : Title) → IsStock s → HasItsStake s → CanCount steps.Issue t (zeroed t s.view) → IsFound t word (zeroed t s.view) →
@@ -85,7 +85,7 @@ request_row : (facts : Facts) (regs : Regs) (r size : ℕ) (seen : Seen) (usable
     Becomes after (with regs r (reg.Own seen.slot)) → RequestRow facts regs r size (answers.Made seen usable) after
 request_row facts regs r size seen usable after few is becomes = inr (inl (few, seen, ap (answers.Made seen) is, becomes))
 
-pub alloc_row : (q : Register) (facts : Facts) (regs : Regs) (r size : ℕ) (answer : Answer) (after : Regs) → HasNoHandle q →
+pub alloc_row : (q : StockRegister) (facts : Facts) (regs : Regs) (r size : ℕ) (answer : Answer) (after : Regs) → HasNoHandle q →
     RequestRow facts regs r size answer after → AllocRow (as_reg q) facts regs r size answer after
 alloc_row Empty facts regs r size answer after bare row = row
 alloc_row (Own h) facts regs r size answer after bare row = absurd bare

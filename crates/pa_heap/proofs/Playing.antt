@@ -1,5 +1,5 @@
 -- A reset or a free whose step returned the slot, once that is settled.
-use Rattle.std.proofs.Common.{◌≡◌, ℕ, ◌-◌, ◌<◌, List, length, refl, sym, ◌∙◌, ap, subst, arith, inl, inr}
+use Rattle.std.proofs.Common.{◌≡◌, ℕ, ◌<◌, List, length, refl, sym, ap, subst, arith, inl, inr}
 use Rattle.std.specs.Prelude.{slice_set}
 use Rattle.pa_machine.specs.declared.word.Step.{Step}
 use Rattle.pa_machine.specs.declared.word.Step.TheVariants as steps
@@ -18,12 +18,12 @@ use Rattle.pa_region.proofs.TakeLaws.{stakes_made}
 use Rattle.pa_quarantine.specs.Filling.{poisoned}
 use Rattle.pa_cells.specs.declared.handle.Handle.{Handle}
 use Rattle.pa_cells.specs.Handles.{HasSeenMade, SlotsStaySeen}
-use Rattle.pa_plays.specs.declared.register.Register.{Register}
-use Rattle.pa_plays.specs.declared.register.Register.TheVariants.{Own, Ref, Freed, Cleared}
-use Rattle.pa_plays.specs.Stocks.{StockValue, IsStock, register_in, regs_of}
+use Rattle.pa_rules.specs.declared.register.Register.TheVariants.{Own, Ref, Freed, Cleared}
+use Rattle.pa_plays.specs.Stocks.{StockRegister, StockValue, IsStock, register_in, regs_of}
 use Rattle.pa_plays.specs.Workers.{HasItsStake}
 use Rattle.pa_stock.specs.Changes.{LetsGo, NeedsRoot}
-use Rattle.pa_stock.specs.Homing.{IsSettled, without_title}
+use Rattle.pa_stock.specs.Homing.{IsSettled}
+use Rattle.pa_stock.specs.Releasing.{Releases}
 use Rattle.pa_plays.specs.Entering.{HasSeenSome}
 use Rattle.pa_plays.specs.Plays.{DoesOp}
 use Rattle.pa_plays.proofs.Registers.{regs_set}
@@ -32,11 +32,10 @@ use Rattle.pa_stock.proofs.Leaving.{least_is, user_not_free, touched_count}
 use Rattle.pa_plays.proofs.Stocks.{register_has}
 use Rattle.pa_stock.proofs.Looking.{seen_at}
 use Rattle.pa_stock.proofs.Resetting.{can_reset}
-use Rattle.pa_heap.proofs.Resetting.{reset_row}
+use Rattle.pa_heap.proofs.Resetting.{reset_row, reset_kept}
 use Rattle.pa_stock.proofs.Freeing.{can_step, freed_view}
-use Rattle.pa_heap.proofs.Freeing.{free_row, touched_free}
-use Rattle.pa_heap.proofs.Answering.{seen_left}
-use Rattle.pa_stock.proofs.Homing.{comes_lends}
+use Rattle.pa_heap.proofs.Freeing.{free_row, free_kept, touched_free}
+use Rattle.pa_heap.proofs.Answering.{seen_left, reset_put, free_put}
 use Rattle.pa_heap.proofs.Given.{HasReturned}
 use Rattle.pa_heap.proofs.Settling.{home_does, spill_does}
 
@@ -94,7 +93,7 @@ free_returned counts owns states s r word h is aware stake budget below own foun
     }
 
 -- the op does what it should, wherever the slot went
-settled_does : SlotsStaySeen → (op : Op) (step : Step) (h : Handle) (word line : ℕ) (s after : StockValue) (w : View) (rs : List Register) → IsStock s → IsStock after →
+settled_does : SlotsStaySeen → (op : Op) (step : Step) (h : Handle) (word line : ℕ) (s after : StockValue) (w : View) (rs : List StockRegister) → IsStock s → IsStock after →
     HasReturned op step h word s w rs → NeedsRoot h (record s { view = w; registers = rs }) → IsSettled line h (record s { view = w; registers = rs }) after →
     DoesOp line op (answers.Done (seen_at h word)) s after
 settled_does stays op step h word line s after w rs is sound of root (inl (bare, home)) = home_does stays op step h word line s after w rs is of bare home
@@ -125,24 +124,36 @@ free_settled counts owns states stays line s mid after r h seen is aware stake b
     (free_returned counts owns states s r word h is aware stake budget below own gone.found back)
     (subst (λ (z : StockValue). NeedsRoot h z) gone.after_is root) (subst (λ (z : StockValue). IsSettled line h z after) gone.after_is settled))
 
--- and the counted steps that are left in the budget are as many
-pub settled_budget : (line : ℕ) (h : Handle) (s after : StockValue) → IsSettled line h s after → after.view.budget ≡ s.view.budget
-settled_budget line h s after (inl (bare, home)) =
-    (comes_lends h.class s.thread h.partition line (without_title h.title s.view) after.view _ h.title home.comes).1.keeps.budget ∙ none_less s.view.budget
-  where
-    none_less : (n : ℕ) → n - 0 ≡ n
-    none_less n = omega arith
-settled_budget line h s after (inr (class, class_is, small, some, spills)) = ap (λ (z : StockValue). z.view.budget) spills.front ∙ spills.gives.budget
+-- a reset, whatever became of its slot
+pub reset_released : CountLeaves → SlotsStaySeen → (line : ℕ) (s after : StockValue) (r : ℕ) (h : Handle) (seen : Seen) → IsStock s →
+    IsAware s.view → HasItsStake s →
+    0 < s.view.budget → r < 64 → register_in s.registers r ≡ Ref h → Releases line steps.Reset h r Cleared s.view seen s after →
+    IsStock after →
+    DoesOp line (ops.Reset r) (answers.Done seen) s after
+reset_released counts stays line s after r h seen is aware stake budget below has released sound = elim released.back [
+  | inl back ↦ elim back.1 [
+    | inl put ↦ reset_put counts s released.between after r h seen is aware stake budget below has released.gone back.0 put line
+    | inr by_root ↦ reset_settled counts stays line s released.between after r h seen is aware stake budget below has released.gone
+        back.0 by_root.0 by_root.1 sound
+  ]
+  | inr held ↦
+      subst (λ (z : StockValue). DoesOp line (ops.Reset r) (answers.Done seen) s z) (sym held.1)
+      (reset_kept counts s released.between r h seen is aware stake budget below has released.gone held.0 line)
+]
 
--- the seat has its stake still after the step
-pub reset_stake : CountLeaves → (s mid : StockValue) (r : ℕ) (h : Handle) (seen : Seen) → IsStock s → IsAware s.view → HasItsStake s → 0 < s.view.budget → r < 64 →
-    register_in s.registers r ≡ Ref h → LetsGo steps.Reset h r Cleared s.view seen s mid → IsReturning steps.Reset seen.found.0 → HasItsStake mid
-reset_stake counts s mid r h seen is aware stake budget below ref gone back =
-    let e = (reset_returned counts s r seen.found.0 h is aware stake budget below ref gone.found back).touched.stakes s.thread in
-    subst (λ (z : StockValue). HasItsStake z) (sym gone.after_is) (subst (λ (n : ℕ). 0 < n) (sym e) stake)
-
-pub free_stake : CountLeaves → OwnsChange → StatesAreOwns → (s mid : StockValue) (r : ℕ) (h : Handle) (seen : Seen) → IsStock s → IsAware s.view → HasItsStake s → 0 < s.view.budget → r < 64 →
-    register_in s.registers r ≡ Own h → LetsGo steps.Free h r Freed (poisoned h.title s.view) seen s mid → IsReturning steps.Free seen.found.0 → HasItsStake mid
-free_stake counts owns states s mid r h seen is aware stake budget below own gone back =
-    let e = (free_returned counts owns states s r seen.found.0 h is aware stake budget below own gone.found back).touched.stakes s.thread in
-    subst (λ (z : StockValue). HasItsStake z) (sym gone.after_is) (subst (λ (n : ℕ). 0 < n) (sym e) stake)
+-- a free, whatever became of its slot
+pub free_released : CountLeaves → OwnsChange → StatesAreOwns → SlotsStaySeen →
+    (line : ℕ) (s after : StockValue) (r : ℕ) (h : Handle) (seen : Seen) → IsStock s → IsAware s.view → HasItsStake s →
+    0 < s.view.budget → r < 64 → register_in s.registers r ≡ Own h →
+    Releases line steps.Free h r Freed (poisoned h.title s.view) seen s after → IsStock after →
+    DoesOp line (ops.Free r) (answers.Done seen) s after
+free_released counts owns states stays line s after r h seen is aware stake budget below has released sound = elim released.back [
+  | inl back ↦ elim back.1 [
+    | inl put ↦ free_put counts owns states s released.between after r h seen is aware stake budget below has released.gone back.0 put line
+    | inr by_root ↦ free_settled counts owns states stays line s released.between after r h seen is aware stake budget below has
+        released.gone back.0 by_root.0 by_root.1 sound
+  ]
+  | inr held ↦
+      subst (λ (z : StockValue). DoesOp line (ops.Free r) (answers.Done seen) s z) (sym held.1)
+      (free_kept counts owns states s released.between r h seen is aware stake budget below has released.gone held.0 line)
+]

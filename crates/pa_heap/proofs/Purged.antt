@@ -16,7 +16,7 @@ use Rattle.pa_record.specs.declared.root.RootAct.{RootAct}
 use Rattle.pa_record.specs.declared.root.RootAct.TheVariants.{Purge}
 use Rattle.pa_record.specs.declared.root.RootEntry.{RootEntry}
 use Rattle.pa_record.specs.Numbers.{root_numbers}
-use Rattle.pa_record.proofs.Members.{in_cases, not_in_none, first_in, not_some}
+use Rattle.pa_lists.proofs.Members.{in_cases, not_in_none, first_in, not_some}
 use Rattle.pa_region.specs.declared.view.Entry.{Entry}
 use Rattle.pa_region.specs.declared.view.Entry.TheVariants.{Entered, Uncut}
 use Rattle.pa_region.specs.declared.view.Made.{Made}
@@ -27,17 +27,17 @@ use Rattle.pa_rules.specs.Roots.{MakesEntry}
 use Rattle.pa_told.specs.Touches.{is_touch, touches}
 use Rattle.pa_told.specs.Indices.{Enters, asks}
 use Rattle.pa_root.specs.Handing.{root_entry, numbered_by}
-use Rattle.pa_plays.specs.declared.register.Register.{Register}
-use Rattle.pa_plays.specs.Stocks.{StockValue, IsStock, titles_in, listed_in, listed_slot, regs_of}
+use Rattle.pa_plays.specs.Stocks.{StockRegister, StockValue, IsStock, titles_in, listed_in, listed_slot, regs_of}
 use Rattle.pa_plays.specs.Workers.{HasItsStake}
 use Rattle.pa_plays.specs.Outcomes.{Outcome, IsOutcome, IsSeenOf}
 use Rattle.pa_plays.specs.Plays.{DoesOp}
 use Rattle.pa_stock.specs.Purging.{PurgesRoot, without_lists}
 use Rattle.pa_plays.proofs.Seeing.{slot_in_run}
 use Rattle.pa_plays.proofs.Quiet.{same_titles, quiet_record}
-use Rattle.pa_plays.proofs.Entered.{Entering, acts_in, entering_none, entering_both, entered_append, entered_here, entered_elsewhere, makes_each, entered_does}
+use Rattle.pa_plays.proofs.Entered.{Entering, acts_in, entering_none, entering_both, entered_here, entered_elsewhere, makes_each, entered_does}
 use Rattle.pa_plays.proofs.Batches.{in_gives, gives_ask_none, acts_back, act_among}
 use Rattle.pa_stock.proofs.HandedBack.{gives_enters}
+use Rattle.pa_told.proofs.Listing.{entered_append}
 
 -- ---- entries of lists are no touches
 
@@ -222,7 +222,7 @@ purge_does line slots s now is still some =
       answers = λ o run many sees acts.
           record {
             told = some.quiet;
-            row = (slots, refl, λ k. ap (λ (rs : List Register). regs_of rs k) some.same.2);
+            row = (slots, refl, λ k. ap (λ (rs : List StockRegister). regs_of rs k) some.same.2);
             lists = (
               (λ p low. acts.here p (few p (subst (λ n. p < n) many low)) ∙ (ap acts_in (roots_at p (subst (λ n. p < n) many low)) ∙ acts_back line (purge_acts (listed_in s p) 0 59))),
               subst (λ n. slots ≡ all_listed (listed_in s) 0 n) (sym many) total,

@@ -1,40 +1,37 @@
 -- A read through a handle: what it says.
-use Rattle.std.proofs.Common.{◌≡◌, ℕ, ◌-◌, ◌/◌, ◌<◌, ◌≤◌, Bool, true, false, ◌&&◌, List, [], ◌∷◌, None, refl, sym, ◌∙◌, ap, subst, arith, inl, inr}
+use Rattle.std.proofs.Common.{◌≡◌, ℕ, ◌-◌, ◌/◌, ◌<◌, ◌≤◌, Bool, true, ◌&&◌, List, [], ◌∷◌, None, refl, sym, ◌∙◌, ap, subst, arith, inl, inr}
 use Rattle.std.specs.Prelude.{Contains}
-use Rattle.std.proofs.lemmas.List.Sums.{sum_by-le-sum_by}
 use Rattle.std.proofs.lemmas.Bool.Decides.{nat_tests}
 use Rattle.pa_machine.specs.declared.title.Title.{Title}
 use Rattle.pa_machine.specs.declared.word.SlotName.{SlotName}
 use Rattle.pa_machine.specs.Count.{held_of}
-use Rattle.pa_machine.specs.Holdings.{one}
-use Rattle.pa_machine.specs.Titles.{same_title, IsWellFormed, content_count}
+use Rattle.pa_machine.specs.Titles.{IsWellFormed, content_count}
 use Rattle.pa_trace.specs.declared.script.Op.TheVariants as ops
 use Rattle.pa_record.specs.declared.entry.Seen.{Seen}
 use Rattle.pa_record.specs.declared.entry.Answer.{Answer}
 use Rattle.pa_record.specs.declared.entry.Answer.TheVariants as answers
 use Rattle.pa_record.specs.Spans.{name_of}
-use Rattle.pa_record.proofs.Members.{in_cases, not_in_none}
+use Rattle.pa_lists.proofs.Members.{in_cases, not_in_none}
 use Rattle.pa_region.specs.declared.view.Deeds.{Deeds}
 use Rattle.pa_region.specs.declared.view.Entry.{Entry}
 use Rattle.pa_region.specs.declared.view.Entry.TheVariants.{Looked, Read}
-use Rattle.pa_region.specs.declared.view.OwnTitle.{OwnTitle}
 use Rattle.pa_region.specs.declared.view.View.{View}
 use Rattle.pa_region.specs.Views.{own_of, seen_of, least_stake, HasStake}
-use Rattle.pa_region.specs.Waiting.{is_unclean, unclean_of}
 use Rattle.pa_region.specs.Moves.{IsFound, after_look, no_deeds}
 use Rattle.pa_region.specs.Loads.{after_read, has_own, has_unclean}
 use Rattle.pa_region.specs.Leaves.{EntryLeaves, LookLeaves, OwnsChange}
 use Rattle.pa_region.specs.Aware.{IsAware}
-use Rattle.pa_rules.specs.declared.register.Reg.TheVariants as reg
+use Rattle.pa_rules.specs.declared.register.Register.TheVariants as reg
 use Rattle.pa_rules.specs.Played.{mark_at}
 use Rattle.pa_rules.specs.Registers.{Facts, Regs, ReadRow, ReadFromRow}
 use Rattle.pa_told.specs.Told.{ToldRecord}
 use Rattle.pa_told.specs.Touches.{title_of, IsReadTold}
+use Rattle.pa_rules.specs.Nexts.{looked_read}
+use Rattle.pa_rules.proofs.Nexts.{by_held}
 use Rattle.pa_cells.specs.declared.handle.Handle.{Handle}
 use Rattle.pa_told.specs.Said.{HoldsHandle, IsReadThrough}
-use Rattle.pa_plays.specs.declared.register.Register.{Register}
-use Rattle.pa_plays.specs.declared.register.Register.TheVariants.{Own}
-use Rattle.pa_plays.specs.Stocks.{StockValue, IsStock, HasHandleTo, register_in, as_reg, regs_of}
+use Rattle.pa_rules.specs.declared.register.Register.TheVariants.{Own}
+use Rattle.pa_plays.specs.Stocks.{StockRegister, StockValue, IsStock, HasHandleTo, register_in, as_reg, regs_of}
 use Rattle.pa_plays.specs.Workers.{HasItsStake}
 use Rattle.pa_stock.specs.Changes.{ReadsAt}
 use Rattle.pa_plays.specs.Outcomes.{row_facts}
@@ -48,6 +45,7 @@ use Rattle.pa_heap.proofs.Looking.{in_use}
 use Rattle.pa_plays.proofs.Quiet.{quiet_record, quiet_does}
 use Rattle.pa_plays.proofs.Refusing.{plain_does}
 use Rattle.pa_stock.proofs.Reading.{read_stock, read_view}
+use Rattle.pa_told.proofs.Closing.{none_unclean}
 
 -- a read leaves an entry, and nothing is seen by it
 touched_load : EntryLeaves → (stake : ℕ) (t : Title) (place value : ℕ) (u : View) → HasStake u → least_stake u.stakes ≡ stake →
@@ -69,16 +67,6 @@ touched_load entries stake t place value u has least =
       ];
     }
 
--- where every Own is clean, none of a title is unclean
-none_unclean : (v : View) (t : Title) → unclean_of v ≡ 0 → has_unclean v t ≡ false
-none_unclean v t clean =
-    let less = sum_by-le-sum_by (λ (o : OwnTitle). one (same_title o.title t && is_unclean o.state)) (λ (o : OwnTitle). one (is_unclean o.state)) v.owns (λ o. few (same_title o.title t) (is_unclean o.state)) in
-    grind (arith, nat_tests)
-  where
-    few : (a b : Bool) → one (a && b) ≤ one b
-    few true b = omega arith
-    few false b = omega arith
-
 -- a seat that has the title's Own has it
 own_there : (v : View) (t : Title) → 0 < own_of v t → has_own v t ≡ true
 own_there v t has = grind (arith, nat_tests)
@@ -89,18 +77,18 @@ read_entries v t word place value =
     Looked t word ∷ Read t place value no_deeds (has_own (after_look t word v) t) (has_unclean (after_look t word v) t) ∷ []
 
 -- the row, by the handle
-read_row : (r : Register) (h : Handle) (facts : Facts) (regs : Regs) (place : ℕ) (answer : Answer) (after : Regs) → HasHandleTo h r →
+read_row : (r : StockRegister) (h : Handle) (facts : Facts) (regs : Regs) (place : ℕ) (answer : Answer) (after : Regs) → HasHandleTo h r →
     ReadFromRow (name_of h.title) facts regs place answer after → ReadRow (as_reg r) facts regs place answer after
 read_row r h facts regs place answer after (inl own) row = subst (λ x. ReadRow (as_reg x) facts regs place answer after) (sym own) row
 read_row r h facts regs place answer after (inr ref) row = subst (λ x. ReadRow (as_reg x) facts regs place answer after) (sym ref) row
 
 -- the slot of a register's handle, by the rules' name
-handle_name : (r : Register) (h : Handle) (s : SlotName) → HasHandleTo h r → HoldsHandle (as_reg r) s → s ≡ name_of h.title
+handle_name : (r : StockRegister) (h : Handle) (s : SlotName) → HasHandleTo h r → HoldsHandle (as_reg r) s → s ≡ name_of h.title
 handle_name r h s (inl own) is = sym (subst (λ x. HoldsHandle (as_reg x) s) own is)
 handle_name r h s (inr ref) is = sym (subst (λ x. HoldsHandle (as_reg x) s) ref is)
 
 -- a register that has an Own by the rules has it
-own_by : (r : Register) (h : Handle) (s : SlotName) → HasHandleTo h r → as_reg r ≡ reg.Own s → r ≡ Own h
+own_by : (r : StockRegister) (h : Handle) (s : SlotName) → HasHandleTo h r → as_reg r ≡ reg.Own s → r ≡ Own h
 own_by r h s (inl own) is = own
 own_by r h s (inr ref) is = absurd (no (subst (λ x. as_reg x ≡ reg.Own s) ref is))
   where
@@ -246,6 +234,12 @@ module _ (looks : LookLeaves) (entries : EntryLeaves) (s : StockValue) (n reg pl
   read_does owns (answers.Full entry) is_read line = absurd is_read
   read_does owns (answers.Swapped entry) is_read line = absurd is_read
   read_does owns (answers.Purged slots) is_read line = absurd is_read
+
+pub looked_of_read : (seen : Seen) (value : ℕ) → IsOfRead (looked_read seen value) seen value
+looked_of_read seen value = elim (by_held seen.found.0 (answers.Value seen value) (answers.Dangling seen value)) [
+  | inl h ↦ subst (λ (a : Answer). IsOfRead a seen value) (sym h.1) (refl, refl, h.0)
+  | inr h ↦ subst (λ (a : Answer). IsOfRead a seen value) (sym h.1) (refl, refl, h.0)
+]
 
 -- the same by what the call says
 pub read_op_does : LookLeaves → EntryLeaves → OwnsChange → (s after : StockValue) (n reg place value : ℕ) (h : Handle) (seen : Seen) (answer : Answer) → IsStock s → IsAware s.view → HasItsStake s → reg < 64 →

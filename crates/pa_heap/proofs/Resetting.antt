@@ -1,5 +1,5 @@
 -- A reset of a raw_ptr: what it says where its step doesn't return the slot.
-use Rattle.std.proofs.Common.{◌≡◌, ℕ, ◌<◌, [], ◌∷◌, length, Some, refl, sym, ◌∙◌, ap, subst, arith, inr}
+use Rattle.std.proofs.Common.{◌≡◌, ℕ, ◌<◌, [], ◌∷◌, length, Some, refl, sym, ap, subst, arith, inr}
 use Rattle.std.specs.Prelude.{slice_set}
 use Rattle.pa_machine.specs.declared.word.Step.TheVariants as steps
 use Rattle.pa_machine.specs.Run.{IsReturning}
@@ -11,15 +11,12 @@ use Rattle.pa_region.specs.declared.view.Entry.TheVariants.{Counted}
 use Rattle.pa_region.specs.Moves.{IsFound, after_count}
 use Rattle.pa_region.specs.Leaves.{CountLeaves}
 use Rattle.pa_region.specs.Aware.{IsAware}
-use Rattle.pa_rules.specs.declared.register.Reg.TheVariants as reg
+use Rattle.pa_rules.specs.declared.register.Register.TheVariants as reg
 use Rattle.pa_rules.specs.Played.{mark_at}
 use Rattle.pa_rules.specs.Registers.{Regs, with, Becomes, ResetRow}
-use Rattle.pa_count.specs.declared.steps.Fate.{Fate}
-use Rattle.pa_count.specs.declared.steps.Fate.TheVariants.{Kept, Last}
 use Rattle.pa_cells.specs.declared.handle.Handle.{Handle}
-use Rattle.pa_plays.specs.declared.register.Register.{Register}
-use Rattle.pa_plays.specs.declared.register.Register.TheVariants.{Ref, Cleared}
-use Rattle.pa_plays.specs.Stocks.{StockValue, IsStock, register_in, as_reg, regs_of}
+use Rattle.pa_rules.specs.declared.register.Register.TheVariants.{Ref, Cleared}
+use Rattle.pa_plays.specs.Stocks.{StockRegister, StockValue, IsStock, register_in, as_reg, regs_of}
 use Rattle.pa_plays.specs.Workers.{HasItsStake}
 use Rattle.pa_stock.specs.Changes.{LetsGo}
 use Rattle.pa_plays.specs.Plays.{DoesOp}
@@ -31,7 +28,7 @@ use Rattle.pa_stock.proofs.Looking.{seen_at}
 use Rattle.pa_plays.proofs.Quiet.{quiet_does}
 use Rattle.pa_stock.proofs.Resetting.{can_reset, cleared}
 
-pub reset_row : (q : Register) (h : Handle) (seen : Seen) (regs : Regs) (r : ℕ) (after : Regs) → q ≡ Ref h → seen.slot ≡ name_of h.title → Becomes after (with regs r reg.Cleared) →
+pub reset_row : (q : StockRegister) (h : Handle) (seen : Seen) (regs : Regs) (r : ℕ) (after : Regs) → q ≡ Ref h → seen.slot ≡ name_of h.title → Becomes after (with regs r reg.Cleared) →
     ResetRow (as_reg q) regs r (answers.Done seen) after
 reset_row q h seen regs r after ref slot becomes = subst (λ x. ResetRow (as_reg x) regs r (answers.Done seen) after) (sym ref) (seen, slot, refl, becomes)
 
@@ -67,10 +64,3 @@ reset_kept counts s after r h seen is aware stake budget below ref gone stays li
     subst (λ x. DoesOp line (ops.Reset r) (answers.Done x) s after) (sym e)
     (subst (DoesOp line (ops.Reset r) (answers.Done (seen_at h seen.found.0)) s) (sym gone.after_is)
     (cleared_does counts s r seen.found.0 h is aware stake budget below ref gone.found stays line))
-
--- a fate isn't both
-pub not_last : (fate : Fate) → fate ≡ Last → fate ≡ Kept → ⊥
-not_last fate last kept = no (sym last ∙ kept)
-  where
-    no : Last ≡ Kept → ⊥
-    no e = cc

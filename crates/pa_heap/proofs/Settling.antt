@@ -14,7 +14,7 @@ use Rattle.pa_record.specs.declared.root.RootAct.{RootAct}
 use Rattle.pa_record.specs.declared.root.RootAct.TheVariants.{Give, Unmap}
 use Rattle.pa_record.specs.Numbers.{root_numbers}
 use Rattle.pa_record.specs.Spans.{name_of}
-use Rattle.pa_record.proofs.Members.{in_cases, not_in_none, first_in, later_in}
+use Rattle.pa_lists.proofs.Members.{in_cases, not_in_none, first_in, later_in}
 use Rattle.pa_region.specs.declared.view.Entry.{Entry}
 use Rattle.pa_region.specs.declared.view.Entry.TheVariants.{Entered, Uncut}
 use Rattle.pa_region.specs.declared.view.Made.{Made}
@@ -30,8 +30,7 @@ use Rattle.pa_cache.specs.Caches.{CacheList}
 use Rattle.pa_root.specs.Handing.{at_number_seen, numbered_by, root_entry}
 use Rattle.pa_cells.specs.declared.handle.Handle.{Handle}
 use Rattle.pa_cells.specs.Handles.{SlotsStaySeen}
-use Rattle.pa_plays.specs.declared.register.Register.{Register}
-use Rattle.pa_plays.specs.Stocks.{StockValue, IsStock, cache_place, titles_in, listed_in}
+use Rattle.pa_plays.specs.Stocks.{StockRegister, StockValue, IsStock, cache_place, titles_in, listed_in}
 use Rattle.pa_stock.specs.Changes.{put_in_front}
 use Rattle.pa_stock.specs.Giving.{GivesTail}
 use Rattle.pa_stock.specs.Homing.{ComesHome, GoesHome, Spills, without_title, note_of_title}
@@ -82,7 +81,7 @@ none_kept c x none = (rw none refl, rw none refl)
 -- ---- lists after a step
 
 -- the lists as they were before the step, each title at its number
-step_lists : (op : Op) (step : Step) (h : Handle) (word : ℕ) (s : StockValue) (w : View) (rs : List Register) → IsStock s → HasReturned op step h word s w rs →
+step_lists : (op : Op) (step : Step) (h : Handle) (word : ℕ) (s : StockValue) (w : View) (rs : List StockRegister) → IsStock s → HasReturned op step h word s w rs →
     SameLists (listed_in (record s { view = w; registers = rs })) (listed_in s)
 step_lists op step h word s w rs is of p class =
     same_titles s.view w (titles_in s.caches p class) (λ t among. of.touched.numbers t (is.lists.free p class t among))
@@ -111,11 +110,11 @@ uncut_tells line t v w e among = elim (in_cases (Uncut t) e [] among) [
 ]
 
 -- the title in its note, at the number that the step left
-in_note : (op : Op) (step : Step) (h : Handle) (word : ℕ) (s : StockValue) (w : View) (rs : List Register) → HasReturned op step h word s w rs →
+in_note : (op : Op) (step : Step) (h : Handle) (word : ℕ) (s : StockValue) (w : View) (rs : List StockRegister) → HasReturned op step h word s w rs →
     at_number_seen (note_of_title h.title w) h.title ≡ left_at h word
 in_note op step h word s w rs of = ap (λ n. record { slot = name_of h.title; number = n }) of.number
 
-pub home_does : SlotsStaySeen → (op : Op) (step : Step) (h : Handle) (word line : ℕ) (s after : StockValue) (w : View) (rs : List Register) → IsStock s →
+pub home_does : SlotsStaySeen → (op : Op) (step : Step) (h : Handle) (word line : ℕ) (s after : StockValue) (w : View) (rs : List StockRegister) → IsStock s →
     HasReturned op step h word s w rs → ((class : ℕ) → h.class ≡ Some class → (class < 59) × (limit_of class ≡ 0)) →
     GoesHome line h (record s { view = w; registers = rs }) after → DoesOp line op (answers.Done (seen_at h word)) s after
 home_does stays op step h word line s after w rs is of bare home = by_class h.class refl home.comes
@@ -181,7 +180,7 @@ taken_from (suc n) (u ∷ ts) t among = elim (in_cases u t (take n ts) among) [
   | inr later ↦ later_in u t ts (taken_from n ts t later)
 ]
 
-length_numbered : (v : View) (ts : List Title) → length (numbered_by v ts) ≡ length ts
+pub length_numbered : (v : View) (ts : List Title) → length (numbered_by v ts) ≡ length ts
 length_numbered v [] = refl
 length_numbered v (t ∷ ts) = ap suc (length_numbered v ts)
 
@@ -197,7 +196,7 @@ tail_tells line p (a ∷ acts) (m ∷ ms) v w low says e among =
       | inr later ↦ tail_tells line p acts ms v w low rest e later
     ]
 
-pub spill_does : SlotsStaySeen → (op : Op) (step : Step) (h : Handle) (class word line : ℕ) (s after : StockValue) (w : View) (rs : List Register) → IsStock s → IsStock after →
+pub spill_does : SlotsStaySeen → (op : Op) (step : Step) (h : Handle) (class word line : ℕ) (s after : StockValue) (w : View) (rs : List StockRegister) → IsStock s → IsStock after →
     HasReturned op step h word s w rs → h.class ≡ Some class → class < 59 → 0 < limit_of class →
     limit_of class ≤ length (titles_in s.caches h.partition class) →
     Spills line h class (record s { view = w; registers = rs }) after → DoesOp line op (answers.Done (seen_at h word)) s after

@@ -1,9 +1,8 @@
 -- A seat takes others in.
-use Rattle.std.proofs.Common.{◌≡◌, ℕ, List, [], ◌∷◌, ◌++◌, refl, sym, ◌∙◌, ap, subst, arith, append-nil, inl, inr}
+use Rattle.std.proofs.Common.{◌≡◌, ℕ, List, [], ◌∷◌, ◌++◌, refl, sym, ◌∙◌, ap, subst, arith, append-nil}
 use Rattle.std.specs.List.{sum_by}
 use Rattle.std.specs.Prelude.{◌==◌}
-use Rattle.std.proofs.lemmas.List.Sums.{sum_by-cons, sum_by-append}
-use Rattle.std.proofs.lemmas.Bool.Decides.{eqb_tells}
+use Rattle.std.proofs.lemmas.List.Sums.{sum_by-append}
 use Rattle.pa_machine.specs.Titles.{same_title}
 use Rattle.pa_machine.specs.Holdings.{one}
 use Rattle.pa_region.specs.declared.view.Keeper.{Keeper}
@@ -19,7 +18,8 @@ use Rattle.pa_region.specs.Lending.{CanHost}
 use Rattle.pa_region.proofs.LendBack.{begins_on}
 use Rattle.pa_region.proofs.SeenJoin.{seen_left, seen_right}
 use Rattle.pa_region.proofs.TakeLaws.{left_begins, right_begins, left_whole, right_whole}
-use Rattle.pa_heap.specs.Closing.{IsWithin, TakesOthersIn, LeavesPool, LeavesRoot, LeavesCells, LeavesWorker}
+use Rattle.pa_heap.specs.Closing.{IsWithin, TakesOthersIn, LeavesPool, LeavesRoot, LeavesWorker}
+use Rattle.pa_stock.proofs.Parking.{no_stakes}
 
 -- what a view has, it has; and what has that which has it
 pub within_same : (v : View) → IsWithin v v
@@ -70,17 +70,6 @@ right_within v w aware both = record {
   seen = λ t. seen_right t v.seen w.seen;
 }
 
--- who has no stake has none in its list
-no_stakes : (ss : List Stake) → ((k : ℕ) → sum_by (λ (s : Stake). one (s.number == k)) ss ≡ 0) → ss ≡ []
-no_stakes [] none = refl
-no_stakes (s ∷ ss) none =
-    let c = sum_by-cons (λ (x : Stake). one (x.number == s.number)) s ss in
-    let z = none s.number in
-    elim (eqb_tells s.number s.number) [
-      | inl y ↦ (let d : one (s.number == s.number) ≡ 1 = ap one y.0 in absurd (omega arith))
-      | inr n ↦ absurd (n.1 refl)
-    ]
-
 -- so a note without stakes is taken in
 pub joins : (v w after : View) → after ≡ united v w → CanHost w → IsAware v → IsAware w → IsAware after → TakesOthersIn v after × IsWithin w after
 joins v w after is host aware other both =
@@ -105,10 +94,6 @@ pool_on words v w left on =
 pub root_on : (p : ℕ) (v w : View) → {es : _} → LeavesRoot p es v → IsWithin v w → LeavesRoot p es w
 root_on p v w left on =
     record { root = left.root; journal_is = left.journal_is; kept = left.kept; within = within_on left.root.view v w left.within on }
-
-pub cells_on : (v w : View) → {hs : _} → LeavesCells hs v → IsWithin v w → LeavesCells hs w
-cells_on v w left on =
-    record { cells = left.cells; histories_are = left.histories_are; kept = left.kept; within = within_on left.cells.view v w left.within on }
 
 pub worker_on : (v w : View) → {x : _} → LeavesWorker v x → IsWithin v w → LeavesWorker w x
 worker_on v w {x} left on = record { stock = left.stock; within = within_on x.stock.view v w left.within on }

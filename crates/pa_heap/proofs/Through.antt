@@ -1,7 +1,5 @@
 -- A free and a write through a raw_ptr, which only look.
-use Rattle.std.proofs.Common.{◌≡◌, ℕ, ◌<◌, Bool, false, Some, refl, sym, ◌∙◌, ap, subst, arith, ◌⊎◌, inl, inr}
-use Rattle.std.specs.Prelude.{IsTrue, ◌↔◌}
-use Rattle.std.proofs.lemmas.Bool.{true≢false}
+use Rattle.std.proofs.Common.{◌≡◌, ℕ, ◌<◌, Some, refl, sym, ap, subst, ◌⊎◌, inl, inr}
 use Rattle.pa_machine.specs.Count.{held_of}
 use Rattle.pa_trace.specs.declared.script.Op.TheVariants as ops
 use Rattle.pa_record.specs.declared.entry.Seen.{Seen}
@@ -12,20 +10,13 @@ use Rattle.pa_region.specs.Leaves.{LookLeaves}
 use Rattle.pa_region.specs.Aware.{IsAware}
 use Rattle.pa_rules.specs.Registers.{FreeRow, WriteRow}
 use Rattle.pa_cells.specs.declared.handle.Handle.{Handle}
-use Rattle.pa_plays.specs.declared.register.Register.TheVariants.{Ref}
+use Rattle.pa_rules.specs.declared.register.Register.TheVariants.{Ref}
 use Rattle.pa_plays.specs.Stocks.{StockValue, IsStock, register_in, as_reg, regs_of}
 use Rattle.pa_plays.specs.Workers.{HasItsStake}
 use Rattle.pa_stock.specs.Changes.{LooksAtSlot}
 use Rattle.pa_plays.specs.Plays.{DoesOp}
 use Rattle.pa_heap.proofs.Looking.{IsOfLook, looked_does}
 use Rattle.pa_stock.proofs.Looking.{seen_at}
-
--- where the bit isn't 1, it is 0
-pub bit_is_off : (b : Bool) (word : ℕ) → (IsTrue b ↔ (held_of word ≡ 1)) → b ≡ false → held_of word ≡ 0
-bit_is_off b word tells off = go (held_of word) refl
-  where
-    go : (n : ℕ) → n ≡ held_of word → held_of word ≡ 0
-    go n e = let bound : held_of word < 2 = omega arith in let not_one : held_of word ≡ 1 → ⊥ = λ h. true≢false (sym (tells.1 h) ∙ off) in omega arith
 
 -- what was seen is what a look at the handle's slot answers
 seen_is : (h : Handle) (seen : Seen) → seen.slot ≡ name_of h.title → seen ≡ seen_at h seen.found.0

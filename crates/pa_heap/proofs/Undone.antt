@@ -8,9 +8,8 @@ use Rattle.pa_region.specs.Takes.{BeginningsJoin, SeenJoins, ListsJoin, FreeNumb
 use Rattle.pa_region.specs.Hands.{left_after, given_after, united}
 use Rattle.pa_region.specs.Aware.{IsAware}
 use Rattle.pa_cells.specs.Handles.{ParkedHandle, GiversLackHandles, TakersHaveHandles}
-use Rattle.pa_plays.specs.declared.register.Register.{Register}
-use Rattle.pa_plays.specs.declared.register.Register.TheVariants.{Empty}
-use Rattle.pa_plays.specs.Stocks.{StockValue, IsStock, register_in}
+use Rattle.pa_rules.specs.declared.register.Register.TheVariants.{Empty}
+use Rattle.pa_plays.specs.Stocks.{StockRegister, StockValue, IsStock, register_in}
 use Rattle.pa_stock.specs.Exchanging.{Parks, TakesIn, TakesHandleIn, IsUndone, register_of, handle_parcel}
 use Rattle.pa_stock.proofs.Parking.{parked_rests, taken_rests, holds_given}
 
@@ -31,10 +30,10 @@ undone_none s = record {
 }
 
 -- a register that is emptied and gets what it had
-set_back : (rs : List Register) (i : ℕ) (r : Register) → i < length rs → register_in rs i ≡ r → slice_set (slice_set rs i Empty) i r ≡ rs
+set_back : (rs : List StockRegister) (i : ℕ) (r : StockRegister) → i < length rs → register_in rs i ≡ r → slice_set (slice_set rs i Empty) i r ≡ rs
 set_back [] i r within has = absurd (omega arith)
-set_back (x ∷ xs) zero r within has = ap (λ (y : Register). y ∷ xs) (sym has)
-set_back (x ∷ xs) (suc i) r within has = ap (λ (ys : List Register). x ∷ ys) (set_back xs i r (omega arith) has)
+set_back (x ∷ xs) zero r within has = ap (λ (y : StockRegister). y ∷ xs) (sym has)
+set_back (x ∷ xs) (suc i) r within has = ap (λ (ys : List StockRegister). x ∷ ys) (set_back xs i r (omega arith) has)
 
 back : GiversLackHandles → TakersHaveHandles → BeginningsJoin → SeenJoins → ListsJoin → FreeNumbersStay → (s : StockValue) (reg : ℕ) (p : ParkedHandle) →
     IsStock s → reg < 64 → register_in s.registers reg ≡ register_of p → p.note.view ≡ given_after (handle_parcel p) s.view →

@@ -14,8 +14,8 @@ use Rattle.pa_record.specs.declared.root.RootEntry.{RootEntry}
 use Rattle.pa_record.specs.declared.root.RootAct.TheVariants.{Unmap}
 use Rattle.pa_record.specs.Numbers.{root_numbers}
 use Rattle.pa_record.specs.Spans.{name_of}
-use Rattle.pa_record.proofs.Joined.{map_cases}
-use Rattle.pa_record.proofs.Members.{in_cases, not_in_none, first_in}
+use Rattle.pa_lists.proofs.Joined.{map_cases}
+use Rattle.pa_lists.proofs.Members.{in_cases, not_in_none, first_in}
 use Rattle.pa_region.specs.declared.view.Entry.{Entry}
 use Rattle.pa_region.specs.declared.view.Entry.TheVariants.{Counted, Entered, Uncut}
 use Rattle.pa_region.specs.declared.view.Made.{Made}
@@ -26,7 +26,7 @@ use Rattle.pa_rules.specs.Played.{mark_at}
 use Rattle.pa_rules.specs.Registers.{Row}
 use Rattle.pa_rules.specs.Caches.{IsDirect, SameLists, acts_of}
 use Rattle.pa_rules.specs.Roots.{MakesEntry}
-use Rattle.pa_legal.proofs.Parts.{parts_at}
+use Rattle.pa_lists.proofs.Parts.{parts_at}
 use Rattle.pa_told.proofs.Filters.{get_in}
 use Rattle.pa_told.specs.Told.{ToldRecord}
 use Rattle.pa_told.specs.Indices.{Enters, AskedOnce, asks}
@@ -35,8 +35,7 @@ use Rattle.pa_pool.specs.Calls.{give_entry}
 use Rattle.pa_root.specs.Handing.{UnmapTakes, at_number_seen, root_entry}
 use Rattle.pa_cells.specs.declared.handle.Handle.{Handle}
 use Rattle.pa_cells.specs.Handles.{HandsOut, HasSeenMade, SlotsStaySeen}
-use Rattle.pa_plays.specs.declared.register.Register.{Register}
-use Rattle.pa_plays.specs.Stocks.{StockValue, regs_of, listed_in}
+use Rattle.pa_plays.specs.Stocks.{StockRegister, StockValue, regs_of, listed_in}
 use Rattle.pa_plays.specs.Outcomes.{Outcome, IsOutcome, IsSeenOf, row_facts}
 use Rattle.pa_plays.specs.Entering.{HasSeenSome}
 use Rattle.pa_plays.specs.Plays.{DoesOp, AnswersIn}
@@ -68,7 +67,7 @@ entered_no_uncut k m u e = cc
 same_unmap : (a b : ℕ) (x y : Numbered) → Unmap a x ≡ Unmap b y → x ≡ y
 same_unmap a b x y e = cc
 
-pub unmap_does : SlotsStaySeen → (op : Op) (step : Step) (h : Handle) (word line : ℕ) (s after : StockValue) (w : View) (rs : List Register) (y note : View) →
+pub unmap_does : SlotsStaySeen → (op : Op) (step : Step) (h : Handle) (word line : ℕ) (s after : StockValue) (w : View) (rs : List StockRegister) (y note : View) →
     HasReturned op step h word s w rs → h.class ≡ None →
     after.thread ≡ s.thread → after.partitions ≡ s.partitions → after.registers ≡ rs →
     (takes : UnmapTakes s.thread h.partition line y after.view note h.title) →

@@ -22,9 +22,8 @@ use Rattle.pa_rules.specs.Registers.{Regs, WriteRow}
 use Rattle.pa_told.specs.Touches.{title_of}
 use Rattle.pa_quarantine.specs.Filling.{filled}
 use Rattle.pa_cells.specs.declared.handle.Handle.{Handle}
-use Rattle.pa_plays.specs.declared.register.Register.{Register}
-use Rattle.pa_plays.specs.declared.register.Register.TheVariants.{Own}
-use Rattle.pa_plays.specs.Stocks.{StockValue, IsStock, register_in, as_reg, regs_of}
+use Rattle.pa_rules.specs.declared.register.Register.TheVariants.{Own}
+use Rattle.pa_plays.specs.Stocks.{StockRegister, StockValue, IsStock, register_in, as_reg, regs_of}
 use Rattle.pa_plays.specs.Workers.{HasItsStake}
 use Rattle.pa_stock.specs.Changes.{CanFill, LooksAtSlot, WritesTo}
 use Rattle.pa_plays.specs.Plays.{DoesOp}
@@ -71,15 +70,10 @@ touched_fill counts owns states fills n s value word h is stake budget well long
     (least_is s.thread s.view is.stake stake).0 leaves.lists leaves.seen held (λ u. let x = leaves.frees u in omega arith)
     (found.not_older, now_seen t (number_of word + 1) (seen_of w t) (seen_of s.view t) (leaves.seen t)))
 
-write_row : (r : Register) (h : Handle) (word : ℕ) (regs : Regs) → r ≡ Own h → refs_of word ≡ 0 →
+write_row : (r : StockRegister) (h : Handle) (word : ℕ) (regs : Regs) → r ≡ Own h → refs_of word ≡ 0 →
     WriteRow (as_reg r) regs (answers.Done (seen_at h word)) regs
 write_row r h word regs own none =
     subst (λ x. WriteRow (as_reg x) regs (answers.Done (seen_at h word)) regs) (sym own) (seen_at h word, refl, λ k. refl, inr (none, refl))
-
-pub shared_row : (r : Register) (h : Handle) (word : ℕ) (regs : Regs) → r ≡ Own h → 0 < refs_of word →
-    WriteRow (as_reg r) regs (answers.Shared (seen_at h word)) regs
-shared_row r h word regs own some =
-    subst (λ x. WriteRow (as_reg x) regs (answers.Shared (seen_at h word)) regs) (sym own) (seen_at h word, refl, λ k. refl, inl (some, refl))
 
 -- The write does what it should: `first` is the word of the look.
 pub filled_does : CountLeaves → LookLeaves → OwnsChange → StatesAreOwns → FilledWords → (n : ℕ) (s : StockValue) (reg value first word : ℕ) (h : Handle) → IsStock s → IsAware s.view →

@@ -10,6 +10,7 @@ use Rattle.pa_record.specs.Pool.{IsPool}
 use Rattle.pa_record.specs.Root.{Root, new_root, root_replayed, IsJournal}
 use Rattle.pa_record.specs.Sound.{IsMade}
 use Rattle.pa_record.specs.Spans.{name_of}
+use Rattle.pa_trace.specs.Limits.{cell_count, most_partitions}
 use Rattle.pa_region.specs.declared.view.View.{View}
 use Rattle.pa_region.specs.Views.{free_of, seen_of, stake_of, HasEveryStake}
 use Rattle.pa_region.specs.Waiting.{unclean_of}
@@ -95,10 +96,10 @@ root_left l p = root_replayed l.pool.items (journal_left l p) new_root
 pub record LeavesLists (words : ℕ) (last : View) (left : Left) : Type 0 where
   pub pool : IsPoolList (list_of 4 last) left.pool.items
   pub fits : (supers : ℕ) → words ≡ 262144 * supers → IsPool supers left.pool.items
-  pub lists : (p : ℕ) → p < 4 → IsJournalOf (list_of p last) (journal_left left p)
+  pub lists : (p : ℕ) → p < most_partitions → IsJournalOf (list_of p last) (journal_left left p)
   pub journals : (p : ℕ) → IsJournal left.pool.items (journal_left left p)
   pub numbers : AreNumbered (journal_left left)
-  pub count : length left.cells.items ≡ 64
+  pub count : length left.cells.items ≡ cell_count
   pub exchanges : (xs : List Exchange) × AreExchanges (list_of 5 last) left.cells.items xs
   pub chain : (k : ℕ) → IsChain Nothing (history_left left k)
 

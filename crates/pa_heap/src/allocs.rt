@@ -1,25 +1,66 @@
-ghost use Rattle.std.specs.Prelude.{◌≡◌, ◌+◌, ◌<◌, ◌≤◌, [], max, IfOk, OnErr};
+//! A worker's allocation.
+ghost use Rattle.std.specs.Prelude.{◌≡◌, ◌+◌, ◌<◌, ◌≤◌, [], max, IfOk, OnOk, OnErr, true};
 ghost use Rattle.pa_buckets.specs.Classes.{IsClassOf};
 ghost use Rattle.pa_direct.specs.Shapes.{greatest_size, IsDirectSize};
 ghost use Rattle.pa_trace.specs.declared.script.Op.TheVariants as ops;
+ghost use Rattle.pa_trace.specs.Limits.{register_count};
 ghost use Rattle.pa_plays.specs.Stocks.{HasNoHandle, register_in, titles_in};
-ghost use Rattle.pa_plays.specs.Workers.{HasItsStake};
-ghost use Rattle.pa_plays.specs.Plays.{DoesOp};
+ghost use Rattle.pa_plays.specs.Workers.{HasItsStake, CanPlayOp, KeepsOn};
+ghost use Rattle.pa_plays.specs.Plays.{DoesOp, PlaysOp};
+ghost use Rattle.pa_stock.specs.Exchanging.{IsUndone};
 
+use crate::counts::{count_step, made, owned};
+use crate::worker::{Worker, enter};
 use pa_buckets::{Class, class_of, raw_of};
 use pa_cells::Handle;
 use pa_direct::{GREATEST_SIZE, shape};
-use pa_machine::OutOfMemory;
-use pa_plays::Register;
+use pa_machine::{OutOfMemory, Step};
 use pa_record::Answer;
 use pa_region::{Name, counted_steps_leave};
 use pa_root::FillFault;
 use pa_stock::{Heap, Stock};
 use std::sync::Wait;
 
+impl<N: Name> Worker<N> {
+    /// An allocation of so many bytes in a partition, on this line: the register owns the slot then. It waits for the lock of the
+    /// partition's root, where it needs that. After want of memory the worker is stopped, and all else is as before.
+    pub fn alloc<R: Wait>(
+        &mut self,
+        rt: &R,
+        heap: &Heap<N>,
+        line: u32,
+        reg: u32,
+        partition: u32,
+        size: u32,
+    ) -> Result<Answer, OutOfMemory>
+        requires ready { CanPlayOp self.old }
+        requires reg { reg < register_count }
+        requires partition { partition < self.old.stock.partitions }
+        ensures plays { IfOk result (λ answer. PlaysOp line (ops.Alloc reg partition size) answer self.old self.new) }
+        ensures goes_on { OnOk result (KeepsOn self.old self.new) }
+        ensures stops { OnErr result (self.new.stopped ≡ true) }
+        ensures undone { OnErr result (IsUndone self.old.stock self.new.stock) }
+        ensures same { OnErr result ((self.new.records ≡ self.old.records) × (self.new.room ≡ self.old.room)) }
+    {
+        match alloc(&mut self.stock, rt, heap, line, reg, partition, size) {
+            Ok(answer) => {
+                self.stock.kept();
+                let handle = owned(self.stock.register(reg));
+                count_step(&mut self.counts, Step::Issue, handle, made(&answer));
+                enter(&mut self.records, self.stock.thread(), line, answer);
+                Ok(answer)
+            }
+            Err(OutOfMemory) => {
+                self.stopped = true;
+                Err(OutOfMemory)
+            }
+        }
+    }
+}
+
 // An allocation of so many bytes in a partition, on this line: the register owns the slot then. After want of memory
 // nothing changed.
-pub(crate) fn alloc<N: Name, R: Wait>(
+fn alloc<N: Name, R: Wait>(
     stock: &mut Stock<N>,
     rt: &R,
     heap: &Heap<N>,
@@ -30,19 +71,18 @@ pub(crate) fn alloc<N: Name, R: Wait>(
 ) -> Result<Answer, OutOfMemory>
     requires stake { HasItsStake stock.old }
     requires budget { 0 < stock.old.view.budget }
-    requires reg { reg < 64 }
+    requires reg { reg < register_count }
     requires partition { partition < stock.old.partitions }
     ensures does { IfOk result (λ answer. DoesOp line (ops.Alloc reg partition size) answer stock.old stock.new) }
     ensures budget { stock.old.view.budget ≤ stock.new.view.budget + 1 }
     ensures same { OnErr result (stock.new ≡ stock.old) }
 {
     stock.kept();
-    match stock.register(reg) {
-        Register::Own(_) => Ok(Answer::Filled),
-        Register::Ref(_) => Ok(Answer::Filled),
-        Register::Empty => request(stock, rt, heap, line, reg, partition, size),
-        Register::Freed => request(stock, rt, heap, line, reg, partition, size),
-        Register::Cleared => request(stock, rt, heap, line, reg, partition, size),
+    let filled = stock.register(reg).has_handle();
+    if filled {
+        Ok(Answer::Filled)
+    } else {
+        request(stock, rt, heap, line, reg, partition, size)
     }
 }
 
@@ -58,7 +98,7 @@ fn request<N: Name, R: Wait>(
 ) -> Result<Answer, OutOfMemory>
     requires stake { HasItsStake stock.old }
     requires budget { 0 < stock.old.view.budget }
-    requires reg { reg < 64 }
+    requires reg { reg < register_count }
     requires partition { partition < stock.old.partitions }
     requires none { HasNoHandle (register_in stock.old.registers reg) }
     ensures does { IfOk result (λ answer. DoesOp line (ops.Alloc reg partition size) answer stock.old stock.new) }
@@ -88,7 +128,7 @@ fn alloc_slot<N: Name, R: Wait>(
 ) -> Result<Answer, OutOfMemory>
     requires stake { HasItsStake stock.old }
     requires budget { 0 < stock.old.view.budget }
-    requires reg { reg < 64 }
+    requires reg { reg < register_count }
     requires partition { partition < stock.old.partitions }
     requires none { HasNoHandle (register_in stock.old.registers reg) }
     requires class { (size ≤ greatest_size) × IsClassOf (max size 1 + 8) class }
@@ -127,7 +167,7 @@ fn alloc_filled<N: Name, R: Wait>(
 ) -> Result<Answer, OutOfMemory>
     requires stake { HasItsStake stock.old }
     requires budget { 0 < stock.old.view.budget }
-    requires reg { reg < 64 }
+    requires reg { reg < register_count }
     requires partition { partition < stock.old.partitions }
     requires none { HasNoHandle (register_in stock.old.registers reg) }
     requires class { (size ≤ greatest_size) × IsClassOf (max size 1 + 8) class }
@@ -171,7 +211,7 @@ fn alloc_map<N: Name, R: Wait>(
 ) -> Result<Answer, OutOfMemory>
     requires stake { HasItsStake stock.old }
     requires budget { 0 < stock.old.view.budget }
-    requires reg { reg < 64 }
+    requires reg { reg < register_count }
     requires partition { partition < stock.old.partitions }
     requires none { HasNoHandle (register_in stock.old.registers reg) }
     requires direct { IsDirectSize size }

@@ -1,11 +1,14 @@
 //! What a worker counts of its steps, for the lines of the report.
 ghost use Rattle.std.specs.Prelude.{◌≡◌, ℕ, ◌+◌, ◌<◌, IfSome, true};
+ghost use Rattle.pa_trace.specs.Limits.{most_partitions};
 ghost use Rattle.pa_plays.specs.Counts.{AreOfSteps, IsOfSteps, after_step, counts_after, done_seen, made_seen, owned_in, pointed_in, one_slot_more};
 
 use pa_cells::Handle;
-use pa_machine::{Step, Word, held, refs};
-use pa_plays::{Count, Register};
+use pa_machine::{Step, Word, refs, returns};
+use pa_plays::Count;
 use pa_record::{Answer, Seen, Tally};
+use pa_rules::Register;
+use pa_trace::MOST_PARTITIONS;
 
 // Nothing counted yet.
 const NONE: Tally = Tally { slots: 0, bytes: 0 };
@@ -20,13 +23,13 @@ pub(crate) const START: Count = Count {
 
 // Counts what an op did, on the slot of a handle, where it made the step and found this.
 pub(crate) fn count_step(
-    counts: &mut [Count; 4],
+    counts: &mut [Count; MOST_PARTITIONS as usize],
     step: Step,
     handle: Option<Handle>,
     seen: Option<Seen>,
 )
     requires small { AreOfSteps 4294967295 counts.old }
-    requires handle { IfSome handle (λ h. h.partition < 4) }
+    requires handle { IfSome handle (λ h. h.partition < most_partitions) }
     ensures counts { counts.new ≡ counts_after step handle seen counts.old }
     ensures small { (n : ℕ) → AreOfSteps n counts.old → AreOfSteps (n + 1) counts.new }
 {
@@ -51,7 +54,7 @@ fn stepped(count: Count, step: Step, found: Word, bytes: u32) -> Count
         Step::Issue => count.issued = one_more(count.issued, bytes),
         Step::Copy => {}
         Step::Reset => {
-            if !held(found) && refs(found) == 1 {
+            if returns(step, found) {
                 count.left = one_more(count.left, bytes);
             }
         }
@@ -78,7 +81,7 @@ fn one_more(tally: Tally, bytes: u32) -> Tally
 }
 
 // The handle of the slot that a register owns.
-pub(crate) fn owned(register: Register) -> Option<Handle>
+pub(crate) fn owned(register: Register<Handle>) -> Option<Handle>
     ensures { result ≡ owned_in register }
 {
     match register {
@@ -88,7 +91,7 @@ pub(crate) fn owned(register: Register) -> Option<Handle>
 }
 
 // The handle of the slot to which a register points.
-pub(crate) fn pointed(register: Register) -> Option<Handle>
+pub(crate) fn pointed(register: Register<Handle>) -> Option<Handle>
     ensures { result ≡ pointed_in register }
 {
     match register {

@@ -1,10 +1,12 @@
-//! Exchanges of a worker with a cell.
-ghost use Rattle.std.specs.Prelude.{◌<◌, ◌≤◌, IfOk, OnErr};
+//! A worker's exchange with a cell.
+ghost use Rattle.std.specs.Prelude.{◌≡◌, ◌<◌, ◌≤◌, IfOk, OnOk, OnErr, true};
 ghost use Rattle.pa_trace.specs.declared.script.Op.TheVariants as ops;
-ghost use Rattle.pa_plays.specs.Workers.{HasItsStake};
+ghost use Rattle.pa_trace.specs.Limits.{register_count, cell_count};
+ghost use Rattle.pa_plays.specs.Workers.{HasItsStake, CanPlayOp, KeepsOn};
 ghost use Rattle.pa_stock.specs.Exchanging.{IsUndone};
-ghost use Rattle.pa_plays.specs.Plays.{DoesOp};
+ghost use Rattle.pa_plays.specs.Plays.{DoesOp, PlaysOp};
 
+use crate::worker::{Worker, enter};
 use pa_cells::{givers_lack_handles, takers_have_handles};
 use pa_machine::OutOfMemory;
 use pa_record::Answer;
@@ -14,9 +16,41 @@ use pa_region::{
 use pa_stock::{Heap, Stock};
 use std::sync::Wait;
 
+impl<N: Name> Worker<N> {
+    /// An exchange of the register with a cell, on this line. It waits for the lock of the cells. After want of memory the worker
+    /// is stopped, and all else is as before.
+    pub fn exchange<R: Wait>(
+        &mut self,
+        rt: &R,
+        heap: &Heap<N>,
+        line: u32,
+        cell: u32,
+        reg: u32,
+    ) -> Result<Answer, OutOfMemory>
+        requires ready { CanPlayOp self.old }
+        requires numbers { (cell < cell_count) × (reg < register_count) }
+        ensures plays { IfOk result (λ answer. PlaysOp line (ops.Swap cell reg) answer self.old self.new) }
+        ensures goes_on { OnOk result (KeepsOn self.old self.new) }
+        ensures stops { OnErr result (self.new.stopped ≡ true) }
+        ensures undone { OnErr result (IsUndone self.old.stock self.new.stock) }
+        ensures kept { OnErr result ((self.new.records ≡ self.old.records) × (self.new.room ≡ self.old.room)) }
+    {
+        match exchange(&mut self.stock, rt, heap, line, cell, reg) {
+            Ok(answer) => {
+                enter(&mut self.records, self.stock.thread(), line, answer);
+                Ok(answer)
+            }
+            Err(OutOfMemory) => {
+                self.stopped = true;
+                Err(OutOfMemory)
+            }
+        }
+    }
+}
+
 // An exchange with a cell, on this line: the cell gets the handle of the register, or nothing where it has none, and the
 // register what the cell had. After want of memory all is as before.
-pub(crate) fn exchange<N: Name, R: Wait>(
+fn exchange<N: Name, R: Wait>(
     stock: &mut Stock<N>,
     rt: &R,
     heap: &Heap<N>,
@@ -25,7 +59,7 @@ pub(crate) fn exchange<N: Name, R: Wait>(
     reg: u32,
 ) -> Result<Answer, OutOfMemory>
     requires stake { HasItsStake stock.old }
-    requires numbers { (cell < 64) × (reg < 64) }
+    requires numbers { (cell < cell_count) × (reg < register_count) }
     ensures does { IfOk result (λ answer. DoesOp line (ops.Swap cell reg) answer stock.old stock.new) }
     ensures budget { stock.old.view.budget ≤ stock.new.view.budget }
     ensures undone { OnErr result (IsUndone stock.old stock.new) }

@@ -1,55 +1,84 @@
-ghost use Rattle.std.specs.Prelude.{◌≡◌, ◌+◌, ◌<◌, ◌≤◌};
-ghost use Rattle.pa_plays.specs.declared.register.Register.TheVariants as registers;
-ghost use Rattle.pa_plays.specs.Stocks.{register_in};
-ghost use Rattle.pa_plays.specs.Workers.{HasItsStake};
-ghost use Rattle.pa_heap.specs.Releases.{IsFreed};
+//! A worker's free.
+ghost use Rattle.std.specs.Prelude.{◌≡◌, ◌+◌, ◌<◌, ◌≤◌, IfOk, OnOk, OnErr, true};
+ghost use Rattle.pa_trace.specs.declared.script.Op.TheVariants as ops;
+ghost use Rattle.pa_trace.specs.Limits.{register_count};
+ghost use Rattle.pa_plays.specs.Workers.{HasItsStake, CanPlayOp, KeepsOn};
+ghost use Rattle.pa_plays.specs.Plays.{DoesOp, PlaysOp};
 
-use crate::looks::free_through;
-use crate::release::Release;
-use pa_cells::Handle;
-use pa_count::Fate;
-use pa_plays::Register;
+use crate::counts::{count_step, done, owned};
+use crate::worker::{Worker, enter};
+use pa_cells::slots_stay_seen;
+use pa_machine::{OutOfMemory, Step};
 use pa_record::Answer;
-use pa_region::{Name, Region, counted_steps_leave, owns_change, states_are_owns};
-use pa_stock::Stock;
+use pa_region::{Name, counted_steps_leave, looks_leave, owns_change, states_are_owns};
+use pa_rules::{Next, looked_free};
+use pa_stock::{Heap, Stock};
+use std::sync::Wait;
 
-// A free of what the register owns; through a `raw_ptr` it only looks. Where its step returns the slot, that is still to
-// be put on its list or given back.
-pub(crate) fn free<N: Name>(stock: &mut Stock<N>, region: &Region, reg: u32) -> Release
-    requires region { region.now ≡ N.region }
-    requires stake { HasItsStake stock.old }
-    requires budget { 0 < stock.old.view.budget }
-    requires reg { reg < 64 }
-    ensures is { IsFreed reg result stock.old stock.new }
-    ensures budget { stock.old.view.budget ≤ stock.new.view.budget + 1 }
-{
-    stock.kept();
-    match stock.register(reg) {
-        Register::Empty => Release::Answered(Answer::Nothing),
-        Register::Own(handle) => free_owned(stock, region, handle, reg),
-        Register::Ref(handle) => Release::Answered(free_through(stock, region, &handle, reg)),
-        Register::Freed => Release::Answered(Answer::SecondFree { seen: None }),
-        Register::Cleared => Release::Answered(Answer::StaleUse { seen: None }),
+impl<N: Name> Worker<N> {
+    /// A free of what the register owns, on this line. It waits for locks only where its step returns a slot. After want of
+    /// memory the worker is stopped.
+    pub fn free<R: Wait>(
+        &mut self,
+        rt: &R,
+        heap: &Heap<N>,
+        line: u32,
+        reg: u32,
+    ) -> Result<Answer, OutOfMemory>
+        requires ready { CanPlayOp self.old }
+        requires reg { reg < register_count }
+        ensures plays { IfOk result (λ answer. PlaysOp line (ops.Free reg) answer self.old self.new) }
+        ensures goes_on { OnOk result (KeepsOn self.old self.new) }
+        ensures stops { OnErr result (self.new.stopped ≡ true) }
+    {
+        self.stock.kept();
+        let handle = owned(self.stock.register(reg));
+        match play_free(&mut self.stock, rt, heap, line, reg) {
+            Ok(answer) => {
+                count_step(&mut self.counts, Step::Free, handle, done(&answer));
+                enter(&mut self.records, self.stock.thread(), line, answer);
+                Ok(answer)
+            }
+            Err(OutOfMemory) => {
+                self.stopped = true;
+                self.room = self.records.len() as u32;
+                Err(OutOfMemory)
+            }
+        }
     }
 }
 
-// Frees the slot that the register owns.
-fn free_owned<N: Name>(stock: &mut Stock<N>, region: &Region, handle: Handle, reg: u32) -> Release
-    requires region { region.now ≡ N.region }
+// A free of what the register owns, on this line; through a `raw_ptr` it only looks. A slot that its step returns goes to the
+// front of its list, which may spill, or back to its root. After want of memory the step stands.
+fn play_free<N: Name, R: Wait>(
+    stock: &mut Stock<N>,
+    rt: &R,
+    heap: &Heap<N>,
+    line: u32,
+    reg: u32,
+) -> Result<Answer, OutOfMemory>
     requires stake { HasItsStake stock.old }
     requires budget { 0 < stock.old.view.budget }
-    requires reg { reg < 64 }
-    requires handle { register_in stock.old.registers reg ≡ registers.Own handle }
-    ensures is { IsFreed reg result stock.old stock.new }
-    ensures budget { stock.old.view.budget ≤ stock.new.view.budget + 1 }
+    requires reg { reg < register_count }
+    ensures does { IfOk result (λ answer. DoesOp line (ops.Free reg) answer stock.old stock.new) }
+    ensures budget { IfOk result (λ answer. stock.old.view.budget ≤ stock.new.view.budget + 1) }
 {
     counted_steps_leave();
+    looks_leave();
     owns_change();
     states_are_owns();
+    slots_stay_seen();
     stock.kept();
-    let (seen, fate) = stock.give_up(region, &handle, reg);
-    match fate {
-        Fate::Kept => Release::Answered(Answer::Done { seen }),
-        Fate::Last => Release::Returned(seen, handle),
+    match stock.register(reg).for_free() {
+        Next::Refused(refusal) => Ok(refusal),
+        Next::Step(handle) => {
+            let seen = stock.free(rt, heap, line, handle, reg)?;
+            stock.kept();
+            Ok(Answer::Done { seen })
+        }
+        Next::Look(handle) => {
+            let seen = stock.look(heap.region(), &handle, reg);
+            Ok(looked_free(seen))
+        }
     }
 }

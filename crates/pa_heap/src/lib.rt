@@ -11,17 +11,9 @@ mod counts;
 mod exchanges;
 mod frees;
 mod left;
-mod looks;
-#[cfg(test)]
-mod op_tests;
-mod plays;
 mod purges;
 mod reads;
-mod release;
 mod resets;
-mod returns;
-#[cfg(test)]
-mod tests;
 mod worker;
 mod writes;
 

@@ -1,18 +1,46 @@
-//! A purge: all lists of a worker go back, and each root decommits its empty spans.
-ghost use Rattle.std.specs.Prelude.{◌≡◌, ◌<◌, IfOk};
+//! A worker's purge: all its lists go back, and each root decommits its empty spans.
+ghost use Rattle.std.specs.Prelude.{◌≡◌, ◌<◌, IfOk, OnOk, OnErr, true};
 ghost use Rattle.pa_trace.specs.declared.script.Op.TheVariants as ops;
-ghost use Rattle.pa_plays.specs.Workers.{HasItsStake};
-ghost use Rattle.pa_plays.specs.Plays.{DoesOp};
+ghost use Rattle.pa_plays.specs.Workers.{HasItsStake, CanPlayOp, KeepsOn};
+ghost use Rattle.pa_plays.specs.Plays.{DoesOp, PlaysOp};
 
+use crate::worker::{Worker, enter};
 use pa_machine::OutOfMemory;
 use pa_record::Answer;
 use pa_region::Name;
 use pa_stock::{Heap, Stock};
 use std::sync::Wait;
 
+impl<N: Name> Worker<N> {
+    /// A purge, on this line: of each partition of the run all lists of the worker go back to the root, which then decommits
+    /// its empty spans. After want of memory it is stopped, and what was given stays given.
+    pub fn purge<R: Wait>(
+        &mut self,
+        rt: &R,
+        heap: &Heap<N>,
+        line: u32,
+    ) -> Result<Answer, OutOfMemory>
+        requires ready { CanPlayOp self.old }
+        ensures plays { IfOk result (λ answer. PlaysOp line ops.Purge answer self.old self.new) }
+        ensures goes_on { OnOk result (KeepsOn self.old self.new) }
+        ensures stops { OnErr result (self.new.stopped ≡ true) }
+    {
+        match purge(&mut self.stock, rt, heap, line) {
+            Ok(answer) => {
+                enter(&mut self.records, self.stock.thread(), line, answer);
+                Ok(answer)
+            }
+            Err(OutOfMemory) => {
+                self.stopped = true;
+                Err(OutOfMemory)
+            }
+        }
+    }
+}
+
 // A purge, on this line: of each partition of the run all lists go back whole, and then its root is purged. It answers
 // how many slots went back. After want of memory what was given stays given.
-pub(crate) fn purge<N: Name, R: Wait>(
+fn purge<N: Name, R: Wait>(
     stock: &mut Stock<N>,
     rt: &R,
     heap: &Heap<N>,

@@ -1,31 +1,45 @@
+//! A worker's read.
 ghost use Rattle.std.specs.Prelude.{◌≡◌, ℕ, ◌<◌};
 ghost use Rattle.pa_trace.specs.declared.script.Op.TheVariants as ops;
+ghost use Rattle.pa_trace.specs.Limits.{register_count};
 ghost use Rattle.pa_plays.specs.Stocks.{HasHandleTo, register_in};
-ghost use Rattle.pa_plays.specs.Workers.{HasItsStake};
-ghost use Rattle.pa_plays.specs.Plays.{DoesOp};
+ghost use Rattle.pa_plays.specs.Workers.{HasItsStake, CanPlayOp, KeepsOn};
+ghost use Rattle.pa_plays.specs.Plays.{DoesOp, PlaysOp};
 
+use crate::worker::{Worker, enter};
 use pa_cells::Handle;
-use pa_machine::held;
-use pa_plays::Register;
 use pa_record::Answer;
 use pa_region::{Name, Region, entries_stand_in_logs, looks_leave, owns_change};
-use pa_stock::Stock;
+use pa_rules::looked_read;
+use pa_stock::{Heap, Stock};
+
+impl<N: Name> Worker<N> {
+    /// A read of a word, by its number from 0, of the slot of which the register has a handle, on this line. It waits for
+    /// nobody.
+    pub fn deref(&mut self, heap: &Heap<N>, line: u32, reg: u32, place: u32) -> Answer
+        requires ready { CanPlayOp self.old }
+        requires reg { reg < register_count }
+        ensures plays { PlaysOp line (ops.Read reg place) result self.old self.new }
+        ensures goes_on { KeepsOn self.old self.new }
+    {
+        let answer = deref(&mut self.stock, heap.region(), reg, place);
+        enter(&mut self.records, self.stock.thread(), line, answer);
+        answer
+    }
+}
 
 // A read of a word of the slot of which the register has a handle, by its number from 0. It waits for nobody.
-pub(crate) fn deref<N: Name>(stock: &mut Stock<N>, region: &Region, reg: u32, place: u32) -> Answer
+fn deref<N: Name>(stock: &mut Stock<N>, region: &Region, reg: u32, place: u32) -> Answer
     requires region { region.now ≡ N.region }
     requires stake { HasItsStake stock.old }
-    requires reg { reg < 64 }
+    requires reg { reg < register_count }
     ensures does { (line : ℕ) → DoesOp line (ops.Read reg place) result stock.old stock.new }
     ensures budget { stock.new.view.budget ≡ stock.old.view.budget }
 {
     stock.kept();
-    match stock.register(reg) {
-        Register::Empty => Answer::Nothing,
-        Register::Own(handle) => read_from(stock, region, &handle, reg, place),
-        Register::Ref(handle) => read_from(stock, region, &handle, reg, place),
-        Register::Freed => Answer::StaleUse { seen: None },
-        Register::Cleared => Answer::StaleUse { seen: None },
+    match stock.register(reg).for_read() {
+        Ok(handle) => read_from(stock, region, &handle, reg, place),
+        Err(refusal) => refusal,
     }
 }
 
@@ -39,7 +53,7 @@ fn read_from<N: Name>(
 ) -> Answer
     requires region { region.now ≡ N.region }
     requires stake { HasItsStake stock.old }
-    requires reg { reg < 64 }
+    requires reg { reg < register_count }
     requires handle { HasHandleTo handle.now (register_in stock.old.registers reg) }
     ensures does { (line : ℕ) → DoesOp line (ops.Read reg place) result stock.old stock.new }
     ensures budget { stock.new.view.budget ≡ stock.old.view.budget }
@@ -53,9 +67,5 @@ fn read_from<N: Name>(
         return Answer::OutOfRange;
     }
     let (seen, value) = stock.read_word(region, handle, reg, place);
-    if held(seen.found) {
-        Answer::Value { seen, value }
-    } else {
-        Answer::Dangling { seen, value }
-    }
+    looked_read(seen, value)
 }

@@ -1,52 +1,76 @@
-ghost use Rattle.std.specs.Prelude.{◌≡◌, ◌+◌, ◌<◌, ◌≤◌};
-ghost use Rattle.pa_plays.specs.declared.register.Register.TheVariants as registers;
-ghost use Rattle.pa_plays.specs.Stocks.{register_in};
-ghost use Rattle.pa_plays.specs.Workers.{HasItsStake};
-ghost use Rattle.pa_heap.specs.Releases.{IsReset};
+//! A worker's reset.
+ghost use Rattle.std.specs.Prelude.{◌≡◌, ◌+◌, ◌<◌, ◌≤◌, IfOk, OnOk, OnErr, true};
+ghost use Rattle.pa_trace.specs.declared.script.Op.TheVariants as ops;
+ghost use Rattle.pa_trace.specs.Limits.{register_count};
+ghost use Rattle.pa_plays.specs.Workers.{HasItsStake, CanPlayOp, KeepsOn};
+ghost use Rattle.pa_plays.specs.Plays.{DoesOp, PlaysOp};
 
-use crate::release::Release;
-use pa_cells::Handle;
-use pa_count::Fate;
-use pa_plays::Register;
+use crate::counts::{count_step, done, pointed};
+use crate::worker::{Worker, enter};
+use pa_cells::slots_stay_seen;
+use pa_machine::{OutOfMemory, Step};
 use pa_record::Answer;
-use pa_region::{Name, Region, counted_steps_leave};
-use pa_stock::Stock;
+use pa_region::{Name, counted_steps_leave};
+use pa_stock::{Heap, Stock};
+use std::sync::Wait;
 
-// A reset of the register's `raw_ptr`. Where its step returns the slot, that is still to be put on its list or given back.
-pub(crate) fn reset<N: Name>(stock: &mut Stock<N>, region: &Region, reg: u32) -> Release
-    requires region { region.now ≡ N.region }
-    requires stake { HasItsStake stock.old }
-    requires budget { 0 < stock.old.view.budget }
-    requires reg { reg < 64 }
-    ensures is { IsReset reg result stock.old stock.new }
-    ensures budget { stock.old.view.budget ≤ stock.new.view.budget + 1 }
-{
-    counted_steps_leave();
-    stock.kept();
-    match stock.register(reg) {
-        Register::Empty => Release::Answered(Answer::Nothing),
-        Register::Own(_) => Release::Answered(Answer::NotRef),
-        Register::Ref(handle) => clear(stock, region, handle, reg),
-        Register::Freed => Release::Answered(Answer::NotRef),
-        Register::Cleared => Release::Answered(Answer::StaleReset),
+impl<N: Name> Worker<N> {
+    /// A reset of the register's `raw_ptr`, on this line. It waits for locks only where its step returns a slot. After want of
+    /// memory the worker is stopped.
+    pub fn reset<R: Wait>(
+        &mut self,
+        rt: &R,
+        heap: &Heap<N>,
+        line: u32,
+        reg: u32,
+    ) -> Result<Answer, OutOfMemory>
+        requires ready { CanPlayOp self.old }
+        requires reg { reg < register_count }
+        ensures plays { IfOk result (λ answer. PlaysOp line (ops.Reset reg) answer self.old self.new) }
+        ensures goes_on { OnOk result (KeepsOn self.old self.new) }
+        ensures stops { OnErr result (self.new.stopped ≡ true) }
+    {
+        self.stock.kept();
+        let handle = pointed(self.stock.register(reg));
+        match play_reset(&mut self.stock, rt, heap, line, reg) {
+            Ok(answer) => {
+                count_step(&mut self.counts, Step::Reset, handle, done(&answer));
+                enter(&mut self.records, self.stock.thread(), line, answer);
+                Ok(answer)
+            }
+            Err(OutOfMemory) => {
+                self.stopped = true;
+                self.room = self.records.len() as u32;
+                Err(OutOfMemory)
+            }
+        }
     }
 }
 
-// Resets a `raw_ptr`, and clears its register.
-fn clear<N: Name>(stock: &mut Stock<N>, region: &Region, handle: Handle, reg: u32) -> Release
-    requires region { region.now ≡ N.region }
+// A reset of the register's `raw_ptr`, on this line. A slot that its step returns goes to the front of its list, which may
+// spill, or back to its root. After want of memory the step stands.
+fn play_reset<N: Name, R: Wait>(
+    stock: &mut Stock<N>,
+    rt: &R,
+    heap: &Heap<N>,
+    line: u32,
+    reg: u32,
+) -> Result<Answer, OutOfMemory>
     requires stake { HasItsStake stock.old }
     requires budget { 0 < stock.old.view.budget }
-    requires reg { reg < 64 }
-    requires handle { register_in stock.old.registers reg ≡ registers.Ref handle }
-    ensures is { IsReset reg result stock.old stock.new }
-    ensures budget { stock.old.view.budget ≤ stock.new.view.budget + 1 }
+    requires reg { reg < register_count }
+    ensures does { IfOk result (λ answer. DoesOp line (ops.Reset reg) answer stock.old stock.new) }
+    ensures budget { IfOk result (λ answer. stock.old.view.budget ≤ stock.new.view.budget + 1) }
 {
     counted_steps_leave();
+    slots_stay_seen();
     stock.kept();
-    let (seen, fate) = stock.let_go(region, &handle, reg);
-    match fate {
-        Fate::Kept => Release::Answered(Answer::Done { seen }),
-        Fate::Last => Release::Returned(seen, handle),
+    match stock.register(reg).for_reset() {
+        Ok(handle) => {
+            let seen = stock.reset(rt, heap, line, handle, reg)?;
+            stock.kept();
+            Ok(Answer::Done { seen })
+        }
+        Err(refusal) => Ok(refusal),
     }
 }

@@ -1,42 +1,34 @@
 ghost use Rattle.std.specs.Prelude.{◌≡◌, ℕ, ◌+◌, ◌<◌, ◌≤◌, ◌∷◌, ◌++◌, [], length, IfOk, OnOk, OnErr, true, vec_capacity};
+ghost use Rattle.pa_buckets.specs.Limits.{class_count};
+ghost use Rattle.pa_trace.specs.Limits.{most_partitions};
 ghost use Rattle.pa_region.specs.Views.{stake_of};
 ghost use Rattle.pa_region.specs.Hands.{left_after, given_after, united};
 ghost use Rattle.pa_region.specs.Lending.{CanHost, stake_parcel};
 ghost use Rattle.pa_rules.specs.Caches.{SameLists, listed_slots};
 ghost use Rattle.pa_rules.specs.Report.{listed_bytes};
-ghost use Rattle.pa_trace.specs.declared.script.Op.TheVariants as ops;
 ghost use Rattle.pa_plays.specs.Stocks.{IsForThread, listed_in};
-ghost use Rattle.pa_plays.specs.Workers.{IsWorker, IsNewWorker, HasItsStake, CanPlayOp, KeepsOn, worker_with_view};
-ghost use Rattle.pa_stock.specs.Exchanging.{IsUndone};
+ghost use Rattle.pa_plays.specs.Workers.{IsWorker, IsNewWorker, HasItsStake, worker_with_view};
 ghost use Rattle.pa_heap.specs.Closing.{HasTold};
-ghost use Rattle.pa_plays.specs.Plays.{PlaysOp};
 
-use crate::allocs::alloc;
-use crate::copies::copy;
-use crate::counts::{START, count_step, done, made, owned, pointed};
-use crate::exchanges::exchange;
-use crate::plays::{play_free, play_reset};
-use crate::purges::purge;
-use crate::reads::deref;
-use crate::writes::write;
-use pa_machine::{OutOfMemory, Step};
+use crate::counts::START;
+use pa_machine::OutOfMemory;
 use pa_plays::Count;
 use pa_record::{Answer, Entry, Tally};
 use pa_region::{Name, Note};
 use pa_stock::{Heap, Stock};
+use pa_trace::MOST_PARTITIONS;
 use std::alloc::Global;
 use std::marker::Model;
-use std::sync::Wait;
 
 /// A worker: what plays the lines of one thread. Contracts see its stock, its records so far, for how many in all there is
 /// room, whether an op of it answered want of memory, and what it counted.
 #[derive(Drop)]
 pub struct Worker<N: Name> {
-    stock: Stock<N>,
-    records: Vec<Entry>,
-    room: u32,
-    stopped: bool,
-    counts: [Count; 4],
+    pub(crate) stock: Stock<N>,
+    pub(crate) records: Vec<Entry>,
+    pub(crate) room: u32,
+    pub(crate) stopped: bool,
+    pub(crate) counts: [Count; MOST_PARTITIONS as usize],
 }
 
 impl<N: Name> Model for Worker<N> {
@@ -67,7 +59,7 @@ impl<N: Name> Worker<N> {
         requires region { note.region ≡ N.region }
         requires note { IsForThread thread note.view }
         requires budget { lines ≤ note.view.budget }
-        requires partitions { partitions ≤ 4 }
+        requires partitions { partitions ≤ most_partitions }
         ensures { IfOk result (IsNewWorker thread partitions lines note.view) }
     {
         let records = Vec::with_capacity(alloc, lines as usize)?;
@@ -77,7 +69,7 @@ impl<N: Name> Worker<N> {
             records,
             room: lines,
             stopped: false,
-            counts: [START; 4],
+            counts: [START; MOST_PARTITIONS as usize],
         })
     }
 
@@ -143,7 +135,7 @@ impl<N: Name> Worker<N> {
     }
 
     /// What it counted of its steps so far, for each partition.
-    pub fn counts(&self) -> [Count; 4]
+    pub fn counts(&self) -> [Count; MOST_PARTITIONS as usize]
         ensures { result ≡ self.now.counts }
     {
         self.counts
@@ -151,205 +143,16 @@ impl<N: Name> Worker<N> {
 
     /// How many slots its lists of a partition have, and their bytes.
     pub fn cached(&self, partition: u32) -> Tally
-        requires partition { partition < 4 }
-        ensures slots { result.slots ≡ listed_slots (listed_in self.now.stock partition) 0 59 }
-        ensures bytes { result.bytes ≡ listed_bytes (λ class. length (listed_in self.now.stock partition class)) 0 59 }
+        requires partition { partition < most_partitions }
+        ensures slots { result.slots ≡ listed_slots (listed_in self.now.stock partition) 0 class_count }
+        ensures bytes { result.bytes ≡ listed_bytes (λ class. length (listed_in self.now.stock partition class)) 0 class_count }
     {
         self.stock.cached(partition)
-    }
-
-    /// A copy of a handle of register `from` into `to`, on this line. It waits for nobody.
-    pub fn copy(&mut self, heap: &Heap<N>, line: u32, from: u32, to: u32) -> Answer
-        requires ready { CanPlayOp self.old }
-        requires registers { (from < 64) × (to < 64) }
-        ensures plays { PlaysOp line (ops.Copy from to) result self.old self.new }
-        ensures goes_on { KeepsOn self.old self.new }
-    {
-        let answer = copy(&mut self.stock, heap.region(), from, to);
-        enter(&mut self.records, self.stock.thread(), line, answer);
-        answer
-    }
-
-    /// A write of a value to each word of the slot that the register owns, on this line. It waits for nobody.
-    pub fn write(&mut self, heap: &Heap<N>, line: u32, reg: u32, value: u64) -> Answer
-        requires ready { CanPlayOp self.old }
-        requires reg { reg < 64 }
-        ensures plays { PlaysOp line (ops.Write reg value) result self.old self.new }
-        ensures goes_on { KeepsOn self.old self.new }
-    {
-        let answer = write(&mut self.stock, heap.region(), reg, value);
-        enter(&mut self.records, self.stock.thread(), line, answer);
-        answer
-    }
-
-    /// A read of a word, by its number from 0, of the slot of which the register has a handle, on this line. It waits for
-    /// nobody.
-    pub fn deref(&mut self, heap: &Heap<N>, line: u32, reg: u32, place: u32) -> Answer
-        requires ready { CanPlayOp self.old }
-        requires reg { reg < 64 }
-        ensures plays { PlaysOp line (ops.Read reg place) result self.old self.new }
-        ensures goes_on { KeepsOn self.old self.new }
-    {
-        let answer = deref(&mut self.stock, heap.region(), reg, place);
-        enter(&mut self.records, self.stock.thread(), line, answer);
-        answer
-    }
-
-    /// An allocation of so many bytes in a partition, on this line: the register owns the slot then. It waits for the lock of the
-    /// partition's root, where it needs that. After want of memory the worker is stopped, and all else is as before.
-    pub fn alloc<R: Wait>(
-        &mut self,
-        rt: &R,
-        heap: &Heap<N>,
-        line: u32,
-        reg: u32,
-        partition: u32,
-        size: u32,
-    ) -> Result<Answer, OutOfMemory>
-        requires ready { CanPlayOp self.old }
-        requires reg { reg < 64 }
-        requires partition { partition < self.old.stock.partitions }
-        ensures plays { IfOk result (λ answer. PlaysOp line (ops.Alloc reg partition size) answer self.old self.new) }
-        ensures goes_on { OnOk result (KeepsOn self.old self.new) }
-        ensures stops { OnErr result (self.new.stopped ≡ true) }
-        ensures undone { OnErr result (IsUndone self.old.stock self.new.stock) }
-        ensures same { OnErr result ((self.new.records ≡ self.old.records) × (self.new.room ≡ self.old.room)) }
-    {
-        match alloc(&mut self.stock, rt, heap, line, reg, partition, size) {
-            Ok(answer) => {
-                self.stock.kept();
-                let handle = owned(self.stock.register(reg));
-                count_step(&mut self.counts, Step::Issue, handle, made(&answer));
-                enter(&mut self.records, self.stock.thread(), line, answer);
-                Ok(answer)
-            }
-            Err(OutOfMemory) => {
-                self.stopped = true;
-                Err(OutOfMemory)
-            }
-        }
-    }
-
-    /// A reset of the register's `raw_ptr`, on this line. It waits for locks only where its step returns a slot. After want of
-    /// memory the worker is stopped.
-    pub fn reset<R: Wait>(
-        &mut self,
-        rt: &R,
-        heap: &Heap<N>,
-        line: u32,
-        reg: u32,
-    ) -> Result<Answer, OutOfMemory>
-        requires ready { CanPlayOp self.old }
-        requires reg { reg < 64 }
-        ensures plays { IfOk result (λ answer. PlaysOp line (ops.Reset reg) answer self.old self.new) }
-        ensures goes_on { OnOk result (KeepsOn self.old self.new) }
-        ensures stops { OnErr result (self.new.stopped ≡ true) }
-    {
-        self.stock.kept();
-        let handle = pointed(self.stock.register(reg));
-        match play_reset(&mut self.stock, rt, heap, line, reg) {
-            Ok(answer) => {
-                count_step(&mut self.counts, Step::Reset, handle, done(&answer));
-                enter(&mut self.records, self.stock.thread(), line, answer);
-                Ok(answer)
-            }
-            Err(OutOfMemory) => {
-                self.stopped = true;
-                self.room = self.records.len() as u32;
-                Err(OutOfMemory)
-            }
-        }
-    }
-
-    /// A free of what the register owns, on this line. It waits for locks only where its step returns a slot. After want of
-    /// memory the worker is stopped.
-    pub fn free<R: Wait>(
-        &mut self,
-        rt: &R,
-        heap: &Heap<N>,
-        line: u32,
-        reg: u32,
-    ) -> Result<Answer, OutOfMemory>
-        requires ready { CanPlayOp self.old }
-        requires reg { reg < 64 }
-        ensures plays { IfOk result (λ answer. PlaysOp line (ops.Free reg) answer self.old self.new) }
-        ensures goes_on { OnOk result (KeepsOn self.old self.new) }
-        ensures stops { OnErr result (self.new.stopped ≡ true) }
-    {
-        self.stock.kept();
-        let handle = owned(self.stock.register(reg));
-        match play_free(&mut self.stock, rt, heap, line, reg) {
-            Ok(answer) => {
-                count_step(&mut self.counts, Step::Free, handle, done(&answer));
-                enter(&mut self.records, self.stock.thread(), line, answer);
-                Ok(answer)
-            }
-            Err(OutOfMemory) => {
-                self.stopped = true;
-                self.room = self.records.len() as u32;
-                Err(OutOfMemory)
-            }
-        }
-    }
-
-    /// A purge, on this line: of each partition of the run all lists of the worker go back to the root, which then decommits
-    /// its empty spans. After want of memory it is stopped, and what was given stays given.
-    pub fn purge<R: Wait>(
-        &mut self,
-        rt: &R,
-        heap: &Heap<N>,
-        line: u32,
-    ) -> Result<Answer, OutOfMemory>
-        requires ready { CanPlayOp self.old }
-        ensures plays { IfOk result (λ answer. PlaysOp line ops.Purge answer self.old self.new) }
-        ensures goes_on { OnOk result (KeepsOn self.old self.new) }
-        ensures stops { OnErr result (self.new.stopped ≡ true) }
-    {
-        match purge(&mut self.stock, rt, heap, line) {
-            Ok(answer) => {
-                enter(&mut self.records, self.stock.thread(), line, answer);
-                Ok(answer)
-            }
-            Err(OutOfMemory) => {
-                self.stopped = true;
-                Err(OutOfMemory)
-            }
-        }
-    }
-
-    /// An exchange of the register with a cell, on this line. It waits for the lock of the cells. After want of memory the worker
-    /// is stopped, and all else is as before.
-    pub fn exchange<R: Wait>(
-        &mut self,
-        rt: &R,
-        heap: &Heap<N>,
-        line: u32,
-        cell: u32,
-        reg: u32,
-    ) -> Result<Answer, OutOfMemory>
-        requires ready { CanPlayOp self.old }
-        requires numbers { (cell < 64) × (reg < 64) }
-        ensures plays { IfOk result (λ answer. PlaysOp line (ops.Swap cell reg) answer self.old self.new) }
-        ensures goes_on { OnOk result (KeepsOn self.old self.new) }
-        ensures stops { OnErr result (self.new.stopped ≡ true) }
-        ensures undone { OnErr result (IsUndone self.old.stock self.new.stock) }
-        ensures kept { OnErr result ((self.new.records ≡ self.old.records) × (self.new.room ≡ self.old.room)) }
-    {
-        match exchange(&mut self.stock, rt, heap, line, cell, reg) {
-            Ok(answer) => {
-                enter(&mut self.records, self.stock.thread(), line, answer);
-                Ok(answer)
-            }
-            Err(OutOfMemory) => {
-                self.stopped = true;
-                Err(OutOfMemory)
-            }
-        }
     }
 }
 
 // Puts a record behind the others, for which there is room.
-fn enter(records: &mut Vec<Entry>, thread: u32, line: u32, answer: Answer)
+pub(crate) fn enter(records: &mut Vec<Entry>, thread: u32, line: u32, answer: Answer)
     requires { length records.old.items < vec_capacity records.old }
     ensures items { records.new.items ≡ records.old.items ++ record { line = line; thread = thread; answer = answer } ∷ [] }
     ensures room { vec_capacity records.new ≡ vec_capacity records.old }

@@ -1,38 +1,56 @@
+//! A worker's write.
 ghost use Rattle.std.specs.Prelude.{◌≡◌, ℕ, ◌+◌, ◌<◌, ◌≤◌};
 ghost use Rattle.pa_trace.specs.declared.script.Op.TheVariants as ops;
-ghost use Rattle.pa_plays.specs.declared.register.Register.TheVariants.{Own};
+ghost use Rattle.pa_trace.specs.Limits.{register_count};
+ghost use Rattle.pa_rules.specs.declared.register.Register.TheVariants.{Own};
 ghost use Rattle.pa_plays.specs.Stocks.{register_in};
-ghost use Rattle.pa_plays.specs.Workers.{HasItsStake};
-ghost use Rattle.pa_plays.specs.Plays.{DoesOp};
+ghost use Rattle.pa_plays.specs.Workers.{HasItsStake, CanPlayOp, KeepsOn};
+ghost use Rattle.pa_plays.specs.Plays.{DoesOp, PlaysOp};
 
-use crate::looks::write_through;
+use crate::worker::{Worker, enter};
 use pa_cells::Handle;
 use pa_machine::refs;
-use pa_plays::Register;
 use pa_record::Answer;
 use pa_region::{
     Name, Region, counted_steps_leave, filled_words_have_the_value, looks_leave, owns_change,
     states_are_owns,
 };
-use pa_stock::Stock;
+use pa_rules::{Next, looked_write};
+use pa_stock::{Heap, Stock};
+
+impl<N: Name> Worker<N> {
+    /// A write of a value to each word of the slot that the register owns, on this line. It waits for nobody.
+    pub fn write(&mut self, heap: &Heap<N>, line: u32, reg: u32, value: u64) -> Answer
+        requires ready { CanPlayOp self.old }
+        requires reg { reg < register_count }
+        ensures plays { PlaysOp line (ops.Write reg value) result self.old self.new }
+        ensures goes_on { KeepsOn self.old self.new }
+    {
+        let answer = write(&mut self.stock, heap.region(), reg, value);
+        enter(&mut self.records, self.stock.thread(), line, answer);
+        answer
+    }
+}
 
 // A write of a value to each word of the slot that the register owns, where no `raw_ptr` points to it; through a
 // `raw_ptr` it only looks. It waits for nobody.
-pub(crate) fn write<N: Name>(stock: &mut Stock<N>, region: &Region, reg: u32, value: u64) -> Answer
+fn write<N: Name>(stock: &mut Stock<N>, region: &Region, reg: u32, value: u64) -> Answer
     requires region { region.now ≡ N.region }
     requires stake { HasItsStake stock.old }
     requires budget { 0 < stock.old.view.budget }
-    requires reg { reg < 64 }
+    requires reg { reg < register_count }
     ensures does { (line : ℕ) → DoesOp line (ops.Write reg value) result stock.old stock.new }
     ensures budget { stock.old.view.budget ≤ stock.new.view.budget + 1 }
 {
+    looks_leave();
     stock.kept();
-    match stock.register(reg) {
-        Register::Empty => Answer::Nothing,
-        Register::Own(handle) => write_owned(stock, region, &handle, reg, value),
-        Register::Ref(handle) => write_through(stock, region, &handle, reg, value),
-        Register::Freed => Answer::StaleUse { seen: None },
-        Register::Cleared => Answer::StaleUse { seen: None },
+    match stock.register(reg).for_write() {
+        Next::Refused(refusal) => refusal,
+        Next::Step(handle) => write_owned(stock, region, &handle, reg, value),
+        Next::Look(handle) => {
+            let seen = stock.look(region, &handle, reg);
+            looked_write(seen)
+        }
     }
 }
 
@@ -47,7 +65,7 @@ fn write_owned<N: Name>(
     requires region { region.now ≡ N.region }
     requires stake { HasItsStake stock.old }
     requires budget { 0 < stock.old.view.budget }
-    requires reg { reg < 64 }
+    requires reg { reg < register_count }
     requires handle { register_in stock.old.registers reg ≡ Own handle.now }
     ensures does { (line : ℕ) → DoesOp line (ops.Write reg value) result stock.old stock.new }
     ensures budget { stock.old.view.budget ≤ stock.new.view.budget + 1 }

@@ -6,8 +6,6 @@
 
 mod memory;
 mod standard;
-#[cfg(test)]
-mod tests;
 mod traits;
 
 pub use memory::{MemSink, MemSource};

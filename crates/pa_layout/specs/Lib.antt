@@ -1,3 +1,4 @@
+pub mod Limits
 pub mod SuperPage
 pub mod Pages
 pub mod Laws

@@ -40,32 +40,3 @@ fn kind_in_first_page(within: u32) -> Kind
         Kind::Guard
     }
 }
-
-#[cfg(test)]
-mod tests {
-    use super::*;
-
-    #[test]
-    fn both_sides_of_each_edge(rt: HostRuntime) {
-        let edges = [
-            (0, Kind::Guard),
-            (4095, Kind::Guard),
-            (4096, Kind::Metadata),
-            (8191, Kind::Metadata),
-            (8192, Kind::Guard),
-            (16383, Kind::Guard),
-            (16384, Kind::Payload),
-            (2080767, Kind::Payload),
-            (2080768, Kind::Guard),
-            (2097151, Kind::Guard),
-            (2097152, Kind::Guard),
-            (2101248, Kind::Metadata),
-            (4294950911, Kind::Payload),
-            (4294950912, Kind::Guard),
-            (4294967295, Kind::Guard),
-        ];
-        for (offset, kind) in edges {
-            assert!(rt; kind_of(offset) == kind, "at {offset}");
-        }
-    }
-}

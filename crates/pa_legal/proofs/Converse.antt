@@ -1,7 +1,6 @@
 -- What is asked of a run's numbers holds of each legal run.
 use Rattle.std.proofs.Common.{◌≡◌, ℕ, ◌+◌, ◌<◌, ◌≤◌, ◌⊎◌, Bool, false, not, cond, List, [], ◌∷◌, ◌++◌, filter, Option, Some, None, refl, sym, ◌∙◌, ap, subst, arith, inl, inr, append_assoc}
-use Rattle.std.specs.Prelude.{Contains, AllPairs, slice_get, ◌==◌}
-use Rattle.std.proofs.lemmas.Option.{slice_get-get_or}
+use Rattle.std.specs.Prelude.{Contains, AllPairs, ◌==◌}
 use Rattle.std.proofs.lemmas.Bool.{cases_Bool, cases_eq, eq-eqb, ne_eqb, true≢false}
 use Rattle.std.proofs.lemmas.List.Elements.{filter-append}
 use Rattle.std.proofs.lemmas.List.Sums.{sum_by-cons}
@@ -17,8 +16,8 @@ use Rattle.pa_record.specs.declared.root.RootAct.{RootAct}
 use Rattle.pa_record.specs.declared.root.RootAct.TheVariants.{Fill, Map, Full, Give, Unmap, Purge}
 use Rattle.pa_record.specs.Root.{IsJournal}
 use Rattle.pa_record.specs.Laws.{leaves_by, comes_by, times, times_left, times_back}
-use Rattle.pa_record.proofs.Members.{not_in_none, first_in}
-use Rattle.pa_record.proofs.Joined.{flat_in, filter_in}
+use Rattle.pa_lists.proofs.Members.{not_in_none, first_in}
+use Rattle.pa_lists.proofs.Joined.{flat_in, filter_in}
 use Rattle.pa_record.proofs.Leaving.{out_is_left}
 use Rattle.pa_rules.specs.declared.played.Played.{Played}
 use Rattle.pa_rules.specs.Played.{mark_at, marks_of}
@@ -39,6 +38,7 @@ use Rattle.pa_legal.proofs.holders.Held.{first_away, needed_way, made_way}
 use Rattle.pa_legal.proofs.holders.Records.{unmap_returns}
 use Rattle.pa_legal.proofs.holders.Gone.{below, marked, gone_from}
 use Rattle.pa_legal.proofs.Standing.{counted, had, acts_out, acts_back}
+use Rattle.pa_lists.proofs.Indexed.{in_at}
 
 -- ---- ways that fit
 
@@ -71,16 +71,16 @@ at_number s k (m ∷ ms) =
       | inr miss ↦ rw miss ih
     ]
 
-left_snoc : (s : SlotName) (es : List RootEntry) (e : RootEntry) → times_left s (es ++ e ∷ []) ≡ times_left s es + times s (leaves_by e.act)
+pub left_snoc : (s : SlotName) (es : List RootEntry) (e : RootEntry) → times_left s (es ++ e ∷ []) ≡ times_left s es + times s (leaves_by e.act)
 left_snoc s [] e = omega arith
 left_snoc s (f ∷ es) e = let ih = left_snoc s es e in omega arith
 
-back_snoc : (s : SlotName) (es : List RootEntry) (e : RootEntry) → times_back s (es ++ e ∷ []) ≡ times_back s es + times s (comes_by e.act)
+pub back_snoc : (s : SlotName) (es : List RootEntry) (e : RootEntry) → times_back s (es ++ e ∷ []) ≡ times_back s es + times s (comes_by e.act)
 back_snoc s [] e = omega arith
 back_snoc s (f ∷ es) e = let ih = back_snoc s es e in omega arith
 
 -- an entry takes slots out or gives them back
-act_way : (s : SlotName) (act : RootAct) → (times s (leaves_by act) ≡ 0) ⊎ (times s (comes_by act) ≡ 0)
+pub act_way : (s : SlotName) (act : RootAct) → (times s (leaves_by act) ≡ 0) ⊎ (times s (comes_by act) ≡ 0)
 act_way s (Fill class asked slots) = inr refl
 act_way s (Map asked slot len) = inr refl
 act_way s (Full class asked) = inr refl
@@ -129,9 +129,6 @@ module _ (pools : List PoolEntry) (journal : List RootEntry) (s : SlotName) (j :
   Even at done = had at + times_left s done ≡ times_back s done + 1
 
   module _ (done es : List RootEntry) (e : RootEntry) (at : Option ℕ) (parts : journal ≡ done ++ e ∷ es) (even : had at + times_left s done ≡ times_back s done + 1) (fits : (k : ℕ) → WaysFit (away_at at k) (filter (is_move_of s k) (all_moves (e ∷ es)))) where
-    abbrev Here : List Move
-    Here = filter (is_of s) (moves_by e.line e.act)
-
     outs : counted is_out (filter (is_of s) (moves_by e.line e.act)) ≡ times s (leaves_by e.act)
     outs = acts_out e.line s e.act
 
@@ -264,9 +261,6 @@ numbers_follow partitions ps pools roots r holders p s =
 done_is : (a b : Seen) → Done a ≡ Done b → a ≡ b
 done_is a b e = cc
 
-entry_at : {A : Type 0} (xs : List A) (e : A) → Contains xs e → (i : ℕ) × (slice_get xs i ≡ Some e)
-entry_at xs e (i, low, is) = (i, slice_get-get_or xs i e low ∙ ap Some is)
-
 unmaps_follow : (supers partitions : ℕ) (ps : List Played) (pools : List PoolEntry) (roots : Journals) → AreRoots partitions ps pools roots → IsPoolOf supers ps pools roots → AllPairs OtherRecord ps → Slots (marks_of ps) →
     AreCaches partitions roots ps → AreHolders ps roots → ((x : Played) → Contains ps x → FindsInUse x) → (x : Played) → Contains ps x → UnmapsNext roots x
 unmaps_follow supers partitions ps pools roots r h lines slots caches holders used x among seen p asked slot e answer member line is =
@@ -274,7 +268,7 @@ unmaps_follow supers partitions ps pools roots r h lines slots caches holders us
     let back = unmap_returns partitions roots ps x e p asked slot caches real among member line is in
     let same : seen ≡ back.seen = done_is seen back.seen (sym answer ∙ back.answer) in
     let number : number_of seen.found.0 ≡ number_of back.seen.found.0 = ap (λ (z : Seen). number_of z.found.0) same in
-    let (i, at) = entry_at (roots p) e member in
+    let (i, at) = in_at (roots p) e member in
     let mark = marked supers partitions ps pools roots r h lines slots caches used slot.slot x back among in
     let before = holders.gone_from_records p i asked (number_of back.seen.found.0) slot e x at is among (mark_at x.line back.seen (Some back.step), mark, back.slot, refl) in
     let move : Contains (moves_at (roots p) slot.slot slot.number) (move_of e.line Back slot) =

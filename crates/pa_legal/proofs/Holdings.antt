@@ -8,7 +8,7 @@ use Rattle.pa_machine.proofs.Runs.{same_slot_yes}
 use Rattle.pa_record.specs.declared.entry.Seen.{Seen}
 use Rattle.pa_record.specs.declared.entry.Answer.TheVariants.{Made}
 use Rattle.pa_record.specs.declared.pool.PoolEntry.{PoolEntry}
-use Rattle.pa_record.proofs.Members.{first_in}
+use Rattle.pa_lists.proofs.Members.{first_in}
 use Rattle.pa_rules.specs.declared.played.Played.{Played}
 use Rattle.pa_rules.specs.Played.{mark_of_answer}
 use Rattle.pa_rules.specs.Roots.{Journals}

@@ -1,7 +1,6 @@
 pub mod Balance
 pub mod Naming
 pub mod Titling
-pub mod Parts
 pub mod Words
 pub mod flow
 pub mod holders

@@ -16,9 +16,9 @@ use Rattle.pa_record.specs.Pool.{act_at}
 use Rattle.pa_record.specs.Spans.{name_of}
 use Rattle.pa_record.specs.Root.{Root, new_root, takes, opened, opened_by, super_of, map_title, without_map, unmapped, names, all_returned, empties, root_next, RootActFits, RootReplays, RiseFrom, all_asked, asked_by, IsOut}
 use Rattle.pa_record.specs.Sound.{IsSound, IsSettled, IsBornBelow, AsksFrom, least_after}
-use Rattle.pa_record.proofs.Members.{not_in_none, in_cases}
-use Rattle.pa_record.proofs.Pairs.{pairs_head, pairs_tail}
-use Rattle.pa_record.proofs.Joined.{map_cases, map_in}
+use Rattle.pa_lists.proofs.Members.{not_in_none, in_cases}
+use Rattle.pa_lists.proofs.Pairs.{pairs_head, pairs_tail}
+use Rattle.pa_lists.proofs.Joined.{map_cases, map_in}
 use Rattle.pa_record.proofs.Filling.{takes_filled, opened_sound}
 use Rattle.pa_record.proofs.Returning.{all_returned_is, times_is}
 use Rattle.pa_record.proofs.Mapping.{OtherBorn, without_map_in, born_more}

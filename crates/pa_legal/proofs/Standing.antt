@@ -15,12 +15,13 @@ use Rattle.pa_record.specs.declared.root.RootAct.{RootAct}
 use Rattle.pa_record.specs.declared.root.RootAct.TheVariants.{Fill, Map, Full, Give, Unmap, Purge}
 use Rattle.pa_record.specs.Root.{names}
 use Rattle.pa_record.specs.Laws.{leaves_by, comes_by, times, times_left, times_back}
-use Rattle.pa_record.proofs.Members.{not_in_none}
+use Rattle.pa_lists.proofs.Members.{not_in_none}
 use Rattle.pa_record.proofs.Leaving.{out_is_left}
 use Rattle.pa_rules.specs.declared.played.Played.{Played}
 use Rattle.pa_rules.specs.Caches.{no_caches}
 use Rattle.pa_rules.specs.Holders.{Way, Out, Back, Move, move_of, moves_by}
-use Rattle.pa_rules.proofs.Counted.{once, times_cons}
+use Rattle.pa_rules.specs.Once.{once}
+use Rattle.pa_rules.proofs.Counted.{times_cons}
 use Rattle.pa_rules.proofs.Known.{all_known}
 use Rattle.pa_rules.proofs.Flowing.{class_leaves}
 use Rattle.pa_rules.proofs.FourPlaces.{slot_once}

@@ -14,7 +14,7 @@ use Rattle.pa_record.specs.declared.root.RootAct.TheVariants.{Map}
 use Rattle.pa_record.specs.Spans.{name_of}
 use Rattle.pa_record.specs.Sound.{IsMadeBy, AreTitles}
 use Rattle.pa_record.specs.Laws.{leaves_by}
-use Rattle.pa_record.proofs.Members.{first_in}
+use Rattle.pa_lists.proofs.Members.{first_in}
 use Rattle.pa_record.proofs.Lawful.{journal_leaves}
 use Rattle.pa_rules.specs.declared.played.Played.{Played}
 use Rattle.pa_rules.specs.Roots.{Journals, MakesEntry, AreRoots, IsPoolOf}

@@ -8,20 +8,18 @@ use Rattle.pa_machine.specs.Count.{CanStep, number_of, held_of, refs_of, stepped
 use Rattle.pa_machine.specs.Run.{Mark, IsFirstAt, IsRunFrom, IsReturning, Slots}
 use Rattle.pa_machine.proofs.Arith.{stepped_is}
 use Rattle.pa_machine.proofs.Runs.{number_stepped}
-use Rattle.pa_record.proofs.Members.{not_in_none, first_in, later_in, in_cases, of_some}
+use Rattle.pa_lists.proofs.Members.{first_in, later_in, in_cases, of_some}
 use Rattle.pa_rules.specs.declared.played.Played.{Played}
 use Rattle.pa_rules.specs.Played.{mark_of, marks_of}
 use Rattle.pa_rules.proofs.Marking.{mark_line}
 use Rattle.pa_rules.proofs.Running.{OtherLine, OtherRecord, run_rises, one_mark, first_line}
 use Rattle.pa_rules.proofs.Phases.{mark_in}
 use Rattle.pa_rules.proofs.ByLines.{same_record}
-
-only_one : {A : Type 0} (x y : A) → Contains (x ∷ []) y → x ≡ y
-only_one x y among = elim (in_cases x y [] among) [ inl e ↦ e | inr none ↦ absurd (not_in_none y none) ]
+use Rattle.pa_lists.proofs.Elements.{in_one}
 
 -- the words are determined by their numbers
 pub same_word : (ms : List Mark) (s : SlotName) (u : ℕ) (vs : List ℕ) (x y : ℕ) → IsRunFrom ms s u vs → Contains (u ∷ vs) x → Contains (u ∷ vs) y → number_of x ≡ number_of y → x ≡ y
-same_word ms s u [] x y run first second e = sym (only_one u x first) ∙ only_one u y second
+same_word ms s u [] x y run first second e = sym (in_one u x first) ∙ in_one u y second
 same_word ms s u (v ∷ vs) x y (m, p, at, can, is, rest) first second e =
     let up : number_of v ≡ number_of u + 1 = ap number_of is ∙ number_stepped p u can in
     elim (in_cases u x (v ∷ vs) first) [
@@ -45,7 +43,7 @@ same_word ms s u (v ∷ vs) x y (m, p, at, can, is, rest) first second e =
 pub goes_on : (ms : List Mark) (s : SlotName) (u : ℕ) (vs : List ℕ) (w : ℕ) (m : Mark) (p : Step) → AllPairs OtherLine ms → IsRunFrom ms s u vs → Contains (u ∷ vs) w → IsFirstAt ms s w m p → CanStep p w →
     Contains (u ∷ vs) (stepped p w)
 goes_on ms s u [] w m p h run among first can =
-    let e = only_one u w among in
+    let e = in_one u w among in
     absurd (run m p (subst (λ z. IsFirstAt ms s z m p) (sym e) first) (subst (λ z. CanStep p z) (sym e) can))
 goes_on ms s u (v ∷ vs) w m p h (n, q, first', can', is, rest) among first can = elim (in_cases u w (v ∷ vs) among) [
   | inl e ↦
@@ -97,8 +95,8 @@ only_issue Write w can held refs = let some = can.0.0 in absurd (omega arith)
 pub goes_past : (ms : List Mark) (s : SlotName) (u : ℕ) (vs : List ℕ) (w v : ℕ) → IsRunFrom ms s u vs → Contains (u ∷ vs) w → Contains (u ∷ vs) v → number_of w < number_of v →
     (m : Mark) × (p : Step) × IsFirstAt ms s w m p × CanStep p w
 goes_past ms s u [] w v run first second less =
-    let e : number_of u ≡ number_of w = ap number_of (only_one u w first) in
-    let f : number_of u ≡ number_of v = ap number_of (only_one u v second) in
+    let e : number_of u ≡ number_of w = ap number_of (in_one u w first) in
+    let f : number_of u ≡ number_of v = ap number_of (in_one u v second) in
     absurd (omega arith)
 goes_past ms s u (x ∷ vs) w v (m, p, at, can, is, rest) first second less = elim (in_cases u w (x ∷ vs) first) [
   | inl e ↦ (m, p, subst (λ z. IsFirstAt ms s z m p) e at, subst (λ z. CanStep p z) e can)

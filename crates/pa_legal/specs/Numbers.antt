@@ -2,6 +2,7 @@
 use Rattle.std.specs.Prelude.{◌≡◌, ◌≢◌, ℕ, ◌<◌, Bool, List, [], ◌∷◌, ◌++◌, Option, Some, None, Contains, All, AllPairs, filter, flat_map}
 use Rattle.pa_machine.specs.declared.word.SlotName.{SlotName}
 use Rattle.pa_machine.specs.Run.{Slots, same_slot}
+use Rattle.pa_buckets.specs.Limits.{class_count}
 use Rattle.pa_record.specs.declared.numbered.Numbered.{Numbered}
 use Rattle.pa_record.specs.declared.pool.PoolEntry.{PoolEntry}
 use Rattle.pa_record.specs.declared.root.RootEntry.{RootEntry}
@@ -75,7 +76,7 @@ CachedOut =
     (supers partitions threads p t class w : ℕ) (ps : List Played) (pools : List PoolEntry) (roots : Journals) (all : Caches)
     (m : Numbered) → AreRoots partitions ps pools roots → IsPoolOf supers ps pools roots →
     AllPairs (λ (x y : Played). x.line ≢ y.line) ps → All (λ (x : Played). x.thread < threads) ps → Slots (marks_of ps) →
-    CachesTo partitions roots no_caches ps all → p < partitions → t < threads → class < 59 → Contains (all t p class) m →
+    CachesTo partitions roots no_caches ps all → p < partitions → t < threads → class < class_count → Contains (all t p class) m →
     HasWord ps m.slot w → IsCachedOut pools roots threads p all m.slot w
 
 -- A root's numbers go on where its journal grows: the slot's moves are those before and those after, which begin where the

@@ -1,17 +1,14 @@
 -- What one piece of a title counts as.
-use Rattle.std.proofs.Common.{◌≡◌, ℕ, ◌+◌, ◌<◌, ◌≤◌, Bool, true, false, List, [], ◌∷◌, length, refl, sym, ◌∙◌, ap, subst, arith, ◌⊎◌, inl, inr, set}
-use Rattle.std.proofs.lemmas.List.{get_or-set_other, get_or-set_same, length-set}
-use Rattle.std.proofs.lemmas.Bool.{cases_eq, cases_lt}
+use Rattle.std.proofs.Common.{◌≡◌, ℕ, ◌+◌, ◌<◌, ◌≤◌, List, [], ◌∷◌, length, refl, ◌∙◌, arith, ◌⊎◌, inl, inr, set}
+use Rattle.std.proofs.lemmas.List.{get_or-set_other, get_or-set_same}
 use Rattle.pa_machine.specs.declared.title.Title.{Title}
 use Rattle.pa_machine.specs.declared.title.OwnState.{OwnState}
-use Rattle.pa_machine.specs.declared.title.OwnState.TheVariants.{Clean, Dirty, Poisoned}
 use Rattle.pa_machine.specs.Count.{held_of, refs_of}
 use Rattle.pa_machine.specs.Run.{IsFree}
-use Rattle.pa_machine.specs.Titles.{same_title, same_state, content_count, content_place, count_place, count_word, content_at, IsWellFormed}
-use Rattle.pa_machine.specs.Holdings.{Piece, RawPiece, FreePiece, OwnPiece, RefPiece, Thing, RawByte, FreeTitle, OwnOf, OwnAs, RefOf, held_in, one}
+use Rattle.pa_machine.specs.Titles.{content_count, content_place, count_place, count_word, content_at, IsWellFormed}
+use Rattle.pa_machine.specs.Holdings.{FreePiece, OwnPiece, RefPiece, FreeTitle, OwnOf, OwnAs, RefOf, held_in, one}
 use Rattle.pa_machine.specs.Events.{returned_at}
 use Rattle.pa_machine.proofs.Same.{title_self, state_self, state_tells}
-use Rattle.pa_machine.proofs.Parts.{free_or, IsNoneOf, free_none, nil_none}
 use Rattle.std.proofs.lemmas.Bool.Decides.{eqb_tells}
 
 pub free_self : (t : Title) → held_in (FreePiece t ∷ []) (FreeTitle t) ≡ 1

@@ -2,7 +2,7 @@
 use Rattle.std.proofs.Common.{◌≡◌, ℕ, ◌+◌, ◌-◌, ◌*◌, ◌/◌, ◌%◌, ◌^◌, ◌<◌, ◌≤◌, arith}
 use Rattle.pa_machine.specs.declared.word.Step.{Step}
 use Rattle.pa_machine.specs.declared.word.Step.TheVariants.{Issue, Copy, Reset, Free, Write}
-use Rattle.pa_machine.specs.Count.{CanStep, stepped, refs_of, held_of, number_of}
+use Rattle.pa_machine.specs.Count.{CanStep, stepped, refs_of, held_of}
 
 -- what a step does to bit and count
 abbrev pub IsStepped : Step → ℕ → ℕ → Type 0

@@ -1,20 +1,18 @@
 -- Each step on a count word keeps its title good.
-use Rattle.std.proofs.Common.{◌≡◌, ℕ, zero, suc, ◌+◌, ◌-◌, ◌*◌, ◌/◌, ◌%◌, ◌<◌, ◌≤◌, Bool, true, false, List, [], ◌∷◌, length, get_or, set, refl, sym, ◌∙◌, ap, subst, arith, ◌⊎◌, inl, inr}
-use Rattle.pa_machine.specs.declared.word.Step.{Step}
+use Rattle.std.proofs.Common.{◌≡◌, ℕ, ◌+◌, ◌-◌, ◌*◌, ◌/◌, ◌%◌, ◌<◌, ◌≤◌, List, [], ◌∷◌, length, set, refl, ◌∙◌, arith, ◌⊎◌, inl, inr}
 use Rattle.pa_machine.specs.declared.word.Step.TheVariants.{Issue, Copy, Reset, Free, Write}
 use Rattle.pa_machine.specs.declared.title.Title.{Title}
 use Rattle.pa_machine.specs.declared.title.OwnState.{OwnState}
-use Rattle.pa_machine.specs.declared.title.OwnState.TheVariants.{Clean, Dirty, Poisoned}
-use Rattle.pa_machine.specs.Count.{held_of, refs_of, CanStep, stepped}
-use Rattle.pa_machine.specs.Run.{IsFree, IsQuarantined}
-use Rattle.pa_machine.specs.Titles.{Covers, IsWellFormed, content_count, content_place, count_place, content_at, count_word, HasContentFrom, IsUniform, IsPoisonedTo}
-use Rattle.pa_machine.specs.Holdings.{Piece, RawPiece, FreePiece, OwnPiece, RefPiece, Thing, RawByte, FreeTitle, OwnOf, OwnAs, RefOf, IsTitleHeld, held_in, one}
-use Rattle.pa_machine.specs.Good.{IsByteGood, IsDivided, IsCounted, IsPoisonKept, IsContentKept, IsGood}
+use Rattle.pa_machine.specs.declared.title.OwnState.TheVariants.{Clean, Poisoned}
+use Rattle.pa_machine.specs.Count.{refs_of}
+use Rattle.pa_machine.specs.Run.{IsFree}
+use Rattle.pa_machine.specs.Titles.{IsWellFormed, content_count, count_place, content_at, count_word, HasContentFrom, IsUniform}
+use Rattle.pa_machine.specs.Holdings.{FreePiece, OwnPiece, RefPiece, Thing, FreeTitle, OwnOf, OwnAs, RefOf, held_in, one}
 use Rattle.pa_machine.specs.Events.{returned_at}
 use Rattle.pa_machine.proofs.Arith.{IsStepped, held_small}
 use Rattle.pa_machine.proofs.Same.{state_tells}
 use Rattle.pa_machine.proofs.Totals.{IsTally}
-use Rattle.pa_machine.proofs.Parts.{free_or, IsTitleGood, Changes}
+use Rattle.pa_machine.proofs.Parts.{IsTitleGood, Changes}
 use Rattle.pa_machine.proofs.Amounts.{free_self, own_self, ref_self, state_here, state_apart, returned_cases, word_written, content_unwritten}
 
 -- The words after a step on the count word of t, which leaves the word v.
@@ -121,7 +119,7 @@ copy_good words after total later t v g tally tallied s w has c =
     }
 
 -- what is given back counts as one free title where the word is free, and as nothing else
-returned_free : (v : ℕ) (t : Title) →
+pub returned_free : (v : ℕ) (t : Title) →
     (IsFree v × (held_in (returned_at v t) (FreeTitle t) ≡ 1)) ⊎ ((IsFree v → ⊥) × (held_in (returned_at v t) (FreeTitle t) ≡ 0))
 returned_free v t = elim (returned_cases v t) [
   | inl y ↦ inl (y.0, rw y.1 (free_self t))

@@ -1,19 +1,16 @@
 -- Cutting a title out of raw bytes, and giving it back to them.
-use Rattle.std.proofs.Common.{◌≡◌, ℕ, zero, suc, ◌+◌, ◌-◌, ◌*◌, ◌/◌, ◌%◌, ◌<◌, ◌≤◌, Bool, true, false, ◌&&◌, List, [], ◌∷◌, length, get_or, set, refl, sym, ◌∙◌, ap, subst, arith, ◌⊎◌, inl, inr}
-use Rattle.std.specs.Prelude.{nat_le, nat_lt}
-use Rattle.std.proofs.lemmas.Bool.{cases_eq, cases_lt}
+use Rattle.std.proofs.Common.{◌≡◌, ℕ, ◌+◌, ◌-◌, ◌*◌, ◌/◌, ◌%◌, ◌<◌, ◌≤◌, ◌&&◌, List, [], ◌∷◌, length, refl, sym, ◌∙◌, subst, arith, ◌⊎◌, inl, inr}
+use Rattle.std.proofs.lemmas.Bool.{cases_lt}
 use Rattle.std.proofs.lemmas.Bool.Decides.{nat_tests}
 use Rattle.pa_machine.specs.declared.title.Title.{Title}
-use Rattle.pa_machine.specs.declared.title.OwnState.{OwnState}
-use Rattle.pa_machine.specs.declared.title.OwnState.TheVariants.{Clean, Dirty, Poisoned}
-use Rattle.pa_machine.specs.Count.{held_of, refs_of}
-use Rattle.pa_machine.specs.Run.{IsFree, IsQuarantined}
-use Rattle.pa_machine.specs.Titles.{Covers, IsWellFormed, content_count, content_place, count_place, content_at, count_word, HasContentFrom, IsUniform, IsPoisonedTo}
-use Rattle.pa_machine.specs.Holdings.{Piece, RawPiece, FreePiece, OwnPiece, RefPiece, Thing, RawByte, FreeTitle, OwnOf, OwnAs, RefOf, IsTitleHeld, held_in, one}
-use Rattle.pa_machine.specs.Good.{IsByteGood, IsDivided, IsCounted, IsPoisonKept, IsContentKept, IsGood}
+use Rattle.pa_machine.specs.declared.title.OwnState.TheVariants.{Clean, Poisoned}
+use Rattle.pa_machine.specs.Run.{IsFree}
+use Rattle.pa_machine.specs.Titles.{Covers, IsWellFormed, count_word}
+use Rattle.pa_machine.specs.Holdings.{Piece, RawPiece, FreePiece, Thing, RawByte, FreeTitle, OwnOf, OwnAs, RefOf, IsTitleHeld, held_in}
+use Rattle.pa_machine.specs.Good.{IsDivided, IsGood}
 use Rattle.pa_machine.proofs.Same.{title_tells}
 use Rattle.pa_machine.proofs.Totals.{IsTally}
-use Rattle.pa_machine.proofs.Parts.{free_or, IsTitleGood, IsUntouched, Changes, good_by, title_of_good, IsNoneOf, free_none, raw_none}
+use Rattle.pa_machine.proofs.Parts.{free_or, IsTitleGood, IsUntouched, Changes, good_by, IsNoneOf, free_none, raw_none}
 use Rattle.pa_machine.proofs.Amounts.{free_self}
 
 -- a range counts as a byte where the byte lies in it

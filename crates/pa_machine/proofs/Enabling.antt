@@ -1,5 +1,5 @@
 -- The facts that the tests of the events' conditions rest on.
-use Rattle.std.proofs.Common.{◌≡◌, ℕ, zero, suc, ◌+◌, ◌-◌, ◌*◌, ◌/◌, ◌%◌, ◌<◌, ◌≤◌, Bool, true, false, ◌&&◌, cond, eqb, List, Option, Some, None, length, get_or, refl, sym, ◌∙◌, ap, subst, arith, ◌⊎◌, inl, inr, Contains, ◌↔◌}
+use Rattle.std.proofs.Common.{◌≡◌, ℕ, ◌+◌, ◌-◌, ◌*◌, ◌/◌, ◌%◌, ◌<◌, ◌≤◌, Bool, true, false, ◌&&◌, cond, Some, None, length, get_or, refl, sym, ◌∙◌, ap, subst, arith, ◌⊎◌, inl, inr, Contains, ◌↔◌}
 use Rattle.std.specs.Prelude.{nat_le, nat_lt}
 use Rattle.std.proofs.lemmas.Bool.Decides.{nat_tests}
 use Rattle.std.proofs.lemmas.Bool.{cases_lt}
@@ -11,10 +11,9 @@ use Rattle.pa_machine.specs.declared.word.Step.{Step}
 use Rattle.pa_machine.specs.declared.word.Step.TheVariants.{Issue, Copy, Reset, Free, Write}
 use Rattle.pa_machine.specs.declared.slot.Slot.{Slot}
 use Rattle.pa_machine.specs.declared.tables.Tables.{Tables}
-use Rattle.pa_machine.specs.Count.{refs_of}
-use Rattle.pa_machine.specs.Titles.{Covers, IsWellFormed, IsContentOf, count_place, count_word, content_count, progress, same_title}
-use Rattle.pa_machine.specs.Holdings.{Thing, RawByte, FreeTitle, OwnOf, OwnAs, RefOf, IsTitleHeld}
-use Rattle.pa_machine.specs.Events.{State, HasActor, CanCount, HoldsRaw, Holds, HoldsOpen, total_of, IsFreeWord, IsOwnWord, IsTitleWord}
+use Rattle.pa_machine.specs.Titles.{Covers, IsWellFormed, IsContentOf, content_count, progress}
+use Rattle.pa_machine.specs.Holdings.{RawByte, FreeTitle, OwnAs, RefOf, IsTitleHeld}
+use Rattle.pa_machine.specs.Events.{HasActor, CanCount, HoldsRaw, Holds, HoldsOpen, total_of, IsTitleWord}
 use Rattle.pa_machine.specs.Tables.{Place, pieces_of, state_of, kept_as, slot_at, kept_over, slot_over, IsPlaced, AreSound, IsHeldBy, CanPoison, MayChange, MayWrite}
 use Rattle.pa_machine.proofs.Same.{title_tells, title_self}
 use Rattle.pa_machine.proofs.Totals.{tally_of}

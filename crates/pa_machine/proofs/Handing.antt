@@ -1,22 +1,21 @@
 -- Stores, poisonings and hands, done on the tables, are the events of the state.
-use Rattle.std.proofs.Common.{◌≡◌, ℕ, zero, suc, ◌+◌, ◌-◌, ◌*◌, ◌/◌, ◌%◌, ◌<◌, ◌≤◌, Bool, true, false, cond, eqb, List, [], ◌∷◌, ◌++◌, Option, Some, None, length, get_or, set, refl, sym, ◌∙◌, ap, subst, arith, ◌⊎◌, inl, inr, Contains}
+use Rattle.std.proofs.Common.{◌≡◌, ℕ, ◌+◌, ◌-◌, ◌*◌, ◌/◌, ◌%◌, ◌<◌, ◌≤◌, Bool, true, false, cond, eqb, List, [], ◌∷◌, ◌++◌, Some, None, length, get_or, set, refl, ◌∙◌, ap, subst, arith, ◌⊎◌, inl, inr}
 use Rattle.std.specs.Prelude.{Box}
 use Rattle.std.specs.Global.{Global}
 use Rattle.std.proofs.lemmas.List.{length-set}
-use Rattle.std.proofs.lemmas.Bool.{cases_eq, cases_lt}
+use Rattle.std.proofs.lemmas.Bool.{cases_lt}
 use Rattle.pa_machine.specs.declared.title.Title.{Title}
 use Rattle.pa_machine.specs.declared.title.OwnState.{OwnState}
 use Rattle.pa_machine.specs.declared.title.OwnState.TheVariants.{Clean, Dirty, Poisoned}
 use Rattle.pa_machine.specs.declared.event.Item.TheVariants.{Raw as RawItem, Free as FreeItem, Own as OwnItem, Ref as RefItem}
 use Rattle.pa_machine.specs.declared.event.Event.{Event}
-use Rattle.pa_machine.specs.declared.event.Event.TheVariants.{Count, Store, Poison, Load, Hand, Cut, Uncut}
+use Rattle.pa_machine.specs.declared.event.Event.TheVariants.{Store, Poison, Hand}
 use Rattle.pa_machine.specs.declared.slot.Slot.{Slot}
 use Rattle.pa_machine.specs.declared.tables.Tables.{Tables}
-use Rattle.pa_machine.specs.Titles.{Covers, content_count, content_place, progress, poison, IsContentOf}
+use Rattle.pa_machine.specs.Titles.{Covers, content_place, progress, poison, IsContentOf}
 use Rattle.pa_machine.specs.Holdings.{Piece, RawPiece, FreePiece, OwnPiece, RefPiece, Thing, RawByte, FreeTitle, OwnOf, OwnAs, RefOf, IsTitleHeld, held_in, one}
-use Rattle.pa_machine.specs.Events.{State, HasActor, IsEnabled, Happens, IsAfter, HoldsOpen, total_of, Holds, of_actor, Exchanges, IsRawWord, IsFreeWord, IsOwnWord}
-use Rattle.pa_machine.specs.Tables.{Place, is_holder, raw_pieces, place_pieces, state_of, slot_at, slot_over, IsPlaced, AreSound, IsNextSlot, IsFilled, MayWrite, MayChange}
-use Rattle.pa_machine.proofs.Parts.{IsNoneOf}
+use Rattle.pa_machine.specs.Events.{HasActor, IsEnabled, Happens, HoldsOpen, total_of, Holds, of_actor, Exchanges, IsRawWord, IsFreeWord, IsOwnWord}
+use Rattle.pa_machine.specs.Tables.{is_holder, raw_pieces, state_of, slot_over, AreSound, IsNextSlot, IsFilled, MayWrite, MayChange}
 use Rattle.pa_machine.proofs.Cutting.{covered_raw, uncovered_raw, free_alone}
 use Rattle.pa_machine.proofs.Totals.{tally_of}
 use Rattle.pa_machine.proofs.Keeps.{own_of_state}
@@ -25,7 +24,7 @@ use Rattle.pa_machine.proofs.Tabled.{raw_titles, raw_amount}
 use Rattle.pa_machine.proofs.Reading.{reads_own, own_read, reads_raw}
 use Rattle.pa_machine.proofs.Enabling.{actor_is, raw_inside, held_own, over_entry, entry_over, write_over}
 use Rattle.pa_machine.proofs.Holding.{IsCutOf, held_back}
-use Rattle.pa_machine.proofs.Rowing.{SlotExchanges, own_slot, hand_free_slot, hand_ref_slot, IsSlotChange, slot_exchanges, raw_exchange, placed_next, sound_next}
+use Rattle.pa_machine.proofs.Rowing.{SlotExchanges, own_slot, hand_free_slot, hand_ref_slot, IsSlotChange, slot_exchanges, raw_exchange, sound_next}
 use Rattle.pa_machine.proofs.Rows.{IsRow, entry_free, entry_own, entry_ref, placed_at, row_sound}
 
 -- a hand of a free title, of a clean Own and of a Ref

@@ -1,16 +1,14 @@
 -- Each event that is enabled keeps the state of the core good.
-use Rattle.std.proofs.Common.{◌≡◌, ℕ, zero, suc, ◌+◌, ◌-◌, ◌*◌, ◌/◌, ◌%◌, ◌<◌, ◌≤◌, Bool, true, false, List, [], ◌∷◌, length, get_or, set, refl, sym, ◌∙◌, ap, subst, arith, ◌⊎◌, inl, inr}
-use Rattle.pa_machine.specs.declared.word.Step.{Step}
+use Rattle.std.proofs.Common.{◌≡◌, ℕ, ◌+◌, ◌-◌, ◌*◌, ◌/◌, ◌%◌, ◌<◌, ◌≤◌, List, [], ◌∷◌, length, ◌∙◌, arith, ◌⊎◌, inl, inr}
 use Rattle.pa_machine.specs.declared.word.Step.TheVariants.{Issue, Copy, Reset, Free, Write}
 use Rattle.pa_machine.specs.declared.title.Title.{Title}
 use Rattle.pa_machine.specs.declared.title.OwnState.{OwnState}
 use Rattle.pa_machine.specs.declared.title.OwnState.TheVariants.{Clean, Dirty, Poisoned}
 use Rattle.pa_machine.specs.declared.event.Event.{Event}
 use Rattle.pa_machine.specs.declared.event.Event.TheVariants.{Count, Store, Poison, Load, Hand, Cut, Uncut}
-use Rattle.pa_machine.specs.Titles.{content_count, content_place, count_place, count_word, progress, IsContentOf}
-use Rattle.pa_machine.specs.Holdings.{Piece, RawPiece, FreePiece, OwnPiece, RefPiece, Thing, RawByte, FreeTitle, OwnOf, OwnAs, RefOf, held_in}
-use Rattle.pa_machine.specs.Good.{IsGood}
-use Rattle.pa_machine.specs.Events.{State, HasActor, Holds, total_of, IsEnabled, IsAfter, Happens, IsRawWord, IsFreeWord, IsOwnWord, of_actor, piece_of}
+use Rattle.pa_machine.specs.Titles.{content_count, count_word, progress}
+use Rattle.pa_machine.specs.Holdings.{Piece, OwnPiece, Thing, RawByte, FreeTitle, OwnOf, OwnAs, RefOf}
+use Rattle.pa_machine.specs.Events.{State, HasActor, Holds, total_of, IsEnabled, IsAfter, Happens, piece_of}
 use Rattle.pa_machine.specs.Trail.{IsGoodState}
 use Rattle.pa_machine.proofs.Totals.{total_exchanged, held_part, tally_of}
 use Rattle.pa_machine.proofs.Parts.{Changes}

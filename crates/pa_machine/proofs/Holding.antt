@@ -1,7 +1,6 @@
 -- A title that is held after an event was held before it, unless the event cut it out.
-use Rattle.std.proofs.Common.{◌≡◌, ℕ, ◌+◌, ◌<◌, ◌≤◌, List, [], ◌∷◌, length, Option, Some, None, refl, sym, ◌∙◌, ap, subst, arith, ◌⊎◌, inl, inr}
+use Rattle.std.proofs.Common.{◌≡◌, ℕ, ◌+◌, ◌<◌, ◌≤◌, List, [], ◌∷◌, length, refl, ◌∙◌, ap, subst, arith, ◌⊎◌, inl, inr}
 use Rattle.std.proofs.lemmas.List.{length-set}
-use Rattle.pa_machine.specs.declared.word.Step.{Step}
 use Rattle.pa_machine.specs.declared.word.Step.TheVariants.{Issue, Copy, Reset, Free, Write}
 use Rattle.pa_machine.specs.declared.title.Title.{Title}
 use Rattle.pa_machine.specs.declared.title.OwnState.{OwnState}
@@ -10,8 +9,8 @@ use Rattle.pa_machine.specs.declared.event.Event.{Event}
 use Rattle.pa_machine.specs.declared.event.Event.TheVariants.{Count, Store, Poison, Load, Hand, Cut, Uncut}
 use Rattle.pa_machine.specs.Count.{stepped}
 use Rattle.pa_machine.specs.Titles.{content_count, count_word}
-use Rattle.pa_machine.specs.Holdings.{Piece, RawPiece, FreePiece, OwnPiece, RefPiece, Thing, FreeTitle, OwnOf, OwnAs, RefOf, IsTitleHeld, held_in}
-use Rattle.pa_machine.specs.Events.{State, HasActor, IsEnabled, Happens, IsAfter, IsSameShape, total_of, piece_of, HoldsOpen, Holds}
+use Rattle.pa_machine.specs.Holdings.{Piece, RawPiece, FreePiece, Thing, FreeTitle, OwnOf, OwnAs, RefOf, IsTitleHeld}
+use Rattle.pa_machine.specs.Events.{State, HasActor, IsEnabled, Happens, IsAfter, IsSameShape, total_of, piece_of, Holds}
 use Rattle.pa_machine.proofs.Same.{title_tells}
 use Rattle.pa_machine.proofs.Totals.{total_exchanged, tally_of}
 use Rattle.pa_machine.proofs.Parts.{Changes, IsNoneOf, nil_none, free_none, own_none, ref_none, raw_none}
@@ -43,13 +42,13 @@ one_title s after actor lost gained words t u has h held none after_held = elim 
   | inr n ↦ gained_back (total_of s) (total_of after) lost gained u (after_changes s after actor lost gained words has h) (none u n.1) after_held
 ]
 
-free_title : (s : State) (actor : ℕ) (t : Title) → Holds s actor (FreeTitle t) → IsTitleHeld (total_of s) t
+pub free_title : (s : State) (actor : ℕ) (t : Title) → Holds s actor (FreeTitle t) → IsTitleHeld (total_of s) t
 free_title s actor t h = let p = in_total s actor (FreeTitle t) h in omega arith
 
-own_title : (s : State) (actor : ℕ) (t : Title) (a : OwnState) → Holds s actor (OwnAs t a) → IsTitleHeld (total_of s) t
+pub own_title : (s : State) (actor : ℕ) (t : Title) (a : OwnState) → Holds s actor (OwnAs t a) → IsTitleHeld (total_of s) t
 own_title s actor t a h = let p = own_of_state (total_of s) t a (tally_of s.holdings) (in_total s actor (OwnAs t a) h) in omega arith
 
-ref_title : (s : State) (actor : ℕ) (t : Title) → Holds s actor (RefOf t) → IsTitleHeld (total_of s) t
+pub ref_title : (s : State) (actor : ℕ) (t : Title) → Holds s actor (RefOf t) → IsTitleHeld (total_of s) t
 ref_title s actor t h = let p = in_total s actor (RefOf t) h in omega arith
 
 pub held_back : (e : Event) (s after : State) → IsEnabled e s → Happens e s after → (u : Title) → IsTitleHeld (total_of after) u → IsTitleHeld (total_of s) u ⊎ IsCutOf e u

@@ -1,5 +1,5 @@
 -- Each event keeps the core good, said of its words and of what all actors hold together.
-use Rattle.std.proofs.Common.{◌≡◌, ℕ, zero, suc, ◌+◌, ◌-◌, ◌*◌, ◌/◌, ◌%◌, ◌<◌, ◌≤◌, Bool, true, false, List, [], ◌∷◌, length, get_or, set, refl, sym, ◌∙◌, ap, subst, arith, ◌⊎◌, inl, inr}
+use Rattle.std.proofs.Common.{◌≡◌, ℕ, ◌+◌, ◌-◌, ◌*◌, ◌/◌, ◌%◌, ◌<◌, ◌≤◌, List, [], ◌∷◌, length, set, refl, ◌∙◌, arith, ◌⊎◌, inl, inr}
 use Rattle.std.proofs.lemmas.List.{length-set}
 use Rattle.std.proofs.lemmas.Bool.{cases_lt}
 use Rattle.pa_machine.specs.declared.word.Step.{Step}
@@ -7,17 +7,16 @@ use Rattle.pa_machine.specs.declared.word.Step.TheVariants.{Issue, Copy, Reset, 
 use Rattle.pa_machine.specs.declared.title.Title.{Title}
 use Rattle.pa_machine.specs.declared.title.OwnState.{OwnState}
 use Rattle.pa_machine.specs.declared.title.OwnState.TheVariants.{Clean, Dirty, Poisoned}
-use Rattle.pa_machine.specs.Count.{held_of, refs_of, CanStep, stepped}
-use Rattle.pa_machine.specs.Run.{IsFree, IsQuarantined}
-use Rattle.pa_machine.specs.Titles.{Covers, IsWellFormed, content_count, content_place, count_place, content_at, count_word, HasContentFrom, IsUniform, IsPoisonedTo, poison, progress, IsContentOf}
-use Rattle.pa_machine.specs.Holdings.{Piece, RawPiece, FreePiece, OwnPiece, RefPiece, Thing, RawByte, FreeTitle, OwnOf, OwnAs, RefOf, IsTitleHeld, held_in, one}
-use Rattle.pa_machine.specs.Good.{IsByteGood, IsDivided, IsCounted, IsPoisonKept, IsContentKept, IsGood}
+use Rattle.pa_machine.specs.Count.{refs_of, CanStep, stepped}
+use Rattle.pa_machine.specs.Titles.{Covers, IsWellFormed, content_count, content_place, count_place, count_word, HasContentFrom, IsUniform, poison, progress, IsContentOf}
+use Rattle.pa_machine.specs.Holdings.{FreePiece, OwnPiece, RefPiece, Thing, RawByte, FreeTitle, OwnOf, OwnAs, RefOf, IsTitleHeld, held_in}
+use Rattle.pa_machine.specs.Good.{IsGood}
 use Rattle.pa_machine.specs.Events.{returned_at}
-use Rattle.pa_machine.proofs.Arith.{IsStepped, stepped_is, held_small}
+use Rattle.pa_machine.proofs.Arith.{stepped_is}
 use Rattle.pa_machine.proofs.Totals.{IsTally}
 use Rattle.pa_machine.proofs.Parts.{free_or, IsTitleGood, Changes, title_of_good, IsWordOf, word_covered, IsNoneOf, nil_none, free_none, own_none, ref_none, IsChangeAt, change_good, good_by, divided_same, untouched_by_write}
-use Rattle.pa_machine.proofs.Amounts.{free_self, own_self, ref_self, returned_cases, content_written, content_other, word_unwritten}
-use Rattle.pa_machine.proofs.Counting.{IsWrittenWord, written_word, issue_good, copy_good, reset_good, free_good, write_good}
+use Rattle.pa_machine.proofs.Amounts.{own_self, ref_self, returned_cases, content_written, content_other, word_unwritten}
+use Rattle.pa_machine.proofs.Counting.{written_word, issue_good, copy_good, reset_good, free_good, write_good}
 use Rattle.pa_machine.proofs.Storing.{store_own_good, store_free_good, poison_good, IsWrittenContent}
 
 -- what a step gives back is the title's alone, and no raw byte

@@ -1,27 +1,25 @@
 -- The content of a title is the one of its last Issue or Write.
-use Rattle.std.proofs.Common.{◌≡◌, ℕ, zero, suc, ◌+◌, ◌-◌, ◌*◌, ◌/◌, ◌%◌, ◌<◌, ◌≤◌, Bool, true, false, cond, List, [], ◌∷◌, length, get_or, set, refl, sym, ◌∙◌, ap, subst, arith, ◌⊎◌, inl, inr}
-use Rattle.std.proofs.lemmas.Bool.{cases_eq, cases_lt}
-use Rattle.pa_machine.specs.declared.word.Step.{Step}
+use Rattle.std.proofs.Common.{◌≡◌, ℕ, ◌+◌, ◌-◌, ◌*◌, ◌/◌, ◌%◌, ◌<◌, ◌≤◌, cond, List, [], ◌∷◌, length, set, refl, sym, ◌∙◌, subst, arith, ◌⊎◌, inl, inr}
+use Rattle.std.proofs.lemmas.Bool.{cases_lt}
 use Rattle.pa_machine.specs.declared.word.Step.TheVariants.{Issue, Copy, Reset, Free, Write}
 use Rattle.pa_machine.specs.declared.title.Title.{Title}
 use Rattle.pa_machine.specs.declared.title.OwnState.{OwnState}
 use Rattle.pa_machine.specs.declared.title.OwnState.TheVariants.{Clean, Dirty, Poisoned}
 use Rattle.pa_machine.specs.declared.event.Event.{Event}
 use Rattle.pa_machine.specs.declared.event.Event.TheVariants.{Count, Store, Poison, Load, Hand, Cut, Uncut}
-use Rattle.pa_machine.specs.Count.{stepped, refs_of}
-use Rattle.pa_machine.specs.Titles.{Covers, IsWellFormed, content_count, content_place, count_place, content_at, count_word, progress, poison, HasContentFrom, IsUniform, same_title}
-use Rattle.pa_machine.specs.Holdings.{Piece, RawPiece, FreePiece, OwnPiece, RefPiece, Thing, RawByte, FreeTitle, OwnOf, OwnAs, RefOf, IsTitleHeld, held_in}
-use Rattle.pa_machine.specs.Good.{IsGood, IsDivided}
-use Rattle.pa_machine.specs.Events.{State, HasActor, Holds, held_by, total_of, IsEnabled, IsAfter, Happens, of_actor, piece_of, returned_at, IsOwnWord, IsRawWord, IsFreeWord}
+use Rattle.pa_machine.specs.Count.{stepped}
+use Rattle.pa_machine.specs.Titles.{Covers, IsWellFormed, content_count, content_place, count_place, content_at, count_word, progress, poison, HasContentFrom, same_title}
+use Rattle.pa_machine.specs.Holdings.{Piece, RawPiece, FreePiece, OwnPiece, Thing, RawByte, FreeTitle, OwnOf, OwnAs, RefOf, IsTitleHeld, held_in}
+use Rattle.pa_machine.specs.Events.{State, HasActor, total_of, IsEnabled, IsAfter, Happens, piece_of, returned_at, IsOwnWord, IsRawWord, IsFreeWord}
 use Rattle.pa_machine.specs.Trail.{IsGoodState, KeepsContent, noted}
 use Rattle.pa_machine.proofs.Same.{title_tells, title_self}
 use Rattle.pa_machine.proofs.Totals.{IsTally, tally_of, total_exchanged}
-use Rattle.pa_machine.proofs.Parts.{Changes, IsUntouched, untouched_held, untouched_by_write, IsChangeAt, change_untouched, change_held, IsNoneOf, free_none, raw_none, title_of_good, word_covered}
+use Rattle.pa_machine.proofs.Parts.{Changes, IsUntouched, untouched_by_write, IsChangeAt, change_untouched, change_held, IsNoneOf, free_none, raw_none, word_covered}
 use Rattle.pa_machine.proofs.Amounts.{content_other, content_unwritten, state_apart, own_self, returned_cases}
-use Rattle.pa_machine.proofs.Storing.{restated, one_state, shared_so_far}
+use Rattle.pa_machine.proofs.Storing.{restated, one_state}
 use Rattle.pa_machine.proofs.Cutting.{cut_unheld, cut_untouched, free_alone}
 use Rattle.pa_machine.proofs.Keeps.{issue_change, copy_change, reset_change, free_change, restate_change, nil_change, content_index, own_of_state}
-use Rattle.pa_machine.proofs.Happening.{after_changes, in_total, few_owns, own_state_is, happens_good}
+use Rattle.pa_machine.proofs.Happening.{after_changes, in_total, few_owns, own_state_is}
 
 -- what the content sentence says of one title
 pub record IsNoted (words : List ℕ) (total : Thing → ℕ) (t : Title) (value : ℕ) : Type 0 where
@@ -165,10 +163,10 @@ copy_noted s after actor t last g can h k =
     })
 
 -- what is given back has no Own
-returned_owns : (v : ℕ) (t : Title) → held_in (returned_at v t) (OwnOf t) ≡ 0
+pub returned_owns : (v : ℕ) (t : Title) → held_in (returned_at v t) (OwnOf t) ≡ 0
 returned_owns v t = elim (returned_cases v t) [ inl y ↦ rw y.1 refl | inr n ↦ rw n.1 refl ]
 
-returned_states : (v : ℕ) (t : Title) (a : OwnState) → held_in (returned_at v t) (OwnAs t a) ≡ 0
+pub returned_states : (v : ℕ) (t : Title) (a : OwnState) → held_in (returned_at v t) (OwnAs t a) ≡ 0
 returned_states v t a = elim (returned_cases v t) [ inl y ↦ rw y.1 refl | inr n ↦ rw n.1 refl ]
 
 reset_noted : (s after : State) (actor : ℕ) (t : Title) (last : Title → ℕ) → IsGoodState s → IsEnabled (Count actor t Reset) s →

@@ -1,28 +1,22 @@
 -- Whether an actor holds a thing, as the tables have it.
-use Rattle.std.proofs.Common.{◌≡◌, ℕ, zero, suc, ◌+◌, ◌-◌, ◌*◌, ◌/◌, ◌%◌, ◌<◌, ◌≤◌, Bool, true, false, cond, eqb, List, [], ◌∷◌, ◌++◌, Option, Some, None, length, map, get_or, set, refl, sym, ◌∙◌, ap, subst, arith, ◌⊎◌, inl, inr, Contains, ◌↔◌}
-use Rattle.std.specs.List.{sum_by, slice_index_or, range_with_len, flat_map}
-use Rattle.std.proofs.lemmas.List.Sums.{sum_by-cons, sum_by-append, get_or-le-sum_by}
-use Rattle.std.proofs.lemmas.Bool.{cases_eq, cases_lt}
+use Rattle.std.proofs.Common.{◌≡◌, ℕ, suc, ◌+◌, ◌-◌, ◌*◌, ◌/◌, ◌%◌, ◌<◌, ◌≤◌, Bool, true, false, cond, eqb, List, [], ◌∷◌, ◌++◌, Option, Some, None, length, get_or, refl, sym, ◌∙◌, ap, subst, arith, ◌⊎◌, inl, inr, Contains, ◌↔◌}
+use Rattle.std.specs.List.{sum_by}
+use Rattle.std.proofs.lemmas.List.Sums.{sum_by-cons, get_or-le-sum_by}
 use Rattle.std.proofs.lemmas.Bool.Decides.{eqb_tells}
 use Rattle.pa_machine.specs.declared.title.Title.{Title}
 use Rattle.pa_machine.specs.declared.title.OwnState.{OwnState}
 use Rattle.pa_machine.specs.declared.slot.Owner.{Owner}
 use Rattle.pa_machine.specs.declared.slot.Slot.{Slot}
 use Rattle.pa_machine.specs.declared.tables.Tables.{Tables}
-use Rattle.pa_machine.specs.Titles.{same_title, same_state}
-use Rattle.pa_machine.specs.Holdings.{Piece, RawPiece, FreePiece, OwnPiece, RefPiece, Thing, RawByte, FreeTitle, OwnOf, OwnAs, RefOf, one, amount, held_in}
-use Rattle.pa_machine.specs.Events.{State, of_actor, held_by, HasActor, Holds, HoldsRaw}
-use Rattle.pa_machine.specs.Tables.{Place, is_holder, raw_pieces, free_pieces, own_pieces, ref_pieces, slot_pieces, place_pieces, holdings_of, state_of, kept_as, slot_at, IsPlaced, AreSound}
-use Rattle.pa_machine.proofs.Same.{title_tells, title_self, state_tells, state_self}
+use Rattle.pa_machine.specs.Holdings.{Piece, FreePiece, OwnPiece, RefPiece, Thing, RawByte, FreeTitle, OwnAs, RefOf, one, amount, held_in}
+use Rattle.pa_machine.specs.Events.{of_actor, held_by, Holds, HoldsRaw}
+use Rattle.pa_machine.specs.Tables.{Place, is_holder, raw_pieces, free_pieces, own_pieces, ref_pieces, slot_pieces, place_pieces, state_of, slot_at, AreSound}
+use Rattle.pa_machine.proofs.Same.{state_tells}
 use Rattle.pa_machine.proofs.Parts.{IsNoneOf}
-use Rattle.pa_machine.proofs.Amounts.{free_self, own_self, ref_self, state_here, state_apart}
+use Rattle.pa_machine.proofs.Amounts.{free_self, ref_self, state_here, state_apart}
 use Rattle.pa_machine.proofs.Tabled.{held_join, held_tables, raw_titles, raw_amount, place_raw, ref_sum, slots_at, kept_amount}
 
 -- pieces that are there by a test
-pub if_amount : (c : Bool) (ps : List Piece) (x : Thing) → held_in (cond c ps []) x ≡ cond c (held_in ps x) 0
-if_amount true ps x = refl
-if_amount false ps x = refl
-
 if_zero : (c : Bool) (ps : List Piece) (x : Thing) → held_in ps x ≡ 0 → held_in (cond c ps []) x ≡ 0
 if_zero true ps x h = h
 if_zero false ps x h = refl

@@ -1,30 +1,23 @@
 -- How a change of the tables changes what the actors hold, and that the tables stay sound.
-use Rattle.std.proofs.Common.{◌≡◌, ℕ, zero, suc, ◌+◌, ◌-◌, ◌*◌, ◌/◌, ◌%◌, ◌<◌, ◌≤◌, Bool, true, false, cond, eqb, List, [], ◌∷◌, ◌++◌, Option, Some, None, length, map, get_or, set, refl, sym, ◌∙◌, ap, subst, arith, ◌⊎◌, inl, inr, Contains}
-use Rattle.std.specs.List.{sum_by, slice_index_or, range_with_len, flat_map, swap_remove}
-use Rattle.std.proofs.lemmas.List.Sums.{sum_by-cons, sum_by-append, sum_by-set, sum_by_push, sum_by-swap_remove}
+use Rattle.std.proofs.Common.{◌≡◌, ℕ, zero, suc, ◌+◌, ◌-◌, ◌*◌, ◌/◌, ◌%◌, ◌<◌, ◌≤◌, Bool, true, false, cond, eqb, List, [], ◌∷◌, ◌++◌, Option, Some, None, length, get_or, set, refl, sym, ◌∙◌, ap, subst, arith, ◌⊎◌, inl, inr}
+use Rattle.std.specs.List.{swap_remove}
+use Rattle.std.proofs.lemmas.List.Sums.{sum_by-set, sum_by_push, sum_by-swap_remove}
 use Rattle.std.proofs.lemmas.List.FromFn.{length-map-range_with_len}
-use Rattle.std.proofs.lemmas.List.{get_or-set_other, get_or-set_same, length-set}
-use Rattle.std.proofs.lemmas.Bool.{cases_eq, cases_lt}
-use Rattle.std.proofs.lemmas.Bool.Decides.{eqb_tells}
+use Rattle.std.proofs.lemmas.List.{get_or-set_other, get_or-set_same}
+use Rattle.std.proofs.lemmas.Bool.{cases_eq}
 use Rattle.std.specs.Prelude.{Box}
 use Rattle.std.specs.Global.{Global}
-use Rattle.pa_machine.specs.declared.word.Step.{Step}
-use Rattle.pa_machine.specs.declared.word.Step.TheVariants.{Issue, Copy, Reset, Free, Write}
 use Rattle.pa_machine.specs.declared.title.Title.{Title}
 use Rattle.pa_machine.specs.declared.title.OwnState.{OwnState}
-use Rattle.pa_machine.specs.declared.title.OwnState.TheVariants.{Clean, Dirty, Poisoned}
-use Rattle.pa_machine.specs.declared.event.Event.{Event}
-use Rattle.pa_machine.specs.declared.event.Event.TheVariants.{Count, Store, Poison, Load, Hand, Cut, Uncut}
+use Rattle.pa_machine.specs.declared.title.OwnState.TheVariants.{Clean}
 use Rattle.pa_machine.specs.declared.slot.Owner.{Owner}
 use Rattle.pa_machine.specs.declared.slot.Slot.{Slot}
 use Rattle.pa_machine.specs.declared.tables.Tables.{Tables}
-use Rattle.pa_machine.specs.Titles.{IsWellFormed}
-use Rattle.pa_machine.specs.Holdings.{Piece, RawPiece, FreePiece, OwnPiece, RefPiece, Thing, RawByte, FreeTitle, OwnOf, OwnAs, RefOf, IsTitleHeld, one, amount, held_in}
-use Rattle.pa_machine.specs.Events.{State, Exchanges, of_actor, held_by, total_of, HasActor, Holds}
+use Rattle.pa_machine.specs.Holdings.{Piece, FreePiece, OwnPiece, RefPiece, Thing, IsTitleHeld, one, held_in}
+use Rattle.pa_machine.specs.Events.{Exchanges, of_actor, total_of}
 use Rattle.pa_machine.specs.Trail.{IsGoodState}
-use Rattle.pa_machine.specs.Tables.{Place, is_holder, raw_pieces, free_pieces, own_pieces, ref_pieces, slot_pieces, place_pieces, pieces_of, holdings_of, state_of, kept_as, slot_at, IsHolderWithin, IsOwnerWithin, IsPlaced, AreSound, IsNextSlot, IsSameSlot}
-use Rattle.pa_machine.proofs.Parts.{IsNoneOf}
-use Rattle.pa_machine.proofs.Tabled.{held_join, held_tables, raw_titles, raw_amount, place_raw, ref_sum}
+use Rattle.pa_machine.specs.Tables.{Place, raw_pieces, free_pieces, own_pieces, ref_pieces, slot_pieces, place_pieces, pieces_of, holdings_of, state_of, IsHolderWithin, IsOwnerWithin, IsPlaced, AreSound, IsNextSlot}
+use Rattle.pa_machine.proofs.Tabled.{held_tables, ref_sum}
 use Rattle.pa_machine.proofs.Reading.{slot_parts}
 
 -- what an actor has of the whole tables, one entry of which becomes another and whose holders of bytes may change
@@ -80,13 +73,6 @@ next_parts actor old new free own refs x n =
     parts : held_in (free_pieces actor new.title new.free) x + (held_in (own_pieces actor new.title new.own) x + held_in (ref_pieces actor new.title new.refs.items) x)
         ≡ held_in (free_pieces actor old.title free) x + (held_in (own_pieces actor old.title own) x + held_in (ref_pieces actor old.title refs) x)
     parts = rw (n.title, n.is_free, n.is_own, n.is_refs) refl
-
--- the parts that an actor gains or loses as a whole
-pub frees_are : (actor other : ℕ) (t : Title) → free_pieces actor t (Some other) ≡ of_actor other (FreePiece t ∷ []) actor
-frees_are actor other t = refl
-
-pub owns_are : (actor other : ℕ) (t : Title) (s : OwnState) → own_pieces actor t (Some (record { actor = other; state = s })) ≡ of_actor other (OwnPiece t s ∷ []) actor
-owns_are actor other t s = refl
 
 pub refs_push : (actor other : ℕ) (t : Title) (rs : List ℕ) (x : Thing) →
     held_in (ref_pieces actor t (rs ++ other ∷ [])) x ≡ held_in (ref_pieces actor t rs) x + held_in (of_actor other (RefPiece t ∷ []) actor) x

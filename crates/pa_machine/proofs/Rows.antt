@@ -5,24 +5,24 @@ use Rattle.std.specs.Global.{Global}
 use Rattle.std.specs.Vec.{with_items}
 use Rattle.std.proofs.Common.{Vec}
 use Rattle.std.proofs.lemmas.List.{with_items_is}
-use Rattle.std.specs.List.{slice_index_or, range_with_len, flat_map, swap_remove}
+use Rattle.std.specs.List.{range_with_len, flat_map}
 use Rattle.std.proofs.lemmas.List.{length-set}
 use Rattle.pa_machine.specs.declared.word.Step.{Step}
 use Rattle.pa_machine.specs.declared.word.Step.TheVariants.{Issue, Copy, Reset, Free, Write}
 use Rattle.pa_machine.specs.declared.title.Title.{Title}
 use Rattle.pa_machine.specs.declared.title.OwnState.{OwnState}
-use Rattle.pa_machine.specs.declared.title.OwnState.TheVariants.{Clean, Dirty, Poisoned}
+use Rattle.pa_machine.specs.declared.title.OwnState.TheVariants.{Clean, Poisoned}
 use Rattle.pa_machine.specs.declared.event.Event.{Event}
-use Rattle.pa_machine.specs.declared.event.Event.TheVariants.{Count, Store, Poison, Load, Hand, Cut, Uncut}
+use Rattle.pa_machine.specs.declared.event.Event.TheVariants.{Count}
 use Rattle.pa_machine.specs.declared.slot.Owner.{Owner}
 use Rattle.pa_machine.specs.declared.slot.Slot.{Slot}
 use Rattle.pa_machine.specs.declared.tables.Tables.{Tables}
 use Rattle.pa_machine.specs.Count.{held_of, refs_of, stepped}
 use Rattle.pa_machine.specs.Titles.{count_place, count_word, content_count}
-use Rattle.pa_machine.specs.Holdings.{Piece, FreePiece, OwnPiece, RefPiece, Thing, FreeTitle, OwnOf, OwnAs, RefOf, IsTitleHeld}
-use Rattle.pa_machine.specs.Events.{State, IsEnabled, Happens, IsAfter, HoldsOpen, total_of, Holds, words_stepped, returned_at}
+use Rattle.pa_machine.specs.Holdings.{Piece, FreePiece, OwnPiece, RefPiece, FreeTitle, OwnOf, OwnAs, RefOf, IsTitleHeld}
+use Rattle.pa_machine.specs.Events.{State, IsEnabled, Happens, total_of, Holds, words_stepped}
 use Rattle.pa_machine.specs.Trail.{IsGoodState}
-use Rattle.pa_machine.specs.Tables.{Place, raw_pieces, place_pieces, slot_pieces, pieces_of, holdings_of, state_of, kept_as, slot_at, IsHolderWithin, IsOwnerWithin, IsPlaced, AreSound, IsNextSlot, IsSameSlot, IsSlotStepped, IsChangedAt, IsEntryAt}
+use Rattle.pa_machine.specs.Tables.{Place, raw_pieces, place_pieces, slot_pieces, pieces_of, holdings_of, state_of, kept_as, slot_at, IsHolderWithin, IsOwnerWithin, IsPlaced, AreSound, IsSameSlot, IsSlotStepped, IsChangedAt, IsEntryAt}
 use Rattle.pa_machine.proofs.Same.{title_tells}
 use Rattle.pa_machine.proofs.Totals.{tally_of}
 use Rattle.pa_machine.proofs.Keeps.{own_of_state}
@@ -30,9 +30,9 @@ use Rattle.pa_machine.proofs.Cutting.{free_alone}
 use Rattle.pa_machine.proofs.Happening.{in_total, happens_good}
 use Rattle.pa_machine.proofs.Returning.{not_free}
 use Rattle.pa_machine.proofs.Reading.{reads_free, reads_own, reads_ref, free_read, own_read}
-use Rattle.pa_machine.proofs.Enabling.{none_some, actor_is, held_free, held_own, held_ref, open_either}
+use Rattle.pa_machine.proofs.Enabling.{none_some, actor_is}
 use Rattle.pa_machine.proofs.Holding.{IsCutOf, held_back}
-use Rattle.pa_machine.proofs.Rowing.{SlotExchanges, issue_slot, copy_slot, reset_slot, free_slot, own_slot, hand_free_slot, hand_ref_slot, IsSlotChange, slot_exchanges, placed_next, sound_next}
+use Rattle.pa_machine.proofs.Rowing.{SlotExchanges, issue_slot, copy_slot, reset_slot, free_slot, own_slot, IsSlotChange, slot_exchanges, placed_next, sound_next}
 
 -- the entry at a title's place is the title's
 kept_value : (t : Title) (b : Box Slot Global) (o : Slot) → kept_as t (Some b) ≡ Some o → b.value ≡ o

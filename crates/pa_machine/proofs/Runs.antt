@@ -1,15 +1,17 @@
 -- Marks in which each step of a slot finds the slot's word so far: they have one run for each slot, which ends there.
-use Rattle.std.proofs.Common.{◌≡◌, ◌≢◌, ℕ, ◌+◌, ◌-◌, ◌*◌, ◌/◌, ◌%◌, ◌<◌, ◌≤◌, ◌⊎◌, inl, inr, List, [], ◌∷◌, ◌++◌, length, Bool, true, false, Option, Some, None, IsSome, Contains, refl, sym, ap, ◌∙◌, subst, arith, rules, add-one}
-use Rattle.std.proofs.lemmas.Bool.{cases_eq, eq-eqb, ne_eqb, eqb-true, and_from, and_parts}
+use Rattle.std.proofs.Common.{◌≡◌, ℕ, ◌+◌, ◌-◌, ◌<◌, ◌⊎◌, inl, inr, List, [], ◌∷◌, ◌++◌, true, false, Option, Some, None, IsSome, Contains, refl, sym, ap, ◌∙◌, subst, arith, rules, add-one}
+use Rattle.std.proofs.lemmas.Bool.{cases_eq, eq-eqb, ne_eqb, eqb-true, and_parts}
 use Rattle.std.proofs.lemmas.List.Elements.{Contains-append_left, Contains-push, Contains-push_cases}
 use Rattle.pa_machine.specs.declared.word.SlotName.{SlotName}
 use Rattle.pa_machine.specs.declared.word.Step.{Step}
 use Rattle.pa_machine.specs.declared.word.Step.TheVariants.{Issue, Copy, Reset, Free, Write}
-use Rattle.pa_machine.specs.Count.{number_of, held_of, refs_of, CanStep, stepped}
-use Rattle.pa_machine.specs.Run.{Mark, IsFirstAt, IsRunFrom, IsOneRun, Slots, same_slot}
+use Rattle.pa_machine.specs.Count.{number_of, CanStep, stepped}
+use Rattle.pa_machine.specs.Run.{Mark, IsFirstAt, IsRunFrom, Slots, same_slot}
+use Rattle.pa_machine.specs.Runs.{IsPath, HasPath, HasRuns}
+use Rattle.pa_machine.specs.declared.word.Step.TheVariants as steps
 
 -- two names with the same start and born are one
-slot_parts : (s t : SlotName) → s.start ≡ t.start → s.born ≡ t.born → s ≡ t
+pub slot_parts : (s t : SlotName) → s.start ≡ t.start → s.born ≡ t.born → s ≡ t
 slot_parts s t a b =
     let f : ℕ → SlotName = λ x. record { start = x; born = s.born } in
     let g : ℕ → SlotName = λ y. record { start = t.start; born = y } in
@@ -51,23 +53,18 @@ number_stepped Free w h = omega (arith, h)
 number_stepped Write w h = omega (arith, h)
 
 -- a step that was made is some step
-none_some : (p : Step) → None ≡ Some p → ⊥
+pub none_some : (p : Step) → None ≡ Some p → ⊥
 none_some p e = cc
 
-some_same : (p q : Step) → Some p ≡ Some q → p ≡ q
+pub some_same : (p q : Step) → Some p ≡ Some q → p ≡ q
 some_same p q e = cc
 
-some_is : (p : Step) → IsSome (Some p)
+pub some_is : (p : Step) → IsSome (Some p)
 some_is p = search rules
 
 none_is : (o : Option Step) → o ≡ None → IsSome o → ⊥
 none_is None e i = search rules
 none_is (Some p) e i = cc
-
--- the words of slot s from u to w, each by the step that the marks made at the one before
-abbrev pub IsPath : List Mark → SlotName → ℕ → List ℕ → ℕ → Type 0
-IsPath ms s u [] w = u ≡ w
-IsPath ms s u (v ∷ vs) w = (m : Mark) × (p : Step) × IsFirstAt ms s u m p × CanStep p u × (v ≡ stepped p u) × IsPath ms s v vs w
 
 -- a path in a longer list of marks, and one more step
 pub path_kept : (ms ns : List Mark) (s : SlotName) (u : ℕ) (vs : List ℕ) (w : ℕ)
@@ -97,16 +94,6 @@ run_of_path ms s u [] w e h =
     let F : ℕ → Type 0 = λ x. (m : Mark) (p : Step) → IsFirstAt ms s x m p → CanStep p x → ⊥ in
     subst F (sym h) e
 run_of_path ms s u (v ∷ vs) w e h = (h.0, h.1, h.2, h.3, h.4, run_of_path ms s v vs w e h.5)
-
--- a path to the word w, on which each word that the marks found lies
-abbrev pub HasPath : List Mark → SlotName → ℕ → Type 0
-HasPath ms s w = (vs : List ℕ) × IsPath ms s 0 vs w × ((m : Mark) → Contains ms m → m.slot ≡ s → Contains (0 ∷ vs) m.found)
-
--- what is known of the marks so far, where each slot has this word
-pub record HasRuns (ms : List Mark) (word : SlotName → ℕ) : Type 0 where
-  pub counted : (m : Mark) → Contains ms m → IsSome m.step → number_of m.found < number_of (word m.slot)
-  pub used : (m : Mark) (p : Step) → Contains ms m → m.step ≡ Some p → IsFirstAt ms m.slot m.found m p × CanStep p m.found
-  pub path : (s : SlotName) → HasPath ms s (word s)
 
 -- a first step stays the first where a mark comes after it
 pub first_kept : (ms : List Mark) (n : Mark) (s : SlotName) (u : ℕ) (m : Mark) (p : Step) → ((k : Mark) → Contains ms k → k.line < n.line)
@@ -253,3 +240,11 @@ slots_of_runs ms word h s =
             (subst F e u.0, u.1);
       },
     )
+
+-- only an issue finds the word 0
+pub issue_first : (p : Step) (w : ℕ) → CanStep p w → w ≡ 0 → p ≡ steps.Issue
+issue_first steps.Issue w can z = refl
+issue_first steps.Copy w can z = absurd (omega (arith, can.0, z))
+issue_first steps.Reset w can z = absurd (omega (arith, can.0, z))
+issue_first steps.Free w can z = absurd (omega (arith, can.0, z))
+issue_first steps.Write w can z = absurd (omega (arith, can.0, z))

@@ -1,5 +1,5 @@
 -- The tests on titles and states tell them apart.
-use Rattle.std.proofs.Common.{◌≡◌, ℕ, ◌+◌, ◌<◌, ◌≤◌, Bool, true, false, ◌&&◌, refl, sym, ◌∙◌, ap, subst, arith, ◌⊎◌, inl, inr, eqb, cond}
+use Rattle.std.proofs.Common.{◌≡◌, ℕ, ◌+◌, ◌<◌, ◌≤◌, Bool, true, false, ◌&&◌, refl, ◌∙◌, ap, ◌⊎◌, inl, inr, eqb}
 use Rattle.std.proofs.lemmas.Bool.Decides.{eqb_tells}
 use Rattle.pa_machine.specs.declared.title.Title.{Title}
 use Rattle.pa_machine.specs.declared.title.OwnState.{OwnState}
@@ -10,7 +10,7 @@ use Rattle.pa_machine.specs.Holdings.{one}
 abbrev title_with : ℕ → ℕ → ℕ → Title
 title_with a b c = record { start = a; len = b; born = c }
 
-title_is : (t u : Title) → t.start ≡ u.start → t.len ≡ u.len → t.born ≡ u.born → t ≡ u
+pub title_is : (t u : Title) → t.start ≡ u.start → t.len ≡ u.len → t.born ≡ u.born → t ≡ u
 title_is t u e f g =
     ap (λ a. title_with a t.len t.born) e ∙ (ap (λ b. title_with u.start b t.born) f ∙ ap (λ c. title_with u.start u.len c) g)
 

@@ -1,25 +1,23 @@
 -- The tables at the start are sound, and stand for the start.
-use Rattle.std.proofs.Common.{◌≡◌, ℕ, zero, suc, ◌+◌, ◌-◌, ◌*◌, ◌/◌, ◌%◌, ◌<◌, ◌≤◌, Bool, true, false, cond, eqb, List, [], ◌∷◌, Option, Some, None, length, get_or, replicate, refl, sym, ◌∙◌, ap, subst, arith, ◌⊎◌, inl, inr}
-use Rattle.std.specs.List.{sum_by, slice_index_or}
+use Rattle.std.proofs.Common.{◌≡◌, ℕ, zero, suc, ◌+◌, ◌-◌, ◌*◌, ◌/◌, ◌%◌, ◌<◌, ◌≤◌, List, [], ◌∷◌, Some, None, length, get_or, replicate, refl, sym, ◌∙◌, ap, subst, arith, ◌⊎◌, inl, inr}
+use Rattle.std.specs.List.{sum_by}
 use Rattle.std.proofs.lemmas.List.{get_or-replicate, length-replicate}
 use Rattle.std.proofs.lemmas.List.Sums.{sum_by-cons}
 use Rattle.std.proofs.lemmas.List.FromFn.{length-map-range_with_len}
-use Rattle.std.proofs.lemmas.Bool.{cases_eq, cases_lt}
+use Rattle.std.proofs.lemmas.Bool.{cases_lt}
 use Rattle.pa_machine.specs.declared.title.Title.{Title}
-use Rattle.pa_machine.specs.declared.title.OwnState.{OwnState}
-use Rattle.pa_machine.specs.declared.title.OwnState.TheVariants.{Clean, Dirty, Poisoned}
+use Rattle.pa_machine.specs.declared.title.OwnState.TheVariants.{Clean, Poisoned}
 use Rattle.pa_machine.specs.declared.tables.Tables.{Tables}
-use Rattle.pa_machine.specs.Holdings.{Piece, RawPiece, Thing, RawByte, FreeTitle, OwnOf, OwnAs, RefOf, IsTitleHeld, held_in, held_by_all, one}
-use Rattle.pa_machine.specs.Good.{IsByteGood, IsDivided, IsGood}
-use Rattle.pa_machine.specs.Events.{State, IsStart, held_by, total_of, of_actor}
+use Rattle.pa_machine.specs.Holdings.{RawPiece, Thing, RawByte, FreeTitle, OwnOf, OwnAs, RefOf, IsTitleHeld, held_in, one}
+use Rattle.pa_machine.specs.Good.{IsGood}
+use Rattle.pa_machine.specs.Events.{IsStart, held_by, total_of, of_actor}
 use Rattle.pa_machine.specs.Trail.{KeepsContent}
 use Rattle.pa_machine.specs.Tables.{Place, is_holder, raw_pieces, place_pieces, pieces_of, state_of, IsPlaced, AreSound, IsStartTables}
 use Rattle.pa_machine.proofs.Sums.{spread, spread-one}
 use Rattle.pa_machine.proofs.Totals.{of_actor_here, of_actor_apart, get_or_past}
 use Rattle.pa_machine.proofs.Cutting.{covered_raw, uncovered_raw}
-use Rattle.pa_machine.proofs.Tabled.{held_tables, raw_titles, raw_amount}
+use Rattle.pa_machine.proofs.Tabled.{held_tables, raw_titles}
 use Rattle.pa_machine.proofs.Reading.{raw_is}
-use Rattle.pa_machine.proofs.Enabling.{actor_is}
 use Rattle.pa_machine.proofs.Handing.{one_of, none_of}
 
 -- a sum is its members, place by place

@@ -1,19 +1,19 @@
 -- A store and a poisoning keep their title good.
-use Rattle.std.proofs.Common.{◌≡◌, ℕ, zero, suc, ◌+◌, ◌-◌, ◌*◌, ◌/◌, ◌%◌, ◌<◌, ◌≤◌, Bool, true, false, List, [], ◌∷◌, length, get_or, set, refl, sym, ◌∙◌, ap, subst, arith, ◌⊎◌, inl, inr}
-use Rattle.std.proofs.lemmas.Bool.{cases_eq, cases_lt}
+use Rattle.std.proofs.Common.{◌≡◌, ℕ, ◌+◌, ◌-◌, ◌*◌, ◌/◌, ◌%◌, ◌<◌, ◌≤◌, List, [], ◌∷◌, ◌∙◌, arith, ◌⊎◌, inl, inr}
+use Rattle.std.proofs.lemmas.Bool.{cases_eq}
 use Rattle.pa_machine.specs.declared.title.Title.{Title}
 use Rattle.pa_machine.specs.declared.title.OwnState.{OwnState}
 use Rattle.pa_machine.specs.declared.title.OwnState.TheVariants.{Clean, Dirty, Poisoned}
-use Rattle.pa_machine.specs.Count.{held_of, refs_of}
-use Rattle.pa_machine.specs.Run.{IsFree, IsQuarantined}
-use Rattle.pa_machine.specs.Titles.{Covers, IsWellFormed, content_count, content_place, count_place, content_at, count_word, HasContentFrom, IsUniform, IsPoisonedTo, poison, progress}
-use Rattle.pa_machine.specs.Holdings.{Piece, RawPiece, FreePiece, OwnPiece, RefPiece, Thing, RawByte, FreeTitle, OwnOf, OwnAs, RefOf, IsTitleHeld, held_in, one}
-use Rattle.pa_machine.specs.Good.{IsByteGood, IsDivided, IsCounted, IsPoisonKept, IsContentKept, IsGood}
+use Rattle.pa_machine.specs.Count.{refs_of}
+use Rattle.pa_machine.specs.Run.{IsFree}
+use Rattle.pa_machine.specs.Titles.{content_count, content_at, count_word, HasContentFrom, IsPoisonedTo, poison, progress}
+use Rattle.pa_machine.specs.Holdings.{OwnPiece, Thing, FreeTitle, OwnOf, OwnAs, RefOf, held_in, one}
+use Rattle.pa_machine.specs.Good.{IsCounted}
 use Rattle.pa_machine.proofs.Arith.{held_small}
 use Rattle.pa_machine.proofs.Same.{state_tells}
 use Rattle.pa_machine.proofs.Totals.{IsTally}
 use Rattle.pa_machine.proofs.Parts.{free_or, IsTitleGood, Changes}
-use Rattle.pa_machine.proofs.Amounts.{free_self, own_self, ref_self, state_here, state_apart}
+use Rattle.pa_machine.proofs.Amounts.{own_self, state_here, state_apart}
 
 -- After an Own of t in one state became one in another, there is an Own in that state, and none in any third.
 pub record IsRestated (total later : Thing → ℕ) (t : Title) (from to : OwnState) : Type 0 where

@@ -1,18 +1,12 @@
 -- Sums over a list in which members change.
-use Rattle.std.proofs.Common.{◌≡◌, ℕ, zero, suc, ◌+◌, ◌-◌, ◌<◌, ◌≤◌, Bool, true, false, List, [], ◌∷◌, length, get_or, refl, sym, ◌∙◌, ap, subst, arith, ◌⊎◌, inl, inr, eqb, cond}
-use Rattle.std.specs.List.{sum_by, slice_index_or}
-use Rattle.std.proofs.lemmas.List.Sums.{sum_by-cons, sum_by-append}
-use Rattle.std.proofs.lemmas.Bool.{cases_eq}
+use Rattle.std.proofs.Common.{◌≡◌, ℕ, zero, suc, ◌+◌, ◌-◌, ◌<◌, ◌≤◌, List, [], ◌∷◌, length, get_or, refl, ◌∙◌, arith, ◌⊎◌}
+use Rattle.std.specs.List.{sum_by}
+use Rattle.std.proofs.lemmas.List.Sums.{sum_by-cons}
 
 -- a function of the index, added up over the places of a list
 abbrev pub spread : {A : Type 0} → (ℕ → ℕ) → List A → ℕ
 spread f [] = 0
 spread f (x ∷ xs) = f 0 + spread (λ i. f (suc i)) xs
-
-pub spread-same : {A : Type 0} (xs : List A) (f g : ℕ → ℕ) → ((i : ℕ) → f i ≡ g i) → spread f xs ≡ spread g xs
-spread-same [] f g h = refl
-spread-same (x ∷ xs) f g h = let e = spread-same xs (λ i. f (suc i)) (λ i. g (suc i)) (λ i. h (suc i)) in
-    let e0 = h 0 in omega arith
 
 pub spread-zero : {A : Type 0} (xs : List A) (f : ℕ → ℕ) → ((i : ℕ) → f i ≡ 0) → spread f xs ≡ 0
 spread-zero [] f h = refl

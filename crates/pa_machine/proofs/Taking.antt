@@ -1,23 +1,19 @@
 -- A cut and an uncut, done on the tables, are the events of the state.
-use Rattle.std.proofs.Common.{◌≡◌, ℕ, zero, suc, ◌+◌, ◌-◌, ◌*◌, ◌/◌, ◌%◌, ◌<◌, ◌≤◌, Bool, true, false, cond, eqb, List, [], ◌∷◌, ◌++◌, Option, Some, None, length, get_or, set, refl, sym, ◌∙◌, ap, subst, arith, ◌⊎◌, inl, inr, Contains}
+use Rattle.std.proofs.Common.{◌≡◌, ℕ, ◌+◌, ◌-◌, ◌*◌, ◌/◌, ◌%◌, ◌<◌, ◌≤◌, List, [], ◌∷◌, ◌++◌, Option, Some, None, length, get_or, set, refl, sym, ◌∙◌, ap, subst, arith, ◌⊎◌, inl, inr}
 use Rattle.std.specs.Prelude.{Box}
 use Rattle.std.specs.Global.{Global}
 use Rattle.std.proofs.lemmas.List.{length-set, get_or-set_same, get_or-set_other}
 use Rattle.std.proofs.lemmas.Bool.{cases_eq, cases_lt}
-use Rattle.std.proofs.lemmas.Bool.Decides.{eqb_tells}
-use Rattle.std.proofs.lemmas.List.Sums.{sum_by-cons}
 use Rattle.pa_machine.specs.declared.title.Title.{Title}
-use Rattle.pa_machine.specs.declared.title.OwnState.{OwnState}
-use Rattle.pa_machine.specs.declared.event.Event.{Event}
 use Rattle.pa_machine.specs.declared.event.Event.TheVariants.{Cut, Uncut}
 use Rattle.pa_machine.specs.declared.slot.Slot.{Slot}
 use Rattle.pa_machine.specs.declared.tables.Tables.{Tables}
-use Rattle.pa_machine.specs.Titles.{Covers, IsWellFormed, count_place, count_word}
+use Rattle.pa_machine.specs.Titles.{IsWellFormed, count_place, count_word}
 use Rattle.pa_machine.specs.Run.{IsFree}
-use Rattle.pa_machine.specs.Holdings.{Piece, RawPiece, FreePiece, OwnPiece, RefPiece, Thing, RawByte, FreeTitle, OwnOf, OwnAs, RefOf, IsTitleHeld, held_in, amount, one}
-use Rattle.pa_machine.specs.Events.{State, HasActor, IsEnabled, Happens, total_of, Holds, held_by, of_actor}
+use Rattle.pa_machine.specs.Holdings.{Piece, RawPiece, FreePiece, RefPiece, Thing, RawByte, FreeTitle, OwnOf, OwnAs, RefOf, IsTitleHeld, held_in, one}
+use Rattle.pa_machine.specs.Events.{IsEnabled, Happens, total_of, held_by, of_actor}
 use Rattle.pa_machine.specs.Tables.{Place, is_holder, raw_pieces, place_pieces, slot_pieces, free_pieces, own_pieces, ref_pieces, state_of, slot_at, IsPlaced, AreSound, IsFilled}
-use Rattle.pa_machine.proofs.Parts.{IsNoneOf, apart_words, free_none}
+use Rattle.pa_machine.proofs.Parts.{IsNoneOf, apart_words}
 use Rattle.pa_machine.proofs.Amounts.{free_self}
 use Rattle.pa_machine.proofs.Same.{title_tells}
 use Rattle.pa_machine.proofs.Cutting.{covered_raw, uncovered_raw, free_alone}
@@ -26,7 +22,7 @@ use Rattle.pa_machine.proofs.Happening.{in_total, happens_good, after_changes}
 use Rattle.pa_machine.proofs.Tabled.{held_tables, raw_titles, raw_amount, place_raw, slots_at, place_none, slot_none}
 use Rattle.pa_machine.proofs.Reading.{reads_free, reads_raw, raw_is, slot_parts, refs_zero}
 use Rattle.pa_machine.proofs.Enabling.{actor_is, well_raw, held_free}
-use Rattle.pa_machine.proofs.Holding.{IsCutOf, held_back}
+use Rattle.pa_machine.proofs.Holding.{held_back}
 use Rattle.pa_machine.proofs.Rowing.{tables_exchange, sound_next}
 use Rattle.pa_machine.proofs.Handing.{one_of, none_of, range_or, raw_unheld}
 use Rattle.pa_machine.proofs.Rows.{IsRow, entry_free, entry_there, placed_at, no_owner}

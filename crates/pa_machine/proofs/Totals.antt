@@ -1,16 +1,14 @@
 -- What all actors together hold, when one or two of them gain and lose pieces.
-use Rattle.std.proofs.Common.{◌≡◌, ℕ, zero, suc, ◌+◌, ◌-◌, ◌<◌, ◌≤◌, Bool, true, false, List, [], ◌∷◌, length, get_or, refl, sym, ◌∙◌, ap, subst, arith, ◌⊎◌, inl, inr, eqb, cond}
-use Rattle.std.specs.List.{sum_by, slice_index_or}
-use Rattle.std.proofs.lemmas.List.Sums.{sum_by-cons, sum_by-append, get_or-le-sum_by, sum_by-le-sum_by}
+use Rattle.std.proofs.Common.{◌≡◌, ℕ, zero, suc, ◌+◌, ◌-◌, ◌<◌, ◌≤◌, true, List, [], ◌∷◌, length, get_or, refl, sym, ◌∙◌, arith, ◌⊎◌, inl, inr}
+use Rattle.std.specs.List.{sum_by}
+use Rattle.std.proofs.lemmas.List.Sums.{sum_by-cons, get_or-le-sum_by, sum_by-le-sum_by}
 use Rattle.std.proofs.lemmas.Bool.{cases_lt}
 use Rattle.std.proofs.lemmas.Bool.Decides.{eqb_tells}
 use Rattle.pa_machine.specs.declared.title.Title.{Title}
 use Rattle.pa_machine.specs.declared.title.OwnState.{OwnState}
-use Rattle.pa_machine.specs.declared.title.OwnState.TheVariants.{Clean, Dirty, Poisoned}
-use Rattle.pa_machine.specs.Titles.{same_title, same_state}
-use Rattle.pa_machine.specs.Holdings.{Piece, RawPiece, FreePiece, OwnPiece, RefPiece, Thing, RawByte, FreeTitle, OwnOf, OwnAs, RefOf, one, amount, held_in, held_by_all}
-use Rattle.pa_machine.specs.Events.{State, Exchanges, of_actor, held_by, total_of, HasActor, Holds}
-use Rattle.pa_machine.proofs.Sums.{spread, spread-one, sum-exchange}
+use Rattle.pa_machine.specs.Holdings.{Piece, RawPiece, FreePiece, OwnPiece, RefPiece, Thing, OwnOf, OwnAs, one, amount, held_in, held_by_all}
+use Rattle.pa_machine.specs.Events.{State, Exchanges, of_actor, held_by, total_of}
+use Rattle.pa_machine.proofs.Sums.{spread-one, sum-exchange}
 use Rattle.pa_machine.proofs.Same.{title_tells, state_tells}
 
 pub of_actor_here : (a : ℕ) (ps : List Piece) (x : Thing) → held_in (of_actor a ps a) x ≡ held_in ps x

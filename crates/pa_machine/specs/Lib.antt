@@ -3,6 +3,7 @@ pub mod Events
 pub mod Good
 pub mod Holdings
 pub mod Run
+pub mod Runs
 pub mod Tables
 pub mod Titles
 pub mod Trail

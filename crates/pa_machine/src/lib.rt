@@ -20,4 +20,4 @@ pub use event::{Event, Item, StepFault};
 pub use fault::OutOfMemory;
 pub use machine::{Core, core_run};
 pub use title::{OwnState, Title};
-pub use word::{SlotName, Step, Word, apply, held, number, refs};
+pub use word::{SlotName, Step, Word, apply, held, number, refs, returns};

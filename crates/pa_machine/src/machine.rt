@@ -98,6 +98,3 @@ fn known_good(core: &Core)
     // Naming the tables hands the proof what the type keeps.
     let _ = &core.tables;
 }
-
-#[cfg(test)]
-mod tests;

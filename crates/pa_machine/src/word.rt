@@ -1,5 +1,6 @@
 ghost use Rattle.std.specs.Prelude.{◌≡◌, ◌↔◌, ℕ, IsTrue, IfSome, IfNone};
 ghost use Rattle.pa_machine.specs.Count.{number_of, held_of, refs_of, CanStep, stepped};
+ghost use Rattle.pa_machine.specs.Run.{IsReturning};
 
 /// The name of a slot: where it starts, in bytes from the region's first, and which taking of its super page it
 /// belongs to (`born`), so that a later slot at the same place has another name.
@@ -44,6 +45,18 @@ pub fn refs(w: Word) -> u64
     ensures { result ≡ refs_of w.0 }
 {
     (w.0 % (1 << 24)) >> 1
+}
+
+/// Whether the step that found this word returned the slot: the last reset of a slot that was freed, or a free that
+/// found no `raw_ptr`.
+pub fn returns(step: Step, found: Word) -> bool
+    ensures { IsTrue result ↔ IsReturning step found.0 }
+{
+    match step {
+        Step::Reset => !held(found) && refs(found) == 1,
+        Step::Free => held(found) && refs(found) == 0,
+        Step::Issue | Step::Copy | Step::Write => false,
+    }
 }
 
 /// The word after a step. `None` exactly where the step isn't enabled at the word, or its number is the greatest,

@@ -4,7 +4,7 @@ use Rattle.pa_trace.specs.Limits.{IsWithinLimits}
 use Rattle.pa_record.specs.declared.run.Run.{Run}
 use Rattle.pa_rules.specs.Legal.{IsFileRun}
 use Rattle.pa_core_run.proofs.Whole.{files_are_played}
-use Rattle.pa_model.specs.declared.player.Player.{Player}
+use Rattle.pa_model.specs.Player.{Player}
 use Rattle.pa_model.specs.Changes.{phase_ended}
 use Rattle.pa_model.specs.Played.{IsAllTold}
 use Rattle.pa_model.specs.Playing.{IsPlaying}

@@ -19,7 +19,7 @@ use Rattle.pa_record.specs.Root.{Root, Filled}
 use Rattle.pa_record.specs.Spans.{name_of}
 use Rattle.pa_place.specs.Placed.{Maps, with_slots, map_in}
 use Rattle.pa_model.specs.declared.table.Slot.{Slot}
-use Rattle.pa_model.specs.declared.player.Player.{Player}
+use Rattle.pa_model.specs.Player.{Player}
 use Rattle.pa_model.specs.Tables.{no_slot, slot_at, named_at, new_slot}
 use Rattle.pa_model.specs.Tallies.{tally_at}
 use Rattle.pa_model.specs.Playing.{journals, root_of, list_place, IsLetOut, IsPlaying}

@@ -9,13 +9,14 @@ use Rattle.pa_trace.specs.declared.script.Line.{Line}
 use Rattle.pa_record.specs.declared.numbered.Numbered.{Numbered}
 use Rattle.pa_record.specs.Laws.{IsNameOut, leaves_by, times}
 use Rattle.pa_record.specs.Root.{names}
-use Rattle.pa_record.proofs.Members.{first_in}
-use Rattle.pa_record.proofs.Joined.{map_in}
+use Rattle.pa_lists.proofs.Members.{first_in}
+use Rattle.pa_lists.proofs.Joined.{map_in}
 use Rattle.pa_rules.specs.Roots.{Journals}
 use Rattle.pa_rules.specs.Caches.{Caches}
 use Rattle.pa_rules.specs.Flow.{busy, cached_times, listed_times}
 use Rattle.pa_rules.specs.Report.{HasWord}
-use Rattle.pa_rules.proofs.Counted.{once, stands, times_cons}
+use Rattle.pa_rules.specs.Once.{once}
+use Rattle.pa_rules.proofs.Counted.{stands, times_cons}
 use Rattle.pa_rules.proofs.Running.{busy_some}
 use Rattle.pa_rules.proofs.Flowing.{class_leaves}
 use Rattle.pa_rules.proofs.FourPlaces.{HasLeft, IsOnce}
@@ -26,11 +27,12 @@ use Rattle.pa_deeds.specs.Deeds.{root_at}
 use Rattle.pa_deeds.specs.Pooled.{IsSoFar}
 use Rattle.pa_deeds.proofs.Listed.{threads_of, listed_least, cached_least, stands_once}
 use Rattle.pa_turns.proofs.Ending.{ends_right}
-use Rattle.pa_model.specs.declared.player.Player.{Player}
+use Rattle.pa_model.specs.Player.{Player}
 use Rattle.pa_model.specs.declared.table.Slot.{Slot}
 use Rattle.pa_model.specs.Tables.{slot_at, named_at}
 use Rattle.pa_model.specs.Playing.{shown, journals, root_of, list_at, caches, numbered_at, IsLetOut, IsPlaying}
 use Rattle.pa_model.proofs.Slots.{slot_here}
+use Rattle.pa_lists.proofs.Options.{some_same}
 
 -- the root of its partition doesn't have it
 pub record IsAway (p : Player) (i : ℕ) : Type 0 where
@@ -74,9 +76,6 @@ let_out_left roots x s (Some class) is of = subst (λ z. HasLeft roots x.partiti
 let_out_left roots x s None is (e, asked, among, act) =
     subst (λ z. HasLeft roots x.partition z) (sym is)
     (e, among, subst (λ a. Contains (leaves_by a) (named_at (x ∷ []) 0)) (sym act) (first_in (named_at (x ∷ []) 0) []))
-
-same_class : (a b : ℕ) → Some a ≡ Some b → a ≡ b
-same_class a b e = cc
 
 module _ (region partitions threads : ℕ) (ls : List Line) (p : Player) (h : IsPlaying region partitions threads ls p) where
   pub so_far : IsSoFar region partitions (length ls + 2) ls h.ps p.told.pools (journals p) (caches p)
@@ -194,7 +193,7 @@ module _ (region partitions threads : ℕ) (ls : List Line) (p : Player) (h : Is
               | inr inside_it ↦ let none = inside_it.1 in absurd (omega arith)
             ]
       ] in
-      (thread, same, same_class class c (sym a.2 ∙ b.2))
+      (thread, same, some_same class c (sym a.2 ∙ b.2))
 
   twice : (i t q class : ℕ) (rest : List ℕ) → q < partitions → class < 59 → list_at p t q class ≡ i ∷ rest → Contains rest i → 2 ≤ stands (named_at p.table i) (caches p t q class)
   twice i t q class rest inside real is among =

@@ -8,7 +8,7 @@ use Rattle.pa_turns.specs.Known.{facts_of}
 use Rattle.pa_model.specs.declared.handle.Handle.{Handle}
 use Rattle.pa_model.specs.declared.handle.Handle.TheVariants.{Empty, Own, Ref, Freed, Cleared}
 use Rattle.pa_model.specs.declared.table.Slot.{Slot}
-use Rattle.pa_model.specs.declared.player.Player.{Player}
+use Rattle.pa_model.specs.Player.{Player}
 use Rattle.pa_model.specs.Tables.{named_at, Points, HasNone}
 use Rattle.pa_model.specs.Playing.{shown, reg_of, register_at}
 use Rattle.pa_model.specs.Plays.{Plays}

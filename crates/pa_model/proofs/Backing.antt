@@ -2,7 +2,7 @@
 use Rattle.std.proofs.Common.{◌≡◌, ℕ, ◌<◌, List, ◌∷◌, set, drop, take, length, sym, ap, ◌∙◌, subst}
 use Rattle.std.proofs.lemmas.List.{take-append-drop, get_or-set_same}
 use Rattle.pa_record.specs.declared.report.Tally.{Tally}
-use Rattle.pa_model.specs.declared.player.Player.{Player}
+use Rattle.pa_model.specs.Player.{Player}
 use Rattle.pa_model.specs.declared.tallies.Tallies.{Tallies}
 use Rattle.pa_model.specs.Asks.{CanGive}
 use Rattle.pa_model.specs.Changes.{list_in, put_front, tallied_more}

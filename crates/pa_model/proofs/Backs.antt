@@ -1,8 +1,7 @@
 -- The table of slots where journals go on by acts through which slots come back to their roots.
 use Rattle.std.proofs.Common.{◌≡◌, ℕ, zero, suc, ◌+◌, ◌*◌, ◌<◌, ◌≤◌, ◌⊎◌, inl, inr, List, [], ◌∷◌, ◌++◌, map, length, take, drop, Option, Some, None, refl, sym, ap, ◌∙◌, subst, arith, length-append}
 use Rattle.std.specs.Prelude.{Contains}
-use Rattle.std.proofs.lemmas.List.{take-append-drop, length-drop}
-use Rattle.std.proofs.lemmas.List.Elements.{Contains-append_left, Contains-append_right}
+use Rattle.std.proofs.lemmas.List.{length-drop}
 use Rattle.pa_machine.specs.declared.word.SlotName.{SlotName}
 use Rattle.pa_machine.specs.Count.{number_of}
 use Rattle.pa_machine.proofs.Runs.{same_slot_eq}
@@ -13,8 +12,8 @@ use Rattle.pa_record.specs.declared.root.RootAct.{RootAct}
 use Rattle.pa_record.specs.declared.root.RootAct.TheVariants.{Give}
 use Rattle.pa_record.specs.Root.{Root}
 use Rattle.pa_record.specs.RunText.{NamesSlots}
-use Rattle.pa_record.proofs.Members.{not_in_none, first_in, later_in, in_cases}
-use Rattle.pa_record.proofs.Joined.{map_cases, filter_cases, flat_cases}
+use Rattle.pa_lists.proofs.Members.{not_in_none, first_in, later_in, in_cases}
+use Rattle.pa_lists.proofs.Joined.{map_cases, filter_cases, flat_cases}
 use Rattle.pa_rules.specs.Roots.{Journals}
 use Rattle.pa_rules.specs.Caches.{batches, gives}
 use Rattle.pa_rules.specs.Holders.{Back, Move, move_of, moves_by}
@@ -25,6 +24,7 @@ use Rattle.pa_deeds.proofs.Growing.{entry_at, grown_old}
 use Rattle.pa_model.specs.declared.table.Slot.{Slot}
 use Rattle.pa_model.specs.Tables.{slot_at, named_at, NoneNamed}
 use Rattle.pa_model.specs.Playing.{numbered_at, IsLetOut, IsMappedAs, AreAllSlots}
+use Rattle.pa_lists.proofs.Elements.{take_in, drop_in}
 
 -- ---- moves
 
@@ -111,12 +111,6 @@ slots_back partitions slots pools more roots root after n acts h back mapped = r
 
 -- ---- gives
 
-pub in_take : {A : Type 0} (k : ℕ) (xs : List A) (x : A) → Contains (take k xs) x → Contains xs x
-in_take k xs x among = subst (λ zs. Contains zs x) (take-append-drop k xs) (Contains-append_left (take k xs) (drop k xs) x among)
-
-pub in_drop : {A : Type 0} (k : ℕ) (xs : List A) (x : A) → Contains (drop k xs) x → Contains xs x
-in_drop k xs x among = subst (λ zs. Contains zs x) (take-append-drop k xs) (Contains-append_right (take k xs) (drop k xs) x among)
-
 -- an act gives some of these slots, at least one
 pub record GivesOf (xs : List Numbered) (a : RootAct) : Type 0 where
   pub slots : List Numbered
@@ -128,8 +122,8 @@ batch_of : (k : ℕ) (xs all : List Numbered) (a : RootAct) → ((n : Numbered) 
 batch_of zero xs all a within among = absurd (not_in_none a among)
 batch_of (suc k) [] all a within among = absurd (not_in_none a among)
 batch_of (suc k) (x ∷ xs) all a within among = elim (in_cases (Give (take 16 (x ∷ xs))) a (batches k (drop 16 (x ∷ xs))) among) [
-  | inl e ↦ record { slots = take 16 (x ∷ xs); give = sym e; some = omega arith; among = λ n there. within n (in_take 16 (x ∷ xs) n there) }
-  | inr rest ↦ batch_of k (drop 16 (x ∷ xs)) all a (λ n there. within n (in_drop 16 (x ∷ xs) n there)) rest
+  | inl e ↦ record { slots = take 16 (x ∷ xs); give = sym e; some = omega arith; among = λ n there. within n (take_in 16 (x ∷ xs) n there) }
+  | inr rest ↦ batch_of k (drop 16 (x ∷ xs)) all a (λ n there. within n (drop_in 16 (x ∷ xs) n there)) rest
 ]
 
 pub gives_of : (xs : List Numbered) (a : RootAct) → Contains (gives xs) a → GivesOf xs a

@@ -12,7 +12,7 @@ use Rattle.pa_record.specs.Root.{Root, names, all_returned}
 use Rattle.pa_record.specs.Spans.{name_of}
 use Rattle.pa_rules.specs.Caches.{gives}
 use Rattle.pa_deeds.specs.Deeds.{entries_at}
-use Rattle.pa_model.specs.declared.player.Player.{Player}
+use Rattle.pa_model.specs.Player.{Player}
 use Rattle.pa_model.specs.declared.table.Slot.{Slot}
 use Rattle.pa_model.specs.declared.tallies.Tallies.{Tallies}
 use Rattle.pa_model.specs.Asks.{CanGive}

@@ -24,7 +24,7 @@ use Rattle.pa_rules.specs.Flow.{at_step}
 use Rattle.pa_rules.specs.Report.{listed_bytes, cached_slots, cached_bytes}
 use Rattle.pa_legal.specs.Tallies.{weight_of, one_of, bytes_of, IsLeft}
 use Rattle.pa_model.specs.declared.table.Slot.{Slot}
-use Rattle.pa_model.specs.declared.player.Player.{Player}
+use Rattle.pa_model.specs.Player.{Player}
 use Rattle.pa_model.specs.Tables.{slot_at}
 use Rattle.pa_model.specs.Tallies.{tally_at}
 use Rattle.pa_model.specs.Playing.{journals, caches, home_in, len_in, list_at, list_place, numbered_at, IsLetOut, IsPlaying}

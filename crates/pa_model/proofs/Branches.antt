@@ -7,7 +7,7 @@ use Rattle.pa_record.specs.declared.entry.Answer.{Answer}
 use Rattle.pa_record.specs.declared.entry.Answer.TheVariants as answers
 use Rattle.pa_model.specs.declared.handle.Handle.{Handle}
 use Rattle.pa_model.specs.declared.handle.Handle.TheVariants.{Empty, Own, Ref, Freed, Cleared}
-use Rattle.pa_model.specs.declared.player.Player.{Player}
+use Rattle.pa_model.specs.Player.{Player}
 use Rattle.pa_model.specs.Tables.{slot_at, Points, HasNone}
 use Rattle.pa_model.specs.Playing.{register_at}
 use Rattle.pa_model.specs.Changes.{registered, stepped_at, seen_at, returned_at, freed_at, reset_at, reset_last, quarantined_more, filled_at, Copies, Resets, Frees, Writes, Reads}

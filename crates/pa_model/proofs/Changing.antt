@@ -20,7 +20,7 @@ use Rattle.pa_rules.proofs.Counted.{list_changed}
 use Rattle.pa_deeds.specs.Deeds.{entries_at, grown, root_at}
 use Rattle.pa_deeds.specs.Ops.{only_in, IsCalled}
 use Rattle.pa_deeds.proofs.Acting.{by_place}
-use Rattle.pa_model.specs.declared.player.Player.{Player}
+use Rattle.pa_model.specs.Player.{Player}
 use Rattle.pa_record.specs.declared.report.Tally.{Tally}
 use Rattle.pa_model.specs.Tallies.{no_tally, tally_at}
 use Rattle.pa_model.specs.Playing.{journals, caches, root_of, numbered_at, list_place, list_at}

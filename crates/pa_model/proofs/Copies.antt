@@ -14,7 +14,7 @@ use Rattle.pa_turns.specs.Turns.{after_copy, after_reset}
 use Rattle.pa_turns.proofs.Ops.{copy_goes_on, reset_goes_on}
 use Rattle.pa_model.specs.declared.handle.Handle.TheVariants.{Ref, Cleared}
 use Rattle.pa_model.specs.declared.table.Slot.{Slot}
-use Rattle.pa_model.specs.declared.player.Player.{Player}
+use Rattle.pa_model.specs.Player.{Player}
 use Rattle.pa_model.specs.Tables.{slot_at, Points, HasNone}
 use Rattle.pa_model.specs.Playing.{shown, reg_of, register_at}
 use Rattle.pa_model.specs.Changes.{stepped_at, registered, seen_at, reset_at}
@@ -25,6 +25,7 @@ use Rattle.pa_model.proofs.Showing.{points_names, none_holds, content_stays}
 use Rattle.pa_model.proofs.Quiet.{quiet_plays, can_play, counts_still}
 use Rattle.pa_model.proofs.Weighing.{copy_adds, reset_adds}
 use Rattle.pa_model.proofs.Stepping.{in_table, word_is, step_quiet, lists_kept, shows_step}
+use Rattle.pa_machine.proofs.Runs.{some_same}
 
 -- a slot with another word
 abbrev pub word_as : ℕ → Slot → Slot
@@ -33,12 +34,8 @@ word_as w x = record x { word = record { 0 = w } }
 pub word_same : (w : ℕ) (x : Slot) → IsSame x (word_as w x)
 word_same w x = record { title = refl; partition = refl; class = refl }
 
--- a step keeps the lists where it doesn't return
-some_step : (a b : Step) → Some a ≡ Some b → a ≡ b
-some_step a b e = cc
-
 pub keeps_lists : (op : Op) (seen : Seen) (step : Step) → step_of op ≡ Some step → (IsReturning step seen.found.0 → ⊥) → KeepsLists op (answers.Done seen)
-keeps_lists op seen step is stays other e returns = stays (subst (λ z. IsReturning z seen.found.0) (some_step other step (sym e ∙ is)) returns)
+keeps_lists op seen step is stays other e returns = stays (subst (λ z. IsReturning z seen.found.0) (some_same other step (sym e ∙ is)) returns)
 
 -- ---- a copy
 

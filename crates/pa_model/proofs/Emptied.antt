@@ -13,7 +13,7 @@ use Rattle.pa_deeds.specs.Deeds.{entries_at, grown}
 use Rattle.pa_deeds.specs.Ops.{only_in, all_of}
 use Rattle.pa_deeds.proofs.Acting.{only_here, only_else}
 use Rattle.pa_deeds.proofs.Lists.{names_append, parts_are_out}
-use Rattle.pa_model.specs.declared.player.Player.{Player}
+use Rattle.pa_model.specs.Player.{Player}
 use Rattle.pa_model.specs.Playing.{journals, caches, list_place, root_of, AreShaped}
 use Rattle.pa_model.specs.Changes.{given, given_from, purged_with}
 use Rattle.pa_model.proofs.OneList.{with_cache_here, with_other, caches_none}

@@ -35,7 +35,7 @@ use Rattle.pa_deeds.proofs.Filing.{placed_are_roots}
 use Rattle.pa_deeds.proofs.Onwards.{phase_ends}
 use Rattle.pa_turns.specs.Laws.{IsToldRight}
 use Rattle.pa_turns.proofs.Ending.{ends_right}
-use Rattle.pa_model.specs.declared.player.Player.{Player}
+use Rattle.pa_model.specs.Player.{Player}
 use Rattle.pa_model.specs.Playing.{shown, journals, caches, IsToldLine, IsPlaying}
 use Rattle.pa_model.specs.Told.{Lists, IsToldRun}
 use Rattle.pa_model.specs.Changes.{phase_ended}

@@ -1,9 +1,8 @@
 -- An allocation that fills its list first.
-use Rattle.std.proofs.Common.{◌≡◌, ℕ, ◌+◌, ◌<◌, ◌≤◌, List, [], ◌∷◌, ◌++◌, map, length, Option, Some, None, refl, sym, ap, ◌∙◌, subst, arith}
+use Rattle.std.proofs.Common.{◌≡◌, ℕ, ◌+◌, ◌<◌, ◌≤◌, List, [], ◌∷◌, ◌++◌, length, Option, Some, None, refl, sym, ap, ◌∙◌, subst, arith}
 use Rattle.std.specs.Prelude.{Contains, AllPairs, ◌≢◌}
 use Rattle.std.proofs.lemmas.List.{append-nil}
 use Rattle.pa_machine.specs.declared.title.Title.{Title}
-use Rattle.pa_machine.specs.declared.word.SlotName.{SlotName}
 use Rattle.pa_buckets.specs.Table.{slot_of}
 use Rattle.pa_buckets.specs.Bands.{fill_of, limit_of}
 use Rattle.pa_buckets.proofs.Tests.{at_most_below}
@@ -15,14 +14,14 @@ use Rattle.pa_record.specs.Spans.{name_of}
 use Rattle.pa_record.specs.Root.{Root, Filled, names, takes, opened}
 use Rattle.pa_record.specs.Sound.{IsSound, IsBornBelow}
 use Rattle.pa_record.specs.Steps.{IsFilled as IsTaken}
-use Rattle.pa_record.proofs.Members.{not_in_none}
-use Rattle.pa_record.proofs.Joined.{map_cases, map_in}
-use Rattle.pa_record.proofs.Pairs.{pairs_none, pairs_cons, pairs_head, pairs_tail}
+use Rattle.pa_lists.proofs.Members.{not_in_none}
+use Rattle.pa_lists.proofs.Joined.{map_cases, map_in}
+use Rattle.pa_lists.proofs.Pairs.{pairs_none}
 use Rattle.pa_record.proofs.Filling.{takes_filled, opened_sound}
 use Rattle.pa_rules.specs.Holders.{Out, Move, move_of}
 use Rattle.pa_place.specs.Placed.{Fills}
 use Rattle.pa_deeds.specs.Ops.{asked_for}
-use Rattle.pa_model.specs.declared.player.Player.{Player}
+use Rattle.pa_model.specs.Player.{Player}
 use Rattle.pa_model.specs.Changes.{asked_in}
 use Rattle.pa_model.proofs.Leaving.{LetsOut}
 
@@ -82,15 +81,6 @@ fill_lets class asked xs = record {
       let (n, member, is) = map_cases (λ (z : Numbered). z.slot) xs s among in
       (move_of line Out n, map_in (move_of line Out) xs n member, is);
 }
-
--- names that differ
-pub names_differ : (ts : List Title) → AllPairs (λ (t : Title) (u : Title). name_of t ≢ name_of u) ts → AllPairs ◌≢◌ (map name_of ts)
-names_differ [] h = pairs_none (λ (a b : SlotName). a ≢ b)
-names_differ (t ∷ ts) h =
-    let R : Title → Title → Type 0 = λ a b. name_of a ≢ name_of b in
-    pairs_cons (λ (a b : SlotName). a ≢ b) (name_of t) (map name_of ts)
-    (λ s among. let (u, member, e) = map_cases name_of ts s among in λ same. pairs_head R t u ts h member (same ∙ sym e))
-    (names_differ ts (pairs_tail R t ts h))
 
 -- what a fill gives and one of them leaves fits its list
 pub fill_within : (class : ℕ) → class < 59 → fill_of class ≤ limit_of class + 1

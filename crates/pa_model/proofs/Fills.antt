@@ -24,9 +24,9 @@ use Rattle.pa_record.specs.declared.root.RootAct.{RootAct}
 use Rattle.pa_record.specs.declared.root.RootAct.TheVariants.{Fill}
 use Rattle.pa_record.specs.Spans.{name_of}
 use Rattle.pa_record.specs.Root.{names}
-use Rattle.pa_record.proofs.Members.{first_in, later_in}
-use Rattle.pa_record.proofs.Joined.{map_cases, map_in}
-use Rattle.pa_record.proofs.Pairs.{pairs_head}
+use Rattle.pa_lists.proofs.Members.{first_in, later_in}
+use Rattle.pa_lists.proofs.Joined.{map_cases, map_in}
+use Rattle.pa_lists.proofs.Pairs.{pairs_head}
 use Rattle.pa_rules.specs.Caches.{with_list, with_cache}
 use Rattle.pa_rules.specs.Sizes.{usable_of}
 use Rattle.pa_rules.proofs.Sizes.{sizes_fit}
@@ -40,7 +40,7 @@ use Rattle.pa_deeds.proofs.Single.{left_born}
 use Rattle.pa_turns.specs.Turns.{played_at}
 use Rattle.pa_model.specs.declared.table.Slot.{Slot}
 use Rattle.pa_model.specs.declared.tallies.Tallies.{Tallies}
-use Rattle.pa_model.specs.declared.player.Player.{Player}
+use Rattle.pa_model.specs.Player.{Player}
 use Rattle.pa_model.specs.Tables.{no_slot, slot_at, named_at, new_slot, HasNone}
 use Rattle.pa_model.specs.Tallies.{no_tally, tally_at}
 use Rattle.pa_model.specs.Playing.{journals, caches, numbered_at, list_place, list_at, root_of, register_at, IsLetOut, AreShaped, IsPlaying}
@@ -59,8 +59,9 @@ use Rattle.pa_model.proofs.Grown.{IsGrown, old_at, keeps_grown}
 use Rattle.pa_model.proofs.Issuing.{had, issued_played}
 use Rattle.pa_model.proofs.Leaving.{IsToldOn}
 use Rattle.pa_model.proofs.Puts.{IsPutIn}
-use Rattle.pa_model.proofs.Filled.{IsFillOf, fill_lets, names_differ, fill_within}
+use Rattle.pa_model.proofs.Filled.{IsFillOf, fill_lets, fill_within}
 use Rattle.pa_model.proofs.Refilled.{put_so, inside as inside_of, inner as inner_of, room as room_of, taken as taken_of, grown_by as grown_by_of, list_is as list_is_of, numbers as numbers_of, low_of as low_of_of, name_among as name_among_of, no_cached as no_cached_of, kind_of as kind_of_of, length_of as length_of_of, called as called_of}
+use Rattle.pa_record.proofs.Leaving.{map_once}
 
 module _ (p : Player) (thread reg q size class : ℕ) (none : HasNone (register_at p thread reg)) (of : IsClassOf (max size 1 + 8) class) (filled : Player)
     (empty : list_in p (list_place p.partitions thread q class) ≡ []) (f : IsFilled q (list_place p.partitions thread q class) class p filled) (i : ℕ) (rest : List ℕ)
@@ -204,7 +205,7 @@ module _ (p : Player) (thread reg q size class : ℕ) (none : HasNone (register_
     -- the slot isn't behind itself, and in no other list
     once : Contains rest i → ⊥
     once among =
-        let differ : AllPairs ◌≢◌ (names (map (numbered_at table) (i ∷ rest))) = subst (λ z. AllPairs ◌≢◌ (names z)) numbers (subst (λ ss. AllPairs ◌≢◌ ss) u.named (names_differ titles taken.differ)) in
+        let differ : AllPairs ◌≢◌ (names (map (numbered_at table) (i ∷ rest))) = subst (λ z. AllPairs ◌≢◌ (names z)) numbers (subst (λ ss. AllPairs ◌≢◌ ss) u.named (map_once titles taken.differ)) in
         let R : SlotName → SlotName → Type 0 = λ a b. a ≢ b in
         pairs_head R (named_at table i) (named_at table i) (names (map (numbered_at table) rest)) differ
         (map_in (λ (z : Numbered). z.slot) (map (numbered_at table) rest) (numbered_at table i) (map_in (numbered_at table) rest i among)) refl

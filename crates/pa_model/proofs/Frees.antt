@@ -13,7 +13,7 @@ use Rattle.pa_turns.specs.Turns.{after_free, after_write}
 use Rattle.pa_turns.proofs.Ops.{free_goes_on, write_goes_on}
 use Rattle.pa_model.specs.declared.handle.Handle.TheVariants.{Own, Freed}
 use Rattle.pa_model.specs.declared.table.Slot.{Slot}
-use Rattle.pa_model.specs.declared.player.Player.{Player}
+use Rattle.pa_model.specs.Player.{Player}
 use Rattle.pa_model.specs.Tables.{no_slot, slot_at, named_at, AreNamed, Points}
 use Rattle.pa_model.specs.Tallies.{tally_at}
 use Rattle.pa_model.specs.Playing.{shown, caches, reg_of, register_at, cell_at, home_in, len_in, IsPlaying}

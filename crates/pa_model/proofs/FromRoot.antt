@@ -25,8 +25,8 @@ use Rattle.pa_record.specs.Sound.{IsSound, IsBornBelow}
 use Rattle.pa_record.specs.Laws.{IsNameOut}
 use Rattle.pa_record.specs.Steps.{IsFilled}
 use Rattle.pa_record.proofs.Lawful.{fill_keeps}
-use Rattle.pa_record.proofs.Members.{first_in}
-use Rattle.pa_record.proofs.Joined.{map_cases, map_in}
+use Rattle.pa_lists.proofs.Members.{first_in}
+use Rattle.pa_lists.proofs.Joined.{map_cases, map_in}
 use Rattle.pa_rules.specs.declared.played.Played.{Played}
 use Rattle.pa_rules.specs.Roots.{Journals, AreRoots, IsPoolOf}
 use Rattle.pa_rules.specs.Caches.{IsOfClass, FrontIs, with_list, with_cache}
@@ -48,7 +48,7 @@ use Rattle.pa_deeds.proofs.Growing.{grown_new}
 use Rattle.pa_deeds.proofs.Listed.{stands_once, class_out}
 use Rattle.pa_turns.specs.Turns.{played_at}
 use Rattle.pa_turns.proofs.Lines.{lines_more}
-use Rattle.pa_model.specs.declared.player.Player.{Player}
+use Rattle.pa_model.specs.Player.{Player}
 use Rattle.pa_model.specs.Tables.{slot_at, named_at}
 use Rattle.pa_model.specs.Playing.{journals, caches, root_of, list_at, numbered_at, IsLetOut, IsPlaying}
 use Rattle.pa_model.specs.Plays.{CanGoOn}

@@ -1,7 +1,7 @@
 -- The front of a list leaves the cache before it is issued.
 use Rattle.std.proofs.Common.{◌≡◌, ℕ, List, Option, Some, subst}
 use Rattle.std.specs.Prelude.{IfSome}
-use Rattle.pa_model.specs.declared.player.Player.{Player}
+use Rattle.pa_model.specs.Player.{Player}
 use Rattle.pa_model.specs.declared.tallies.Tallies.{Tallies}
 use Rattle.pa_model.specs.Asks.{CanIssue}
 use Rattle.pa_model.specs.Lists.{IsFront}

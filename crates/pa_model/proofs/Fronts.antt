@@ -18,7 +18,7 @@ use Rattle.pa_record.specs.declared.entry.Answer.TheVariants as answers
 use Rattle.pa_record.specs.declared.numbered.Numbered.{Numbered}
 use Rattle.pa_record.specs.declared.report.Tally.{Tally}
 use Rattle.pa_record.specs.Spans.{name_of}
-use Rattle.pa_record.proofs.Members.{first_in, later_in}
+use Rattle.pa_lists.proofs.Members.{first_in, later_in}
 use Rattle.pa_rules.specs.Played.{mark_at}
 use Rattle.pa_rules.specs.Roots.{Journals}
 use Rattle.pa_rules.specs.Caches.{with_list, with_cache}
@@ -32,7 +32,7 @@ use Rattle.pa_turns.proofs.Ops.{made_goes_on}
 use Rattle.pa_turns.proofs.Marking.{some_mark}
 use Rattle.pa_model.specs.declared.handle.Handle.TheVariants.{Own}
 use Rattle.pa_model.specs.declared.table.Slot.{Slot}
-use Rattle.pa_model.specs.declared.player.Player.{Player}
+use Rattle.pa_model.specs.Player.{Player}
 use Rattle.pa_model.specs.Tables.{no_slot, slot_at, named_at, HasNone}
 use Rattle.pa_model.specs.Tallies.{tally_at}
 use Rattle.pa_model.specs.Playing.{shown, journals, caches, register_at, numbered_at, list_place, list_at, root_of, IsLetOut, AreShaped, IsPlaying}

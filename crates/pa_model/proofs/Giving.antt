@@ -18,7 +18,7 @@ use Rattle.pa_rules.specs.Caches.{batches, gives}
 use Rattle.pa_deeds.specs.Deeds.{entries_at}
 use Rattle.pa_deeds.specs.Ops.{AreOut}
 use Rattle.pa_deeds.proofs.Lists.{names_append, parts_are_out, returned_sound}
-use Rattle.pa_model.specs.declared.player.Player.{Player}
+use Rattle.pa_model.specs.Player.{Player}
 use Rattle.pa_model.specs.declared.table.Slot.{Slot}
 use Rattle.pa_model.specs.Asks.{CanGive}
 use Rattle.pa_model.specs.Changes.{gave_back, bytes_at}
@@ -26,19 +26,9 @@ use Rattle.pa_model.specs.Playing.{numbered_at, root_of}
 use Rattle.pa_model.specs.Tables.{slot_at}
 use Rattle.pa_model.specs.Tallies.{tally_at, no_tally}
 use Rattle.pa_model.specs.Told.{journal_in}
+use Rattle.pa_rules.proofs.Batches.{batches_same}
 
 -- ---- gives
-
-batches_same : (n m : ℕ) (xs : List Numbered) → length xs ≤ n → length xs ≤ m → batches n xs ≡ batches m xs
-batches_same zero zero xs a b = refl
-batches_same zero (suc m) [] a b = refl
-batches_same zero (suc m) (x ∷ xs) a b = absurd (omega arith)
-batches_same (suc n) zero [] a b = refl
-batches_same (suc n) zero (x ∷ xs) a b = absurd (omega arith)
-batches_same (suc n) (suc m) [] a b = refl
-batches_same (suc n) (suc m) (x ∷ xs) a b =
-    let e = length-drop 16 (x ∷ xs) in
-    ap (λ z. Give (take 16 (x ∷ xs)) ∷ z) (batches_same n m (drop 16 (x ∷ xs)) (omega arith) (omega arith))
 
 -- a batch is 16 slots, or the last ones
 abbrev pub IsBatch : {X : Type 0} → List X → List X → Type 0

@@ -15,8 +15,8 @@ use Rattle.pa_record.specs.declared.report.Tally.{Tally}
 use Rattle.pa_record.specs.declared.root.RootEntry.{RootEntry}
 use Rattle.pa_record.specs.Spans.{name_of}
 use Rattle.pa_record.specs.Root.{Root}
-use Rattle.pa_record.proofs.Members.{not_in_none, first_in, later_in}
-use Rattle.pa_record.proofs.Joined.{map_cases, map_in, filter_in, flat_in}
+use Rattle.pa_lists.proofs.Members.{not_in_none, first_in, later_in}
+use Rattle.pa_lists.proofs.Joined.{map_cases, map_in, filter_in, flat_in}
 use Rattle.pa_rules.specs.Roots.{Journals}
 use Rattle.pa_rules.specs.Holders.{Out, Move, move_of, moves_by}
 use Rattle.pa_rules.specs.Legal.{is_phase, phases_in}

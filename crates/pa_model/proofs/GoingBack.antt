@@ -21,18 +21,17 @@ use Rattle.pa_record.specs.Pool.{PoolState, IsOneTake}
 use Rattle.pa_record.specs.Root.{Root, names, IsOut}
 use Rattle.pa_record.specs.Sound.{IsSound}
 use Rattle.pa_record.proofs.Lawful.{journal_leaves}
-use Rattle.pa_record.proofs.Members.{first_in, later_in, in_cases}
+use Rattle.pa_lists.proofs.Members.{first_in, later_in, in_cases}
 use Rattle.pa_record.proofs.PoolSteps.{pool_is_sound}
 use Rattle.pa_rules.specs.Played.{step_of}
 use Rattle.pa_deeds.specs.Ops.{AreOut, Returns, returned_by}
-use Rattle.pa_deeds.proofs.Lists.{All-members}
 use Rattle.pa_deeds.proofs.Returned.{return_is_done}
 use Rattle.pa_deeds.proofs.Unmapping.{maps_are_taken}
 use Rattle.pa_turns.specs.Turns.{played_at}
 use Rattle.pa_model.specs.declared.handle.Handle.{Handle}
 use Rattle.pa_model.specs.declared.table.Slot.{Slot}
 use Rattle.pa_model.specs.declared.tallies.Tallies.{Tallies}
-use Rattle.pa_model.specs.declared.player.Player.{Player}
+use Rattle.pa_model.specs.Player.{Player}
 use Rattle.pa_model.specs.Tables.{slot_at, named_at}
 use Rattle.pa_model.specs.Tallies.{tally_at}
 use Rattle.pa_model.specs.Playing.{journals, caches, root_of, list_at, list_place, numbered_at, IsLetOut, IsMappedAs, IsPlaying}
@@ -44,6 +43,7 @@ use Rattle.pa_model.proofs.Counting.{tally_more}
 use Rattle.pa_model.proofs.Changing.{list_within}
 use Rattle.pa_model.proofs.Alone.{so_far, has_word}
 use Rattle.pa_model.proofs.Bounds.{cached_few, place_among}
+use Rattle.pa_lists.proofs.Elements.{all_from_members}
 
 -- slots of one length
 pub bytes_of_one : (slots : List Slot) (len : ℕ) (xs : List ℕ) → ((i : ℕ) → Contains xs i → (slot_at slots i).title.len ≡ len) → bytes_at slots xs ≡ len * length xs
@@ -146,7 +146,7 @@ module _ (region partitions threads : ℕ) (ls : List Line) (p : Player) (h : Is
           root = omega (arith, low, h.shaped.roots);
           journal = omega (arith, low, h.shaped.journals);
           four = omega (arith, low, h.shaped.four);
-          among = All-members (λ j. j < length table) (i ∷ xs) (λ j there. omega (arith, member j there, keeps.longer));
+          among = all_from_members (λ j. j < length table) (i ∷ xs) (λ j there. omega (arith, member j there, keeps.longer));
           sound = root_sound region partitions threads ls p h q;
           out = out;
           turn = omega (arith, h.bounded.turns q, short, kept, shorter);

@@ -8,7 +8,7 @@ use Rattle.pa_machine.specs.declared.word.SlotName.{SlotName}
 use Rattle.pa_machine.specs.Count.{held_of}
 use Rattle.pa_turns.specs.Shown.{IsLike}
 use Rattle.pa_model.specs.declared.table.Slot.{Slot}
-use Rattle.pa_model.specs.declared.player.Player.{Player}
+use Rattle.pa_model.specs.Player.{Player}
 use Rattle.pa_model.specs.Tables.{no_slot, slot_at, AreNamed}
 use Rattle.pa_model.specs.Playing.{shown, slot_of_name, word_in, caches, numbered_at, register_at, cell_at, AreShaped}
 use Rattle.pa_model.proofs.Slots.{KeepsSlots, slot_here, slot_nowhere, slot_cases, keeps_named}

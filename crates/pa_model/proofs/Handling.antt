@@ -10,7 +10,7 @@ use Rattle.pa_turns.specs.Laws.{LetsStep}
 use Rattle.pa_turns.proofs.Words.{handle_lets}
 use Rattle.pa_model.specs.declared.handle.Handle.TheVariants.{Own, Ref}
 use Rattle.pa_model.specs.declared.table.Slot.{Slot}
-use Rattle.pa_model.specs.declared.player.Player.{Player}
+use Rattle.pa_model.specs.Player.{Player}
 use Rattle.pa_model.specs.Tables.{slot_at, named_at, Points}
 use Rattle.pa_model.specs.Playing.{shown, register_at, reg_of, word_in}
 use Rattle.pa_model.specs.Plays.{CanGoOn}

@@ -9,6 +9,7 @@ use Rattle.pa_machine.specs.declared.word.SlotName.{SlotName}
 use Rattle.pa_record.specs.Spans.{name_of}
 use Rattle.pa_model.specs.declared.table.Slot.{Slot}
 use Rattle.pa_model.specs.Tables.{no_slot, named_at, key_of, IsHomed, AreNamed, NoneNamed}
+use Rattle.pa_lists.proofs.Options.{some_same}
 
 none_some : (i : ℕ) → Some i ≡ None → ⊥
 none_some i e = cc
@@ -36,10 +37,6 @@ homed_set slots home i x lt e h = record {
   only = λ k j f. let o = h.only k j f in (omega (arith, o.0, length-set slots i x), ap key_of (named_set slots i j x lt e) ∙ o.1);
   low = λ j l. omega (arith, ap (λ (n : SlotName). n.start) (named_set slots i j x lt e), h.low j (omega (arith, l, length-set slots i x)));
 }
-
--- no two slots have one name
-some_same : (i j : ℕ) → Some i ≡ Some j → i ≡ j
-some_same i j e = cc
 
 pub homed_names : (slots : List Slot) (home : ℕ → Option ℕ) → IsHomed slots home → AreNamed slots
 homed_names slots home h i j li lj e = some_same i j (sym (h.leads i li) ∙ ap (λ n. home (key_of n)) e ∙ h.leads j lj)

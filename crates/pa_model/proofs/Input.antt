@@ -6,7 +6,7 @@ use Rattle.pa_trace.specs.declared.line.Head.{Head}
 use Rattle.pa_trace.specs.declared.script.Line.{Line}
 use Rattle.pa_trace.specs.Limits.{IsLineWithin}
 use Rattle.pa_trace.specs.Unread.{Unread, trace_with, IsReadUpTo, IsLineRead, IsEndRead}
-use Rattle.pa_model.specs.declared.player.Player.{Player}
+use Rattle.pa_model.specs.Player.{Player}
 use Rattle.pa_model.specs.Asks.{CanEnd}
 use Rattle.pa_model.specs.Begun.{IsBegun}
 use Rattle.pa_model.specs.Changes.{phase_ended}

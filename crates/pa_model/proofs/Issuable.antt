@@ -13,9 +13,9 @@ use Rattle.pa_record.specs.declared.numbered.Numbered.{Numbered}
 use Rattle.pa_record.specs.Pool.{PoolState}
 use Rattle.pa_record.specs.Root.{Root}
 use Rattle.pa_record.specs.Spans.{name_of}
-use Rattle.pa_record.proofs.Members.{first_in, later_in}
+use Rattle.pa_lists.proofs.Members.{first_in, later_in}
 use Rattle.pa_model.specs.declared.table.Slot.{Slot}
-use Rattle.pa_model.specs.declared.player.Player.{Player}
+use Rattle.pa_model.specs.Player.{Player}
 use Rattle.pa_model.specs.Tables.{no_slot, slot_at, named_at, new_slot, IsHome}
 use Rattle.pa_model.specs.Tallies.{tally_at}
 use Rattle.pa_model.specs.Changes.{list_in, listed, cached_more, placed_in, asked_in, ArePut}

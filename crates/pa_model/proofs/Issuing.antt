@@ -21,8 +21,8 @@ use Rattle.pa_record.specs.Pool.{PoolState}
 use Rattle.pa_record.specs.Spans.{name_of}
 use Rattle.pa_record.specs.Root.{Root, new_root}
 use Rattle.pa_record.specs.Sound.{IsBornBelow, least_after_all}
-use Rattle.pa_record.proofs.Members.{not_in_none, first_in}
-use Rattle.pa_record.proofs.Joined.{filter_in, flat_in}
+use Rattle.pa_lists.proofs.Members.{not_in_none, first_in}
+use Rattle.pa_lists.proofs.Joined.{filter_in, flat_in}
 use Rattle.pa_record.proofs.Mapping.{born_more}
 use Rattle.pa_record.proofs.PoolSteps.{pool_is_sound}
 use Rattle.pa_record.proofs.Lawful.{journal_leaves}
@@ -39,7 +39,7 @@ use Rattle.pa_deeds.specs.Deeds.{entries_at, grown, root_at, IsPlacedTo}
 use Rattle.pa_deeds.specs.Ops.{only_in, IsCalled}
 use Rattle.pa_deeds.proofs.Acting.{only_here, only_else}
 use Rattle.pa_deeds.proofs.Extending.{line_extends}
-use Rattle.pa_deeds.proofs.Single.{only_member, next_low}
+use Rattle.pa_deeds.proofs.Single.{next_low}
 use Rattle.pa_turns.specs.Turns.{CanPlay, LeadsTo, played_at, after_made}
 use Rattle.pa_turns.proofs.Ops.{made_goes_on}
 use Rattle.pa_turns.proofs.Starting.{like_is_told}
@@ -48,7 +48,7 @@ use Rattle.pa_model.specs.declared.handle.Handle.TheVariants.{Own}
 use Rattle.pa_model.specs.declared.heap.Heap.{Heap}
 use Rattle.pa_model.specs.declared.table.Slot.{Slot}
 use Rattle.pa_model.specs.declared.tallies.Tallies.{Tallies}
-use Rattle.pa_model.specs.declared.player.Player.{Player}
+use Rattle.pa_model.specs.Player.{Player}
 use Rattle.pa_model.specs.Tables.{slot_at, named_at, HasNone}
 use Rattle.pa_model.specs.Tallies.{tally_at}
 use Rattle.pa_model.specs.Told.{Lists}
@@ -71,6 +71,7 @@ use Rattle.pa_model.proofs.Changing.{journals_acted, of_only, root_here, root_th
 use Rattle.pa_model.proofs.Shows.{TellsMore, HasHeap, IsPlayed}
 use Rattle.pa_model.proofs.Leaving.{LetsOut, IsToldOn, out_first, out_last, none_some}
 use Rattle.pa_model.proofs.Grown.{IsGrown, old_at, keeps_grown, grown_length, new_at, like_grown}
+use Rattle.pa_lists.proofs.Elements.{in_one}
 
 module _ (region partitions threads : ℕ) (ls : List Line) (p : Player) (thread reg q size : ℕ) (can : CanGoOn region partitions threads ls (Do thread (ops.Alloc reg q size)) p)
     (none : HasNone (register_at p thread reg)) (fits : size ≤ 33521656) (table news : List Slot) (grown_by : IsGrown p.table table news) (few : length news ≤ 8)
@@ -99,7 +100,7 @@ module _ (region partitions threads : ℕ) (ls : List Line) (p : Player) (thread
     | inl e ↦
         let (a, member, moves, is) = move_by n (only_in q (act ∷ []) k) s m among in
         let there : Contains (act ∷ []) a = subst (λ z. Contains z a) (ap (only_in q (act ∷ [])) e ∙ only_here q (act ∷ [])) member in
-        let (way, out) = lets_out.moves n m (subst (λ z. Contains (moves_by n z) m) (sym (only_member act a there)) moves) in
+        let (way, out) = lets_out.moves n m (subst (λ z. Contains (moves_by n z) m) (sym (in_one act a there)) moves) in
         (way, subst (λ z. Contains outs z) is out, e)
     | inr ne ↦ absurd (not_in_none m (subst (λ bs. Contains (moves_of (entries_at n bs) s) m) (only_else q k (act ∷ []) ne) among))
   ]
@@ -335,7 +336,7 @@ module _ (region partitions threads : ℕ) (ls : List Line) (p : Player) (thread
             ∙ ap (λ line. grown (journals p) line (only_in q (act ∷ [])) k) h.line;
         histories = λ k. let e : length (slice_index_or told.histories k []) ≡ length (slice_index_or p.told.histories k []) = ap (λ (hs : List (List CellEntry)). length (slice_index_or hs k [])) told_on.histories in omega arith;
         few = of_only (λ bs. length bs ≤ 512) q (act ∷ []) (omega arith) (omega arith);
-        printable = of_only (λ bs. (a : RootAct) → Contains bs a → NamesSlots a) q (act ∷ []) (λ a among. subst NamesSlots (only_member act a among) names_slots) (λ a among. absurd (not_in_none a among));
+        printable = of_only (λ bs. (a : RootAct) → Contains bs a → NamesSlots a) q (act ∷ []) (λ a among. subst NamesSlots (in_one act a among) names_slots) (λ a among. absurd (not_in_none a among));
       }
 
       -- its lists

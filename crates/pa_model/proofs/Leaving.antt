@@ -4,11 +4,11 @@ use Rattle.std.specs.Prelude.{Contains}
 use Rattle.pa_machine.specs.declared.word.SlotName.{SlotName}
 use Rattle.pa_record.specs.declared.pool.PoolEntry.{PoolEntry}
 use Rattle.pa_record.specs.declared.root.RootAct.{RootAct}
-use Rattle.pa_record.proofs.Members.{not_in_none, first_in, later_in}
+use Rattle.pa_lists.proofs.Members.{not_in_none, first_in, later_in}
 use Rattle.pa_rules.specs.Holders.{Way, Out, Back, Move, moves_by}
 use Rattle.pa_legal.specs.Numbers.{at_end, at_after, IsNumbered, HasAt}
 use Rattle.pa_deeds.specs.Deeds.{entries_at}
-use Rattle.pa_model.specs.declared.player.Player.{Player}
+use Rattle.pa_model.specs.Player.{Player}
 use Rattle.pa_model.specs.Told.{Lists, journal_in}
 
 -- the act lets these slots out, and moves no other

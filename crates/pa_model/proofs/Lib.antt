@@ -15,7 +15,6 @@ mod Empty
 mod Ended
 mod Filled
 mod Fills
-mod Forms
 mod Frees
 mod FromRoot
 mod Fronting

@@ -14,7 +14,7 @@ use Rattle.pa_turns.specs.Turns.{Looks}
 use Rattle.pa_model.specs.declared.handle.Handle.{Handle}
 use Rattle.pa_model.specs.declared.handle.Handle.TheVariants.{Empty, Own, Ref, Freed, Cleared}
 use Rattle.pa_model.specs.declared.table.Slot.{Slot}
-use Rattle.pa_model.specs.declared.player.Player.{Player}
+use Rattle.pa_model.specs.Player.{Player}
 use Rattle.pa_model.specs.Tables.{slot_at, named_at, Points}
 use Rattle.pa_model.specs.Playing.{shown, reg_of, register_at, IsPlaying}
 use Rattle.pa_model.specs.Changes.{seen_at, LooksAt, Reads}

@@ -20,7 +20,7 @@ use Rattle.pa_record.specs.declared.root.RootAct.TheVariants.{Map}
 use Rattle.pa_record.specs.Pool.{PoolState}
 use Rattle.pa_record.specs.Spans.{name_of}
 use Rattle.pa_record.specs.Root.{Root, Filled, mapped}
-use Rattle.pa_record.proofs.Members.{not_in_none, first_in, in_cases}
+use Rattle.pa_lists.proofs.Members.{not_in_none, first_in, in_cases}
 use Rattle.pa_record.proofs.PoolSteps.{pool_is_sound}
 use Rattle.pa_rules.specs.Roots.{AsksForMap}
 use Rattle.pa_rules.specs.Holders.{Out, Move}
@@ -35,7 +35,7 @@ use Rattle.pa_deeds.proofs.Maps.{map_is_done}
 use Rattle.pa_turns.specs.Turns.{played_at}
 use Rattle.pa_place.specs.Placed.{Maps, MapDid, map_in}
 use Rattle.pa_model.specs.declared.table.Slot.{Slot}
-use Rattle.pa_model.specs.declared.player.Player.{Player}
+use Rattle.pa_model.specs.Player.{Player}
 use Rattle.pa_model.specs.Tables.{no_slot, slot_at, named_at, new_slot, HasNone, NoneNamed}
 use Rattle.pa_model.specs.Playing.{journals, caches, numbered_at, root_of, register_at, IsLetOut, AreShaped, IsPlaying}
 use Rattle.pa_model.specs.Changes.{acted, pooled, placed_in, issued, made_at, answered, seen_at, IsMapPlaced, IsMapIssued}

@@ -33,7 +33,7 @@ use Rattle.pa_deeds.proofs.Onwards.{run_goes_on}
 use Rattle.pa_turns.specs.Turns.{played_at}
 use Rattle.pa_turns.proofs.Marking.{with_mark, marks_push}
 use Rattle.pa_turns.proofs.Starting.{like_is_told}
-use Rattle.pa_model.specs.declared.player.Player.{Player}
+use Rattle.pa_model.specs.Player.{Player}
 use Rattle.pa_model.specs.Tables.{slot_at}
 use Rattle.pa_model.specs.Tallies.{tally_at}
 use Rattle.pa_model.specs.Playing.{shown, journals, caches, root_of, home_in, len_in, AreAllSlots, AreBounded, AreTallied, IsToldLine, IsPlaying}

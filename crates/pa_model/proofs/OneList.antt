@@ -7,7 +7,7 @@ use Rattle.std.specs.Prelude.{nat_lt}
 use Rattle.pa_record.specs.declared.numbered.Numbered.{Numbered}
 use Rattle.pa_rules.specs.Caches.{Cache, Caches, with_list, with_cache}
 use Rattle.pa_rules.proofs.Counted.{list_changed, list_of_another_class, list_of_another}
-use Rattle.pa_model.specs.declared.player.Player.{Player}
+use Rattle.pa_model.specs.Player.{Player}
 use Rattle.pa_model.specs.Playing.{numbered_at, list_place, list_at, caches}
 use Rattle.pa_model.specs.Changes.{listed, list_in}
 

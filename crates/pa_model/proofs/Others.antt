@@ -6,7 +6,7 @@ use Rattle.pa_record.specs.declared.report.Tally.{Tally}
 use Rattle.pa_record.specs.Root.{Root, new_root}
 use Rattle.pa_record.specs.Sound.{IsSound}
 use Rattle.pa_deeds.specs.Ops.{AreOut}
-use Rattle.pa_model.specs.declared.player.Player.{Player}
+use Rattle.pa_model.specs.Player.{Player}
 use Rattle.pa_model.specs.declared.table.Slot.{Slot}
 use Rattle.pa_model.specs.Asks.{CanGive, CanPurgeOne, places_from}
 use Rattle.pa_model.specs.Changes.{given, given_from, purged_with, list_in, bytes_at}

@@ -9,7 +9,3 @@ if_ok (Err e) P R p f = tt
 pub both_ok : {X E : Type 0} (r : Result X E) (P R : X → Type 0) (Q : Type 0) → IfOk r P → OnOk r Q → ((x : X) → P x → Q → R x) → IfOk r R
 both_ok (Ok x) P R Q p q f = f x p q
 both_ok (Err e) P R Q p q f = tt
-
-pub on_ok : {X E : Type 0} (r : Result X E) (P Q : Type 0) → OnOk r P → (P → Q) → OnOk r Q
-on_ok (Ok x) P Q p f = f p
-on_ok (Err e) P Q p f = tt

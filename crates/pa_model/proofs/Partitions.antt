@@ -1,7 +1,7 @@
 -- A purge of all partitions, one after the other.
 use Rattle.std.proofs.Common.{◌≡◌, ℕ, suc, ◌+◌, ◌-◌, ◌*◌, ◌^◌, ◌<◌, ◌≤◌, length, refl, sym, ap, ◌∙◌, subst, arith}
 use Rattle.pa_rules.specs.Caches.{listed_slots, all_listed}
-use Rattle.pa_model.specs.declared.player.Player.{Player}
+use Rattle.pa_model.specs.Player.{Player}
 use Rattle.pa_model.specs.Asks.{CanPurge, CanPurgeOne}
 use Rattle.pa_model.specs.Changes.{given_from, purged_with, purged_from, list_in}
 use Rattle.pa_model.specs.Playing.{caches, list_place}

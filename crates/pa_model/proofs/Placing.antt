@@ -11,7 +11,7 @@ use Rattle.pa_record.specs.Spans.{name_of}
 use Rattle.pa_place.specs.declared.placed.Placed.{Placed}
 use Rattle.pa_place.specs.Placed.{FillDid, MapDid, Maps, with_slots}
 use Rattle.pa_deeds.specs.Ops.{found_by}
-use Rattle.pa_model.specs.declared.player.Player.{Player}
+use Rattle.pa_model.specs.Player.{Player}
 use Rattle.pa_model.specs.declared.table.Slot.{Slot}
 use Rattle.pa_model.specs.Calls.{IsFillTold, IsMapTaken}
 use Rattle.pa_model.specs.Changes.{ArePut, IsFilled, IsMapPlaced, IsUnfilled, acted, asked_in, placed_in, pooled}

@@ -19,7 +19,7 @@ use Rattle.pa_record.specs.RunText.{NamesSlots}
 use Rattle.pa_record.specs.Pool.{PoolState}
 use Rattle.pa_record.specs.Root.{Root, names, all_returned, purged, empties}
 use Rattle.pa_record.specs.Sound.{IsSound, IsSettled, IsBornBelow}
-use Rattle.pa_record.proofs.Members.{not_in_none, in_cases}
+use Rattle.pa_lists.proofs.Members.{not_in_none, in_cases}
 use Rattle.pa_record.proofs.Returning.{all_returned_is, times_is}
 use Rattle.pa_record.proofs.Mapping.{born_same}
 use Rattle.pa_record.proofs.Lawful.{journal_leaves}
@@ -35,7 +35,7 @@ use Rattle.pa_legal.specs.Tallies.{issues, frees, enters, leaves}
 use Rattle.pa_turns.specs.Shown.{IsLike}
 use Rattle.pa_turns.specs.Turns.{played_at}
 use Rattle.pa_turns.proofs.Looking.{none_goes_on, none_mark}
-use Rattle.pa_model.specs.declared.player.Player.{Player}
+use Rattle.pa_model.specs.Player.{Player}
 use Rattle.pa_model.specs.Tables.{slot_at}
 use Rattle.pa_model.specs.Tallies.{tally_at}
 use Rattle.pa_model.specs.Playing.{shown, journals, caches, root_of, numbered_at, list_at, IsLetOut, AreShaped, IsPlaying}

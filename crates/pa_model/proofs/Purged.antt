@@ -6,13 +6,12 @@ use Rattle.std.proofs.lemmas.List.{map-append, length-map}
 use Rattle.std.proofs.lemmas.List.Elements.{Contains-append_cases}
 use Rattle.pa_buckets.specs.Table.{slot_of}
 use Rattle.pa_trace.specs.declared.script.Line.{Line}
-use Rattle.pa_record.proofs.Members.{not_in_none}
+use Rattle.pa_lists.proofs.Members.{not_in_none}
 use Rattle.pa_rules.specs.Caches.{Caches, listed_slots}
 use Rattle.pa_rules.specs.Report.{listed_bytes, cached_slots, cached_bytes}
 use Rattle.pa_deeds.specs.Ops.{AreOut, all_of}
-use Rattle.pa_deeds.proofs.Lists.{All-members}
 use Rattle.pa_deeds.proofs.Listed.{lists_are_out}
-use Rattle.pa_model.specs.declared.player.Player.{Player}
+use Rattle.pa_model.specs.Player.{Player}
 use Rattle.pa_model.specs.Playing.{journals, caches, root_of, list_at, numbered_at, IsPlaying}
 use Rattle.pa_model.specs.Changes.{bytes_at}
 use Rattle.pa_model.specs.Asks.{CanGive, CanPurgeOne, places_from}
@@ -22,6 +21,7 @@ use Rattle.pa_model.proofs.Bounds.{list_short, listed_few, place_among}
 use Rattle.pa_model.proofs.Giving.{bytes_append}
 use Rattle.pa_model.proofs.Purging.{listed_places}
 use Rattle.pa_model.proofs.GoingBack.{bytes_of_one, root_sound, listed_len}
+use Rattle.pa_lists.proofs.Elements.{all_from_members}
 
 -- the lists of one thread among all
 listed_of_all : (all : Caches) (q threads t : ℕ) → t < threads → listed_slots (all t q) 0 59 ≤ cached_slots all q threads
@@ -87,7 +87,7 @@ module _ (region partitions threads : ℕ) (ls : List Line) (p : Player) (h : Is
         root = omega (arith, low, h.shaped.roots);
         journal = omega (arith, low, h.shaped.journals);
         four = omega (arith, low, h.shaped.four);
-        among = All-members (λ i. i < length p.table) (places_from t q 0 59 p) (λ i there. places_among 0 59 i (omega arith) there);
+        among = all_from_members (λ i. i < length p.table) (places_from t q 0 59 p) (λ i there. places_among 0 59 i (omega arith) there);
         sound = root_sound region partitions threads ls p h q;
         out = subst (AreOut (root_of p q)) (sym (places_are 0 59 (omega arith))) (subst (λ r. AreOut r (all_of (caches p t q) 0 59)) (sym (h.roots q)) out);
         turn = omega (arith, h.bounded.turns q, short, many, few);

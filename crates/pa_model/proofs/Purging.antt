@@ -2,7 +2,7 @@
 use Rattle.std.proofs.Common.{◌≡◌, ℕ, zero, suc, ◌+◌, ◌-◌, ◌^◌, ◌<◌, ◌≤◌, List, [], ◌++◌, map, length, refl, sym, ap, ◌∙◌, subst, arith, length-append, length-set}
 use Rattle.std.proofs.lemmas.List.{get_or-set_other, length-map}
 use Rattle.pa_rules.specs.Caches.{listed_slots}
-use Rattle.pa_model.specs.declared.player.Player.{Player}
+use Rattle.pa_model.specs.Player.{Player}
 use Rattle.pa_model.specs.Asks.{CanGive, places_from}
 use Rattle.pa_model.specs.Changes.{gave_back, given, given_from, listed, list_in}
 use Rattle.pa_model.specs.Playing.{caches, list_place, numbered_at}

@@ -18,7 +18,7 @@ use Rattle.pa_record.specs.declared.pool.PoolEntry.{PoolEntry}
 use Rattle.pa_record.specs.declared.report.Tally.{Tally}
 use Rattle.pa_record.specs.Root.{Root}
 use Rattle.pa_record.specs.Sound.{IsBornBelow}
-use Rattle.pa_record.proofs.Members.{not_in_none}
+use Rattle.pa_lists.proofs.Members.{not_in_none}
 use Rattle.pa_rules.specs.Played.{mark_at, mark_of}
 use Rattle.pa_rules.specs.Roots.{Journals, journal_at}
 use Rattle.pa_rules.specs.Registers.{Row}
@@ -34,7 +34,7 @@ use Rattle.pa_turns.specs.Turns.{CanPlay, LeadsTo, TellsNone, Looks, played_at}
 use Rattle.pa_turns.proofs.Looking.{none_goes_on, look_goes_on, none_mark, look_mark}
 use Rattle.pa_turns.proofs.Marking.{some_mark}
 use Rattle.pa_model.specs.declared.table.Slot.{Slot}
-use Rattle.pa_model.specs.declared.player.Player.{Player}
+use Rattle.pa_model.specs.Player.{Player}
 use Rattle.pa_model.specs.Tables.{Points}
 use Rattle.pa_model.specs.Tallies.{tally_at}
 use Rattle.pa_model.specs.Playing.{shown, journals, caches, register_at, root_of, home_in, len_in, AreAllSlots, AreShaped, IsPlaying}

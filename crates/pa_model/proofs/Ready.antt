@@ -10,14 +10,14 @@ use Rattle.pa_trace.specs.declared.script.Op.TheVariants as ops
 use Rattle.pa_trace.specs.declared.script.Line.{Line}
 use Rattle.pa_trace.specs.declared.script.Line.TheVariants.{Phase, Do}
 use Rattle.pa_model.specs.declared.handle.Handle.TheVariants.{Own, Ref}
-use Rattle.pa_model.specs.declared.player.Player.{Player}
+use Rattle.pa_model.specs.Player.{Player}
 use Rattle.pa_model.specs.declared.table.Slot.{Slot}
 use Rattle.pa_model.specs.Tables.{slot_at, Points}
 use Rattle.pa_model.specs.Tallies.{tally_at}
 use Rattle.pa_model.specs.Changes.{reset_last, freed_at}
 use Rattle.pa_model.specs.Playing.{register_at}
 use Rattle.pa_model.specs.Plays.{IsReady}
-use Rattle.pa_model.specs.Asks.{CanCopy, CanReset, CanFree, CanWrite, CanRead, CanSwap, CanAllocateSlot, CanAllocateMap, CanPurge, CanEnd}
+use Rattle.pa_model.specs.Asks.{CanCopy, CanReset, CanFree, CanWrite, CanRead, CanAllocateSlot, CanAllocateMap, CanPurge, CanEnd}
 use Rattle.pa_model.proofs.Slots.{KeepsSlots, keeps_set}
 use Rattle.pa_model.proofs.Bounds.{length_of, quarantined_few}
 use Rattle.pa_model.proofs.Showing.{points_in}
@@ -107,17 +107,6 @@ pub read_ready : (p : Player) (thread reg word i : ℕ) → IsReady (Do thread (
 read_ready p thread reg word i ready points = record {
   place = place_ready p (Do thread (ops.Read reg word)) thread reg i ready points;
   long = (length_of ready.region ready.partitions ready.threads ready.ls p ready.can.playing i (place_ready p (Do thread (ops.Read reg word)) thread reg i ready points)).least;
-}
-
-pub swap_ready : (p : Player) (thread cell reg : ℕ) → IsReady (Do thread (ops.Swap cell reg)) p → CanSwap thread cell reg p
-swap_ready p thread cell reg ready = record {
-  threads = thread_ready p thread (ops.Swap cell reg) ready;
-  regs = ready.can.within.1.1;
-  cells = ready.can.within.1.0;
-  held = ready.can.playing.shaped.held thread reg;
-  celled = ready.can.playing.shaped.celled cell;
-  history = omega (arith, ready.can.within.1.0, ready.can.playing.shaped.histories);
-  few = omega (arith, ready.can.playing.bounded.histories cell, ready.can.short);
 }
 
 pub slot_ready : (p : Player) (thread reg q size class : ℕ) → IsReady (Do thread (ops.Alloc reg q size)) p → IsClassOf (max size 1 + 8) class → CanAllocateSlot thread reg q class p

@@ -19,7 +19,7 @@ use Rattle.pa_record.specs.declared.root.RootAct.TheVariants.{Fill}
 use Rattle.pa_record.specs.Spans.{name_of}
 use Rattle.pa_record.specs.Root.{names}
 use Rattle.pa_record.specs.Sound.{IsSound}
-use Rattle.pa_record.proofs.Joined.{map_cases, map_in}
+use Rattle.pa_lists.proofs.Joined.{map_cases, map_in}
 use Rattle.pa_record.proofs.Lawful.{journal_leaves}
 use Rattle.pa_rules.specs.Caches.{with_list}
 use Rattle.pa_rules.specs.Sizes.{usable_of}
@@ -31,7 +31,7 @@ use Rattle.pa_deeds.proofs.Calls.{fill_is_done}
 use Rattle.pa_turns.specs.Turns.{played_at}
 use Rattle.pa_place.specs.Placed.{FillDid}
 use Rattle.pa_model.specs.declared.table.Slot.{Slot}
-use Rattle.pa_model.specs.declared.player.Player.{Player}
+use Rattle.pa_model.specs.Player.{Player}
 use Rattle.pa_model.specs.Tables.{slot_at, named_at, HasNone, NoneNamed}
 use Rattle.pa_model.specs.Playing.{journals, caches, numbered_at, list_place, root_of, register_at, IsLetOut, IsPlaying}
 use Rattle.pa_model.specs.Changes.{acted, placed_in, list_in, seen_at, ArePut, IsFilled}

@@ -17,7 +17,7 @@ use Rattle.pa_record.specs.RunText.{NamesSlots}
 use Rattle.pa_record.specs.Pool.{PoolState}
 use Rattle.pa_record.specs.Root.{Root}
 use Rattle.pa_record.specs.Sound.{IsBornBelow}
-use Rattle.pa_record.proofs.Members.{not_in_none}
+use Rattle.pa_lists.proofs.Members.{not_in_none}
 use Rattle.pa_record.proofs.Mapping.{born_more}
 use Rattle.pa_record.proofs.PoolSteps.{pool_is_sound}
 use Rattle.pa_rules.specs.Registers.{Regs, Facts, AllocRow}
@@ -29,7 +29,6 @@ use Rattle.pa_deeds.specs.Pooled.{pool_at}
 use Rattle.pa_deeds.specs.Ops.{only_in, IsCalled, asked_for}
 use Rattle.pa_deeds.proofs.Acting.{only_here}
 use Rattle.pa_deeds.proofs.Extending.{line_replays}
-use Rattle.pa_deeds.proofs.Single.{only_member}
 use Rattle.pa_deeds.proofs.Calls.{full_is_done}
 use Rattle.pa_deeds.proofs.Maps.{full_map_is_done}
 use Rattle.pa_turns.specs.Known.{facts_of}
@@ -39,7 +38,7 @@ use Rattle.pa_place.specs.Placed.{FillDid, MapDid}
 use Rattle.pa_model.specs.declared.handle.Handle.{Handle}
 use Rattle.pa_model.specs.declared.handle.Handle.TheVariants.{Empty, Own, Ref, Freed, Cleared}
 use Rattle.pa_model.specs.declared.table.Slot.{Slot}
-use Rattle.pa_model.specs.declared.player.Player.{Player}
+use Rattle.pa_model.specs.Player.{Player}
 use Rattle.pa_model.specs.Tables.{slot_at, HasNone}
 use Rattle.pa_model.specs.Playing.{shown, journals, caches, root_of, reg_of, numbered_at, register_at, list_place, IsMappedAs, IsPlaying}
 use Rattle.pa_model.specs.Changes.{acted, pooled, placed_in, list_in, IsUnfilled, IsMapRefused}
@@ -52,6 +51,7 @@ use Rattle.pa_model.proofs.Changing.{journals_acted, of_only, root_here, root_th
 use Rattle.pa_model.proofs.Shows.{TellsMore, HasHeap, IsPlayed}
 use Rattle.pa_model.proofs.Quiet.{can_play, cache_same, like_same, none_adds, AddsNone, counts_still}
 use Rattle.pa_model.proofs.More.{playing_more}
+use Rattle.pa_lists.proofs.Elements.{in_one}
 
 full_row : (slots : List Slot) (x : Handle) (facts : Facts) (regs : Regs) (reg size entry : ℕ) → HasNone x → size ≤ 33521656 → AllocRow (reg_of slots x) facts regs reg size (answers.Full entry) regs
 full_row slots Empty facts regs reg size entry none fits = inr (inr (fits, entry, refl, λ k. refl))
@@ -124,7 +124,7 @@ module _ (region partitions threads : ℕ) (ls : List Line) (p : Player) (thread
           ∙ ap (λ line. grown (journals p) line (only_in q (act ∷ [])) k) h.line;
       histories = λ k. omega arith;
       few = of_only (λ bs. length bs ≤ 512) q (act ∷ []) (omega arith) (omega arith);
-      printable = of_only (λ bs. (a : RootAct) → Contains bs a → NamesSlots a) q (act ∷ []) (λ a among. subst NamesSlots (only_member act a among) tt) (λ a among. absurd (not_in_none a among));
+      printable = of_only (λ bs. (a : RootAct) → Contains bs a → NamesSlots a) q (act ∷ []) (λ a among. subst NamesSlots (in_one act a among) tt) (λ a among. absurd (not_in_none a among));
     }
 
     heap_then : HasHeap region p final n made (only_in q (act ∷ []))
@@ -137,7 +137,7 @@ module _ (region partitions threads : ℕ) (ls : List Line) (p : Player) (thread
         h.bounded.born
 
     no_moves : AllComeBack p.table (act ∷ [])
-    no_moves a among line m moves = absurd (not_in_none m (subst (λ z. Contains (moves_by line z) m) (sym (only_member act a among)) moves))
+    no_moves a among line m moves = absurd (not_in_none m (subst (λ z. Contains (moves_by line z) m) (sym (in_one act a among)) moves))
 
     silent : mark_of (played_at ls thread (ops.Alloc reg q size) (answers.Full entry)) ≡ None
     silent = none_mark n (ops.Alloc reg q size) (answers.Full entry) tt

@@ -1,7 +1,7 @@
 -- The end of a phase: its lines of the report, and the line that begins the next.
 use Rattle.std.proofs.Common.{◌≡◌, ℕ, zero, suc, ◌+◌, ◌-◌, ◌<◌, ◌≤◌, cond, List, [], ◌∷◌, ◌++◌, map, length, refl, sym, ap, ◌∙◌, subst, arith}
 use Rattle.std.specs.Prelude.{All, Contains}
-use Rattle.std.proofs.lemmas.List.{map-append, length_push, append_assoc, append-nil, length-map, get_or-map}
+use Rattle.std.proofs.lemmas.List.{map-append, length_push, length-map, get_or-map}
 use Rattle.std.proofs.lemmas.List.Elements.{All-nil, All-cons, All-append, All-weaker}
 use Rattle.std.proofs.lemmas.List.Sums.{sum_by_push, count_by-le-length}
 use Rattle.pa_trace.specs.declared.script.Line.{Line}
@@ -21,11 +21,12 @@ use Rattle.pa_deeds.proofs.Onwards.{run_goes_on}
 use Rattle.pa_turns.proofs.Ending.{ends_right}
 use Rattle.pa_turns.proofs.Lines.{phase_after, phases_are}
 use Rattle.pa_turns.proofs.Starting.{phase_goes_on}
-use Rattle.pa_model.specs.declared.player.Player.{Player}
+use Rattle.pa_model.specs.Player.{Player}
 use Rattle.pa_model.specs.Playing.{shown, journals, caches, home_in, len_in, AreShaped, AreBounded, IsToldLine, IsPlaying}
 use Rattle.pa_model.specs.Changes.{report_line, report_lines, phase_ended, phase_begun}
 use Rattle.pa_model.specs.Plays.{GoesTo}
 use Rattle.pa_model.specs.Asks.{CanEnd}
+use Rattle.pa_rules.proofs.ReportLines.{phases_push}
 
 -- ---- the phases of the records
 
@@ -64,25 +65,13 @@ report_places : (p : Player) (q n : ℕ) → map (λ (l : ReportLine). (l.phase,
 report_places p q zero = refl
 report_places p q (suc n) = ap (λ zs. (p.phase, q) ∷ zs) (report_places p (q + 1) n)
 
-phases_more : (partitions phase n : ℕ) → phases_of partitions phase (suc n) ≡ phases_of partitions phase n ++ partitions_of (phase + n) 0 partitions
-phases_more partitions phase zero =
-    let f : ℕ → List (ℕ × ℕ) = λ k. partitions_of k 0 partitions in
-    let e : phase ≡ phase + 0 = omega arith in
-    append-nil (partitions_of phase 0 partitions) ∙ ap f e
-phases_more partitions phase (suc n) =
-    let f : ℕ → List (ℕ × ℕ) = λ k. partitions_of phase 0 partitions ++ (phases_of partitions (phase + 1) n ++ partitions_of k 0 partitions) in
-    let e : phase + 1 + n ≡ phase + suc n = omega arith in
-    ap (λ zs. partitions_of phase 0 partitions ++ zs) (phases_more partitions (phase + 1) n)
-    ∙ ap f e
-    ∙ sym (append_assoc (partitions_of phase 0 partitions) (phases_of partitions (phase + 1) n) (partitions_of (phase + suc n) 0 partitions))
-
 phases_next : (partitions n : ℕ) → 1 ≤ n → phases_of partitions 1 (n - 1) ++ partitions_of n 0 partitions ≡ phases_of partitions 1 n
 phases_next partitions n some =
     let f : ℕ → List (ℕ × ℕ) = λ k. phases_of partitions 1 (n - 1) ++ partitions_of k 0 partitions in
     let g : ℕ → List (ℕ × ℕ) = λ k. phases_of partitions 1 k in
     let e : n ≡ 1 + (n - 1) = omega arith in
     let s : suc (n - 1) ≡ n = omega arith in
-    ap f e ∙ sym (phases_more partitions 1 (n - 1)) ∙ ap g s
+    ap f e ∙ sym (phases_push partitions 1 (n - 1)) ∙ ap g s
 
 -- ---- the lines
 

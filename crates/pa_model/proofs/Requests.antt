@@ -5,7 +5,7 @@ use Rattle.pa_direct.specs.Shapes.{shape_of, IsDirectSize}
 use Rattle.pa_trace.specs.declared.script.Op.TheVariants as ops
 use Rattle.pa_record.specs.declared.entry.Answer.{Answer}
 use Rattle.pa_record.specs.declared.entry.Answer.TheVariants as answers
-use Rattle.pa_model.specs.declared.player.Player.{Player}
+use Rattle.pa_model.specs.Player.{Player}
 use Rattle.pa_model.specs.Tables.{HasNone}
 use Rattle.pa_model.specs.Playing.{list_place, register_at}
 use Rattle.pa_model.specs.Changes.{AllocatesSlot, AllocatesMap}

@@ -15,7 +15,7 @@ use Rattle.pa_turns.specs.Turns.{after_free, after_reset}
 use Rattle.pa_turns.proofs.Ops.{free_goes_on, reset_goes_on}
 use Rattle.pa_model.specs.declared.handle.Handle.TheVariants.{Own, Ref, Freed, Cleared}
 use Rattle.pa_model.specs.declared.table.Slot.{Slot}
-use Rattle.pa_model.specs.declared.player.Player.{Player}
+use Rattle.pa_model.specs.Player.{Player}
 use Rattle.pa_model.specs.Tables.{slot_at, named_at, Points}
 use Rattle.pa_model.specs.Tallies.{tally_at}
 use Rattle.pa_model.specs.Playing.{shown, reg_of, register_at}

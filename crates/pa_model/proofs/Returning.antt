@@ -22,7 +22,7 @@ use Rattle.pa_record.specs.RunText.{NamesSlots}
 use Rattle.pa_record.specs.Spans.{name_of}
 use Rattle.pa_record.specs.Root.{Root, names, all_returned}
 use Rattle.pa_record.specs.Sound.{IsSound}
-use Rattle.pa_record.proofs.Members.{not_in_none, in_cases}
+use Rattle.pa_lists.proofs.Members.{not_in_none, in_cases}
 use Rattle.pa_record.proofs.Returning.{all_returned_is}
 use Rattle.pa_record.proofs.Mapping.{born_same}
 use Rattle.pa_record.proofs.Lawful.{journal_leaves}
@@ -41,7 +41,7 @@ use Rattle.pa_model.specs.declared.handle.Handle.{Handle}
 use Rattle.pa_model.specs.declared.heap.Heap.{Heap}
 use Rattle.pa_model.specs.declared.table.Slot.{Slot}
 use Rattle.pa_model.specs.declared.tallies.Tallies.{Tallies}
-use Rattle.pa_model.specs.declared.player.Player.{Player}
+use Rattle.pa_model.specs.Player.{Player}
 use Rattle.pa_model.specs.Tables.{no_slot, slot_at, named_at, Points}
 use Rattle.pa_model.specs.Told.{Lists}
 use Rattle.pa_model.specs.Tallies.{tally_at}

@@ -10,7 +10,7 @@ use Rattle.pa_record.specs.Pool.{PoolState}
 use Rattle.pa_model.specs.declared.handle.Handle.{Handle}
 use Rattle.pa_model.specs.declared.handle.Handle.TheVariants.{Empty, Own, Ref, Freed, Cleared}
 use Rattle.pa_model.specs.declared.table.Slot.{Slot}
-use Rattle.pa_model.specs.declared.player.Player.{Player}
+use Rattle.pa_model.specs.Player.{Player}
 use Rattle.pa_model.specs.Tables.{slot_at, IsIn, handle_in}
 use Rattle.pa_model.specs.Told.{Lists}
 use Rattle.pa_model.specs.Playing.{register_at, cell_at, list_place, list_at, AreShaped}

@@ -8,15 +8,14 @@ use Rattle.pa_machine.specs.declared.word.SlotName.{SlotName}
 use Rattle.pa_machine.specs.Run.{same_slot}
 use Rattle.pa_machine.proofs.Runs.{same_slot_yes, same_slot_no, same_slot_cases}
 use Rattle.pa_record.specs.declared.history.Held.TheVariants as held
-use Rattle.pa_rules.specs.declared.register.Reg.{Reg}
-use Rattle.pa_rules.specs.declared.register.Reg.TheVariants as regs
-use Rattle.pa_rules.specs.Registers.{AllRegs}
+use Rattle.pa_rules.specs.declared.register.Register.TheVariants as regs
+use Rattle.pa_rules.specs.Registers.{Reg, AllRegs}
 use Rattle.pa_turns.specs.Shown.{with_reg, with_slot}
 use Rattle.pa_turns.specs.Turns.{Names, HoldsNone}
 use Rattle.pa_model.specs.declared.handle.Handle.{Handle}
 use Rattle.pa_model.specs.declared.handle.Handle.TheVariants.{Empty, Own, Ref, Freed, Cleared}
 use Rattle.pa_model.specs.declared.table.Slot.{Slot}
-use Rattle.pa_model.specs.declared.player.Player.{Player}
+use Rattle.pa_model.specs.Player.{Player}
 use Rattle.pa_model.specs.Tables.{slot_at, named_at, held_of, AreNamed, IsIn, Points, HasNone}
 use Rattle.pa_model.specs.Playing.{slot_of_name, word_in, content_in, usable_in, reg_of, register_at}
 use Rattle.pa_model.specs.Changes.{registered}

@@ -22,7 +22,7 @@ use Rattle.pa_deeds.specs.Pooled.{pool_at, IsDone}
 use Rattle.pa_turns.specs.Shown.{Shown, IsLike}
 use Rattle.pa_turns.specs.Turns.{LeadsTo, played_at}
 use Rattle.pa_model.specs.declared.table.Slot.{Slot}
-use Rattle.pa_model.specs.declared.player.Player.{Player}
+use Rattle.pa_model.specs.Player.{Player}
 use Rattle.pa_model.specs.Tallies.{tally_at}
 use Rattle.pa_model.specs.Playing.{shown, journals, caches, root_of, home_in, len_in, AreAllSlots, AreShaped, IsPlaying}
 use Rattle.pa_model.proofs.Slots.{KeepsSlots, IsPlaceOf}

@@ -107,10 +107,6 @@ keeps_push slots x = record {
   class = λ i l. ap (λ (z : Slot). z.class) (get_or_append_left slots (x ∷ []) no_slot i l);
 }
 
-pub keeps_home : (before after : List Slot) (new : Slot) (place : ℕ) → IsHome before after new place → KeepsSlots before after
-keeps_home before after new place (inl h) = subst (λ z. KeepsSlots before z) (sym h.0) (keeps_all before)
-keeps_home before after new place (inr h) = subst (λ z. KeepsSlots before z) (sym h.0) (keeps_push before new)
-
 -- the place of a home, and its name
 pub home_place : (before after : List Slot) (new : Slot) (place : ℕ) → IsHome before after new place → IsPlaceOf after (name_of new.title) place
 home_place before after new place (inl h) =

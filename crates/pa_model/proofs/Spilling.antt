@@ -12,25 +12,25 @@ use Rattle.pa_trace.specs.declared.script.Line.{Line}
 use Rattle.pa_trace.specs.declared.script.Line.TheVariants.{Do}
 use Rattle.pa_record.specs.declared.entry.Answer.TheVariants.{Done}
 use Rattle.pa_record.specs.declared.report.Tally.{Tally}
-use Rattle.pa_record.proofs.Members.{not_in_none, first_in, later_in}
+use Rattle.pa_lists.proofs.Members.{not_in_none, first_in, later_in}
 use Rattle.pa_rules.specs.Caches.{gives}
 use Rattle.pa_deeds.specs.Deeds.{grown}
 use Rattle.pa_deeds.specs.Ops.{only_in}
 use Rattle.pa_model.specs.declared.handle.Handle.{Handle}
 use Rattle.pa_model.specs.declared.table.Slot.{Slot}
 use Rattle.pa_model.specs.declared.tallies.Tallies.{Tallies}
-use Rattle.pa_model.specs.declared.player.Player.{Player}
+use Rattle.pa_model.specs.Player.{Player}
 use Rattle.pa_model.specs.Tables.{slot_at, Points}
 use Rattle.pa_model.specs.Tallies.{no_tally, tally_at}
 use Rattle.pa_model.specs.Playing.{journals, caches, numbered_at, list_place, list_at, register_at}
 use Rattle.pa_model.specs.Changes.{seen_at, list_in, bytes_at, put_front, given, spilled_if, tallied_more, tallied_less}
 use Rattle.pa_model.specs.Plays.{CanGoOn}
 use Rattle.pa_model.proofs.OneList.{caches_here, place_below}
-use Rattle.pa_model.proofs.Backs.{in_take, in_drop}
 use Rattle.pa_model.proofs.Changing.{IsRetallied, retallied_set, list_within}
 use Rattle.pa_model.proofs.Shows.{IsPlayed}
 use Rattle.pa_model.proofs.Stepping.{changed_at}
 use Rattle.pa_model.proofs.Returning.{gave_back_in, none_back, IsReturn, len_old, of_class, low, below, returned_played}
+use Rattle.pa_lists.proofs.Elements.{take_in, drop_in}
 
 -- the bytes of slots of one length
 pub bytes_alike : (slots : List Slot) (xs : List ℕ) (len : ℕ) → ((j : ℕ) → Contains xs j → (slot_at slots j).title.len ≡ len) → bytes_at slots xs ≡ len * length xs
@@ -200,8 +200,8 @@ module _ (region partitions threads : ℕ) (ls : List Line) (p : Player) (thread
       })
       (rw over (sym (take-map (numbered_at table) half whole) ∙ ap (λ zs. take half (map (numbered_at table) zs)) whole_is))
       (rw over (sym (drop-map (numbered_at table) half whole) ∙ ap (λ zs. drop half (map (numbered_at table) zs)) whole_is))
-      (λ j among. subst (λ z. Contains z j) whole_is (in_take half whole j among))
-      (λ j among. subst (λ z. Contains z j) whole_is (in_drop half whole j among))
+      (λ j among. subst (λ z. Contains z j) whole_is (take_in half whole j among))
+      (λ j among. subst (λ z. Contains z j) whole_is (drop_in half whole j among))
       (most_half long).1 length_stays (set-set p.caches at (i ∷ old) (take half whole))
       over_tallies
       (length-set _ home _ ∙ length-set p.cached.of home _ ∙ can.playing.shaped.cached) (length-set p.told.journals home _) (length-set p.heap.roots home _)
@@ -212,7 +212,7 @@ module _ (region partitions threads : ℕ) (ls : List Line) (p : Player) (thread
           let len : (slot_at table i).title.len ≡ slot_of class = class_of_it.1 in
           let bytes : bytes_at table (drop half whole) ≡ slot_of class * length (drop half whole) =
           bytes_alike table (drop half whole) (slot_of class) (λ j among. len_old region partitions threads ls p thread op can reg i small points y registers lives waits r class is_class j
-          (subst (λ z. Contains z j) whole_is (in_drop half whole j among))) in
+          (subst (λ z. Contains z j) whole_is (drop_in half whole j among))) in
           let left : length (map (numbered_at table) (take half whole)) ≡ length (take half whole) = length-map (take half whole) (numbered_at table) in
           let T : ℕ → ℕ → ℕ → Type 0 = λ was_bytes b l. IsRetallied home (length (caches p thread home class)) (length (map (numbered_at table) (take half whole))) was_bytes
           (slot_of class * length (map (numbered_at table) (take half whole))) p.cached.of (tallied_less home (length (drop half whole)) b (tallied_more home 1 l p.cached.of)) in

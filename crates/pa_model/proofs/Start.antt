@@ -12,7 +12,7 @@ use Rattle.pa_record.specs.declared.report.Tally.{Tally}
 use Rattle.pa_record.specs.declared.root.RootEntry.{RootEntry}
 use Rattle.pa_record.specs.Root.{Root, new_root, root_replayed}
 use Rattle.pa_record.specs.Sound.{IsBornBelow}
-use Rattle.pa_record.proofs.Members.{not_in_none}
+use Rattle.pa_lists.proofs.Members.{not_in_none}
 use Rattle.pa_rules.specs.Caches.{Caches, no_caches}
 use Rattle.pa_rules.specs.Report.{cached_slots, cached_bytes, phases_of}
 use Rattle.pa_legal.specs.Numbers.{moves_of}
@@ -23,7 +23,7 @@ use Rattle.pa_deeds.proofs.Filing.{starts_empty, same_is_placed}
 use Rattle.pa_turns.specs.Shown.{IsLike}
 use Rattle.pa_turns.specs.Laws.{nothing_shown}
 use Rattle.pa_turns.proofs.Starting.{starts_told, like_is_told}
-use Rattle.pa_model.specs.declared.player.Player.{Player}
+use Rattle.pa_model.specs.Player.{Player}
 use Rattle.pa_model.specs.Begun.{IsBegun}
 use Rattle.pa_model.specs.Tables.{held_of, IsIn, handle_in}
 use Rattle.pa_model.specs.Tallies.{tally_at, no_tally}

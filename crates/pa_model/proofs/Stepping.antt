@@ -14,7 +14,7 @@ use Rattle.pa_trace.specs.declared.script.Line.TheVariants.{Do}
 use Rattle.pa_record.specs.declared.entry.Answer.{Answer}
 use Rattle.pa_record.specs.declared.numbered.Numbered.{Numbered}
 use Rattle.pa_record.specs.Spans.{name_of}
-use Rattle.pa_record.proofs.Members.{first_in, later_in}
+use Rattle.pa_lists.proofs.Members.{first_in, later_in}
 use Rattle.pa_rules.specs.Played.{mark_at, mark_of}
 use Rattle.pa_deeds.specs.Ops.{KeepsLists}
 use Rattle.pa_deeds.proofs.Acting.{nothing_moves}
@@ -25,7 +25,7 @@ use Rattle.pa_turns.proofs.Marking.{some_mark}
 use Rattle.pa_turns.proofs.Words.{handle_lets}
 use Rattle.pa_model.specs.declared.handle.Handle.{Handle}
 use Rattle.pa_model.specs.declared.table.Slot.{Slot}
-use Rattle.pa_model.specs.declared.player.Player.{Player}
+use Rattle.pa_model.specs.Player.{Player}
 use Rattle.pa_model.specs.declared.tallies.Tallies.{Tallies}
 use Rattle.pa_model.specs.Tables.{no_slot, slot_at, named_at, IsIn, Points}
 use Rattle.pa_model.specs.Playing.{shown, journals, caches, numbered_at, list_at, list_place, root_of, reg_of, register_at, cell_at, IsMappedAs, AreShaped, IsPlaying}

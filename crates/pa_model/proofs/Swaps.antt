@@ -17,7 +17,7 @@ use Rattle.pa_turns.proofs.Swapping.{swap_goes_on}
 use Rattle.pa_model.specs.declared.handle.Handle.{Handle}
 use Rattle.pa_model.specs.declared.handle.Handle.TheVariants.{Empty, Own, Ref, Freed, Cleared}
 use Rattle.pa_model.specs.declared.table.Slot.{Slot}
-use Rattle.pa_model.specs.declared.player.Player.{Player}
+use Rattle.pa_model.specs.Player.{Player}
 use Rattle.pa_model.specs.Tables.{held_of as told_of, handle_in, IsIn}
 use Rattle.pa_model.specs.Told.{history_in}
 use Rattle.pa_model.specs.Playing.{shown, journals, caches, reg_of, register_at, cell_at, AreShaped, IsPlaying}

@@ -9,7 +9,7 @@ use Rattle.pa_trace.specs.declared.script.Op.{Op}
 use Rattle.pa_trace.specs.Limits.{IsLineWithin, IsWithinLimits}
 use Rattle.pa_trace.specs.declared.script.Trace.{Trace}
 use Rattle.pa_record.specs.declared.entry.Answer.{Answer}
-use Rattle.pa_model.specs.declared.player.Player.{Player}
+use Rattle.pa_model.specs.Player.{Player}
 use Rattle.pa_model.specs.Playing.{IsPlaying}
 use Rattle.pa_model.specs.Plays.{CanGoOn, IsReady, GoesTo, Plays}
 

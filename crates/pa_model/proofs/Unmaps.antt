@@ -4,9 +4,7 @@ use Rattle.std.specs.Prelude.{Contains}
 use Rattle.std.proofs.lemmas.Bool.{cases_eq}
 use Rattle.std.proofs.lemmas.List.{get_or-set_same}
 use Rattle.pa_machine.specs.declared.title.Title.{Title}
-use Rattle.pa_machine.specs.declared.word.SlotName.{SlotName}
 use Rattle.pa_machine.specs.Count.{number_of, held_of, refs_of}
-use Rattle.pa_machine.proofs.Runs.{same_slot_cases, same_slot_yes, same_slot_no}
 use Rattle.pa_layout.specs.Pages.{super_page_at, supers_for}
 use Rattle.pa_trace.specs.declared.script.Op.{Op}
 use Rattle.pa_trace.specs.declared.script.Line.{Line}
@@ -18,20 +16,20 @@ use Rattle.pa_record.specs.declared.root.RootAct.{RootAct}
 use Rattle.pa_record.specs.RunText.{NamesSlots}
 use Rattle.pa_record.specs.Pool.{PoolState, gave}
 use Rattle.pa_record.specs.Spans.{name_of}
-use Rattle.pa_record.specs.Root.{Root, unmapped, without_map}
-use Rattle.pa_record.proofs.Members.{not_in_none, first_in, later_in, in_cases}
+use Rattle.pa_record.specs.Root.{Root, unmapped}
+use Rattle.pa_lists.proofs.Members.{not_in_none, in_cases}
 use Rattle.pa_record.proofs.Mapping.{unmapped_born}
 use Rattle.pa_rules.specs.Caches.{unmap_at}
 use Rattle.pa_rules.specs.Holders.{Back, Move, move_of, moves_by}
 use Rattle.pa_deeds.specs.Deeds.{grown, root_at}
 use Rattle.pa_deeds.specs.Ops.{only_in, IsCalled, unmap_made}
-use Rattle.pa_deeds.proofs.Single.{only_member, entries_are}
+use Rattle.pa_deeds.proofs.Single.{entries_are}
 use Rattle.pa_deeds.proofs.Unmapped.{unmap_is_done}
 use Rattle.pa_turns.specs.Turns.{played_at}
 use Rattle.pa_model.specs.declared.handle.Handle.{Handle}
 use Rattle.pa_model.specs.declared.table.Slot.{Slot}
 use Rattle.pa_model.specs.declared.tallies.Tallies.{Tallies}
-use Rattle.pa_model.specs.declared.player.Player.{Player}
+use Rattle.pa_model.specs.Player.{Player}
 use Rattle.pa_model.specs.Tables.{no_slot, slot_at, named_at, Points}
 use Rattle.pa_model.specs.Playing.{journals, caches, root_of, register_at, IsMappedAs, AreAllSlots, AreShaped, IsPlaying}
 use Rattle.pa_model.specs.Changes.{seen_at, unmapped_at}
@@ -45,20 +43,8 @@ use Rattle.pa_model.proofs.Shows.{TellsMore, HasHeap, IsPlayed}
 use Rattle.pa_model.proofs.Quiet.{cache_same}
 use Rattle.pa_model.proofs.Stepping.{changed_at, lists_kept}
 use Rattle.pa_model.proofs.Returning.{IsReturn, inside, used, low, returns, stepped_slots, marked}
-
--- another direct map stays
-map_stays : (name : SlotName) (ts : List Title) (u : Title) → Contains ts u → (name_of u ≡ name → ⊥) → Contains (without_map name ts) u
-map_stays name [] u among other = absurd (not_in_none u among)
-map_stays name (t ∷ ts) u among other = elim (same_slot_cases (name_of t) name) [
-  | inl e ↦ rw (same_slot_yes (name_of t) name e) (elim (in_cases t u ts among) [
-    | inl is ↦ absurd (other (ap name_of (sym is) ∙ e))
-    | inr rest ↦ rest
-  ])
-  | inr ne ↦ rw (same_slot_no (name_of t) name ne) (elim (in_cases t u ts among) [
-    | inl is ↦ subst (λ z. Contains (t ∷ without_map name ts) z) is (first_in t (without_map name ts))
-    | inr rest ↦ later_in t u (without_map name ts) (map_stays name ts u rest other)
-  ])
-]
+use Rattle.pa_lists.proofs.Elements.{in_one}
+use Rattle.pa_record.proofs.Leaving.{kept_map}
 
 module _ (region partitions threads : ℕ) (ls : List Line) (p : Player) (thread : ℕ) (op : Op) (can : CanGoOn region partitions threads ls (Do thread op) p)
     (reg i : ℕ) (small : reg < 64) (points : Points (register_at p thread reg) i) (y : Slot) (registers : List (List Handle)) (lives waits : Tallies)
@@ -159,7 +145,7 @@ module _ (region partitions threads : ℕ) (ls : List Line) (p : Player) (thread
         ∙ ap (λ a. grown (journals p) n (only_in home (a ∷ [])) k) act_then;
     histories = λ k. omega arith;
     few = of_only (λ bs. length bs ≤ 512) home (act ∷ []) (omega arith) (omega arith);
-    printable = of_only (λ bs. (a : RootAct) → Contains bs a → NamesSlots a) home (act ∷ []) (λ a among. subst NamesSlots (only_member act a among) tt) (λ a among. absurd (not_in_none a among));
+    printable = of_only (λ bs. (a : RootAct) → Contains bs a → NamesSlots a) home (act ∷ []) (λ a among. subst NamesSlots (in_one act a among) tt) (λ a among. absurd (not_in_none a among));
   }
 
   heap_then : HasHeap region p final n (unmap_made n home title ∷ []) (only_in home (act ∷ []))
@@ -185,14 +171,14 @@ module _ (region partitions threads : ℕ) (ls : List Line) (p : Player) (thread
         | inl e ↦
             let other : named_at table j ≡ named_at p.table i → ⊥ = λ same. apart (known.apart j i there (omega (arith, length-set p.table i y, inside_it)) (same ∙ sym (ap name_of title_then))) in
             let before : Contains (root_of p home).maps (slot_at table j).title = subst (λ k. Contains (root_of p k).maps (slot_at table j).title) e (m some) in
-            let after = map_stays (named_at p.table i) (root_of p home).maps (slot_at table j).title before other in
+            let after = kept_map (named_at p.table i) (root_of p home).maps (slot_at table j).title before other in
             subst (λ k. Contains (root_of final k).maps (slot_at table j).title) (sym e) (subst (λ (s : Root). Contains s.maps (slot_at table j).title) (sym root_then) after)
         | inr ne ↦ subst (λ (s : Root). Contains s.maps (slot_at table j).title) (sym (roots_there (slot_at table j).partition ne)) (m some)
       ]
 
   comes_back : AllComeBack table (act ∷ [])
   comes_back a among line m moves =
-      let is : act ≡ a = only_member act a among in
+      let is : act ≡ a = in_one act a among in
       elim (in_cases (move_of line Back (record { slot = named_at p.table i; number = number_of (slot_at p.table i).word.0 + 1 })) m [] (subst (λ z. Contains (moves_by line z) m) (sym is) moves)) [
         | inl e ↦ (
           sym (ap (λ (z : Move). z.way) e),

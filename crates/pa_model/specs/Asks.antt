@@ -4,13 +4,16 @@ use Rattle.std.specs.Prelude.{Option, Some, None, All, Contains}
 use Rattle.pa_machine.specs.Count.{CanStep, refs_of}
 use Rattle.pa_machine.specs.Run.{IsReturning}
 use Rattle.pa_machine.specs.declared.word.Step.TheVariants as steps
+use Rattle.pa_layout.specs.Limits.{most_supers}
 use Rattle.pa_layout.specs.Pages.{super_page_at, supers_for}
+use Rattle.pa_buckets.specs.Limits.{class_count}
 use Rattle.pa_buckets.specs.Bands.{limit_of}
 use Rattle.pa_record.specs.declared.taken.Taken.{Taken}
 use Rattle.pa_record.specs.Pool.{IsOneTake}
 use Rattle.pa_record.specs.Sound.{IsSound, IsBornBelow}
+use Rattle.pa_trace.specs.Limits.{register_count, cell_count, most_partitions, most_threads}
 use Rattle.pa_deeds.specs.Ops.{AreOut}
-use Rattle.pa_model.specs.declared.player.Player.{Player}
+use Rattle.pa_model.specs.Player.{Player}
 use Rattle.pa_model.specs.Playing.{numbered_at, list_place, root_of, register_at, cell_at}
 use Rattle.pa_model.specs.Tallies.{tally_at}
 use Rattle.pa_model.specs.Tables.{slot_at, HasNone, IsIn}
@@ -21,7 +24,7 @@ use Rattle.pa_model.specs.Changes.{list_in, bytes_at, put_front, reset_last, fre
 pub record CanGive (q : ℕ) (xs : List ℕ) (p : Player) : Type 0 where
   pub root : q < length p.heap.roots
   pub journal : q < length p.told.journals
-  pub four : q < 4
+  pub four : q < most_partitions
   pub among : All (λ i. i < length p.table) xs
   pub sound : IsSound (root_of p q)
   pub out : AreOut (root_of p q) (map (numbered_at p.table) xs)
@@ -34,7 +37,7 @@ pub record CanGive (q : ℕ) (xs : List ℕ) (p : Player) : Type 0 where
 pub record CanPlace (q : ℕ) (p : Player) : Type 0 where
   pub root : q < length p.heap.roots
   pub journal : q < length p.told.journals
-  pub four : q < 4
+  pub four : q < most_partitions
   pub turn : (root_of p q).turn < 2 ^ 62
   pub entries : p.heap.pool.entries < 2 ^ 31
   pub born : IsBornBelow p.heap.pool.entries (root_of p q)
@@ -45,8 +48,8 @@ pub record CanPlace (q : ℕ) (p : Player) : Type 0 where
 
 -- A slot of the class can go to the front of its list, and as many as don't stay to the root.
 pub record CanPutBack (thread i q class : ℕ) (p : Player) : Type 0 where
-  pub threads : thread < 16
-  pub four : p.partitions ≤ 4
+  pub threads : thread < most_threads
+  pub four : p.partitions ≤ most_partitions
   pub among : q < p.partitions
   pub at : list_place p.partitions thread q class < length p.caches
   pub short : length (list_in p (list_place p.partitions thread q class)) ≤ limit_of class
@@ -71,7 +74,7 @@ CanTakeBack thread i q None p = CanUnmap i q p
 
 -- Up to 16 slots that left the root of partition q can be put into a list that is empty.
 pub record CanPut (q : ℕ) (p : Player) : Type 0 where
-  pub four : q < 4
+  pub four : q < most_partitions
   pub table : length p.table < 2 ^ 31
   pub slots : (tally_at p.cached.of q).slots < 2 ^ 31
   pub bytes : (tally_at p.cached.of q).bytes < 2 ^ 62
@@ -83,36 +86,36 @@ places_from thread q class (suc n) p = list_in p (list_place p.partitions thread
 
 -- All that a thread's lists of one partition have can go back, which is at most 65 slots of each class.
 pub record CanPurgeOne (thread q : ℕ) (p : Player) : Type 0 where
-  pub threads : thread < 16
-  pub four : p.partitions ≤ 4
+  pub threads : thread < most_threads
+  pub four : p.partitions ≤ most_partitions
   pub among : q < p.partitions
-  pub lists : (class : ℕ) → class < 59 → list_place p.partitions thread q class < length p.caches
-  pub gives : CanGive q (places_from thread q 0 59 p) p
+  pub lists : (class : ℕ) → class < class_count → list_place p.partitions thread q class < length p.caches
+  pub gives : CanGive q (places_from thread q 0 class_count p) p
 
 -- ---- each op
 
 -- The free slot in a place can be issued to a register.
 pub record CanIssue (thread reg i : ℕ) (p : Player) : Type 0 where
   pub threads : thread < length p.registers
-  pub regs : reg < 64
+  pub regs : reg < register_count
   pub place : i < length p.table
   pub step : CanStep steps.Issue (slot_at p.table i).word.0
   pub long : 8 ≤ (slot_at p.table i).title.len
-  pub four : (slot_at p.table i).partition < 4
+  pub four : (slot_at p.table i).partition < most_partitions
   pub slots : (tally_at p.live.of (slot_at p.table i).partition).slots < 2 ^ 31
   pub bytes : (tally_at p.live.of (slot_at p.table i).partition).bytes < 2 ^ 62
 
 -- So can the front of a list, which leaves the cache.
 pub record CanIssueFront (thread reg q at : ℕ) (p : Player) : Type 0 where
-  pub four : q < 4
+  pub four : q < most_partitions
   pub issue : (i : ℕ) (rest : List ℕ) → list_in p at ≡ i ∷ rest → CanIssue thread reg i p
   pub slots : (i : ℕ) (rest : List ℕ) → list_in p at ≡ i ∷ rest → 1 ≤ (tally_at p.cached.of q).slots
   pub bytes : (i : ℕ) (rest : List ℕ) → list_in p at ≡ i ∷ rest → (slot_at p.table i).title.len ≤ (tally_at p.cached.of q).bytes
 
 -- An allocation of a slot of a class, and of a direct map, in partition q.
 pub record CanAllocateSlot (thread reg q class : ℕ) (p : Player) : Type 0 where
-  pub threads : thread < 16
-  pub four : p.partitions ≤ 4
+  pub threads : thread < most_threads
+  pub four : p.partitions ≤ most_partitions
   pub among : q < p.partitions
   pub at : list_place p.partitions thread q class < length p.caches
   pub place : CanPlace q p
@@ -125,24 +128,24 @@ pub record CanAllocateMap (thread reg q len supers : ℕ) (p : Player) : Type 0 
   pub whole : len % 4096 ≡ 0
   pub some : 0 < len
   pub count : supers ≡ supers_for len
-  pub few : supers ≤ 16
+  pub few : supers ≤ most_supers
   pub place : CanPlace q p
   pub issue : (r : Player) (i : ℕ) → IsMapPlaced q len supers p r i → CanIssue thread reg i r
 
 -- A copy of a handle of the slot in a place, to a register that has none.
 pub record CanCopy (thread to i : ℕ) (p : Player) : Type 0 where
   pub threads : thread < length p.registers
-  pub regs : to < 64
+  pub regs : to < register_count
   pub place : i < length p.table
   pub step : HasNone (register_at p thread to) → CanStep steps.Copy (slot_at p.table i).word.0
 
 -- A reset of a `raw_ptr` to the slot in a place; a free of it by its owner; a write.
 pub record CanReset (thread reg i : ℕ) (p : Player) : Type 0 where
   pub threads : thread < length p.registers
-  pub regs : reg < 64
+  pub regs : reg < register_count
   pub place : i < length p.table
   pub step : CanStep steps.Reset (slot_at p.table i).word.0
-  pub four : (slot_at p.table i).partition < 4
+  pub four : (slot_at p.table i).partition < most_partitions
   pub slots : IsReturning steps.Reset (slot_at p.table i).word.0 → 1 ≤ (tally_at p.quarantined.of (slot_at p.table i).partition).slots
   pub bytes : IsReturning steps.Reset (slot_at p.table i).word.0
       → (slot_at p.table i).title.len ≤ (tally_at p.quarantined.of (slot_at p.table i).partition).bytes
@@ -151,10 +154,10 @@ pub record CanReset (thread reg i : ℕ) (p : Player) : Type 0 where
 
 pub record CanFree (thread reg i : ℕ) (p : Player) : Type 0 where
   pub threads : thread < length p.registers
-  pub regs : reg < 64
+  pub regs : reg < register_count
   pub place : i < length p.table
   pub step : CanStep steps.Free (slot_at p.table i).word.0
-  pub four : (slot_at p.table i).partition < 4
+  pub four : (slot_at p.table i).partition < most_partitions
   pub slots : 1 ≤ (tally_at p.live.of (slot_at p.table i).partition).slots
   pub bytes : (slot_at p.table i).title.len ≤ (tally_at p.live.of (slot_at p.table i).partition).bytes
   pub few : (tally_at p.quarantined.of (slot_at p.table i).partition).slots < 2 ^ 31
@@ -174,8 +177,8 @@ pub record CanRead (i : ℕ) (p : Player) : Type 0 where
 -- An exchange with a cell.
 pub record CanSwap (thread cell reg : ℕ) (p : Player) : Type 0 where
   pub threads : thread < length p.registers
-  pub regs : reg < 64
-  pub cells : cell < 64
+  pub regs : reg < register_count
+  pub cells : cell < cell_count
   pub held : IsIn (length p.table) (register_at p thread reg)
   pub celled : IsIn (length p.table) (cell_at p cell)
   pub history : cell < length p.told.histories
@@ -183,12 +186,12 @@ pub record CanSwap (thread cell reg : ℕ) (p : Player) : Type 0 where
 
 -- A purge: all in turn, in each partition.
 pub record CanPurge (thread : ℕ) (p : Player) : Type 0 where
-  pub four : p.partitions ≤ 4
+  pub four : p.partitions ≤ most_partitions
   pub each : (q : ℕ) → q < p.partitions → CanPurgeOne thread q p
 
 -- The end of a phase: its lines of the report.
 pub record CanEnd (p : Player) : Type 0 where
-  pub four : p.partitions ≤ 4
+  pub four : p.partitions ≤ most_partitions
   pub roots : length p.heap.roots ≡ p.partitions
   pub phase : p.phase < 2 ^ 31
   pub line : p.told.line ≤ 65537

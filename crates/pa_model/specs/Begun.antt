@@ -1,10 +1,12 @@
 -- A player before the first line.
 use Rattle.std.specs.Prelude.{◌≡◌, ℕ, ◌*◌, ◌<◌, List, [], length, slice_index_or}
+use Rattle.pa_buckets.specs.Limits.{class_count}
 use Rattle.pa_record.specs.Pool.{new_pool}
 use Rattle.pa_record.specs.Root.{Root, new_root}
+use Rattle.pa_trace.specs.Limits.{register_count, cell_count}
 use Rattle.pa_model.specs.declared.handle.Handle.{Handle}
 use Rattle.pa_model.specs.declared.handle.Handle.TheVariants.{Empty}
-use Rattle.pa_model.specs.declared.player.Player.{Player}
+use Rattle.pa_model.specs.Player.{Player}
 use Rattle.pa_model.specs.Playing.{cell_at}
 use Rattle.pa_model.specs.Tallies.{IsNone}
 use Rattle.pa_model.specs.Told.{Lists}
@@ -17,7 +19,7 @@ pub record AreEmpty {X : Type 0} (n : ℕ) (xs : List (List X)) : Type 0 where
 -- the registers of so many threads, 64 each, are empty
 pub record AreClear (threads : ℕ) (xs : List (List Handle)) : Type 0 where
   pub count : length xs ≡ threads
-  pub sixty_four : (t : ℕ) → t < threads → length (slice_index_or xs t []) ≡ 64
+  pub sixty_four : (t : ℕ) → t < threads → length (slice_index_or xs t []) ≡ register_count
   pub clear : (t r : ℕ) → slice_index_or (slice_index_or xs t []) r Empty ≡ Empty
 
 -- so many roots without a span
@@ -30,7 +32,7 @@ pub record IsUntold (partitions : ℕ) (t : Lists) : Type 0 where
   pub entries : t.entries ≡ []
   pub journals : AreEmpty partitions t.journals
   pub pools : t.pools ≡ []
-  pub histories : AreEmpty 64 t.histories
+  pub histories : AreEmpty cell_count t.histories
   pub report : t.report ≡ []
   pub line : t.line ≡ 2
 
@@ -40,9 +42,9 @@ pub record IsBegun (region partitions threads : ℕ) (p : Player) : Type 0 where
   pub roots : AreNew partitions p.heap.roots
   pub table : p.table ≡ []
   pub registers : AreClear threads p.registers
-  pub cells : length p.cells ≡ 64
+  pub cells : length p.cells ≡ cell_count
   pub cell : (k : ℕ) → cell_at p k ≡ Empty
-  pub caches : AreEmpty (threads * partitions * 59) p.caches
+  pub caches : AreEmpty (threads * partitions * class_count) p.caches
   pub live : IsNone p.live.of
   pub quarantined : IsNone p.quarantined.of
   pub cached : IsNone p.cached.of

@@ -1,13 +1,12 @@
--- What is kept of the records and the journals, in either form.
-use Rattle.std.specs.Prelude.{Bool, List, [], ◌∷◌, ◌++◌, ℕ, slice_index_or, slice_set}
+-- What is told of the records and the journals, whatever keeps it.
+use Rattle.std.specs.Prelude.{List, [], ◌∷◌, ◌++◌, ℕ, slice_index_or, slice_set}
 use Rattle.pa_record.specs.declared.entry.Entry.{Entry}
 use Rattle.pa_record.specs.declared.root.RootEntry.{RootEntry}
 
--- the records so far, and the journals by their partitions; and whether they are kept as their texts
+-- the records so far, and the journals by their partitions
 pub record Books : Type 0 where
   pub entries : List Entry
   pub journals : List (List RootEntry)
-  pub printed : Bool
 
 -- a record more
 abbrev pub with_kept_entry : Entry → Books → Books

@@ -7,7 +7,7 @@ use Rattle.pa_record.specs.Pool.{PoolState}
 use Rattle.pa_record.specs.Root.{Root}
 use Rattle.pa_place.specs.declared.placed.Placed.{Placed}
 use Rattle.pa_place.specs.Placed.{MapDid}
-use Rattle.pa_model.specs.declared.player.Player.{Player}
+use Rattle.pa_model.specs.Player.{Player}
 use Rattle.pa_model.specs.Changes.{ArePut, acted, placed_in, asked_in}
 use Rattle.pa_model.specs.Playing.{root_of}
 

@@ -8,6 +8,7 @@ use Rattle.pa_machine.specs.Count.{number_of, stepped, refs_of, held_of}
 use Rattle.pa_machine.specs.Run.{IsReturning}
 use Rattle.pa_machine.specs.Titles.{poison}
 use Rattle.pa_layout.specs.Pages.{super_page_at, supers_for}
+use Rattle.pa_buckets.specs.Limits.{class_count}
 use Rattle.pa_buckets.specs.Bands.{limit_of, fill_of}
 use Rattle.pa_record.specs.declared.entry.Answer.{Answer}
 use Rattle.pa_record.specs.declared.entry.Answer.TheVariants as answers
@@ -31,7 +32,7 @@ use Rattle.pa_deeds.specs.Ops.{found_by}
 use Rattle.pa_model.specs.declared.handle.Handle.{Handle}
 use Rattle.pa_model.specs.declared.handle.Handle.TheVariants.{Empty, Own, Ref, Freed, Cleared}
 use Rattle.pa_model.specs.declared.table.Slot.{Slot}
-use Rattle.pa_model.specs.declared.player.Player.{Player}
+use Rattle.pa_model.specs.Player.{Player}
 use Rattle.pa_model.specs.Tables.{slot_at, named_at, new_slot, IsHome, held_of as told_of, handle_in}
 use Rattle.pa_model.specs.Tallies.{tally_at}
 use Rattle.pa_model.specs.Told.{Lists, journal_in, with_exchange}
@@ -171,7 +172,7 @@ purged_with q p = acted q (Purge ∷ []) (with_root q (purged (root_of p q)) p)
 
 unfoldable pub purged_from : ℕ → ℕ → ℕ → Player → Player
 purged_from thread q zero p = p
-purged_from thread q (suc n) p = purged_from thread (q + 1) n (purged_with q (given_from thread q 0 59 p))
+purged_from thread q (suc n) p = purged_from thread (q + 1) n (purged_with q (given_from thread q 0 class_count p))
 
 -- The slots that left a root go behind the others of a list, in their order: `xs` are their numbers.
 abbrev pub ArePut : ℕ → ℕ → ℕ → List Title → Player → Player → List Numbered → Type 0

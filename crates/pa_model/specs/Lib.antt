@@ -3,9 +3,9 @@ pub mod Begun
 pub mod Books
 pub mod Calls
 pub mod Changes
-pub mod Kept
 pub mod Lists
 pub mod Played
+pub mod Player
 pub mod Playing
 pub mod Plays
 pub mod Tables

@@ -4,6 +4,7 @@ use Rattle.std.specs.Prelude.{slice_index_or, Option, Some, None, All, Contains}
 use Rattle.pa_machine.specs.declared.word.SlotName.{SlotName}
 use Rattle.pa_machine.specs.Count.{number_of, held_of, refs_of}
 use Rattle.pa_machine.specs.Run.{same_slot, Slots}
+use Rattle.pa_buckets.specs.Limits.{class_count}
 use Rattle.pa_buckets.specs.Table.{slot_of}
 use Rattle.pa_buckets.specs.Bands.{limit_of}
 use Rattle.pa_trace.specs.declared.script.Line.{Line}
@@ -17,9 +18,10 @@ use Rattle.pa_record.specs.Root.{Root, new_root}
 use Rattle.pa_record.specs.Sound.{IsBornBelow}
 use Rattle.pa_record.specs.Census.{census}
 use Rattle.pa_record.specs.RunText.{NamesSlots}
+use Rattle.pa_trace.specs.Limits.{register_count, cell_count, most_partitions}
 use Rattle.pa_rules.specs.declared.played.Played.{Played}
-use Rattle.pa_rules.specs.declared.register.Reg.{Reg}
-use Rattle.pa_rules.specs.declared.register.Reg.TheVariants as regs
+use Rattle.pa_rules.specs.Registers.{Reg}
+use Rattle.pa_rules.specs.declared.register.Register.TheVariants as regs
 use Rattle.pa_rules.specs.Played.{entry_of, marks_of}
 use Rattle.pa_rules.specs.Roots.{Journals, journal_at}
 use Rattle.pa_rules.specs.Caches.{Caches, IsOfClass}
@@ -35,7 +37,7 @@ use Rattle.pa_turns.specs.Known.{IsToldTo}
 use Rattle.pa_model.specs.declared.handle.Handle.{Handle}
 use Rattle.pa_model.specs.declared.handle.Handle.TheVariants.{Empty, Own, Ref, Freed, Cleared}
 use Rattle.pa_model.specs.declared.table.Slot.{Slot}
-use Rattle.pa_model.specs.declared.player.Player.{Player}
+use Rattle.pa_model.specs.Player.{Player}
 use Rattle.pa_model.specs.Tallies.{tally_at}
 use Rattle.pa_model.specs.Tables.{no_slot, slot_at, named_at, held_of as told_of, IsIn, AreNamed, NoneNamed, handle_in}
 use Rattle.pa_record.specs.Spans.{name_of}
@@ -98,13 +100,13 @@ numbered_at slots i = record { slot = named_at slots i; number = number_of (slot
 
 -- where the list of a thread stands, by its partition and class
 abbrev pub list_place : ℕ → ℕ → ℕ → ℕ → ℕ
-list_place partitions t q class = (t * partitions + q) * 59 + class
+list_place partitions t q class = (t * partitions + q) * class_count + class
 
 abbrev pub list_at : Player → ℕ → ℕ → ℕ → List ℕ
 list_at p t q class = slice_index_or p.caches (list_place p.partitions t q class) []
 
 abbrev pub caches : Player → Caches
-caches p t q class = if nat_lt q p.partitions && nat_lt class 59 then map (numbered_at p.table) (list_at p t q class) else []
+caches p t q class = if nat_lt q p.partitions && nat_lt class class_count then map (numbered_at p.table) (list_at p t q class) else []
 
 abbrev pub root_of : Player → ℕ → Root
 root_of p q = slice_index_or p.heap.roots q new_root
@@ -113,7 +115,7 @@ root_of p q = slice_index_or p.heap.roots q new_root
 
 -- A slot of the table is one that a journal let out, of its partition, with its class or as a direct map, and of its length.
 abbrev pub IsLetOut : Journals → Slot → Option ℕ → Type 0
-IsLetOut roots x (Some class) = (class < 59) × IsOfClass roots (name_of x.title) x.partition class × (x.title.len ≡ slot_of class)
+IsLetOut roots x (Some class) = (class < class_count) × IsOfClass roots (name_of x.title) x.partition class × (x.title.len ≡ slot_of class)
 IsLetOut roots x None = (e : RootEntry) × (asked : ℕ) × Contains (roots x.partition) e × (e.act ≡ Map asked (name_of x.title) x.title.len)
 
 -- A direct map that is in use is mapped.
@@ -141,23 +143,23 @@ pub record AreAllSlots (partitions : ℕ) (slots : List Slot) (pools : List Pool
 -- none, and lists, which have slots of their partition and class, and no more than their limits.
 pub record AreShaped (partitions threads : ℕ) (p : Player) : Type 0 where
   pub many : p.partitions ≡ partitions
-  pub four : partitions ≤ 4
+  pub four : partitions ≤ most_partitions
   pub registers : length p.registers ≡ threads
-  pub sixty_four : (t : ℕ) → t < threads → length (slice_index_or p.registers t []) ≡ 64
-  pub cells : length p.cells ≡ 64
-  pub histories : length p.told.histories ≡ 64
+  pub sixty_four : (t : ℕ) → t < threads → length (slice_index_or p.registers t []) ≡ register_count
+  pub cells : length p.cells ≡ cell_count
+  pub histories : length p.told.histories ≡ cell_count
   pub journals : length p.told.journals ≡ partitions
   pub roots : length p.heap.roots ≡ partitions
-  pub lists : length p.caches ≡ threads * partitions * 59
+  pub lists : length p.caches ≡ threads * partitions * class_count
   pub held : (t r : ℕ) → IsIn (length p.table) (register_at p t r)
   pub celled : (k : ℕ) → IsIn (length p.table) (cell_at p k)
   pub handles : (k : ℕ) → handle_in (cell_at p k) ≡ cell_at p k
-  pub listed : (t q class i : ℕ) → t < threads → q < partitions → class < 59 → Contains (list_at p t q class) i
+  pub listed : (t q class i : ℕ) → t < threads → q < partitions → class < class_count → Contains (list_at p t q class) i
       → (i < length p.table) × ((slot_at p.table i).partition ≡ q) × ((slot_at p.table i).class ≡ Some class)
-  pub short : (t q class : ℕ) → t < threads → q < partitions → class < 59 → length (list_at p t q class) ≤ limit_of class
-  pub live : length p.live.of ≡ 4
-  pub quarantined : length p.quarantined.of ≡ 4
-  pub cached : length p.cached.of ≡ 4
+  pub short : (t q class : ℕ) → t < threads → q < partitions → class < class_count → length (list_at p t q class) ≤ limit_of class
+  pub live : length p.live.of ≡ most_partitions
+  pub quarantined : length p.quarantined.of ≡ most_partitions
+  pub cached : length p.cached.of ≡ most_partitions
 
 -- No number passes its type: each line adds at most so much.
 pub record AreBounded (line : ℕ) (p : Player) : Type 0 where

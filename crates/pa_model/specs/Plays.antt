@@ -6,7 +6,7 @@ use Rattle.pa_trace.specs.declared.script.Line.TheVariants.{Do}
 use Rattle.pa_trace.specs.Limits.{IsHeadWithin, IsLineWithin}
 use Rattle.pa_trace.specs.Unread.{Unread, IsReadUpTo}
 use Rattle.pa_record.specs.declared.entry.Answer.{Answer}
-use Rattle.pa_model.specs.declared.player.Player.{Player}
+use Rattle.pa_model.specs.Player.{Player}
 use Rattle.pa_model.specs.Playing.{IsPlaying}
 use Rattle.pa_model.specs.Changes.{answered}
 

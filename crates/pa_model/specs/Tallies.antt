@@ -1,6 +1,7 @@
 -- The tallies of the partitions.
 use Rattle.std.specs.Prelude.{◌≡◌, ℕ, ◌<◌, List, length, slice_index_or}
 use Rattle.pa_record.specs.declared.report.Tally.{Tally}
+use Rattle.pa_trace.specs.Limits.{most_partitions}
 
 -- the tally of a partition
 abbrev pub no_tally : Tally
@@ -11,5 +12,5 @@ tally_at tallies q = slice_index_or tallies q no_tally
 
 -- nothing in any of the four
 pub record IsNone (tallies : List Tally) : Type 0 where
-  pub four : length tallies ≡ 4
-  pub none : (q : ℕ) → q < 4 → tally_at tallies q ≡ no_tally
+  pub four : length tallies ≡ most_partitions
+  pub none : (q : ℕ) → q < most_partitions → tally_at tallies q ≡ no_tally

@@ -1,5 +1,5 @@
 -- What the run tells so far.
-use Rattle.std.specs.Prelude.{◌≡◌, ℕ, Bool, List, [], ◌∷◌, ◌++◌, slice_index_or, slice_set}
+use Rattle.std.specs.Prelude.{ℕ, List, [], ◌∷◌, ◌++◌, slice_index_or, slice_set}
 use Rattle.pa_record.specs.declared.entry.Entry.{Entry}
 use Rattle.pa_record.specs.declared.history.CellEntry.{CellEntry}
 use Rattle.pa_record.specs.declared.pool.PoolEntry.{PoolEntry}
@@ -9,7 +9,7 @@ use Rattle.pa_record.specs.declared.run.Run.{Run}
 use Rattle.pa_printed.specs.Whole.{HasLists, IsTextOfLists}
 
 -- The records, the journals by their partitions, the entries of the pool, the histories by their cells, the lines of the
--- report; the number of the line that is played; and whether the records and the journals are kept as their texts.
+-- report; and the number of the line that is played.
 pub record Lists : Type 0 where
   pub entries : List Entry
   pub journals : List (List RootEntry)
@@ -17,7 +17,6 @@ pub record Lists : Type 0 where
   pub histories : List (List CellEntry)
   pub report : List ReportLine
   pub line : ℕ
-  pub printed : Bool
 
 abbrev pub journal_in : Lists → ℕ → List RootEntry
 journal_in t q = slice_index_or t.journals q []
@@ -31,10 +30,6 @@ with_act q e t = record t { journals = slice_set t.journals q (journal_in t q ++
 
 abbrev pub with_exchange : ℕ → CellEntry → Lists → Lists
 with_exchange k e t = record t { histories = slice_set t.histories k (history_in t k ++ e ∷ []) }
-
--- the records and the journals are kept in the form in which they were
-abbrev pub KeepsForm : Lists → Lists → Type 0
-KeepsForm before after = after.printed ≡ before.printed
 
 -- the run tells these lists
 abbrev pub IsToldRun : Lists → Run → Type 0

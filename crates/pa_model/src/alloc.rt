@@ -1,4 +1,5 @@
 ghost use Rattle.std.specs.Prelude.{◌≡◌, ◌≢◌, ◌%◌, ◌<◌, ◌≤◌, ◌^◌, [], IfNone, IfOk, OnOk, length};
+ghost use Rattle.pa_layout.specs.Limits.{most_supers};
 ghost use Rattle.pa_trace.specs.declared.script.Op.TheVariants as ops;
 ghost use Rattle.pa_trace.specs.declared.script.Line.TheVariants.{Do};
 ghost use Rattle.pa_deeds.specs.Ops.{found_by};
@@ -10,23 +11,25 @@ ghost use Rattle.pa_model.specs.Changes.{issued, list_in, made_at};
 ghost use Rattle.pa_model.specs.Playing.{list_place, register_at};
 ghost use Rattle.pa_model.specs.Plays.{IsReady, Plays};
 ghost use Rattle.pa_model.specs.Tables.{HasNone};
-ghost use Rattle.pa_model.specs.Told.{KeepsForm, journal_in};
+ghost use Rattle.pa_model.specs.Told.{journal_in};
 
 use crate::handle::Handle;
+use crate::output::Output;
 use crate::player::Player;
 use crate::table::{fits, name_of};
+use crate::told::Told;
 use arrayvec::ArrayVec;
 use pa_buckets::{Class, class_of, fill_count, raw_of};
 use pa_direct::{GREATEST_SIZE, Shape, shape};
 use pa_layout::super_page_of;
 use pa_machine::{OutOfMemory, Step, Title};
 use pa_place::Placed;
-use pa_record::{Answer, Batch, PoolAct, RootAct, RootEntry};
+use pa_record::{Act, Answer, Batch, LentSlots, PoolAct};
 
 // The bytes of a count word.
 pub(crate) const COUNT_WORD: u32 = 8;
 
-impl Player {
+impl<O: Output> Player<Told<O>> {
     // An allocation into a register, which must have no handle.
     pub(crate) fn allocate(
         &mut self,
@@ -36,8 +39,7 @@ impl Player {
         size: u32,
     ) -> Result<Answer, OutOfMemory>
         requires { IsReady (Do thread (ops.Alloc reg partition size)) self.old }
-        ensures plays { IfOk result (Plays self.old thread (ops.Alloc reg partition size) self.new) }
-        ensures form { OnOk result (KeepsForm self.old.told self.new.told) }
+        ensures { IfOk result (Plays self.old thread (ops.Alloc reg partition size) self.new) }
     {
         match self.register(thread, reg) {
             Handle::Own(_) => Ok(Answer::Filled),
@@ -58,8 +60,7 @@ impl Player {
     ) -> Result<Answer, OutOfMemory>
         requires ready { IsReady (Do thread (ops.Alloc reg partition size)) self.old }
         requires none { HasNone (register_at self.old thread reg) }
-        ensures plays { IfOk result (Plays self.old thread (ops.Alloc reg partition size) self.new) }
-        ensures form { OnOk result (KeepsForm self.old.told self.new.told) }
+        ensures { IfOk result (Plays self.old thread (ops.Alloc reg partition size) self.new) }
     {
         if size > GREATEST_SIZE {
             return Ok(Answer::TooLarge);
@@ -170,18 +171,10 @@ impl Player {
         ensures at_list { OnOk result (at < length self.new.caches) }
         ensures many { OnOk result (length (list_in self.new at) ≡ length titles.now) }
     {
-        let mut entry = RootEntry {
-            line: self.told.line(),
-            act: RootAct::Fill {
-                class,
-                pool,
-                slots: Batch::new(),
-            },
-        };
-        if let RootAct::Fill { slots, .. } = &mut entry.act {
-            self.put_all(at, partition, class, titles, slots)?;
-        }
-        self.told.root(partition, &entry)?;
+        let mut batch = Batch::new();
+        self.put_all(at, partition, class, titles, &mut batch)?;
+        let slots = LentSlots::of(batch.items());
+        self.told.root(partition, Act::Fill { class, pool, slots })?;
         Ok(())
     }
 
@@ -246,7 +239,6 @@ impl Player {
         ensures { IfOk result (AllocatesMap thread reg partition shape.slot shape.supers self.old self.new) }
     {
         let placed = self.take_map(partition, shape)?;
-        let line = self.told.line();
         let pool = placed.pool.unwrap();
         let Some(title) = placed.titles.as_slice().first() else {
             let entry = self.told.refused(partition, None, pool)?;
@@ -254,8 +246,7 @@ impl Player {
         };
         let slot = name_of(*title);
         let len = title.len;
-        let act = RootAct::Map { pool, slot, len };
-        self.told.root(partition, &RootEntry { line, act })?;
+        self.told.root(partition, Act::Map { pool, slot, len })?;
         let place = self.table.home(*title, partition, None)?;
         Ok(self.issue(thread, reg, place))
     }
@@ -266,7 +257,7 @@ impl Player {
         requires whole { shape.slot % 4096 ≡ 0 }
         requires some { 0 < shape.slot }
         requires supers { shape.supers ≡ supers_for shape.slot }
-        requires few { shape.supers ≤ 16 }
+        requires few { shape.supers ≤ most_supers }
         requires place { CanPlace partition self.old }
         ensures { IfOk result (IsMapTaken partition shape.slot shape.supers self.old self.new) }
     {

@@ -6,7 +6,7 @@ mod caches;
 mod free_list;
 mod handle;
 mod heap;
-mod kept;
+mod output;
 mod phases;
 mod player;
 mod purge;
@@ -18,8 +18,6 @@ mod steps;
 mod swap;
 mod table;
 mod tallies;
-#[cfg(test)]
-mod tests;
 mod told;
 mod whole;
 

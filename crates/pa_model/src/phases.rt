@@ -1,12 +1,15 @@
 ghost use Rattle.std.specs.Prelude.{◌≡◌, ◌<◌, OnOk, length};
+ghost use Rattle.pa_trace.specs.Limits.{most_partitions};
 ghost use Rattle.pa_model.specs.Asks.{CanEnd};
 ghost use Rattle.pa_model.specs.Changes.{phase_ended, report_line};
 
+use crate::output::Output;
 use crate::player::Player;
+use crate::told::Told;
 use pa_machine::OutOfMemory;
 use pa_record::ReportLine;
 
-impl Player {
+impl<O: Output> Player<Told<O>> {
     // Tells the heap of each partition at the end of a phase.
     pub(crate) fn end_phase(&mut self) -> Result<(), OutOfMemory>
         requires { CanEnd self.old }
@@ -22,7 +25,7 @@ impl Player {
 
     // The heap of one partition.
     fn report_line(&self, partition: u32) -> ReportLine
-        requires four { partition < 4 }
+        requires four { partition < most_partitions }
         requires root { partition < length self.now.heap.roots }
         ensures { result ≡ report_line self.now partition }
     {

@@ -1,64 +1,60 @@
 ghost use Rattle.std.specs.Prelude.{◌≡◌, ◌<◌, ◌≤◌, [], IfOk, OnOk, length};
-ghost use Rattle.pa_trace.specs.Limits.{IsHeadWithin};
+ghost use Rattle.pa_trace.specs.Limits.{IsHeadWithin, register_count, most_partitions, most_threads};
 ghost use Rattle.pa_trace.specs.declared.script.Line.TheVariants.{Do, Phase};
 ghost use Rattle.pa_model.specs.Asks.{CanEnd};
 ghost use Rattle.pa_model.specs.Begun.{IsBegun, IsUntold};
 ghost use Rattle.pa_model.specs.Changes.{phase_begun, phase_ended, registered};
 ghost use Rattle.pa_model.specs.Playing.{register_at, list_place};
 ghost use Rattle.pa_model.specs.Plays.{GoesTo, IsReady, Plays};
-ghost use Rattle.pa_model.specs.Told.{KeepsForm};
 
 use crate::caches::Caches;
 use crate::handle::Handle;
 use crate::heap::Heap;
+use crate::output::Output;
 use crate::registers::Registers;
 use crate::table::Table;
 use crate::tallies::Tallies;
 use crate::told::Told;
-use pa_buckets::Class;
+use pa_buckets::{CLASSES, Class};
 use pa_machine::OutOfMemory;
 use pa_record::Answer;
-use pa_trace::{Line, Op};
+use pa_trace::{CELLS, Line, Op};
 use std::alloc::Global;
 
-// The classes of slots.
-pub(crate) const CLASSES: u32 = 59;
-
-// What the lines so far left.
+// What the lines so far left, and what they are told to.
 #[derive(Drop)]
-pub(crate) struct Player {
+pub(crate) struct Player<T> {
     pub(crate) heap: Heap,
     pub(crate) table: Table,
     pub(crate) registers: Registers,
-    pub(crate) cells: [Handle; 64],
+    pub(crate) cells: [Handle; CELLS as usize],
     pub(crate) caches: Caches,
     pub(crate) live: Tallies,
     pub(crate) quarantined: Tallies,
     pub(crate) cached: Tallies,
-    pub(crate) told: Told,
+    pub(crate) told: T,
     pub(crate) partitions: u32,
     pub(crate) phase: u32,
 }
 
-impl Player {
+impl<O: Output> Player<Told<O>> {
     // Before the first line, where nothing is told.
     pub(crate) fn new(
         alloc: Global,
         region: u32,
         partitions: u32,
         threads: u32,
-        told: Told,
-    ) -> Result<Player, OutOfMemory>
+        told: Told<O>,
+    ) -> Result<Player<Told<O>>, OutOfMemory>
         requires head { IsHeadWithin region partitions threads }
         requires told { IsUntold partitions told }
-        ensures begun { IfOk result (IsBegun region partitions threads) }
-        ensures form { IfOk result (λ player. KeepsForm told player.told) }
+        ensures { IfOk result (IsBegun region partitions threads) }
     {
         Ok(Player {
             heap: Heap::new(alloc, region, partitions)?,
             table: Table::new(alloc),
             registers: Registers::new(alloc, threads)?,
-            cells: [Handle::Empty; 64],
+            cells: [Handle::Empty; CELLS as usize],
             caches: Caches::new(alloc, threads * partitions * CLASSES)?,
             live: Tallies::new(),
             quarantined: Tallies::new(),
@@ -72,8 +68,7 @@ impl Player {
     // Plays a line, and records its op.
     pub(crate) fn line(&mut self, line: Line) -> Result<(), OutOfMemory>
         requires { IsReady line self.old }
-        ensures goes { OnOk result (GoesTo self.old line self.new) }
-        ensures form { OnOk result (KeepsForm self.old.told self.new.told) }
+        ensures { OnOk result (GoesTo self.old line self.new) }
     {
         match line {
             Line::Phase => self.begin_phase(),
@@ -94,8 +89,7 @@ impl Player {
     // Plays an op, and records its answer.
     fn record(&mut self, thread: u32, op: Op) -> Result<(), OutOfMemory>
         requires { IsReady (Do thread op) self.old }
-        ensures goes { OnOk result (GoesTo self.old (Do thread op) self.new) }
-        ensures form { OnOk result (KeepsForm self.old.told self.new.told) }
+        ensures { OnOk result (GoesTo self.old (Do thread op) self.new) }
     {
         let answer = self.answer(thread, op)?;
         self.told.answer(thread, answer)?;
@@ -103,7 +97,7 @@ impl Player {
     }
 
     // What the lines that were played told.
-    pub(crate) fn finish(mut self) -> Result<Told, OutOfMemory>
+    pub(crate) fn finish(mut self) -> Result<Told<O>, OutOfMemory>
         requires { CanEnd self }
         ensures { IfOk result (λ told. told ≡ (phase_ended self).told) }
     {
@@ -114,8 +108,7 @@ impl Player {
     // Plays one op, and answers it.
     fn answer(&mut self, thread: u32, op: Op) -> Result<Answer, OutOfMemory>
         requires { IsReady (Do thread op) self.old }
-        ensures plays { IfOk result (Plays self.old thread op self.new) }
-        ensures form { OnOk result (KeepsForm self.old.told self.new.told) }
+        ensures { IfOk result (Plays self.old thread op self.new) }
     {
         match op {
             Op::Alloc {
@@ -136,7 +129,7 @@ impl Player {
     // What a register of a thread holds.
     pub(crate) fn register(&self, thread: u32, reg: u32) -> Handle
         requires thread { thread < length self.now.registers }
-        requires reg { reg < 64 }
+        requires reg { reg < register_count }
         ensures { result ≡ register_at self.now thread reg }
     {
         self.registers.get(thread, reg)
@@ -145,7 +138,7 @@ impl Player {
     // Sets a register of a thread.
     pub(crate) fn set_register(&mut self, thread: u32, reg: u32, holds: Handle)
         requires thread { thread < length self.old.registers }
-        requires reg { reg < 64 }
+        requires reg { reg < register_count }
         ensures { self.new ≡ registered thread reg holds self.old }
     {
         self.registers.set(thread, reg, holds);
@@ -153,8 +146,8 @@ impl Player {
 
     // Where the list of a thread's cache stands, by its partition and class.
     pub(crate) fn list_of(&self, thread: u32, partition: u32, class: Class) -> usize
-        requires thread { thread < 16 }
-        requires partitions { self.now.partitions ≤ 4 }
+        requires thread { thread < most_threads }
+        requires partitions { self.now.partitions ≤ most_partitions }
         requires partition { partition < self.now.partitions }
         ensures { result ≡ list_place self.now.partitions thread partition class }
     {

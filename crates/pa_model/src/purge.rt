@@ -1,4 +1,5 @@
 ghost use Rattle.std.specs.Prelude.{◌≡◌, ◌<◌, IfOk, OnOk};
+ghost use Rattle.pa_buckets.specs.Limits.{class_count};
 ghost use Rattle.pa_trace.specs.declared.script.Op.TheVariants as ops;
 ghost use Rattle.pa_trace.specs.declared.script.Line.TheVariants.{Do};
 ghost use Rattle.pa_rules.specs.Caches.{listed_slots};
@@ -6,19 +7,19 @@ ghost use Rattle.pa_model.specs.Asks.{CanPurgeOne};
 ghost use Rattle.pa_model.specs.Changes.{given_from, purged_with};
 ghost use Rattle.pa_model.specs.Playing.{caches};
 ghost use Rattle.pa_model.specs.Plays.{IsReady, Plays};
-ghost use Rattle.pa_model.specs.Told.{KeepsForm};
 
-use crate::player::{CLASSES, Player};
-use pa_buckets::Class;
+use crate::output::Output;
+use crate::player::Player;
+use crate::told::Told;
+use pa_buckets::{CLASSES, Class};
 use pa_machine::OutOfMemory;
-use pa_record::{Answer, RootAct, RootEntry};
+use pa_record::{Act, Answer};
 
-impl Player {
+impl<O: Output> Player<Told<O>> {
     // Gives back all that the thread's caches have, and decommits the empty spans.
     pub(crate) fn purge(&mut self, thread: u32) -> Result<Answer, OutOfMemory>
         requires { IsReady (Do thread ops.Purge) self.old }
-        ensures plays { IfOk result (Plays self.old thread ops.Purge self.new) }
-        ensures form { OnOk result (KeepsForm self.old.told self.new.told) }
+        ensures { IfOk result (Plays self.old thread ops.Purge self.new) }
     {
         let mut slots = 0;
         for partition in 0..self.partitions {
@@ -30,22 +31,20 @@ impl Player {
     // The same in one partition. Tells how many slots were given back.
     fn purge_one(&mut self, thread: u32, partition: u32) -> Result<u32, OutOfMemory>
         requires { CanPurgeOne thread partition self.old }
-        ensures slots { IfOk result (λ n. n ≡ listed_slots (caches self.old thread partition) 0 59) }
-        ensures purged { OnOk result (self.new ≡ purged_with partition (given_from thread partition 0 59 self.old)) }
+        ensures slots { IfOk result (λ n. n ≡ listed_slots (caches self.old thread partition) 0 class_count) }
+        ensures purged { OnOk result (self.new ≡ purged_with partition (given_from thread partition 0 class_count self.old)) }
     {
         let slots = self.give_all(thread, partition)?;
         self.heap.roots.purge(partition);
-        let line = self.told.line();
-        let act = RootAct::Purge;
-        self.told.root(partition, &RootEntry { line, act })?;
+        self.told.root(partition, Act::Purge)?;
         Ok(slots)
     }
 
     // Gives back all that the thread's lists of one partition have. Tells how many slots.
     fn give_all(&mut self, thread: u32, partition: u32) -> Result<u32, OutOfMemory>
         requires { CanPurgeOne thread partition self.old }
-        ensures slots { IfOk result (λ n. n ≡ listed_slots (caches self.old thread partition) 0 59) }
-        ensures given { OnOk result (self.new ≡ given_from thread partition 0 59 self.old) }
+        ensures slots { IfOk result (λ n. n ≡ listed_slots (caches self.old thread partition) 0 class_count) }
+        ensures given { OnOk result (self.new ≡ given_from thread partition 0 class_count self.old) }
     {
         let mut slots = 0;
         for number in 0..CLASSES {

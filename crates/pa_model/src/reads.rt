@@ -7,14 +7,16 @@ ghost use Rattle.pa_model.specs.Plays.{IsReady, Plays};
 
 use crate::alloc::COUNT_WORD;
 use crate::handle::Handle;
+use crate::output::Output;
 use crate::player::Player;
+use crate::told::Told;
 use pa_machine::{POISON, held};
 use pa_record::Answer;
 
 // The bytes of a word of the content.
 const WORD_BYTES: u32 = 8;
 
-impl Player {
+impl<O: Output> Player<Told<O>> {
     // A read of a word, by its number from 0.
     pub(crate) fn read(&self, thread: u32, reg: u32, word: u32) -> Answer
         requires { IsReady (Do thread (ops.Read reg word)) self.now }

@@ -1,22 +1,23 @@
 ghost use Rattle.std.specs.Prelude.{◌≡◌, ◌+◌, ◌<◌, ◌≤◌, [], OnOk, All, drop, length, map, slice_range};
-ghost use Rattle.pa_record.specs.declared.root.RootAct.TheVariants.{Give};
 ghost use Rattle.pa_model.specs.Asks.{CanGive, CanPutBack, CanTakeBack, CanUnmap};
 ghost use Rattle.pa_model.specs.Changes.{bytes_at, gave_back, given, list_in, taken_back, unmapped_at};
 ghost use Rattle.pa_model.specs.Playing.{numbered_at};
 ghost use Rattle.pa_model.specs.Tables.{slot_at};
 
+use crate::output::Output;
 use crate::player::Player;
 use crate::table::{Table, fits};
+use crate::told::Told;
 use arrayvec::ArrayVec;
 use pa_buckets::{Class, cache_limit};
 use pa_layout::{super_page_of, supers_for};
 use pa_machine::{OutOfMemory, Title};
-use pa_record::{Batch, PoolAct, RootAct, RootEntry};
+use pa_record::{Act, Batch, LentSlots, PoolAct};
 
 // The most slots that go back to a root at once.
 const BATCH: usize = 16;
 
-impl Player {
+impl<O: Output> Player<Told<O>> {
     // A slot that a step of the thread returned: to its cache, or back to the pool.
     pub(crate) fn take_back(&mut self, thread: u32, place: u32) -> Result<(), OutOfMemory>
         requires place { place < length self.old.table }
@@ -90,15 +91,11 @@ impl Player {
     {
         let places = &self.caches.places(at)[from..to];
         let mut titles = ArrayVec::new();
-        let mut entry = RootEntry {
-            line: self.told.line(),
-            act: RootAct::Give {
-                slots: Batch::new(),
-            },
-        };
-        let bytes = act_given(&self.table, places, &mut titles, &mut entry.act);
+        let mut batch = Batch::new();
+        let bytes = list_given(&self.table, places, &mut titles, &mut batch);
         self.heap.roots.give(partition, titles.as_slice());
-        self.told.root(partition, &entry)?;
+        let slots = LentSlots::of(batch.items());
+        self.told.root(partition, Act::Give { slots })?;
         self.cached.remove(partition, titles.len() as u64, bytes);
         Ok(())
     }
@@ -115,36 +112,12 @@ impl Player {
         let count = supers_for(title.len);
         self.told.pool(partition, PoolAct::Give { count, first })?;
         let slot = self.table.numbered(place);
-        let line = self.told.line();
-        let act = RootAct::Unmap { pool, slot };
-        self.told.root(partition, &RootEntry { line, act })?;
+        self.told.root(partition, Act::Unmap { pool, slot })?;
         Ok(())
     }
 }
 
-// Lists the titles of the slots in these places, at most 16, and in the act the slots with their numbers. Tells their bytes.
-#[inline(always)]
-fn act_given(
-    table: &Table,
-    places: &[u32],
-    titles: &mut ArrayVec<Title, 16>,
-    act: &mut RootAct,
-) -> u64
-    requires few { length places.now ≤ 16 }
-    requires among { All (λ i. i < length table.now) places.now }
-    requires no_titles { titles.old.items ≡ [] }
-    requires no_slots { act.old ≡ Give [] }
-    ensures titles { titles.new.items ≡ map (λ i. (slot_at table.now i).title) places.now }
-    ensures slots { act.new ≡ Give (map (numbered_at table.now) places.now) }
-    ensures bytes { result ≡ bytes_at table.now places.now }
-{
-    match act {
-        RootAct::Give { slots } => list_given(table, places, titles, slots),
-        _ => unreachable!(),
-    }
-}
-
-// The same, of slots in a batch.
+// Lists the titles of the slots in these places, at most 16, and the slots with their numbers. Tells their bytes.
 #[inline(always)]
 fn list_given(
     table: &Table,

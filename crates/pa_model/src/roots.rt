@@ -1,5 +1,6 @@
 ghost use Rattle.std.specs.Prelude.{◌≡◌, ◌<◌, ◌≤◌, ◌-◌, ◌%◌, ◌^◌, ◌≢◌, [], IfOk, All, AllPairs, Contains, map, length};
 ghost use Rattle.std.specs.Prelude.{slice_index_or, slice_set};
+ghost use Rattle.pa_layout.specs.Limits.{most_supers};
 ghost use Rattle.pa_layout.specs.Pages.{super_page_at, supers_for};
 ghost use Rattle.pa_record.specs.declared.taken.Taken.{Taken};
 ghost use Rattle.pa_record.specs.Pool.{IsOneTake, gave};
@@ -93,7 +94,7 @@ impl Roots {
         requires whole { slot % 4096 ≡ 0 }
         requires some { 0 < slot }
         requires supers { supers ≡ supers_for slot }
-        requires few { supers ≤ 16 }
+        requires few { supers ≤ most_supers }
         requires entries { pool.old.entries < 2 ^ 32 - 1 }
         requires born { IsBornBelow pool.old.entries (slice_index_or self.old partition new_root) }
         ensures mapped { IfOk result (MapDid slot pool.old pool.new

@@ -9,20 +9,20 @@ ghost use Rattle.pa_model.specs.Changes.{Copies, Frees, LooksAt, Resets, Writes,
 ghost use Rattle.pa_model.specs.Playing.{register_at};
 ghost use Rattle.pa_model.specs.Plays.{IsReady, Plays};
 ghost use Rattle.pa_model.specs.Tables.{slot_at};
-ghost use Rattle.pa_model.specs.Told.{KeepsForm};
 ghost use Rattle.pa_model.specs.declared.handle.Handle.TheVariants.{Ref};
 
 use crate::handle::Handle;
+use crate::output::Output;
 use crate::player::Player;
+use crate::told::Told;
 use pa_machine::{OutOfMemory, Step, held, refs};
 use pa_record::Answer;
 
-impl Player {
+impl<O: Output> Player<Told<O>> {
     // A copy of a handle.
     pub(crate) fn copy(&mut self, thread: u32, from: u32, to: u32) -> Answer
         requires { IsReady (Do thread (ops.Copy from to)) self.old }
-        ensures plays { Plays self.old thread (ops.Copy from to) self.new result }
-        ensures form { KeepsForm self.old.told self.new.told }
+        ensures { Plays self.old thread (ops.Copy from to) self.new result }
     {
         match self.register(thread, from) {
             Handle::Empty => Answer::Nothing,
@@ -62,8 +62,7 @@ impl Player {
     // A reset of a `raw_ptr`.
     pub(crate) fn reset(&mut self, thread: u32, reg: u32) -> Result<Answer, OutOfMemory>
         requires { IsReady (Do thread (ops.Reset reg)) self.old }
-        ensures plays { IfOk result (Plays self.old thread (ops.Reset reg) self.new) }
-        ensures form { OnOk result (KeepsForm self.old.told self.new.told) }
+        ensures { IfOk result (Plays self.old thread (ops.Reset reg) self.new) }
     {
         match self.register(thread, reg) {
             Handle::Empty => Ok(Answer::Nothing),
@@ -94,8 +93,7 @@ impl Player {
     // A free, which through a `raw_ptr` only looks.
     pub(crate) fn free(&mut self, thread: u32, reg: u32) -> Result<Answer, OutOfMemory>
         requires { IsReady (Do thread (ops.Free reg)) self.old }
-        ensures plays { IfOk result (Plays self.old thread (ops.Free reg) self.new) }
-        ensures form { OnOk result (KeepsForm self.old.told self.new.told) }
+        ensures { IfOk result (Plays self.old thread (ops.Free reg) self.new) }
     {
         match self.register(thread, reg) {
             Handle::Empty => Ok(Answer::Nothing),
@@ -141,8 +139,7 @@ impl Player {
     // A write, which through a `raw_ptr` only looks.
     pub(crate) fn write(&mut self, thread: u32, reg: u32, value: u64) -> Answer
         requires { IsReady (Do thread (ops.Write reg value)) self.old }
-        ensures plays { Plays self.old thread (ops.Write reg value) self.new result }
-        ensures form { KeepsForm self.old.told self.new.told }
+        ensures { Plays self.old thread (ops.Write reg value) self.new result }
     {
         match self.register(thread, reg) {
             Handle::Empty => Answer::Nothing,

@@ -5,19 +5,20 @@ ghost use Rattle.pa_model.specs.Asks.{CanSwap};
 ghost use Rattle.pa_model.specs.Changes.{swapped};
 ghost use Rattle.pa_model.specs.Plays.{IsReady, Plays};
 ghost use Rattle.pa_model.specs.Tables.{handle_in};
-ghost use Rattle.pa_model.specs.Told.{KeepsForm, history_in};
+ghost use Rattle.pa_model.specs.Told.{history_in};
 
 use crate::handle::Handle;
+use crate::output::Output;
 use crate::player::Player;
+use crate::told::Told;
 use pa_machine::OutOfMemory;
 use pa_record::Answer;
 
-impl Player {
+impl<O: Output> Player<Told<O>> {
     // An exchange with a cell: it gets the register's handle, and the register what it held.
     pub(crate) fn swap(&mut self, thread: u32, cell: u32, reg: u32) -> Result<Answer, OutOfMemory>
         requires { IsReady (Do thread (ops.Swap cell reg)) self.old }
-        ensures plays { IfOk result (Plays self.old thread (ops.Swap cell reg) self.new) }
-        ensures form { OnOk result (KeepsForm self.old.told self.new.told) }
+        ensures { IfOk result (Plays self.old thread (ops.Swap cell reg) self.new) }
     {
         let entry = self.exchange(thread, cell, reg)?;
         Ok(Answer::Swapped { entry })

@@ -1,12 +1,14 @@
 ghost use Rattle.std.specs.Prelude.{◌≡◌, ◌+◌, ◌-◌, ◌<◌, ◌≤◌, ◌^◌, length, slice_set};
+ghost use Rattle.pa_trace.specs.Limits.{most_partitions};
 ghost use Rattle.pa_model.specs.Tallies.{tally_at, IsNone};
 
 use pa_record::Tally;
+use pa_trace::MOST_PARTITIONS;
 
 // What the partitions have of one place of the report.
 #[derive(Clone, Copy)]
 pub(crate) struct Tallies {
-    pub(crate) of: [Tally; 4],
+    pub(crate) of: [Tally; MOST_PARTITIONS as usize],
 }
 
 impl Tallies {
@@ -15,13 +17,13 @@ impl Tallies {
         ensures { IsNone result.of }
     {
         Tallies {
-            of: [Tally { slots: 0, bytes: 0 }; 4],
+            of: [Tally { slots: 0, bytes: 0 }; MOST_PARTITIONS as usize],
         }
     }
 
     // One slot more of so many bytes, and so many slots and bytes less.
     pub(crate) fn add(&mut self, partition: u32, len: u32)
-        requires partition { partition < 4 }
+        requires partition { partition < most_partitions }
         requires slots { (tally_at self.old.of partition).slots < 2 ^ 32 }
         requires bytes { (tally_at self.old.of partition).bytes < 2 ^ 63 }
         ensures { self.new.of ≡ slice_set self.old.of partition
@@ -33,7 +35,7 @@ impl Tallies {
     }
 
     pub(crate) fn remove(&mut self, partition: u32, slots: u64, bytes: u64)
-        requires partition { partition < 4 }
+        requires partition { partition < most_partitions }
         requires slots { slots ≤ (tally_at self.old.of partition).slots }
         requires bytes { bytes ≤ (tally_at self.old.of partition).bytes }
         ensures { self.new.of ≡ slice_set self.old.of partition

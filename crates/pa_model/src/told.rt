@@ -1,79 +1,60 @@
-ghost use Rattle.std.specs.Prelude.{◌≡◌, ℕ, ◌+◌, ◌<◌, ◌≤◌, ◌^◌, [], ◌∷◌, ◌++◌, IfOk, OnOk, false, length, slice_index_or};
+ghost use Rattle.std.specs.Prelude.{◌≡◌, ℕ, ◌+◌, ◌<◌, ◌≤◌, ◌^◌, [], ◌∷◌, ◌++◌, IfOk, OnOk, length, slice_index_or};
 ghost use Rattle.pa_record.specs.declared.root.RootAct.TheVariants.{Full};
 ghost use Rattle.pa_record.specs.declared.run.Run.{Run};
+ghost use Rattle.pa_record.specs.Act.{act_of};
 ghost use Rattle.pa_record.specs.RunText.{IsPrintable};
 ghost use Rattle.pa_model.specs.Told.{IsToldRun, IsToldText, journal_in, history_in, with_act, with_exchange};
 ghost use Rattle.pa_model.specs.Begun.{IsUntold};
 
-use crate::kept::Kept;
+use crate::output::{ListOutput, Output, TextOutput};
 use pa_buckets::Class;
 use pa_machine::OutOfMemory;
+use pa_printed::run_text;
 use pa_record::{
-    Answer, CellEntry, Entry, Held, History, PoolAct, PoolEntry, ReportLine, RootAct, RootEntry,
-    Run,
+    Act, Answer, CellEntry, Entry, Held, History, LentEntry, PoolAct, PoolEntry, ReportLine, Run,
 };
 use std::alloc::Global;
 use std::marker::Model;
 
-// What the run tells so far, and the number of the line that is played. It is seen as its lists, and says in which form records
-// and journals are kept.
+// What the run tells so far, and the number of the line that is played. It is seen as its lists, whatever the records and the
+// journals are told to.
 #[derive(Drop)]
-pub(crate) struct Told {
-    kept: Kept,
+pub(crate) struct Told<O: Output> {
+    output: O,
     pools: Vec<PoolEntry>,
     histories: Vec<History>,
     report: Vec<ReportLine>,
     line: u32,
 }
 
-impl Model for Told {
+impl<O: Output> Model for Told<O> {
     ghost use Rattle.pa_model.specs.Told.{Lists};
 
     ghost Value = { Lists };
 
     ghost view = { λ t. record {
-      entries = t.kept.entries;
-      journals = t.kept.journals;
+      entries = (O.books t.output).entries;
+      journals = (O.books t.output).journals;
       pools = t.pools.items;
       histories = t.histories.items;
       report = t.report.items;
       line = t.line;
-      printed = t.kept.printed;
     } };
 }
 
-impl Told {
-    // Nothing, before the first line. The head is line 1. Room is taken for the records of so many lines. The records and the
-    // journals are kept as lists.
-    pub(crate) fn lists(alloc: Global, partitions: u32, lines: usize) -> Result<Told, OutOfMemory>
-        ensures untold { IfOk result (IsUntold partitions) }
-        ensures form { IfOk result (λ told. told.printed ≡ false) }
-    {
-        let kept = Kept::lists(alloc, partitions, lines)?;
-        Told::of(alloc, kept)
-    }
-
-    // The same, where they are kept as texts.
-    pub(crate) fn texts(alloc: Global, partitions: u32, lines: usize) -> Result<Told, OutOfMemory>
-        ensures { IfOk result (IsUntold partitions) }
-    {
-        let kept = Kept::texts(alloc, partitions, lines)?;
-        Told::of(alloc, kept)
-    }
-
-    // Nothing, with these, which have nothing.
-    fn of(alloc: Global, kept: Kept) -> Result<Told, OutOfMemory>
-        requires entries { kept.entries ≡ [] }
-        requires journals { (q : ℕ) → slice_index_or kept.journals q [] ≡ [] }
-        ensures untold { IfOk result (IsUntold (length kept.journals)) }
-        ensures form { IfOk result (λ told. told.printed ≡ kept.printed) }
+impl<O: Output> Told<O> {
+    // Nothing, before the first line, where the output was told nothing. The head is line 1.
+    pub(crate) fn new(alloc: Global, output: O) -> Result<Told<O>, OutOfMemory>
+        requires entries { (O.books output).entries ≡ [] }
+        requires journals { (q : ℕ) → slice_index_or (O.books output).journals q [] ≡ [] }
+        ensures { IfOk result (IsUntold (length (O.books output).journals)) }
     {
         let mut histories = Vec::with_capacity(alloc, 64)?;
         for _ in 0..64_u32 {
             histories.push(History::new(alloc))?;
         }
         Ok(Told {
-            kept,
+            output,
             pools: Vec::new(alloc),
             histories,
             report: Vec::new(alloc),
@@ -89,7 +70,7 @@ impl Told {
           line = self.old.line + 1;
         }) }
     {
-        self.kept.record(Entry {
+        self.output.record(Entry {
             line: self.line,
             thread,
             answer,
@@ -128,19 +109,18 @@ impl Told {
         Ok(())
     }
 
-    // An entry more of a root's journal. Tells its place there.
+    // An entry more of a root's journal on this line. Tells its place there.
     #[inline(always)]
-    pub(crate) fn root(&mut self, partition: u32, entry: &RootEntry) -> Result<u32, OutOfMemory>
+    pub(crate) fn root(&mut self, partition: u32, act: Act<'_>) -> Result<u32, OutOfMemory>
         requires partition { partition < length self.old.journals }
         requires few { length (journal_in self.old partition) < 2 ^ 32 }
         ensures place { IfOk result (λ entry. entry ≡ length (journal_in self.old partition)) }
-        ensures after { OnOk result (self.new ≡ with_act partition entry.now self.old) }
+        ensures after { OnOk result (self.new ≡ with_act partition (record { line = self.old.line; act = act_of act.entry }) self.old) }
     {
-        self.kept.act(partition, entry)
+        self.output.act(partition, &LentEntry::of(self.line, act))
     }
 
-    // The entry on this line that there was no room for a slot of the class, or for a direct map where none is named. Tells its place
-    // there.
+    // The entry that there was no room for a slot of the class, or for a direct map where none is named. Tells its place there.
     #[inline(never)]
     pub(crate) fn refused(
         &mut self,
@@ -153,16 +133,7 @@ impl Told {
         ensures place { IfOk result (λ entry. entry ≡ length (journal_in self.old partition)) }
         ensures after { OnOk result (self.new ≡ with_act partition (record { line = self.old.line; act = Full class pool }) self.old) }
     {
-        let line = self.line;
-        let act = RootAct::Full { class, pool };
-        self.kept.act(partition, &RootEntry { line, act })
-    }
-
-    // The number of the line that is played.
-    pub(crate) fn line(&self) -> u32
-        ensures { result ≡ self.now.line }
-    {
-        self.line
+        self.root(partition, Act::Full { class, pool })
     }
 
     // An exchange with a cell on this line. Tells its place in the cell's history.
@@ -183,13 +154,14 @@ impl Told {
         history.push(CellEntry { line, gave, found })?;
         Ok(entry)
     }
+}
 
-    // The run that was told, where records and journals are kept as lists.
+impl Told<ListOutput> {
+    // The run that was told.
     pub(crate) fn into_run(self, alloc: Global) -> Result<Run, OutOfMemory>
-        requires form { self.printed ≡ false }
         ensures { IfOk result (IsToldRun self) }
     {
-        let (entries, roots) = self.kept.into_lists(alloc)?;
+        let (entries, roots) = self.output.into_lists(alloc)?;
         Ok(Run {
             entries,
             roots,
@@ -198,13 +170,15 @@ impl Told {
             report: self.report,
         })
     }
+}
 
-    // The text of that run.
-    pub(crate) fn into_text(self, alloc: Global) -> Result<Vec<u8>, OutOfMemory>
+impl Told<TextOutput> {
+    // The text of the run that was told.
+    pub(crate) fn into_text(self) -> Result<Vec<u8>, OutOfMemory>
         requires { (r : Run) → IsToldRun self r → IsPrintable r }
         ensures { IfOk result (λ text. IsToldText self text.items) }
     {
-        self.kept
-            .into_text(alloc, self.pools, self.histories, self.report)
+        let TextOutput { records, journals } = self.output;
+        run_text(records, journals, self.pools, self.histories, self.report)
     }
 }

@@ -6,8 +6,8 @@ ghost use Rattle.pa_rules.specs.Legal.{IsFileRun};
 ghost use Rattle.pa_core_run.specs.Playing.{HasCoreRun};
 ghost use Rattle.pa_model.specs.Begun.{IsUntold};
 ghost use Rattle.pa_model.specs.Played.{IsAllTold, IsInputPlayed};
-ghost use Rattle.pa_model.specs.Told.{KeepsForm};
 
+use crate::output::{ListOutput, TextOutput};
 use crate::player::Player;
 use crate::told::Told;
 use pa_machine::OutOfMemory;
@@ -28,7 +28,8 @@ pub fn play(alloc: Global, trace: &Trace) -> Result<Run, OutOfMemory>
     ensures core { IfOk result (HasCoreRun trace.now) }
     ensures printable { IfOk result IsPrintable }
 {
-    let told = Told::lists(alloc, trace.partitions, trace.lines.as_slice().len())?;
+    let lists = ListOutput::new(alloc, trace.partitions, trace.lines.as_slice().len())?;
+    let told = Told::new(alloc, lists)?;
     told_of(alloc, trace, told)?.into_run(alloc)
 }
 
@@ -45,21 +46,24 @@ pub fn play_input(alloc: Global, bytes: &[u8]) -> Result<Vec<u8>, TraceFault>
         threads,
     } = reader.head();
     let lines = (bytes.len() / LINE).min(MOST_LINES as usize);
-    let told = Told::texts(alloc, partitions, lines)?;
+    let told = Told::new(alloc, TextOutput::new(alloc, partitions, lines)?)?;
     let mut player = Player::new(alloc, region, partitions, threads, told)?;
     while let Some(line) = reader.next()? {
         player.line(line)?;
     }
-    let text = player.finish()?.into_text(alloc)?;
+    let text = player.finish()?.into_text()?;
     Ok(text)
 }
 
 // What the trace's lines tell, where nothing was told before.
-fn told_of(alloc: Global, trace: &Trace, told: Told) -> Result<Told, OutOfMemory>
+fn told_of(
+    alloc: Global,
+    trace: &Trace,
+    told: Told<ListOutput>,
+) -> Result<Told<ListOutput>, OutOfMemory>
     requires within { IsWithinLimits trace.now }
     requires told { IsUntold trace.now.partitions told }
-    ensures all { IfOk result (IsAllTold trace.now) }
-    ensures form { IfOk result (KeepsForm told) }
+    ensures { IfOk result (IsAllTold trace.now) }
 {
     let lines = trace.lines.as_slice();
     let mut player = Player::new(alloc, trace.region, trace.partitions, trace.threads, told)?;

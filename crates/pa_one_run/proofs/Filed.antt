@@ -1,51 +1,28 @@
 -- A run in the order of its lines, as its clauses say; and two such runs that agree before a line.
-use Rattle.std.proofs.Common.{◌≡◌, ℕ, ◌<◌, cond, List, [], ◌∷◌, Option, Some, None, ◌≤◌, sym, refl}
+use Rattle.std.proofs.Common.{◌≡◌, ℕ, ◌<◌, List, ◌≤◌, sym, refl}
 use Rattle.std.specs.Prelude.{Contains, All, AllPairs}
 use Rattle.pa_machine.specs.declared.word.SlotName.{SlotName}
-use Rattle.pa_machine.specs.declared.word.Step.{Step}
-use Rattle.pa_machine.specs.Count.{stepped}
-use Rattle.pa_machine.specs.Run.{Mark, Slots, same_slot}
+use Rattle.pa_machine.specs.Run.{Slots}
 use Rattle.pa_trace.specs.Limits.{IsOpWithin}
 use Rattle.pa_record.specs.declared.entry.Seen.{Seen}
 use Rattle.pa_record.specs.declared.entry.Answer.{Answer}
 use Rattle.pa_record.specs.declared.entry.Answer.TheVariants.{Made, Full, Purged}
-use Rattle.pa_record.specs.declared.history.CellEntry.{CellEntry}
-use Rattle.pa_record.specs.declared.pool.PoolEntry.{PoolEntry}
-use Rattle.pa_record.specs.declared.root.RootEntry.{RootEntry}
 use Rattle.pa_rules.specs.declared.played.Played.{Played}
 use Rattle.pa_rules.specs.Played.{marks_of}
 use Rattle.pa_rules.specs.Cells.{AreCells}
 use Rattle.pa_rules.specs.Registers.{AreRegisters}
 use Rattle.pa_rules.specs.Sizes.{usable_of}
-use Rattle.pa_rules.specs.Roots.{Journals, IsPoolOf, AreRoots}
+use Rattle.pa_rules.specs.Roots.{IsPoolOf, AreRoots}
 use Rattle.pa_rules.specs.Holders.{AreHolders}
 use Rattle.pa_rules.specs.Caches.{AreCaches}
 use Rattle.pa_rules.specs.FileOrder.{IsInFileOrder}
-use Rattle.pa_one_run.proofs.lines.Sorting.{below, below_alike}
+use Rattle.pa_one_run.specs.Before.{below}
+use Rattle.pa_one_run.specs.Parts.{Parts, entry_line, pool_line, cell_line}
+use Rattle.pa_one_run.proofs.lines.Sorting.{below_alike}
 
 -- x's line is less than y's
 abbrev pub Earlier : Played → Played → Type 0
 Earlier x y = x.line < y.line
-
--- the lines of entries and exchanges
-abbrev pub entry_line : RootEntry → ℕ
-entry_line e = e.line
-
-abbrev pub pool_line : PoolEntry → ℕ
-pool_line e = e.line
-
-abbrev pub cell_line : CellEntry → ℕ
-cell_line e = e.line
-
--- what a run is made of, but for its report, with the numbers of its trace's head
-pub record Parts : Type 0 where
-  pub supers : ℕ
-  pub partitions : ℕ
-  pub threads : ℕ
-  pub ps : List Played
-  pub pools : List PoolEntry
-  pub roots : Journals
-  pub cells : ℕ → List CellEntry
 
 -- what is used of a legal run in the order of its lines: of the contents only what that order says
 pub record IsFiled (a : Parts) : Type 0 where
@@ -60,19 +37,6 @@ pub record IsFiled (a : Parts) : Type 0 where
   pub holders : AreHolders a.ps a.roots
   pub caches : AreCaches a.partitions a.roots a.ps
   pub order : IsInFileOrder a.ps a.pools a.roots a.cells
-
--- the word of slot s after some marks: that of a slot which was never stepped on is 0
-abbrev pub stepped_by : Option Step → ℕ → ℕ
-stepped_by None u = u
-stepped_by (Some p) u = stepped p u
-
-abbrev pub word_from : List Mark → SlotName → ℕ → ℕ
-word_from [] s u = u
-word_from (m ∷ ms) s u = word_from ms s (cond (same_slot m.slot s) (stepped_by m.step u) u)
-
--- the word of slot s after some records
-abbrev pub word_after : List Played → SlotName → ℕ
-word_after ps s = word_from (marks_of ps) s 0
 
 -- one of the records made slot s
 abbrev pub IsMadeIn : List Played → SlotName → Type 0

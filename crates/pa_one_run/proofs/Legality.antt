@@ -8,20 +8,8 @@ use Rattle.pa_rules.specs.Legal.{IsFileTold}
 use Rattle.pa_rules.proofs.Recorded.{records_are_lines}
 use Rattle.pa_rules.proofs.Numbering.{lines_rise}
 use Rattle.pa_rules.proofs.Within.{records_within}
-use Rattle.pa_one_run.proofs.Filed.{Parts, IsFiled}
-
--- the parts of what a run of the trace tells
-abbrev pub parts_of : Trace → Told → Parts
-parts_of t r =
-    record {
-      supers = t.region;
-      partitions = t.partitions;
-      threads = t.threads;
-      ps = records_of t r;
-      pools = r.pools;
-      roots = r.roots;
-      cells = r.cells;
-    }
+use Rattle.pa_one_run.specs.Parts.{parts_of}
+use Rattle.pa_one_run.proofs.Filed.{IsFiled}
 
 pub filed : (t : Trace) (r : Told) → IsWithinLimits t → IsFileTold t r → IsFiled (parts_of t r)
 filed t r limits (legal, order) =

@@ -9,4 +9,3 @@ pub mod Reports
 pub mod Legality
 pub mod OneRun
 pub mod OneThread
-pub mod worked

@@ -2,7 +2,7 @@
 use Rattle.std.proofs.Common.{◌≡◌, ℕ, ◌+◌, ◌<◌, ◌≤◌, List, [], ◌∷◌, ◌++◌, map, get_or, drop, refl, sym, ◌∙◌, ap, subst, arith, inl, inr}
 use Rattle.std.specs.Prelude.{Contains}
 use Rattle.pa_record.specs.declared.entry.Answer.{Answer}
-use Rattle.pa_record.proofs.Members.{not_in_none, first_in}
+use Rattle.pa_lists.proofs.Members.{not_in_none, first_in}
 use Rattle.pa_rules.specs.declared.played.Played.{Played}
 use Rattle.pa_rules.specs.Played.{OpLine, op_line_of, entry_of}
 use Rattle.pa_rules.specs.Report.{IsReport}
@@ -10,9 +10,10 @@ use Rattle.pa_rules.specs.Told.{told_by, records_of}
 use Rattle.pa_rules.specs.Legal.{phases_in}
 use Rattle.pa_rules.proofs.Recorded.{records_are_lines}
 use Rattle.pa_one_run.specs.Laws.{AtMostOneFileRun}
+use Rattle.pa_one_run.specs.Parts.{Parts, entry_line, pool_line, cell_line, parts_of}
 use Rattle.pa_one_run.proofs.lines.Sorting.{below_all, rising_strictly, next_below, none_below, below_gap}
-use Rattle.pa_one_run.proofs.Filed.{Parts, IsFiled, Agrees, entry_line, pool_line, cell_line}
-use Rattle.pa_one_run.proofs.Legality.{parts_of, filed}
+use Rattle.pa_one_run.proofs.Filed.{IsFiled, Agrees}
+use Rattle.pa_one_run.proofs.Legality.{filed}
 use Rattle.pa_one_run.proofs.words.Reading.{values_agree}
 use Rattle.pa_one_run.proofs.rows.Rows.{answers_agree, exchanges_agree}
 use Rattle.pa_one_run.proofs.placing.Placing.{placed_alike, lines_alike, other_answer}

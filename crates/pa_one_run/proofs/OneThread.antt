@@ -8,7 +8,8 @@ use Rattle.pa_machine.specs.declared.word.SlotName.{SlotName}
 use Rattle.pa_machine.specs.declared.word.Step.{Step}
 use Rattle.pa_machine.specs.Count.{number_of}
 use Rattle.pa_machine.specs.Run.{Mark, Slots, IsFirstAt, IsRunFrom}
-use Rattle.pa_machine.proofs.Runs.{IsPath, number_stepped}
+use Rattle.pa_machine.specs.Runs.{IsPath}
+use Rattle.pa_machine.proofs.Runs.{number_stepped}
 use Rattle.pa_trace.specs.declared.script.Trace.{Trace}
 use Rattle.pa_trace.specs.Limits.{IsWithinLimits}
 use Rattle.pa_record.specs.declared.entry.Answer.{Answer}
@@ -16,8 +17,8 @@ use Rattle.pa_record.specs.declared.entry.Answer.TheVariants.{Value, Dangling}
 use Rattle.pa_record.specs.declared.history.CellEntry.{CellEntry}
 use Rattle.pa_record.specs.declared.pool.PoolEntry.{PoolEntry}
 use Rattle.pa_record.specs.declared.root.RootEntry.{RootEntry}
-use Rattle.pa_record.proofs.Members.{first_in, in_cases}
-use Rattle.pa_record.proofs.Pairs.{pairs_head}
+use Rattle.pa_lists.proofs.Members.{first_in, in_cases}
+use Rattle.pa_lists.proofs.Pairs.{pairs_head}
 use Rattle.pa_rules.specs.declared.played.Played.{Played}
 use Rattle.pa_rules.specs.Played.{marks_of}
 use Rattle.pa_rules.specs.Cells.{AreCells}
@@ -30,15 +31,15 @@ use Rattle.pa_rules.specs.Told.{Told, records_of}
 use Rattle.pa_rules.specs.Legal.{IsLegalTold}
 use Rattle.pa_rules.proofs.Recorded.{records_are_lines}
 use Rattle.pa_rules.specs.Sizes.{usable_of}
-use Rattle.pa_rules.proofs.Marking.{mark_line}
+use Rattle.pa_rules.proofs.Marking.{mark_line, found_left}
 use Rattle.pa_rules.proofs.Numbering.{lines_rise}
 use Rattle.pa_rules.proofs.Running.{mark_from, run_rises, made_some}
 use Rattle.pa_rules.proofs.Within.{records_within}
 use Rattle.pa_legal.proofs.Words.{same_word}
-use Rattle.pa_one_run.proofs.Filed.{word_from}
+use Rattle.pa_one_run.specs.Before.{word_from}
 use Rattle.pa_one_run.proofs.words.Marks.{Rises, marks_rise}
 use Rattle.pa_one_run.proofs.words.Fronts.{FindsLeft, front_of, steps_at}
-use Rattle.pa_one_run.proofs.lines.Lists.{pairs_across, pairs_after, parts_at, in_front, in_middle, in_one}
+use Rattle.pa_lists.proofs.Elements.{pairs_across, pairs_after, parts_at, in_front, in_middle, in_one}
 use Rattle.pa_one_run.proofs.lines.Sorting.{rises_by, sorted_by}
 
 -- every record is of one thread
@@ -97,9 +98,6 @@ finds_no_less cells ps alone h m n first second less slot =
 
 left_by : (m : Mark) (p : Step) → m.step ≡ Some p → left_number m ≡ number_of m.found + 1
 left_by m p step = rw step refl
-
-left_least : (m : Mark) → number_of m.found ≤ left_number m
-left_least m = omega arith
 
 -- a path's last word is its first, or a mark left it
 path_left : (ms : List Mark) (s : SlotName) (u : ℕ) (vs : List ℕ) (w : ℕ) → IsPath ms s u vs w → (u ≡ w) ⊎ ((m : Mark) × Contains ms m × (m.slot ≡ s) × (left_number m ≡ number_of w))
@@ -168,7 +166,7 @@ finds_left ms slots rises seen front back m parts h =
             | inl e ↦ let here : number_of m.found ≡ number_of n.found = ap (λ (z : Mark). number_of z.found) e in omega arith
             | inr after ↦
                 let least = seen m n (in_middle front back ms m parts) at.among (pairs_head Rises m n back (pairs_after Rises front (m ∷ back) cut) after) (sym at.slot) in
-                let more = left_least m in
+                let more = found_left m in
                 omega arith
           ]
         ]

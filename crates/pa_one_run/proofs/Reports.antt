@@ -9,18 +9,20 @@ use Rattle.pa_record.specs.declared.report.ReportLine.{ReportLine}
 use Rattle.pa_record.specs.declared.report.Tally.{Tally}
 use Rattle.pa_record.specs.Root.{new_root, root_replayed}
 use Rattle.pa_record.specs.Census.{census}
-use Rattle.pa_record.proofs.Members.{first_in, later_in}
+use Rattle.pa_lists.proofs.Members.{first_in, later_in}
 use Rattle.pa_record.proofs.Same.{same_tally, same_line}
-use Rattle.pa_record.proofs.Joined.{filter_cases}
+use Rattle.pa_lists.proofs.Joined.{filter_cases}
+use Rattle.pa_record.proofs.OneSum.{one_sum}
 use Rattle.pa_rules.specs.declared.played.Played.{Played}
 use Rattle.pa_rules.specs.Caches.{Cache, Caches, with_cache, CacheRow, CachesTo, no_caches}
 use Rattle.pa_rules.specs.Report.{until, HasSize, IsTally, IsCached, HasCensus, census_of, cached_slots, cached_bytes, IsReportLine, IsReport}
 use Rattle.pa_rules.proofs.FourPlaces.{one_until}
 use Rattle.pa_rules.proofs.Numbering.{rising_differ}
 use Rattle.pa_rules.proofs.ByLines.{is_until}
-use Rattle.pa_one_run.proofs.Filed.{Parts, IsFiled}
+use Rattle.pa_one_run.specs.Parts.{Parts}
+use Rattle.pa_one_run.proofs.Filed.{IsFiled}
 use Rattle.pa_one_run.proofs.roots.Classes.{kind}
-use Rattle.pa_one_run.proofs.lines.Lists.{map_tells, one_sum}
+use Rattle.pa_lists.proofs.Elements.{map_tells}
 use Rattle.pa_one_run.proofs.placing.Placing.{row_once}
 
 -- ---- the size of a slot

@@ -6,15 +6,12 @@ use Rattle.pa_buckets.specs.Table.{slot_of, pages_of, slots_of}
 use Rattle.pa_buckets.proofs.Facts.{IsRow-of}
 use Rattle.pa_record.specs.Spans.{Span, bytes_of, more_pages, more_slots, with_list, with_free, without_front}
 use Rattle.pa_record.specs.Sound.{IsCounted}
-use Rattle.pa_record.proofs.Members.{first_in}
-use Rattle.pa_record.proofs.SpanSteps.{with_free_front}
+use Rattle.pa_lists.proofs.Members.{first_in}
+use Rattle.pa_record.proofs.SpanSteps.{with_free_front, size_some}
 use Rattle.pa_place.specs.Served.{IsLow}
 
 pub few_bytes : (c : ℕ) → c < 59 → 16384 * pages_of c ≤ 917504
 few_bytes c real = let b = IsRow-of c real in let p = b.few_pages in omega arith
-
-pub some_bytes : (c : ℕ) → c < 59 → 0 < slot_of c
-some_bytes c real = let b = IsRow-of c real in let p = b.least_slot in omega arith
 
 pub few_slots : (c : ℕ) → c < 59 → slots_of c ≤ 1024
 few_slots c real = let b = IsRow-of c real in let p = b.few_slots in omega arith
@@ -57,7 +54,7 @@ has_room s h below =
     let pages = b.few_pages in
     let committed = h.committed in
     record {
-      some = some_bytes s.class h.class;
+      some = size_some s.class h.class;
       slots = omega arith;
       product = omega arith;
       committed = omega arith;
@@ -71,13 +68,6 @@ front_length s h below =
     let f = with_free_front s h below in
     let e = ap length f.free in
     omega arith
-
-pub free_allocated : (s : Span) → (with_free s).allocated ≡ s.allocated
-free_allocated s = by_list s.free s
-  where
-    by_list : (xs : List ℕ) (s : Span) → (with_list xs s).allocated ≡ s.allocated
-    by_list [] s = refl
-    by_list (x ∷ xs) s = refl
 
 -- the number that was taken is one of the class's
 pub served_number : (s u t : Span) (n : ℕ) → u ≡ with_free s → u.free ≡ n ∷ t.free → t ≡ without_front t.free u → IsCounted s → s.allocated < slots_of s.class → n < slots_of t.class

@@ -3,10 +3,11 @@ use Rattle.std.proofs.Common.{◌≡◌, ℕ, suc, ◌+◌, ◌-◌, ◌<◌, �
 use Rattle.std.specs.Prelude.{Contains}
 use Rattle.std.proofs.lemmas.Bool.{cases_eq, cases_lt, eq-eqb, ne_eqb}
 use Rattle.std.proofs.lemmas.List.{get_or_past, length-append, nil_from_length}
-use Rattle.pa_record.specs.Spans.{Span, more_pages, more_slots, numbers, provisioned_more}
-use Rattle.pa_record.proofs.Counting.{numbers_has, numbers_in, numbers_length}
-use Rattle.pa_record.proofs.Members.{not_in_none, first_in, later_in, in_cases}
+use Rattle.pa_record.specs.Spans.{Span, more_pages, more_slots, provisioned_more}
+use Rattle.pa_lists.proofs.Different.{numbers_has, numbers_in, numbers_length}
+use Rattle.pa_lists.proofs.Members.{not_in_none, first_in, later_in, in_cases}
 use Rattle.pa_place.specs.CameBack.{AreTimes, times_in}
+use Rattle.pa_lists.specs.Numbers.{numbers}
 
 times_first : (n x : ℕ) (xs : List ℕ) → x ≡ n → times_in n (x ∷ xs) ≡ 1 + times_in n xs
 times_first n x xs same = rw (eq-eqb x n same) refl

@@ -15,16 +15,17 @@ use Rattle.pa_place.specs.Served.{IsServed}
 use Rattle.pa_record.specs.Root.{Root, in_state, turn_after}
 use Rattle.pa_record.specs.Sound.{IsSound}
 use Rattle.pa_record.specs.Chosen.{TestsUsed}
-use Rattle.pa_record.proofs.Members.{of_some, not_some}
+use Rattle.pa_lists.proofs.Members.{of_some, not_some}
 use Rattle.pa_record.proofs.Entering.{one_if, in_state_is, same_state-true, same_state-self}
 use Rattle.pa_place.specs.declared.lists.Lists.{Lists}
 use Rattle.pa_place.specs.Listing.{IsListing, AreListed, HasListRoom, is_class}
 use Rattle.pa_place.specs.Filed.{AreFiled, HasRoomToList, CanRefileAt, IsRefiledAt, CanFile, IsFiledAnew}
 use Rattle.pa_place.specs.Store.{IsFiled, HaveTurns, EntersAt}
 use Rattle.pa_place.specs.declared.store.Store.{Store}
-use Rattle.pa_place.proofs.Placing.{member_at, there}
+use Rattle.pa_place.proofs.Placing.{there}
 use Rattle.pa_place.proofs.Listing.{IsLast, stands, stays, alike, refiled_by, listed_in_turn}
 use Rattle.pa_place.proofs.Setting.{set_same, set_parts, count_set, counts_less}
+use Rattle.pa_lists.proofs.Indexed.{at_in}
 
 -- a span of its class is one that is in the state
 of_class : (a : State) (s : Span) (class : ℕ) → s.class ≡ class → is_of class a s ≡ is_in a s
@@ -270,7 +271,7 @@ filed_pushed ss s lists none room h =
 
 -- the turns of a sound root, also after a span changed but for its state and turn
 pub sound_turns : (r : Root) → IsSound r → HaveTurns r.spans r.turn
-sound_turns r sound j v f used = sound.turns v (member_at r.spans j v f) used
+sound_turns r sound j v f used = sound.turns v (at_in r.spans j v f) used
 
 pub turns_alike : (ss : List Span) (i turn : ℕ) (s t : Span) → slice_get ss i ≡ Some s → t.state ≡ s.state → t.turn ≡ s.turn → HaveTurns ss turn → HaveTurns (set ss i t) turn
 turns_alike ss i turn s t e same turns h = λ j v f used. elim (set_parts ss i j s t v e f) [

@@ -12,8 +12,8 @@ use Rattle.pa_buckets.specs.declared.spans.State.TheVariants as state
 use Rattle.pa_record.specs.Spans.{Span, name_of, holds, number_in, with_front, without_pages, state_back, is_in, earliest}
 use Rattle.pa_record.specs.Root.{Root, in_state, turn_after, entered, decommitted_span, oldest_decommitted, decommitted_times, empties, put_back, returned, all_returned, IsOut}
 use Rattle.pa_record.specs.Sound.{IsCounted, IsSound}
-use Rattle.pa_record.proofs.Members.{of_some, find_is}
-use Rattle.pa_record.proofs.Pairs.{pairs_head, pairs_tail}
+use Rattle.pa_lists.proofs.Members.{of_some, find_is}
+use Rattle.pa_lists.proofs.Pairs.{pairs_head, pairs_tail}
 use Rattle.pa_record.proofs.Entering.{IsLike}
 use Rattle.pa_record.proofs.Lawful.{out_is_out}
 use Rattle.pa_record.proofs.Returning.{oldest_is, returned_is, still_out}

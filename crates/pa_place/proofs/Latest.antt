@@ -13,13 +13,14 @@ use Rattle.std.proofs.lemmas.Option.{slice_get_within, slice_get-get_or, get_or_
 use Rattle.pa_record.specs.Root.{Root}
 use Rattle.pa_record.specs.Sound.{IsSound}
 use Rattle.pa_record.specs.Chosen.{TestsUsed}
-use Rattle.pa_record.proofs.Members.{of_some}
+use Rattle.pa_lists.proofs.Members.{of_some}
 use Rattle.pa_record.proofs.Entering.{same_state-true}
 use Rattle.pa_place.specs.Listing.{IsSooner, IsListing, AreListed, is_class}
 use Rattle.pa_place.specs.Filed.{last_of}
-use Rattle.pa_place.proofs.Placing.{member_at, there}
+use Rattle.pa_place.proofs.Placing.{there}
 use Rattle.pa_place.proofs.Listing.{last_is_latest, listed_within, place_of}
 use Rattle.pa_place.proofs.Filing.{in_class, in_one}
+use Rattle.pa_lists.proofs.Indexed.{at_in}
 
 -- spans in one of the states that are listed have entered it
 tests_used : (a : State) (class : ℕ) (r : Root) → same_state a state.None ≡ false → TestsUsed (is_of class a) r
@@ -45,16 +46,16 @@ abbrev pub OthersFrom : ℕ → ℕ → List ℕ → List Span → Type 0
 OthersFrom k class ids ss = (m i : ℕ) (s : Span) → k ≤ m → slice_get ids m ≡ Some i → slice_get ss i ≡ Some s → is_class class s ≡ false
 
 pub ring_there : (ss : List Span) (ids : List ℕ) (k i : ℕ) → IsListing (is_in state.Empty) ss ids → slice_get ids k ≡ Some i → i < length ss
-ring_there ss ids k i h e = let (s, f, p) = h.here i (member_at ids k i e) in slice_get_within ss i s f
+ring_there ss ids k i h e = let (s, f, p) = h.here i (at_in ids k i e) in slice_get_within ss i s f
 
 pub ring_latest : (class : ℕ) (r : Root) (ids : List ℕ) (k i : ℕ) (s : Span) → IsSound r → IsListing (is_in state.Empty) r.spans ids → slice_get ids k ≡ Some i → slice_get r.spans i ≡ Some s →
     is_class class s ≡ true → OthersFrom (k + 1) class ids r.spans → slice_get r.spans i ≡ latest (is_of class state.Empty) r.spans
 ring_latest class r ids k i s sound h at e hit others =
-    let (u, f, p) = h.here i (member_at ids k i at) in
+    let (u, f, p) = h.here i (at_in ids k i at) in
     let passes : is_in state.Empty s ≡ true = subst (λ z. is_in state.Empty z ≡ true) (of_some u s (sym f ∙ e)) p in
     e
     ∙ sym (is_latest (is_of class state.Empty) r s sound (tests_used state.Empty class r refl) (record {
-      among = member_at r.spans i s e;
+      among = at_in r.spans i s e;
       passes = and_from _ _ hit passes;
       most = λ t member good.
           let (j, g) = place_of r.spans t member in

@@ -10,8 +10,8 @@ use Rattle.pa_record.specs.Spans.{Span, latest, earliest}
 use Rattle.pa_record.specs.Root.{Root}
 use Rattle.pa_record.specs.Sound.{IsSound}
 use Rattle.pa_record.specs.Chosen.{TestsUsed}
-use Rattle.pa_record.proofs.Members.{of_some, not_some, not_in_none, first_in, later_in, in_cases}
-use Rattle.pa_record.proofs.Pairs.{pairs_none, pairs_cons, pairs_head, pairs_tail, pairs_push}
+use Rattle.pa_lists.proofs.Members.{of_some, not_some, not_in_none, first_in, later_in, in_cases}
+use Rattle.pa_lists.proofs.Pairs.{pairs_none, pairs_cons, pairs_head, pairs_tail, pairs_push}
 use Rattle.pa_record.proofs.PoolSteps.{slice_get_more}
 use Rattle.pa_record.proofs.Choice.{latest_is, earliest_is}
 use Rattle.pa_record.proofs.Chosen.{is_latest, is_earliest}
@@ -20,7 +20,8 @@ use Rattle.pa_place.specs.Scans.{span_at}
 use Rattle.pa_place.specs.Listing.{IsSooner, IsListing, IsInTurn, without_index, refiled}
 use Rattle.pa_place.specs.Filed.{last_of}
 use Rattle.pa_place.proofs.Setting.{set_same, set_other, set_parts, count_set}
-use Rattle.pa_place.proofs.Placing.{member_at, there}
+use Rattle.pa_place.proofs.Placing.{there}
+use Rattle.pa_lists.proofs.Indexed.{at_in}
 
 without_in : (i j : ℕ) (ids : List ℕ) → Contains (without_index i ids) j → Contains ids j
 without_in i j [] among = among
@@ -222,7 +223,7 @@ first_is_earliest test r i ids s sound used h e =
     let passes = subst (λ z. test z ≡ true) same p in
     e
     ∙ sym (is_earliest test r s sound used (record {
-      among = member_at r.spans i s e;
+      among = at_in r.spans i s e;
       passes = passes;
       least = λ t among good.
           let (j, g) = place_of r.spans t among in
@@ -337,7 +338,7 @@ listed_latest test r ids i sound used h among last =
     let (s, e, passes) = h.here i among in
     e
     ∙ sym (is_latest test r s sound used (record {
-      among = member_at r.spans i s e;
+      among = at_in r.spans i s e;
       passes = passes;
       most = λ t member good.
           let (j, g) = place_of r.spans t member in
@@ -370,9 +371,9 @@ empty_by (k ∷ ids) e =
 pub last_is_latest : (test : Span → Bool) (r : Root) (ids : List ℕ) (o : Option ℕ) → IsSound r → TestsUsed test r → IsListing test r.spans ids → o ≡ last_of ids → span_at r.spans o ≡ latest test r.spans
 last_is_latest test r ids None sound used h e = sym (none_is_latest test r.spans (subst (λ xs. IsListing test r.spans xs) (empty_by ids (sym e)) h))
 last_is_latest test r ids (Some i) sound used h e =
-    listed_latest test r ids i sound used h (member_at ids (length ids - 1) i (sym e)) (λ j among. last_pair (IsSooner r.spans) ids j i h.order among (sym e))
+    listed_latest test r ids i sound used h (at_in ids (length ids - 1) i (sym e)) (λ j among. last_pair (IsSooner r.spans) ids j i h.order among (sym e))
 
 -- and stands among the spans
 pub listed_within : (test : Span → Bool) (ss : List Span) (ids : List ℕ) (o : Option ℕ) → IsListing test ss ids → o ≡ last_of ids → IfSome o (λ at. at < length ss)
 listed_within test ss ids None h e = tt
-listed_within test ss ids (Some i) h e = let (s, f, p) = h.here i (member_at ids (length ids - 1) i (sym e)) in slice_get_within ss i s f
+listed_within test ss ids (Some i) h e = let (s, f, p) = h.here i (at_in ids (length ids - 1) i (sym e)) in slice_get_within ss i s f

@@ -14,7 +14,7 @@ use Rattle.pa_record.specs.Root.{Root, IsOut, IsOutOf, IsTitleOut}
 use Rattle.pa_record.specs.declared.census.Census.{Census}
 use Rattle.pa_record.specs.Census.{kept_of, count_in, census}
 use Rattle.pa_record.specs.Sound.{IsCounted}
-use Rattle.pa_record.proofs.Members.{of_some, not_some, find_is, first_in, later_in}
+use Rattle.pa_lists.proofs.Members.{of_some, not_some, find_is, first_in, later_in}
 use Rattle.pa_record.proofs.Returning.{find_out}
 use Rattle.pa_place.specs.Served.{IsLow}
 use Rattle.pa_place.specs.Store.{IsReady}
@@ -65,9 +65,6 @@ sum_most f m (s ∷ ss) h =
 kept_most : (s : Span) → IsCounted s → kept_of s ≤ slots_of s.class
 kept_most s h = let p = h.most in omega arith
 
-kept_few : (s : Span) → IsCounted s → kept_of s ≤ 1024
-kept_few s h = let b = IsRow-of s.class h.class in let p = kept_most s h in let q = b.few_slots in omega arith
-
 kept_bytes : (s : Span) → IsCounted s → slot_of s.class * kept_of s ≤ 917504
 kept_bytes s h =
     let p = slots_inside s.class (kept_of s) h.class (kept_most s h) in
@@ -84,12 +81,6 @@ low_product m n a b =
 
 pub counted_all : (r : Root) → IsReady r → (s : Span) → Contains r.spans s → IsCounted s
 counted_all r ready s among = (ready.sound.spans s among).counted
-
-pub slots_low : (r : Root) → IsReady r → length r.spans ≤ 2147483647 → sum_by kept_of r.spans < 2 ^ 64
-slots_low r ready few =
-    let p = sum_most kept_of 1024 r.spans (λ s among. kept_few s (counted_all r ready s among)) in
-    let q = low_product 1024 (length r.spans) (omega arith) few in
-    omega arith
 
 pub bytes_low : (r : Root) → IsReady r → length r.spans ≤ 2147483647 → sum_by (λ (s : Span). slot_of s.class * kept_of s) r.spans < 2 ^ 64
 bytes_low r ready few =

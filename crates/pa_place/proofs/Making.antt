@@ -7,17 +7,17 @@ use Rattle.pa_machine.specs.declared.title.Title.{Title}
 use Rattle.pa_buckets.specs.declared.spans.State.{State}
 use Rattle.pa_buckets.specs.Table.{slot_of, pages_of, slots_of}
 use Rattle.pa_record.specs.declared.taken.SuperPage.{SuperPage}
-use Rattle.pa_record.specs.Spans.{Span, title_at, with_list, with_free, without_front, same_state, state_in_use, listed}
+use Rattle.pa_record.specs.Spans.{Span, title_at, with_free, without_front, state_in_use, listed}
 use Rattle.pa_record.specs.Root.{Root, current, in_state, entered, new_span, with_span, found_or_new, at_page, span_for, front_taken, taken_from, Took, one_take, takes, and_then}
 use Rattle.pa_record.specs.Sound.{IsSound, IsMade}
-use Rattle.pa_record.proofs.Members.{not_some, not_in_none, first_in, in_cases}
-use Rattle.pa_record.proofs.Pairs.{pairs_none, pairs_cons}
-use Rattle.pa_record.proofs.Joined.{pairs_append}
+use Rattle.pa_lists.proofs.Members.{not_some, not_in_none, first_in, in_cases}
+use Rattle.pa_lists.proofs.Pairs.{pairs_none, pairs_cons}
+use Rattle.pa_lists.proofs.Joined.{pairs_append}
 use Rattle.pa_record.proofs.Places.{put_cases}
 use Rattle.pa_record.proofs.Entering.{IsLike, in_state_like, like_trans, entered_there}
 use Rattle.pa_record.proofs.Slots.{slots_apart, slot_within}
 use Rattle.pa_record.proofs.SpanSteps.{with_free_front}
-use Rattle.pa_record.proofs.Taking.{front_from, entered_made}
+use Rattle.pa_record.proofs.Taking.{front_from, entered_made, title_like, same_made, free_made}
 use Rattle.pa_record.proofs.Filling.{listed_is, usable_less, some_slots, with_span_sound, take_cases}
 use Rattle.pa_place.specs.declared.placed.Made.{Made}
 use Rattle.pa_place.specs.Made.{title_in, IsInBatch, IsInBatches, IsBatch, AreMadeNow, made_from, cut_in, and_cut, takes_cut}
@@ -69,18 +69,6 @@ of_batches m s t h = elim (cases_Bool (ltb m s.made)) [
   | inr none ↦ absurd (let p = ltb-false _ _ none in let (n, from, below, e) = h in omega arith)
 ]
 
--- a title of a span, by where that is
-like_title : (t s : Span) (n : ℕ) → IsLike t s → title_at t n ≡ title_at s n
-like_title t s n like = titled t.place s.place t.born s.born t.class s.class like.place like.born like.class
-  where
-    titled : (p q b d c e : ℕ) → p ≡ q → b ≡ d → c ≡ e →
-        (let x : Title = record { start = p + slot_of c * n; len = slot_of c; born = b } in
-        let y : Title = record { start = q + slot_of e * n; len = slot_of e; born = d } in x ≡ y)
-    titled p q b d c e h k l = rw (h, k, l) refl
-
-made_in_state : (to : State) (turn : ℕ) (t : Span) → (in_state to turn t).made ≡ t.made
-made_in_state to turn t = elim (cases_Bool (same_state t.state to)) [ inl same ↦ rw same refl | inr other ↦ rw other refl ]
-
 -- a span that made more, in place of the one that stood there
 abbrev pub IsMadeMore : Root → Root → Span → ℕ → Title → Type 0
 IsMadeMore r after s k t = IsMade after t ↔ (IsMade r t ⊎ IsBetween s.made k s t)
@@ -89,13 +77,13 @@ entered_more : (r : Root) (s t : Span) (to : State) (x : Title) → IsSound r �
 entered_more r s t to x sound among like more =
     let u = in_state to r.turn t in
     let near : IsLike u s = like_trans u t s (in_state_like to r.turn t) like in
-    let many = made_in_state to r.turn t in (
+    let many = same_made to r.turn t in (
       λ made. (
           let (v, member, n, below, e) = made in
           elim (put_cases u v r.spans sound.places member) [
             | inl same ↦
                 let less : n < t.made = let p = ap (λ (z : Span). z.made) same in omega arith in
-                let is : x ≡ title_at s n = e ∙ ap (λ z. title_at z n) same ∙ like_title u s n near in
+                let is : x ≡ title_at s n = e ∙ ap (λ z. title_at z n) same ∙ title_like u s n near in
                 elim (cases_Bool (ltb n s.made)) [
                   | inl old ↦ inl (s, among, n, ltb-true _ _ old, is)
                   | inr new ↦ inr (n, ltb-false _ _ new, less, is)
@@ -104,7 +92,7 @@ entered_more r s t to x sound among like more =
           ]),
       λ either. elim either [
         | inl made ↦ entered_made r s t to x sound among like more made
-        | inr new ↦ let (n, from, below, e) = new in (u, entered_there r s t to among like, n, omega arith, e ∙ sym (like_title u s n near))
+        | inr new ↦ let (n, from, below, e) = new in (u, entered_there r s t to among like, n, omega arith, e ∙ sym (title_like u s n near))
       ],
     )
 
@@ -159,16 +147,9 @@ one_batch m s = elim (cases_Bool (ltb m s.made)) [
     Apart : Made → Made → Type 0
     Apart b c = (t : Title) → IsInBatch b t → IsInBatch c t → ⊥
 
-free_more : (s : Span) → s.made ≤ (with_free s).made
-free_more s = by_list s.free s
-  where
-    by_list : (xs : List ℕ) (s : Span) → s.made ≤ (with_list xs s).made
-    by_list [] s = omega arith
-    by_list (x ∷ xs) s = omega arith
-
 -- a span that stands somewhere tells the slots of one that is like it
 between_like : (m k : ℕ) (s u : Span) (t : Title) → IsLike u s → IsBetween m k u t → IsBetween m k s t
-between_like m k s u t like (n, from, below, e) = (n, from, below, e ∙ like_title u s n like)
+between_like m k s u t like (n, from, below, e) = (n, from, below, e ∙ title_like u s n like)
 
 pub like_sym : (s u : Span) → IsLike u s → IsLike s u
 like_sym s u like = record { place = sym like.place; born = sym like.born; class = sym like.class }
@@ -184,7 +165,7 @@ cut_there r s ready among left =
     let t = without_front f.rest u in
     let like = (front_from s f.rest).like in
     let like' : IsLike u s = record { place = like.place; born = like.born; class = like.class } in
-    let more = free_more s in
+    let more = free_made s in
     let few : u.made ≤ slots_of s.class = let p = f.counted.most in let c = ap slots_of like.class in omega arith in
     let root : (from_there s r).root ≡ entered (state_in_use t) t r = ap (λ xs. (front_taken xs u r).root) f.free in
     subst (λ z. AreMadeNow s.class r z (made_from s.made u)) (sym root)

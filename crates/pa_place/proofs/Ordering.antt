@@ -9,8 +9,8 @@ use Rattle.pa_record.specs.declared.taken.SuperPage.{SuperPage}
 use Rattle.pa_record.specs.Spans.{Span}
 use Rattle.pa_record.specs.Root.{Root, in_state, current, new_span, with_span, opened}
 use Rattle.pa_record.specs.Sound.{IsSound, IsBornBelow}
-use Rattle.pa_record.proofs.Members.{of_some, not_some, first_in, later_in, in_cases}
-use Rattle.pa_record.proofs.Pairs.{pairs_cons, pairs_head, pairs_tail, pairs_push}
+use Rattle.pa_lists.proofs.Members.{of_some, not_some, first_in, later_in, in_cases}
+use Rattle.pa_lists.proofs.Pairs.{pairs_cons, pairs_head, pairs_tail, pairs_push}
 use Rattle.pa_record.proofs.Entering.{IsLike, like_bytes, like_trans, in_state_like}
 use Rattle.pa_record.proofs.Taking.{front_from}
 use Rattle.pa_place.specs.Served.{IsServed}

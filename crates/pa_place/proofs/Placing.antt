@@ -2,7 +2,6 @@
 use Rattle.std.proofs.Common.{◌≡◌, ℕ, zero, suc, ◌+◌, ◌-◌, ◌*◌, ◌<◌, ◌≤◌, true, false, leb, List, [], ◌∷◌, ◌++◌, length, set, refl, sym, ◌∙◌, ap, subst, arith, inl, inr, Option, Some, None}
 use Rattle.std.specs.Prelude.{Contains, AllPairs, slice_get, IfSome, is_some}
 use Rattle.std.proofs.lemmas.Bool.{cases_Bool, both_ways, true≢false, leb-true, le-leb}
-use Rattle.std.proofs.lemmas.Option.{slice_get_within, get_or_from_slice_get}
 use Rattle.std.proofs.lemmas.List.Elements.{All-pop}
 use Rattle.std.proofs.lemmas.List.{length-append}
 use Rattle.pa_machine.specs.declared.title.Title.{Title}
@@ -12,9 +11,8 @@ use Rattle.pa_record.specs.declared.taken.SuperPage.{SuperPage}
 use Rattle.pa_record.specs.Spans.{Span, with_free, without_front, state_in_use, title_at, listed, same_place, put}
 use Rattle.pa_record.specs.Root.{Root, current, in_state, turn_after, entered, Found, new_span, with_span, found_or_new, at_page, span_for, Took, front_taken}
 use Rattle.pa_record.specs.Sound.{IsSound}
-use Rattle.pa_record.proofs.Members.{of_some, not_some}
-use Rattle.pa_record.proofs.PoolSteps.{slice_get_at}
-use Rattle.pa_record.proofs.Pairs.{pairs_head, pairs_tail}
+use Rattle.pa_lists.proofs.Members.{of_some, not_some}
+use Rattle.pa_lists.proofs.Pairs.{pairs_head, pairs_tail}
 use Rattle.pa_record.proofs.Places.{IsElsewhere, place_sym, place_trans}
 use Rattle.pa_record.proofs.Entering.{IsLike, like_place, like_trans, in_state_like}
 use Rattle.pa_record.proofs.Filling.{listed_is, usable_less, some_slots, with_span_sound}
@@ -22,10 +20,7 @@ use Rattle.pa_record.proofs.Taking.{front_from}
 use Rattle.pa_place.specs.Scans.{span_at}
 use Rattle.pa_place.specs.Served.{blank_span, IsLow, IsServed}
 use Rattle.pa_place.specs.Store.{IsReady, FindsPlace, HasBlanks, room_for}
-
--- a member by its place
-pub member_at : {A : Type 0} (xs : List A) (i : ℕ) (x : A) → slice_get xs i ≡ Some x → Contains xs x
-member_at xs i x e = (i, slice_get_within xs i x e, get_or_from_slice_get xs i x x e)
+use Rattle.pa_lists.proofs.Indexed.{at_in, slice_get_at}
 
 -- a span in place of the one in its place, by where it stands
 pub put_set : (s t : Span) (ts : List Span) (i : ℕ) → AllPairs IsElsewhere ts → slice_get ts i ≡ Some t → same_place t s ≡ true → put s ts ≡ set ts i s
@@ -35,7 +30,7 @@ put_set s t (x ∷ ts) zero h e same =
     let near : same_place x s ≡ true = subst (λ z. same_place z s ≡ true) (sym f) same in
     rw near refl
 put_set s t (x ∷ ts) (suc i) h e same = elim (cases_Bool (same_place x s)) [
-  | inl near ↦ absurd (both_ways _ (pairs_head IsElsewhere x t ts h (member_at ts i t e)) (joined x s t near (place_sym t s same)))
+  | inl near ↦ absurd (both_ways _ (pairs_head IsElsewhere x t ts h (at_in ts i t e)) (joined x s t near (place_sym t s same)))
   | inr far ↦ rw far (ap (λ us. x ∷ us) (put_set s t ts i (pairs_tail IsElsewhere x ts h) e same))
 ]
   where
@@ -99,7 +94,7 @@ is_room class r at e = room_by class r (current r) at refl e
 
 -- the current super page is one of the root's
 pub current_in : (r : Root) (at : SuperPage) → current r ≡ Some at → Contains r.supers at
-current_in r at e = member_at r.supers (length r.supers - 1) at e
+current_in r at e = at_in r.supers (length r.supers - 1) at e
 
 -- where a span is found, its root is ready and it has a slot left
 pub record IsReadyFound (f : Found) : Type 0 where
@@ -162,9 +157,6 @@ blanks_popped class n before after s e h = record {
   many = let p = h.many in let q = ap length e in let k = length-append after (s ∷ []) in omega arith;
   blank = (All-pop (λ (z : Span). z ≡ blank_span class) before after (Some s) e h.blank).0;
 }
-
-pub blank_popped : (class n : ℕ) (before after : List Span) (s : Span) → before ≡ after ++ s ∷ [] → HasBlanks class n before → s ≡ blank_span class
-blank_popped class n before after s e h = (All-pop (λ (z : Span). z ≡ blank_span class) before after (Some s) e h.blank).1
 
 pub unlisted : (class : ℕ) (r : Root) (o : Option ℕ) → span_at r.spans o ≡ listed class r.spans → is_some o ≡ false → listed class r.spans ≡ None
 unlisted class r None e none = sym e

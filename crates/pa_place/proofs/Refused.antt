@@ -5,7 +5,7 @@ use Rattle.pa_machine.specs.declared.title.Title.{Title}
 use Rattle.pa_record.specs.Pool.{PoolState, IsLowest}
 use Rattle.pa_record.specs.Root.{Root, Filled, takes, opened}
 use Rattle.pa_record.specs.Sound.{IsSound, IsBornBelow}
-use Rattle.pa_record.proofs.Members.{not_some}
+use Rattle.pa_lists.proofs.Members.{not_some}
 use Rattle.pa_record.proofs.Lawful.{fill_keeps}
 use Rattle.pa_place.specs.Placed.{Fills, mapped_by, IsRefused}
 use Rattle.pa_place.proofs.Filling.{filled_with}

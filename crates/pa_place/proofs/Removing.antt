@@ -8,7 +8,7 @@ use Rattle.pa_machine.specs.declared.title.Title.{Title}
 use Rattle.pa_machine.specs.declared.word.SlotName.{SlotName}
 use Rattle.pa_record.specs.Spans.{name_of}
 use Rattle.pa_record.specs.Root.{without_map}
-use Rattle.pa_record.proofs.Members.{not_in_none, in_cases, of_some, not_some}
+use Rattle.pa_lists.proofs.Members.{not_in_none, in_cases, of_some, not_some}
 
 -- the list without the first that passes
 abbrev pub without_first : {A : Type 0} → (A → Bool) → List A → List A

@@ -1,20 +1,17 @@
 -- The runs that are taken: which is removed, and how many there can be.
-use Rattle.std.proofs.Common.{◌≡◌, ◌≢◌, ◌∙◌, ℕ, suc, ◌+◌, ◌<◌, ◌≤◌, eqb, List, [], ◌∷◌, ◌++◌, length, get_or, map, refl, ap, subst, arith, inl, inr, Some, None}
-use Rattle.std.specs.Prelude.{Contains, AllPairs, All, position, remove}
+use Rattle.std.proofs.Common.{◌≡◌, ◌≢◌, ◌∙◌, ℕ, suc, ◌+◌, ◌<◌, ◌≤◌, eqb, List, [], ◌∷◌, ◌++◌, length, map, refl, ap, subst, arith, inl, inr, Some, None}
+use Rattle.std.specs.Prelude.{Contains, AllPairs, position, remove}
 use Rattle.std.proofs.lemmas.Bool.{cases_Bool}
-use Rattle.std.proofs.lemmas.List.Elements.{Contains-get_or, Contains-push_cases}
+use Rattle.std.proofs.lemmas.List.Elements.{Contains-push_cases}
 use Rattle.pa_record.specs.declared.taken.Taken.{Taken}
 use Rattle.pa_record.specs.Pool.{PoolState, IsApart, IsFreeRun, without_run}
 use Rattle.std.proofs.lemmas.List.{length-append}
-use Rattle.pa_record.proofs.Members.{has, not_in_none, first_in, later_in, in_cases}
-use Rattle.pa_record.proofs.Pairs.{pairs_none, pairs_cons, pairs_tail, pairs_head, pairs_push}
-use Rattle.pa_record.proofs.Counting.{passing_most, length_is}
+use Rattle.pa_lists.proofs.Members.{has, not_in_none, first_in, later_in, in_cases}
+use Rattle.pa_lists.proofs.Pairs.{pairs_none, pairs_cons, pairs_tail, pairs_head, pairs_push}
+use Rattle.pa_lists.proofs.Different.{passing_most, length_is}
 use Rattle.pa_place.specs.Pool.{IsSoundPlan}
 use Rattle.pa_place.proofs.Removing.{without_first, removed_first, none_removed_first}
-
--- what holds of all members holds of each
-pub all_from_members : {A : Type 0} (P : A → Type 0) (xs : List A) → ((x : A) → Contains xs x → P x) → All P xs
-all_from_members P xs h k d below = h (get_or xs k d) (Contains-get_or xs k d below)
+use Rattle.pa_record.proofs.PoolSteps.{without_in, without_pairs, apart_swap}
 
 -- the run that begins there, by its place
 without_run_is : (first : ℕ) (ts : List Taken) → without_first (λ (t : Taken). eqb t.first first) ts ≡ without_run first ts
@@ -29,25 +26,6 @@ removed_is first k ts e = removed_first (λ (t : Taken). eqb t.first first) k ts
 
 pub none_removed : (first : ℕ) (ts : List Taken) → position (λ (t : Taken). eqb t.first first) ts ≡ None → ts ≡ without_run first ts
 none_removed first ts e = none_removed_first (λ (t : Taken). eqb t.first first) ts e ∙ without_run_is first ts
-
-without_in : (first : ℕ) (ts : List Taken) (u : Taken) → Contains (without_run first ts) u → Contains ts u
-without_in first [] u among = among
-without_in first (t ∷ ts) u among = elim (cases_Bool (eqb t.first first)) [
-  | inl hit ↦ later_in t u ts (rw hit at among)
-  | inr miss ↦ elim (in_cases t u (without_run first ts) (rw miss at among)) [
-    | inl e ↦ subst (λ z. Contains (t ∷ ts) z) e (first_in t ts)
-    | inr old ↦ later_in t u ts (without_in first ts u old)
-  ]
-]
-
-without_pairs : (R : Taken → Taken → Type 0) (first : ℕ) (ts : List Taken) → AllPairs R ts → AllPairs R (without_run first ts)
-without_pairs R first [] h = h
-without_pairs R first (t ∷ ts) h = elim (cases_Bool (eqb t.first first)) [
-  | inl hit ↦ rw hit (pairs_tail R t ts h)
-  | inr miss ↦ rw miss (pairs_cons R t (without_run first ts)
-      (λ u among. pairs_head R t u ts h (without_in first ts u among))
-      (without_pairs R first ts (pairs_tail R t ts h)))
-]
 
 abbrev pub RunsApart : Taken → Taken → Type 0
 RunsApart t u = IsApart t.first t.count u
@@ -66,10 +44,6 @@ gave_sound supers entries next first ts h = record {
 
 pub entered_sound : (supers entries next : ℕ) (ts : List Taken) → IsSoundPlan (state_of supers entries ts) → IsSoundPlan (state_of supers next ts)
 entered_sound supers entries next ts h = record { few = h.few; some = h.some; inside = h.inside; apart = h.apart }
-
-apart_swap : (t u : Taken) → IsApart t.first t.count u → IsApart u.first u.count t
-apart_swap t u (inl before) = inr before
-apart_swap t u (inr after) = inl after
 
 -- a plan with one run more, which was free
 pub took_sound : (supers entries next : ℕ) (ts : List Taken) (t : Taken) → IsSoundPlan (state_of supers entries ts) → 1 ≤ t.count →

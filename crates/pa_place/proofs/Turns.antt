@@ -4,12 +4,13 @@ use Rattle.std.specs.Prelude.{Contains, AllPairs, slice_get, remove}
 use Rattle.std.proofs.lemmas.Bool.{cases_Bool, cases_lt, eqb-true, eq-eqb}
 use Rattle.std.proofs.lemmas.Option.{slice_get_within, slice_get-get_or}
 use Rattle.pa_record.specs.Spans.{Span}
-use Rattle.pa_record.proofs.Members.{of_some, not_some, first_in, later_in}
-use Rattle.pa_record.proofs.Pairs.{pairs_head, pairs_tail}
+use Rattle.pa_lists.proofs.Members.{of_some, not_some, first_in, later_in}
+use Rattle.pa_lists.proofs.Pairs.{pairs_head, pairs_tail}
 use Rattle.pa_place.specs.Listing.{IsSooner, IsInTurn, IsTurnCut, without_index}
-use Rattle.pa_place.proofs.Placing.{member_at, there}
+use Rattle.pa_place.proofs.Placing.{there}
 use Rattle.pa_place.proofs.Searching.{pairs_at}
 use Rattle.pa_place.proofs.Listing.{once_in_turn}
+use Rattle.pa_lists.proofs.Indexed.{at_in}
 
 -- a step of the search for a turn
 pub turns_below : (ss : List Span) (turn : ℕ) (ids : List ℕ) (m i : ℕ) (v : Span) → IsInTurn ss ids → slice_get ids m ≡ Some i → slice_get ss i ≡ Some v → v.turn < turn →
@@ -46,7 +47,7 @@ at_cut ss ids at k count s h cut e f = elim (cases_lt k count) [
     | inl later ↦
         let within = slice_get_within ids k at f in
         let (i, g) = there ids count (omega arith) in
-        let (v, q) = there ss i (h.within i (member_at ids count i g)) in
+        let (v, q) = there ss i (h.within i (at_in ids count i g)) in
         let less = (pairs_at (IsSooner ss) ids count k i at h.order later g f) v s q e in
         let more = cut.after count i v (omega arith) g q in
         omega arith
@@ -65,7 +66,7 @@ removed_at : (ids : List ℕ) (k i : ℕ) → AllPairs ◌≢◌ ids → slice_g
 removed_at [] k i once e = absurd (not_some i e)
 removed_at (j ∷ ids) zero i once e = rw (eq-eqb j i (of_some j i e)) refl
 removed_at (j ∷ ids) (suc k) i once e =
-    let other = not_same j i (pairs_head ◌≢◌ j i ids once (member_at ids k i e)) in
+    let other = not_same j i (pairs_head ◌≢◌ j i ids once (at_in ids k i e)) in
     rw other (ap (λ xs. j ∷ xs) (removed_at ids k i (pairs_tail ◌≢◌ j ids once) e))
 
 pub removed_cut : (ss : List Span) (ids : List ℕ) (k i : ℕ) → IsInTurn ss ids → slice_get ids k ≡ Some i → remove ids k ≡ without_index i ids

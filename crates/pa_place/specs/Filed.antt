@@ -4,6 +4,7 @@ use Rattle.std.specs.Vec.{vec_capacity}
 use Rattle.std.specs.declared.alloc.Global.{Global}
 use Rattle.pa_buckets.specs.declared.spans.State.{State}
 use Rattle.pa_buckets.specs.declared.spans.State.TheVariants as state
+use Rattle.pa_buckets.specs.Limits.{class_count}
 use Rattle.pa_record.specs.Spans.{Span, is_in, same_state}
 use Rattle.pa_place.specs.declared.lists.Lists.{Lists}
 use Rattle.pa_place.specs.Listing.{IsListing, AreListed, HasListRoom, CanRefile, IsRefiled}
@@ -17,8 +18,8 @@ pub record AreFiled (ss : List Span) (lists : Lists) : Type 0 where
 
 -- there are lists for each class
 pub record HasClasses (lists : Lists) : Type 0 where
-  pub active : length lists.active.items ≡ 59
-  pub decommitted : length lists.decommitted.items ≡ 59
+  pub active : length lists.active.items ≡ class_count
+  pub decommitted : length lists.decommitted.items ≡ class_count
 
 -- there is room for so many spans of the class in its lists
 pub record HasRoomToList (class n : ℕ) (lists : Lists) : Type 0 where

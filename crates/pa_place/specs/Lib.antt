@@ -10,4 +10,3 @@ pub mod Roomy
 pub mod Scans
 pub mod Served
 pub mod Store
-pub mod Tests

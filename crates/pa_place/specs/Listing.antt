@@ -3,6 +3,7 @@ use Rattle.std.specs.Prelude.{◌≡◌, ◌<◌, ◌≤◌, ◌==◌, if◌then
 use Rattle.std.specs.Vec.{vec_capacity}
 use Rattle.std.specs.declared.alloc.Global.{Global}
 use Rattle.pa_buckets.specs.declared.spans.State.{State}
+use Rattle.pa_buckets.specs.Limits.{class_count}
 use Rattle.pa_record.specs.Spans.{Span, is_of}
 
 -- the span at i has a lesser turn than that at j
@@ -22,7 +23,7 @@ is_class class s = s.class == class
 
 -- for each class its spans in a state are listed, in a list that has room for all spans of the class
 pub record AreListed (a : State) (ss : List Span) (lists : List (Vec ℕ Global)) : Type 0 where
-  pub classes : length lists ≡ 59
+  pub classes : length lists ≡ class_count
   pub listing : (class : ℕ) (list : Vec ℕ Global) → slice_get lists class ≡ Some list → IsListing (is_of class a) ss list.items
   pub room : (class : ℕ) (list : Vec ℕ Global) → slice_get lists class ≡ Some list → count_by (is_class class) ss ≤ vec_capacity list
 

@@ -3,6 +3,7 @@ use Rattle.std.specs.Prelude.{◌≡◌, ℕ, ◌+◌, ◌<◌, ◌≤◌, ◌^�
 use Rattle.std.specs.declared.alloc.Global.{Global}
 use Rattle.pa_machine.specs.declared.title.Title.{Title}
 use Rattle.pa_buckets.specs.declared.spans.State.TheVariants as state
+use Rattle.pa_buckets.specs.Limits.{class_count}
 use Rattle.pa_record.specs.Spans.{Span, bytes_of, title_at, with_free, without_front}
 
 -- a span of the class in no place, of which nothing is committed
@@ -12,8 +13,9 @@ blank_span class =
 
 -- there is a list for each class, in which all are blank spans of it
 pub record AreBlank (lists : Vec (Vec Span Global) Global) : Type 0 where
-  pub classes : vec_len lists ≡ 59
-  pub blank : (class : ℕ) (d : Vec Span Global) → class < 59 → All (λ s. s ≡ blank_span class) (slice_index_or lists.items class d).items
+  pub classes : vec_len lists ≡ class_count
+  pub blank : (class : ℕ) (d : Vec Span Global) → class < class_count →
+      All (λ s. s ≡ blank_span class) (slice_index_or lists.items class d).items
 
 -- the same span there
 abbrev pub stands_at : ℕ → ℕ → Span → Span

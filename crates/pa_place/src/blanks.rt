@@ -10,7 +10,7 @@ use std::marker::Model;
 use std::mem;
 
 // The number of classes.
-const CLASSES: usize = 59;
+const CLASSES: usize = pa_buckets::CLASSES as usize;
 
 // Blank spans that lie ready, in a list for each class. They are no part of the root.
 #[derive(Drop)]

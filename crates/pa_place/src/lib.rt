@@ -18,10 +18,8 @@ mod scans;
 mod states;
 mod store;
 mod takes;
-#[cfg(test)]
-mod tests;
 
 pub use placed::{Made, Out, Placed};
-pub use placement::Placement;
+pub use placement::{Placement, ask};
 pub use plain_root::PlainRoot;
 pub use pool_plan::PoolPlan;

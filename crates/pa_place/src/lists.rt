@@ -2,6 +2,7 @@ ghost use Rattle.std.specs.Prelude.{◌≡◌, ◌≢◌, ◌<◌, ◌≤◌, []
 ghost use Rattle.std.specs.Vec.{vec_capacity};
 ghost use Rattle.std.specs.declared.alloc.Global.{Global as Heap};
 ghost use Rattle.pa_buckets.specs.declared.spans.State.{State as SpanState};
+ghost use Rattle.pa_buckets.specs.Limits.{class_count};
 ghost use Rattle.pa_record.specs.Spans.{Span, same_state};
 ghost use Rattle.pa_place.specs.Listing.{AreListed, HasListRoom, CanRefile, IsRefiled, IsInTurn, IsTurnCut, without_index};
 ghost use Rattle.pa_place.specs.Filed.{AreFiled, HasClasses, HasRoomToList, CanRefileAt, IsRefiledAt, CanFile, IsFiledAnew, last_of};
@@ -12,7 +13,7 @@ use pa_machine::OutOfMemory;
 use std::alloc::Global;
 
 // The number of classes.
-const CLASSES: usize = 59;
+const CLASSES: usize = pa_buckets::CLASSES as usize;
 
 // The most spans that are empty at once: 16 stay so, and one more may be until the oldest is decommitted.
 const MOST_LISTED: usize = 17;
@@ -91,7 +92,7 @@ fn no_lists(alloc: Global) -> Result<Vec<Vec<usize>>, OutOfMemory>
 
 // Makes room for so many members of the list of the class in all.
 fn reserve_at(lists: &mut Vec<Vec<usize>>, class: Class, most: usize) -> Result<(), OutOfMemory>
-    requires { length lists.old.items ≡ 59 }
+    requires { length lists.old.items ≡ class_count }
     ensures listed { (a : SpanState) (ss : List Span) → AreListed a ss lists.old.items → AreListed a ss lists.new.items }
     ensures room { OnOk result (HasListRoom class most lists.new.items) }
 {
@@ -110,7 +111,7 @@ fn reserve(list: &mut Vec<usize>, most: usize) -> Result<(), OutOfMemory>
 
 // The last member of the list of the class.
 pub(crate) fn last_listed(lists: &[Vec<usize>], class: Class) -> Option<usize>
-    requires { length lists.now ≡ 59 }
+    requires { length lists.now ≡ class_count }
     ensures { (list : List_of ℕ Heap) → slice_get lists.now class ≡ Some list → result ≡ last_of list.items }
 {
     lists[class.number() as usize].last().copied()

@@ -1,4 +1,5 @@
 ghost use Rattle.std.specs.Prelude.{◌≡◌, ◌≢◌, true, [], ℕ, ◌+◌, ◌-◌, ◌%◌, ◌<◌, ◌≤◌, ◌^◌, IfOk, IfSome, IfNone, OnErr, All, AllPairs, Contains, length, map};
+ghost use Rattle.pa_layout.specs.Limits.{most_supers};
 ghost use Rattle.pa_layout.specs.Pages.{super_page_at, supers_for};
 ghost use Rattle.pa_record.specs.declared.taken.Taken.{Taken};
 ghost use Rattle.pa_record.specs.Pool.{IsOneTake, gave};
@@ -127,7 +128,7 @@ impl Placement {
         requires whole { slot % 4096 ≡ 0 }
         requires some { 0 < slot }
         requires supers { supers ≡ supers_for slot }
-        requires few { supers ≤ 16 }
+        requires few { supers ≤ most_supers }
         requires entries { pool.old.entries < 2 ^ 32 - 1 }
         requires born { IsBornBelow pool.old.entries self.old }
         ensures mapped { IfOk result (MapDid slot pool.old pool.new self.old self.new) }
@@ -203,9 +204,9 @@ impl Placement {
     }
 }
 
-// Asks the pool for a super page where no span has a slot of the class left and the current super page has no room for a new
-// one. What the pool gives becomes the current one. Tells the pool's entry, if it was asked.
-pub(crate) fn ask(root: &mut PlainRoot, pool: &mut PoolPlan, class: Class) -> Option<u32>
+/// Asks the pool for a super page where no span has a slot of the class left and the current super page has no room for a new
+/// one. What the pool gives becomes the current one. Tells the pool's entry, if it was asked.
+pub fn ask(root: &mut PlainRoot, pool: &mut PoolPlan, class: Class) -> Option<u32>
     requires room { root.old.room.super_page ≡ true }
     requires entries { pool.old.entries < 2 ^ 32 - 1 }
     requires born { IsBornBelow pool.old.entries root.old.root }

@@ -1,12 +1,13 @@
 ghost use Rattle.std.specs.Prelude.{◌≡◌, ℕ, ◌+◌, ◌-◌, ◌*◌, ◌<◌, ◌≤◌, ◌^◌, ◌++◌, ◌∷◌, [], true, IfOk, IfSome, IfNone, IsTrue, ◌↔◌, length};
 ghost use Rattle.pa_buckets.specs.Table.{slot_of, slots_of};
-ghost use Rattle.pa_record.specs.Spans.{bytes_of, title_at, holds, number_in, numbers, provisioned_more, with_free, with_front, without_front, without_pages, state_in_use, state_back, is_in, is_of};
+ghost use Rattle.pa_record.specs.Spans.{bytes_of, title_at, holds, number_in, provisioned_more, with_free, with_front, without_front, without_pages, state_in_use, state_back, is_in, is_of};
 ghost use Rattle.pa_record.specs.Root.{in_state, turn_after, IsOutOf};
 ghost use Rattle.pa_record.specs.Sound.{IsCounted};
 ghost use Rattle.arrayvec.specs.ArrayVec.{array_vec_len};
 ghost use Rattle.pa_place.specs.Made.{made_from};
 ghost use Rattle.pa_place.specs.Order.{starts_after};
 ghost use Rattle.pa_place.specs.Served.{blank_span, stands_at, IsServed, IsLow};
+ghost use Rattle.pa_lists.specs.Numbers.{numbers};
 
 use crate::placed::Made;
 use crate::returned::Returned;
@@ -36,7 +37,8 @@ pub(crate) struct PlainSpan {
 
 impl Model for PlainSpan {
     ghost use Rattle.std.specs.Prelude.{◌-◌, ◌++◌};
-    ghost use Rattle.pa_record.specs.Spans.{Span, numbers};
+    ghost use Rattle.pa_record.specs.Spans.{Span};
+    ghost use Rattle.pa_lists.specs.Numbers.{numbers};
     ghost use Rattle.pa_place.specs.CameBack.{AreKept};
 
     ghost Value = { Span };

@@ -1,5 +1,6 @@
 ghost use Rattle.std.specs.Prelude.{◌≡◌, [], ℕ, ◌+◌, ◌<◌, ◌≤◌, ◌^◌, ◌++◌, Some, IfSome, IfNone, option_copied, slice_get, vec_len};
 ghost use Rattle.std.specs.Vec.{vec_capacity};
+ghost use Rattle.pa_buckets.specs.Limits.{class_count};
 ghost use Rattle.pa_buckets.specs.Table.{pages_of};
 ghost use Rattle.pa_record.specs.Spans.{Span};
 ghost use Rattle.pa_record.specs.Root.{Took, current, new_span, with_span, front_taken, one_take, span_for, takes};
@@ -37,7 +38,7 @@ impl Store {
     )
         requires none { made.old.items ≡ [] }
         requires no_titles { titles.old.items ≡ [] }
-        requires real { class < 59 }
+        requires real { class < class_count }
         requires few { want ≤ 8 }
         requires ready { IsReady (root_of self.old) }
         requires ordered { IsOrdered (root_of self.old) }
@@ -71,7 +72,7 @@ impl Store {
         made: &mut ArrayVec<Made, 8>,
     ) -> Option<Title>
         requires few { array_vec_len made.old < 8 }
-        requires real { class < 59 }
+        requires real { class < class_count }
         requires ready { IsReady (root_of self.old) }
         requires ordered { IsOrdered (root_of self.old) }
         requires filed { IsFiled self.old }

@@ -8,7 +8,7 @@ use Rattle.pa_record.specs.declared.root.RootAct.{RootAct}
 use Rattle.pa_record.specs.declared.root.RootEntry.{RootEntry}
 use Rattle.pa_record.specs.Numbers.{root_numbers, pool_numbers}
 use Rattle.pa_record.specs.Root.{asked_by}
-use Rattle.pa_record.proofs.Members.{in_cases, not_in_none, first_in, later_in}
+use Rattle.pa_lists.proofs.Members.{in_cases, not_in_none, first_in, later_in}
 use Rattle.pa_region.specs.declared.view.Entry.{Entry}
 use Rattle.pa_region.specs.declared.view.Entry.TheVariants.{Entered}
 use Rattle.pa_region.specs.declared.view.Made.{Made}
@@ -21,7 +21,8 @@ use Rattle.pa_told.specs.Indices.{Enters, AskedNone, AskedOnce, asks, is_asked}
 use Rattle.pa_root.specs.Handing.{root_entry}
 use Rattle.pa_root.specs.Making.{EntersOne, EntersTwo}
 use Rattle.pa_plays.specs.Outcomes.{Outcome}
-use Rattle.pa_plays.proofs.Entered.{LineActs, none_here, acts_in, entered_append, entered_here, entered_elsewhere}
+use Rattle.pa_plays.proofs.Entered.{LineActs, none_here, acts_in, entered_here, entered_elsewhere}
+use Rattle.pa_told.proofs.Listing.{entered_append}
 
 -- the entries of a line in the journal of partition p, which did these acts, and none in another
 abbrev pub root_at : ℕ → ℕ → List RootAct → ℕ → List RootEntry

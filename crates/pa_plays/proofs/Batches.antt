@@ -1,44 +1,16 @@
 -- Gives of 16 slots each: batch after batch, and what each is.
-use Rattle.std.proofs.Common.{◌≡◌, ℕ, zero, suc, ◌<◌, ◌≤◌, List, [], ◌∷◌, length, map, take, drop, filter, refl, sym, ap, subst, arith, inl, inr}
+use Rattle.std.proofs.Common.{◌≡◌, ℕ, zero, suc, ◌<◌, ◌≤◌, List, [], ◌∷◌, length, map, drop, filter, refl, ap, subst, inl, inr}
 use Rattle.std.specs.Prelude.{Contains}
-use Rattle.std.proofs.lemmas.List.{length-drop}
 use Rattle.pa_record.specs.declared.numbered.Numbered.{Numbered}
 use Rattle.pa_record.specs.declared.root.RootAct.{RootAct}
 use Rattle.pa_record.specs.declared.root.RootAct.TheVariants.{Give}
 use Rattle.pa_record.specs.declared.root.RootEntry.{RootEntry}
-use Rattle.pa_record.proofs.Members.{in_cases, not_in_none, first_in, later_in}
+use Rattle.pa_lists.proofs.Members.{in_cases, not_in_none, first_in, later_in}
 use Rattle.pa_rules.specs.Caches.{batches, gives}
 use Rattle.pa_told.specs.Indices.{asks}
 use Rattle.pa_root.specs.Handing.{root_entry}
 use Rattle.pa_plays.proofs.Entered.{acts_in}
-
--- as many batches as titles are enough
-batches_same : (n m : ℕ) (xs : List Numbered) → length xs ≤ n → length xs ≤ m → batches n xs ≡ batches m xs
-batches_same zero zero xs one other = refl
-batches_same zero (suc m) [] one other = refl
-batches_same zero (suc m) (x ∷ xs) one other = absurd (omega arith)
-batches_same (suc n) zero [] one other = refl
-batches_same (suc n) zero (x ∷ xs) one other = absurd (omega arith)
-batches_same (suc n) (suc m) [] one other = refl
-batches_same (suc n) (suc m) (x ∷ xs) one other =
-    let short : length (drop 16 (x ∷ xs)) ≤ length xs = omega (arith, length-drop 16 (x ∷ xs)) in
-    ap (λ acts. Give (take 16 (x ∷ xs)) ∷ acts) (batches_same n m (drop 16 (x ∷ xs)) (omega arith) (omega arith))
-
--- the first batch, and those of the rest
-pub gives_step : (xs : List Numbered) → 0 < length xs → gives xs ≡ Give (take 16 xs) ∷ gives (drop 16 xs)
-gives_step [] some = absurd (omega arith)
-gives_step (x ∷ xs) some =
-    let short : length (drop 16 (x ∷ xs)) ≤ length xs = omega (arith, length-drop 16 (x ∷ xs)) in
-    ap (λ acts. Give (take 16 (x ∷ xs)) ∷ acts) (batches_same (length xs) (length (drop 16 (x ∷ xs))) (drop 16 (x ∷ xs)) short (omega arith))
-
--- each is a Give, which names no entry of the pool
-in_batches : (n : ℕ) (xs : List Numbered) (act : RootAct) → Contains (batches n xs) act → (slots : List Numbered) × (act ≡ Give slots)
-in_batches zero xs act among = absurd (not_in_none act among)
-in_batches (suc n) [] act among = absurd (not_in_none act among)
-in_batches (suc n) (x ∷ xs) act among = elim (in_cases (Give (take 16 (x ∷ xs))) act (batches n (drop 16 (x ∷ xs))) among) [
-  | inl same ↦ (take 16 (x ∷ xs), sym same)
-  | inr later ↦ in_batches n (drop 16 (x ∷ xs)) act later
-]
+use Rattle.pa_legal.proofs.holders.Records.{in_batches}
 
 pub in_gives : (xs : List Numbered) (act : RootAct) → Contains (gives xs) act → (slots : List Numbered) × (act ≡ Give slots)
 in_gives xs act among = in_batches (length xs) xs act among

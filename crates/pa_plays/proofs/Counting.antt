@@ -2,20 +2,17 @@
 use Rattle.std.proofs.Common.{◌≡◌, ℕ, ◌+◌, ◌<◌, ◌≤◌, Bool, true, false, List, [], ◌∷◌, ◌++◌, length, Option, Some, None, refl, sym, ◌∙◌, ap, subst, arith, inl, inr}
 use Rattle.std.specs.Prelude.{◌==◌, if◌then◌else◌, slice_set}
 use Rattle.std.proofs.lemmas.Bool.{cases_Bool, cases_eq, eq-eqb, ne_eqb}
-use Rattle.std.proofs.lemmas.List.{length-set}
 use Rattle.std.proofs.lemmas.List.Sums.{sum_by-cons}
 use Rattle.pa_machine.specs.declared.word.SlotName.{SlotName}
 use Rattle.pa_machine.specs.declared.word.Step.{Step}
 use Rattle.pa_machine.specs.Run.{Mark}
-use Rattle.pa_record.specs.declared.entry.Seen.{Seen}
 use Rattle.pa_record.specs.declared.report.Tally.{Tally}
 use Rattle.pa_rules.specs.declared.played.Played.{Played}
 use Rattle.pa_rules.specs.Played.{mark_of, marks_of}
 use Rattle.pa_rules.specs.Flow.{at_step}
 use Rattle.pa_legal.specs.Tallies.{issues, frees, enters, leaves, weight_of, one_of, bytes_of}
-use Rattle.pa_cells.specs.declared.handle.Handle.{Handle}
 use Rattle.pa_plays.specs.declared.counts.Count.{Count}
-use Rattle.pa_plays.specs.Counts.{no_count, counted_in, one_slot_more, after_step, counts_after, IsOfSteps, AreOfSteps, GrewBy, CountsBy}
+use Rattle.pa_plays.specs.Counts.{no_count, counted_in, one_slot_more, after_step, IsOfSteps, AreOfSteps, GrewBy, CountsBy}
 use Rattle.pa_plays.proofs.Registers.{set_at}
 
 -- ---- what one record weighs
@@ -176,34 +173,3 @@ are_within n m cs more is = record {
   entered = λ p. within_later n m (counted_in cs p).entered more (is.entered p);
   left = λ p. within_later n m (counted_in cs p).left more (is.left p);
 }
-
-within_slot : (n bytes : ℕ) (b : Bool) (t : Tally) → bytes < 4294967296 → IsOfSteps n t → IsOfSteps (n + 1) (one_slot_more b bytes t)
-within_slot n bytes true t small is = let a = is.slots in let b = is.bytes in record { slots = omega arith; bytes = omega arith }
-within_slot n bytes false t small is = within_later n (n + 1) t (omega arith) is
-
-within_set : (n q p : ℕ) (part : Count → Tally) (c : Count) (cs : List Count) → q < length cs → IsOfSteps (n + 1) (part c) → IsOfSteps n (part (counted_in cs p)) →
-    IsOfSteps (n + 1) (part (counted_in (slice_set cs q c) p))
-within_set n q p part c cs inside new old =
-    let at = set_at cs q p c no_count inside in
-    elim (cases_Bool (p == q)) [
-      | inl y ↦ subst (λ z. IsOfSteps (n + 1) (part z)) (sym (at ∙ rw y refl)) new
-      | inr away ↦ subst (λ z. IsOfSteps (n + 1) (part z)) (sym (at ∙ rw away refl)) (within_later n (n + 1) (part (counted_in cs p)) (omega arith) old)
-    ]
-
-pub within_step : (n : ℕ) (step : Step) (handle : Option Handle) (seen : Option Seen) (cs : List Count) → ((h : Handle) → handle ≡ Some h → (h.partition < 4) × (h.title.len < 4294967296)) →
-    AreOfSteps n cs → AreOfSteps (n + 1) (counts_after step handle seen cs)
-within_step n step None seen cs small is = are_within n (n + 1) cs (omega arith) is
-within_step n step (Some h) None cs small is = are_within n (n + 1) cs (omega arith) is
-within_step n step (Some h) (Some seen) cs small is =
-    let q = h.partition in
-    let (low, short) = small h refl in
-    let long = is.count in
-    let inside : q < length cs = omega arith in
-    let c = after_step step seen.found.0 h.title.len (counted_in cs q) in
-    record {
-      count = length-set cs q c ∙ is.count;
-      issued = λ p. within_set n q p (λ z. z.issued) c cs inside (within_slot n h.title.len (issues step seen.found.0) (counted_in cs q).issued short (is.issued q)) (is.issued p);
-      freed = λ p. within_set n q p (λ z. z.freed) c cs inside (within_slot n h.title.len (frees step seen.found.0) (counted_in cs q).freed short (is.freed q)) (is.freed p);
-      entered = λ p. within_set n q p (λ z. z.entered) c cs inside (within_slot n h.title.len (enters step seen.found.0) (counted_in cs q).entered short (is.entered q)) (is.entered p);
-      left = λ p. within_set n q p (λ z. z.left) c cs inside (within_slot n h.title.len (leaves step seen.found.0) (counted_in cs q).left short (is.left q)) (is.left p);
-    }

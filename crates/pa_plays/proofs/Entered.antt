@@ -23,7 +23,7 @@ use Rattle.pa_record.specs.declared.root.RootAct.{RootAct}
 use Rattle.pa_record.specs.declared.root.RootAct.TheVariants.{Unmap}
 use Rattle.pa_record.specs.declared.root.RootEntry.{RootEntry}
 use Rattle.pa_record.specs.Numbers.{root_numbers}
-use Rattle.pa_record.proofs.Members.{in_cases, not_in_none, first_in, later_in}
+use Rattle.pa_lists.proofs.Members.{in_cases, not_in_none, first_in, later_in}
 use Rattle.pa_record.proofs.OneEntry.{one_root}
 use Rattle.pa_region.specs.declared.view.Entry.{Entry}
 use Rattle.pa_region.specs.declared.view.Entry.TheVariants.{Counted, Looked, Read, Added, Entered, Uncut}
@@ -186,10 +186,6 @@ entering_both stake line es fs v u w one two = record {
     go log false = append-nil (log ++ [])
 
 -- ---- what a stretch entered
-
-pub entered_append : (q : ℕ) (a b : List Entry) → entered_in q (a ++ b) ≡ entered_in q a ++ entered_in q b
-entered_append q [] b = refl
-entered_append q (e ∷ a) b = ap (λ ms. entry_in q e ++ ms) (entered_append q a b) ∙ sym (append_assoc (entry_in q e) (entered_in q a) (entered_in q b))
 
 -- entries of one list are those of that list, and of no other
 pub entered_here : (p : ℕ) (ms : List Made) → entered_in p (map (Entered p) ms) ≡ ms

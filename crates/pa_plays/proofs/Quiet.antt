@@ -9,7 +9,7 @@ use Rattle.pa_trace.specs.declared.script.Op.{Op}
 use Rattle.pa_record.specs.declared.entry.Answer.{Answer}
 use Rattle.pa_record.specs.declared.entry.Answer.TheVariants as answers
 use Rattle.pa_record.specs.declared.root.RootEntry.{RootEntry}
-use Rattle.pa_record.proofs.Members.{in_cases, not_in_none, first_in, later_in}
+use Rattle.pa_lists.proofs.Members.{in_cases, not_in_none, first_in, later_in}
 use Rattle.pa_region.specs.declared.view.Entry.{Entry}
 use Rattle.pa_region.specs.declared.view.Entry.TheVariants.{Counted, Looked, Read, Added, Entered, Uncut}
 use Rattle.pa_region.specs.declared.view.Made.{Made}
@@ -26,8 +26,7 @@ use Rattle.pa_told.specs.Indices.{Enters}
 use Rattle.pa_cache.specs.Caches.{CacheList}
 use Rattle.pa_root.specs.Handing.{at_number_seen}
 use Rattle.pa_told.specs.Said.{ReadsIts}
-use Rattle.pa_plays.specs.declared.register.Register.{Register}
-use Rattle.pa_plays.specs.Stocks.{StockValue, HoldsLists, titles_in, listed_in, regs_of}
+use Rattle.pa_plays.specs.Stocks.{StockRegister, StockValue, HoldsLists, titles_in, listed_in, regs_of}
 use Rattle.pa_plays.specs.Outcomes.{Outcome, IsOutcome, IsSeenOf, ActsAreOf, row_facts}
 use Rattle.pa_plays.specs.Entering.{EntersCells}
 use Rattle.pa_plays.specs.Plays.{DoesOp}
@@ -99,7 +98,7 @@ pub record IsQuiet (op : Op) (answer : Answer) : Type 0 where
   pub room : (j : ℕ) → answer ≡ answers.Full j → ⊥
   pub cells : (list : List Made) (x : ToldRecord) → entered_in 5 x.stretch ≡ [] → EntersCells op list x
 
-pub touched_does : (s : StockValue) (w : View) (registers : List Register) (caches : List CacheList) (op : Op) (answer : Answer) (es : List Entry) →
+pub touched_does : (s : StockValue) (w : View) (registers : List StockRegister) (caches : List CacheList) (op : Op) (answer : Answer) (es : List Entry) →
     Touched s.thread es s.view w → IsQuiet op answer →
     ((line phase : ℕ) (o : Outcome) → IsOutcome o → IsSeenOf o w → NoActs o.roots line →
     Says o s (record s { view = w; registers = registers; caches = caches }) (quiet_record s w line phase op answer es)) →
@@ -157,7 +156,7 @@ touched_does s w registers caches op answer es touched quiet says line phase = (
     }
 
 -- the same where the lists are as they were
-pub quiet_does : (s : StockValue) (w : View) (registers : List Register) (op : Op) (answer : Answer) (es : List Entry) →
+pub quiet_does : (s : StockValue) (w : View) (registers : List StockRegister) (op : Op) (answer : Answer) (es : List Entry) →
     HoldsLists s.caches s.view → Touched s.thread es s.view w → IsQuiet op answer →
     ((line phase : ℕ) (o : Outcome) → IsOutcome o → IsSeenOf o w → NoActs o.roots line →
     SameLists (listed_in (record s { view = w; registers = registers })) (listed_in s) →

@@ -1,6 +1,6 @@
 -- An op that does nothing: its answer has no found word.
 use Rattle.std.proofs.Common.{◌≡◌, ℕ, List, [], Option, Some, None, refl, subst}
-use Rattle.std.specs.Prelude.{Contains}
+use Rattle.std.specs.Prelude.{Contains, Err}
 use Rattle.pa_machine.specs.declared.word.SlotName.{SlotName}
 use Rattle.pa_machine.specs.Run.{Mark}
 use Rattle.pa_trace.specs.declared.script.Op.{Op}
@@ -8,21 +8,25 @@ use Rattle.pa_trace.specs.declared.script.Op.TheVariants as ops
 use Rattle.pa_record.specs.declared.entry.Answer.{Answer}
 use Rattle.pa_record.specs.declared.entry.Answer.TheVariants as answers
 use Rattle.pa_record.specs.declared.entry.Seen.{Seen}
-use Rattle.pa_record.proofs.Members.{not_some, not_in_none}
+use Rattle.pa_record.specs.Spans.{name_of}
+use Rattle.pa_lists.proofs.Members.{not_some, not_in_none}
 use Rattle.pa_region.specs.declared.view.Entry.TheVariants.{Read}
 use Rattle.pa_region.specs.declared.view.Made.{Made}
 use Rattle.pa_region.specs.Lists.{entered_in}
 use Rattle.pa_rules.specs.declared.played.Played.{Played}
 use Rattle.pa_rules.specs.Played.{mark_of_answer}
-use Rattle.pa_rules.specs.Registers.{Row, CopyRow, WriteRow, ResetRow, FreeRow, ReadRow}
+use Rattle.pa_rules.specs.Registers.{Row}
+use Rattle.pa_rules.specs.Nexts.{copy_next, reset_next, free_next, write_next, read_next}
+use Rattle.pa_rules.proofs.Nexts.{copy_refusal, reset_refusal, free_refusal, write_refusal, read_refusal, copy_refused, reset_refused, free_refused, write_refused, read_refused}
 use Rattle.pa_rules.specs.Caches.{Cache, CacheRow, NoActs, SameLists}
 use Rattle.pa_rules.specs.Roots.{Journals}
 use Rattle.pa_told.specs.Told.{ToldRecord}
 use Rattle.pa_told.specs.Touches.{IsToldBy}
 use Rattle.pa_told.specs.Said.{ReadsIts, HoldsHandle, IsReadThrough}
-use Rattle.pa_plays.specs.declared.register.Register.{Register}
-use Rattle.pa_plays.specs.declared.register.Register.TheVariants.{Empty, Own, Ref, Freed, Cleared}
-use Rattle.pa_plays.specs.Stocks.{StockValue, IsStock, HasNoHandle, register_in, as_reg, regs_of}
+use Rattle.pa_rules.specs.declared.register.Register.TheVariants.{Empty, Own, Ref, Freed, Cleared}
+use Rattle.pa_rules.specs.declared.register.Next.TheVariants.{Refused}
+use Rattle.pa_cells.specs.declared.handle.Handle.{Handle}
+use Rattle.pa_plays.specs.Stocks.{StockRegister, StockValue, IsStock, HasNoHandle, register_in, as_reg, regs_of}
 use Rattle.pa_plays.specs.Outcomes.{Outcome, IsOutcome, IsSeenOf, row_facts}
 use Rattle.pa_plays.specs.Entering.{EntersCells}
 use Rattle.pa_plays.specs.Plays.{DoesOp}
@@ -118,26 +122,34 @@ plain_does s op answer is no_swap plain row reads =
       home = λ m e. absurd (p.home line m e);
     })
 
--- The row of a copy, a reset, a free, a write or a read whose register is this.
-pub copy_refuses : (s : StockValue) (from to : ℕ) (r : Register) (answer : Answer) → IsStock s → IsPlain answer → r ≡ register_in s.registers from →
-    CopyRow (as_reg r) (regs_of s.registers) to answer (regs_of s.registers) → (line : ℕ) → DoesOp line (ops.Copy from to) answer s s
-copy_refuses s from to r answer is plain at row =
-    plain_does s (ops.Copy from to) answer is tt plain (λ o run sees. subst (λ x. CopyRow (as_reg x) (regs_of s.registers) to answer (regs_of s.registers)) at row) (λ o line phase run sees. tt)
+-- A copy, a reset, a free, a write or a read that its register alone refuses.
+pub copy_refuses : (s : StockValue) (from to : ℕ) (answer : Answer) → IsStock s → copy_next (register_in s.registers from) ≡ Err answer →
+    (line : ℕ) → DoesOp line (ops.Copy from to) answer s s
+copy_refuses s from to answer is refused =
+    let r = register_in s.registers from in
+    plain_does s (ops.Copy from to) answer is tt (copy_refusal IsPlain r answer refused tt tt)
+    (λ o run sees. copy_refused (λ (h : Handle). name_of h.title) r answer (regs_of s.registers) to refused) (λ o line phase run sees. tt)
 
-pub write_refuses : (s : StockValue) (i value : ℕ) (r : Register) (answer : Answer) → IsStock s → IsPlain answer → r ≡ register_in s.registers i →
-    WriteRow (as_reg r) (regs_of s.registers) answer (regs_of s.registers) → (line : ℕ) → DoesOp line (ops.Write i value) answer s s
-write_refuses s i value r answer is plain at row =
-    plain_does s (ops.Write i value) answer is tt plain (λ o run sees. subst (λ x. WriteRow (as_reg x) (regs_of s.registers) answer (regs_of s.registers)) at row) (λ o line phase run sees. tt)
+pub write_refuses : (s : StockValue) (i value : ℕ) (answer : Answer) → IsStock s → write_next (register_in s.registers i) ≡ Refused answer →
+    (line : ℕ) → DoesOp line (ops.Write i value) answer s s
+write_refuses s i value answer is refused =
+    let r = register_in s.registers i in
+    plain_does s (ops.Write i value) answer is tt (write_refusal IsPlain r answer refused tt tt)
+    (λ o run sees. write_refused (λ (h : Handle). name_of h.title) r answer (regs_of s.registers) refused) (λ o line phase run sees. tt)
 
-pub reset_refuses : (s : StockValue) (i : ℕ) (r : Register) (answer : Answer) → IsStock s → IsPlain answer → r ≡ register_in s.registers i →
-    ResetRow (as_reg r) (regs_of s.registers) i answer (regs_of s.registers) → (line : ℕ) → DoesOp line (ops.Reset i) answer s s
-reset_refuses s i r answer is plain at row =
-    plain_does s (ops.Reset i) answer is tt plain (λ o run sees. subst (λ x. ResetRow (as_reg x) (regs_of s.registers) i answer (regs_of s.registers)) at row) (λ o line phase run sees. tt)
+pub reset_refuses : (s : StockValue) (i : ℕ) (answer : Answer) → IsStock s → reset_next (register_in s.registers i) ≡ Err answer →
+    (line : ℕ) → DoesOp line (ops.Reset i) answer s s
+reset_refuses s i answer is refused =
+    let r = register_in s.registers i in
+    plain_does s (ops.Reset i) answer is tt (reset_refusal IsPlain r answer refused tt tt tt)
+    (λ o run sees. reset_refused (λ (h : Handle). name_of h.title) r answer (regs_of s.registers) i refused) (λ o line phase run sees. tt)
 
-pub free_refuses : (s : StockValue) (i : ℕ) (r : Register) (answer : Answer) → IsStock s → IsPlain answer → r ≡ register_in s.registers i →
-    FreeRow (as_reg r) (regs_of s.registers) i answer (regs_of s.registers) → (line : ℕ) → DoesOp line (ops.Free i) answer s s
-free_refuses s i r answer is plain at row =
-    plain_does s (ops.Free i) answer is tt plain (λ o run sees. subst (λ x. FreeRow (as_reg x) (regs_of s.registers) i answer (regs_of s.registers)) at row) (λ o line phase run sees. tt)
+pub free_refuses : (s : StockValue) (i : ℕ) (answer : Answer) → IsStock s → free_next (register_in s.registers i) ≡ Refused answer →
+    (line : ℕ) → DoesOp line (ops.Free i) answer s s
+free_refuses s i answer is refused =
+    let r = register_in s.registers i in
+    plain_does s (ops.Free i) answer is tt (free_refusal IsPlain r answer refused tt tt tt)
+    (λ o run sees. free_refused (λ (h : Handle). name_of h.title) r answer (regs_of s.registers) i refused) (λ o line phase run sees. tt)
 
 -- a register without a handle
 no_reader : (s : StockValue) (sizes : SlotName → ℕ) (i : ℕ) (x : ToldRecord) → HasNoHandle (register_in s.registers i) → x.stretch ≡ [] → IsReadThrough sizes (regs_of s.registers i) x
@@ -146,15 +158,25 @@ no_reader s sizes i x none empty = record {
   owned = λ n t p v since owner unclean own among. absurd (not_in_none _ (subst (λ es. Contains es (Read t p v since owner unclean)) empty among));
 }
   where
-    go : (r : Register) → HasNoHandle r → (n : SlotName) → HoldsHandle (as_reg r) n → ⊥
+    go : (r : StockRegister) → HasNoHandle r → (n : SlotName) → HoldsHandle (as_reg r) n → ⊥
     go Empty is n has = has
     go (Own h) is n has = is
     go (Ref h) is n has = is
     go Freed is n has = has
     go Cleared is n has = has
 
-pub read_refuses : (s : StockValue) (i place : ℕ) (r : Register) (answer : Answer) → IsStock s → IsPlain answer → HasNoHandle r → r ≡ register_in s.registers i →
-    ((o : Outcome) → ReadRow (as_reg r) (row_facts o) (regs_of s.registers) place answer (regs_of s.registers)) → (line : ℕ) → DoesOp line (ops.Read i place) answer s s
-read_refuses s i place r answer is plain none at row =
-    plain_does s (ops.Read i place) answer is tt plain (λ o run sees. subst (λ x. ReadRow (as_reg x) (row_facts o) (regs_of s.registers) place answer (regs_of s.registers)) at (row o))
-    (λ o line phase run sees. no_reader s o.sizes i (quiet_record s s.view line phase (ops.Read i place) answer []) (subst HasNoHandle at none) refl)
+read_lacks : (r : StockRegister) (answer : Answer) → read_next r ≡ Err answer → HasNoHandle r
+read_lacks Empty answer refused = tt
+read_lacks (Own h) answer refused = absurd (let bad : ⊥ = cc in bad)
+read_lacks (Ref h) answer refused = absurd (let bad : ⊥ = cc in bad)
+read_lacks Freed answer refused = tt
+read_lacks Cleared answer refused = tt
+
+pub read_refuses : (s : StockValue) (i place : ℕ) (answer : Answer) → IsStock s → read_next (register_in s.registers i) ≡ Err answer →
+    (line : ℕ) → DoesOp line (ops.Read i place) answer s s
+read_refuses s i place answer is refused =
+    let r = register_in s.registers i in
+    plain_does s (ops.Read i place) answer is tt (read_refusal IsPlain r answer refused tt tt)
+    (λ o run sees. read_refused (λ (h : Handle). name_of h.title) r answer (row_facts o) (regs_of s.registers) place refused)
+    (λ o line phase run sees. no_reader s o.sizes i (quiet_record s s.view line phase (ops.Read i place) answer [])
+    (read_lacks r answer refused) refl)

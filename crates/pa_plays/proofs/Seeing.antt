@@ -7,21 +7,20 @@ use Rattle.pa_machine.specs.Titles.{same_title}
 use Rattle.pa_machine.proofs.Same.{title_tells}
 use Rattle.pa_record.specs.declared.root.RootEntry.{RootEntry}
 use Rattle.pa_record.specs.Spans.{name_of}
-use Rattle.pa_record.proofs.Members.{of_some}
+use Rattle.pa_lists.proofs.Members.{of_some}
 use Rattle.pa_region.specs.declared.view.View.{View}
 use Rattle.pa_region.specs.Lists.{list_of, list_among}
 use Rattle.pa_rules.specs.Roots.{Journals}
 use Rattle.pa_rules.specs.Caches.{IsOfClass}
 use Rattle.pa_rules.specs.Report.{HasSize}
-use Rattle.pa_legal.proofs.Parts.{parts_at}
+use Rattle.pa_lists.proofs.Parts.{parts_at}
 use Rattle.pa_told.proofs.Filters.{get_in}
 use Rattle.pa_told.specs.Touches.{title_of}
 use Rattle.pa_cells.specs.declared.handle.Handle.{Handle}
 use Rattle.pa_cells.specs.Handles.{HandsOut, HasSeenMade}
 use Rattle.pa_plays.specs.Outcomes.{Outcome, IsOutcome, IsSeenOf}
-use Rattle.pa_plays.specs.Stocks.{IsMadeFor}
-use Rattle.pa_plays.specs.declared.register.Register.{Register}
-use Rattle.pa_plays.specs.declared.register.Register.TheVariants.{Empty, Own, Ref, Freed, Cleared}
+use Rattle.pa_plays.specs.Stocks.{StockRegister, IsMadeFor}
+use Rattle.pa_rules.specs.declared.register.Register.TheVariants.{Empty, Own, Ref, Freed, Cleared}
 
 -- who has seen the same lists has seen how a slot was made
 pub made_kept : (h : Handle) (v w : View) → w.seen_lists ≡ v.seen_lists → HasSeenMade h v → HasSeenMade h w
@@ -31,7 +30,7 @@ made_kept h v w same is = record {
       (is.entry.0, is.entry.1, subst (λ ls. Contains (list_among h.partition ls) is.entry.0) (sym same) is.entry.2, is.entry.3, is.entry.4);
 }
 
-pub made_for_kept : (v w : View) → w.seen_lists ≡ v.seen_lists → (r : Register) → IsMadeFor v r → IsMadeFor w r
+pub made_for_kept : (v w : View) → w.seen_lists ≡ v.seen_lists → (r : StockRegister) → IsMadeFor v r → IsMadeFor w r
 made_for_kept v w same Empty is = tt
 made_for_kept v w same (Own h) is = made_kept h v w same is
 made_for_kept v w same (Ref h) is = made_kept h v w same is

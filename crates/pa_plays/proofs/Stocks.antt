@@ -10,13 +10,12 @@ use Rattle.pa_region.specs.Views.{free_of, own_of, ref_of, stake_of}
 use Rattle.pa_region.specs.Shares.{IsUser}
 use Rattle.pa_cells.specs.declared.handle.Handle.{Handle}
 use Rattle.pa_cells.specs.Handles.{HasSeenMade}
-use Rattle.pa_plays.specs.declared.register.Register.{Register}
-use Rattle.pa_plays.specs.declared.register.Register.TheVariants.{Own, Ref}
-use Rattle.pa_plays.specs.Stocks.{StockValue, IsStock, HoldsHandles, HoldsStake, IsMadeFor, HasHandleTo, register_in, owns_one, refs_one, listed_slot}
+use Rattle.pa_rules.specs.declared.register.Register.TheVariants.{Own, Ref}
+use Rattle.pa_plays.specs.Stocks.{StockRegister, StockValue, IsStock, HoldsHandles, HoldsStake, IsMadeFor, HasHandleTo, register_in, owns_one, refs_one, listed_slot}
 use Rattle.pa_plays.proofs.Seeing.{made_kept}
 
 -- a register's part of a sum
-pub part_of : (f : Register → ℕ) (rs : List Register) (i : ℕ) → i < length rs → f (register_in rs i) ≤ sum_by f rs
+pub part_of : (f : StockRegister → ℕ) (rs : List StockRegister) (i : ℕ) → i < length rs → f (register_in rs i) ≤ sum_by f rs
 part_of f [] i within = absurd (omega arith)
 part_of f (r ∷ rs) zero within = omega (arith, sum_by-cons f r rs)
 part_of f (r ∷ rs) (suc i) within = let again = part_of f rs i (omega arith) in omega (arith, sum_by-cons f r rs)
@@ -52,7 +51,7 @@ register_points s i h is below ref =
     omega arith
 
 -- the stock with another view, which has seen how all was made that was seen so before, and holds no fewer free titles
-pub stock_kept : (s : StockValue) (w : View) (rs : List Register) → IsStock s → HoldsHandles rs w → HoldsStake s.thread w →
+pub stock_kept : (s : StockValue) (w : View) (rs : List StockRegister) → IsStock s → HoldsHandles rs w → HoldsStake s.thread w →
     ((h : Handle) → HasSeenMade h s.view → HasSeenMade h w) → ((t : Title) → free_of s.view t ≤ free_of w t) →
     IsStock (record s { view = w; registers = rs })
 stock_kept s w rs is handles stake made frees = record {
@@ -72,7 +71,7 @@ stock_kept s w rs is handles stake made frees = record {
 }
 
 -- where it has seen the same lists and has the same stakes
-pub stock_with : (s : StockValue) (w : View) (rs : List Register) → IsStock s → HoldsHandles rs w → w.seen_lists ≡ s.view.seen_lists →
+pub stock_with : (s : StockValue) (w : View) (rs : List StockRegister) → IsStock s → HoldsHandles rs w → w.seen_lists ≡ s.view.seen_lists →
     ((t : Title) → free_of s.view t ≤ free_of w t) → ((k : ℕ) → stake_of w k ≡ stake_of s.view k) →
     IsStock (record s { view = w; registers = rs })
 stock_with s w rs is handles lists frees stakes =

@@ -1,6 +1,5 @@
 -- What a worker counts of an op is what the op's record weighs, in every run that fits.
 use Rattle.std.proofs.Common.{◌≡◌, ℕ, ◌<◌, List, [], ◌∷◌, length, Option, Some, None, refl, sym, ◌∙◌, ap, subst, arith, inl, inr}
-use Rattle.std.specs.Prelude.{IfSome}
 use Rattle.std.proofs.lemmas.Bool.{eq-eqb}
 use Rattle.pa_machine.specs.declared.word.SlotName.{SlotName}
 use Rattle.pa_machine.specs.declared.word.Step.{Step}
@@ -14,18 +13,16 @@ use Rattle.pa_record.specs.declared.entry.Answer.TheVariants as answers
 use Rattle.pa_record.specs.Spans.{name_of}
 use Rattle.pa_region.specs.Lists.{list_of, IsBeginning}
 use Rattle.pa_rules.specs.declared.played.Played.{Played}
-use Rattle.pa_rules.specs.declared.register.Reg.{Reg}
-use Rattle.pa_rules.specs.declared.register.Reg.TheVariants as reg
+use Rattle.pa_rules.specs.declared.register.Register.TheVariants as reg
 use Rattle.pa_rules.specs.Played.{mark_at, mark_of_answer}
-use Rattle.pa_rules.specs.Registers.{Regs, Facts, Row, RequestRow, AllocRow, CopyToRow, CopyRow, ResetRow, FreeRow, WriteRow, ReadFromRow, ReadRow}
+use Rattle.pa_rules.specs.Registers.{Reg, Regs, Facts, Row, RequestRow, AllocRow, CopyToRow, CopyRow, ResetRow, FreeRow, WriteRow, ReadFromRow, ReadRow}
 use Rattle.pa_told.specs.Told.{ToldRecord}
 use Rattle.pa_cells.specs.declared.handle.Handle.{Handle}
 use Rattle.pa_cells.specs.Handles.{HasSeenMade}
 use Rattle.pa_plays.specs.declared.counts.Count.{Count}
-use Rattle.pa_plays.specs.declared.register.Register.{Register}
-use Rattle.pa_plays.specs.declared.register.Register.TheVariants.{Empty, Own, Ref, Freed, Cleared}
+use Rattle.pa_rules.specs.declared.register.Register.TheVariants.{Empty, Own, Ref, Freed, Cleared}
 use Rattle.pa_plays.specs.Counts.{counts_after, owned_in, pointed_in, done_seen, made_seen, CountsBy}
-use Rattle.pa_plays.specs.Stocks.{StockValue, IsStock, HasHandleTo, register_in, as_reg, regs_of}
+use Rattle.pa_plays.specs.Stocks.{StockRegister, StockValue, IsStock, register_in, as_reg, regs_of}
 use Rattle.pa_plays.specs.Outcomes.{Outcome, IsOutcome, IsSeenOf, FitsRun, row_facts}
 use Rattle.pa_plays.specs.Plays.{Does}
 use Rattle.pa_plays.proofs.Counting.{Uncounted, counts_stay, counts_step}
@@ -122,7 +119,7 @@ module _ (home size : SlotName → ℕ) (line thread phase : ℕ) (cs : List Cou
   read_row reg.Freed facts regs after r place answer (is, b) = stays (ops.Read r place) answer (answers.StaleUse None) is None refl tt
   read_row reg.Cleared facts regs after r place answer (is, b) = stays (ops.Read r place) answer (answers.StaleUse None) is None refl tt
 
-  reset_row : (q : Register) (regs after : Regs) (r : ℕ) (answer : Answer) → ((h : Handle) → q ≡ Ref h → IsAtHome home size h) → ResetRow (as_reg q) regs r answer after →
+  reset_row : (q : StockRegister) (regs after : Regs) (r : ℕ) (answer : Answer) → ((h : Handle) → q ≡ Ref h → IsAtHome home size h) → ResetRow (as_reg q) regs r answer after →
       CountsBy home size (played_so (ops.Reset r) answer ∷ []) cs (counts_after steps.Reset (pointed_in q) (done_seen answer) cs)
   reset_row Empty regs after r answer at (is, b) = stays (ops.Reset r) answer answers.Nothing is None refl tt
   reset_row (Own h) regs after r answer at (is, b) = stays (ops.Reset r) answer answers.NotRef is None refl tt
@@ -132,7 +129,7 @@ module _ (home size : SlotName → ℕ) (line thread phase : ℕ) (cs : List Cou
   reset_row Freed regs after r answer at (is, b) = stays (ops.Reset r) answer answers.NotRef is None refl tt
   reset_row Cleared regs after r answer at (is, b) = stays (ops.Reset r) answer answers.StaleReset is None refl tt
 
-  free_row : (q : Register) (regs after : Regs) (r : ℕ) (answer : Answer) → ((h : Handle) → q ≡ Own h → IsAtHome home size h) → FreeRow (as_reg q) regs r answer after →
+  free_row : (q : StockRegister) (regs after : Regs) (r : ℕ) (answer : Answer) → ((h : Handle) → q ≡ Own h → IsAtHome home size h) → FreeRow (as_reg q) regs r answer after →
       CountsBy home size (played_so (ops.Free r) answer ∷ []) cs (counts_after steps.Free (owned_in q) (done_seen answer) cs)
   free_row Empty regs after r answer at (is, b) = stays (ops.Free r) answer answers.Nothing is None refl tt
   free_row (Own h) regs after r answer at (seen, slot, is, b) =
@@ -144,14 +141,14 @@ module _ (home size : SlotName → ℕ) (line thread phase : ℕ) (cs : List Cou
   free_row Cleared regs after r answer at (is, b) = stays (ops.Free r) answer (answers.StaleUse None) is None refl tt
 
   -- an allocation that made nothing, and one that made the slot which the register then owns
-  made_none : (q : Register) (r partition asked : ℕ) (answer given : Answer) → answer ≡ given → mark_of_answer line (ops.Alloc r partition asked) given ≡ None → made_seen given ≡ None →
+  made_none : (q : StockRegister) (r partition asked : ℕ) (answer given : Answer) → answer ≡ given → mark_of_answer line (ops.Alloc r partition asked) given ≡ None → made_seen given ≡ None →
       CountsBy home size (played_so (ops.Alloc r partition asked) answer ∷ []) cs (counts_after steps.Issue (owned_in q) (made_seen answer) cs)
   made_none q r partition asked answer given is unmarked none =
       let same : counts_after steps.Issue (owned_in q) (made_seen answer) cs ≡ cs =
       ap (λ a. counts_after steps.Issue (owned_in q) a cs) (ap made_seen is ∙ none) ∙ counts_unseen steps.Issue (owned_in q) cs in
       subst (λ ds. CountsBy home size (played_so (ops.Alloc r partition asked) answer ∷ []) cs ds) (sym same) (stays (ops.Alloc r partition asked) answer given is None unmarked tt)
 
-  made_some : (q : Register) (r partition asked usable : ℕ) (answer : Answer) (seen : Seen) → ((h : Handle) → q ≡ Own h → IsAtHome home size h) → answer ≡ answers.Made seen usable → as_reg q ≡ reg.Own seen.slot →
+  made_some : (q : StockRegister) (r partition asked usable : ℕ) (answer : Answer) (seen : Seen) → ((h : Handle) → q ≡ Own h → IsAtHome home size h) → answer ≡ answers.Made seen usable → as_reg q ≡ reg.Own seen.slot →
       CountsBy home size (played_so (ops.Alloc r partition asked) answer ∷ []) cs (counts_after steps.Issue (owned_in q) (made_seen answer) cs)
   made_some Empty r partition asked usable answer seen at is owns = absurd cc
   made_some (Own h) r partition asked usable answer seen at is owns =
@@ -162,7 +159,7 @@ module _ (home size : SlotName → ℕ) (line thread phase : ℕ) (cs : List Cou
   made_some Freed r partition asked usable answer seen at is owns = absurd cc
   made_some Cleared r partition asked usable answer seen at is owns = absurd cc
 
-  request_row : (q : Register) (facts : Facts) (regs after : Regs) (r partition asked : ℕ) (answer : Answer) → ((h : Handle) → q ≡ Own h → IsAtHome home size h) → after r ≡ as_reg q →
+  request_row : (q : StockRegister) (facts : Facts) (regs after : Regs) (r partition asked : ℕ) (answer : Answer) → ((h : Handle) → q ≡ Own h → IsAtHome home size h) → after r ≡ as_reg q →
       RequestRow facts regs r asked answer after → CountsBy home size (played_so (ops.Alloc r partition asked) answer ∷ []) cs (counts_after steps.Issue (owned_in q) (made_seen answer) cs)
   request_row q facts regs after r partition asked answer at is_q (inl (large, is, b)) = made_none q r partition asked answer answers.TooLarge is refl refl
   request_row q facts regs after r partition asked answer at is_q (inr (inl (few, seen, is, b))) =
@@ -170,7 +167,7 @@ module _ (home size : SlotName → ℕ) (line thread phase : ℕ) (cs : List Cou
       made_some q r partition asked (facts.usable_of asked) answer seen at is owns
   request_row q facts regs after r partition asked answer at is_q (inr (inr (few, entry, is, b))) = made_none q r partition asked answer (answers.Full entry) is refl refl
 
-  alloc_row : (old : Reg) (q : Register) (facts : Facts) (regs after : Regs) (r partition asked : ℕ) (answer : Answer) → ((h : Handle) → q ≡ Own h → IsAtHome home size h) → after r ≡ as_reg q →
+  alloc_row : (old : Reg) (q : StockRegister) (facts : Facts) (regs after : Regs) (r partition asked : ℕ) (answer : Answer) → ((h : Handle) → q ≡ Own h → IsAtHome home size h) → after r ≡ as_reg q →
       AllocRow old facts regs r asked answer after → CountsBy home size (played_so (ops.Alloc r partition asked) answer ∷ []) cs (counts_after steps.Issue (owned_in q) (made_seen answer) cs)
   alloc_row reg.Empty q facts regs after r partition asked answer at is_q row = request_row q facts regs after r partition asked answer at is_q row
   alloc_row (reg.Own s) q facts regs after r partition asked answer at is_q (is, b) = made_none q r partition asked answer answers.Filled is refl refl
@@ -219,29 +216,3 @@ module _ (line : ℕ) (answer : Answer) (before after : StockValue) (cs : List C
       (λ phase o run seen begins row.
       alloc_row o.homes o.sizes line before.thread phase cs four (regs_of before.registers r) (register_in after.registers r) (row_facts o) (regs_of before.registers) (regs_of after.registers) r partition asked answer
       (λ h own. at_home o after h run seen (register_has after r h is below (inl own)).1) refl row)
-
--- ---- what a count asks
-
--- a slot is of one of four partitions
-low_handle : (s : StockValue) (r : ℕ) (q : Register) → IsStock s → r < 64 → q ≡ register_in s.registers r → (h : Handle) → HasHandleTo h q → h.partition < 4
-low_handle s r q is below at h has = (register_has s r h is below (subst (HasHandleTo h) at has)).1.partition
-
-pub pointed_low : (s : StockValue) (r : ℕ) → IsStock s → r < 64 → IfSome (pointed_in (register_in s.registers r)) (λ h. h.partition < 4)
-pointed_low s r is below = go (register_in s.registers r) refl
-  where
-    go : (q : Register) → q ≡ register_in s.registers r → IfSome (pointed_in q) (λ h. h.partition < 4)
-    go Empty at = tt
-    go (Own h) at = tt
-    go (Ref h) at = low_handle s r (Ref h) is below at h (inr refl)
-    go Freed at = tt
-    go Cleared at = tt
-
-pub owned_low : (s : StockValue) (r : ℕ) → IsStock s → r < 64 → IfSome (owned_in (register_in s.registers r)) (λ h. h.partition < 4)
-owned_low s r is below = go (register_in s.registers r) refl
-  where
-    go : (q : Register) → q ≡ register_in s.registers r → IfSome (owned_in q) (λ h. h.partition < 4)
-    go Empty at = tt
-    go (Own h) at = low_handle s r (Own h) is below at h (inl refl)
-    go (Ref h) at = tt
-    go Freed at = tt
-    go Cleared at = tt

@@ -7,13 +7,14 @@ use Rattle.pa_record.specs.declared.entry.Answer.{Answer}
 use Rattle.pa_record.specs.declared.entry.Answer.TheVariants as answers
 use Rattle.pa_record.specs.declared.entry.Seen.{Seen}
 use Rattle.pa_record.specs.declared.report.Tally.{Tally}
+use Rattle.pa_trace.specs.Limits.{most_partitions}
 use Rattle.pa_rules.specs.declared.played.Played.{Played}
 use Rattle.pa_rules.specs.Played.{marks_of}
 use Rattle.pa_legal.specs.Tallies.{issues, frees, enters, leaves, weight_of, one_of, bytes_of}
 use Rattle.pa_cells.specs.declared.handle.Handle.{Handle}
 use Rattle.pa_plays.specs.declared.counts.Count.{Count}
-use Rattle.pa_plays.specs.declared.register.Register.{Register}
-use Rattle.pa_plays.specs.declared.register.Register.TheVariants.{Empty, Own, Ref, Freed, Cleared}
+use Rattle.pa_rules.specs.declared.register.Register.TheVariants.{Empty, Own, Ref, Freed, Cleared}
+use Rattle.pa_plays.specs.Stocks.{StockRegister}
 
 -- nothing counted; the count of a partition
 abbrev pub no_slots : Tally
@@ -47,14 +48,14 @@ counts_after step (Some h) (Some seen) counts =
     slice_set counts h.partition (after_step step seen.found.0 h.title.len (counted_in counts h.partition))
 
 -- the handle of a register that owns its slot, and of one that points to it
-abbrev pub owned_in : Register → Option Handle
+abbrev pub owned_in : StockRegister → Option Handle
 owned_in Empty = None
 owned_in (Own h) = Some h
 owned_in (Ref h) = None
 owned_in Freed = None
 owned_in Cleared = None
 
-abbrev pub pointed_in : Register → Option Handle
+abbrev pub pointed_in : StockRegister → Option Handle
 pointed_in Empty = None
 pointed_in (Own h) = None
 pointed_in (Ref h) = Some h
@@ -76,7 +77,7 @@ pub record IsOfSteps (steps : ℕ) (t : Tally) : Type 0 where
   pub bytes : t.bytes ≤ 4294967296 * steps
 
 pub record AreOfSteps (steps : ℕ) (counts : List Count) : Type 0 where
-  pub count : length counts ≡ 4
+  pub count : length counts ≡ most_partitions
   pub issued : (p : ℕ) → IsOfSteps steps (counted_in counts p).issued
   pub freed : (p : ℕ) → IsOfSteps steps (counted_in counts p).freed
   pub entered : (p : ℕ) → IsOfSteps steps (counted_in counts p).entered
@@ -89,7 +90,7 @@ pub record GrewBy (test : Step → ℕ → Bool) (home size : SlotName → ℕ) 
 
 -- so each count did by these records, where these are the partition and the length of each slot
 pub record CountsBy (home size : SlotName → ℕ) (xs : List Played) (before after : List Count) : Type 0 where
-  pub issued : (p : ℕ) → p < 4 → GrewBy issues home size p xs (counted_in before p).issued (counted_in after p).issued
-  pub freed : (p : ℕ) → p < 4 → GrewBy frees home size p xs (counted_in before p).freed (counted_in after p).freed
-  pub entered : (p : ℕ) → p < 4 → GrewBy enters home size p xs (counted_in before p).entered (counted_in after p).entered
-  pub left : (p : ℕ) → p < 4 → GrewBy leaves home size p xs (counted_in before p).left (counted_in after p).left
+  pub issued : (p : ℕ) → p < most_partitions → GrewBy issues home size p xs (counted_in before p).issued (counted_in after p).issued
+  pub freed : (p : ℕ) → p < most_partitions → GrewBy frees home size p xs (counted_in before p).freed (counted_in after p).freed
+  pub entered : (p : ℕ) → p < most_partitions → GrewBy enters home size p xs (counted_in before p).entered (counted_in after p).entered
+  pub left : (p : ℕ) → p < most_partitions → GrewBy leaves home size p xs (counted_in before p).left (counted_in after p).left

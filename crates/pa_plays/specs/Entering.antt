@@ -5,6 +5,7 @@ use Rattle.pa_trace.specs.declared.script.Op.{Op}
 use Rattle.pa_trace.specs.declared.script.Op.TheVariants as ops
 use Rattle.pa_record.specs.declared.entry.Answer.TheVariants as answers
 use Rattle.pa_record.specs.declared.history.CellEntry.{CellEntry}
+use Rattle.pa_trace.specs.Limits.{most_partitions}
 use Rattle.pa_region.specs.declared.view.Entry.TheVariants.{Uncut}
 use Rattle.pa_region.specs.declared.view.Made.{Made}
 use Rattle.pa_region.specs.declared.view.View.{View}
@@ -51,7 +52,7 @@ pub record EntersOwn (lists : ℕ → List Made) (x : ToldRecord) : Type 0 where
   pub lines : (q : ℕ) (m : Made) → Contains (entered_in q x.stretch) m → line_of m ≡ x.played.line
   pub asked : (it : Enters x) × (AskedNone x it ⊎ AskedOnce (lists 4) x it)
   pub refused : (j reg p size : ℕ) → x.played.answer ≡ answers.Full j → x.played.op ≡ ops.Alloc reg p size →
-      (p < 4) × IsFullAt (lists p) x j
+      (p < most_partitions) × IsFullAt (lists p) x j
   pub uncuts : (t : Title) → Contains x.stretch (Uncut t) → Unmaps x t
   pub cells : EntersCells x.played.op (lists 5) x
 
@@ -63,4 +64,4 @@ pub record HasSeenSome (stake q : ℕ) (v : View) : Type 0 where
 -- In the list of a partition past the run's it entered nothing, or its seat had seen an entry there before.
 abbrev pub EntersAtHome : StockValue → ToldRecord → Type 0
 EntersAtHome before x =
-    (p : ℕ) → before.partitions ≤ p → p < 4 → (entered_in p x.stretch ≡ []) ⊎ HasSeenSome before.thread p before.view
+    (p : ℕ) → before.partitions ≤ p → p < most_partitions → (entered_in p x.stretch ≡ []) ⊎ HasSeenSome before.thread p before.view

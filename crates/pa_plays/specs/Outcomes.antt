@@ -7,6 +7,7 @@ use Rattle.pa_record.specs.declared.pool.PoolEntry.{PoolEntry}
 use Rattle.pa_record.specs.declared.root.RootEntry.{RootEntry}
 use Rattle.pa_record.specs.Numbers.{root_numbers, pool_numbers}
 use Rattle.pa_record.specs.Spans.{name_of}
+use Rattle.pa_trace.specs.Limits.{most_partitions}
 use Rattle.pa_region.specs.declared.view.Made.{Made}
 use Rattle.pa_region.specs.declared.view.View.{View}
 use Rattle.pa_region.specs.Lists.{list_of, entered_in}
@@ -35,7 +36,7 @@ row_facts o = record { usable_of = usable_of; usable_at = λ s. o.sizes s - 8; c
 -- It is one of a run: no partition past its own has a journal, and a slot has the length with which a journal hands it out, and
 -- that journal's partition.
 pub record IsOutcome (o : Outcome) : Type 0 where
-  pub few : o.partitions ≤ 4
+  pub few : o.partitions ≤ most_partitions
   pub past : (p : ℕ) → o.partitions ≤ p → o.roots p ≡ []
   pub lengths : (p : ℕ) (e : RootEntry) (class : Option ℕ) (t : Title) → Contains (o.roots p) e → HandsOut class t e.act →
       o.sizes (name_of t) ≡ t.len
@@ -45,7 +46,7 @@ pub record IsOutcome (o : Outcome) : Type 0 where
 -- What a view has seen stands in it: an entry of a journal or of the pool's list at its place, and an exchange in its cell's
 -- history behind those of the cell before it.
 pub record IsSeenOf (o : Outcome) (v : View) : Type 0 where
-  pub roots : (p : ℕ) (older rest : List Made) (m : Made) (e : RootEntry) → p < 4 → list_of p v ≡ older ++ m ∷ rest →
+  pub roots : (p : ℕ) (older rest : List Made) (m : Made) (e : RootEntry) → p < most_partitions → list_of p v ≡ older ++ m ∷ rest →
       m.numbers ≡ root_numbers e → slice_get (o.roots p) (length older) ≡ Some e
   pub pools : (older rest : List Made) (m : Made) (e : PoolEntry) → list_of 4 v ≡ older ++ m ∷ rest → m.numbers ≡ pool_numbers e →
       slice_get o.pools (length older) ≡ Some e
@@ -55,7 +56,8 @@ pub record IsSeenOf (o : Outcome) (v : View) : Type 0 where
 -- the acts of the record's line in each journal are those that it entered
 abbrev pub ActsAreOf : Outcome → ToldRecord → Type 0
 ActsAreOf o x =
-    (p : ℕ) (entries : List RootEntry) → p < 4 → map (λ (m : Made). m.numbers) (entered_in p x.stretch) ≡ map root_numbers entries →
+    (p : ℕ) (entries : List RootEntry) → p < most_partitions →
+    map (λ (m : Made). m.numbers) (entered_in p x.stretch) ≡ map root_numbers entries →
     acts_of o.roots x.played.line p ≡ map (λ (e : RootEntry). e.act) entries
 
 -- A run of so many partitions became this, in which the record was made by a seat that had this view then.

@@ -8,6 +8,7 @@ use Rattle.pa_trace.specs.declared.script.Op.{Op}
 use Rattle.pa_record.specs.declared.entry.Answer.{Answer}
 use Rattle.pa_record.specs.declared.root.RootEntry.{RootEntry}
 use Rattle.pa_record.specs.Numbers.{root_numbers}
+use Rattle.pa_trace.specs.Limits.{most_partitions}
 use Rattle.pa_region.specs.declared.view.Entry.TheVariants.{Counted, Looked}
 use Rattle.pa_region.specs.declared.view.Made.{Made}
 use Rattle.pa_region.specs.declared.view.View.{View}
@@ -55,7 +56,7 @@ pub record AnswersIn (o : Outcome) (before after : StockValue) (x : ToldRecord) 
   pub lists : CacheRow o.partitions o.roots x.played x.played.answer (listed_in before) (listed_in after)
   pub reader : ReadsIts o.sizes (regs_of before.registers) x.played.op x
   pub unmaps : UnmapsNext o.roots x.played
-  pub makes : (p : ℕ) (m : Made) (e : RootEntry) → p < 4 → Contains (entered_in p x.stretch) m → m.numbers ≡ root_numbers e →
+  pub makes : (p : ℕ) (m : Made) (e : RootEntry) → p < most_partitions → Contains (entered_in p x.stretch) m → m.numbers ≡ root_numbers e →
       MakesEntry o.pools p e.act x.played.op
   pub home : (m : Mark) → mark_of x.played ≡ Some m → (p : ℕ) × HasSize o.roots p m.slot (o.sizes m.slot)
 

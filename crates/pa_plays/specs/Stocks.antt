@@ -4,21 +4,27 @@ use Rattle.std.specs.List.{sum_by}
 use Rattle.pa_machine.specs.declared.title.Title.{Title}
 use Rattle.pa_machine.specs.Titles.{same_title, IsWellFormed}
 use Rattle.pa_machine.specs.Holdings.{one}
+use Rattle.pa_buckets.specs.Limits.{class_count}
 use Rattle.pa_record.specs.Spans.{name_of}
+use Rattle.pa_trace.specs.Limits.{register_count, most_partitions, most_threads}
+use Rattle.pa_rules.specs.Limits.{list_count}
 use Rattle.pa_region.specs.declared.view.View.{View}
 use Rattle.pa_region.specs.Views.{free_of, own_of, ref_of, stake_of}
 use Rattle.pa_region.specs.Waiting.{unclean_of}
-use Rattle.pa_rules.specs.declared.register.Reg.{Reg}
-use Rattle.pa_rules.specs.declared.register.Reg.TheVariants as reg
-use Rattle.pa_rules.specs.Registers.{Regs}
+use Rattle.pa_rules.specs.declared.register.Register.{Register}
+use Rattle.pa_rules.specs.Registers.{Reg, Regs}
+use Rattle.pa_rules.specs.Nexts.{named}
 use Rattle.pa_rules.specs.Caches.{Cache}
 use Rattle.pa_buckets.specs.Bands.{limit_of}
 use Rattle.pa_cache.specs.Caches.{CacheList, IsCache}
 use Rattle.pa_cells.specs.declared.handle.Handle.{Handle}
 use Rattle.pa_cells.specs.Handles.{HasSeenMade}
 use Rattle.pa_root.specs.Handing.{numbered_by}
-use Rattle.pa_plays.specs.declared.register.Register.{Register}
-use Rattle.pa_plays.specs.declared.register.Register.TheVariants.{Empty, Own, Ref, Freed, Cleared}
+use Rattle.pa_rules.specs.declared.register.Register.TheVariants.{Empty, Own, Ref, Freed, Cleared}
+
+-- what a register of a worker has; a handle is of a slot whose title, partition and class it knows
+abbrev pub StockRegister : Type 0
+StockRegister = Register Handle
 
 -- A worker's stock, as contracts see it: the number of its thread; how many partitions the run has; the view of its seat; its
 -- registers; and a cache for each of 4 partitions and 59 classes, those of partition 0 first.
@@ -26,33 +32,29 @@ pub record StockValue : Type 0 where
   pub thread : ℕ
   pub partitions : ℕ
   pub view : View
-  pub registers : List Register
+  pub registers : List StockRegister
   pub caches : List CacheList
 
 -- what a register has; there are 64
-abbrev pub register_in : List Register → ℕ → Register
+abbrev pub register_in : List StockRegister → ℕ → StockRegister
 register_in registers i = slice_index_or registers i Empty
 
 -- where the cache of a partition and a class stands
 abbrev pub cache_place : ℕ → ℕ → ℕ
-cache_place p class = 59 * p + class
+cache_place p class = class_count * p + class
 
 abbrev pub no_cache : CacheList
 no_cache = record { class = 0; titles = [] }
 
 -- its titles, front first; none of a class that isn't there
 abbrev pub titles_in : List CacheList → ℕ → ℕ → List Title
-titles_in caches p class = if nat_lt class 59 then (slice_index_or caches (cache_place p class) no_cache).titles else []
+titles_in caches p class = if nat_lt class class_count then (slice_index_or caches (cache_place p class) no_cache).titles else []
 
 -- A register, and a worker's registers, as the rules of a run have them.
-abbrev pub as_reg : Register → Reg
-as_reg Empty = reg.Empty
-as_reg (Own h) = reg.Own (name_of h.title)
-as_reg (Ref h) = reg.Ref (name_of h.title)
-as_reg Freed = reg.Freed
-as_reg Cleared = reg.Cleared
+abbrev pub as_reg : StockRegister → Reg
+as_reg r = named (λ (h : Handle). name_of h.title) r
 
-abbrev pub regs_of : List Register → Regs
+abbrev pub regs_of : List StockRegister → Regs
 regs_of registers i = as_reg (register_in registers i)
 
 -- a worker's lists, as the rules have them: each title at the number that the seat has seen
@@ -60,14 +62,14 @@ abbrev pub listed_in : StockValue → Cache
 listed_in s p class = numbered_by s.view (titles_in s.caches p class)
 
 -- 1 where the register has the title's Own, or a Ref of it, else 0
-abbrev pub owns_one : Title → Register → ℕ
+abbrev pub owns_one : Title → StockRegister → ℕ
 owns_one t Empty = 0
 owns_one t (Own h) = one (same_title h.title t)
 owns_one t (Ref h) = 0
 owns_one t Freed = 0
 owns_one t Cleared = 0
 
-abbrev pub refs_one : Title → Register → ℕ
+abbrev pub refs_one : Title → StockRegister → ℕ
 refs_one t Empty = 0
 refs_one t (Own h) = 0
 refs_one t (Ref h) = one (same_title h.title t)
@@ -75,10 +77,10 @@ refs_one t Freed = 0
 refs_one t Cleared = 0
 
 -- the register has this handle, or none
-abbrev pub HasHandleTo : Handle → Register → Type 0
+abbrev pub HasHandleTo : Handle → StockRegister → Type 0
 HasHandleTo h r = (r ≡ Own h) ⊎ (r ≡ Ref h)
 
-abbrev pub HasNoHandle : Register → Type 0
+abbrev pub HasNoHandle : StockRegister → Type 0
 HasNoHandle Empty = Unit {0}
 HasNoHandle (Own h) = ⊥
 HasNoHandle (Ref h) = ⊥
@@ -86,7 +88,7 @@ HasNoHandle Freed = Unit {0}
 HasNoHandle Cleared = Unit {0}
 
 -- the view has seen how the slot was made of which the register has a handle
-abbrev pub IsMadeFor : View → Register → Type 0
+abbrev pub IsMadeFor : View → StockRegister → Type 0
 IsMadeFor v Empty = Unit {0}
 IsMadeFor v (Own h) = HasSeenMade h v
 IsMadeFor v (Ref h) = HasSeenMade h v
@@ -95,8 +97,8 @@ IsMadeFor v Cleared = Unit {0}
 
 -- The handles. The seat has each Own and each Ref as often as registers have it, and no Own is unclean; and it has seen how
 -- each of their slots was made.
-pub record HoldsHandles (registers : List Register) (v : View) : Type 0 where
-  pub count : length registers ≡ 64
+pub record HoldsHandles (registers : List StockRegister) (v : View) : Type 0 where
+  pub count : length registers ≡ register_count
   pub owns : (t : Title) → own_of v t ≡ sum_by (owns_one t) registers
   pub refs : (t : Title) → ref_of v t ≡ sum_by (refs_one t) registers
   pub clean : unclean_of v ≡ 0
@@ -109,9 +111,10 @@ listed_slot p class t = record { title = t; partition = p; class = Some class }
 -- The lists. None is longer than its class's limit. The seat has each listed title free, none is in two lists,
 -- and it has seen the fill that handed the slot out, of its partition and class; each title is well formed.
 pub record HoldsLists (caches : List CacheList) (v : View) : Type 0 where
-  pub count : length caches ≡ 236
+  pub count : length caches ≡ list_count
   pub sound : (k : ℕ) → IsCache (slice_index_or caches k no_cache)
-  pub classes : (p class : ℕ) → p < 4 → class < 59 → (slice_index_or caches (cache_place p class) no_cache).class ≡ class
+  pub classes : (p class : ℕ) → p < most_partitions → class < class_count →
+      (slice_index_or caches (cache_place p class) no_cache).class ≡ class
   pub few : (p class : ℕ) → length (titles_in caches p class) ≤ limit_of class
   pub free : (p class : ℕ) (t : Title) → Contains (titles_in caches p class) t → 0 < free_of v t
   pub apart : (p q class other : ℕ) (t : Title) → Contains (titles_in caches p class) t → Contains (titles_in caches q other) t →
@@ -121,12 +124,12 @@ pub record HoldsLists (caches : List CacheList) (v : View) : Type 0 where
 
 -- The stake. It is the thread's, or none while the worker has told.
 pub record HoldsStake (thread : ℕ) (v : View) : Type 0 where
-  pub small : thread < 16
+  pub small : thread < most_threads
   pub only : (k : ℕ) → (k ≡ thread → ⊥) → stake_of v k ≡ 0
 
 -- What is always true of a worker's stock.
 pub record IsStock (s : StockValue) : Type 0 where
-  pub partitions : s.partitions ≤ 4
+  pub partitions : s.partitions ≤ most_partitions
   pub handles : HoldsHandles s.registers s.view
   pub lists : HoldsLists s.caches s.view
   pub stake : HoldsStake s.thread s.view
@@ -148,4 +151,4 @@ pub record IsNewStock (thread partitions : ℕ) (v : View) (s : StockValue) : Ty
 -- these are the first so many lists of a worker at the start: of each class in turn, without titles
 pub record AreNoLists (count : ℕ) (caches : List CacheList) : Type 0 where
   pub count_is : length caches ≡ count
-  pub each : (k : ℕ) → k < count → slice_index_or caches k no_cache ≡ record { class = k % 59; titles = [] }
+  pub each : (k : ℕ) → k < count → slice_index_or caches k no_cache ≡ record { class = k % class_count; titles = [] }

@@ -7,8 +7,6 @@
 
 mod counts;
 mod laws;
-mod register;
 
 pub use counts::Count;
 pub use laws::plays_follow;
-pub use register::Register;

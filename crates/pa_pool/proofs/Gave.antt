@@ -8,13 +8,12 @@ use Rattle.std.proofs.lemmas.Option.{slice_get-map, slice_get-get_or, get_or_fro
 use Rattle.pa_machine.specs.Holdings.{FreeTitle, OwnOf, RefOf, one}
 use Rattle.pa_record.specs.declared.taken.Taken.{Taken}
 use Rattle.pa_record.specs.declared.pool.PoolEntry.{PoolEntry}
-use Rattle.pa_record.specs.declared.pool.PoolAct.{PoolAct}
 use Rattle.pa_record.specs.declared.pool.PoolAct.TheVariants.{Take}
 use Rattle.pa_record.specs.Pool.{IsOneTake, IsPartitions, gave, FoundRun}
 use Rattle.pa_record.specs.Numbers.{pool_numbers}
-use Rattle.pa_record.proofs.Members.{of_some, not_some}
+use Rattle.pa_lists.proofs.Members.{of_some, not_some}
 use Rattle.pa_record.proofs.OneEntry.{one_pool}
-use Rattle.pa_record.proofs.PoolSteps.{slice_get_more}
+use Rattle.pa_record.proofs.PoolSteps.{slice_get_more, without_keeps, act_of, without_in}
 use Rattle.pa_region.specs.declared.view.Made.{Made}
 use Rattle.pa_region.specs.declared.view.View.{View}
 use Rattle.pa_region.specs.Views.{low_of, least_stake}
@@ -27,7 +26,7 @@ use Rattle.pa_region.proofs.TakeLaws.{left_whole}
 use Rattle.pa_region.proofs.Pieces.{frees_have, owns_have, refs_have}
 use Rattle.pa_pool.specs.Pools.{PoolValue, pool_after, IsByteOf, IsFreeByte, IsEntryOut, IsPoolSound, HasNoMore}
 use Rattle.pa_pool.specs.Calls.{take_entry, give_entry, HasRun, HasSeenTake, ComesBack, IsAsBefore, IsGivenBack, SeenTakesStay}
-use Rattle.pa_pool.proofs.Runs.{sound_state, out_cases, out_below, byte_cases, gave_fewer, gave_keeps, gave_entry, one_begins, found_one}
+use Rattle.pa_pool.proofs.Runs.{sound_state, out_cases, out_below, byte_cases, gave_entry, one_begins, found_one}
 use Rattle.pa_pool.proofs.RawBytes.{low_rises}
 use Rattle.pa_pool.proofs.NextPool.{list_grows, next_pool, entered, last_stands}
 use Rattle.pa_pool.proofs.Took.{IsMadeBy, made_by, more_kept}
@@ -52,13 +51,8 @@ out_take supers taken first count es h sound is found =
     let same = found_one es taken is.0.count count is.0.first first (out_found supers taken es h sound is) found in
     record { among = is.1; begins = same.1; reaches = same.0 }
 
--- an entry that was found is one of the list
-entry_found : (o : Option PoolEntry) (a : PoolAct) → option_map (λ (e : PoolEntry). e.act) o ≡ Some a → (e : PoolEntry) × (o ≡ Some e) × (e.act ≡ a)
-entry_found None a e = absurd (not_some a e)
-entry_found (Some x) a e = (x, refl, of_some x.act a e)
-
 pub at_taken : (supers taken : ℕ) (es : List PoolEntry) (h : View) → IsPoolSound supers es h → (is : IsEntryOut (pool_after es supers) taken) → (e : PoolEntry) × (slice_get es taken ≡ Some e) × (e.act ≡ Take is.0.count (Some is.0.first))
-at_taken supers taken es h sound is = entry_found (slice_get es taken) (Take is.0.count (Some is.0.first)) (out_found supers taken es h sound is)
+at_taken supers taken es h sound is = act_of (slice_get es taken) (Take is.0.count (Some is.0.first)) (out_found supers taken es h sound is)
 
 -- what is read at its place in the list is what it found
 pub run_found : (supers taken first count : ℕ) (es : List PoolEntry) (h : View) (e : PoolEntry) → IsPoolSound supers es h → IsEntryOut (pool_after es supers) taken → e ≡ get_or es taken e →
@@ -117,7 +111,7 @@ module _ (line partition supers taken first count : ℕ) (es : List PoolEntry) (
       let take = out_take supers taken first count es h sound is found in
       elim (eqb_tells t.first first) [
         | inl y ↦ inl (one_begins es (pool_after es supers) is.0 t (sound_state supers es sound.pool) is.1 among (y.1 ∙ sym take.begins))
-        | inr ne ↦ inr (gave_keeps first (pool_after es supers).taken t among ne.1)
+        | inr ne ↦ inr (without_keeps first (pool_after es supers).taken t among ne.1)
       ]
 
   -- what comes back is raw here again
@@ -161,7 +155,7 @@ module _ (line partition supers taken first count : ℕ) (es : List PoolEntry) (
   gave_out n sound parted run is found keeps o =
       let take = out_take supers taken first count es h sound is found in
       let p = parted.leases n in let k = keeps.leases n in let l = run.leases n in
-      let z = sound.out n (o.0, gave_fewer first (pool_after es supers).taken o.0 o.1, o.2) in
+      let z = sound.out n (o.0, without_in first (pool_after es supers).taken o.0 o.1, o.2) in
       elim (eqb_tells taken n) [
         | inl y ↦ absurd (gave_entry es (pool_after es supers) is.0 o.0 (sound_state supers es sound.pool) is.1
             (subst (λ f. Contains (gave f (pool_after es supers)).taken o.0) (sym take.begins) o.1) (o.2 ∙ (sym y.1 ∙ sym is.2)))

@@ -2,5 +2,4 @@ pub mod Gave
 pub mod NextPool
 pub mod RawBytes
 pub mod Runs
-pub mod Testing
 pub mod Took

@@ -5,7 +5,7 @@ use Rattle.std.specs.Prelude.{slice_get}
 use Rattle.pa_record.specs.declared.pool.PoolEntry.{PoolEntry}
 use Rattle.pa_record.specs.Pool.{PoolState, IsLowest, PoolActFits, IsPool, pool_next}
 use Rattle.pa_record.specs.Numbers.{pool_numbers}
-use Rattle.pa_record.proofs.PoolSteps.{pool_grows, slice_get_at}
+use Rattle.pa_record.proofs.PoolSteps.{pool_grows}
 use Rattle.pa_region.specs.declared.view.Made.{Made}
 use Rattle.pa_region.specs.declared.view.View.{View}
 use Rattle.pa_region.specs.Views.{low_of, least_stake}
@@ -15,6 +15,7 @@ use Rattle.pa_region.specs.Shares.{Share}
 use Rattle.pa_pool.specs.Calls.{take_entry, IsAsBefore, IsEntered, IsTaken, HasSeenTake}
 use Rattle.pa_pool.proofs.Runs.{same_supers}
 use Rattle.pa_pool.specs.Pools.{PoolValue, pool_after, IsFreeByte, IsEntryOut, IsPoolSound, HasNoMore}
+use Rattle.pa_lists.proofs.Indexed.{slice_get_at}
 
 -- the list with the entry more, in numbers
 pub list_grows : (es : List PoolEntry) (e : PoolEntry) (before after : List Made) (m : Made) → map (λ (x : Made). x.numbers) before ≡ map pool_numbers es → after ≡ before ++ m ∷ [] → m.numbers ≡ pool_numbers e →

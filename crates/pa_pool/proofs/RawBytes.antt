@@ -5,7 +5,6 @@ use Rattle.std.proofs.lemmas.List.Sums.{sum_by-cons, sum_by-append, sum_by-le-su
 use Rattle.std.proofs.lemmas.Bool.{cases_lt, le-leb, lt-leb, true≢false}
 use Rattle.pa_machine.specs.Holdings.{RawByte, FreeTitle, OwnOf, RefOf, one, amount}
 use Rattle.pa_region.specs.declared.view.RawRange.{RawRange}
-use Rattle.pa_region.specs.declared.view.Keeper.{Keeper}
 use Rattle.pa_region.specs.declared.view.Stake.{Stake}
 use Rattle.pa_region.specs.declared.view.View.{View}
 use Rattle.pa_region.specs.Views.{low_of, raw_piece}
@@ -21,6 +20,7 @@ use Rattle.pa_region.proofs.Cutting.{outside_none, inside_none, inside_low}
 use Rattle.pa_pool.specs.Pools.{IsByteOf, HasNoTitle}
 use Rattle.pa_pool.specs.Calls.{run_parcel, HasRaw, HasNoOther, RunsAreHanded}
 use Rattle.pa_pool.proofs.Runs.{byte_apart}
+use Rattle.pa_region.proofs.LendBack.{no_keepers}
 
 -- more ranges have a floor of at most a greater number
 pub low_rises : (v : View) (b m n : ℕ) → m ≤ n → low_of v b m ≤ low_of v b n
@@ -82,12 +82,8 @@ left_raw first count index floor b v parted out = let e = other_low first count 
 pub given_lease : (first count index n : ℕ) (v : View) → lease_of (given_after (run_parcel first count index) v) n ≡ one (eqb index n)
 given_lease first count index n v = let c = sum_by-cons (λ l. one (eqb l n)) index [] in omega arith
 
-none_kept : (k : ℕ) (qs : List Keeper) → sum_by (λ (q : Keeper). one (eqb q.number k)) (filter (λ (q : Keeper). false) qs) ≡ 0
-none_kept k [] = refl
-none_kept k (q ∷ qs) = none_kept k qs
-
 pub given_keeper : (first count index k : ℕ) (v : View) → keeper_of (given_after (run_parcel first count index) v) k ≡ 0
-given_keeper first count index k v = none_kept k v.keepers
+given_keeper first count index k v = no_keepers k v.keepers
 
 -- who keeps what has no title has none
 pub no_title_kept : (v w : View) → Keeps v w → HasNoTitle v → HasNoTitle w

@@ -1,7 +1,7 @@
 -- The runs that are taken, before and after an entry.
-use Rattle.std.proofs.Common.{◌≡◌, ℕ, ◌+◌, ◌*◌, ◌<◌, ◌≤◌, List, [], ◌∷◌, ◌++◌, refl, sym, ◌∙◌, ap, subst, arith, ◌⊎◌, inl, inr, eqb, length, Some, None, Option}
+use Rattle.std.proofs.Common.{◌≡◌, ℕ, ◌+◌, ◌*◌, ◌<◌, ◌≤◌, List, [], ◌∷◌, ◌++◌, refl, sym, ◌∙◌, ap, subst, arith, ◌⊎◌, inl, inr, length, Some, None, Option}
 use Rattle.std.specs.Prelude.{Contains}
-use Rattle.std.proofs.lemmas.Bool.{cases_Bool, cases_lt, eqb-true}
+use Rattle.std.proofs.lemmas.Bool.{cases_lt}
 use Rattle.std.proofs.lemmas.Bool.Decides.{eqb_tells}
 use Rattle.std.proofs.lemmas.List.Elements.{Contains-append_left}
 use Rattle.pa_record.specs.declared.taken.Taken.{Taken}
@@ -10,8 +10,8 @@ use Rattle.pa_record.specs.declared.pool.PoolAct.{PoolAct}
 use Rattle.pa_record.specs.declared.pool.PoolAct.TheVariants.{Take, Give}
 use Rattle.pa_record.specs.Pool.{PoolState, IsPool, without_run, FoundRun}
 use Rattle.pa_record.specs.PoolLaws.{IsSoundPool}
-use Rattle.pa_record.proofs.Members.{not_in_none, first_in, later_in, in_cases, of_some}
-use Rattle.pa_record.proofs.PoolSteps.{pool_is_sound, pool_answers}
+use Rattle.pa_lists.proofs.Members.{not_in_none, first_in, later_in, in_cases, of_some}
+use Rattle.pa_record.proofs.PoolSteps.{pool_is_sound, pool_answers, without_in}
 use Rattle.pa_pool.specs.Pools.{pool_after, IsByteOf, IsEntryOut}
 
 -- whether some run that is taken is of this entry
@@ -72,30 +72,6 @@ took_last n first count [] = first_in (record { entry = n; first = first; count 
 took_last n first count (u ∷ ts) =
     later_in u (record { entry = n; first = first; count = count }) (ts ++ record { entry = n; first = first; count = count } ∷ []) (took_last n first count ts)
 
--- a run less: the others stay, and no new one comes
-pub gave_fewer : (first : ℕ) (ts : List Taken) (u : Taken) → Contains (without_run first ts) u → Contains ts u
-gave_fewer first [] u among = among
-gave_fewer first (t ∷ ts) u among = elim (cases_Bool (eqb t.first first)) [
-  | inl hit ↦ later_in t u ts (rw hit at among)
-  | inr miss ↦ elim (in_cases t u (without_run first ts) (rw miss at among)) [
-    | inl e ↦ subst (λ z. Contains (t ∷ ts) z) e (first_in t ts)
-    | inr old ↦ later_in t u ts (gave_fewer first ts u old)
-  ]
-]
-
-pub gave_keeps : (first : ℕ) (ts : List Taken) (u : Taken) → Contains ts u → (u.first ≡ first → ⊥) → Contains (without_run first ts) u
-gave_keeps first [] u among ne = among
-gave_keeps first (t ∷ ts) u among ne = elim (cases_Bool (eqb t.first first)) [
-  | inl hit ↦ elim (in_cases t u ts among) [
-    | inl e ↦ absurd (ne (ap (λ (z : Taken). z.first) (sym e) ∙ eqb-true t.first first hit))
-    | inr rest ↦ rw hit rest
-  ]
-  | inr miss ↦ elim (in_cases t u ts among) [
-    | inl e ↦ rw miss (subst (λ z. Contains (t ∷ without_run first ts) z) e (first_in t (without_run first ts)))
-    | inr rest ↦ rw miss (later_in t u (without_run first ts) (gave_keeps first ts u rest ne))
-  ]
-]
-
 -- of two runs that begin at one super page one is the other
 pub one_begins : (es : List PoolEntry) (s : PoolState) (t u : Taken) → IsSoundPool es s → Contains s.taken t → Contains s.taken u → u.first ≡ t.first → u ≡ t
 one_begins es s t u h among also e =
@@ -120,7 +96,7 @@ found_one es n count other first another f g = take_one count other first anothe
 -- after a give no run of its entry is taken
 pub gave_entry : (es : List PoolEntry) (s : PoolState) (t u : Taken) → IsSoundPool es s → Contains s.taken t → Contains (without_run t.first s.taken) u → u.entry ≡ t.entry → ⊥
 gave_entry es s t u h among left e =
-    let also = gave_fewer t.first s.taken u left in
+    let also = without_in t.first s.taken u left in
     let f = (h.found t among).1 in
     let g = subst (λ (n : ℕ). FoundRun es n u.count u.first) e ((h.found u also).1) in
     let same = found_one es t.entry u.count t.count u.first t.first g f in

@@ -9,8 +9,6 @@ mod fault;
 mod laws;
 mod pool;
 mod run;
-#[cfg(test)]
-mod tests;
 
 pub use fault::PoolFault;
 pub use laws::{runs_are_handed, seen_takes_stay};

@@ -1,5 +1,6 @@
 ghost use Rattle.std.specs.Prelude.{◌≡◌, ◌≢◌, ℕ, ◌+◌, ◌*◌, ◌<◌, ◌≤◌, [], ◌∷◌, ◌++◌, length, Some, IfOk, IfErr, IsOk};
 ghost use Rattle.std.specs.Vec.{vec_capacity};
+ghost use Rattle.pa_layout.specs.Limits.{most_supers};
 ghost use Rattle.pa_record.specs.Numbers.{pool_numbers};
 ghost use Rattle.pa_region.specs.Lending.{CanLend, HostsKeeper, MakesEntry};
 ghost use Rattle.pa_region.specs.Shares.{byte_word_count};
@@ -93,7 +94,7 @@ impl<N: Name> Pool<N> {
     ) -> Result<(u32, u32, Note), PoolFault>
         requires regions { (region.now ≡ N.region) × (seat.old.region ≡ N.region) }
         requires lender { CanLend seat.old.view }
-        requires count { (1 ≤ count) × (count ≤ 16) }
+        requires count { (1 ≤ count) × (count ≤ most_supers) }
         ensures region { seat.new.region ≡ N.region }
         ensures again { CanLend seat.new.view }
         ensures took { IfOk result (λ r. IsTaken line partition count (Some r.1) r.0 seat.old seat.new self.old self.new) }

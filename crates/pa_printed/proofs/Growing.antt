@@ -7,11 +7,7 @@ use Rattle.pa_record.specs.declared.root.RootEntry.{RootEntry}
 use Rattle.pa_record.specs.Bits.{RootInBits}
 use Rattle.pa_record.specs.Text.{lines_from, root_text, journal_text}
 use Rattle.pa_printed.specs.Lines.{OneJournal, AreFrom, IsJournalText}
-
--- P holds of each, and of one more
-pub all_more : {X : Type 0} (P : X → Type 0) (xs : List X) (x : X) → AllByRecursion P xs → P x → AllByRecursion P (xs ++ x ∷ [])
-all_more P [] x h hx = (hx, tt)
-all_more P (y ∷ ys) x h hx = (h.0, all_more P ys x h.1 hx)
+use Rattle.pa_lists.proofs.Elements.{all_more}
 
 -- the lines of one more
 lines_more : {X : Type 0} (f : ℕ → X → List ℕ) (n : ℕ) (xs : List X) (x : X) → lines_from f n (xs ++ x ∷ []) ≡ lines_from f n xs ++ f (n + length xs) x

@@ -6,7 +6,7 @@ ghost use Rattle.pa_record.specs.Bits.{RootInBits};
 
 use crate::lines::Lines;
 use pa_machine::OutOfMemory;
-use pa_record::RootEntry;
+use pa_record::LentEntry;
 use pa_text::Text;
 use std::alloc::Global;
 use std::marker::Model;
@@ -45,7 +45,7 @@ impl Journals {
     /// Puts an entry behind the others of a partition, and tells its place there. After want of memory that journal has no
     /// entries.
     #[inline(always)]
-    pub fn push(&mut self, partition: u32, entry: &RootEntry) -> Result<u32, OutOfMemory>
+    pub fn push(&mut self, partition: u32, entry: &LentEntry<'_>) -> Result<u32, OutOfMemory>
         requires partition { partition < length self.old }
         requires few { length (slice_index_or self.old partition []) < 2 ^ 32 }
         ensures place { IfOk result (λ place. place ≡ length (slice_index_or self.old partition [])) }

@@ -5,7 +5,7 @@ ghost use Rattle.pa_record.specs.Text.{journal_text};
 
 use crate::past::Past;
 use pa_machine::OutOfMemory;
-use pa_record::{RootEntry, push_root, root_fits};
+use pa_record::{LentEntry, RootEntry, push_root, root_fits};
 use pa_text::Text;
 use std::alloc::Global;
 use std::marker::Model;
@@ -44,7 +44,7 @@ impl Lines {
 
     // Puts an entry behind the others, and tells its place. After want of memory there are none.
     #[inline(always)]
-    pub(crate) fn push(&mut self, entry: &RootEntry) -> Result<u32, OutOfMemory>
+    pub(crate) fn push(&mut self, entry: &LentEntry<'_>) -> Result<u32, OutOfMemory>
         requires few { length self.old.entries < 2 ^ 32 }
         ensures partition { self.new.partition ≡ self.old.partition }
         ensures place { IfOk result (λ place. place ≡ length self.old.entries) }
@@ -55,7 +55,7 @@ impl Lines {
         let place = self.len;
         match push_root(&mut self.text, u64::from(self.partition), place, entry) {
             Ok(()) => {
-                self.past = self.past.and(entry);
+                self.past = self.past.and_lent(entry);
                 self.len += 1;
                 Ok(place as u32)
             }

@@ -2,6 +2,7 @@
 ghost use Rattle.std.specs.Prelude.{◌≡◌, List, [], ◌∷◌, ◌++◌};
 ghost use Rattle.std.specs.Borrow.{ftrue};
 
+use pa_record::{LentEntry, RootEntry};
 use std::marker::{Model, PhantomData};
 
 // What was told so far. A clause reads it as `items`.
@@ -26,6 +27,15 @@ impl<A> Past<A> {
     // The same, and one more behind it.
     pub(crate) fn and(&self, item: &A) -> Past<A>
         ensures { result.items ≡ self.now.items ++ item.now ∷ [] }
+    {
+        Past { of: PhantomData }
+    }
+}
+
+impl Past<RootEntry> {
+    // The same, of an entry that is lent.
+    pub(crate) fn and_lent(&self, entry: &LentEntry<'_>) -> Past<RootEntry>
+        ensures { result.items ≡ self.now.items ++ entry.now ∷ [] }
     {
         Past { of: PhantomData }
     }

@@ -4,8 +4,6 @@
 
 mod fill;
 mod leave;
-#[cfg(test)]
-mod thread_tests;
 
 pub use fill::{poison, write, zero_fill};
 pub use leave::{free_owned, read, release};

@@ -13,6 +13,7 @@ use Rattle.pa_record.proofs.Fields.{cut3, cut4, cut7}
 use Rattle.pa_reader.specs.Reading.{after_word, below_in}
 use Rattle.pa_reader.specs.Records.{seen_in, seen_if_in, made_in, done_in, value_in, dangling_in, second_free_in, not_owner_in, stale_use_in, shared_in, slot_answer_in, plain_answer_in, counted_answer_in, answer_in, record_in, record_line_in}
 use Rattle.pa_reader.proofs.Fields.{behind_again, below_again, field_again, word_again, slot_again}
+use Rattle.pa_record.proofs.EntryLines.{entry_cut}
 
 seen_again : (s : Seen) (rest : List ℕ) → SeenInBits s → seen_in (seen_text s ++ rest) ≡ Some (s, rest)
 unfolding seen_in
@@ -86,9 +87,6 @@ record_again e rest fits =
       answer_again e.answer rest fits.2,
       behind_again (codes "\n") rest,
     ) refl
-
-pub entry_cut : (e : Entry) (rest : List ℕ) → entry_text e ++ rest ≡ codes "e " ++ (decimal e.line ++ (codes " " ++ (decimal e.thread ++ (codes " " ++ (answer_text e.answer ++ 10 ∷ rest)))))
-entry_cut e rest = cut7 (codes "e ") (decimal e.line) (codes " ") (decimal e.thread) (codes " ") (answer_text e.answer) (10 ∷ []) rest
 
 pub line_again : (e : Entry) (rest : List ℕ) → EntryInBits e → record_line_in (entry_text e ++ rest) ≡ Some (e, rest)
 unfolding record_line_in

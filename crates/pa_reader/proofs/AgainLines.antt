@@ -2,7 +2,6 @@
 use Rattle.std.proofs.Common.{◌≡◌, ℕ, ◌<◌, List, [], ◌∷◌, ◌++◌, codes, Option, Some, None, refl, sym, ap, ◌∙◌, arith}
 use Rattle.std.specs.Fmt.{decimal}
 use Rattle.pa_text.specs.Reading.{IsStop}
-use Rattle.pa_record.specs.declared.root.RootEntry.{RootEntry}
 use Rattle.pa_record.specs.declared.pool.PoolEntry.{PoolEntry}
 use Rattle.pa_record.specs.declared.pool.PoolAct.{PoolAct}
 use Rattle.pa_record.specs.declared.pool.PoolAct.TheVariants as turns
@@ -10,17 +9,19 @@ use Rattle.pa_record.specs.declared.history.CellEntry.{CellEntry}
 use Rattle.pa_record.specs.declared.history.Held.{Held}
 use Rattle.pa_record.specs.declared.history.Held.TheVariants as handles
 use Rattle.pa_record.specs.Bits.{Is32, PoolActInBits, PoolInBits, HeldInBits, CellInBits}
-use Rattle.pa_record.specs.Text.{field_text, number_or, root_act_text, root_text, pool_act_text, pool_text, held_text, cell_text}
-use Rattle.pa_record.proofs.Fields.{cut4, cut6, cut8}
+use Rattle.pa_record.specs.Text.{number_or, pool_act_text, held_text, cell_text}
+use Rattle.pa_record.proofs.Fields.{cut4}
 use Rattle.pa_reader.specs.declared.item.Item.{Item}
 use Rattle.pa_reader.specs.declared.item.Item.TheVariants as items
 use Rattle.pa_reader.specs.Reading.{after_word}
 use Rattle.pa_reader.specs.Lines.{take_in, given_back_in, pool_act_in, pool_in, own_in, ref_in, own_or_ref_in, cell_in, record_item_in, report_item_in, item_in}
 use Rattle.pa_reader.specs.Item.{item_text, ItemInBits}
 use Rattle.pa_reader.proofs.Fields.{behind_again, below_again, field_again, slot_again}
-use Rattle.pa_reader.proofs.Again.{record_again, entry_cut}
+use Rattle.pa_reader.proofs.Again.{record_again}
 use Rattle.pa_reader.proofs.Reports.{report_again, report_cut}
 use Rattle.pa_reader.proofs.AgainRoots.{number_or_again, root_again}
+use Rattle.pa_record.proofs.EntryLines.{entry_cut}
+use Rattle.pa_record.proofs.OtherLines.{root_cut, pool_cut, cell_cut}
 
 -- ---- the pool
 
@@ -86,18 +87,6 @@ cell_again k j e rest cells small fits =
     ) refl
 
 -- ---- each line
-
-root_cut : (p j : ℕ) (e : RootEntry) (x : List ℕ) → root_text p j e ++ x
-    ≡ codes "r " ++ (decimal p ++ (codes " " ++ (decimal j ++ (codes " " ++ (decimal e.line ++ (codes " " ++ (root_act_text e.act ++ 10 ∷ x)))))))
-root_cut p j e x = cut6 (field_text (codes "r ") p) (field_text (codes " ") j) (field_text (codes " ") e.line) (codes " ") (root_act_text e.act) (10 ∷ []) x
-
-pool_cut : (j : ℕ) (e : PoolEntry) (x : List ℕ) → pool_text j e ++ x
-    ≡ codes "p " ++ (decimal j ++ (codes " " ++ (decimal e.line ++ (codes " " ++ (decimal e.partition ++ (codes " " ++ (pool_act_text e.act ++ 10 ∷ x)))))))
-pool_cut j e x = cut6 (field_text (codes "p ") j) (field_text (codes " ") e.line) (field_text (codes " ") e.partition) (codes " ") (pool_act_text e.act) (10 ∷ []) x
-
-cell_cut : (k j : ℕ) (e : CellEntry) (x : List ℕ) → cell_text k j e ++ x
-    ≡ codes "c " ++ (decimal k ++ (codes " " ++ (decimal j ++ (codes " " ++ (decimal e.line ++ (codes " " ++ (held_text e.gave ++ (codes " " ++ (held_text e.found ++ 10 ∷ x)))))))))
-cell_cut k j e x = cut8 (field_text (codes "c ") k) (field_text (codes " ") j) (field_text (codes " ") e.line) (codes " ") (held_text e.gave) (codes " ") (held_text e.found) (10 ∷ []) x
 
 -- what was read of a cell's line
 pub cell_spelled : (k j : ℕ) (e : CellEntry) (bytes a b c d f g h rest : List ℕ) → bytes ≡ decimal k ++ a → a ≡ codes " " ++ (decimal j ++ b) → b ≡ codes " " ++ (decimal e.line ++ c)

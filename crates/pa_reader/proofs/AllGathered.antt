@@ -16,6 +16,7 @@ use Rattle.pa_reader.proofs.Gathering.{Stands, told, told_to, told_more}
 use Rattle.pa_reader.proofs.Keeping.{Kept, stands_next, kept_next, stands_first, kept_first, told_first, run_told}
 use Rattle.pa_reader.proofs.Telling.{items_text, items_ordered}
 use Rattle.pa_reader.proofs.OneReading.{same_item, items_lines}
+use Rattle.pa_lists.proofs.Elements.{same_cons}
 
 -- ---- nothing
 
@@ -80,9 +81,6 @@ all_gathered (i ∷ is) order =
 
 cons_parts : {A : Type 0} (x y : A) (xs ys : List A) → x ∷ xs ≡ y ∷ ys → (x ≡ y) × (xs ≡ ys)
 cons_parts x y xs ys e = (cc, cc)
-
-same_cons : {A : Type 0} (x y : A) (xs ys : List A) → x ≡ y → xs ≡ ys → x ∷ xs ≡ y ∷ ys
-same_cons x y xs ys e f = cc
 
 same_items : (last : Option Item) (is js : List Item) → AreInOrder last is → AreInOrder last js → map item_text is ≡ map item_text js → is ≡ js
 same_items last [] [] ha hb e = refl

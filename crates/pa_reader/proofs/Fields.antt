@@ -1,5 +1,5 @@
 -- Fields of a line: what is read is spelled so, and what is spelled so is read.
-use Rattle.std.proofs.Common.{◌≡◌, ℕ, ◌<◌, ◌≤◌, Bool, true, false, cond, List, ◌∷◌, ◌++◌, codes, length, take, drop, Option, Some, None, refl, sym, ap, subst, ◌∙◌, append_assoc, arith}
+use Rattle.std.proofs.Common.{◌≡◌, ℕ, ◌<◌, ◌≤◌, cond, List, ◌∷◌, ◌++◌, codes, length, take, drop, Some, None, refl, sym, ap, subst, ◌∙◌, append_assoc, arith}
 use Rattle.std.specs.Prelude.{nat_eq, nat_lt}
 use Rattle.std.specs.Cmp.Lexicographic.{pointwise}
 use Rattle.std.specs.Fmt.{decimal}
@@ -9,17 +9,9 @@ use Rattle.pa_text.specs.Hex.{hex, slot_text, SlotFits}
 use Rattle.pa_text.specs.Reading.{◌>>=◌, IsStop, number_at, hexes_at}
 use Rattle.pa_text.proofs.Fronts.{front_parts, front_found}
 use Rattle.pa_text.proofs.Numerals.{number_takes, number_again, decimal_numeral, one_numeral}
-use Rattle.pa_text.proofs.Words.{hexes_take, hexes_again}
+use Rattle.pa_text.proofs.Words.{hexes_take, hexes_again, some_bind}
 use Rattle.pa_reader.specs.Reading.{after_word, narrowed, wide_at, below_at, below_in, wide_in, hexes_in, slot_in}
-
--- the value of a step that gave one
-pub some_bind : {A B : Type 0} (o : Option A) (f : A → Option B) (y : B) → (o >>= f) ≡ Some y → (x : A) × (o ≡ Some x) × (f x ≡ Some y)
-some_bind None f y e = absurd cc
-some_bind (Some x) f y e = (x, refl, e)
-
-if_some : {A : Type 0} (b : Bool) (x y : A) → cond b (Some x) None ≡ Some y → (b ≡ true) × (x ≡ y)
-if_some true x y e = (refl, cc)
-if_some false x y e = absurd cc
+use Rattle.pa_lists.proofs.Options.{if_some}
 
 -- ---- a word in front
 

@@ -6,10 +6,6 @@ use Rattle.pa_record.proofs.Lists.{nested}
 
 -- ---- facts about all members
 
-pub all_push : {A : Type 0} (P : A → Type 0) (xs : List A) (x : A) → AllByRecursion P xs → P x → AllByRecursion P (xs ++ x ∷ [])
-all_push P [] x all one = (one, tt)
-all_push P (y ∷ xs) x all one = (all.0, all_push P xs x all.1 one)
-
 pub all_set : {A : Type 0} (P : A → Type 0) (xs : List A) (i : ℕ) (x : A) → AllByRecursion P xs → P x → AllByRecursion P (set xs i x)
 all_set P [] i x all one = tt
 all_set P (y ∷ xs) zero x all one = (one, all.1)

@@ -16,8 +16,9 @@ use Rattle.pa_reader.specs.declared.place.Place.TheVariants.{Head}
 use Rattle.pa_reader.specs.Item.{FitsItem}
 use Rattle.pa_reader.specs.Order.{item_place, StandsBehind}
 use Rattle.pa_reader.specs.Gathered.{Gathered, gathered_with, HasListOf, IsUngathered, TellsGathered}
-use Rattle.pa_reader.proofs.Grown.{all_push, all_set, all_at, nested_none}
+use Rattle.pa_reader.proofs.Grown.{all_set, all_at, nested_none}
 use Rattle.pa_reader.proofs.Gathering.{Stands, IsRoomy, told, no_head, front_record, front_root, front_pool, front_cell, report_none, cells_none, pool_none, tail4}
+use Rattle.pa_lists.proofs.Elements.{all_more}
 
 -- ---- a list of lists with one more entry in list p
 
@@ -86,12 +87,12 @@ pub record Kept (g : Gathered) : Type 0 where
 
 all_nested : {A : Type 0} (P : A → Type 0) (lists : List (List A)) (p : ℕ) (x : A) → AllByRecursion (AllByRecursion P) lists → P x → AllByRecursion (AllByRecursion P) (set lists p (get_or lists p [] ++ x ∷ []))
 all_nested P lists p x all one =
-    all_set (AllByRecursion P) lists p (get_or lists p [] ++ x ∷ []) all (all_push P (get_or lists p []) x (all_at (AllByRecursion P) lists p [] all tt) one)
+    all_set (AllByRecursion P) lists p (get_or lists p [] ++ x ∷ []) all (all_more P (get_or lists p []) x (all_at (AllByRecursion P) lists p [] all tt) one)
 
 pub kept_next : (g : Gathered) (i : Item) → Kept g → FitsItem i → Kept (gathered_with i g)
 kept_next g items.Head k fits = k
 kept_next g (items.Record e) k fits =
-    record { room = record { journals = k.room.journals; histories = k.room.histories }; entries = all_push EntryInBits g.entries e k.entries fits; roots = k.roots; slots = k.slots; pool = k.pool; cells = k.cells; report = k.report }
+    record { room = record { journals = k.room.journals; histories = k.room.histories }; entries = all_more EntryInBits g.entries e k.entries fits; roots = k.roots; slots = k.slots; pool = k.pool; cells = k.cells; report = k.report }
 kept_next g (items.Root p j e) k fits = record {
   room = record { journals = length-set g.roots p (get_or g.roots p [] ++ e ∷ []) ∙ k.room.journals; histories = k.room.histories };
   entries = k.entries;
@@ -102,7 +103,7 @@ kept_next g (items.Root p j e) k fits = record {
   report = k.report;
 }
 kept_next g (items.Pool j e) k fits =
-    record { room = record { journals = k.room.journals; histories = k.room.histories }; entries = k.entries; roots = k.roots; slots = k.slots; pool = all_push PoolInBits g.pool e k.pool fits; cells = k.cells; report = k.report }
+    record { room = record { journals = k.room.journals; histories = k.room.histories }; entries = k.entries; roots = k.roots; slots = k.slots; pool = all_more PoolInBits g.pool e k.pool fits; cells = k.cells; report = k.report }
 kept_next g (items.Cell c j e) k fits = record {
   room = record { journals = k.room.journals; histories = length-set g.cells c (get_or g.cells c [] ++ e ∷ []) ∙ k.room.histories };
   entries = k.entries;
@@ -113,7 +114,7 @@ kept_next g (items.Cell c j e) k fits = record {
   report = k.report;
 }
 kept_next g (items.Report x) k fits =
-    record { room = record { journals = k.room.journals; histories = k.room.histories }; entries = k.entries; roots = k.roots; slots = k.slots; pool = k.pool; cells = k.cells; report = all_push ReportInBits g.report x k.report fits }
+    record { room = record { journals = k.room.journals; histories = k.room.histories }; entries = k.entries; roots = k.roots; slots = k.slots; pool = k.pool; cells = k.cells; report = all_more ReportInBits g.report x k.report fits }
 kept_next g items.End k fits = k
 
 -- the item's list is there

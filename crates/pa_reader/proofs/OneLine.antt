@@ -3,9 +3,9 @@ use Rattle.std.proofs.Common.{◌≡◌, ℕ, zero, suc, ◌+◌, ◌/◌, ◌%�
 use Rattle.std.specs.Fmt.{decimal, digits, digits_onto, digit_glyph}
 use Rattle.std.proofs.lemmas.Bool.{and_parts, eqb-false, not-true, cases_lt, cases_Bool, lt-ltb, le-ltb}
 use Rattle.pa_machine.specs.declared.word.SlotName.{SlotName}
-use Rattle.pa_text.specs.Hex.{hex, hex_digit, slot_text}
+use Rattle.pa_text.specs.Hex.{hex, slot_text}
 use Rattle.pa_trace.specs.Cut.{IsOneLine}
-use Rattle.pa_trace.proofs.Cuts.{one_line_append}
+use Rattle.pa_trace.proofs.Cuts.{one_line_append, hex_line}
 use Rattle.pa_record.specs.declared.entry.Seen.{Seen}
 use Rattle.pa_record.specs.declared.entry.Answer.{Answer}
 use Rattle.pa_record.specs.declared.entry.Answer.TheVariants.{Made, Done, Value, Dangling, SecondFree, NotOwner, StaleReset, StaleUse, Nothing, Filled, NotRef, Shared, OutOfRange, TooLarge, Full, Swapped, Purged}
@@ -55,18 +55,6 @@ onto_line (suc k) n acc h =
 decimal_line : (n : ℕ) → IsOneLine (decimal n)
 unfolding digits
 decimal_line n = onto_line 64 n [] tt
-
-digit_line : (d : ℕ) → hex_digit d ≡ 10 → ⊥
-digit_line d e =
-    elim (cases_lt d 10) [
-      | inl low ↦ let is : hex_digit d ≡ 48 + d = rw (lt-ltb d 10 low) refl in omega (arith, e, is)
-      | inr high ↦ let is : hex_digit d ≡ 87 + d = rw (le-ltb d 10 high) refl in omega (arith, e, is)
-    ]
-
-hex_line : (k n : ℕ) → IsOneLine (hex k n)
-unfolding hex
-hex_line zero n = tt
-hex_line (suc k) n = one_line_append (hex k (n / 16)) (hex_digit (n % 16) ∷ []) (hex_line k (n / 16)) (digit_line (n % 16), tt)
 
 -- ---- texts without an LF
 

@@ -1,9 +1,9 @@
 -- Digits read one after the other.
-use Rattle.std.proofs.Common.{◌≡◌, ℕ, zero, suc, ◌+◌, ◌-◌, ◌*◌, ◌^◌, ◌<◌, ◌≤◌, List, [], ◌∷◌, Some, None, inl, inr, refl, sym, ap, subst, ◌∙◌, arith}
+use Rattle.std.proofs.Common.{◌≡◌, ℕ, ◌+◌, ◌-◌, ◌*◌, ◌^◌, ◌<◌, ◌≤◌, List, [], ◌∷◌, Some, None, inl, inr, refl, sym, ap, subst, ◌∙◌, arith}
 use Rattle.std.proofs.lemmas.Bool.{cases_Bool, lt-ltb, le-ltb}
 use Rattle.pa_text.specs.Reading.{is_digit, digit_at, digits_from, hex_at, hexes_at}
 use Rattle.pa_text.proofs.Numbers.{digit_first, digit_last}
-use Rattle.pa_text.proofs.Words.{hexes_take, hexes_small}
+use Rattle.pa_text.proofs.Words.{hexes_take, hexes_none, hexes_stop}
 use Rattle.pa_reader.specs.Reading.{narrowed}
 
 -- the number doesn't get less by further digits
@@ -34,21 +34,6 @@ all_read value first rest bytes e same small =
     let last : digits_from first bytes ≡ (value, rest) = sym same ∙ digit_last value rest e in
     ap narrowed last ∙ rw (lt-ltb value 18446744073709551616 small) refl
 
--- what doesn't begin with so many hexadecimal digits doesn't begin with more
-hexes_none : (k j : ℕ) (bytes : List ℕ) → hexes_at k bytes ≡ None → hexes_at (j + k) bytes ≡ None
-unfolding hexes_at
-hexes_none k zero bytes e = let same : 0 + k ≡ k = omega arith in rw same e
-hexes_none k (suc j) bytes e =
-    let step : suc j + k ≡ suc (j + k) = omega arith in
-    rw (step, hexes_none k j bytes e) refl
-
--- no digit more
-hexes_stop : (k value : ℕ) (bytes rest : List ℕ) → hexes_at k bytes ≡ Some (value, rest) → hex_at rest ≡ None → hexes_at (k + 1) bytes ≡ None
-unfolding hexes_at
-hexes_stop k value bytes rest e f =
-    let step : k + 1 ≡ suc k = omega arith in
-    rw (step, e, f) refl
-
 -- where one of so many digits is none
 pub hexes_end : (count k value : ℕ) (bytes rest : List ℕ) → hexes_at k bytes ≡ Some (value, rest) → hex_at rest ≡ None → k < count → hexes_at count bytes ≡ None
 hexes_end count k value bytes rest e none lt =
@@ -58,10 +43,6 @@ hexes_end count k value bytes rest e none lt =
 -- so many digits write no more
 pub hexes_bound : (k value : ℕ) (bytes rest : List ℕ) → hexes_at k bytes ≡ Some (value, rest) → value < 16 ^ k
 hexes_bound k value bytes rest e = (hexes_take k bytes (value, rest) e).1
-
--- the digits so far leave room for one more
-pub hexes_room : (k value : ℕ) (bytes rest : List ℕ) → hexes_at k bytes ≡ Some (value, rest) → k < 16 → value < 1152921504606846976
-hexes_room k value bytes rest e lt = hexes_small k value bytes rest e lt
 
 pub hexes_all : (count k value : ℕ) (bytes rest : List ℕ) → hexes_at k bytes ≡ Some (value, rest) → k ≡ count → hexes_at count bytes ≡ Some (value, rest)
 hexes_all count k value bytes rest e same = subst (λ (m : ℕ). hexes_at m bytes ≡ Some (value, rest)) same e

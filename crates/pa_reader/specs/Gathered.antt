@@ -7,6 +7,7 @@ use Rattle.pa_record.specs.declared.pool.PoolEntry.{PoolEntry}
 use Rattle.pa_record.specs.declared.history.CellEntry.{CellEntry}
 use Rattle.pa_record.specs.declared.report.ReportLine.{ReportLine}
 use Rattle.pa_record.specs.declared.run.Run.{Run}
+use Rattle.pa_trace.specs.Limits.{cell_count, most_partitions}
 use Rattle.pa_reader.specs.declared.item.Item.{Item}
 use Rattle.pa_reader.specs.declared.item.Item.TheVariants.{Head, Record, Root, Pool, Cell, Report, End}
 
@@ -43,10 +44,10 @@ HasListOf End g = Unit {0}
 -- nothing is gathered: there are 4 empty journals and 64 empty histories
 pub record IsUngathered (g : Gathered) : Type 0 where
   pub entries : g.entries ≡ []
-  pub journals : length g.roots ≡ 4
+  pub journals : length g.roots ≡ most_partitions
   pub roots : All (λ journal. journal ≡ []) g.roots
   pub pool : g.pool ≡ []
-  pub histories : length g.cells ≡ 64
+  pub histories : length g.cells ≡ cell_count
   pub cells : All (λ history. history ≡ []) g.cells
   pub report : g.report ≡ []
 

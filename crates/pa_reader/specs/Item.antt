@@ -3,6 +3,7 @@ use Rattle.std.specs.Prelude.{ℕ, ◌<◌, List, codes}
 use Rattle.pa_record.specs.Bits.{Is32, EntryInBits, RootInBits, PoolInBits, CellInBits, ReportInBits}
 use Rattle.pa_record.specs.RunText.{NamesSlots}
 use Rattle.pa_record.specs.Text.{entry_text, root_text, pool_text, cell_text, report_text}
+use Rattle.pa_trace.specs.Limits.{cell_count, most_partitions}
 use Rattle.pa_reader.specs.declared.item.Item.{Item}
 use Rattle.pa_reader.specs.declared.item.Item.TheVariants.{Head, Record, Root, Pool, Cell, Report, End}
 
@@ -20,9 +21,9 @@ item_text End = codes "end\n"
 abbrev pub FitsItem : Item → Type 0
 FitsItem Head = Unit {0}
 FitsItem (Record entry) = EntryInBits entry
-FitsItem (Root partition index entry) = (partition < 4) × RootInBits entry × NamesSlots entry.act
+FitsItem (Root partition index entry) = (partition < most_partitions) × RootInBits entry × NamesSlots entry.act
 FitsItem (Pool index entry) = PoolInBits entry
-FitsItem (Cell cell index entry) = (cell < 64) × CellInBits entry
+FitsItem (Cell cell index entry) = (cell < cell_count) × CellInBits entry
 FitsItem (Report line) = ReportInBits line
 FitsItem End = Unit {0}
 

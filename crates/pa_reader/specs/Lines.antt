@@ -10,6 +10,7 @@ use Rattle.pa_record.specs.declared.history.Held.{Held}
 use Rattle.pa_record.specs.declared.history.Held.TheVariants as handles
 use Rattle.pa_record.specs.declared.report.Tally.{Tally}
 use Rattle.pa_record.specs.declared.report.ReportLine.{ReportLine}
+use Rattle.pa_trace.specs.Limits.{cell_count}
 use Rattle.pa_reader.specs.declared.other.Places.{Places}
 use Rattle.pa_reader.specs.declared.other.States.{States}
 use Rattle.pa_reader.specs.declared.item.Item.{Item}
@@ -68,7 +69,7 @@ own_or_ref_in bytes =
 -- after_word `c `: cell, index and exchange, and the LF
 unfoldable pub cell_in : List ℕ → Option (Item × List ℕ)
 cell_in bytes = do
-  cell ← below_at 64 bytes
+  cell ← below_at cell_count bytes
   index ← below_in (codes " ") 4294967296 cell.1
   line ← below_in (codes " ") 4294967296 index.1
   rest ← after_word (codes " ") line.1

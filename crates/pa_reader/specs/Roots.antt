@@ -1,9 +1,11 @@
 -- Reading an entry of a journal.
 use Rattle.std.specs.Prelude.{ℕ, zero, suc, List, [], ◌∷◌, codes, length, ◌==◌, if◌then◌else◌, Option, Some, None}
+use Rattle.pa_buckets.specs.Limits.{class_count}
 use Rattle.pa_text.specs.Reading.{◌>>=◌}
 use Rattle.pa_record.specs.declared.numbered.Numbered.{Numbered}
 use Rattle.pa_record.specs.declared.root.RootAct.{RootAct}
 use Rattle.pa_record.specs.declared.root.RootAct.TheVariants as acts
+use Rattle.pa_trace.specs.Limits.{most_partitions}
 use Rattle.pa_reader.specs.declared.item.Item.{Item}
 use Rattle.pa_reader.specs.declared.item.Item.TheVariants as items
 use Rattle.pa_reader.specs.Reading.{after_word, either, below_at, below_in, wide_in, slot_in}
@@ -47,7 +49,7 @@ batch_in bytes = do
 -- after_word the act's name: what it tells
 unfoldable pub fill_in : List ℕ → Option (RootAct × List ℕ)
 fill_in bytes = do
-  class ← below_at 59 bytes
+  class ← below_at class_count bytes
   rest ← after_word (codes " ") class.1
   pool ← number_or_in (codes "-") 4294967296 rest
   slots ← batch_in pool.1
@@ -63,7 +65,7 @@ map_act_in bytes = do
 
 unfoldable pub full_in : List ℕ → Option (RootAct × List ℕ)
 full_in bytes = do
-  class ← number_or_in (codes "direct") 59 bytes
+  class ← number_or_in (codes "direct") class_count bytes
   pool ← below_in (codes " ") 4294967296 class.1
   Some (acts.Full class.0 pool.0, pool.1)
 
@@ -89,7 +91,7 @@ root_act_in bytes =
 -- after_word `r `: partition, index and entry, and the LF
 unfoldable pub root_in : List ℕ → Option (Item × List ℕ)
 root_in bytes = do
-  partition ← below_at 4 bytes
+  partition ← below_at most_partitions bytes
   index ← below_in (codes " ") 4294967296 partition.1
   line ← below_in (codes " ") 4294967296 index.1
   rest ← after_word (codes " ") line.1

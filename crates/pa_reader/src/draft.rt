@@ -5,13 +5,9 @@ use crate::Item;
 use pa_dense::{DenseJournal, DenseRun, journals_of};
 use pa_machine::OutOfMemory;
 use pa_record::{Entry, History, PoolEntry, ReportLine, Run};
+use pa_trace::{CELLS, MOST_PARTITIONS};
 use std::alloc::Global;
 use std::marker::Model;
-
-// The partitions and the cells that a run may tell of.
-const PARTITIONS: u32 = 4;
-
-const CELLS: u32 = 64;
 
 // What was read of a run so far: a journal for each partition, a history for each cell. It is seen as its lists.
 #[derive(Drop)]
@@ -42,8 +38,8 @@ impl Draft {
     pub fn new(alloc: Global) -> Result<Draft, OutOfMemory>
         ensures { IfOk result IsUngathered }
     {
-        let mut roots = Vec::with_capacity(alloc, PARTITIONS as usize)?;
-        for _ in 0..PARTITIONS {
+        let mut roots = Vec::with_capacity(alloc, MOST_PARTITIONS as usize)?;
+        for _ in 0..MOST_PARTITIONS {
             roots.push(DenseJournal::new(alloc))?;
         }
         let mut cells = Vec::with_capacity(alloc, CELLS as usize)?;
@@ -70,7 +66,7 @@ impl Draft {
                 partition,
                 entry,
                 ..
-            } => self.roots[partition as usize].push(&entry)?,
+            } => self.roots[partition as usize].push(&entry.lent())?,
             Item::Pool { entry, .. } => self.pool.push(entry)?,
             Item::Cell { cell, entry, .. } => self.cells[cell as usize].push(entry)?,
             Item::Report(line) => self.report.push(line)?,

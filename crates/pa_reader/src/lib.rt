@@ -13,12 +13,6 @@ mod other;
 mod place;
 mod reading;
 mod root;
-#[cfg(test)]
-mod run_tests;
-#[cfg(test)]
-mod run_texts;
-#[cfg(test)]
-mod tests;
 
 pub use fault::RunFault;
 pub use item::Item;

@@ -16,6 +16,7 @@ use crate::field::{NUMBERS, behind, field, slot, small, wide};
 use crate::item::Item;
 use crate::root::number_or;
 use pa_record::{CellEntry, Held, PoolAct, PoolEntry, ReportLine, Tally};
+use pa_trace::CELLS;
 
 // What stands behind `take`.
 #[tactic(auto, unfolding(crate::specs::Lines::take_in))]
@@ -117,7 +118,7 @@ pub fn cell(bytes: &[u8]) -> Option<(Item, &[u8])>
     ensures fits { IfSome result (λ x. ItemInBits x.0) }
     ensures found { IfSome result (λ x. codes "c " ++ bytes.now ≡ item_text x.0 ++ x.1.now) }
 {
-    let (cell, rest) = small(64, bytes)?;
+    let (cell, rest) = small(CELLS as u64, bytes)?;
     let (index, rest) = field(b" ", NUMBERS, rest)?;
     let (line, rest) = field(b" ", NUMBERS, rest)?;
     let rest = behind(b" ", rest)?;

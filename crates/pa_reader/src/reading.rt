@@ -1,6 +1,7 @@
 ghost use Rattle.std.specs.Prelude.{◌≡◌, ◌<◌, ◌-◌, ◌^◌, ◌↔◌, Some, ◌++◌, codes, length, IsTrue, IfOk, IfErr};
 ghost use Rattle.pa_record.specs.RunText.{IsRunText};
 ghost use Rattle.pa_record.specs.declared.run.Run.{Run as Told};
+ghost use Rattle.pa_trace.specs.Limits.{cell_count, most_partitions};
 ghost use Rattle.pa_reader.specs.declared.item.Item.TheVariants as items;
 ghost use Rattle.pa_reader.specs.declared.place.Place.TheVariants as places;
 ghost use Rattle.pa_reader.specs.Faults.{IsFaultFrom, IsRunFault};
@@ -21,7 +22,7 @@ use std::alloc::Global;
 pub fn read_run(alloc: Global, bytes: &[u8]) -> Result<Run, RunFault>
     requires { length bytes.now < 2 ^ 32 - 1 }
     ensures found { IfOk result (λ r. IsRunText r bytes.now) }
-    ensures lists { IfOk result (λ r. (length r.roots.items ≡ 4) × (length r.cells.items ≡ 64)) }
+    ensures lists { IfOk result (λ r. (length r.roots.items ≡ most_partitions) × (length r.cells.items ≡ cell_count)) }
     ensures fault { IfErr result (IsRunFault bytes.now) }
 {
     let draft = read_draft(alloc, bytes)?;
@@ -32,7 +33,7 @@ pub fn read_run(alloc: Global, bytes: &[u8]) -> Result<Run, RunFault>
 pub fn read_dense_run(alloc: Global, bytes: &[u8]) -> Result<DenseRun, RunFault>
     requires { length bytes.now < 2 ^ 32 - 1 }
     ensures found { IfOk result (λ r. IsRunText r bytes.now) }
-    ensures lists { IfOk result (λ r. (length r.roots.items ≡ 4) × (length r.cells.items ≡ 64)) }
+    ensures lists { IfOk result (λ r. (length r.roots.items ≡ most_partitions) × (length r.cells.items ≡ cell_count)) }
     ensures fault { IfErr result (IsRunFault bytes.now) }
 {
     let draft = read_draft(alloc, bytes)?;
@@ -43,7 +44,8 @@ pub fn read_dense_run(alloc: Global, bytes: &[u8]) -> Result<DenseRun, RunFault>
 fn read_draft(alloc: Global, bytes: &[u8]) -> Result<Draft, RunFault>
     requires { length bytes.now < 2 ^ 32 - 1 }
     ensures found { IfOk result (λ d. (r : Told) → TellsGathered d r → IsRunText r bytes.now) }
-    ensures lists { IfOk result (λ d. (r : Told) → TellsGathered d r → (length r.roots.items ≡ 4) × (length r.cells.items ≡ 64)) }
+    ensures lists { IfOk result (λ d. (r : Told) → TellsGathered d r →
+        (length r.roots.items ≡ most_partitions) × (length r.cells.items ≡ cell_count)) }
     ensures fault { IfErr result (IsRunFault bytes.now) }
 {
     let Some(rest) = behind(b"run 1\n", bytes) else {
@@ -56,7 +58,8 @@ fn read_draft(alloc: Global, bytes: &[u8]) -> Result<Draft, RunFault>
 fn read_items(alloc: Global, bytes: &[u8]) -> Result<Draft, RunFault>
     requires { length bytes.now < 2 ^ 32 - 2 }
     ensures found { IfOk result (λ d. (r : Told) → TellsGathered d r → IsRunText r (codes "run 1\n" ++ bytes.now)) }
-    ensures lists { IfOk result (λ d. (r : Told) → TellsGathered d r → (length r.roots.items ≡ 4) × (length r.cells.items ≡ 64)) }
+    ensures lists { IfOk result (λ d. (r : Told) → TellsGathered d r →
+        (length r.roots.items ≡ most_partitions) × (length r.cells.items ≡ cell_count)) }
     ensures fault { IfErr result (IsFaultFrom 2 (Some items.Head) bytes.now) }
 {
     let mut draft = Draft::new(alloc)?;

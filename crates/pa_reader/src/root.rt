@@ -1,6 +1,7 @@
 ghost use Rattle.std.specs.Prelude.{◌≡◌, ℕ, zero, ◌+◌, ◌-◌, ◌<◌, ◌≤◌, List, [], ◌∷◌, Option, ◌++◌, codes, length, IfSome};
 ghost use Rattle.std.specs.List.{AllByRecursion};
 ghost use Rattle.std.specs.Fmt.{decimal};
+ghost use Rattle.pa_buckets.specs.Limits.{class_count};
 ghost use Rattle.pa_record.specs.Bits.{Is32, IsClass, NumberedInBits, RootActInBits, RootInBits};
 ghost use Rattle.pa_record.specs.RunText.{NamesSlots};
 ghost use Rattle.pa_record.specs.Text.{number_or, numbered_text, slots_text, root_act_text, root_text};
@@ -13,8 +14,9 @@ ghost use Rattle.pa_reader.specs.Roots.{number_or_in, numbered_in, slots_in, bat
 
 use crate::field::{NUMBERS, behind, field, slot, small, wide};
 use crate::item::Item;
-use pa_buckets::Class;
+use pa_buckets::{CLASSES, Class};
 use pa_record::{Batch, Numbered, RootAct, RootEntry};
+use pa_trace::MOST_PARTITIONS;
 
 // The most slots of a batch.
 const BATCH: u32 = 16;
@@ -35,13 +37,13 @@ pub fn number_or<'a>(word: &[u8], bytes: &'a [u8]) -> Option<(Option<u32>, &'a [
 // The number of a class, or `direct`.
 #[tactic(auto, unfolding(crate::specs::Roots::number_or_in))]
 fn class_or(bytes: &[u8]) -> Option<(Option<Class>, &[u8])>
-    ensures read { Yields {Y = Option ℕ × List ℕ} (λ x. (x.0, x.1.now)) result (number_or_in (codes "direct") 59 bytes.now) }
+    ensures read { Yields {Y = Option ℕ × List ℕ} (λ x. (x.0, x.1.now)) result (number_or_in (codes "direct") class_count bytes.now) }
     ensures found { IfSome result (λ x. IfSome x.0 IsClass × (bytes.now ≡ number_or (codes "direct") x.0 ++ x.1.now)) }
 {
     if let Some(rest) = behind(b"direct", bytes) {
         return Some((None, rest));
     }
-    let (number, rest) = small(59, bytes)?;
+    let (number, rest) = small(CLASSES as u64, bytes)?;
     Some((Some(Class::of(number).unwrap()), rest))
 }
 
@@ -99,7 +101,7 @@ fn fill(bytes: &[u8]) -> Option<(RootAct, &[u8])>
     ensures fits { IfSome result (λ x. RootActInBits x.0 × NamesSlots x.0) }
     ensures found { IfSome result (λ x. codes "fill " ++ bytes.now ≡ root_act_text x.0 ++ x.1.now) }
 {
-    let (number, rest) = small(59, bytes)?;
+    let (number, rest) = small(CLASSES as u64, bytes)?;
     let class = Class::of(number).unwrap();
     let rest = behind(b" ", rest)?;
     let (pool, rest) = number_or(b"-", rest)?;
@@ -192,7 +194,7 @@ pub fn root(bytes: &[u8]) -> Option<(Item, &[u8])>
     ensures fits { IfSome result (λ x. ItemInBits x.0) }
     ensures found { IfSome result (λ x. codes "r " ++ bytes.now ≡ item_text x.0 ++ x.1.now) }
 {
-    let (partition, rest) = small(4, bytes)?;
+    let (partition, rest) = small(MOST_PARTITIONS as u64, bytes)?;
     let (index, rest) = field(b" ", NUMBERS, rest)?;
     let (line, rest) = field(b" ", NUMBERS, rest)?;
     let rest = behind(b" ", rest)?;

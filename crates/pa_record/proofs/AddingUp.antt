@@ -10,18 +10,19 @@ use Rattle.std.proofs.lemmas.List.Kept.{AllPairs-filter}
 use Rattle.std.proofs.lemmas.List.Elements.{Contains-append_left, Contains-append_right, Contains-append_cases}
 use Rattle.pa_machine.specs.declared.title.Title.{Title}
 use Rattle.pa_machine.specs.declared.word.SlotName.{SlotName}
-use Rattle.pa_record.specs.Spans.{Span, title_at, name_of, numbers, same_place}
+use Rattle.pa_record.specs.Spans.{Span, title_at, name_of, same_place}
 use Rattle.pa_record.specs.Root.{Root, IsOutOf}
 use Rattle.pa_record.specs.Census.{kept_of}
 use Rattle.pa_record.specs.Sound.{IsSound, IsCounted}
 use Rattle.pa_record.specs.Laws.{out_of, names_of, names_out, slots_made, IsNameOut, AddsUp, RootAddsUp}
-use Rattle.pa_record.proofs.Members.{first_in, later_in, has, has-true}
-use Rattle.pa_record.proofs.Counting.{has_some, numbers_in, numbers_has, numbers_once}
+use Rattle.pa_lists.proofs.Members.{first_in, later_in, has, has-true}
+use Rattle.pa_lists.proofs.Different.{has_some, numbers_in, numbers_has, numbers_once}
 use Rattle.pa_record.proofs.Places.{IsElsewhere, place_self}
 use Rattle.pa_record.proofs.Slots.{AreOne, one_slot}
-use Rattle.pa_record.proofs.Joined.{map_cases, map_in, filter_cases, filter_in, flat_cases, flat_in, pairs_map, pairs_append, pairs_flat}
+use Rattle.pa_lists.proofs.Joined.{map_cases, map_in, filter_cases, filter_in, flat_cases, flat_in, pairs_map, pairs_append, pairs_flat}
 use Rattle.pa_record.proofs.Leaving.{name_cases}
 use Rattle.pa_record.proofs.Lawful.{out_counted, slot_low, not_mapped, journal_leaves}
+use Rattle.pa_lists.specs.Numbers.{numbers}
 
 abbrev Differ : SlotName → SlotName → Type 0
 Differ a b = a ≢ b

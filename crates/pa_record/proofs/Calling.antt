@@ -13,8 +13,8 @@ use Rattle.pa_record.specs.Spans.{name_of}
 use Rattle.pa_record.specs.Root.{Root, new_root, takes, opened, super_of, names, root_next, RootActFits, RootReplays, asked_by}
 use Rattle.pa_record.specs.Sound.{least_after, least_after_all}
 use Rattle.pa_record.specs.Laws.{CallsFit}
-use Rattle.pa_record.proofs.Members.{not_some}
-use Rattle.pa_record.proofs.PoolSteps.{slice_get_at}
+use Rattle.pa_lists.proofs.Members.{not_some}
+use Rattle.pa_lists.proofs.Indexed.{slice_get_at}
 
 -- the pool's entry behind all others
 last_act : (pools : List PoolEntry) (e : PoolEntry) (a : PoolAct) → e.act ≡ a → act_at (pools ++ e ∷ []) (length pools) ≡ Some a
@@ -25,7 +25,7 @@ opened_same : (pools : List PoolEntry) (e : PoolEntry) (first : ℕ) (r : Root) 
 opened_same pools e first r same = ap (λ a. opened (super_of a) (length pools) r) (last_act pools e _ same)
 
 -- an entry that a list has stands below its length
-act_low : (pools : List PoolEntry) (j : ℕ) (a : PoolAct) → act_at pools j ≡ Some a → j < length pools
+pub act_low : (pools : List PoolEntry) (j : ℕ) (a : PoolAct) → act_at pools j ≡ Some a → j < length pools
 act_low [] j a e = absurd (not_some a e)
 act_low (x ∷ pools) zero a e = omega arith
 act_low (x ∷ pools) (suc j) a e = let p = act_low pools j a e in omega arith

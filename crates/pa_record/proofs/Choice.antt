@@ -4,7 +4,7 @@ use Rattle.std.specs.Prelude.{Contains}
 use Rattle.std.proofs.lemmas.Bool.{cases_Bool, ltb-true, ltb-false, both_ways}
 use Rattle.pa_record.specs.Spans.{Span, latest, earliest, later, earlier}
 use Rattle.pa_record.specs.Steps.{IsLatest, IsEarliest}
-use Rattle.pa_record.proofs.Members.{not_in_none, first_in, later_in, in_cases, of_some, not_some}
+use Rattle.pa_lists.proofs.Members.{not_in_none, first_in, later_in, in_cases, of_some, not_some}
 
 pub latest_none : (test : Span → Bool) (ss : List Span) → latest test ss ≡ None → (t : Span) → Contains ss t → test t ≡ false
 latest_none test [] e t among = absurd (not_in_none t among)

@@ -83,7 +83,7 @@ split_answer a b x y ha hb e =
     let l = letters (answer_text a ++ 10 ∷ x) (answer_text b ++ 10 ∷ y) e in
     absurd (omega (arith, l.first, l.second, l.fifth, l.seventh))
 
-entry_cut : (a : Entry) (x : List ℕ) → entry_text a ++ x ≡ codes "e " ++ (decimal a.line ++ (codes " " ++ (decimal a.thread ++ (codes " " ++ (answer_text a.answer ++ 10 ∷ x)))))
+pub entry_cut : (a : Entry) (x : List ℕ) → entry_text a ++ x ≡ codes "e " ++ (decimal a.line ++ (codes " " ++ (decimal a.thread ++ (codes " " ++ (answer_text a.answer ++ 10 ∷ x)))))
 entry_cut a x = cut7 (codes "e ") (decimal a.line) (codes " ") (decimal a.thread) (codes " ") (answer_text a.answer) (10 ∷ []) x
 
 pub split_entry : (a b : Entry) (x y : List ℕ) → EntryInBits a → EntryInBits b → entry_text a ++ x ≡ entry_text b ++ y → (a ≡ b) × (x ≡ y)

@@ -16,13 +16,14 @@ use Rattle.pa_record.specs.Spans.{Span, bytes_of, name_of, is_in, is_of, latest,
 use Rattle.pa_record.specs.Root.{Root, current, Found, new_span, with_span, at_page, found_or_new, span_for, Took, taken_from, one_take, Filled, and_then, takes, opened, IsOut}
 use Rattle.pa_record.specs.Sound.{StateSays, IsCounted, IsSoundSpan, IsPlaced, AreApart, IsSound, IsMade, IsBornBelow}
 use Rattle.pa_record.specs.Steps.{IsGiven, IsFilled}
-use Rattle.pa_record.proofs.Members.{not_in_none, first_in, later_in, in_cases, of_some, not_some}
-use Rattle.pa_record.proofs.Pairs.{pairs_none, pairs_cons, pairs_push}
+use Rattle.pa_lists.proofs.Members.{not_in_none, first_in, later_in, in_cases, of_some}
+use Rattle.pa_lists.proofs.Pairs.{pairs_none, pairs_cons, pairs_push}
 use Rattle.pa_record.proofs.Places.{IsElsewhere, place_tells, place_self}
 use Rattle.pa_record.proofs.Choice.{latest_is}
 use Rattle.pa_record.proofs.SpanSteps.{no_pages}
 use Rattle.pa_record.proofs.Entering.{same_state-true}
 use Rattle.pa_record.proofs.Taking.{take_from_span, span_given}
+use Rattle.pa_lists.proofs.Indexed.{at_in}
 
 -- a span of the class that has a slot left
 pub record IsUsable (class : ℕ) (ss : List Span) (s : Span) : Type 0 where
@@ -74,12 +75,6 @@ usable_less s good (inr (inr gone)) =
     let p = none.0 in
     let some = some_slots s.class good.counted.class in
     omega arith
-
--- what stands at a place of a list is in it
-slice_get_in : {A : Type 0} (xs : List A) (i : ℕ) (x : A) → slice_get xs i ≡ Some x → Contains xs x
-slice_get_in [] i x e = absurd (not_some x e)
-slice_get_in (y ∷ ys) zero x e = subst (λ z. Contains (y ∷ ys) z) (of_some y x e) (first_in y ys)
-slice_get_in (y ∷ ys) (suc i) x e = later_in y x ys (slice_get_in ys i x e)
 
 -- a root with a new span
 new_counted : (class : ℕ) (at : SuperPage) (page : ℕ) → class < 59 → IsCounted (new_span class at page)
@@ -134,7 +129,7 @@ with_span_sound r class at sound real now room =
           at,
           r.page,
           subst (λ z. IsPlaced (with_span s r) z at r.page) e
-              (record { among = slice_get_in r.supers _ at now; born = refl; place = refl; first = first; last = room }),
+              (record { among = at_in r.supers _ at now; born = refl; place = refl; first = first; last = room }),
         )
       ];
       below = λ u other member other_now born. elim (Contains-push_cases r.spans s u member) [
@@ -244,9 +239,6 @@ nothing_filled class want r sound = record {
   only = λ name out. inl out;
   keeps = λ t made. made;
 }
-
-pub and_then_none : (t : Took) (further : Root → Filled) → t.title ≡ None → and_then t further ≡ nothing_taken t.root
-and_then_none t further e = rw e refl
 
 pub and_then_some : (t : Took) (further : Root → Filled) (title : Title) → t.title ≡ Some title →
     and_then t further ≡ record { root = (further t.root).root; titles = title ∷ (further t.root).titles }

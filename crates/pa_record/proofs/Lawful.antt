@@ -16,16 +16,16 @@ use Rattle.pa_record.specs.declared.pool.PoolAct.{PoolAct}
 use Rattle.pa_record.specs.declared.pool.PoolAct.TheVariants as pool
 use Rattle.pa_record.specs.declared.root.RootAct.TheVariants.{Fill}
 use Rattle.pa_record.specs.Pool.{act_at}
-use Rattle.pa_record.specs.Spans.{Span, title_at, name_of, numbers, listed}
+use Rattle.pa_record.specs.Spans.{Span, title_at, name_of, listed}
 use Rattle.pa_record.specs.Root.{Root, new_root, current, opened, found_or_new, empties, RootActFits, IsOut, IsOutOf, IsTitleOut, super_of, MapFits}
 use Rattle.pa_record.specs.Sound.{IsSound, IsCounted}
 use Rattle.pa_record.specs.Laws.{TurnsChoose, out_of, CanReturn, OutIsOut, FillKeeps, ReturnKeeps, EntryKeeps, JournalLeaves, JournalGrows, EntryIsOne}
 use Rattle.pa_record.proofs.Tested.{name_is}
-use Rattle.pa_record.proofs.Members.{has, not_in_none, in_cases}
-use Rattle.pa_record.proofs.Pairs.{pairs_head, pairs_tail}
+use Rattle.pa_lists.proofs.Members.{has, not_in_none, in_cases}
+use Rattle.pa_lists.proofs.Pairs.{pairs_head, pairs_tail}
 use Rattle.pa_record.proofs.Slots.{one_slot}
 use Rattle.pa_record.proofs.Choice.{latest_is, latest_none, earliest_is, earliest_none}
-use Rattle.pa_record.proofs.Counting.{passing, length_is}
+use Rattle.pa_lists.proofs.Different.{passing, length_is}
 use Rattle.pa_record.proofs.SpanSteps.{some_out}
 use Rattle.pa_record.proofs.Filling.{takes_filled, opened_sound, opened_current, takes_some, takes_none}
 use Rattle.pa_record.proofs.Returning.{find_out, number_is, all_returned_is, times_is}
@@ -34,6 +34,7 @@ use Rattle.pa_record.proofs.Stepping.{next_is}
 use Rattle.pa_record.proofs.MadeBy.{made_titles}
 use Rattle.pa_record.proofs.Titles.{journal_replayed}
 use Rattle.pa_record.proofs.Replaying.{replays_more, replays_push, replayed_push, rise_push}
+use Rattle.pa_lists.specs.Numbers.{numbers}
 
 pub turns_choose : TurnsChoose
 turns_choose = record { greatest = latest_is; no_greatest = latest_none; least = earliest_is; no_least = earliest_none }

@@ -19,8 +19,8 @@ use Rattle.pa_record.specs.Sound.{IsSound, IsSettled, IsBornBelow, AsksFrom, lea
 use Rattle.pa_record.specs.Steps.{IsFilled}
 use Rattle.pa_record.specs.Laws.{leaves_by, comes_by, times, times_left, times_back, IsNameOut, IsOutBy, OutIsLeft}
 use Rattle.pa_record.proofs.Tested.{same_name, same_name-true, same_name-self}
-use Rattle.pa_record.proofs.Members.{not_in_none, first_in, later_in, in_cases}
-use Rattle.pa_record.proofs.Pairs.{pairs_none, pairs_cons, pairs_head, pairs_tail}
+use Rattle.pa_lists.proofs.Members.{not_in_none, first_in, later_in, in_cases}
+use Rattle.pa_lists.proofs.Pairs.{pairs_none, pairs_cons, pairs_head, pairs_tail}
 use Rattle.pa_record.proofs.Entering.{one_if}
 use Rattle.pa_record.proofs.Filling.{takes_filled, opened_sound}
 use Rattle.pa_record.proofs.Returning.{all_returned_is, times_is}
@@ -61,7 +61,7 @@ once_or_not name (x ∷ xs) h =
     ]
 
 -- a slot's and a direct map's name
-slot_out : (r : Root) (name : SlotName) → IsOut r name → IsNameOut r name
+pub slot_out : (r : Root) (name : SlotName) → IsOut r name → IsNameOut r name
 slot_out r name (s, among, n, out) = (title_at s n, inl (s, among, n, subst (λ x. IsOutOf s x n) out.named out, refl), out.named)
 
 pub name_cases : (r : Root) (name : SlotName) → IsNameOut r name → IsOut r name ⊎ ((u : Title) × Contains r.maps u × (name ≡ name_of u))
@@ -110,7 +110,7 @@ map_in (x ∷ ts) t among = elim (in_cases x t ts among) [
   | inr rest ↦ later_in (name_of x) (name_of t) (map name_of ts) (map_in ts t rest)
 ]
 
-map_once : (ts : List Title) → AllPairs (λ (t : Title) (u : Title). name_of t ≢ name_of u) ts → AllPairs ◌≢◌ (map name_of ts)
+pub map_once : (ts : List Title) → AllPairs (λ (t : Title) (u : Title). name_of t ≢ name_of u) ts → AllPairs ◌≢◌ (map name_of ts)
 map_once [] h = pairs_none (λ (a : SlotName) (b : SlotName). a ≢ b)
 map_once (t ∷ ts) h =
     let R : Title → Title → Type 0 = λ x y. name_of x ≢ name_of y in
@@ -147,7 +147,7 @@ fill_counts class r f want name a b h before = elim (once_or_not name (map name_
 map_named : (slot : SlotName) (len : ℕ) → name_of (map_title slot len) ≡ slot
 map_named slot len = refl
 
-kept_map : (slot : SlotName) (ts : List Title) (u : Title) → Contains ts u → (name_of u ≡ slot → ⊥) → Contains (without_map slot ts) u
+pub kept_map : (slot : SlotName) (ts : List Title) (u : Title) → Contains ts u → (name_of u ≡ slot → ⊥) → Contains (without_map slot ts) u
 kept_map slot [] u among other = absurd (not_in_none u among)
 kept_map slot (t ∷ ts) u among other = elim (cases_Bool (eqb t.start slot.start && eqb t.born slot.born)) [
   | inl hit ↦ elim (in_cases t u ts among) [

@@ -6,13 +6,10 @@ pub mod EntryLines
 pub mod OtherLines
 pub mod Lists
 pub mod OneRun
-pub mod Members
 pub mod Tested
 pub mod Worked
-pub mod Pairs
 pub mod Places
 pub mod Choice
-pub mod Counting
 pub mod SpanSteps
 pub mod Entering
 pub mod Out
@@ -32,7 +29,8 @@ pub mod Asked
 pub mod Leaving
 pub mod Calling
 pub mod Used
-pub mod Joined
+pub mod Filtered
+pub mod OneSum
 pub mod AddingUp
 pub mod Chosen
 pub mod Owned

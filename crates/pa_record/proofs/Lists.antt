@@ -2,13 +2,11 @@
 use Rattle.std.proofs.Common.{◌≡◌, ℕ, zero, suc, ◌+◌, ◌<◌, ◌≤◌, ◌^◌, List, [], ◌∷◌, ◌++◌, length, get_or, refl, sym, ap, ◌∙◌, append_assoc, arith}
 use Rattle.std.specs.List.{AllByRecursion, flat_map}
 use Rattle.pa_record.specs.Text.{lines_from}
+use Rattle.pa_lists.proofs.Elements.{same_cons}
 
 -- a first part, and what stands behind it
 behind_first : (a r x b q y : List ℕ) → (a ++ r) ++ x ≡ (b ++ q) ++ y → a ++ (r ++ x) ≡ b ++ (q ++ y)
 behind_first a r x b q y e = sym (append_assoc a r x) ∙ e ∙ append_assoc b q y
-
-same_cons : {A : Type 0} (a b : A) (xs ys : List A) → a ≡ b → xs ≡ ys → a ∷ xs ≡ b ∷ ys
-same_cons a b xs ys e f = cc
 
 -- ---- letters in front
 

@@ -10,7 +10,7 @@ use Rattle.pa_record.specs.declared.root.RootAct.{RootAct}
 use Rattle.pa_record.specs.declared.root.RootAct.TheVariants.{Fill, Map, Full, Give, Unmap, Purge}
 use Rattle.pa_record.specs.Root.{Root, new_root, root_next, root_replayed, RootActFits, RootReplays, RiseFrom, IsJournal, all_asked, asked_by, map_title}
 use Rattle.pa_record.specs.Sound.{IsSound, IsSettled, IsBornBelow, IsMade, AsksFrom, least_after, least_after_all, IsMapBy, IsMadeBy, TitlesApart, IsInOwn, IsMapped, AreTitles}
-use Rattle.pa_record.proofs.Members.{not_in_none, first_in, later_in, in_cases}
+use Rattle.pa_lists.proofs.Members.{not_in_none, first_in, later_in, in_cases}
 use Rattle.pa_record.proofs.Stepping.{next_is}
 use Rattle.pa_record.proofs.Owned.{made_in_own, journal_taken}
 use Rattle.pa_record.proofs.Titles.{next_titles, titles_taken, IsReplayed, rise_parts, made_apart, made_or_map, fill_made, journal_replayed, new_sound, new_born}

@@ -7,26 +7,16 @@ use Rattle.pa_machine.specs.declared.title.Title.{Title}
 use Rattle.pa_machine.specs.declared.word.SlotName.{SlotName}
 use Rattle.pa_buckets.specs.declared.spans.State.{State}
 use Rattle.pa_buckets.specs.declared.spans.State.TheVariants as state
-use Rattle.pa_buckets.specs.Table.{slot_of}
-use Rattle.pa_record.specs.Spans.{Span, title_at, holds, number_in, with_front, without_pages, state_back, same_state, is_in, earliest}
+use Rattle.pa_record.specs.Spans.{Span, title_at, holds, number_in, with_front, without_pages, state_back, is_in, earliest}
 use Rattle.pa_record.specs.Root.{Root, in_state, entered, empties, decommitted_span, oldest_decommitted, settled, put_back, returned, all_returned, decommitted_times, IsOut}
 use Rattle.pa_record.specs.Sound.{IsSound, IsMade}
-use Rattle.pa_record.proofs.Members.{find_is}
-use Rattle.pa_record.proofs.Pairs.{pairs_head, pairs_tail}
+use Rattle.pa_lists.proofs.Members.{find_is}
+use Rattle.pa_lists.proofs.Pairs.{pairs_head, pairs_tail}
 use Rattle.pa_record.proofs.Choice.{earliest_is}
 use Rattle.pa_record.proofs.Entering.{IsLike, in_state_like, like_trans}
 use Rattle.pa_record.proofs.Places.{put_cases}
 use Rattle.pa_record.proofs.Returning.{oldest_is, put_back_out, returned_is, still_out}
-
--- a span that enters a state in place of one that had made as much makes nothing
-same_made : (to : State) (turn : ℕ) (t : Span) → (in_state to turn t).made ≡ t.made
-same_made to turn t = elim (cases_Bool (same_state t.state to)) [ inl same ↦ rw same refl | inr other ↦ rw other refl ]
-
-title_like : (t s : Span) (n : ℕ) → IsLike t s → title_at t n ≡ title_at s n
-title_like t s n like =
-    ap (λ p. let x : Title = record { start = p + slot_of t.class * n; len = slot_of t.class; born = t.born } in x) like.place
-    ∙ ap (λ c. let x : Title = record { start = s.place + slot_of c * n; len = slot_of c; born = t.born } in x) like.class
-    ∙ ap (λ b. let x : Title = record { start = s.place + slot_of s.class * n; len = slot_of s.class; born = b } in x) like.born
+use Rattle.pa_record.proofs.Taking.{title_like, same_made}
 
 entered_makes_none : (r : Root) (s t : Span) (to : State) (title : Title) → IsSound r → Contains r.spans s → IsLike t s → t.made ≡ s.made →
     IsMade (entered to t r) title → IsMade r title

@@ -7,8 +7,8 @@ use Rattle.pa_machine.specs.declared.title.Title.{Title}
 use Rattle.pa_machine.specs.declared.word.SlotName.{SlotName}
 use Rattle.pa_record.specs.Root.{Root, mapped, unmapped, without_map}
 use Rattle.pa_record.specs.Sound.{IsSound, IsBornBelow}
-use Rattle.pa_record.proofs.Members.{first_in, later_in, in_cases}
-use Rattle.pa_record.proofs.Pairs.{pairs_cons, pairs_tail, pairs_head, pairs_push}
+use Rattle.pa_lists.proofs.Members.{first_in, later_in, in_cases}
+use Rattle.pa_lists.proofs.Pairs.{pairs_cons, pairs_tail, pairs_head, pairs_push}
 
 abbrev pub OtherBorn : Title → Title → Type 0
 OtherBorn t u = t.born ≢ u.born

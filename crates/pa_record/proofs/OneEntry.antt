@@ -11,8 +11,9 @@ use Rattle.pa_record.specs.declared.pool.PoolAct.TheVariants as turns
 use Rattle.pa_record.specs.declared.history.CellEntry.{CellEntry}
 use Rattle.pa_record.specs.declared.history.Held.{Held}
 use Rattle.pa_record.specs.declared.history.Held.TheVariants as handles
-use Rattle.pa_record.proofs.Same.{same_slot, same_numbered, same_root, same_pool, same_cell}
+use Rattle.pa_record.proofs.Same.{same_numbered, same_root, same_pool, same_cell}
 use Rattle.pa_record.specs.Numbers.{option_numbers, numbered_numbers, batch_numbers, root_act_numbers, root_numbers, pool_act_numbers, pool_numbers, held_numbers, cell_numbers}
+use Rattle.pa_machine.proofs.Runs.{slot_parts}
 
 -- an Option, and what stands behind it
 one_option : (p q : Option ℕ) (x y : List ℕ) → option_numbers p ++ x ≡ option_numbers q ++ y → (p ≡ q) × (x ≡ y)
@@ -21,10 +22,10 @@ one_option (Some m) (Some n) x y e = (cc, cc)
 one_option p q x y e = absurd cc
 
 -- a slot with its number
-one_numbered : (m n : Numbered) → m.slot.start ≡ n.slot.start → m.slot.born ≡ n.slot.born → m.number ≡ n.number → m ≡ n
-one_numbered m n e f g = same_numbered m n (same_slot m.slot n.slot e f) g
+pub one_numbered : (m n : Numbered) → m.slot.start ≡ n.slot.start → m.slot.born ≡ n.slot.born → m.number ≡ n.number → m ≡ n
+one_numbered m n e f g = same_numbered m n (slot_parts m.slot n.slot e f) g
 
-one_slots : (s t : List Numbered) → flat_map numbered_numbers s ≡ flat_map numbered_numbers t → s ≡ t
+pub one_slots : (s t : List Numbered) → flat_map numbered_numbers s ≡ flat_map numbered_numbers t → s ≡ t
 one_slots [] [] e = refl
 one_slots [] (n ∷ t) e = absurd cc
 one_slots (m ∷ s) [] e = absurd cc
@@ -37,13 +38,13 @@ one_batch : (s t : List Numbered) → batch_numbers s ≡ batch_numbers t → s 
 one_batch s t e = one_slots s t cc
 
 -- what a root did
-one_act : (a b : RootAct) → root_act_numbers a ≡ root_act_numbers b → a ≡ b
+pub one_act : (a b : RootAct) → root_act_numbers a ≡ root_act_numbers b → a ≡ b
 one_act (acts.Fill c p s) (acts.Fill d q t) e =
     let (same, rest) = one_option p q (batch_numbers s) (batch_numbers t) cc in
     let slots = one_batch s t rest in
     cc
 one_act (acts.Map p s l) (acts.Map q t m) e =
-    let slot = same_slot s t (cc) (cc) in
+    let slot = slot_parts s t (cc) (cc) in
     cc
 one_act (acts.Full c p) (acts.Full d q) e =
     let (same, rest) = one_option c d (p ∷ []) (q ∷ []) cc in
@@ -75,10 +76,10 @@ one_pool a b e = same_pool a b (cc) (cc) (one_turn a.act b.act cc)
 one_held : (a b : Held) (x y : List ℕ) → held_numbers a ++ x ≡ held_numbers b ++ y → (a ≡ b) × (x ≡ y)
 one_held handles.Nothing handles.Nothing x y e = (refl, cc)
 one_held (handles.Own s) (handles.Own t) x y e =
-    let slot = same_slot s t (cc) (cc) in
+    let slot = slot_parts s t (cc) (cc) in
     (cc, cc)
 one_held (handles.Ref s) (handles.Ref t) x y e =
-    let slot = same_slot s t (cc) (cc) in
+    let slot = slot_parts s t (cc) (cc) in
     (cc, cc)
 one_held a b x y e = absurd cc
 

@@ -10,6 +10,7 @@ use Rattle.pa_record.proofs.Fields.{cut6}
 use Rattle.pa_record.proofs.EntryLines.{split_entry}
 use Rattle.pa_record.proofs.OtherLines.{split_root, root_place, split_pool, split_cell, cell_place, split_line}
 use Rattle.pa_record.proofs.Lists.{Avoids, Begins, AreNested, avoid_flat, avoid_lines, avoid_nested, split_flat, split_placed, split_nested, same_nested}
+use Rattle.pa_lists.proofs.Tests.{greater_apart}
 
 -- ---- the letters in front of the lines
 
@@ -39,9 +40,6 @@ cells_known = record { splits = split_cell; place = cell_place; begins = cell_be
 apart : (c d : ℕ) → c < d → c ≡ d → ⊥
 apart c d order e = absurd (omega arith)
 
-above : (c d : ℕ) → d < c → c ≡ d → ⊥
-above c d order e = absurd (omega arith)
-
 -- ---- what stands behind the lines of each kind
 
 behind_cells : Run → List ℕ
@@ -57,7 +55,7 @@ behind_entries : Run → List ℕ
 behind_entries r = roots_text r.roots.items ++ behind_roots r
 
 end_avoids : (c : ℕ) → Avoids c (codes "end\n")
-end_avoids c rest e = above 110 32 (omega arith) (ap (λ (w : List ℕ). get_or w 1 0) e)
+end_avoids c rest e = greater_apart 110 32 (omega arith) (ap (λ (w : List ℕ). get_or w 1 0) e)
 
 cells_avoid : (c : ℕ) (r : Run) → (c ≡ 115 → ⊥) → Avoids c (behind_cells r)
 unfolding behind_cells
@@ -75,14 +73,14 @@ entries_avoid : (r : Run) → Avoids 101 (behind_entries r)
 unfolding behind_entries
 entries_avoid r =
     avoid_nested 101 114 RootInBits root_text 0 r.roots.items (behind_roots r) (apart 101 114 (omega arith)) roots_known
-    (roots_avoid 101 r (apart 101 112 (omega arith)) (above 101 99 (omega arith)) (apart 101 115 (omega arith)))
+    (roots_avoid 101 r (apart 101 112 (omega arith)) (greater_apart 101 99 (omega arith)) (apart 101 115 (omega arith)))
 
 -- each kind's letter, behind the lines of that kind
 roots_avoid_root : (r : Run) → Avoids 114 (behind_roots r)
-roots_avoid_root r = roots_avoid 114 r (above 114 112 (omega arith)) (above 114 99 (omega arith)) (apart 114 115 (omega arith))
+roots_avoid_root r = roots_avoid 114 r (greater_apart 114 112 (omega arith)) (greater_apart 114 99 (omega arith)) (apart 114 115 (omega arith))
 
 pool_avoids_pool : (r : Run) → Avoids 112 (behind_pool r)
-pool_avoids_pool r = pool_avoids 112 r (above 112 99 (omega arith)) (apart 112 115 (omega arith))
+pool_avoids_pool r = pool_avoids 112 r (greater_apart 112 99 (omega arith)) (apart 112 115 (omega arith))
 
 cells_avoid_cell : (r : Run) → Avoids 99 (behind_cells r)
 cells_avoid_cell r = cells_avoid 99 r (apart 99 115 (omega arith))

@@ -72,7 +72,7 @@ split_root_act a b x y ha hb e =
     let l = letters (root_act_text a ++ 10 ∷ x) (root_act_text b ++ 10 ∷ y) e in
     absurd (omega (arith, l.first, l.second))
 
-root_cut : (p j : ℕ) (a : RootEntry) (x : List ℕ) → root_text p j a ++ x
+pub root_cut : (p j : ℕ) (a : RootEntry) (x : List ℕ) → root_text p j a ++ x
     ≡ codes "r " ++ (decimal p ++ (codes " " ++ (decimal j ++ (codes " " ++ (decimal a.line ++ (codes " " ++ (root_act_text a.act ++ 10 ∷ x)))))))
 root_cut p j a x = cut6 (field_text (codes "r ") p) (field_text (codes " ") j) (field_text (codes " ") a.line) (codes " ") (root_act_text a.act) (10 ∷ []) x
 
@@ -111,7 +111,7 @@ split_pool_act a b x y ha hb e =
     let l = letters (pool_act_text a ++ 10 ∷ x) (pool_act_text b ++ 10 ∷ y) e in
     absurd (omega (arith, l.first))
 
-pool_cut : (j : ℕ) (a : PoolEntry) (x : List ℕ) → pool_text j a ++ x
+pub pool_cut : (j : ℕ) (a : PoolEntry) (x : List ℕ) → pool_text j a ++ x
     ≡ codes "p " ++ (decimal j ++ (codes " " ++ (decimal a.line ++ (codes " " ++ (decimal a.partition ++ (codes " " ++ (pool_act_text a.act ++ 10 ∷ x)))))))
 pool_cut j a x = cut6 (field_text (codes "p ") j) (field_text (codes " ") a.line) (field_text (codes " ") a.partition) (codes " ") (pool_act_text a.act) (10 ∷ []) x
 
@@ -125,7 +125,7 @@ split_pool j a b x y ha hb e =
 
 -- ---- cells
 
-cell_cut : (k j : ℕ) (a : CellEntry) (x : List ℕ) → cell_text k j a ++ x
+pub cell_cut : (k j : ℕ) (a : CellEntry) (x : List ℕ) → cell_text k j a ++ x
     ≡ codes "c " ++ (decimal k ++ (codes " " ++ (decimal j ++ (codes " " ++ (decimal a.line ++ (codes " " ++ (held_text a.gave ++ (codes " " ++ (held_text a.found ++ 10 ∷ x)))))))))
 cell_cut k j a x = cut8 (field_text (codes "c ") k) (field_text (codes " ") j) (field_text (codes " ") a.line) (codes " ") (held_text a.gave) (codes " ") (held_text a.found) (10 ∷ []) x
 

@@ -15,7 +15,7 @@ use Rattle.pa_record.specs.Pool.{act_at, FoundRun}
 use Rattle.pa_record.specs.Root.{Root, new_root, takes, opened, opened_by, super_of, map_title, names, purged, empties, all_returned, Asked, root_next, root_replayed, RootActFits, RootReplays, RiseFrom, all_asked, asked_by, IsJournal}
 use Rattle.pa_record.specs.Sound.{IsSound, IsSettled, IsBornBelow, IsMade, AsksFrom, least_after, IsInOwn}
 use Rattle.pa_record.specs.Owned.{IsMapTaken, IsTakenBy, RootsAreTaken}
-use Rattle.pa_record.proofs.Members.{not_in_none}
+use Rattle.pa_lists.proofs.Members.{not_in_none}
 use Rattle.pa_record.proofs.Slots.{slot_within}
 use Rattle.pa_record.proofs.Filling.{takes_filled, opened_sound}
 use Rattle.pa_record.proofs.Returning.{all_returned_is, times_is}

@@ -4,8 +4,8 @@ use Rattle.std.specs.Prelude.{Contains, AllPairs, sum_by}
 use Rattle.std.proofs.lemmas.Bool.{cases_Bool, and_parts, and_from, eqb-true, eq-eqb, both_ways}
 use Rattle.std.proofs.lemmas.List.Sums.{sum_by-cons}
 use Rattle.pa_record.specs.Spans.{Span, same_place, put}
-use Rattle.pa_record.proofs.Members.{not_in_none, first_in, later_in, in_cases}
-use Rattle.pa_record.proofs.Pairs.{pairs_cons, pairs_tail, pairs_head}
+use Rattle.pa_lists.proofs.Members.{not_in_none, first_in, later_in, in_cases}
+use Rattle.pa_lists.proofs.Pairs.{pairs_cons, pairs_tail, pairs_head}
 
 -- the spans stand in different places
 abbrev pub IsElsewhere : Span → Span → Type 0

@@ -1,7 +1,7 @@
 -- The pool stays sound, and its list of entries grows.
 use Rattle.std.proofs.Common.{◌≡◌, ◌≢◌, ℕ, zero, suc, ◌+◌, ◌<◌, ◌≤◌, eqb, List, [], ◌∷◌, ◌++◌, length, refl, sym, ◌∙◌, ap, subst, arith, inl, inr, Option, Some, None}
-use Rattle.std.specs.Prelude.{Contains, AllPairs, slice_get, option_map}
-use Rattle.std.proofs.lemmas.Bool.{cases_Bool, eqb-true, eqb-false}
+use Rattle.std.specs.Prelude.{Contains, AllPairs, slice_get, option_map, ◌==◌}
+use Rattle.std.proofs.lemmas.Bool.{cases_Bool, eqb-true, eqb-false, ne_eqb}
 use Rattle.std.proofs.lemmas.List.{append_assoc, length-append}
 use Rattle.std.proofs.lemmas.List.Elements.{Contains-push_cases}
 use Rattle.pa_record.specs.declared.taken.Taken.{Taken}
@@ -10,8 +10,9 @@ use Rattle.pa_record.specs.declared.pool.PoolAct.{PoolAct}
 use Rattle.pa_record.specs.declared.pool.PoolAct.TheVariants as pool
 use Rattle.pa_record.specs.Pool.{PoolState, new_pool, IsApart, IsFreeRun, IsLowest, IsOneTake, PoolActFits, PoolReplays, pool_next, pool_replayed, gave, without_run, act_at, FoundRun}
 use Rattle.pa_record.specs.PoolLaws.{Covers, IsSoundPool, PoolIsSound, PoolGrows, PoolAnswers}
-use Rattle.pa_record.proofs.Members.{not_in_none, first_in, later_in, in_cases, of_some, not_some}
-use Rattle.pa_record.proofs.Pairs.{pairs_none, pairs_cons, pairs_tail, pairs_head, pairs_push}
+use Rattle.pa_lists.proofs.Members.{not_in_none, first_in, later_in, in_cases, of_some, not_some}
+use Rattle.pa_lists.proofs.Pairs.{pairs_none, pairs_cons, pairs_tail, pairs_head, pairs_push}
+use Rattle.pa_lists.proofs.Indexed.{slice_get_at}
 
 -- an entry of a list stays where it is when more are added
 pub slice_get_more : {A : Type 0} (xs ys : List A) (i : ℕ) (x : A) → slice_get xs i ≡ Some x → slice_get (xs ++ ys) i ≡ Some x
@@ -19,11 +20,7 @@ slice_get_more [] ys i x e = absurd (not_some x e)
 slice_get_more (z ∷ xs) ys zero x e = e
 slice_get_more (z ∷ xs) ys (suc i) x e = slice_get_more xs ys i x e
 
-pub slice_get_at : {A : Type 0} (xs ys : List A) (x : A) → slice_get (xs ++ x ∷ ys) (length xs) ≡ Some x
-slice_get_at [] ys x = refl
-slice_get_at (z ∷ xs) ys x = slice_get_at xs ys x
-
-act_of : (o : Option PoolEntry) (a : PoolAct) → option_map (λ (e : PoolEntry). e.act) o ≡ Some a → (e : PoolEntry) × (o ≡ Some e) × (e.act ≡ a)
+pub act_of : (o : Option PoolEntry) (a : PoolAct) → option_map (λ (e : PoolEntry). e.act) o ≡ Some a → (e : PoolEntry) × (o ≡ Some e) × (e.act ≡ a)
 act_of None a e = absurd (not_some a e)
 act_of (Some x) a e = (x, refl, of_some x.act a e)
 
@@ -78,11 +75,11 @@ RunsApart t u = IsApart t.first t.count u
 abbrev OtherEntry : Taken → Taken → Type 0
 OtherEntry t u = t.entry ≢ u.entry
 
-apart_swap : (t u : Taken) → IsApart t.first t.count u → IsApart u.first u.count t
+pub apart_swap : (t u : Taken) → IsApart t.first t.count u → IsApart u.first u.count t
 apart_swap t u (inl before) = inr before
 apart_swap t u (inr after) = inl after
 
-without_in : (first : ℕ) (ts : List Taken) (u : Taken) → Contains (without_run first ts) u → Contains ts u
+pub without_in : (first : ℕ) (ts : List Taken) (u : Taken) → Contains (without_run first ts) u → Contains ts u
 without_in first [] u among = among
 without_in first (t ∷ ts) u among = elim (cases_Bool (eqb t.first first)) [
   | inl hit ↦ later_in t u ts (rw hit at among)
@@ -92,7 +89,7 @@ without_in first (t ∷ ts) u among = elim (cases_Bool (eqb t.first first)) [
   ]
 ]
 
-without_pairs : (R : Taken → Taken → Type 0) (first : ℕ) (ts : List Taken) → AllPairs R ts → AllPairs R (without_run first ts)
+pub without_pairs : (R : Taken → Taken → Type 0) (first : ℕ) (ts : List Taken) → AllPairs R ts → AllPairs R (without_run first ts)
 without_pairs R first [] h = h
 without_pairs R first (t ∷ ts) h = elim (cases_Bool (eqb t.first first)) [
   | inl hit ↦ rw hit (pairs_tail R t ts h)
@@ -238,3 +235,15 @@ given_free pools s first count t h one = record {
 
 pub pool_answers : PoolAnswers
 pool_answers = record { lowest = lowest_one; free = given_free }
+
+pub without_keeps : (first : ℕ) (ts : List Taken) (u : Taken) → Contains ts u → (u.first ≡ first → ⊥) → Contains (without_run first ts) u
+without_keeps first [] u among other = absurd (not_in_none u among)
+without_keeps first (t ∷ ts) u among other = elim (in_cases t u ts among) [
+  | inl e ↦
+      let miss = ne_eqb t.first first (λ hit. other (ap (λ (z : Taken). z.first) (sym e) ∙ hit)) in
+      rw miss (subst (λ z. Contains (t ∷ without_run first ts) z) e (first_in t (without_run first ts)))
+  | inr rest ↦ elim (cases_Bool (t.first == first)) [
+    | inl hit ↦ rw hit rest
+    | inr miss ↦ rw miss (later_in t u (without_run first ts) (without_keeps first ts u rest other))
+  ]
+]

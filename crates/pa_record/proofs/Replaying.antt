@@ -75,3 +75,7 @@ rise_push n (x ∷ es) e h asks = by_asked n (asked_by x.act) (all_asked es) (al
     by_asked : (n : ℕ) (o : Option ℕ) (xs ys : List ℕ) → RiseFrom n (cons_option o xs) → (RiseFrom (least_after n o) xs → RiseFrom (least_after n o) ys) → RiseFrom n (cons_option o ys)
     by_asked n None xs ys h further = further h
     by_asked n (Some j) xs ys h further = (h.0, further h.1)
+
+pub replays_rest : (pools : List PoolEntry) (xs ys : List RootEntry) (r : Root) → RootReplays pools (xs ++ ys) r → RootReplays pools ys (root_replayed pools xs r)
+replays_rest pools [] ys r h = h
+replays_rest pools (x ∷ xs) ys r h = replays_rest pools xs ys (root_next pools x.act r) h.1

@@ -13,8 +13,8 @@ use Rattle.pa_record.specs.Spans.{Span, bytes_of, title_at, name_of, holds, numb
 use Rattle.pa_record.specs.Root.{Root, in_state, entered, decommitted_span, oldest_decommitted, empties, settled, put_back, returned, all_returned, decommitted_times, IsOut, IsOutOf}
 use Rattle.pa_record.specs.Sound.{StateSays, IsCounted, IsSound}
 use Rattle.pa_record.specs.Steps.{TakesNothing, IsDecommittedTimes, IsReturned}
-use Rattle.pa_record.proofs.Members.{not_in_none, first_in, later_in, in_cases, find_is, find_some}
-use Rattle.pa_record.proofs.Pairs.{pairs_head, pairs_tail}
+use Rattle.pa_lists.proofs.Members.{not_in_none, first_in, later_in, in_cases, find_is, find_some}
+use Rattle.pa_lists.proofs.Pairs.{pairs_head, pairs_tail}
 use Rattle.pa_record.proofs.Places.{one_span, put_cases}
 use Rattle.pa_record.proofs.Choice.{earliest_is, earliest_none}
 use Rattle.pa_record.proofs.SpanSteps.{some_out, with_front_counted, without_pages_counted, says_back}

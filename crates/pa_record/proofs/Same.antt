@@ -1,6 +1,5 @@
 -- Values whose parts are equal are equal.
 use Rattle.std.proofs.Common.{◌≡◌, ℕ, refl, sym, ap, ◌∙◌}
-use Rattle.pa_machine.specs.declared.word.SlotName.{SlotName}
 use Rattle.pa_machine.specs.declared.word.Word.{Word}
 use Rattle.pa_record.specs.declared.entry.Entry.{Entry}
 use Rattle.pa_record.specs.declared.entry.Seen.{Seen}
@@ -17,9 +16,6 @@ both f a c b d e g = cc
 
 all_three : {A B C D : Type 0} (f : A → B → C → D) (a d : A) (b e : B) (c g : C) → a ≡ d → b ≡ e → c ≡ g → f a b c ≡ f d e g
 all_three f a d b e c g h k l = cc
-
-pub same_slot : (s t : SlotName) → s.start ≡ t.start → s.born ≡ t.born → s ≡ t
-same_slot s t e f = both {C = SlotName} (λ start born. record { start = start; born = born }) _ _ _ _ e f
 
 same_word : (u v : Word) → u.0 ≡ v.0 → u ≡ v
 same_word u v e = ap {B = Word} (λ (n : ℕ). record { 0 = n }) e

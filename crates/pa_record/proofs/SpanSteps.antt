@@ -6,11 +6,12 @@ use Rattle.std.proofs.lemmas.Nat.{le-div}
 use Rattle.std.proofs.Math.Nat.{mul-le-mul_left}
 use Rattle.pa_buckets.specs.Table.{slot_of, system_of, slots_of}
 use Rattle.pa_buckets.proofs.Facts.{IsRow-of}
-use Rattle.pa_record.specs.Spans.{Span, numbers, more_pages, more_slots, provisioned_more, with_list, with_free, without_front, with_front, without_pages, state_in_use, state_back}
+use Rattle.pa_record.specs.Spans.{Span, more_pages, more_slots, provisioned_more, with_list, with_free, without_front, with_front, without_pages, state_in_use, state_back}
 use Rattle.pa_record.specs.Sound.{StateSays, IsCounted}
-use Rattle.pa_record.proofs.Members.{not_in_none, later_in, in_cases}
-use Rattle.pa_record.proofs.Pairs.{pairs_none, pairs_cons, pairs_tail}
-use Rattle.pa_record.proofs.Counting.{numbers_length, numbers_in, numbers_once, length_less}
+use Rattle.pa_lists.proofs.Members.{not_in_none, later_in, in_cases}
+use Rattle.pa_lists.proofs.Pairs.{pairs_none, pairs_cons, pairs_tail}
+use Rattle.pa_lists.proofs.Different.{numbers_length, numbers_in, numbers_once, length_less}
+use Rattle.pa_lists.specs.Numbers.{numbers}
 
 -- as many pages as one slot more needs
 enough_pages : (size committed provisioned : ℕ) → size * (provisioned + 1) ≤ 4096 * max (committed + 1) ((size * (provisioned + 1) + 4095) / 4096)
@@ -34,7 +35,7 @@ fits_within size slots system provisioned fit below =
     omega arith
 
 -- the numbers of a class
-size_some : (c : ℕ) → c < 59 → 0 < slot_of c
+pub size_some : (c : ℕ) → c < 59 → 0 < slot_of c
 size_some c real = let b = IsRow-of c real in let p = b.least_slot in omega arith
 
 size_fits : (c : ℕ) → c < 59 → slots_of c * slot_of c ≤ 4096 * system_of c

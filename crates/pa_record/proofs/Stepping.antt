@@ -13,7 +13,7 @@ use Rattle.pa_record.specs.declared.root.RootAct.TheVariants.{Fill, Map, Full, G
 use Rattle.pa_record.specs.Pool.{act_at}
 use Rattle.pa_record.specs.Root.{Root, takes, opened, opened_by, super_of, all_returned, purged, empties, mapped, map_title, names, root_next, RootActFits, asked_by}
 use Rattle.pa_record.specs.Sound.{IsSound, IsSettled, IsBornBelow, AsksFrom, IsNext}
-use Rattle.pa_record.proofs.Members.{not_in_none}
+use Rattle.pa_lists.proofs.Members.{not_in_none}
 use Rattle.pa_record.proofs.Filling.{takes_filled, opened_sound, opened_born}
 use Rattle.pa_record.proofs.Returning.{all_returned_is, times_is}
 use Rattle.pa_record.proofs.Mapping.{unmapped_sound, unmapped_born, mapped_sound, mapped_born, born_more, born_same}

@@ -11,20 +11,20 @@ use Rattle.pa_record.specs.Spans.{Span, title_at, name_of, more_slots, with_list
 use Rattle.pa_record.specs.Root.{Root, in_state, turn_after, entered, Took, front_taken, IsOut, IsOutOf}
 use Rattle.pa_record.specs.Sound.{IsCounted, IsSound, IsMade}
 use Rattle.pa_record.specs.Steps.{IsGiven}
-use Rattle.pa_record.proofs.Members.{not_in_none, first_in, later_in, in_cases}
-use Rattle.pa_record.proofs.Pairs.{pairs_head}
+use Rattle.pa_lists.proofs.Members.{not_in_none, first_in, later_in, in_cases}
+use Rattle.pa_lists.proofs.Pairs.{pairs_head}
 use Rattle.pa_record.proofs.Places.{one_span, put_cases}
-use Rattle.pa_record.proofs.Counting.{numbers_in, numbers_has}
+use Rattle.pa_lists.proofs.Different.{numbers_in, numbers_has}
 use Rattle.pa_record.proofs.SpanSteps.{with_free_front, without_front_counted, says_in_use, more_than}
 use Rattle.pa_record.proofs.Entering.{IsLike, IsFrom, in_state_like, like_trans, entered_sound, entered_empties, entered_there, entered_keeps, turn_after_most, one_if}
 use Rattle.pa_record.proofs.Slots.{one_slot}
 use Rattle.pa_record.proofs.Out.{KeepsOut, name_like, entered_out}
 
 -- a span that enters a state in place of s keeps what was made
-same_made : (to : State) (turn : ℕ) (t : Span) → (in_state to turn t).made ≡ t.made
+pub same_made : (to : State) (turn : ℕ) (t : Span) → (in_state to turn t).made ≡ t.made
 same_made to turn t = elim (cases_Bool (same_state t.state to)) [ inl same ↦ rw same refl | inr other ↦ rw other refl ]
 
-title_like : (t s : Span) (n : ℕ) → IsLike t s → title_at t n ≡ title_at s n
+pub title_like : (t s : Span) (n : ℕ) → IsLike t s → title_at t n ≡ title_at s n
 title_like t s n like = titled t.place s.place t.born s.born t.class s.class like.place like.born like.class
   where
     titled : (p q b d c e : ℕ) → p ≡ q → b ≡ d → c ≡ e →
@@ -61,14 +61,14 @@ front_from s rest =
     let f = free_from s in
     record { like = record { place = f.like.place; born = f.like.born; class = f.like.class }; state = f.state; turn = f.turn }
 
-free_made : (s : Span) → s.made ≤ (with_free s).made
+pub free_made : (s : Span) → s.made ≤ (with_free s).made
 free_made s = by_list s.free s
   where
     by_list : (xs : List ℕ) (s : Span) → s.made ≤ (with_list xs s).made
     by_list [] s = omega arith
     by_list (x ∷ xs) s = omega arith
 
-free_allocated : (s : Span) → (with_free s).allocated ≡ s.allocated
+pub free_allocated : (s : Span) → (with_free s).allocated ≡ s.allocated
 free_allocated s = by_list s.free s
   where
     by_list : (xs : List ℕ) (s : Span) → (with_list xs s).allocated ≡ s.allocated

@@ -18,7 +18,8 @@ use Rattle.pa_buckets.specs.Bands.{fill_of}
 use Rattle.pa_record.specs.Pool.{PoolState, IsApart, IsFreeRun, IsLowest, IsOneTake, IsPartitions, PoolActFits, PoolReplays, pool_next, act_at}
 use Rattle.pa_record.specs.Spans.{Span, title_at, name_of, holds, number_in}
 use Rattle.pa_record.specs.Root.{Root, span_for, takes, opened_by, names, map_title, root_next, IsOut, Asked, FullFits, MapFits, UnmapFits, RootActFits, RootReplays, RiseFrom}
-use Rattle.pa_record.proofs.Members.{first_in, later_in, in_cases, not_in_none, find_is, has, has_not}
+use Rattle.pa_lists.proofs.Members.{first_in, later_in, find_is, has, has_not}
+use Rattle.pa_lists.proofs.Elements.{passes}
 
 -- names that are one
 abbrev pub same_name : SlotName → SlotName → Bool
@@ -278,15 +279,6 @@ apart-from first count t (inr above) = or_right _ _ (le-leb _ _ above)
 abbrev pub is_free : PoolState → ℕ → ℕ → Bool
 is_free s count first = leb (first + count) s.supers && list_all (apart first count) s.taken
 
-list_all-at : {A : Type 0} (test : A → Bool) (xs : List A) (x : A) → list_all test xs ≡ true → Contains xs x → test x ≡ true
-list_all-at test [] x h among = absurd (not_in_none x among)
-list_all-at test (y ∷ ys) x h among =
-    let (p, q) = and_parts (test y) (list_all test ys) h in
-    elim (in_cases y x ys among) [
-      | inl same ↦ subst (λ z. test z ≡ true) same p
-      | inr rest ↦ list_all-at test ys x q rest
-    ]
-
 list_all-from : {A : Type 0} (test : A → Bool) (xs : List A) → ((x : A) → Contains xs x → test x ≡ true) → list_all test xs ≡ true
 list_all-from test [] h = refl
 list_all-from test (y ∷ ys) h = and_from _ _ (h y (first_in y ys)) (list_all-from test ys (λ x among. h x (later_in y x ys among)))
@@ -294,7 +286,7 @@ list_all-from test (y ∷ ys) h = and_from _ _ (h y (first_in y ys)) (list_all-f
 is_free-true : (s : PoolState) (count first : ℕ) → is_free s count first ≡ true → IsFreeRun s count first
 is_free-true s count first h =
     let (p, q) = and_parts (leb (first + count) s.supers) (list_all (apart first count) s.taken) h in
-    record { inside = leb-true _ _ p; free = λ t among. apart-true first count t (list_all-at (apart first count) s.taken t q among) }
+    record { inside = leb-true _ _ p; free = λ t among. apart-true first count t (passes (apart first count) s.taken t q among) }
 
 is_free-from : (s : PoolState) (count first : ℕ) → IsFreeRun s count first → is_free s count first ≡ true
 is_free-from s count first h =

@@ -18,9 +18,9 @@ use Rattle.pa_record.specs.Pool.{act_at, FoundRun}
 use Rattle.pa_record.specs.Spans.{Span, title_at, same_place}
 use Rattle.pa_record.specs.Root.{Root, new_root, takes, opened, opened_by, super_of, map_title, mapped, root_next, root_replayed, RootActFits, RootReplays, RiseFrom, all_asked, asked_by}
 use Rattle.pa_record.specs.Sound.{IsSound, IsSettled, IsBornBelow, IsMade, AsksFrom, least_after, least_after_all, IsNext, TitlesApart, IsMapped}
-use Rattle.pa_record.proofs.Members.{not_in_none, in_cases, not_some}
-use Rattle.pa_record.proofs.Pairs.{pairs_none}
-use Rattle.pa_record.proofs.Slots.{slot_within, slots_apart}
+use Rattle.pa_lists.proofs.Members.{not_in_none, in_cases, not_some}
+use Rattle.pa_lists.proofs.Pairs.{pairs_none}
+use Rattle.pa_record.proofs.Slots.{slots_apart}
 use Rattle.pa_record.proofs.Filling.{takes_filled, opened_sound}
 use Rattle.pa_record.proofs.Mapping.{OtherBorn, born_more}
 use Rattle.pa_record.proofs.Stepping.{next_is}
@@ -109,7 +109,7 @@ old_map_stays n m r after t more news old = (
   ],
 )
 
-least_more : (n : ℕ) (o : Option ℕ) → AsksFrom n o → n ≤ least_after n o
+pub least_more : (n : ℕ) (o : Option ℕ) → AsksFrom n o → n ≤ least_after n o
 least_more n None asks = omega arith
 least_more n (Some j) asks = omega arith
 

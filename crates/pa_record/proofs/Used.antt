@@ -19,8 +19,8 @@ use Rattle.pa_record.specs.Spans.{Span, same_state, is_in, same_place, holds, nu
 use Rattle.pa_record.specs.Root.{Root, Filled, new_root, current, in_state, entered, new_span, with_span, at_page, found_or_new, front_taken, taken_from, one_take, and_then, takes, opened, super_of, decommitted_span, oldest_decommitted, empties, settled, put_back, returned, all_returned, decommitted_times, names, root_next, root_replayed, RootActFits, RootReplays, RiseFrom, all_asked, asked_by, IsOut}
 use Rattle.pa_record.specs.Sound.{IsSound, IsSettled, IsBornBelow, AsksFrom, least_after}
 use Rattle.pa_record.specs.Laws.{IsUsed, SpansAreUsed}
-use Rattle.pa_record.proofs.Members.{not_in_none, first_in, later_in}
-use Rattle.pa_record.proofs.Pairs.{pairs_head, pairs_tail}
+use Rattle.pa_lists.proofs.Members.{not_in_none, first_in, later_in}
+use Rattle.pa_lists.proofs.Pairs.{pairs_head, pairs_tail}
 use Rattle.pa_record.proofs.Places.{put_cases, place_sym, place_self, elsewhere, elsewhere_sym}
 use Rattle.pa_record.proofs.Entering.{IsLike, in_state_is, in_state_like, like_trans, like_place, one_if}
 use Rattle.pa_record.proofs.SpanSteps.{with_free_front}

@@ -1,6 +1,7 @@
 -- What the types say of the numbers of a run, since here a number may be of any size.
 use Rattle.std.specs.Prelude.{ℕ, ◌^◌, ◌<◌, ◌≤◌, length, IfSome}
 use Rattle.std.specs.List.{AllByRecursion}
+use Rattle.pa_buckets.specs.Limits.{class_count}
 use Rattle.pa_text.specs.Hex.{SlotFits}
 use Rattle.pa_record.specs.declared.entry.Entry.{Entry}
 use Rattle.pa_record.specs.declared.entry.Seen.{Seen}
@@ -28,7 +29,7 @@ abbrev pub Is64 : ℕ → Type 0
 Is64 n = n < 2 ^ 64
 
 abbrev pub IsClass : ℕ → Type 0
-IsClass n = n < 59
+IsClass n = n < class_count
 
 abbrev pub SeenInBits : Seen → Type 0
 SeenInBits s = SlotFits s.slot × Is64 s.found.0

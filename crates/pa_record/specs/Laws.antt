@@ -5,6 +5,7 @@ use Rattle.pa_machine.specs.declared.title.Title.{Title}
 use Rattle.pa_machine.specs.declared.word.SlotName.{SlotName}
 use Rattle.pa_machine.specs.Run.{same_slot}
 use Rattle.pa_layout.specs.Pages.{page_place, supers_for}
+use Rattle.pa_buckets.specs.Limits.{class_count}
 use Rattle.pa_buckets.specs.Bands.{fill_of}
 use Rattle.pa_record.specs.declared.numbered.Numbered.{Numbered}
 use Rattle.pa_record.specs.declared.pool.PoolEntry.{PoolEntry}
@@ -13,11 +14,12 @@ use Rattle.pa_record.specs.declared.root.RootEntry.{RootEntry}
 use Rattle.pa_record.specs.declared.root.RootAct.{RootAct}
 use Rattle.pa_record.specs.declared.root.RootAct.TheVariants.{Fill, Map, Full, Give, Unmap, Purge}
 use Rattle.pa_buckets.specs.declared.spans.State.TheVariants as state
-use Rattle.pa_record.specs.Spans.{Span, is_in, numbers, holds, number_in, latest, earliest, title_at, name_of}
+use Rattle.pa_record.specs.Spans.{Span, is_in, holds, number_in, latest, earliest, title_at, name_of}
 use Rattle.pa_record.specs.Root.{Root, new_root, opened, span_for, takes, all_returned, purged, empties, map_title, mapped, unmapped, names, root_next, root_replayed, RootActFits, IsJournal, asked_by, IsOut, IsOutOf, IsTitleOut}
 use Rattle.pa_record.specs.Census.{count_in, census}
 use Rattle.pa_record.specs.Sound.{IsSound, IsSettled, IsBornBelow, AsksFrom, least_after_all, IsNext, IsMadeBy, AreTitles}
 use Rattle.pa_record.specs.Steps.{IsLatest, IsEarliest, IsFilled, IsReturned, IsDecommittedTimes}
+use Rattle.pa_lists.specs.Numbers.{numbers}
 
 -- Of the spans that pass a test the one with the greatest turn, and the one with the least; and none where none passes.
 pub record TurnsChoose : Type 0 where
@@ -49,12 +51,12 @@ pub record OutIsOut : Type 0 where
 -- A fill of a sound root: the slots were not out before, are different, and are out after it. It gives one at least exactly
 -- where its first take finds a span, which it does where it got a new super page; else it changes nothing.
 pub record FillKeeps : Type 0 where
-  pub filled : (class want : ℕ) (r : Root) → IsSound r → class < 59 → IsFilled class want r (takes class want r)
+  pub filled : (class want : ℕ) (r : Root) → IsSound r → class < class_count → IsFilled class want r (takes class want r)
   pub opens : (number born : ℕ) (r : Root) → IsSound r → IsBornBelow born r → IsSound (opened number born r)
-  pub finds : (class want : ℕ) (r : Root) → IsSound r → class < 59 → IsSome (span_for class r) →
+  pub finds : (class want : ℕ) (r : Root) → IsSound r → class < class_count → IsSome (span_for class r) →
       1 ≤ length (takes class (suc want) r).titles
   pub finds_none : (class want : ℕ) (r : Root) → IsNone (span_for class r) → takes class want r ≡ record { root = r; titles = [] }
-  pub finds_new : (class number born : ℕ) (r : Root) → class < 59 → IsSome (span_for class (opened number born r))
+  pub finds_new : (class number born : ℕ) (r : Root) → class < class_count → IsSome (span_for class (opened number born r))
 
 -- returns, a purge, and direct maps that come and go
 pub record ReturnKeeps : Type 0 where
@@ -156,7 +158,7 @@ OutIsLeft = (pools : List PoolEntry) (journal : List RootEntry) (name : SlotName
 -- a super page, one that got none, a direct map, one that got no room, and a direct map that went back. And the pool's next
 -- entry is always one that a journal may name.
 pub record CallsFit : Type 0 where
-  pub fill : (pools : List PoolEntry) (e : PoolEntry) (class first : ℕ) (slots : List Numbered) (r : Root) → class < 59 →
+  pub fill : (pools : List PoolEntry) (e : PoolEntry) (class first : ℕ) (slots : List Numbered) (r : Root) → class < class_count →
       IsNone (span_for class r) →
       e.act ≡ pool.Take 1 (Some first) → map name_of (takes class (fill_of class) (opened first (length pools) r)).titles ≡ names slots →
       RootActFits (pools ++ e ∷ []) (Fill class (Some (length pools)) slots) r
@@ -183,7 +185,7 @@ IsUsed r = (s : Span) → Contains r.spans s → is_in state.None s ≡ false
 
 -- an entry keeps that, so a journal does; and the counts of the states add up to the spans
 pub record SpansAreUsed : Type 0 where
-  pub takes_keep : (class want : ℕ) (r : Root) → IsSound r → class < 59 → IsUsed r → IsUsed (takes class want r).root
+  pub takes_keep : (class want : ℕ) (r : Root) → IsSound r → class < class_count → IsUsed r → IsUsed (takes class want r).root
   pub returns_keep : (r : Root) (xs : List SlotName) → IsSound r → All (IsOut r) xs → AllPairs ◌≢◌ xs → IsUsed r →
       IsUsed (all_returned xs r)
   pub purge_keeps : (r : Root) → IsSound r → IsUsed r → IsUsed (purged r)

@@ -1,3 +1,4 @@
+pub mod Act
 pub mod Text
 pub mod Numbers
 pub mod Bits

@@ -5,6 +5,7 @@ use Rattle.pa_machine.specs.declared.word.SlotName.{SlotName}
 use Rattle.pa_layout.specs.Pages.{page_place, supers_for}
 use Rattle.pa_buckets.specs.declared.spans.State.{State}
 use Rattle.pa_buckets.specs.declared.spans.State.TheVariants as state
+use Rattle.pa_buckets.specs.Limits.{class_count}
 use Rattle.pa_buckets.specs.Table.{pages_of}
 use Rattle.pa_buckets.specs.Bands.{fill_of}
 use Rattle.pa_record.specs.declared.taken.SuperPage.{SuperPage}
@@ -223,7 +224,8 @@ UnmapFits pools asked slot r =
 -- an entry fits the root after the entries before it
 abbrev pub RootActFits : List PoolEntry → RootAct → Root → Type 0
 RootActFits pools (Fill class asked slots) r =
-    (class < 59) × Asked pools class asked r × (map name_of (takes class (fill_of class) (opened_by pools asked r)).titles ≡ names slots)
+    (class < class_count) × Asked pools class asked r
+    × (map name_of (takes class (fill_of class) (opened_by pools asked r)).titles ≡ names slots)
 RootActFits pools (Map asked slot len) r = MapFits pools asked slot len
 RootActFits pools (Full class asked) r = FullFits pools class asked r
 RootActFits pools (Give slots) r = All (IsOut r) (names slots) × AllPairs ◌≢◌ (names slots)

@@ -5,6 +5,7 @@ use Rattle.pa_machine.specs.declared.word.SlotName.{SlotName}
 use Rattle.pa_layout.specs.Pages.{page_place, supers_for}
 use Rattle.pa_buckets.specs.declared.spans.State.{State}
 use Rattle.pa_buckets.specs.declared.spans.State.TheVariants as state
+use Rattle.pa_buckets.specs.Limits.{class_count}
 use Rattle.pa_buckets.specs.Table.{slot_of, pages_of, system_of, slots_of}
 use Rattle.pa_record.specs.declared.taken.SuperPage.{SuperPage}
 use Rattle.pa_record.specs.Spans.{Span, bytes_of, title_at, is_in, same_place}
@@ -26,7 +27,7 @@ StateSays state.Full s = s.allocated ≡ slots_of s.class
 -- A span's numbers agree: the list has what is provisioned and not out, each number once; as many slots are provisioned
 -- as fit into the committed pages; and no more are made than the class's spans have.
 pub record IsCounted (s : Span) : Type 0 where
-  pub class : s.class < 59
+  pub class : s.class < class_count
   pub listed : s.allocated + length s.free ≡ s.provisioned
   pub numbers : (n : ℕ) → Contains s.free n → n < s.provisioned
   pub once : AllPairs ◌≢◌ s.free

@@ -5,6 +5,7 @@ use Rattle.pa_machine.specs.declared.word.SlotName.{SlotName}
 use Rattle.pa_buckets.specs.declared.spans.State.{State}
 use Rattle.pa_buckets.specs.declared.spans.State.TheVariants as state
 use Rattle.pa_buckets.specs.Table.{slot_of, pages_of, slots_of}
+use Rattle.pa_lists.specs.Numbers.{numbers}
 
 -- A span: the byte at which it starts, the entry of the pool that took its super page, its class and state, the turn
 -- with which it entered the state, how many of its slots are out of the root, how many are provisioned and how many
@@ -39,11 +40,6 @@ holds name s = (s.born == name.born) && (nat_le s.place name.start && nat_lt nam
 
 abbrev pub number_in : Span → SlotName → ℕ
 number_in s name = (name.start - s.place) / slot_of s.class
-
--- `count` numbers from one on
-abbrev pub numbers : ℕ → ℕ → List ℕ
-numbers from zero = []
-numbers from (suc count) = from ∷ numbers (from + 1) count
 
 -- More pages are committed: one, or as many as one slot more needs. Its slots are those that fit into them.
 abbrev pub more_pages : Span → ℕ

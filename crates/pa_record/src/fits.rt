@@ -2,11 +2,12 @@
 ghost use Rattle.std.specs.Prelude.{IfSome};
 ghost use Rattle.std.specs.List.{AllByRecursion};
 ghost use Rattle.pa_text.specs.Hex.{SlotFits};
+ghost use Rattle.pa_record.specs.Act.{act_of};
 ghost use Rattle.pa_record.specs.Bits.{Is32, IsClass, EntryInBits, NumberedInBits, RootActInBits, RootInBits, PoolInBits, CellInBits, ReportInBits, RunInBits};
 
-use crate::{
-    CellEntry, Entry, History, Journal, Numbered, PoolEntry, ReportLine, RootAct, RootEntry, Run,
-};
+use crate::act::Act;
+use crate::lent_entry::LentEntry;
+use crate::{CellEntry, Entry, History, Journal, Numbered, PoolEntry, ReportLine, RootEntry, Run};
 use pa_buckets::Class;
 use pa_machine::SlotName;
 
@@ -46,42 +47,42 @@ fn journal_fits(entries: &[RootEntry])
     ensures { AllByRecursion RootInBits entries.now }
 {
     for entry in entries {
-        root_fits(entry);
+        root_fits(&entry.lent());
     }
 }
 
 /// So has each of an entry of a journal; its class is one of the 59, and its batch has no more than 16 slots.
-pub fn root_fits(entry: &RootEntry)
+pub fn root_fits(entry: &LentEntry<'_>)
     ensures { RootInBits entry.now }
 {
-    number_fits(entry.line);
-    root_act_fits(&entry.act);
+    number_fits(entry.line());
+    root_act_fits(entry.act());
 }
 
-fn root_act_fits(act: &RootAct)
-    ensures { RootActInBits act.now }
+fn root_act_fits(act: &Act<'_>)
+    ensures { RootActInBits (act_of act.now) }
 {
     match act {
-        RootAct::Fill { class, pool, slots } => {
+        Act::Fill { class, pool, slots } => {
             class_fits(Some(*class));
             pool_number_fits(*pool);
-            batch_fits(slots.items());
+            batch_fits(slots.lent().items());
         }
-        RootAct::Map { pool, slot, len } => {
+        Act::Map { pool, slot, len } => {
             number_fits(*pool);
             slot_fits(*slot);
             number_fits(*len);
         }
-        RootAct::Full { class, pool } => {
+        Act::Full { class, pool } => {
             class_fits(*class);
             number_fits(*pool);
         }
-        RootAct::Give { slots } => batch_fits(slots.items()),
-        RootAct::Unmap { pool, slot } => {
+        Act::Give { slots } => batch_fits(slots.lent().items()),
+        Act::Unmap { pool, slot } => {
             number_fits(*pool);
             numbered_fits(*slot);
         }
-        RootAct::Purge => {}
+        Act::Purge => {}
     }
 }
 

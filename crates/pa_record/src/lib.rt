@@ -2,6 +2,7 @@
 //! the partitions' roots; the entries of the pool; the histories of the cells; and the report.
 #![tactic(auto)]
 
+mod act;
 mod batch;
 mod cell_lines;
 mod census;
@@ -10,6 +11,7 @@ mod fits;
 mod history;
 mod journal;
 mod laws;
+mod lent_entry;
 mod numbered;
 mod numbers;
 mod pool;
@@ -20,11 +22,10 @@ mod root;
 mod root_lines;
 mod run;
 mod taken;
-#[cfg(test)]
-mod tests;
 mod whole;
 mod writing;
 
+pub use act::{Act, ActWith, LentSlots};
 pub use batch::Batch;
 pub use cell_lines::push_cells;
 pub use census::Census;
@@ -37,6 +38,7 @@ pub use laws::{
     out_is_left, out_is_out, pool_answers, pool_grows, pool_is_sound, return_keeps, root_adds_up,
     roots_are_taken, spans_are_used, titles_are_asked, turns_choose, worked_runs_fit,
 };
+pub use lent_entry::LentEntry;
 pub use numbered::Numbered;
 pub use numbers::{cell_numbers, one_entry_for_its_numbers, pool_numbers, root_numbers};
 pub use pool::{PoolAct, PoolEntry};

@@ -1,3 +1,8 @@
+ghost use Rattle.std.specs.Prelude.{◌≡◌};
+ghost use Rattle.pa_record.specs.Act.{act_of};
+
+use crate::act::{Act, LentSlots};
+use crate::lent_entry::LentEntry;
 use crate::{Batch, Numbered};
 use pa_buckets::Class;
 use pa_machine::SlotName;
@@ -7,6 +12,15 @@ use pa_machine::SlotName;
 pub struct RootEntry {
     pub line: u32,
     pub act: RootAct,
+}
+
+impl RootEntry {
+    /// The entry, lent.
+    pub fn lent(&self) -> LentEntry<'_>
+        ensures entry { result ≡ self.now }
+    {
+        LentEntry::of(self.line, self.act.lent())
+    }
 }
 
 /// What a root did for one op. `pool` is the index of the pool's entry that was made for it.
@@ -40,4 +54,36 @@ pub enum RootAct {
     },
     /// Every empty span was decommitted.
     Purge,
+}
+
+impl RootAct {
+    // The act, lent.
+    fn lent(&self) -> Act<'_>
+        ensures act { act_of result ≡ self.now }
+    {
+        match self {
+            RootAct::Fill { class, pool, slots } => Act::Fill {
+                class: *class,
+                pool: *pool,
+                slots: LentSlots::of(slots.items()),
+            },
+            RootAct::Map { pool, slot, len } => Act::Map {
+                pool: *pool,
+                slot: *slot,
+                len: *len,
+            },
+            RootAct::Full { class, pool } => Act::Full {
+                class: *class,
+                pool: *pool,
+            },
+            RootAct::Give { slots } => Act::Give {
+                slots: LentSlots::of(slots.items()),
+            },
+            RootAct::Unmap { pool, slot } => Act::Unmap {
+                pool: *pool,
+                slot: *slot,
+            },
+            RootAct::Purge => Act::Purge,
+        }
+    }
 }

@@ -1,11 +1,14 @@
 ghost use Rattle.std.specs.Prelude.{◌≡◌, ◌++◌, codes, OnOk, length, ◌≤◌};
 ghost use Rattle.std.specs.Fmt.{decimal};
 ghost use Rattle.pa_text.specs.Hex.{slot_text};
+ghost use Rattle.pa_record.specs.Act.{act_of};
 ghost use Rattle.pa_record.specs.Text.{field_text, number_or, numbered_text, slots_text, root_act_text, root_text, journal_text, roots_text};
 ghost use Rattle.pa_record.specs.declared.root.RootAct.TheVariants as acts;
 
+use crate::act::Act;
+use crate::lent_entry::LentEntry;
 use crate::writing::push_field;
-use crate::{Journal, Numbered, RootAct, RootEntry};
+use crate::{Journal, Numbered, RootEntry};
 use pa_buckets::Class;
 use pa_machine::{OutOfMemory, SlotName};
 use pa_text::{Text, push_byte, push_bytes, push_number, push_slot};
@@ -28,7 +31,7 @@ fn push_journal(out: &mut Text, partition: u64, entries: &[RootEntry]) -> Result
 {
     let mut index = 0;
     for entry in entries {
-        push_root(out, partition, index, entry)?;
+        push_root(out, partition, index, &entry.lent())?;
         index += 1;
     }
     Ok(())
@@ -39,29 +42,29 @@ pub fn push_root(
     out: &mut Text,
     partition: u64,
     index: u64,
-    entry: &RootEntry,
+    entry: &LentEntry<'_>,
 ) -> Result<(), OutOfMemory>
     ensures pushed { OnOk result (out.new ≡ out.old ++ root_text partition index entry.now) }
 {
     push_field(out, b"r ", partition)?;
     push_field(out, b" ", index)?;
-    push_field(out, b" ", u64::from(entry.line))?;
+    push_field(out, b" ", u64::from(entry.line()))?;
     push_byte(out, b' ')?;
-    push_act(out, &entry.act)?;
+    push_act(out, entry.act())?;
     push_byte(out, b'\n')
 }
 
 // Appends what the root did.
-fn push_act(out: &mut Text, act: &RootAct) -> Result<(), OutOfMemory>
-    ensures pushed { OnOk result (out.new ≡ out.old ++ root_act_text act.now) }
+fn push_act(out: &mut Text, act: &Act<'_>) -> Result<(), OutOfMemory>
+    ensures pushed { OnOk result (out.new ≡ out.old ++ root_act_text (act_of act.now)) }
 {
     match act {
-        RootAct::Fill { class, pool, slots } => push_fill(out, *class, *pool, slots.items()),
-        RootAct::Map { pool, slot, len } => push_map(out, *pool, *slot, *len),
-        RootAct::Full { class, pool } => push_full(out, *class, *pool),
-        RootAct::Give { slots } => push_give(out, slots.items()),
-        RootAct::Unmap { pool, slot } => push_unmap(out, *pool, *slot),
-        RootAct::Purge => push_bytes(out, b"purge"),
+        Act::Fill { class, pool, slots } => push_fill(out, *class, *pool, slots.lent().items()),
+        Act::Map { pool, slot, len } => push_map(out, *pool, *slot, *len),
+        Act::Full { class, pool } => push_full(out, *class, *pool),
+        Act::Give { slots } => push_give(out, slots.lent().items()),
+        Act::Unmap { pool, slot } => push_unmap(out, *pool, *slot),
+        Act::Purge => push_bytes(out, b"purge"),
     }
 }
 

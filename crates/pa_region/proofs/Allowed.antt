@@ -1,5 +1,5 @@
 -- The table lets a seat make its steps: the conditions of its calls.
-use Rattle.std.proofs.Common.{◌≡◌, ℕ, ◌+◌, ◌*◌, ◌%◌, ◌<◌, List, length, set, get_or, refl, sym, ◌∙◌, ap, subst, arith, inl, inr}
+use Rattle.std.proofs.Common.{◌≡◌, ℕ, ◌+◌, ◌%◌, ◌<◌, List, set, get_or, refl, sym, ◌∙◌, ap, subst, arith, inl, inr}
 use Rattle.std.specs.Prelude.{slice_index}
 use mathlib.Core.Option.{some}
 use lib.ListN.{get_elem?}
@@ -8,13 +8,12 @@ use Rattle.pa_machine.specs.declared.word.Step.{Step}
 use Rattle.pa_machine.specs.declared.word.Step.TheVariants.{Issue, Copy, Reset, Free, Write}
 use Rattle.pa_machine.specs.Count.{CanStep, stepped}
 use Rattle.pa_machine.specs.Run.{IsFree}
-use Rattle.pa_machine.specs.Titles.{Covers, IsWellFormed, count_place, count_word}
+use Rattle.pa_machine.specs.Titles.{IsWellFormed, count_place, count_word}
 use Rattle.pa_machine.specs.Holdings.{RawByte, FreeTitle, OwnOf, RefOf, IsTitleHeld}
-use Rattle.pa_machine.specs.Events.{total_of}
 use Rattle.pa_machine.proofs.Same.{title_tells}
 use Rattle.pa_region.specs.declared.view.View.{View}
 use Rattle.pa_machine.proofs.Parts.{free_or}
-use Rattle.pa_region.specs.Views.{held_of_view, free_of, HasTitle, byte_words, shown}
+use Rattle.pa_region.specs.Views.{held_of_view, free_of, HasTitle, byte_words}
 use Rattle.pa_region.specs.Rule.{IsKept}
 use Rattle.pa_region.specs.Moves.{CanCount, IsFound, moved, after_count, after_look}
 use Rattle.pa_region.proofs.Pieces.{handle_piece, held_within, moved_changes, frees_have, title_held, held_title}
@@ -23,7 +22,6 @@ use Rattle.std.proofs.Common.{◌^◌}
 use Rattle.atomic_table.specs.Table.{Me, Allows, keeps}
 use Rattle.atomic_table.specs.Table.{State as TableState}
 use Rattle.atomic_table.specs.Seated.{TableId}
-use Rattle.pa_machine.proofs.Parts.{word_covered}
 use Rattle.pa_region.specs.Shares.{IsSeatSound, byte_word_count, adds, CountTells, IsUser}
 use Rattle.pa_region.proofs.Bytes.{bytes_word, held_in_all, place_below}
 use Rattle.pa_region.proofs.Found.{handle_held, count_can, count_found}
@@ -63,15 +61,6 @@ count_allowed step t slots id place me at_place can s k homes at_id small =
         subst (λ (n : ℕ). IsFound t n me.0) (sym found) (count_found t s.words s.views id me.0 k at_id mine),
       ),
     )
-
--- two held titles with one count word are one
-pub same_by_word : (words : List ℕ) (views : List View) (t u : Title) → IsKept words views → IsTitleHeld (total_of (shown words views)) t →
-    IsTitleHeld (total_of (shown words views)) u → count_place t ≡ count_place u → t ≡ u
-same_by_word words views t u k held other e =
-    k.holders.good.divided.apart t u (8 * count_place t) held other
-    (word_covered (length (byte_words words)) t (count_place t) (k.holders.good.divided.well t held) (omega arith, omega arith))
-    (subst (λ (p : ℕ). Covers u (8 * p)) (sym e)
-    (word_covered (length (byte_words words)) u (count_place u) (k.holders.good.divided.well u other) (omega arith, omega arith)))
 
 -- a title that a view uses or holds free is held
 pub user_held : (t : Title) (v : View) → IsUser t v → IsTitleHeld (held_of_view v) t

@@ -22,12 +22,13 @@ use Rattle.pa_region.specs.Rule.{Values, IsKept}
 use Rattle.pa_region.specs.Lists.{HasSeenFree, Lists}
 use Rattle.pa_region.proofs.Adding.{changed_sum}
 use Rattle.pa_region.proofs.Pieces.{handle_piece, moved_changes, frees_have, owns_have, refs_have}
-use Rattle.pa_region.proofs.HolderPart.{IsCountStep, words_by, lost_here, gained_here, other_stays, word_here, number_grows}
+use Rattle.pa_region.proofs.HolderPart.{IsCountStep, words_by, lost_here, gained_here, other_stays, word_here}
 use Rattle.pa_region.proofs.SeenPart.{note, note_grows, note_here}
 use Rattle.pa_region.proofs.Bytes.{held_in_all}
 use Rattle.pa_region.proofs.Shown.{put_there}
 use Rattle.pa_region.proofs.ValuePart.{ShownGood}
 use Rattle.pa_region.proofs.ListPart.{IsGrown, lists_grown}
+use Rattle.pa_machine.proofs.Runs.{number_stepped}
 
 -- a counted step leaves keepers, leases, lists, stakes and what was seen to the entry
 pub moved_rest : (step : Step) (t : Title) (word : ℕ) (v : View) →
@@ -94,7 +95,7 @@ count_free step t a words after views i v k at_i can x good vals at_place u free
     elim (title_tells t u) [
       | inl y ↦
           let here : count_word (byte_words after) t ≡ stepped step word = ap (λ ws. count_word ws t) at_place ∙ word_here step t a (byte_words words) (total_of (shown words views)) _ _ _ _ k.holders x in
-          let n = number_grows step word x.can in
+          let n = number_stepped step word x.can in
           let s = note_here t (number_of word + 1) (moved step t word v).seen in
           let e : number_of (count_word w.words u) ≡ number_of word + 1 = ap number_of (known ∙ (ap (λ z. count_word (byte_words after) z) (sym y.1) ∙ here)) ∙ n in
           let s2 : number_of word + 1 ≤ seen_of w u = subst (λ (z : Title). number_of word + 1 ≤ seen_of w z) y.1 s in

@@ -30,6 +30,7 @@ use Rattle.pa_region.proofs.ValuePart.{raw_outside, place_unknown, values_step}
 use Rattle.pa_region.proofs.Filled.{filled_long, filled_here, filled_beside}
 use Rattle.pa_region.proofs.CountEvent.{own_known}
 use Rattle.pa_region.proofs.Found.{handle_held, count_can, count_found}
+use Rattle.pa_machine.proofs.Noting.{returned_owns}
 
 -- whether a step that leaves this word gave the title back
 back_cases : (left : ℕ) → (IsFree left × (is_back left ≡ true)) ⊎ ((IsFree left → ⊥) × (is_back left ≡ false))
@@ -89,10 +90,6 @@ word_cases n t q well within =
       | inl y ↦ inl y
       | inr m ↦ inr (q - t.start / 8, omega arith, omega arith)
     ]
-
--- what a return gives: no Own; and no free title, where the word isn't free
-none_returned : (left : ℕ) (t : Title) → held_in (returned_at left t) (OwnOf t) ≡ 0
-none_returned left t = elim (returned_cases left t) [ inl y ↦ rw y.1 refl | inr n ↦ rw n.1 refl ]
 
 not_returned : (left : ℕ) (t : Title) → (IsFree left → ⊥) → held_in (returned_at left t) (FreeTitle t) ≡ 0
 not_returned left t other = elim (returned_cases left t) [ inl y ↦ absurd (other y.0) | inr n ↦ rw n.1 refl ]
@@ -157,7 +154,7 @@ held_by_count Reset t words views i v k at_i can =
     let o = moved_holds Reset t word v can (OwnOf t) in
     let f1 = frees_have v t in let f2 = frees_have (after_count Reset t word v) t in
     let o1 = owns_have v t in let o2 = owns_have (after_count Reset t word v) t in
-    let no_own = none_returned (stepped Reset word) t in
+    let no_own = returned_owns (stepped Reset word) t in
     record {
       free = λ h. elim (back_cases (stepped Reset word)) [
         | inl y ↦ (y.1, inl refl)
@@ -179,7 +176,7 @@ held_by_count Free t words views i v k at_i can =
     let o = moved_holds Free t word v can (OwnOf t) in
     let f1 = frees_have v t in let f2 = frees_have (after_count Free t word v) t in
     let o1 = owns_have v t in let o2 = owns_have (after_count Free t word v) t in
-    let no_own = none_returned (stepped Free word) t in
+    let no_own = returned_owns (stepped Free word) t in
     let z = own_self t (moved_changes Free t word v (handle_piece Free t v can.0)).0 in
     record {
       free = λ h. elim (back_cases (stepped Free word)) [

@@ -7,7 +7,6 @@ use Rattle.pa_machine.specs.declared.title.OwnState.TheVariants.{Clean}
 use Rattle.pa_machine.specs.declared.word.Step.{Step}
 use Rattle.pa_machine.specs.declared.word.Step.TheVariants.{Issue, Copy, Reset, Free, Write}
 use Rattle.pa_machine.specs.Count.{CanStep, stepped, number_of, refs_of}
-use Rattle.pa_machine.specs.Run.{IsFree}
 use Rattle.pa_machine.specs.Titles.{count_place, count_word}
 use Rattle.pa_machine.specs.Holdings.{Thing, RawByte, FreeTitle, OwnOf, RefOf, held_in, IsTitleHeld}
 use Rattle.pa_machine.specs.Good.{IsCounted, IsGood}
@@ -20,14 +19,7 @@ use Rattle.pa_machine.proofs.Keeps.{returned_here, returned_raw, same_keeps}
 use Rattle.pa_machine.proofs.Amounts.{free_self, own_self, ref_self, word_written}
 use Rattle.pa_region.specs.Rule.{Holders}
 use Rattle.pa_region.proofs.Pieces.{lost_by, gained_by}
-
--- what a return gives counts as one free title where the word is free, and as nothing else
-returned_free : (left : ℕ) (t : Title) →
-    (IsFree left × (held_in (returned_at left t) (FreeTitle t) ≡ 1)) ⊎ ((IsFree left → ⊥) × (held_in (returned_at left t) (FreeTitle t) ≡ 0))
-returned_free left t = elim (returned_cases left t) [
-  | inl y ↦ inl (y.0, rw y.1 (free_self t))
-  | inr n ↦ inr (n.0, rw n.1 refl)
-]
+use Rattle.pa_machine.proofs.Counting.{returned_free}
 
 -- and as no handle
 returned_none : (left : ℕ) (t : Title) →
@@ -137,10 +129,6 @@ number_after Copy word can = (omega arith, omega arith)
 number_after Reset word can = (omega arith, omega arith)
 number_after Free word can = (omega arith, omega arith)
 number_after Write word can = (omega arith, omega arith)
-
--- the number alone
-pub number_grows : (step : Step) (word : ℕ) → CanStep step word → number_of (stepped step word) ≡ number_of word + 1
-number_grows step word can = (number_after step word can).0
 
 -- what is lost and gained is the title's alone, and no raw byte
 pub lost_here : (step : Step) (t : Title) (a : OwnState) (u : Title) → (t ≡ u → ⊥) → IsNoneOf (lost_by step t a) u

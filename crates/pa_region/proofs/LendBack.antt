@@ -48,7 +48,7 @@ marked_is r k = go (eqb r k)
 pub marked_here : (r : ℕ) → (stake_parcel r).stakes r ≡ true
 marked_here r = marked_is r r ∙ elim (eqb_tells r r) [ inl y ↦ y.0 | inr n ↦ absurd (n.1 refl) ]
 
-marked_beside : (r k : ℕ) → (k ≡ r → ⊥) → (stake_parcel r).stakes k ≡ false
+pub marked_beside : (r k : ℕ) → (k ≡ r → ⊥) → (stake_parcel r).stakes k ≡ false
 marked_beside r k ne = marked_is r k ∙ elim (eqb_tells r k) [ inl y ↦ absurd (ne (sym y.1)) | inr n ↦ n.0 ]
 
 -- how often the two have a stake
@@ -97,7 +97,7 @@ log_right k (s ∷ a) b none =
     ]
 
 -- no keeper goes with it
-no_keepers : (k : ℕ) (qs : List Keeper) → sum_by (λ (q : Keeper). one (eqb q.number k)) (filter (λ (q : Keeper). false) qs) ≡ 0
+pub no_keepers : (k : ℕ) (qs : List Keeper) → sum_by (λ (q : Keeper). one (eqb q.number k)) (filter (λ (q : Keeper). false) qs) ≡ 0
 no_keepers k [] = refl
 no_keepers k (q ∷ qs) = no_keepers k qs
 

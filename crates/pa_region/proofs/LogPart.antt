@@ -17,7 +17,8 @@ use Rattle.pa_region.specs.Views.{counted_on, counted_at, counted_as, looked_at,
 use Rattle.pa_region.specs.History.{Done, reached, IsLegal, IsWordIn, IsLogged, IsChained}
 use Rattle.pa_region.specs.Rule.{Holders, Logs}
 use Rattle.pa_region.proofs.Adding.{one_lt, one_eq, one_small}
-use Rattle.pa_region.proofs.HolderPart.{IsCountStep, held_after, other_stays, word_here, words_by, number_grows}
+use Rattle.pa_region.proofs.HolderPart.{IsCountStep, held_after, other_stays, word_here, words_by}
+use Rattle.pa_machine.proofs.Runs.{number_stepped}
 
 -- the found word and the title are tested among the rest
 inner : (a b c d : Bool) → one (a && (b && (c && d))) ≤ one c
@@ -54,7 +55,7 @@ pub reached_number : (history : List Done) → IsLegal history → number_of (re
 reached_number [] legal = refl
 reached_number (d ∷ older) legal =
     let again = reached_number older legal.1 in
-    let grows = number_grows d.step (reached older) legal.0 in
+    let grows = number_stepped d.step (reached older) legal.0 in
     omega arith
 
 -- all logs after an entry in one of them

@@ -39,14 +39,6 @@ use Rattle.pa_region.proofs.ReadsSame.{reads_look}
 use Rattle.pa_region.proofs.ValuePart.{values_same}
 use Rattle.pa_region.proofs.CountLists.{look_lists}
 
--- a look changes nothing of what its view holds
-look_title : (word : ℕ) (o : OwnTitle) → (idle_if word o).title ≡ o.title
-look_title word o = go (refs_of word == 0)
-  where
-    go : (b : Bool) → (if b then record o { idle = true } else o).title ≡ o.title
-    go true = refl
-    go false = refl
-
 -- and no piece
 look_piece : (word : ℕ) (o : OwnTitle) → own_piece (idle_if word o) ≡ own_piece o
 look_piece word o = go (refs_of word == 0)

@@ -69,7 +69,7 @@ quiet_tells own t found value (Entered keeper numbers) u place given since owned
 quiet_tells own t found value (Uncut again) u place given since owned unclean h = absurd (omega arith)
 
 -- nothing was handed over where all was quiet
-quiet_handed : (d : Deeds) → is_quiet d ≡ true → d.handed ≡ false
+pub quiet_handed : (d : Deeds) → is_quiet d ≡ true → d.handed ≡ false
 quiet_handed d q = not-true d.handed (and_parts (not d.handed) (not d.stored && not d.poisoned) q).0
 
 -- What a read's word is, by the title's word and history. Where the bit is 0, it is poison. Through a clean Own it is

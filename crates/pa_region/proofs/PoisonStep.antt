@@ -33,18 +33,13 @@ use Rattle.pa_region.proofs.CountEvent.{content_covered}
 use Rattle.pa_region.proofs.PoisonedOwns.{sum_grows}
 use Rattle.pa_region.proofs.WriteStep.{IsWrite, write_keeps}
 use Rattle.pa_region.proofs.StoreStep.{content_no_count, title_below}
+use Rattle.pa_lists.proofs.Tests.{both_true}
 
 -- an Own with so many words poisoned is an Own
 pub own_to_own : (v : View) (t : Title) (j : ℕ) → own_to v t j ≤ own_of v t
 own_to_own v t j =
     sum_by-le-sum_by (λ (o : OwnTitle). one (same_title o.title t && (progress o.state == j))) (λ (o : OwnTitle). one (is_own_of t o)) v.owns
     (λ o. one_and (same_title o.title t) (progress o.state == j))
-
--- two tests that are passed together
-both_pass : (a b : Bool) → (a && b) ≡ true → (a ≡ true) × (b ≡ true)
-both_pass true true e = (refl, refl)
-both_pass true false e = absurd (true≢false (sym e))
-both_pass false b e = absurd (true≢false (sym e))
 
 -- the state of an Own with so many words poisoned
 pub state_to : (v : View) (t : Title) (j : ℕ) → 0 < own_to v t j → (b : OwnState) × (progress b ≡ j) × (0 < held_of_view v (OwnAs t b))
@@ -54,7 +49,7 @@ state_to v t j has = (first.0.state, so_many, holds)
     first = first_of (λ (o : OwnTitle). same_title o.title t && (progress o.state == j)) v.owns has
 
     both : (same_title first.0.title t ≡ true) × ((progress first.0.state == j) ≡ true)
-    both = both_pass (same_title first.0.title t) (progress first.0.state == j) first.1.passes
+    both = both_true (same_title first.0.title t) (progress first.0.state == j) first.1.passes
 
     so_many : progress first.0.state ≡ j
     so_many = elim (eqb_tells (progress first.0.state) j) [ inl y ↦ y.1 | inr n ↦ absurd (true≢false (sym both.1 ∙ n.0)) ]

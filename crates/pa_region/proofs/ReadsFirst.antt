@@ -16,7 +16,7 @@ use Rattle.pa_region.specs.Waiting.{gave_no_poison, quiet_read, poisoned_apart, 
 use Rattle.pa_region.proofs.Readings.{right_none}
 
 -- logs without entries
-first_log : (k from count : ℕ) → log_among k (stakes_from from count) ≡ []
+pub first_log : (k from count : ℕ) → log_among k (stakes_from from count) ≡ []
 first_log k from zero = refl
 first_log k from (suc count) = elim (cases_Bool (eqb from k)) [ inl y ↦ rw y refl | inr n ↦ rw n (first_log k (suc from) count) ]
 

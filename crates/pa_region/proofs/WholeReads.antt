@@ -56,7 +56,7 @@ all_of amount views i v at_i every each none =
     sum_alone (λ (u : View). sum_by amount u.stakes) views i v at_i (λ j u at_j ne. none u (others_none views i v at_i every each j u at_j ne))
 
 -- a poisoned Own isn't clean
-poisoned_unclean : (v : View) (t : Title) → poisoned_of v t ≤ unclean_of v
+pub poisoned_unclean : (v : View) (t : Title) → poisoned_of v t ≤ unclean_of v
 poisoned_unclean v t =
     sum_by-le-sum_by (λ (o : OwnTitle). one (same_title o.title t && is_poisoned o.state)) (λ (o : OwnTitle). one (is_unclean o.state)) v.owns
     (λ o. go (same_title o.title t) o.state)

@@ -8,6 +8,7 @@ use Rattle.pa_machine.specs.declared.word.Step.TheVariants.{Issue, Copy, Reset, 
 use Rattle.pa_machine.specs.Count.{CanStep}
 use Rattle.pa_machine.specs.Titles.{IsWellFormed, count_place}
 use Rattle.pa_machine.specs.Holdings.{RawByte}
+use Rattle.pa_layout.specs.Limits.{most_words}
 use Rattle.pa_region.specs.declared.view.View.{View}
 use Rattle.pa_region.specs.Views.{held_of_view, own_of, ref_of, HasTitle}
 use Rattle.pa_region.specs.Moves.{IsFound, after_count, after_look}
@@ -24,7 +25,7 @@ byte_word_count region = region.words - 16
 -- What a seat's type keeps: the region has at most 16 super pages; each title and each raw byte that the view holds lies
 -- in it; and the view's list of words is as long as the region's.
 pub record IsSeatSound (region : TableId) (v : View) : Type 0 where
-  pub small : byte_word_count region ≤ 4194304
+  pub small : byte_word_count region ≤ most_words
   pub well : (t : Title) → HasTitle v t → IsWellFormed (byte_word_count region) t
   pub raw : (b : ℕ) → 0 < held_of_view v (RawByte b) → b < 8 * byte_word_count region
   pub long : length v.words ≡ byte_word_count region

@@ -1,5 +1,6 @@
 ghost use Rattle.std.specs.Prelude.{◌≡◌, ℕ, ◌≤◌};
 ghost use Rattle.pa_machine.specs.Titles.{IsWellFormed};
+ghost use Rattle.pa_layout.specs.Limits.{most_words};
 ghost use Rattle.pa_region.specs.Views.{seen_of};
 ghost use Rattle.pa_region.specs.Shares.{count_offset};
 ghost use Rattle.pa_region.specs.Cuts.{CanCut, after_cut, CanUncut, after_uncut};
@@ -42,7 +43,7 @@ impl Region {
 
 // The offset of the title's count word, in bytes.
 fn count_byte(title: Title) -> u32
-    requires { (words : ℕ) × (words ≤ 4194304) × IsWellFormed words title }
+    requires { (words : ℕ) × (words ≤ most_words) × IsWellFormed words title }
     ensures { result ≡ count_offset title }
 {
     title.start + (title.len - 8)

@@ -11,8 +11,6 @@ mod cut_laws;
 mod laws;
 mod lend_laws;
 mod lending;
-#[cfg(test)]
-mod lending_tests;
 mod marks;
 mod name;
 mod note;

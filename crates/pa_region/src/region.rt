@@ -1,6 +1,7 @@
 ghost use Rattle.std.specs.Prelude.{◌≡◌, ℕ, ◌-◌, ◌*◌, ◌<◌, ◌≤◌, [], length, IfOk};
 ghost use Rattle.atomic_table.specs.Seated.{TableId};
 ghost use Rattle.pa_machine.specs.Titles.{IsWellFormed, count_place, content_count, content_place};
+ghost use Rattle.pa_layout.specs.Limits.{most_supers, most_words};
 ghost use Rattle.pa_region.specs.Views.{HasTitle, HasStake, HasEveryStake, least_stake};
 ghost use Rattle.pa_region.specs.Moves.{CanCount};
 ghost use Rattle.pa_region.specs.Marks.{AreStakes};
@@ -66,7 +67,7 @@ impl Seat {
     /// pages; and the seat's list of words is as long. It costs nothing: it hands on what the seat's type keeps.
     pub fn placed(&self, title: Title)
         requires { HasTitle self.now.view title }
-        ensures small { byte_word_count self.now.region ≤ 4194304 }
+        ensures small { byte_word_count self.now.region ≤ most_words }
         ensures well { IsWellFormed (byte_word_count self.now.region) title }
         ensures long { length self.now.view.words ≡ byte_word_count self.now.region }
     {
@@ -92,7 +93,7 @@ impl Region {
     /// as raw, and has the right to make `budget` counted steps, every stake, every keeper with an empty list, and
     /// every lease.
     pub fn new(alloc: Global, supers: u32, budget: u32) -> Result<(Region, Seat), OutOfMemory>
-        requires supers { (1 ≤ supers) × (supers ≤ 16) }
+        requires supers { (1 ≤ supers) × (supers ≤ most_supers) }
         requires budget { budget ≤ 65536 }
         ensures words { IfOk result (λ r. byte_word_count r.0 ≡ 262144 * supers) }
         ensures region { IfOk result (λ r. r.1.region ≡ r.0) }

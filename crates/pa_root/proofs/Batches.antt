@@ -13,8 +13,8 @@ use Rattle.pa_region.specs.Lists.{list_of, lease_of, keeper_of}
 use Rattle.pa_region.specs.Cuts.{CanCut, after_cut}
 use Rattle.pa_region.proofs.CutLaws.{cut_leaves_others, cut_next}
 use Rattle.pa_record.specs.Sound.{TitlesApart}
-use Rattle.pa_record.proofs.Members.{not_in_none, first_in, later_in, in_cases}
-use Rattle.pa_record.proofs.Pairs.{pairs_head, pairs_tail}
+use Rattle.pa_lists.proofs.Members.{not_in_none, first_in, later_in, in_cases}
+use Rattle.pa_lists.proofs.Pairs.{pairs_head, pairs_tail}
 use Rattle.pa_root.specs.Filling.{CanCutAll, after_cuts}
 
 -- ---- what it leaves

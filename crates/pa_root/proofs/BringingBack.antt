@@ -20,7 +20,7 @@ use Rattle.pa_region.proofs.LendBack.{begins_on}
 use Rattle.pa_region.proofs.TakeLaws.{right_number}
 use Rattle.pa_record.specs.declared.pool.PoolEntry.{PoolEntry}
 use Rattle.pa_record.specs.Numbers.{pool_numbers}
-use Rattle.pa_record.proofs.Members.{first_in}
+use Rattle.pa_lists.proofs.Members.{first_in}
 use Rattle.pa_record.proofs.PoolSteps.{slice_get_more}
 use Rattle.pa_pool.specs.Pools.{PoolValue, IsPoolKept}
 use Rattle.pa_pool.specs.Calls.{IsGivenBack, give_entry}

@@ -11,7 +11,7 @@ use Rattle.pa_record.specs.declared.numbered.Numbered.{Numbered}
 use Rattle.pa_root.specs.Keeping.{RootState, IsRootSound}
 use Rattle.pa_root.specs.Handing.{HasOnly, HasSeenFill, at_number_seen, numbered_by}
 use Rattle.pa_root.specs.Giving.{CanComeBack}
-use Rattle.pa_record.proofs.Members.{first_in, later_in}
+use Rattle.pa_lists.proofs.Members.{first_in, later_in}
 use Rattle.pa_root.proofs.Together.{free_both}
 use Rattle.pa_root.proofs.Whole.{made_is_whole}
 use Rattle.pa_root.proofs.Giving.{was_made, good}
@@ -21,7 +21,7 @@ pub free_there : (v w : View) (titles : List Title) → HasOnly titles w → (t 
 free_there v w titles has t among = let here = (has.frees t).1 among in let e = free_both v w t in omega arith
 
 -- numbers that are the same are told the same
-same_numbers : (v w : View) (ts : List Title) → ((t : Title) → Contains ts t → seen_of v t ≡ seen_of w t) → numbered_by v ts ≡ numbered_by w ts
+pub same_numbers : (v w : View) (ts : List Title) → ((t : Title) → Contains ts t → seen_of v t ≡ seen_of w t) → numbered_by v ts ≡ numbered_by w ts
 same_numbers v w [] same = refl
 same_numbers v w (t ∷ ts) same =
     let here : at_number_seen v t ≡ at_number_seen w t = ap (λ (n : ℕ). record (at_number_seen w t) { number = n }) (same t (first_in t ts)) in

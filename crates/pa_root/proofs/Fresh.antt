@@ -1,8 +1,7 @@
 -- A slot that is made for the first time was never named by the journal.
-use Rattle.std.proofs.Common.{◌≡◌, ℕ, ◌<◌, ◌≤◌, cond, List, [], ◌∷◌, refl, sym, ◌∙◌, ap, subst, arith, ◌⊎◌, inl, inr}
+use Rattle.std.proofs.Common.{◌≡◌, ℕ, ◌<◌, ◌≤◌, List, [], ◌∷◌, sym, ◌∙◌, ap, subst, arith, ◌⊎◌, inl, inr}
 use Rattle.std.specs.Prelude.{Contains}
 use Rattle.std.proofs.lemmas.Bool.{cases_eq}
-use Rattle.std.proofs.lemmas.List.Sums.{sum_by-cons}
 use Rattle.std.proofs.lemmas.List.Elements.{Contains-append_left, Contains-append_right}
 use Rattle.pa_machine.specs.declared.title.Title.{Title}
 use Rattle.pa_machine.specs.declared.word.SlotName.{SlotName}
@@ -16,17 +15,15 @@ use Rattle.pa_record.specs.Spans.{name_of}
 use Rattle.pa_record.specs.Root.{Root, new_root, takes, opened_by, map_title, root_next, root_replayed, RootActFits, RootReplays, IsJournal}
 use Rattle.pa_record.specs.Laws.{leaves_by, times, times_left}
 use Rattle.pa_record.specs.Sound.{IsSound, IsMade, least_after_all}
-use Rattle.pa_record.proofs.Members.{not_in_none, first_in, in_cases}
-use Rattle.pa_record.proofs.Joined.{map_cases}
+use Rattle.pa_lists.proofs.Members.{not_in_none, first_in, in_cases}
+use Rattle.pa_lists.proofs.Joined.{map_cases}
 use Rattle.pa_record.proofs.Leaving.{out_is_left}
 use Rattle.pa_record.proofs.Titles.{next_titles, titles_taken, journal_replayed, made_born}
-use Rattle.pa_rules.specs.Holders.{Way, Out, Back, Move}
 use Rattle.pa_rules.proofs.FourPlaces.{times_member}
 use Rattle.pa_legal.specs.Numbers.{moves_of}
-use Rattle.pa_legal.specs.Turns.{is_out}
-use Rattle.pa_legal.proofs.flow.Counts.{is_back}
-use Rattle.pa_legal.proofs.Standing.{counted, journal_out, journal_back}
+use Rattle.pa_legal.proofs.Standing.{journal_out, journal_back}
 use Rattle.pa_root.proofs.Named.{made_name}
+use Rattle.pa_legal.proofs.Growing.{none_counted}
 
 -- ---- what left the root was taken
 
@@ -56,20 +53,6 @@ left_was_taken pools (e ∷ es) r name fits some = elim (cases_eq (times name (l
 ]
 
 -- ---- what never left was never named
-
-none_counted : (ms : List Move) → counted is_out ms ≡ 0 → counted is_back ms ≡ 0 → ms ≡ []
-none_counted [] out back = refl
-none_counted (m ∷ ms) out back = by_way m.way refl
-  where
-    by_way : (w : Way) → m.way ≡ w → m ∷ ms ≡ []
-    by_way Out e =
-        let c = sum_by-cons (λ (x : Move). cond {A = ℕ} (is_out x.way) 1 0) m ms in
-        let k : cond {A = ℕ} (is_out m.way) 1 0 ≡ 1 = ap (λ x. cond {A = ℕ} (is_out x) 1 0) e in
-        absurd (omega arith)
-    by_way Back e =
-        let c = sum_by-cons (λ (x : Move). cond {A = ℕ} (is_back x.way) 1 0) m ms in
-        let k : cond {A = ℕ} (is_back m.way) 1 0 ≡ 1 = ap (λ x. cond {A = ℕ} (is_back x) 1 0) e in
-        absurd (omega arith)
 
 never_named : (pools : List PoolEntry) (journal : List RootEntry) (name : SlotName) → IsJournal pools journal → times_left name journal ≡ 0 →
     moves_of journal name ≡ []

@@ -22,7 +22,7 @@ use Rattle.pa_record.specs.Root.{Root, all_returned, root_next, IsOut}
 use Rattle.pa_record.specs.Laws.{IsNameOut}
 use Rattle.pa_record.specs.Steps.{IsReturned}
 use Rattle.pa_record.specs.Sound.{IsSound, IsMade}
-use Rattle.pa_record.proofs.Joined.{map_cases, map_in, pairs_map}
+use Rattle.pa_lists.proofs.Joined.{map_cases, map_in, pairs_map}
 use Rattle.pa_record.proofs.Leaving.{once_or_not}
 use Rattle.pa_record.proofs.Lawful.{out_is_out}
 use Rattle.pa_record.proofs.Returning.{all_returned_is}
@@ -41,9 +41,10 @@ use Rattle.pa_root.proofs.Seeing.{root_sound, rest_kept}
 use Rattle.pa_root.proofs.Lists.{hosts_kept, journal_goes_on}
 use Rattle.pa_record.proofs.MakingNone.{all_returned_make_none}
 use Rattle.pa_root.proofs.Named.{made_name, title_is, filled_was_made}
-use Rattle.pa_root.proofs.Numbering.{fill_by_numbers, same_entry}
+use Rattle.pa_root.proofs.Numbering.{fill_by_numbers}
 use Rattle.pa_root.proofs.Moves.{none_moves, one_moves, names_by, numbers_without, numbers_with}
 use Rattle.pa_root.proofs.Together.{no_own_clean, free_both, hosts_both, free_now, handles_now, low_now, lease_now, budget_now, pool_begins, left_now, right_now}
+use Rattle.pa_record.proofs.OneEntry.{one_root}
 
 -- what a beginning of the root's list says, the journal has
 said_in_journal : (p : ℕ) (s : RootState) (list : List Made) (line : List ℕ) → HasJournal p s → IsBeginning list (list_of p s.view) →
@@ -266,4 +267,4 @@ gives_keep p line s w x titles can now keeps more = keeps_root p s w titles can 
 pub seen_is_in_journal : SeenIsInJournal
 seen_is_in_journal p s list e sound begins among =
     let (f, has, same) = said_in_journal p s list (root_numbers e) sound.journal begins among in
-    subst (λ x. Contains s.journal x) (same_entry f e same) has
+    subst (λ x. Contains s.journal x) (one_root f e same) has

@@ -37,5 +37,3 @@ pub mod Refusing
 pub mod Opened
 pub mod FillEnds
 pub mod MapEnds
-pub mod TestParts
-pub mod Testing

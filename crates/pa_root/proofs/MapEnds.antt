@@ -1,5 +1,5 @@
 -- A direct map as a call: the root is sound with its entry, and the caller is told.
-use Rattle.std.proofs.Common.{◌≡◌, ℕ, ◌%◌, ◌<◌, ◌≤◌, [], ◌∷◌, ◌++◌, Some, length, refl, sym, ◌∙◌, ap, subst, arith}
+use Rattle.std.proofs.Common.{◌≡◌, ℕ, ◌%◌, ◌≤◌, [], ◌∷◌, ◌++◌, Some, length, refl, sym, ◌∙◌, ap, subst, arith}
 use Rattle.pa_machine.specs.declared.title.Title.{Title}
 use Rattle.pa_layout.specs.Pages.{supers_for}
 use Rattle.pa_direct.specs.declared.maps.Shape.{Shape}
@@ -7,7 +7,7 @@ use Rattle.pa_direct.specs.Shapes.{IsShape}
 use Rattle.pa_direct.proofs.Serving.{Serves-of}
 use Rattle.pa_region.specs.declared.view.Made.{Made}
 use Rattle.pa_region.specs.declared.view.View.{View}
-use Rattle.pa_region.specs.Views.{low_of, seen_of, least_stake}
+use Rattle.pa_region.specs.Views.{seen_of, least_stake}
 use Rattle.pa_region.specs.Lists.{list_of}
 use Rattle.pa_region.specs.Hands.{left_after, given_after, united}
 use Rattle.pa_region.specs.Cuts.{after_cut}
@@ -20,7 +20,7 @@ use Rattle.pa_record.specs.Numbers.{root_numbers}
 use Rattle.pa_record.specs.Spans.{name_of}
 use Rattle.pa_record.specs.Root.{mapped}
 use Rattle.pa_pool.specs.Calls.{take_entry}
-use Rattle.pa_root.specs.Keeping.{RootState, IsRootSound, IsInRun}
+use Rattle.pa_root.specs.Keeping.{RootState, IsRootSound}
 use Rattle.pa_root.specs.Handing.{HasOnly, root_entry}
 use Rattle.pa_root.specs.Laws.{with_view}
 use Rattle.pa_root.specs.Filling.{frees_parcel, GivesTitles}
@@ -30,7 +30,6 @@ use Rattle.pa_root.specs.Telling.{MapTells}
 use Rattle.pa_root.proofs.Batches.{IsBesideCuts}
 use Rattle.pa_root.proofs.Entries.{entries_are_told}
 use Rattle.pa_root.proofs.Opened.{HasPages, still_sound, pages_found, pages_seen}
-use Rattle.pa_root.proofs.Opening.{low_right}
 use Rattle.pa_root.proofs.Parcels.{KeepsBut, keeps_but}
 use Rattle.pa_root.proofs.Together.{no_own_clean, hosts_both}
 use Rattle.pa_root.proofs.Mapped as made
@@ -43,11 +42,6 @@ pub record HasMapCut (p line len asked first : ℕ) (s : RootState) (r : ℕ) (v
   pub cut : c ≡ after_cut (map_beside first asked len) (united w note)
   pub aware : IsAware c
   pub new : seen_of c (map_beside first asked len) ≡ 0
-
--- its super pages are raw in the two seats together
-pub pages_raw : (p line count asked first : ℕ) (s : RootState) (r : ℕ) (v a w note : View) → HasPages p line count asked first s r v a w note →
-    (b : ℕ) → IsInRun first count b → 0 < low_of (united w note) b asked
-pages_raw p line count asked first s r v a w note has b inside = low_right w note b asked (has.run.has.raws b inside)
 
 module _ (p line len asked first : ℕ) (s : RootState) (r : ℕ) (v a w note c : View) (has : HasMapCut p line len asked first s r v a w note c) where
   abbrev t : Title

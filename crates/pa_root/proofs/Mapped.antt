@@ -23,8 +23,8 @@ use Rattle.pa_record.specs.declared.root.RootAct.TheVariants.{Map}
 use Rattle.pa_record.specs.Spans.{name_of}
 use Rattle.pa_record.specs.Root.{mapped, map_title, RootActFits}
 use Rattle.pa_record.specs.Sound.{IsSound, IsMade, least_after_all}
-use Rattle.pa_record.proofs.Members.{not_in_none, first_in, in_cases}
-use Rattle.pa_record.proofs.Pairs.{pairs_none, pairs_cons}
+use Rattle.pa_lists.proofs.Members.{not_in_none, first_in, in_cases}
+use Rattle.pa_lists.proofs.Pairs.{pairs_none, pairs_cons}
 use Rattle.pa_record.proofs.Titles.{made_born}
 use Rattle.pa_record.proofs.Replaying.{fits_more}
 use Rattle.pa_rules.specs.Holders.{Out, Move}
@@ -94,9 +94,6 @@ module _ (p first entry len : ℕ) (s : RootState) (w c : View) (cut : IsCutForM
       let low = (root_born p s cut.sound.journal).supers at among in
       let l = latest in
       omega arith
-
-  map_low : (v : Title) → Contains s.root.maps v → v.born < entry
-  map_low v among = let low = (root_born p s cut.sound.journal).maps v among in let l = latest in omega arith
 
   -- the title's bytes lie in the super pages
   covers_run : (b : ℕ) → Covers t b → IsInRun first (supers_for len) b

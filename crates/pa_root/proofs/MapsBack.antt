@@ -15,7 +15,7 @@ use Rattle.pa_record.specs.Pool.{act_at}
 use Rattle.pa_record.specs.Spans.{name_of}
 use Rattle.pa_record.specs.Root.{Root, new_root, opened, super_of, empties, names, map_title, without_map, root_next, root_replayed, RootActFits, RootReplays, RiseFrom, all_asked, asked_by}
 use Rattle.pa_record.specs.Sound.{IsSound, IsSettled, IsBornBelow, AsksFrom, IsMapBy, least_after}
-use Rattle.pa_record.proofs.Members.{not_in_none, first_in, later_in, in_cases}
+use Rattle.pa_lists.proofs.Members.{not_in_none, first_in, later_in, in_cases}
 use Rattle.pa_record.proofs.Mapping.{born_more}
 use Rattle.pa_record.proofs.Filling.{takes_filled, opened_sound}
 use Rattle.pa_record.proofs.Returning.{all_returned_is, times_is}

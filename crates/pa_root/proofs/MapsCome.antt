@@ -6,7 +6,7 @@ use Rattle.pa_region.proofs.TakeLaws.{left_whole, right_begins}
 use Rattle.pa_record.specs.declared.root.RootAct.TheVariants.{Map}
 use Rattle.pa_record.specs.Sound.{IsMapBy}
 use Rattle.pa_record.specs.Spans.{name_of}
-use Rattle.pa_record.proofs.Members.{first_in}
+use Rattle.pa_lists.proofs.Members.{first_in}
 use Rattle.pa_root.specs.Handing.{root_entry}
 use Rattle.pa_root.specs.Unmapping.{WhatComesIsMapped}
 use Rattle.pa_root.proofs.Giving.{seen_is_in_journal}

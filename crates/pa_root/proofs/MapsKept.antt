@@ -11,7 +11,7 @@ use Rattle.pa_region.specs.Lists.{list_of, IsBeginning}
 use Rattle.pa_record.specs.declared.root.RootEntry.{RootEntry}
 use Rattle.pa_record.specs.declared.root.RootAct.TheVariants.{Map}
 use Rattle.pa_record.specs.Root.{Root, map_title}
-use Rattle.pa_record.proofs.Members.{not_in_none, in_cases}
+use Rattle.pa_lists.proofs.Members.{not_in_none, in_cases}
 use Rattle.pa_pool.specs.Calls.{HasSeenTake}
 use Rattle.pa_pool.proofs.Gave.{seen_stays}
 use Rattle.pa_root.specs.Keeping.{RootState, KnowsMaps}

@@ -1,16 +1,12 @@
 -- Direct maps of a root: where they stand, and those that are left when one goes.
-use Rattle.std.proofs.Common.{◌≡◌, ℕ, ◌≤◌, ◌&&◌, List, [], ◌∷◌, sym, ◌∙◌, ap, subst, arith, inl, inr, eqb}
+use Rattle.std.proofs.Common.{◌≡◌, ℕ, ◌≤◌, ◌&&◌, List, [], ◌∷◌, sym, ◌∙◌, ap, subst, inl, inr, eqb}
 use Rattle.std.specs.Prelude.{◌≢◌, AllPairs, Contains}
 use Rattle.std.proofs.lemmas.Bool.{cases_Bool, and_parts, and_from, eqb-true, eq-eqb, both_ways}
-use Rattle.std.proofs.lemmas.List.Sums.{sum_by-cons}
 use Rattle.pa_machine.specs.declared.title.Title.{Title}
-use Rattle.pa_region.specs.declared.view.View.{View}
-use Rattle.pa_region.specs.Views.{low_of}
-use Rattle.pa_region.proofs.Cutting.{low_more}
 use Rattle.pa_record.specs.Spans.{name_of}
 use Rattle.pa_record.specs.Root.{without_map}
-use Rattle.pa_record.proofs.Members.{not_in_none, in_cases}
-use Rattle.pa_record.proofs.Pairs.{pairs_head, pairs_tail}
+use Rattle.pa_lists.proofs.Members.{not_in_none, in_cases}
+use Rattle.pa_lists.proofs.Pairs.{pairs_head, pairs_tail}
 use Rattle.pa_record.proofs.Owned.{journal_taken}
 use Rattle.pa_root.specs.Reading.{pools_seen}
 use Rattle.pa_root.specs.Unmapping.{MapsStandInRuns}
@@ -57,11 +53,3 @@ one_of_entry t u (x ∷ xs) alone among other same =
         | inr later ↦ one_of_entry t u xs (pairs_tail R x xs alone) deeper later same
       ]
     ]
-
--- a higher bound on floors lets more ranges in
-pub low_rises : (v : View) (b m n : ℕ) → m ≤ n → low_of v b m ≤ low_of v b n
-low_rises v b m n le =
-    let h = low_more (v ∷ []) b m n le in
-    let c = sum_by-cons (λ (y : View). low_of y b m) v [] in
-    let d = sum_by-cons (λ (y : View). low_of y b n) v [] in
-    omega arith

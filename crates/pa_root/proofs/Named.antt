@@ -1,5 +1,5 @@
 -- What a journal names was made.
-use Rattle.std.proofs.Common.{◌≡◌, ℕ, ◌<◌, List, [], ◌∷◌, Option, Some, None, map, sym, ◌∙◌, ap, subst, arith, inl, inr}
+use Rattle.std.proofs.Common.{◌≡◌, ℕ, ◌<◌, List, [], ◌∷◌, Option, map, sym, ◌∙◌, ap, subst, arith, inl, inr}
 use Rattle.std.specs.Prelude.{Contains}
 use Rattle.pa_machine.specs.declared.title.Title.{Title}
 use Rattle.pa_machine.specs.declared.word.SlotName.{SlotName}
@@ -10,17 +10,15 @@ use Rattle.pa_record.specs.declared.pool.PoolEntry.{PoolEntry}
 use Rattle.pa_record.specs.declared.root.RootEntry.{RootEntry}
 use Rattle.pa_record.specs.declared.root.RootAct.{RootAct}
 use Rattle.pa_record.specs.declared.root.RootAct.TheVariants.{Fill, Map, Full, Give, Unmap, Purge}
-use Rattle.pa_record.specs.Pool.{act_at}
 use Rattle.pa_record.specs.Spans.{name_of}
-use Rattle.pa_record.specs.Root.{Root, new_root, takes, opened, opened_by, super_of, names, root_next, root_replayed, RootActFits, RootReplays, RiseFrom, all_asked, asked_by, IsJournal}
+use Rattle.pa_record.specs.Root.{Root, new_root, takes, opened_by, names, root_next, root_replayed, RootActFits, RootReplays, RiseFrom, all_asked, asked_by, IsJournal}
 use Rattle.pa_record.specs.Sound.{IsSound, IsSettled, IsBornBelow, IsMade, AsksFrom, least_after}
-use Rattle.pa_record.proofs.Members.{not_in_none, in_cases}
-use Rattle.pa_record.proofs.Joined.{map_cases, map_in}
-use Rattle.pa_record.proofs.Mapping.{born_more}
-use Rattle.pa_record.proofs.Filling.{takes_filled, opened_sound}
+use Rattle.pa_lists.proofs.Members.{not_in_none, in_cases}
+use Rattle.pa_lists.proofs.Joined.{map_cases, map_in}
 use Rattle.pa_record.proofs.Stepping.{next_is}
 use Rattle.pa_record.proofs.Titles.{rise_parts, new_sound, new_born, fill_made, made_apart}
 use Rattle.pa_root.proofs.Whole.{made_is_whole}
+use Rattle.pa_rules.proofs.Owned.{fill_len}
 
 -- of two slots that were made, those of one name are one
 pub made_name : (r : Root) (t u : Title) → IsSound r → IsMade r t → IsMade r u → name_of t ≡ name_of u → t ≡ u
@@ -39,13 +37,6 @@ pub title_is : (t u : Title) → name_of t ≡ name_of u → t.len ≡ u.len →
 title_is t u same len =
     ap (λ (s : SlotName). let x : Title = record { start = s.start; len = t.len; born = s.born } in x) same
     ∙ ap (λ n. let x : Title = record { start = u.start; len = n; born = u.born } in x) len
-
--- the slots that a fill takes have its class's size
-fill_long : (pools : List PoolEntry) (n class : ℕ) (asked : Option ℕ) (r : Root) → IsSound r → IsBornBelow n r → AsksFrom n asked → class < 59 →
-    (t : Title) → Contains (takes class (fill_of class) (opened_by pools asked r)).titles t → t.len ≡ slot_of class
-fill_long pools n class None r sound old asks real t among = (takes_filled class (fill_of class) r sound real).len t among
-fill_long pools n class (Some j) r sound old asks real t among =
-    (takes_filled class (fill_of class) (opened (super_of (act_at pools j)) j r) (opened_sound (super_of (act_at pools j)) j r sound (born_more n j r asks old)) real).len t among
 
 -- a slot of this name was made, of this class's size
 abbrev pub IsMadeOf : Root → ℕ → SlotName → Type 0
@@ -70,7 +61,7 @@ fill_names pools n (Fill c a xs) r sound old asks fits class asked slots m e amo
     let there : Contains (map name_of (takes c (fill_of c) (opened_by pools a r)).titles) m.slot =
     subst (λ ns. Contains ns m.slot) (sym (same ∙ ap names slots_are)) named in
     let (t, taken, name) = map_cases name_of (takes c (fill_of c) (opened_by pools a r)).titles m.slot there in
-    (t, fill_made pools n c a r sound old asks real t taken, name, fill_long pools n c a r sound old asks real t taken ∙ ap slot_of class_is)
+    (t, fill_made pools n c a r sound old asks real t taken, name, fill_len pools n c a r sound old asks real t taken ∙ ap slot_of class_is)
 fill_names pools n (Map a s len) r sound old asks fits class asked slots m e among = cc
 fill_names pools n (Full c a) r sound old asks fits class asked slots m e among = cc
 fill_names pools n (Give xs) r sound old asks fits class asked slots m e among = cc

@@ -15,7 +15,7 @@ use Rattle.pa_region.proofs.Stays.{low_held}
 use Rattle.pa_region.proofs.TakeLaws.{left_number}
 use Rattle.pa_record.specs.declared.taken.SuperPage.{SuperPage}
 use Rattle.pa_record.specs.Root.{Root, opened}
-use Rattle.pa_record.proofs.Members.{not_in_none, in_cases}
+use Rattle.pa_lists.proofs.Members.{not_in_none, in_cases}
 use Rattle.pa_root.specs.Keeping.{RootState, HasRest, IsInRun, IsInRest}
 use Rattle.pa_root.specs.Filling.{HasSlots, CanTakePage, opened_state, OpeningKeeps}
 use Rattle.pa_root.proofs.Whole.{made_is_whole}

@@ -21,8 +21,8 @@ use Rattle.pa_region.specs.Hands.{CanGive, CanHand, without_item, with_item, giv
 use Rattle.pa_region.proofs.Pieces.{raw_sum, held_split, frees_have, owns_have, refs_have}
 use Rattle.pa_region.proofs.Adding.{sum_none}
 use Rattle.pa_region.proofs.HandStep.{hand_parts}
-use Rattle.pa_record.proofs.Members.{not_in_none, first_in, later_in, in_cases}
-use Rattle.pa_record.proofs.Pairs.{pairs_head, pairs_tail}
+use Rattle.pa_lists.proofs.Members.{not_in_none, first_in, later_in, in_cases}
+use Rattle.pa_lists.proofs.Pairs.{pairs_head, pairs_tail}
 use Rattle.pa_region.proofs.Stays.{low_held}
 use Rattle.pa_root.proofs.Together.{no_own_clean}
 use Rattle.pa_root.specs.Handing.{HasOnly}

@@ -1,7 +1,7 @@
 -- The pool has no such super pages: what the caller's seat tells, and the root with the entry that says so.
 use Rattle.std.proofs.Common.{◌≡◌, ℕ, ◌+◌, ◌<◌, ◌≤◌, List, [], ◌∷◌, ◌++◌, Option, Some, None, length, refl, sym, ◌∙◌, ap, subst, arith}
 use Rattle.std.specs.Prelude.{option_map}
-use Rattle.std.proofs.lemmas.List.{length-append, length-map}
+use Rattle.std.proofs.lemmas.List.{length-append}
 use Rattle.pa_region.specs.declared.view.Entry.TheVariants.{Entered}
 use Rattle.pa_region.specs.declared.view.Made.{Made}
 use Rattle.pa_region.specs.declared.view.View.{View}
@@ -21,7 +21,7 @@ use Rattle.pa_record.specs.Root.{Root, FullFits}
 use Rattle.pa_record.proofs.PoolSteps.{act_at_more}
 use Rattle.pa_pool.specs.Calls.{take_entry}
 use Rattle.pa_root.specs.Reading.{pools_seen}
-use Rattle.pa_root.specs.Keeping.{RootState, HasJournal, IsRootSound}
+use Rattle.pa_root.specs.Keeping.{RootState, IsRootSound}
 use Rattle.pa_root.specs.Making.{EntersTwo}
 use Rattle.pa_root.specs.Handing.{root_entry}
 use Rattle.pa_root.specs.Laws.{HasSameSlots}
@@ -35,10 +35,6 @@ use Rattle.pa_root.proofs.Entries.{on, entries_are_told}
 use Rattle.pa_root.proofs.Lists.{pools_more}
 use Rattle.pa_root.proofs.Ready.{named_seen}
 use Rattle.pa_root.proofs.Seeing.{idle_entries_keep}
-
--- the list of a root's keeper is as long as its journal
-pub listed_long : (p : ℕ) (s : RootState) → HasJournal p s → length (list_of p s.view) ≡ length s.journal
-listed_long p s has = sym (length-map (list_of p s.view) (λ (m : Made). m.numbers)) ∙ (ap length has.listed ∙ length-map s.journal root_numbers)
 
 -- who still has what it had can host still, and its keeper's list is the same
 pub keeper_stays : (p : ℕ) (v x : View) → Keeps v x → 0 < keeper_of v p → 0 < keeper_of x p

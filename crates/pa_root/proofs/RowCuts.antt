@@ -8,8 +8,8 @@ use Rattle.pa_region.specs.declared.view.View.{View}
 use Rattle.pa_region.specs.Views.{seen_of}
 use Rattle.pa_record.specs.Root.{Root}
 use Rattle.pa_record.specs.Sound.{IsSound, IsMade}
-use Rattle.pa_record.proofs.Members.{not_in_none, first_in, later_in, in_cases}
-use Rattle.pa_record.proofs.Pairs.{pairs_none, pairs_cons, pairs_head, pairs_tail}
+use Rattle.pa_lists.proofs.Members.{not_in_none, first_in, later_in, in_cases}
+use Rattle.pa_lists.proofs.Pairs.{pairs_none, pairs_cons, pairs_head, pairs_tail}
 use Rattle.pa_place.specs.declared.placed.Made.{Made as Row}
 use Rattle.pa_place.specs.Made.{IsInBatch, IsInBatches, AreMadeNow}
 use Rattle.pa_root.specs.Filling.{CanCutAll, MakesMore, after_cuts}
@@ -70,9 +70,6 @@ pub rows_new : (bs : List Row) (i : ℕ) (v w : View) → length bs ≤ i → w 
 rows_new bs i v w end e new t among =
     ap (λ y. seen_of y t) e
     ∙ (cuts_go_on.seen (titles_in_rows (take i bs)) v t ∙ new t (subst (λ cs. Contains (titles_in_rows cs) t) (sym (take_all i bs end)) among))
-
-pub rows_view : (bs : List Row) (i : ℕ) (v w : View) → length bs ≤ i → w ≡ after_cuts (titles_in_rows (take i bs)) v → w ≡ after_cuts (titles_in_rows bs) v
-rows_view bs i v w end e = e ∙ ap (λ cs. after_cuts (titles_in_rows cs) v) (take_all i bs end)
 
 -- ---- what is in them
 

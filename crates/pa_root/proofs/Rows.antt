@@ -6,7 +6,7 @@ use Rattle.pa_machine.specs.declared.title.Title.{Title}
 use Rattle.pa_region.specs.declared.view.View.{View}
 use Rattle.pa_region.specs.Views.{seen_of}
 use Rattle.pa_region.specs.Cuts.{CanCut, after_cut}
-use Rattle.pa_record.proofs.Members.{not_in_none, in_cases}
+use Rattle.pa_lists.proofs.Members.{not_in_none, in_cases}
 use Rattle.pa_root.specs.Filling.{CanCutAll, after_cuts}
 use Rattle.pa_root.specs.Cutting.{title_beside, titles_beside, NoneSeen, CutsGoOn, MapsCanBeCut}
 use Rattle.pa_root.proofs.Batches.{beside_cuts}

@@ -3,7 +3,7 @@ use Rattle.std.proofs.Common.{ℕ, refl, ap, arith, inl, inr}
 use Rattle.std.specs.Prelude.{map}
 use Rattle.pa_region.specs.declared.view.Made.{Made}
 use Rattle.pa_record.specs.Root.{new_root}
-use Rattle.pa_record.proofs.Members.{not_in_none}
+use Rattle.pa_lists.proofs.Members.{not_in_none}
 use Rattle.pa_root.specs.Keeping.{IsInRest}
 use Rattle.pa_root.specs.Laws.{FirstIsSound}
 

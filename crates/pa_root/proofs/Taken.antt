@@ -19,7 +19,7 @@ use Rattle.pa_record.specs.Spans.{name_of}
 use Rattle.pa_record.specs.Root.{Root, Filled, root_next, root_replayed, new_root, IsOut, RootActFits, IsJournal}
 use Rattle.pa_record.specs.Steps.{IsFilled}
 use Rattle.pa_record.specs.Sound.{IsSound, IsMade, least_after_all}
-use Rattle.pa_record.proofs.Joined.{map_cases, map_in, pairs_map}
+use Rattle.pa_lists.proofs.Joined.{map_cases, map_in, pairs_map}
 use Rattle.pa_record.proofs.Leaving.{once_or_not}
 use Rattle.pa_record.proofs.Filling.{takes_filled}
 use Rattle.pa_record.proofs.Replaying.{fits_more, next_more}

@@ -4,7 +4,7 @@ use Rattle.pa_record.specs.declared.pool.PoolEntry.{PoolEntry}
 use Rattle.pa_record.specs.declared.root.RootEntry.{RootEntry}
 use Rattle.pa_record.specs.Root.{Root, new_root, root_next, root_replayed, RootReplays, RiseFrom, all_asked, asked_by}
 use Rattle.pa_record.specs.Sound.{IsSound, IsSettled, IsBornBelow, least_after}
-use Rattle.pa_record.proofs.Members.{first_in, later_in}
+use Rattle.pa_lists.proofs.Members.{first_in, later_in}
 use Rattle.pa_record.proofs.Stepping.{next_is}
 use Rattle.pa_record.proofs.Titles.{rise_parts, new_sound, new_born}
 use Rattle.pa_root.specs.Reading.{pools_seen}

@@ -35,7 +35,7 @@ use Rattle.pa_record.specs.Spans.{name_of}
 use Rattle.pa_record.specs.Root.{unmapped}
 use Rattle.pa_record.specs.Laws.{IsNameOut}
 use Rattle.pa_record.specs.Sound.{IsSound, IsMade}
-use Rattle.pa_record.proofs.Members.{not_in_none, first_in, in_cases}
+use Rattle.pa_lists.proofs.Members.{not_in_none, first_in, in_cases}
 use Rattle.pa_record.proofs.Mapping.{without_map_in}
 use Rattle.pa_record.proofs.Titles.{made_born}
 use Rattle.pa_rules.specs.Holders.{Back, move_of}
@@ -58,7 +58,8 @@ use Rattle.pa_root.proofs.Opening.{low_left}
 use Rattle.pa_root.proofs.Parcels.{none_stakes, none_keepers}
 use Rattle.pa_root.proofs.Moves.{numbers_without, numbers_with}
 use Rattle.pa_root.proofs.Ready.{named_seen}
-use Rattle.pa_root.proofs.MapsLeft.{others_left, one_of_entry, low_rises}
+use Rattle.pa_root.proofs.MapsLeft.{others_left, one_of_entry}
+use Rattle.pa_pool.proofs.RawBytes.{low_rises}
 
 module _ (p first : ℕ) (s : RootState) (w c : View) (t : Title) (cut : IsCutBack p first s w c t) where
   abbrev u : View
@@ -206,9 +207,6 @@ module _ (p first : ℕ) (s : RootState) (w c : View) (t : Title) (cut : IsCutBa
 
   pub hands_back : HandsBack first t c
   hands_back = record { can = can; has = has_run }
-
-  free_y : (v : Title) → free_of y v ≡ free_of c v
-  free_y v = refl
 
   -- the seat has the keeper still, and can be lent a stake
   pub hosts_left : HostsKeeper p y

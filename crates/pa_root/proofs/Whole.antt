@@ -1,15 +1,11 @@
 -- A slot that was made is of whole words.
-use Rattle.std.proofs.Common.{◌≡◌, ℕ, ◌+◌, ◌*◌, ◌%◌, ◌≤◌, sym, ◌∙◌, ap, subst, arith}
-use Rattle.std.proofs.lemmas.Nat.{mul-mod_first}
+use Rattle.std.proofs.Common.{◌≡◌, ℕ, ◌+◌, ◌*◌, ◌%◌, ◌≤◌, sym, ◌∙◌, subst, arith}
 use Rattle.pa_machine.specs.Titles.{IsWellFormed}
 use Rattle.pa_buckets.specs.Table.{slot_of}
 use Rattle.pa_buckets.proofs.Facts.{IsRow-of}
 use Rattle.pa_record.specs.Spans.{Span, title_at}
 use Rattle.pa_root.specs.Laws.{MadeIsWhole}
-
--- a multiple of a number of whole words is of whole words
-times_whole : (x n : ℕ) → x % 8 ≡ 0 → (x * n) % 8 ≡ 0
-times_whole x n e = let none : (0 * n) % 8 ≡ 0 = omega arith in sym (mul-mod_first x n 8) ∙ ap (λ k. (k * n) % 8) e ∙ none
+use Rattle.pa_lists.proofs.Tests.{times_whole}
 
 at_whole : (s : Span) (n : ℕ) → s.place % 8 ≡ 0 → slot_of s.class % 8 ≡ 0 → 16 ≤ slot_of s.class →
     IsWellFormed ((title_at s n).start + (title_at s n).len) (title_at s n)

@@ -1,6 +1,7 @@
 -- A direct map is brought back: its title comes to the root's seat and is made raw again, and its super pages go to the pool.
-use Rattle.std.specs.Prelude.{◌≡◌, ℕ, ◌+◌, ◌≤◌, [], ◌∷◌, length, Some, slice_get}
+use Rattle.std.specs.Prelude.{◌≡◌, ℕ, ◌+◌, ◌≤◌, [], ◌∷◌, length, Some, slice_get, ◌*◌}
 use Rattle.pa_machine.specs.declared.title.Title.{Title}
+use Rattle.pa_layout.specs.Limits.{most_words}
 use Rattle.pa_region.specs.declared.view.Entry.TheVariants.{Entered, Uncut}
 use Rattle.pa_region.specs.declared.view.Made.{Made}
 use Rattle.pa_region.specs.declared.view.View.{View}
@@ -29,7 +30,7 @@ pub record IsTitleBack (r : ℕ) (t : Title) (number : ℕ) (v after root root_n
   pub long : length shown.words ≡ length note.words
   pub uncut : IsUncut t (united shown note) root_now
   pub numbered : number ≡ seen_of note t
-  pub inside : t.start + t.len ≤ 33554432
+  pub inside : t.start + t.len ≤ 8 * most_words
 
 -- Super pages were given back to the pool for partition p, on this line, with the stake r: entry `index` of the pool says so, and
 -- hadn't been seen before. The root's seat has seen it too.

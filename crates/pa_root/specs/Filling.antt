@@ -3,6 +3,7 @@ use Rattle.std.specs.Prelude.{◌≡◌, ◌≢◌, ℕ, ◌+◌, ◌<◌, ◌�
 use Rattle.pa_machine.specs.declared.title.Title.{Title}
 use Rattle.pa_machine.specs.declared.event.Item.{Item}
 use Rattle.pa_machine.specs.declared.event.Item.TheVariants as items
+use Rattle.pa_buckets.specs.Limits.{class_count}
 use Rattle.pa_buckets.specs.Bands.{fill_of}
 use Rattle.pa_region.specs.declared.view.View.{View}
 use Rattle.pa_region.specs.Views.{free_of, own_of, ref_of, low_of, stake_of, undone_of, seen_of}
@@ -100,16 +101,16 @@ pub record IsReadyFor (p class : ℕ) (asked : Option ℕ) (s : RootState) (u : 
   pub pool_list : IsBeginning (list_of 4 s.view) (list_of 4 u)
   pub undone : (t : Title) → undone_of s.view t ≤ undone_of u t
   pub slots : HasSlots (record { view = u; journal = s.journal; root = ready_root asked s u })
-  pub class_is : class < 59
+  pub class_is : class < class_count
   pub asked_if : Asked (pools_seen u) class asked s.root
   pub later : AsksFrom (least_after_all 0 s.journal) asked
 
 -- A root is ready as it is where its first take finds a span; and with the super page that the pool gave, by an entry behind
 -- those that its seat had seen.
 pub record RootsAreReady : Type 0 where
-  pub as_it_is : (p class : ℕ) (s : RootState) → IsRootSound p s → IsAware s.view → class < 59 → IsSome (span_for class s.root) →
+  pub as_it_is : (p class : ℕ) (s : RootState) → IsRootSound p s → IsAware s.view → class < class_count → IsSome (span_for class s.root) →
       IsReadyFor p class None s s.view
-  pub with_page : (p class number entry : ℕ) (s : RootState) (w : View) → CanTakePage p number entry s w → class < 59 →
+  pub with_page : (p class number entry : ℕ) (s : RootState) (w : View) → CanTakePage p number entry s w → class < class_count →
       IsNone (span_for class s.root) → FoundRun (pools_seen (united s.view w)) entry 1 number → length (list_of 4 s.view) ≤ entry →
       IsReadyFor p class (Some entry) s (united s.view w)
 

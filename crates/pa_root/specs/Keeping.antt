@@ -4,6 +4,7 @@ use Rattle.pa_machine.specs.declared.title.Title.{Title}
 use Rattle.pa_machine.specs.declared.word.SlotName.{SlotName}
 use Rattle.pa_machine.specs.Titles.{Covers}
 use Rattle.pa_layout.specs.Pages.{page_place, supers_for}
+use Rattle.pa_trace.specs.Limits.{most_partitions}
 use Rattle.pa_region.specs.declared.view.Made.{Made}
 use Rattle.pa_region.specs.declared.view.View.{View}
 use Rattle.pa_region.specs.Views.{free_of, own_of, ref_of, low_of, undone_of, seen_of}
@@ -29,7 +30,7 @@ pub record RootState : Type 0 where
 -- The journal of partition p. Its seat has keeper p, whose list is the journal in numbers, and can be lent a stake. The journal
 -- is one of a root, with what the seat has seen of the pool's entries, and the root is what it replays to.
 pub record HasJournal (p : ℕ) (s : RootState) : Type 0 where
-  pub partition : p < 4
+  pub partition : p < most_partitions
   pub hosts : HostsKeeper p s.view
   pub listed : map (λ (m : Made). m.numbers) (list_of p s.view) ≡ map root_numbers s.journal
   pub fits : IsJournal (pools_seen s.view) s.journal

@@ -3,6 +3,7 @@ use Rattle.std.specs.Prelude.{◌≡◌, ℕ, ◌+◌, ◌*◌, ◌<◌, ◌≤�
 use Rattle.pa_machine.specs.declared.title.Title.{Title}
 use Rattle.pa_machine.specs.declared.word.SlotName.{SlotName}
 use Rattle.pa_machine.specs.Titles.{IsWellFormed}
+use Rattle.pa_trace.specs.Limits.{most_partitions}
 use Rattle.pa_region.specs.declared.view.Made.{Made}
 use Rattle.pa_region.specs.declared.view.View.{View}
 use Rattle.pa_region.specs.Views.{free_of, own_of, ref_of}
@@ -26,7 +27,7 @@ pub record PoolsAreRead : Type 0 where
 
 -- a root whose seat has keeper p with an empty list, nothing that is used and no title, and which has nothing
 pub record IsFirstView (p : ℕ) (v : View) : Type 0 where
-  pub partition : p < 4
+  pub partition : p < most_partitions
   pub hosts : HostsKeeper p v
   pub empty : list_of p v ≡ []
   pub frees : (t : Title) → free_of v t ≡ 0

@@ -13,4 +13,3 @@ pub mod Unmapping
 pub mod BringingBack
 pub mod Telling
 pub mod Steps
-pub mod Tests

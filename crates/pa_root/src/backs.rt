@@ -1,5 +1,6 @@
 //! What a root does with a direct map that comes back, by steps on seats.
-ghost use Rattle.std.specs.Prelude.{◌≡◌, ℕ, ◌+◌, ◌≤◌, [], ◌∷◌};
+ghost use Rattle.std.specs.Prelude.{◌≡◌, ℕ, ◌+◌, ◌≤◌, [], ◌∷◌, ◌*◌};
+ghost use Rattle.pa_layout.specs.Limits.{most_words};
 ghost use Rattle.pa_layout.specs.Pages.{super_page_at, supers_for, page_place};
 ghost use Rattle.pa_region.specs.Views.{least_stake};
 ghost use Rattle.pa_region.specs.Aware.{IsAware};
@@ -9,6 +10,7 @@ ghost use Rattle.pa_pool.specs.Calls.{ComesBack, run_parcel};
 ghost use Rattle.pa_root.specs.Handing.{HasOnly};
 ghost use Rattle.pa_root.specs.BringingBack.{IsTitleBack, IsGivenFor};
 
+use crate::asks::Asking;
 use crate::lends::{show_seen, uncut_with};
 use crate::numbers::number_seen;
 use pa_layout::{PARTITION_PAGE, SUPER_PAGE, supers_for};
@@ -52,7 +54,7 @@ pub(crate) fn take_title(
 pub(crate) fn hand_map(region: &Region, seat: &mut Seat, title: Title) -> Note
     requires region { seat.old.region ≡ region.now }
     requires stands { title.start ≡ page_place (super_page_at title.start) 1 }
-    requires inside { title.start + title.len ≤ 33554432 }
+    requires inside { title.start + title.len ≤ 8 * most_words }
     requires able { CanHand (run_parcel (super_page_at title.start) (supers_for title.len) title.born) seat.old.view }
     ensures regions { (seat.new.region ≡ seat.old.region) × (result.region ≡ seat.old.region) }
     ensures left { seat.new.view ≡ left_after (run_parcel (super_page_at title.start) (supers_for title.len) title.born) seat.old.view }
@@ -68,34 +70,35 @@ pub(crate) fn hand_map(region: &Region, seat: &mut Seat, title: Title) -> Note
     note
 }
 
-// Gives super pages back to the pool, which its entry `taken` took for the partition, by the op of a line with the seat's least stake;
-// and shows the root's seat the new entry, whose index it answers.
-pub(crate) fn give_run<N: Name>(
-    region: &Region,
-    seat: &mut Seat,
-    root: &mut Seat,
-    pool: &mut Pool<N>,
-    line: u32,
-    partition: u32,
-    taken: u32,
-    run: Note,
-) -> u32
-    requires regions { (region.now ≡ N.region) × (seat.old.region ≡ N.region) × (root.old.region ≡ N.region) × (run.region ≡ N.region) }
-    requires lender { CanLend seat.old.view }
-    requires spare { 1 ≤ pool.old.spare }
-    requires back { (first count : ℕ) × ComesBack partition taken first count seat.old.view run.view }
-    ensures regions { (seat.new.region ≡ N.region) × (root.new.region ≡ N.region) }
-    ensures again { CanLend seat.new.view }
-    ensures gave { (first count : ℕ) → ComesBack partition taken first count seat.old.view run.view →
-        IsGivenFor (least_stake seat.old.view.stakes) line partition first count result
-        seat.old.view seat.new.view root.old.view root.new.view }
-{
-    seat.aware();
-    pool.kept();
-    let Ok(index) = pool.give(region, seat, line, partition, taken, run) else {
-        unreachable!()
-    };
-    seat.aware();
-    show_seen(region, seat, root);
-    index
+impl<N: Name> Asking<'_, N> {
+    // Gives super pages back to the pool, which its entry `taken` took for the partition, by the op of the line with the seat's
+    // least stake; and shows the root's seat the new entry, whose index it answers.
+    pub(crate) fn give_run(
+        &mut self,
+        root: &mut Seat,
+        pool: &mut Pool<N>,
+        partition: u32,
+        taken: u32,
+        run: Note,
+    ) -> u32
+        requires regions { (root.old.region ≡ N.region) × (run.region ≡ N.region) }
+        requires lender { CanLend self.old.seat.now.view }
+        requires spare { 1 ≤ pool.old.spare }
+        requires back { (first count : ℕ) × ComesBack partition taken first count self.old.seat.now.view run.view }
+        ensures same_reference { self.new.seat.ghost_name ≡ self.old.seat.ghost_name }
+        ensures region { root.new.region ≡ N.region }
+        ensures again { CanLend self.new.seat.now.view }
+        ensures gave { (first count : ℕ) → ComesBack partition taken first count self.old.seat.now.view run.view →
+            IsGivenFor (least_stake self.old.seat.now.view.stakes) self.old.line partition first count result
+            self.old.seat.now.view self.new.seat.now.view root.old.view root.new.view }
+    {
+        self.seat.aware();
+        pool.kept();
+        let Ok(index) = pool.give(self.region, self.seat, self.line, partition, taken, run) else {
+            unreachable!()
+        };
+        self.seat.aware();
+        show_seen(self.region, self.seat, root);
+        index
+    }
 }

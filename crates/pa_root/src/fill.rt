@@ -12,10 +12,10 @@ ghost use Rattle.pa_root.specs.Steps.{root_of_parts, IsOpenedFor, IsTakenOut};
 ghost use Rattle.pa_root.specs.Telling.{FillTells, NoneGiven};
 
 use crate::append::{append, make_room};
+use crate::asks::Asking;
 use crate::fault::FillFault;
 use crate::numbers::numbers_seen;
-use crate::room::ask_room;
-use crate::root::Root;
+use crate::root::{Ledger, Root};
 use crate::slots::{cut_rows, free_items};
 use arrayvec::ArrayVec;
 use pa_buckets::{Class, fill_count};
@@ -24,6 +24,7 @@ use pa_place::PlainRoot;
 use pa_pool::Pool;
 use pa_record::{Batch, RootAct, RootEntry};
 use pa_region::{Name, Note, Region, Seat};
+use std::marker::PhantomData;
 use std::sync::{Mutex, Wait};
 
 impl<N: Name, const P: u32> Root<N, P> {
@@ -53,22 +54,19 @@ impl<N: Name, const P: u32> Root<N, P> {
     {
         let want = fill_count(class);
         self.placement.ready(class, want)?;
-        make_room(&mut self.journal)?;
-        let asked = open_page(
-            rt,
+        make_room(&mut self.ledger.journal)?;
+        let mut asking = Asking {
             region,
-            seat,
-            &mut self.seat,
-            &mut self.placement,
-            &mut self.journal,
-            pool,
+            seat: &mut *seat,
             line,
-            P,
-            class,
-        )?;
+            of: PhantomData,
+        };
+        let asked = self
+            .ledger
+            .open_page(rt, &mut asking, &mut self.placement, pool, class)?;
         let (note, titles, slots) = take_out(
             region,
-            &mut self.seat,
+            &mut self.ledger.seat,
             &mut self.placement,
             class,
             want,
@@ -81,68 +79,66 @@ impl<N: Name, const P: u32> Root<N, P> {
                 slots,
             },
         };
-        append(region, seat, &mut self.seat, P, &mut self.journal, entry);
+        append(
+            region,
+            seat,
+            &mut self.ledger.seat,
+            P,
+            &mut self.ledger.journal,
+            entry,
+        );
         Ok((note, titles))
     }
 }
 
-// Makes a root ready for a fill of the class: where it has to ask the pool, it opens the super page that the pool gave, whose
-// entry is answered. Where the pool has none, the journal, which has room for an entry, says so.
-fn open_page<N: Name, R: Wait>(
-    rt: &R,
-    region: &Region,
-    seat: &mut Seat,
-    own: &mut Seat,
-    placement: &mut PlainRoot,
-    journal: &mut Vec<RootEntry>,
-    pool: &Mutex<Pool<N>>,
-    line: u32,
-    partition: u32,
-    class: Class,
-) -> Result<Option<u32>, FillFault>
-    requires regions { (region.now ≡ N.region) × (seat.old.region ≡ N.region) × (own.old.region ≡ N.region) }
-    requires lender { CanLend seat.old.view }
-    requires sound { IsRootSound partition (root_of_parts own.old.view journal.old.items placement.old.root) }
-    requires page { placement.old.room.super_page ≡ true }
-    requires room { length journal.old.items < vec_capacity journal.old }
-    requires few { length journal.old.items < 2147483647 }
-    ensures regions { (seat.new.region ≡ N.region) × (own.new.region ≡ N.region) }
-    ensures again { CanLend seat.new.view }
-    ensures journal { OnOk result (journal.new ≡ journal.old) }
-    ensures takes { (want : ℕ) → HasTakes class want placement.old.room → HasTakes class want placement.new.room }
-    ensures opened { IfOk result (λ asked. IsOpenedFor (least_stake seat.old.view.stakes) partition line class asked
-        (root_of_parts own.old.view journal.old.items placement.old.root) seat.old.view seat.new.view own.new.view placement.new.root) }
-    ensures none { IfErr result (NoneGiven (least_stake seat.old.view.stakes) partition line 1 (Some class) seat.old seat.new
-        (root_of_parts own.old.view journal.old.items placement.old.root)
-        (root_of_parts own.new.view journal.new.items placement.new.root)) }
-    ensures sound { OnErr result (IsRootSound partition (root_of_parts own.new.view journal.new.items placement.new.root)) }
-{
-    own.aware();
-    if !placement.asks(class) {
-        return Ok(None);
+impl<const P: u32> Ledger<P> {
+    // Makes a root ready for a fill of the class: where it has to ask the pool, it opens the super page that the pool gave, whose
+    // entry is answered. Where the pool has none, the journal, which has room for an entry, says so.
+    fn open_page<N: Name, R: Wait>(
+        &mut self,
+        rt: &R,
+        asking: &mut Asking<'_, N>,
+        placement: &mut PlainRoot,
+        pool: &Mutex<Pool<N>>,
+        class: Class,
+    ) -> Result<Option<u32>, FillFault>
+        requires region { self.old.seat.region ≡ N.region }
+        requires lender { CanLend asking.old.seat.now.view }
+        requires sound { IsRootSound P (root_of_parts self.old.seat.view self.old.journal.items placement.old.root) }
+        requires page { placement.old.room.super_page ≡ true }
+        requires room { length self.old.journal.items < vec_capacity self.old.journal }
+        requires few { length self.old.journal.items < 2147483647 }
+        ensures same_reference { asking.new.seat.ghost_name ≡ asking.old.seat.ghost_name }
+        ensures region { self.new.seat.region ≡ N.region }
+        ensures again { CanLend asking.new.seat.now.view }
+        ensures journal { OnOk result (self.new.journal ≡ self.old.journal) }
+        ensures takes { (want : ℕ) → HasTakes class want placement.old.room → HasTakes class want placement.new.room }
+        ensures opened { IfOk result (λ asked. IsOpenedFor (least_stake asking.old.seat.now.view.stakes) P asking.old.line class asked
+            (root_of_parts self.old.seat.view self.old.journal.items placement.old.root)
+            asking.old.seat.now.view asking.new.seat.now.view self.new.seat.view placement.new.root) }
+        ensures none { IfErr result (NoneGiven (least_stake asking.old.seat.now.view.stakes) P asking.old.line 1 (Some class)
+            asking.old.seat.now asking.new.seat.now
+            (root_of_parts self.old.seat.view self.old.journal.items placement.old.root)
+            (root_of_parts self.new.seat.view self.new.journal.items placement.new.root)) }
+        ensures sound { OnErr result
+            (IsRootSound P (root_of_parts self.new.seat.view self.new.journal.items placement.new.root)) }
+    {
+        self.seat.aware();
+        if !placement.asks(class) {
+            return Ok(None);
+        }
+        let room = self.ask_room(rt, asking, pool, Some(class), 1);
+        let (asked, first, note) = match room {
+            Ok(found) => found,
+            Err(fault) => return Err(fault),
+        };
+        self.seat.aware();
+        note.aware();
+        asking.region.take(&mut self.seat, note);
+        self.seat.aware();
+        placement.open(first, asked);
+        Ok(Some(asked))
     }
-    let room = ask_room(
-        rt,
-        region,
-        seat,
-        own,
-        journal,
-        pool,
-        line,
-        partition,
-        Some(class),
-        1,
-    );
-    let (asked, first, note) = match room {
-        Ok(found) => found,
-        Err(fault) => return Err(fault),
-    };
-    own.aware();
-    note.aware();
-    region.take(own, note);
-    own.aware();
-    placement.open(first, asked);
-    Ok(Some(asked))
 }
 
 // Takes slots of the class from a root that is ready for a fill, cuts those that are new, and hands all of them over in a note.

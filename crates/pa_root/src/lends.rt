@@ -7,9 +7,9 @@ ghost use Rattle.pa_root.specs.Uncutting.{IsUncutWith, IsShown};
 use pa_machine::Title;
 use pa_region::{Region, Seat, lend_stake};
 
-// Makes the host's free title raw again, with the lender's least stake, whose log says so. The stake is lent to the host
-// and comes back.
-pub(crate) fn uncut_with(region: &Region, lender: &mut Seat, host: &mut Seat, title: Title)
+/// Makes the host's free title raw again, with the lender's least stake, whose log says so. The stake is lent to the host
+/// and comes back.
+pub fn uncut_with(region: &Region, lender: &mut Seat, host: &mut Seat, title: Title)
     requires regions { (lender.old.region ≡ region.now) × (host.old.region ≡ region.now) }
     requires lender { CanLend lender.old.view }
     requires host { CanHost host.old.view }
@@ -28,8 +28,8 @@ pub(crate) fn uncut_with(region: &Region, lender: &mut Seat, host: &mut Seat, ti
     lender.aware();
 }
 
-// Shows a seat what another has seen, of titles and of lists. Each keeps what it has.
-pub(crate) fn show_seen(region: &Region, from: &mut Seat, to: &mut Seat)
+/// Shows a seat what another has seen, of titles and of lists. Each keeps what it has.
+pub fn show_seen(region: &Region, from: &mut Seat, to: &mut Seat)
     requires regions { (from.old.region ≡ region.now) × (to.old.region ≡ region.now) }
     ensures regions { (from.new.region ≡ from.old.region) × (to.new.region ≡ to.old.region) }
     ensures shown { IsShown from.old.view from.new.view to.old.view to.new.view }

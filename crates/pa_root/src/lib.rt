@@ -11,19 +11,12 @@ mod laws;
 mod lends;
 mod map;
 mod numbers;
-#[cfg(test)]
-mod plain_tests;
 mod room;
 mod root;
-#[cfg(test)]
-mod row_tests;
-#[cfg(test)]
-mod script_tests;
 mod slots;
-#[cfg(test)]
-mod tests;
 mod unmap;
 
+pub use cuts::{cut_beside, cut_map};
 pub use fault::FillFault;
 pub use laws::{
     a_map_that_comes_back_is_mapped, a_new_root_is_sound, cuts_go_on, entries_are_new,
@@ -34,4 +27,6 @@ pub use laws::{
     unmaps_keep_a_root, what_comes_back_is_out, what_is_made_can_be_cut,
     what_is_seen_is_in_the_journal,
 };
+pub use lends::{show_seen, uncut_with};
+pub use numbers::{number_seen, numbers_seen};
 pub use root::Root;

@@ -6,15 +6,16 @@ ghost use Rattle.pa_region.specs.Lending.{CanLend};
 ghost use Rattle.pa_root.specs.Telling.{MapTells, NoneGiven};
 
 use crate::append::{append, make_room};
+use crate::asks::Asking;
 use crate::cuts::cut_map;
 use crate::fault::FillFault;
-use crate::room::ask_room;
 use crate::root::Root;
 use pa_direct::Shape;
 use pa_machine::{Item, SlotName, Title};
 use pa_pool::Pool;
 use pa_record::{RootAct, RootEntry};
 use pa_region::{Name, Note, Region, Seat};
+use std::marker::PhantomData;
 use std::sync::{Mutex, Wait};
 
 impl<N: Name, const P: u32> Root<N, P> {
@@ -42,38 +43,42 @@ impl<N: Name, const P: u32> Root<N, P> {
             (NoneGiven (least_stake seat.old.view.stakes) P line shape.supers None seat.old seat.new self.old self.new) }
     {
         self.placement.ready_map()?;
-        make_room(&mut self.journal)?;
-        self.seat.aware();
-        let room = ask_room(
-            rt,
+        make_room(&mut self.ledger.journal)?;
+        self.ledger.seat.aware();
+        let mut asking = Asking {
             region,
-            seat,
-            &mut self.seat,
-            &mut self.journal,
-            pool,
+            seat: &mut *seat,
             line,
-            P,
-            None,
-            shape.supers,
-        );
+            of: PhantomData,
+        };
+        let room = self
+            .ledger
+            .ask_room(rt, &mut asking, pool, None, shape.supers);
         let (asked, first, note) = match room {
             Ok(found) => found,
             Err(fault) => return Err(fault),
         };
-        self.seat.aware();
+        self.ledger.seat.aware();
         note.aware();
-        region.take(&mut self.seat, note);
-        self.seat.aware();
-        let title = cut_map(region, &mut self.seat, first, asked, shape.slot);
-        self.seat.aware();
+        region.take(&mut self.ledger.seat, note);
+        self.ledger.seat.aware();
+        let title = cut_map(region, &mut self.ledger.seat, first, asked, shape.slot);
+        self.ledger.seat.aware();
         self.placement.map(first, shape.slot, asked);
-        let note = region.hand(&mut self.seat, &[Item::Free(title)], 0, &[]);
-        self.seat.aware();
+        let note = region.hand(&mut self.ledger.seat, &[Item::Free(title)], 0, &[]);
+        self.ledger.seat.aware();
         let (start, pool, len) = (title.start, asked, shape.slot);
         let slot = SlotName { start, born: pool };
         let act = RootAct::Map { pool, slot, len };
         let entry = RootEntry { line, act };
-        append(region, seat, &mut self.seat, P, &mut self.journal, entry);
+        append(
+            region,
+            seat,
+            &mut self.ledger.seat,
+            P,
+            &mut self.ledger.journal,
+            entry,
+        );
         Ok((note, title))
     }
 }

@@ -7,8 +7,8 @@ use pa_machine::{SlotName, Title, Word, number};
 use pa_record::{Batch, Numbered};
 use pa_region::{Region, Seat};
 
-// The number of a free title's count word, which is the one that its seat has seen.
-pub(crate) fn number_seen(region: &Region, seat: &mut Seat, title: Title) -> u64
+/// The number of a free title's count word, which is the one that its seat has seen.
+pub fn number_seen(region: &Region, seat: &mut Seat, title: Title) -> u64
     requires region { seat.old.region ≡ region.now }
     requires free { 0 < free_of seat.old.view title }
     ensures region { seat.new.region ≡ seat.old.region }
@@ -20,8 +20,8 @@ pub(crate) fn number_seen(region: &Region, seat: &mut Seat, title: Title) -> u64
     number(Word(region.load(seat, title.start + (title.len - 8))))
 }
 
-// At most 16 free titles, each at the number of its count word.
-pub(crate) fn numbers_seen(region: &Region, seat: &mut Seat, titles: &[Title]) -> Batch
+/// At most 16 free titles, each at the number of its count word.
+pub fn numbers_seen(region: &Region, seat: &mut Seat, titles: &[Title]) -> Batch
     requires region { seat.old.region ≡ region.now }
     requires free { All (λ t. 0 < free_of seat.old.view t) titles.now }
     requires few { length titles.now ≤ 16 }

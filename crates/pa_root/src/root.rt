@@ -25,10 +25,16 @@ use std::marker::{Model, PhantomData};
 /// its seat, its journal, and what the journal replays to.
 #[derive(Drop)]
 pub struct Root<N: Name, const P: u32> {
-    pub(crate) seat: Seat,
+    pub(crate) ledger: Ledger<P>,
     pub(crate) placement: PlainRoot,
-    pub(crate) journal: Vec<RootEntry>,
     of: PhantomData<N>,
+}
+
+// The journal of the root of partition `P`, and the root's seat, which keeps its list.
+#[derive(Drop)]
+pub(crate) struct Ledger<const P: u32> {
+    pub(crate) seat: Seat,
+    pub(crate) journal: Vec<RootEntry>,
 }
 
 impl<N: Name, const P: u32> Model for Root<N, P> {
@@ -37,12 +43,12 @@ impl<N: Name, const P: u32> Model for Root<N, P> {
 
     ghost Value = { RootState };
 
-    ghost view = { λ r. record { view = r.seat.view; journal = r.journal.items; root = r.placement.root } };
+    ghost view = { λ r. record { view = r.ledger.seat.view; journal = r.ledger.journal.items; root = r.placement.root } };
 
-    ghost invariant = { λ r. (r.seat.region ≡ N.region)
-        × (length r.journal.items ≤ 2147483647)
-        × (r.placement.root.turn ≤ 32 * length r.journal.items)
-        × IsRootSound P (record { view = r.seat.view; journal = r.journal.items; root = r.placement.root }) };
+    ghost invariant = { λ r. (r.ledger.seat.region ≡ N.region)
+        × (length r.ledger.journal.items ≤ 2147483647)
+        × (r.placement.root.turn ≤ 32 * length r.ledger.journal.items)
+        × IsRootSound P (record { view = r.ledger.seat.view; journal = r.ledger.journal.items; root = r.placement.root }) };
 }
 
 impl<N: Name, const P: u32> Root<N, P> {
@@ -54,9 +60,11 @@ impl<N: Name, const P: u32> Root<N, P> {
     {
         let placement = PlainRoot::new(alloc)?;
         Ok(Root {
-            seat: note.seat(),
+            ledger: Ledger {
+                seat: note.seat(),
+                journal: Vec::new(alloc),
+            },
             placement,
-            journal: Vec::new(alloc),
             of: PhantomData,
         })
     }
@@ -65,7 +73,7 @@ impl<N: Name, const P: u32> Root<N, P> {
     pub fn kept(&self)
         ensures { IsRootSound P self.now }
     {
-        let _ = &self.seat;
+        let _ = &self.ledger.seat;
     }
 
     /// Returns slots to their spans, in the titles' order, as an op of the line lets them go. The note holds these titles
@@ -94,20 +102,27 @@ impl<N: Name, const P: u32> Root<N, P> {
         ensures handed { IfErr result (λ r. (r.0 ≡ note) × (r.1.items ≡ titles.items)) }
         ensures err { OnErr result ((self.new ≡ self.old) × (seat.new ≡ seat.old)) }
     {
-        let Ok(()) = make_room(&mut self.journal) else {
+        let Ok(()) = make_room(&mut self.ledger.journal) else {
             return Err((note, titles));
         };
-        self.seat.aware();
+        self.ledger.seat.aware();
         note.aware();
-        region.take(&mut self.seat, note);
-        self.seat.aware();
-        let slots = numbers_seen(region, &mut self.seat, titles.as_slice());
+        region.take(&mut self.ledger.seat, note);
+        self.ledger.seat.aware();
+        let slots = numbers_seen(region, &mut self.ledger.seat, titles.as_slice());
         self.placement.give(titles.as_slice());
         let entry = RootEntry {
             line,
             act: RootAct::Give { slots },
         };
-        append(region, seat, &mut self.seat, P, &mut self.journal, entry);
+        append(
+            region,
+            seat,
+            &mut self.ledger.seat,
+            P,
+            &mut self.ledger.journal,
+            entry,
+        );
         Ok(())
     }
 
@@ -121,14 +136,21 @@ impl<N: Name, const P: u32> Root<N, P> {
         ensures journal { OnOk result (self.new.journal ≡ self.old.journal ++ root_entry line Purge ∷ []) }
         ensures err { OnErr result ((self.new ≡ self.old) × (seat.new ≡ seat.old)) }
     {
-        make_room(&mut self.journal)?;
+        make_room(&mut self.ledger.journal)?;
         self.placement.is_sound();
         self.placement.purge();
         let entry = RootEntry {
             line,
             act: RootAct::Purge,
         };
-        append(region, seat, &mut self.seat, P, &mut self.journal, entry);
+        append(
+            region,
+            seat,
+            &mut self.ledger.seat,
+            P,
+            &mut self.ledger.journal,
+            entry,
+        );
         Ok(())
     }
 
@@ -146,11 +168,11 @@ impl<N: Name, const P: u32> Root<N, P> {
         ensures listed { map (λ m. m.numbers) (list_of P seat.new.view) ≡ map root_numbers self.old.journal }
         ensures pools { IsBeginning (list_of 4 self.old.view) (list_of 4 seat.new.view) }
     {
-        self.seat.aware();
-        show_seen(region, seat, &mut self.seat);
-        self.seat.aware();
-        show_seen(region, &mut self.seat, seat);
-        self.seat.aware();
+        self.ledger.seat.aware();
+        show_seen(region, seat, &mut self.ledger.seat);
+        self.ledger.seat.aware();
+        show_seen(region, &mut self.ledger.seat, seat);
+        self.ledger.seat.aware();
         seat.aware();
         self.placement.census()
     }
@@ -159,7 +181,7 @@ impl<N: Name, const P: u32> Root<N, P> {
     pub fn journal(&self) -> &[RootEntry]
         ensures { result.now ≡ self.now.journal }
     {
-        &self.journal
+        &self.ledger.journal
     }
 
     /// The journal, and the root's whole seat.
@@ -169,11 +191,11 @@ impl<N: Name, const P: u32> Root<N, P> {
         ensures note { (result.1.region ≡ N.region) × (result.1.view ≡ self.view) }
     {
         let Root {
-            seat,
+            ledger,
             placement: _,
-            journal,
             of: _,
         } = self;
+        let Ledger { seat, journal } = ledger;
         (journal, seat.note())
     }
 }

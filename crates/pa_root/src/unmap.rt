@@ -6,12 +6,14 @@ ghost use Rattle.pa_root.specs.Handing.{HasOnly, HasSeenMap};
 ghost use Rattle.pa_root.specs.Unmapping.{UnmapTells};
 
 use crate::append::{append, make_room};
-use crate::backs::{give_run, hand_map, take_title};
+use crate::asks::Asking;
+use crate::backs::{hand_map, take_title};
 use crate::root::Root;
 use pa_machine::{SlotName, Title};
 use pa_pool::Pool;
 use pa_record::{Numbered, RootAct, RootEntry};
 use pa_region::{Name, Note, Region, Seat};
+use std::marker::PhantomData;
 use std::sync::{Mutex, Wait};
 
 impl<N: Name, const P: u32> Root<N, P> {
@@ -39,7 +41,7 @@ impl<N: Name, const P: u32> Root<N, P> {
         ensures handed { IfErr result (λ r. (r.0 ≡ note) × (r.1 ≡ title)) }
         ensures err { OnErr result ((self.new ≡ self.old) × (seat.new ≡ seat.old)) }
     {
-        let Ok(()) = make_room(&mut self.journal) else {
+        let Ok(()) = make_room(&mut self.ledger.journal) else {
             return Err((note, title));
         };
         let mut locked = pool.lock(rt);
@@ -47,12 +49,18 @@ impl<N: Name, const P: u32> Root<N, P> {
         let Ok(()) = pool.room() else {
             return Err((note, title));
         };
-        self.seat.aware();
-        let number = take_title(region, seat, &mut self.seat, note, title);
-        let run = hand_map(region, &mut self.seat, title);
+        self.ledger.seat.aware();
+        let number = take_title(region, seat, &mut self.ledger.seat, note, title);
+        let run = hand_map(region, &mut self.ledger.seat, title);
         self.placement.unmap(title);
         let taken = title.born;
-        let asked = give_run(region, seat, &mut self.seat, pool, line, P, taken, run);
+        let mut asking = Asking {
+            region,
+            seat: &mut *seat,
+            line,
+            of: PhantomData,
+        };
+        let asked = asking.give_run(&mut self.ledger.seat, pool, P, taken, run);
         let name = SlotName {
             start: title.start,
             born: title.born,
@@ -60,7 +68,14 @@ impl<N: Name, const P: u32> Root<N, P> {
         let slot = Numbered { slot: name, number };
         let act = RootAct::Unmap { pool: asked, slot };
         let entry = RootEntry { line, act };
-        append(region, seat, &mut self.seat, P, &mut self.journal, entry);
+        append(
+            region,
+            seat,
+            &mut self.ledger.seat,
+            P,
+            &mut self.ledger.journal,
+            entry,
+        );
         Ok(())
     }
 }

@@ -13,10 +13,7 @@ use Rattle.pa_record.specs.Root.{names}
 use Rattle.pa_record.specs.Laws.{times}
 use Rattle.pa_rules.specs.Caches.{Cache, Caches, with_list, with_cache, batches, gives, kept, spilled, purge_acts}
 use Rattle.pa_rules.specs.Flow.{listed_times, cached_times, left_in, back_in}
-
--- 1 where the two are one slot
-abbrev pub once : SlotName → SlotName → ℕ
-once s t = cond (same_slot s t) 1 0
+use Rattle.pa_rules.specs.Once.{once}
 
 abbrev pub stands : SlotName → List Numbered → ℕ
 stands s xs = times s (names xs)

@@ -22,14 +22,15 @@ use Rattle.pa_record.specs.declared.root.RootAct.{RootAct}
 use Rattle.pa_record.specs.declared.root.RootAct.TheVariants.{Fill, Map, Full}
 use Rattle.pa_record.specs.Root.{Root, names, new_root, root_next, RootActFits, RootReplays, IsJournal}
 use Rattle.pa_record.specs.Laws.{leaves_by, times}
-use Rattle.pa_record.proofs.Members.{not_in_none, first_in, in_cases}
+use Rattle.pa_lists.proofs.Members.{not_in_none, first_in, in_cases}
 use Rattle.pa_rules.specs.declared.played.Played.{Played}
 use Rattle.pa_rules.specs.Played.{mark_of, mark_of_answer, mark_at, look_at, marks_of, step_of}
 use Rattle.pa_rules.specs.Roots.{Journals}
 use Rattle.pa_rules.specs.Caches.{Cache, Caches, with_list, with_cache, SameLists, acts_of, OnlyActs, NoActs, IsOfClass, IsDirect, MadeRow, FullRow, ReturnRow, DoneRow, PurgedRow, CacheRow, CachesTo, no_caches, gives, kept, spilled, unmap_at}
 use Rattle.pa_rules.specs.Flow.{returns_at, is_issue, is_issue_of, is_return_of, issues_of, returns_of, listed_times, cached_times, left_in, back_in, left_on, back_on, IsOnlyOf, CachesKeep}
+use Rattle.pa_rules.specs.Once.{once}
 use Rattle.pa_rules.proofs.Known.{IsKnown, FirstKeeps, first_keeps, entry_of_act, known_with, row_known}
-use Rattle.pa_rules.proofs.Counted.{once, stands, times_cons, stands_kept, back_gives, left_gives, back_purge, left_purge, listed_agree, listed_none, list_of_another, listed_changed, cached_changed}
+use Rattle.pa_rules.proofs.Counted.{stands, times_cons, stands_kept, back_gives, left_gives, back_purge, left_purge, listed_agree, listed_none, list_of_another, listed_changed, cached_changed}
 
 -- 1 where there is a mark that passes
 abbrev marked : (Mark → Bool) → Option Mark → ℕ

@@ -18,7 +18,7 @@ use Rattle.pa_record.specs.declared.census.Census.{Census}
 use Rattle.pa_record.specs.Root.{Root, new_root, root_replayed, IsJournal}
 use Rattle.pa_record.specs.Census.{census}
 use Rattle.pa_record.specs.Laws.{leaves_by, times, times_left, IsNameOut, names_out}
-use Rattle.pa_record.proofs.Members.{not_in_none, first_in, later_in, in_cases}
+use Rattle.pa_lists.proofs.Members.{not_in_none, first_in, later_in, in_cases}
 use Rattle.pa_record.proofs.Leaving.{out_is_left}
 use Rattle.pa_record.proofs.AddingUp.{root_adds_up}
 use Rattle.pa_rules.specs.declared.played.Played.{Played}
@@ -29,7 +29,8 @@ use Rattle.pa_rules.specs.Caches.{Caches, CachesTo, no_caches}
 use Rattle.pa_rules.specs.Report.{until, HasSize, HasWord, AreSlots, cached_slots, InPhases, PastPhases, AreUntil}
 use Rattle.pa_rules.specs.Flow.{cached_times, busy}
 use Rattle.pa_rules.specs.Laws.{PlacesAddUp}
-use Rattle.pa_rules.proofs.Counted.{once, times_cons}
+use Rattle.pa_rules.specs.Once.{once}
+use Rattle.pa_rules.proofs.Counted.{times_cons}
 use Rattle.pa_rules.proofs.Flowing.{caches_keep, class_leaves, not_once}
 use Rattle.pa_rules.proofs.Running.{OtherRecord, marks_differ, one_run, issues_return, busy_free, busy_some}
 use Rattle.pa_rules.proofs.Known.{all_known}
@@ -86,7 +87,7 @@ times_member s (t ∷ ss) some = elim (once_cases s t) [
     once_cases : (s t : SlotName) → (s ≡ t) ⊎ (once s t ≡ 0)
     once_cases s t = elim (same_slot_cases s t) [ inl e ↦ inl e | inr ne ↦ inr (not_once s t ne) ]
 
-left_member : (s : SlotName) (es : List RootEntry) → 1 ≤ times_left s es → (e : RootEntry) × Contains es e × Contains (leaves_by e.act) s
+pub left_member : (s : SlotName) (es : List RootEntry) → 1 ≤ times_left s es → (e : RootEntry) × Contains es e × Contains (leaves_by e.act) s
 left_member s [] some = absurd (omega arith)
 left_member s (e ∷ es) some = elim (cases_eq (times s (leaves_by e.act)) 0) [
   | inl none ↦ let (f, member, leaves) = left_member s es (omega arith) in (f, later_in e f es member, leaves)

@@ -15,8 +15,8 @@ use Rattle.pa_record.specs.declared.numbered.Numbered.{Numbered}
 use Rattle.pa_record.specs.declared.root.RootEntry.{RootEntry}
 use Rattle.pa_record.specs.declared.root.RootAct.{RootAct}
 use Rattle.pa_record.specs.declared.root.RootAct.TheVariants.{Fill}
-use Rattle.pa_record.proofs.Members.{not_in_none, first_in, later_in, in_cases}
-use Rattle.pa_record.proofs.Joined.{map_cases, map_in, filter_cases}
+use Rattle.pa_lists.proofs.Members.{not_in_none, first_in, later_in, in_cases}
+use Rattle.pa_lists.proofs.Joined.{map_cases, map_in, filter_cases}
 use Rattle.pa_rules.specs.declared.played.Played.{Played}
 use Rattle.pa_rules.specs.Played.{step_of}
 use Rattle.pa_rules.specs.Roots.{Journals}

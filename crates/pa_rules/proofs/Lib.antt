@@ -1,3 +1,4 @@
+pub mod Nexts
 pub mod Naming
 pub mod Following
 pub mod Worked
@@ -6,6 +7,9 @@ pub mod Flowing
 pub mod Marking
 pub mod Running
 pub mod Owned
+pub mod Asking
+pub mod Leading
+pub mod CachesAfter
 pub mod ByLines
 pub mod Known
 pub mod Totals
@@ -17,3 +21,8 @@ pub mod Within
 pub mod Reported
 pub mod Sizes
 pub mod Rising
+pub mod SameTold
+pub mod Batches
+pub mod ReportLines
+pub mod Lined
+pub mod Paths

@@ -8,7 +8,7 @@ use Rattle.pa_record.specs.declared.root.RootAct.{RootAct}
 use Rattle.pa_record.specs.declared.root.RootAct.TheVariants.{Fill, Map, Full, Give, Unmap, Purge}
 use Rattle.pa_record.specs.Pool.{act_at}
 use Rattle.pa_record.specs.Root.{Root, new_root, root_next, RootActFits, RootReplays, IsJournal, asked_by}
-use Rattle.pa_record.proofs.Members.{of_some, not_some}
+use Rattle.pa_lists.proofs.Members.{of_some, not_some}
 
 -- what has an act is there
 act_there : (o : Option PoolEntry) (act : PoolAct) → option_map (λ (e : PoolEntry). e.act) o ≡ Some act → (e : PoolEntry) × (o ≡ Some e)

@@ -16,8 +16,8 @@ use Rattle.pa_record.specs.Pool.{act_at}
 use Rattle.pa_record.specs.Sound.{IsSound, IsSettled, IsBornBelow, AsksFrom, least_after, IsMadeBy}
 use Rattle.pa_record.specs.Laws.{leaves_by}
 use Rattle.pa_record.proofs.Tested.{name_is}
-use Rattle.pa_record.proofs.Members.{not_in_none, first_in, in_cases}
-use Rattle.pa_record.proofs.Joined.{map_cases}
+use Rattle.pa_lists.proofs.Members.{not_in_none, first_in, in_cases}
+use Rattle.pa_lists.proofs.Joined.{map_cases}
 use Rattle.pa_record.proofs.Filling.{takes_filled, opened_sound}
 use Rattle.pa_record.proofs.Mapping.{born_more}
 use Rattle.pa_record.proofs.Stepping.{next_is}
@@ -37,7 +37,7 @@ HasLen (Give slots) t = Unit {0}
 HasLen (Unmap asked slot) t = Unit {0}
 HasLen Purge t = Unit {0}
 
-fill_len : (pools : List PoolEntry) (n class : ℕ) (asked : Option ℕ) (r : Root) → IsSound r → IsBornBelow n r → AsksFrom n asked → class < 59 →
+pub fill_len : (pools : List PoolEntry) (n class : ℕ) (asked : Option ℕ) (r : Root) → IsSound r → IsBornBelow n r → AsksFrom n asked → class < 59 →
     (t : Title) → Contains (takes class (fill_of class) (opened_by pools asked r)).titles t → t.len ≡ slot_of class
 fill_len pools n class None r sound old asks real t among = (takes_filled class (fill_of class) r sound real).len t among
 fill_len pools n class (Some j) r sound old asks real t among =

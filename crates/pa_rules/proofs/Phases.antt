@@ -7,8 +7,8 @@ use Rattle.pa_machine.specs.declared.word.Step.{Step}
 use Rattle.pa_machine.specs.Count.{number_of}
 use Rattle.pa_machine.specs.Run.{Mark, IsFirstAt, IsRunFrom}
 use Rattle.pa_machine.proofs.Runs.{number_stepped}
-use Rattle.pa_record.proofs.Members.{not_in_none, first_in, later_in, in_cases}
-use Rattle.pa_record.proofs.Joined.{filter_cases, filter_in}
+use Rattle.pa_lists.proofs.Members.{not_in_none, first_in, later_in, in_cases}
+use Rattle.pa_lists.proofs.Joined.{filter_cases, filter_in}
 use Rattle.pa_rules.specs.declared.played.Played.{Played}
 use Rattle.pa_rules.specs.Played.{mark_of, marks_of}
 use Rattle.pa_rules.specs.Report.{until}
@@ -48,7 +48,7 @@ front_or_past ps phase m among =
       | inr early ↦ inl (mark_in (until phase ps) x m (filter_in (is_until phase) ps x member (le-leb _ _ early)) is)
     ]
 
-within : (ps : List Played) (phase : ℕ) (m : Mark) → Contains (marks_of (until phase ps)) m → Contains (marks_of ps) m
+pub within : (ps : List Played) (phase : ℕ) (m : Mark) → Contains (marks_of (until phase ps)) m → Contains (marks_of ps) m
 within ps phase m among = let (x, there, is, low) = front_in ps phase m among in mark_in ps x m there is
 
 -- no mark of a front has the line of one that is past it

@@ -1,10 +1,9 @@
 -- The records beside their ops are the trace's op lines and the run's records, where those are due.
-use Rattle.std.proofs.Common.{◌≡◌, ℕ, ◌+◌, List, [], ◌∷◌, map, refl, sym, ◌∙◌, ap, subst, drop, get_or}
+use Rattle.std.proofs.Common.{◌≡◌, ℕ, ◌+◌, List, [], ◌∷◌, map, refl, sym, ◌∙◌, ap, drop, get_or}
 use Rattle.std.specs.Prelude.{zip}
-use Rattle.pa_trace.specs.declared.script.Line.{Line}
 use Rattle.pa_record.specs.declared.entry.Entry.{Entry}
 use Rattle.pa_rules.specs.declared.played.Played.{Played}
-use Rattle.pa_rules.specs.Played.{OpLine, op_lines, op_line_of, entry_of, beside, played, key_of_line, key_of_entry, AreDue, AreLines}
+use Rattle.pa_rules.specs.Played.{OpLine, op_lines, op_line_of, entry_of, beside, key_of_line, key_of_entry}
 use Rattle.pa_rules.specs.Laws.{RecordsAreLines}
 
 -- the lists have the same keys, place by place

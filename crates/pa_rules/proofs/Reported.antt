@@ -3,8 +3,8 @@ use Rattle.std.proofs.Common.{◌≡◌, ℕ, zero, suc, ◌+◌, ◌<◌, List,
 use Rattle.std.specs.Prelude.{Contains}
 use Rattle.std.proofs.lemmas.List.Elements.{Contains-get_or, Contains-append_cases, All-contains}
 use Rattle.pa_record.specs.declared.report.ReportLine.{ReportLine}
-use Rattle.pa_record.proofs.Members.{not_in_none, in_cases}
-use Rattle.pa_record.proofs.Joined.{map_in}
+use Rattle.pa_lists.proofs.Members.{not_in_none, in_cases}
+use Rattle.pa_lists.proofs.Joined.{map_in}
 use Rattle.pa_rules.specs.declared.played.Played.{Played}
 use Rattle.pa_rules.specs.Seen.{IsSeenInOrder}
 use Rattle.pa_rules.specs.Seen.IsBefore.{Standing}

@@ -8,13 +8,14 @@ use Rattle.pa_machine.proofs.Runs.{same_slot_cases, same_slot_yes, same_slot_no}
 use Rattle.pa_record.specs.declared.numbered.Numbered.{Numbered}
 use Rattle.pa_record.specs.Root.{names}
 use Rattle.pa_record.specs.Laws.{times}
-use Rattle.pa_record.proofs.Members.{not_in_none, first_in, later_in, in_cases}
-use Rattle.pa_record.proofs.Joined.{map_cases, map_in}
+use Rattle.pa_lists.proofs.Members.{not_in_none, first_in, later_in, in_cases}
+use Rattle.pa_lists.proofs.Joined.{map_cases, map_in}
 use Rattle.pa_record.proofs.Leaving.{once_or_not}
 use Rattle.pa_rules.specs.Caches.{Caches, listed_slots}
 use Rattle.pa_rules.specs.Report.{cached_slots}
 use Rattle.pa_rules.specs.Flow.{listed_times, cached_times}
-use Rattle.pa_rules.proofs.Counted.{once, stands, times_cons}
+use Rattle.pa_rules.specs.Once.{once}
+use Rattle.pa_rules.proofs.Counted.{stands, times_cons}
 
 abbrev pub total : (SlotName → ℕ) → List SlotName → ℕ
 total f [] = 0
@@ -35,7 +36,7 @@ pub total_ones : (ss : List SlotName) → total (λ s. 1) ss ≡ length ss
 total_ones [] = refl
 total_ones (s ∷ ss) = let ih = total_ones ss in omega arith
 
-total_none : (ss : List SlotName) → total (λ s. 0) ss ≡ 0
+pub total_none : (ss : List SlotName) → total (λ s. 0) ss ≡ 0
 total_none [] = refl
 total_none (s ∷ ss) = let ih = total_none ss in omega arith
 

@@ -15,7 +15,7 @@ use Rattle.pa_rules.specs.Caches.{Cache, with_list, acts_of, purge_acts, MadeRow
 use Rattle.pa_rules.specs.Worked.{first_slot, of_first_thread, PurgeIsCached, IsCountedAs, PurgeIsCounted}
 
 -- a request of 8 bytes is of class 0
-class_0 : IsClassOf 16 0
+pub class_0 : IsClassOf 16 0
 unfolding rows row_of slot_of
 class_0 = record { real = lit< tt; fits = omega arith; least = λ d below. absurd (omega arith) }
 

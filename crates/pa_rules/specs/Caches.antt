@@ -4,6 +4,7 @@ use Rattle.pa_machine.specs.declared.word.SlotName.{SlotName}
 use Rattle.pa_machine.specs.declared.word.Step.{Step}
 use Rattle.pa_machine.specs.Count.{number_of}
 use Rattle.pa_machine.specs.Run.{IsReturning}
+use Rattle.pa_buckets.specs.Limits.{class_count}
 use Rattle.pa_buckets.specs.Bands.{limit_of}
 use Rattle.pa_record.specs.declared.entry.Seen.{Seen}
 use Rattle.pa_record.specs.declared.entry.Answer.{Answer}
@@ -121,12 +122,12 @@ listed_slots lists class (suc n) = length (lists class) + listed_slots lists (cl
 
 abbrev pub all_listed : Cache → ℕ → ℕ → ℕ
 all_listed cache p zero = 0
-all_listed cache p (suc n) = listed_slots (cache p) 0 59 + all_listed cache (p + 1) n
+all_listed cache p (suc n) = listed_slots (cache p) 0 class_count + all_listed cache (p + 1) n
 
 -- a purge of all partitions gave back all lists, and says how many slots they had
 abbrev pub PurgedRow : ℕ → Journals → Played → ℕ → Cache → Cache → Type 0
 PurgedRow partitions roots x slots cache after =
-    ((p : ℕ) → p < partitions → acts_of roots x.line p ≡ purge_acts (cache p) 0 59)
+    ((p : ℕ) → p < partitions → acts_of roots x.line p ≡ purge_acts (cache p) 0 class_count)
     × (slots ≡ all_listed cache 0 partitions) × ((p c : ℕ) → after p c ≡ [])
 
 -- a record, by its answer: the entries of its line, and its thread's lists after it

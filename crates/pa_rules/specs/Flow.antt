@@ -5,6 +5,7 @@ use Rattle.pa_machine.specs.declared.word.Step.{Step}
 use Rattle.pa_machine.specs.declared.word.Step.TheVariants.{Issue, Copy, Reset, Free, Write}
 use Rattle.pa_machine.specs.Count.{number_of, refs_of, held_of}
 use Rattle.pa_machine.specs.Run.{Mark, Slots, same_slot}
+use Rattle.pa_buckets.specs.Limits.{class_count}
 use Rattle.pa_record.specs.declared.numbered.Numbered.{Numbered}
 use Rattle.pa_record.specs.declared.pool.PoolEntry.{PoolEntry}
 use Rattle.pa_record.specs.declared.root.RootEntry.{RootEntry}
@@ -62,7 +63,7 @@ listed_times s lists class (suc n) = times s (names (lists class)) + listed_time
 
 abbrev pub cached_times : SlotName → Caches → ℕ → ℕ → ℕ
 cached_times s all p zero = 0
-cached_times s all p (suc t) = listed_times s (all t p) 0 59 + cached_times s all p t
+cached_times s all p (suc t) = listed_times s (all t p) 0 class_count + cached_times s all p t
 
 -- how often slot s leaves the root by some entries, and comes back
 abbrev pub left_in : SlotName → List RootAct → ℕ

@@ -1,5 +1,10 @@
+pub mod Limits
 pub mod Played
 pub mod Registers
+pub mod Changes
+pub mod Once
+pub mod Nexts
+pub mod NextRows
 pub mod Order
 pub mod Cells
 pub mod Contents

@@ -12,9 +12,13 @@ use Rattle.pa_record.specs.declared.entry.Answer.TheVariants.{Made, Done, Value,
 use Rattle.pa_record.specs.declared.history.CellEntry.{CellEntry}
 use Rattle.pa_record.specs.declared.history.Held.{Held}
 use Rattle.pa_record.specs.declared.history.Held.TheVariants as held
-use Rattle.pa_rules.specs.declared.register.Reg.{Reg}
-use Rattle.pa_rules.specs.declared.register.Reg.TheVariants.{Empty, Own, Ref, Freed, Cleared}
+use Rattle.pa_rules.specs.declared.register.Register.{Register}
+use Rattle.pa_rules.specs.declared.register.Register.TheVariants.{Empty, Own, Ref, Freed, Cleared}
 use Rattle.pa_rules.specs.declared.played.Played.{Played}
+
+-- a register, as the rules have it: a handle is the name of its slot
+abbrev pub Reg : Type 0
+Reg = Register SlotName
 
 -- the registers of one thread, by their numbers
 abbrev pub Regs : Type 0

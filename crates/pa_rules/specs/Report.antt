@@ -3,6 +3,7 @@ use Rattle.std.specs.Prelude.{◌≡◌, ◌≢◌, ℕ, zero, suc, ◌+◌, ◌
 use Rattle.std.specs.List.{AllZip}
 use Rattle.pa_machine.specs.declared.word.SlotName.{SlotName}
 use Rattle.pa_machine.specs.Run.{IsRunFrom, IsLive, IsQuarantined}
+use Rattle.pa_buckets.specs.Limits.{class_count}
 use Rattle.pa_buckets.specs.Table.{slot_of}
 use Rattle.pa_record.specs.declared.pool.PoolEntry.{PoolEntry}
 use Rattle.pa_record.specs.declared.report.ReportLine.{ReportLine}
@@ -56,11 +57,11 @@ listed_bytes counts class (suc n) = slot_of class * counts class + listed_bytes 
 
 abbrev pub cached_slots : Caches → ℕ → ℕ → ℕ
 cached_slots all p zero = 0
-cached_slots all p (suc t) = listed_slots (all t p) 0 59 + cached_slots all p t
+cached_slots all p (suc t) = listed_slots (all t p) 0 class_count + cached_slots all p t
 
 abbrev pub cached_bytes : Caches → ℕ → ℕ → ℕ
 cached_bytes all p zero = 0
-cached_bytes all p (suc t) = listed_bytes (λ class. length (all t p class)) 0 59 + cached_bytes all p t
+cached_bytes all p (suc t) = listed_bytes (λ class. length (all t p class)) 0 class_count + cached_bytes all p t
 
 -- the caches after these records hold so much of partition p
 abbrev pub IsCached : ℕ → ℕ → Journals → List Played → ℕ → Tally → Type 0

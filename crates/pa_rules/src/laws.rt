@@ -1,5 +1,6 @@
 ghost use Rattle.pa_rules.specs.Flow.{CachesKeep, IssuesReturn, RunsUntil};
 ghost use Rattle.pa_rules.specs.Laws.{LinesDiffer, PlacesAddUp, RecordsAreLines, ReportAddsUp, TitlesFollow};
+ghost use Rattle.pa_rules.specs.NextRows.{CopiesAreNext, FreesAreNext, HandlesStay, ReadsAreNext, ResetsAreNext, WritesAreNext};
 ghost use Rattle.pa_rules.specs.Sizes.{SizesFit};
 ghost use Rattle.pa_rules.specs.Worked.{PurgeIsCached, PurgeIsCounted};
 
@@ -60,4 +61,34 @@ pub fn worked_counts_fit()
 /// The law that the slot of a request is that of its class, or of its direct map.
 pub fn sizes_fit()
     ensures { SizesFit }
+{}
+
+/// The law that a copy does what its row asks, by what `Register::for_copy` says.
+pub fn copies_are_next()
+    ensures { CopiesAreNext }
+{}
+
+/// The law that a reset does what its row asks, by what `Register::for_reset` says.
+pub fn resets_are_next()
+    ensures { ResetsAreNext }
+{}
+
+/// The law that a free does what its row asks, by what `Register::for_free` and `looked_free` say.
+pub fn frees_are_next()
+    ensures { FreesAreNext }
+{}
+
+/// The law that a write does what its row asks, by what `Register::for_write` and `looked_write` say.
+pub fn writes_are_next()
+    ensures { WritesAreNext }
+{}
+
+/// The law that a read does what its row asks, by what `Register::for_read` and `looked_read` say.
+pub fn reads_are_next()
+    ensures { ReadsAreNext }
+{}
+
+/// The law that an allocation and a copy do what their rows ask, by whether the register that they fill has a handle.
+pub fn handles_stay()
+    ensures { HandlesStay }
 {}

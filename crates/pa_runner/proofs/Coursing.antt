@@ -11,7 +11,7 @@ use Rattle.pa_course.specs.Gathering.{told_worker}
 use Rattle.pa_course.proofs.Growing.{courses_grow}
 use Rattle.pa_course.proofs.Gathering.{workers_tell, workers_hear}
 use Rattle.pa_course.proofs.Playing.{sees_then}
-use Rattle.pa_runner.specs.declared.playing.LineOp.{LineOp}
+use Rattle.pa_runner.specs.declared.thread_lines.LineOp.{LineOp}
 use Rattle.pa_runner.specs.Playing.{in_phase}
 use Rattle.pa_runner.specs.Phases.{AreReady, HaveHeard, HeardFrom, HasPassed, queue_in, worker_in}
 

@@ -1,5 +1,5 @@
 -- The op lines of a trace with a line more, and that earlier phases have smaller lines.
-use Rattle.std.proofs.Common.{◌≡◌, ℕ, ◌+◌, List, [], ◌∷◌, ◌++◌, length, refl, ap, ◌∙◌, arith, count_by, cond}
+use Rattle.std.proofs.Common.{◌≡◌, ℕ, ◌+◌, List, [], ◌∷◌, ◌++◌, length, ap, ◌∙◌, arith, count_by, cond}
 use Rattle.std.proofs.lemmas.List.Sums.{sum_by-cons}
 use Rattle.pa_trace.specs.declared.script.Line.{Line}
 use Rattle.pa_trace.specs.declared.script.Line.TheVariants.{Phase, Do}
@@ -31,14 +31,6 @@ lines_push n phase (Do t o ∷ ls) thread op =
     let g : List OpLine → List OpLine = λ xs. first ∷ xs in
     let e : n + 1 + length ls ≡ n + length (Do t o ∷ ls) = omega arith in
     ap g (lines_push (n + 1) phase ls thread op) ∙ ap f e
-
-pub lines_phase : (n phase : ℕ) (ls : List Line) → op_lines n phase (ls ++ Phase ∷ []) ≡ op_lines n phase ls
-lines_phase n phase [] = refl
-lines_phase n phase (Phase ∷ ls) = lines_phase (n + 1) (phase + 1) ls
-lines_phase n phase (Do t o ∷ ls) =
-    let first : OpLine = record { line = n; thread = t; phase = phase; op = o } in
-    let g : List OpLine → List OpLine = λ xs. first ∷ xs in
-    ap g (lines_phase (n + 1) phase ls)
 
 -- the phase after all lines is how many there are
 phase_counts : (phase : ℕ) (ls : List Line) → phase_after phase ls ≡ phase + count_by is_phase ls

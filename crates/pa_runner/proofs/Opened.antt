@@ -8,9 +8,8 @@ use Rattle.std.proofs.lemmas.List.Sums.{sum_by-cons}
 use Rattle.pa_region.specs.declared.marks.Mark.TheVariants.{Stake}
 use Rattle.pa_region.specs.declared.view.View.{View}
 use Rattle.pa_region.specs.Views.{stake_of}
-use Rattle.pa_region.specs.Waiting.{unclean_of}
 use Rattle.pa_region.specs.Takes.{log_of}
-use Rattle.pa_region.specs.Hands.{CanHand, left_after, given_after}
+use Rattle.pa_region.specs.Hands.{left_after, given_after}
 use Rattle.pa_region.specs.Lending.{stake_parcel}
 use Rattle.pa_region.specs.Marks.{parcel_of}
 use Rattle.pa_region.proofs.LendBack.{given_stake, given_beside, log_filter, marked_here}
@@ -20,19 +19,16 @@ use Rattle.pa_trace.specs.declared.script.Trace.{Trace}
 use Rattle.pa_stock.specs.Starts.{HasAllStakes}
 use Rattle.pa_plays.specs.Stocks.{IsForThread}
 use Rattle.pa_plays.specs.Workers.{WorkerValue, IsNewWorker}
-use Rattle.pa_course.specs.Gathering.{IsMain, HasAnswered}
+use Rattle.pa_course.specs.Gathering.{HasAnswered}
 use Rattle.pa_course.proofs.Gathering.{workers_hear}
 use Rattle.pa_runner.specs.Phases.{worker_in}
 use Rattle.pa_runner.specs.Tracing.{is_by, lines_by}
-use Rattle.pa_runner.specs.Opening.{IsNewFor, AreNew}
+use Rattle.pa_runner.specs.Opening.{IsNewFor}
 
 -- ---- one worker
 
 -- a thread's stake, and so many counted steps
 module _ (k lines : ℕ) (seat : View) where
-  pub can_hand_lines : lines ≤ seat.budget → unclean_of seat ≡ 0 → CanHand (parcel_of [] lines (Stake k ∷ [])) seat
-  can_hand_lines fits clean = record { items = tt; budget = fits; leases = tt; clean = λ j marked. clean }
-
   pub note_for : 0 < stake_of seat k → k < 16 → IsForThread k (given_after (parcel_of [] lines (Stake k ∷ [])) seat)
   note_for has small = record {
     stake = record { small = small; only = λ j ne. given_beside k j seat ne };
@@ -114,12 +110,6 @@ before_in (v ∷ ws) w (suc j) low = before_in ws w j (omega arith)
 
 module _ (t : Trace) (k : ℕ) (workers : List WorkerValue) (first seat : View) (opening : IsOpening t k workers first seat) (few : k < t.threads) where
   -- what the next worker needs
-  pub open_stake : (budget : ℕ) → HasAllStakes budget first → k < 16 → 0 < stake_of seat k
-  open_stake budget all small = let s = opening.answered.stakes k (omega arith) in let h = all.stakes k small in omega arith
-
-  pub open_log : (budget : ℕ) → HasAllStakes budget first → log_of k seat ≡ []
-  open_log budget all = opening.answered.logs k (omega arith) ∙ all.logs k
-
   pub open_budget : lines_by k t.lines ≤ seat.budget
   open_budget = let s = past_splits k t.lines in let b = opening.budget in omega arith
 
@@ -147,10 +137,3 @@ module _ (t : Trace) (k : ℕ) (workers : List WorkerValue) (first seat : View) 
               subst (IsNewFor j t.partitions (lines_by j t.lines)) (sym (before_in workers w j (omega arith))) (opening.each j (omega arith))
         ];
       }
-
--- all were opened
-pub open_all : (t : Trace) (k : ℕ) (workers : List WorkerValue) (first seat : View) → IsOpening t k workers first seat → k ≡ t.threads → AreNew t workers × IsMain t.threads seat
-open_all t k workers first seat opening all = (
-  record { count = opening.count ∙ all; each = λ j low. opening.each j (omega arith) },
-  opening.answered.main,
-)

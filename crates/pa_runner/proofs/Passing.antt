@@ -9,7 +9,7 @@ use Rattle.pa_plays.specs.Workers.{WorkerValue}
 use Rattle.pa_course.specs.Courses.{HasSeenAll}
 use Rattle.pa_course.specs.Gathering.{HasHeardSome}
 use Rattle.pa_course.proofs.Playing.{sees_then}
-use Rattle.pa_runner.specs.declared.playing.LineOp.{LineOp}
+use Rattle.pa_runner.specs.declared.thread_lines.LineOp.{LineOp}
 use Rattle.pa_runner.specs.Phases.{AreReady, ArePlayed, AreGoing, HaveStakes, HaveTold, HasPassed, no_worker, queue_in, worker_in}
 use Rattle.pa_runner.specs.Reporting.{HasAsked}
 use Rattle.pa_runner.proofs.PlayedLines.{same_thread}

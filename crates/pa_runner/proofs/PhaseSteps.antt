@@ -25,7 +25,7 @@ use Rattle.pa_course.specs.Growing.{HasBegun, HasEnded}
 use Rattle.pa_course.specs.Gathering.{IsMain, HasAnswered}
 use Rattle.pa_course.proofs.Gathering.{workers_hear}
 use Rattle.pa_course.proofs.Growing.{courses_grow}
-use Rattle.pa_runner.specs.declared.playing.LineOp.{LineOp}
+use Rattle.pa_runner.specs.declared.thread_lines.LineOp.{LineOp}
 use Rattle.pa_runner.specs.Phases.{AreReady, HasPassed, HaveHeard, HaveNone, HaveTold, queue_in, worker_in}
 use Rattle.pa_runner.specs.Playing.{in_phase}
 use Rattle.pa_runner.specs.Opening.{AreNew}

@@ -5,20 +5,19 @@ use Rattle.std.specs.List.{AllByRecursion}
 use Rattle.std.proofs.lemmas.Bool.{eq-eqb, ne_eqb}
 use Rattle.std.proofs.lemmas.List.{map-append, length_push}
 use Rattle.std.proofs.lemmas.List.Elements.{Contains-append_cases}
-use Rattle.pa_trace.specs.declared.script.Line.{Line}
 use Rattle.pa_trace.specs.declared.script.Line.TheVariants.{Phase, Do}
 use Rattle.pa_trace.specs.declared.script.Op.{Op}
 use Rattle.pa_trace.specs.declared.script.Trace.{Trace}
 use Rattle.pa_trace.specs.Limits.{IsOpWithin}
 use Rattle.pa_record.specs.declared.entry.Entry.{Entry}
-use Rattle.pa_record.proofs.Members.{in_cases, not_in_none}
+use Rattle.pa_lists.proofs.Members.{in_cases, not_in_none}
 use Rattle.pa_region.specs.declared.view.View.{View}
 use Rattle.pa_region.specs.Views.{stake_of}
 use Rattle.pa_rules.specs.Played.{OpLine}
 use Rattle.pa_plays.specs.Workers.{WorkerValue, worker_with_view}
 use Rattle.pa_course.specs.Courses.{lines_in}
 use Rattle.pa_course.proofs.Playing.{stays}
-use Rattle.pa_runner.specs.declared.playing.LineOp.{LineOp}
+use Rattle.pa_runner.specs.declared.thread_lines.LineOp.{LineOp}
 use Rattle.pa_runner.specs.Playing.{in_phase, AreBefore, RiseFrom, CanPlay, PlaysLines}
 use Rattle.pa_runner.specs.Opening.{IsNewFor}
 use Rattle.pa_runner.specs.Tracing.{lines_by}

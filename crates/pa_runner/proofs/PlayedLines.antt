@@ -12,7 +12,7 @@ use Rattle.std.specs.List.{AllByRecursion}
 use Rattle.pa_trace.specs.Limits.{IsOpWithin}
 use Rattle.pa_record.specs.declared.entry.Answer.{Answer}
 use Rattle.pa_record.specs.declared.entry.Entry.{Entry}
-use Rattle.pa_record.proofs.Members.{in_cases, not_in_none}
+use Rattle.pa_lists.proofs.Members.{in_cases, not_in_none}
 use Rattle.pa_rules.specs.declared.played.Played.{Played}
 use Rattle.pa_rules.specs.Played.{op_line_of, entry_of}
 use Rattle.pa_told.specs.Told.{ToldRecord, played_in}
@@ -20,7 +20,7 @@ use Rattle.pa_plays.specs.Workers.{WorkerValue, CanPlayOp, KeepsOn}
 use Rattle.pa_plays.specs.Plays.{PlaysOp}
 use Rattle.pa_plays.proofs.Following.{composes}
 use Rattle.pa_course.proofs.Playing.{stays}
-use Rattle.pa_runner.specs.declared.playing.LineOp.{LineOp}
+use Rattle.pa_runner.specs.declared.thread_lines.LineOp.{LineOp}
 use Rattle.pa_runner.specs.Playing.{in_phase, AreBefore, EndsWith, CanPlay, PlaysLines}
 
 -- ---- records of lines before a line

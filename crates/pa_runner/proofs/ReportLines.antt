@@ -5,7 +5,7 @@ use Rattle.std.proofs.lemmas.List.{map-append}
 use Rattle.std.proofs.lemmas.List.Elements.{Contains-append_cases}
 use Rattle.pa_record.specs.declared.report.ReportLine.{ReportLine}
 use Rattle.pa_record.specs.declared.report.Tally.{Tally}
-use Rattle.pa_record.proofs.Members.{not_in_none}
+use Rattle.pa_lists.proofs.Members.{not_in_none}
 use Rattle.pa_region.specs.declared.view.View.{View}
 use Rattle.pa_rules.specs.Caches.{listed_slots}
 use Rattle.pa_rules.specs.Report.{listed_bytes, partitions_of, phases_of}

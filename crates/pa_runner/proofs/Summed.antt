@@ -1,23 +1,21 @@
 -- What the workers counted and have cached, added up worker by worker.
-use Rattle.std.proofs.Common.{◌≡◌, ℕ, zero, suc, ◌+◌, ◌*◌, ◌^◌, ◌<◌, ◌≤◌, List, [], ◌∷◌, length, get_or, refl, sym, ◌∙◌, ap, subst, arith}
+use Rattle.std.proofs.Common.{◌≡◌, ℕ, zero, suc, ◌+◌, ◌*◌, ◌^◌, ◌<◌, ◌≤◌, List, [], ◌∷◌, length, get_or, sym, ◌∙◌, ap, subst, arith}
 use Rattle.std.proofs.lemmas.List.{get_or_default}
 use Rattle.std.proofs.lemmas.Nat.{mul-le}
-use Rattle.pa_machine.specs.declared.title.Title.{Title}
 use Rattle.pa_buckets.specs.Table.{slot_of}
 use Rattle.pa_buckets.proofs.Facts.{IsRow-of}
 use Rattle.pa_record.specs.declared.numbered.Numbered.{Numbered}
 use Rattle.pa_record.specs.declared.report.Tally.{Tally}
-use Rattle.pa_region.specs.declared.view.View.{View}
-use Rattle.pa_root.specs.Handing.{numbered_by}
 use Rattle.pa_rules.specs.Caches.{listed_slots}
 use Rattle.pa_rules.specs.Report.{listed_bytes}
 use Rattle.pa_plays.specs.declared.counts.Count.{Count}
-use Rattle.pa_plays.specs.Counts.{IsOfSteps, AreOfSteps, counted_in, no_slots, no_count}
+use Rattle.pa_plays.specs.Counts.{IsOfSteps, AreOfSteps, counted_in, no_count}
 use Rattle.pa_plays.specs.Stocks.{StockValue, IsStock, listed_in, titles_in}
 use Rattle.pa_plays.specs.Workers.{WorkerValue, IsWorker}
 use Rattle.pa_course.specs.Lines.{sum_over, IsCachedBy}
 use Rattle.pa_runner.specs.Phases.{no_worker, worker_in}
-use Rattle.pa_runner.specs.Reporting.{IsCountedBy, AreCountedBy}
+use Rattle.pa_runner.specs.Reporting.{IsCountedBy}
+use Rattle.pa_heap.proofs.Settling.{length_numbered}
 
 sum_more : (f : ℕ → ℕ) (i : ℕ) → sum_over f (i + 1) ≡ f i + sum_over f i
 sum_more f i = let e : i + 1 ≡ suc i = omega arith in ap (sum_over f) e
@@ -51,17 +49,6 @@ pub record AreAdding (p i : ℕ) (ws : List WorkerValue) (n : Count) : Type 0 wh
   pub freed : IsAdding (λ (c : Count). c.freed) p i ws n.freed
   pub entered : IsAdding (λ (c : Count). c.entered) p i ws n.entered
   pub left : IsAdding (λ (c : Count). c.left) p i ws n.left
-
-adding_none : (part : Count → Tally) (p : ℕ) (ws : List WorkerValue) → IsAdding part p 0 ws no_slots
-adding_none part p ws = record { by = record { slots = refl; bytes = refl }; few = omega arith; small = omega arith }
-
-pub add_none : (p : ℕ) (ws : List WorkerValue) → AreAdding p 0 ws no_count
-add_none p ws = record {
-  issued = adding_none (λ (c : Count). c.issued) p ws;
-  freed = adding_none (λ (c : Count). c.freed) p ws;
-  entered = adding_none (λ (c : Count). c.entered) p ws;
-  left = adding_none (λ (c : Count). c.left) p ws;
-}
 
 adding_more : (part : Count → Tally) (p i steps : ℕ) (ws : List WorkerValue) (t more : Tally) → more ≡ part (counted_in (worker_in ws i).counts p) → IsOfSteps steps (part (counted_in (worker_in ws i).counts p)) →
     steps ≤ 65536 → IsAdding part p i ws t → IsAdding part p (i + 1) ws (record { slots = t.slots + more.slots; bytes = t.bytes + more.bytes })
@@ -110,10 +97,6 @@ add_more p i ws n more after is of few adding a b c d =
           (adding_more (λ (x : Count). x.left) p i steps ws n.left more.left (ap (λ (x : Count). x.left) is) (of.left p) few adding.left);
     }
 
-pub add_all : (p i : ℕ) (ws : List WorkerValue) (n : Count) → i ≡ length ws → AreAdding p i ws n → AreCountedBy p (length ws) (worker_in ws) n
-add_all p i ws n all adding = subst (λ j. AreCountedBy p j (worker_in ws) n) all
-    (record { issued = adding.issued.by; freed = adding.freed.by; entered = adding.entered.by; left = adding.left.by })
-
 -- ---- lists
 
 -- The tally is what the lists of the first i workers have; it is small, since no list is long.
@@ -122,18 +105,11 @@ pub record IsCaching (p i : ℕ) (ws : List WorkerValue) (t : Tally) : Type 0 wh
   pub few : t.slots ≤ 3776 * i
   pub small : t.bytes ≤ 3464495104 * i
 
-pub cache_none : (p : ℕ) (ws : List WorkerValue) → IsCaching p 0 ws no_slots
-cache_none p ws = record { by = record { slots = refl; bytes = refl }; few = omega arith; small = omega arith }
-
-long_numbered : (v : View) (ts : List Title) → length (numbered_by v ts) ≡ length ts
-long_numbered v [] = refl
-long_numbered v (t ∷ ts) = ap suc (long_numbered v ts)
-
 short_list : (s : StockValue) (p class : ℕ) → IsStock s → class < 59 → length (listed_in s p class) ≤ 64
 short_list s p class stock low =
     let a = stock.lists.few p class in
     let b = (IsRow-of class low).few_kept in
-    let c = long_numbered s.view (titles_in s.caches p class) in
+    let c = length_numbered s.view (titles_in s.caches p class) in
     omega arith
 
 listed_few : (lists : ℕ → List Numbered) (class n : ℕ) → class + n ≤ 59 → ((k : ℕ) → k < 59 → length (lists k) ≤ 64) →
@@ -170,6 +146,3 @@ module _ (p i : ℕ) (ws : List WorkerValue) (t more : Tally) (stock : IsStock (
       let u = caching.few in
       let v = caching.small in
       record { by = record { slots = omega arith; bytes = omega arith }; few = omega arith; small = omega arith }
-
-pub cache_all : (p i : ℕ) (ws : List WorkerValue) (t : Tally) → i ≡ length ws → IsCaching p i ws t → IsCachedBy p (length ws) (worker_in ws) t
-cache_all p i ws t all caching = subst (λ j. IsCachedBy p j (worker_in ws) t) all caching.by

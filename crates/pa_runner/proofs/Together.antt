@@ -1,9 +1,7 @@
 -- The run that is put together of what a closed heap left.
 use Rattle.std.proofs.Common.{◌≡◌, ℕ, ◌*◌, ◌≤◌, List, [], ◌∷◌, length, get_or, sym, ◌∙◌, ap, subst, arith}
 use mathlib.Core.Path.{fun_ext}
-use Rattle.pa_record.specs.declared.entry.Entry.{Entry}
 use Rattle.pa_record.specs.declared.history.CellEntry.{CellEntry}
-use Rattle.pa_record.specs.declared.pool.PoolEntry.{PoolEntry}
 use Rattle.pa_record.specs.declared.report.ReportLine.{ReportLine}
 use Rattle.pa_record.specs.declared.root.RootEntry.{RootEntry}
 use Rattle.pa_record.specs.declared.run.Run.{Run}
@@ -11,7 +9,6 @@ use Rattle.pa_record.specs.RunText.{journal_of, history_of}
 use Rattle.pa_region.specs.declared.view.View.{View}
 use Rattle.pa_trace.specs.declared.script.Trace.{Trace}
 use Rattle.pa_trace.specs.Limits.{IsWithinLimits}
-use Rattle.pa_rules.specs.Roots.{Journals}
 use Rattle.pa_rules.specs.Told.{Told, told_by}
 use Rattle.pa_rules.specs.Legal.{IsLegalTold}
 use Rattle.pa_rules.specs.Held.{IsHeldIn}
@@ -22,16 +19,7 @@ use Rattle.pa_plays.specs.Workers.{WorkerValue}
 use Rattle.pa_runner.specs.Whole.{HasPlayed, IsHeldRun}
 use Rattle.pa_runner.proofs.Closing.{entries_of, told_of, is_legal, is_held}
 use Rattle.pa_runner.proofs.Printing.{journals_named}
-
--- two that tell the same
-same_told : (a b : Told) → a.entries ≡ b.entries → a.roots ≡ b.roots → a.pools ≡ b.pools → a.cells ≡ b.cells → a.report ≡ b.report → a ≡ b
-same_told a b entries roots pools cells report =
-    let first : List Entry → Told = λ x. record a { entries = x } in
-    let second : Journals → Told = λ x. record a { entries = b.entries; roots = x } in
-    let third : List PoolEntry → Told = λ x. record a { entries = b.entries; roots = b.roots; pools = x } in
-    let fourth : (ℕ → List CellEntry) → Told = λ x. record b { cells = x; report = a.report } in
-    let fifth : List ReportLine → Told = λ x. record b { report = x } in
-    ap first entries ∙ (ap second roots ∙ (ap third pools ∙ (ap fourth cells ∙ ap fifth report)))
+use Rattle.pa_rules.proofs.SameTold.{same_lists}
 
 module _ (t : Trace) (workers : List WorkerValue) (seat : View) (report : List ReportLine) (limits : IsWithinLimits t) (went : HasPlayed t workers seat report)
     (words : ℕ) (left : Left) (long : words ≡ 262144 * t.region) (four : length left.roots ≡ 4) (closed : IsClosedBy words workers seat left) where
@@ -47,7 +35,7 @@ module _ (t : Trace) (workers : List WorkerValue) (seat : View) (report : List R
     histories k = ap (λ (hs : List (List CellEntry)). get_or hs k []) cells
 
     same : told_by run ≡ told_of t went.course left report
-    same = same_told (told_by run) (told_of t went.course left report) entries (fun_ext journals) pool (fun_ext histories) lines
+    same = same_lists (told_by run) (told_of t went.course left report) entries (fun_ext journals) pool (fun_ext histories) lines
 
     pub is_run : SlotsStaySeen → IsHeldRun t run left.region
     is_run stay = record {

@@ -9,7 +9,7 @@ use Rattle.pa_rules.specs.Caches.{SameLists}
 use Rattle.pa_plays.specs.Stocks.{listed_in}
 use Rattle.pa_plays.specs.Workers.{WorkerValue, HasItsStake, worker_with_view}
 use Rattle.pa_course.specs.Gathering.{HasHeardSome, HasAnswered, told_worker}
-use Rattle.pa_runner.specs.declared.playing.LineOp.{LineOp}
+use Rattle.pa_runner.specs.declared.thread_lines.LineOp.{LineOp}
 use Rattle.pa_runner.specs.Playing.{CanPlay, PlaysLines}
 
 -- a worker that isn't there; the worker of a thread, and its lines

@@ -7,7 +7,7 @@ use Rattle.pa_rules.specs.Played.{OpLine, op_line_of}
 use Rattle.pa_told.specs.Told.{ToldRecord, played_in}
 use Rattle.pa_plays.specs.Workers.{WorkerValue, HasItsStake}
 use Rattle.pa_plays.specs.Plays.{PlaysAll}
-use Rattle.pa_runner.specs.declared.playing.LineOp.{LineOp}
+use Rattle.pa_runner.specs.declared.thread_lines.LineOp.{LineOp}
 
 -- the op line that this is, of a thread in a phase
 abbrev pub in_phase : (phase thread : ℕ) → LineOp → OpLine

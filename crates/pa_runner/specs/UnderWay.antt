@@ -14,7 +14,7 @@ use Rattle.pa_plays.specs.Workers.{WorkerValue, HasItsStake}
 use Rattle.pa_course.specs.Courses.{Course, HasSeenAll, lines_in}
 use Rattle.pa_course.specs.Growing.{HasBegun}
 use Rattle.pa_course.specs.Gathering.{IsMain}
-use Rattle.pa_runner.specs.declared.playing.LineOp.{LineOp}
+use Rattle.pa_runner.specs.declared.thread_lines.LineOp.{LineOp}
 use Rattle.pa_runner.specs.Playing.{in_phase, AreBefore}
 use Rattle.pa_runner.specs.Phases.{queue_in, worker_in}
 use Rattle.pa_runner.specs.Reporting.{IsLineFor}

@@ -2,27 +2,23 @@
 #![tactic(auto)]
 
 mod counting;
-mod ending;
 mod gate;
 mod merging;
 mod opening;
 mod passed;
 mod phase;
 mod phases;
-mod playing;
 mod queue;
 mod report;
+mod thread_lines;
 mod whole;
 
 pub use counting::count_lines;
-pub use ending::end_phase;
 pub use gate::{Gate, NoGate};
 pub use merging::merge_records;
 pub use opening::open_workers;
-pub use passed::pass_phase;
-pub use phase::{hear_all, play_phase, tell_all};
-pub use phases::play_phases;
-pub use playing::{LineOp, play_lines};
+pub use phase::{hear_all, tell_all};
+pub use phases::Playing;
 pub use queue::Queue;
-pub use report::report_phase;
+pub use thread_lines::LineOp;
 pub use whole::{close_run, run_trace};

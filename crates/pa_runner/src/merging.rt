@@ -1,7 +1,7 @@
 //! The records of all threads, merged by the trace's lines.
 ghost use Rattle.std.specs.Prelude.{◌≡◌, ℕ, ◌<◌, ◌≤◌, IfOk, List, length};
 ghost use Rattle.std.specs.List.{AllByRecursion};
-ghost use Rattle.pa_trace.specs.Limits.{IsLineWithin};
+ghost use Rattle.pa_trace.specs.Limits.{IsLineWithin, most_threads};
 ghost use Rattle.pa_record.specs.declared.entry.Entry.{Entry};
 ghost use Rattle.pa_runner.specs.Merging.{IsMergeOf};
 
@@ -9,7 +9,7 @@ use pa_heap::Worker;
 use pa_machine::OutOfMemory;
 use pa_record::Entry;
 use pa_region::Name;
-use pa_trace::Line;
+use pa_trace::{Line, MOST_THREADS};
 use std::alloc::Global;
 
 /// The records of all workers in the order of the trace's lines. Each thread's stand in the order of its lines, so the next line's
@@ -19,13 +19,13 @@ pub fn merge_records<N: Name>(
     lines: &[Line],
     workers: &[Worker<N>],
 ) -> Result<Vec<Entry>, OutOfMemory>
-    requires few { length workers.now ≤ 16 }
+    requires few { length workers.now ≤ most_threads }
     requires threads { (partitions : ℕ) × AllByRecursion (IsLineWithin partitions (length workers.now)) lines.now }
     requires whole { (es : List Entry) × IsMergeOf lines.now workers.now es }
     ensures { IfOk result (λ v. (es : List Entry) → IsMergeOf lines.now workers.now es → v.items ≡ es) }
 {
     let mut merged = Vec::new(alloc);
-    let mut next = [0usize; 16];
+    let mut next = [0usize; MOST_THREADS as usize];
     for line in lines {
         match *line {
             Line::Phase => {}

@@ -6,7 +6,7 @@ ghost use Rattle.pa_region.specs.Waiting.{unclean_of};
 ghost use Rattle.pa_region.specs.Takes.{log_of};
 ghost use Rattle.pa_region.specs.Hands.{left_after};
 ghost use Rattle.pa_region.specs.Marks.{parcel_of};
-ghost use Rattle.pa_trace.specs.Limits.{IsWithinLimits};
+ghost use Rattle.pa_trace.specs.Limits.{IsWithinLimits, most_partitions, most_threads};
 ghost use Rattle.pa_stock.specs.Starts.{HasAllStakes};
 ghost use Rattle.pa_course.specs.Gathering.{IsMain};
 ghost use Rattle.pa_runner.specs.Opening.{IsNewFor, AreNew};
@@ -53,7 +53,7 @@ fn open_worker<N: Name>(
     lines: u32,
 ) -> Result<Worker<N>, OutOfMemory>
     requires region { seat.old.region ≡ N.region }
-    requires small { (thread < 16) × (partitions ≤ 4) }
+    requires small { (thread < most_threads) × (partitions ≤ most_partitions) }
     requires stake { 0 < stake_of seat.old.view thread }
     requires log { log_of thread seat.old.view ≡ [] }
     requires clean { unclean_of seat.old.view ≡ 0 }

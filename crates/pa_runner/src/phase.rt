@@ -1,5 +1,6 @@
 //! One phase: the workers play their lines, each on a thread of its own; then they tell the main seat, and hear from it.
 ghost use Rattle.std.specs.Prelude.{◌≡◌, ℕ, ◌<◌, ◌≤◌, length};
+ghost use Rattle.pa_trace.specs.Limits.{most_threads};
 ghost use Rattle.pa_region.specs.Views.{HasEveryStake, stake_of};
 ghost use Rattle.pa_region.specs.Hands.{left_after, given_after, united};
 ghost use Rattle.pa_region.specs.Lending.{stake_parcel};
@@ -13,7 +14,7 @@ ghost use Rattle.pa_runner.specs.Playing.{CanPlay};
 ghost use Rattle.pa_runner.specs.Phases.{AreReady, IsPlayed, ArePlayed, HaveStakes, HaveTold, HaveNone, HaveHeard, queue_in, worker_in};
 
 use crate::gate::Gate;
-use crate::playing::play_lines;
+use crate::phases::Playing;
 use crate::queue::Queue;
 use pa_heap::Worker;
 use pa_region::{Mark, Name, Seat};
@@ -23,26 +24,22 @@ use std::sync::Wait;
 use std::thread;
 use std::thread::Threads;
 
-/// Each worker plays its lines, on a thread of its own where one can be had, and else on this one. It returns when all have.
-pub fn play_phase<R: Threads + Wait + Sync, N: Name + Send + Sync, G: Gate>(
-    rt: &R,
-    heap: &Heap<N>,
-    gate: &G,
-    workers: &mut [Worker<N>],
-    queues: &[Queue],
-)
-    requires many { (0 < length workers.old) × (length workers.old ≤ 16) }
-    requires ready { AreReady queues.now workers.old }
-    ensures count { length workers.new ≡ length workers.old }
-    ensures played { ArePlayed queues.now workers.old workers.new }
-{
-    let threads = workers.len();
-    let play = |k: usize, worker: &mut Worker<N>|
-        requires thread { (k < length queues.now) × (k < 16) × (worker.old.stock.thread ≡ k) }
-        requires ready { CanPlay (queue_in queues.now k) worker.old }
-        ensures { IsPlayed (queue_in queues.entry.now k) worker.old worker.new }
-    { play_lines(rt, heap, gate, worker, k as u32, queues[k].as_slice()) };
-    thread::for_each_mut(rt, workers, threads, &play);
+impl<R: Threads + Wait + Sync, N: Name + Send + Sync, G: Gate> Playing<'_, R, N, G> {
+    /// Each worker plays its lines, on a thread of its own where one can be had, and else on this one. It returns when all have.
+    pub fn play_phase(&self, workers: &mut [Worker<N>], queues: &[Queue])
+        requires many { (0 < length workers.old) × (length workers.old ≤ most_threads) }
+        requires ready { AreReady queues.now workers.old }
+        ensures count { length workers.new ≡ length workers.old }
+        ensures played { ArePlayed queues.now workers.old workers.new }
+    {
+        let threads = workers.len();
+        let play = |k: usize, worker: &mut Worker<N>|
+            requires thread { (k < length queues.now) × (k < most_threads) × (worker.old.stock.thread ≡ k) }
+            requires ready { CanPlay (queue_in queues.now k) worker.old }
+            ensures { IsPlayed (queue_in queues.entry.now k) worker.old worker.new }
+        { self.play_lines(worker, k as u32, queues[k].as_slice()) };
+        thread::for_each_mut(self.rt, workers, threads, &play);
+    }
 }
 
 /// Each worker tells the main seat, which has every stake then, each with its log, and has seen what they have.
@@ -79,7 +76,7 @@ fn tell<N: Name>(heap: &Heap<N>, worker: &mut Worker<N>, seat: &mut Seat)
 /// Each worker hears from the main seat: it gets its stake back, and has seen what the main seat has.
 pub fn hear_all<N: Name>(heap: &Heap<N>, workers: &mut [Worker<N>], seat: &mut Seat)
     requires region { seat.old.region ≡ N.region }
-    requires few { length workers.old ≤ 16 }
+    requires few { length workers.old ≤ most_threads }
     requires main { IsMain (length workers.old) seat.old.view }
     requires every { HasEveryStake seat.old.view }
     requires none { HaveNone workers.old }
@@ -96,7 +93,7 @@ pub fn hear_all<N: Name>(heap: &Heap<N>, workers: &mut [Worker<N>], seat: &mut S
 // A worker hears from the main seat.
 fn hear<N: Name>(heap: &Heap<N>, worker: &mut Worker<N>, seat: &mut Seat, thread: u32)
     requires region { seat.old.region ≡ N.region }
-    requires thread { (worker.old.stock.thread ≡ thread) × (thread < 16) }
+    requires thread { (worker.old.stock.thread ≡ thread) × (thread < most_threads) }
     requires clean { unclean_of seat.old.view ≡ 0 }
     requires stake { 0 < stake_of seat.old.view thread }
     requires none { (k : ℕ) → stake_of worker.old.stock.view k ≡ 0 }

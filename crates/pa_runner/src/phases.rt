@@ -7,10 +7,9 @@ ghost use Rattle.pa_runner.specs.UnderWay.{BeginsPhase, IsUnderWay};
 ghost use Rattle.pa_runner.specs.Whole.{HasPlayed};
 
 use crate::gate::Gate;
-use crate::passed::pass_phase;
 use crate::phase::hear_all;
-use crate::playing::LineOp;
 use crate::queue::Queue;
+use crate::thread_lines::LineOp;
 use pa_heap::Worker;
 use pa_machine::OutOfMemory;
 use pa_record::ReportLine;
@@ -22,93 +21,78 @@ use std::marker::{Send, Sync};
 use std::sync::Wait;
 use std::thread::Threads;
 
-/// Plays the lines of a trace phase after phase, and answers the report. In each phase each worker plays its own lines; then all tell
-/// the main seat, and where a phase follows they hear from it.
-pub fn play_phases<R: Threads + Wait + Sync, N: Name + Send + Sync, G: Gate>(
-    rt: &R,
-    alloc: Global,
-    heap: &Heap<N>,
-    gate: &G,
-    trace: &Trace,
-    workers: &mut [Worker<N>],
-    seat: &mut Seat,
-) -> Result<Vec<ReportLine>, OutOfMemory>
-    requires region { seat.old.region ≡ N.region }
-    requires limits { IsWithinLimits trace.now }
-    requires main { IsMain trace.now.threads seat.old.view }
-    requires new { AreNew trace.now workers.old }
-    ensures region { seat.new.region ≡ N.region }
-    ensures played { IfOk result (λ report. HasPlayed trace.now workers.new seat.new.view report.items) }
-{
-    let mut queues = open_queues(alloc, trace.threads)?;
-    let mut report = Vec::new(alloc);
-    let mut phase = 1;
-    let mut number = 2;
-    for line in trace.lines.as_slice() {
-        match *line {
-            Line::Phase => {
-                next_phase(
-                    rt,
-                    heap,
-                    gate,
-                    trace,
-                    workers,
-                    &mut queues,
-                    seat,
-                    phase,
-                    &mut report,
-                )?;
-                phase += 1;
-            }
-            Line::Do { thread, op } => {
-                let k = thread as usize;
-                queues[k].push(LineOp { line: number, op })?;
-            }
-        }
-        number += 1;
-    }
-    let partitions = trace.partitions;
-    pass_phase(
-        rt,
-        heap,
-        gate,
-        workers,
-        &queues,
-        seat,
-        phase,
-        partitions,
-        &mut report,
-    )?;
-    Ok(report)
+/// A trace that is played: the runtime, whose threads play it, the heap in which it is played, and the gate around each line.
+#[derive(Drop)]
+pub struct Playing<'a, R, N: Name, G> {
+    /// The runtime.
+    pub rt: &'a R,
+    /// The heap.
+    pub heap: &'a Heap<N>,
+    /// The gate.
+    pub gate: &'a G,
+    /// The trace.
+    pub trace: &'a Trace,
 }
 
-// The lines of a phase are played, and the next phase begins: all workers have heard, and their queues are empty.
-fn next_phase<R: Threads + Wait + Sync, N: Name + Send + Sync, G: Gate>(
-    rt: &R,
-    heap: &Heap<N>,
-    gate: &G,
-    trace: &Trace,
-    workers: &mut [Worker<N>],
-    queues: &mut [Queue],
-    seat: &mut Seat,
-    phase: u32,
-    report: &mut Vec<ReportLine>,
-) -> Result<(), OutOfMemory>
-    requires region { seat.old.region ≡ N.region }
-    requires limits { IsWithinLimits trace.now }
-    requires going { (i : ℕ) × IsUnderWay trace.now i phase workers.old queues.old seat.old.view report.old.items }
-    ensures region { seat.new.region ≡ N.region }
-    ensures next { OnOk result ((i : ℕ) → BeginsPhase i trace.now.lines →
-        IsUnderWay trace.now i phase workers.old queues.old seat.old.view report.old.items →
-        IsUnderWay trace.now (i + 1) (phase + 1) workers.new queues.new seat.new.view report.new.items) }
-{
-    let partitions = trace.partitions;
-    pass_phase(
-        rt, heap, gate, workers, queues, seat, phase, partitions, report,
-    )?;
-    hear_all(heap, workers, seat);
-    clear_queues(queues);
-    Ok(())
+impl<R: Threads + Wait + Sync, N: Name + Send + Sync, G: Gate> Playing<'_, R, N, G> {
+    /// Plays the lines of the trace phase after phase, and answers the report. In each phase each worker plays its own lines; then
+    /// all tell the main seat, and where a phase follows they hear from it.
+    pub fn play_phases(
+        &self,
+        alloc: Global,
+        workers: &mut [Worker<N>],
+        seat: &mut Seat,
+    ) -> Result<Vec<ReportLine>, OutOfMemory>
+        requires region { seat.old.region ≡ N.region }
+        requires limits { IsWithinLimits self.now.trace.now }
+        requires main { IsMain self.now.trace.now.threads seat.old.view }
+        requires new { AreNew self.now.trace.now workers.old }
+        ensures region { seat.new.region ≡ N.region }
+        ensures played { IfOk result (λ report. HasPlayed self.now.trace.now workers.new seat.new.view report.items) }
+    {
+        let mut queues = open_queues(alloc, self.trace.threads)?;
+        let mut report = Vec::new(alloc);
+        let mut phase = 1;
+        let mut number = 2;
+        for line in self.trace.lines.as_slice() {
+            match *line {
+                Line::Phase => {
+                    self.next_phase(workers, &mut queues, seat, phase, &mut report)?;
+                    phase += 1;
+                }
+                Line::Do { thread, op } => {
+                    let k = thread as usize;
+                    queues[k].push(LineOp { line: number, op })?;
+                }
+            }
+            number += 1;
+        }
+        self.pass_phase(workers, &queues, seat, phase, &mut report)?;
+        Ok(report)
+    }
+
+    // The lines of a phase are played, and the next phase begins: all workers have heard, and their queues are empty.
+    fn next_phase(
+        &self,
+        workers: &mut [Worker<N>],
+        queues: &mut [Queue],
+        seat: &mut Seat,
+        phase: u32,
+        report: &mut Vec<ReportLine>,
+    ) -> Result<(), OutOfMemory>
+        requires region { seat.old.region ≡ N.region }
+        requires limits { IsWithinLimits self.now.trace.now }
+        requires going { (i : ℕ) × IsUnderWay self.now.trace.now i phase workers.old queues.old seat.old.view report.old.items }
+        ensures region { seat.new.region ≡ N.region }
+        ensures next { OnOk result ((i : ℕ) → BeginsPhase i self.now.trace.now.lines →
+            IsUnderWay self.now.trace.now i phase workers.old queues.old seat.old.view report.old.items →
+            IsUnderWay self.now.trace.now (i + 1) (phase + 1) workers.new queues.new seat.new.view report.new.items) }
+    {
+        self.pass_phase(workers, queues, seat, phase, report)?;
+        hear_all(self.heap, workers, seat);
+        clear_queues(queues);
+        Ok(())
+    }
 }
 
 // A queue for each thread.

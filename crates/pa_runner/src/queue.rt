@@ -1,4 +1,4 @@
-use crate::playing::LineOp;
+use crate::thread_lines::LineOp;
 use pa_machine::OutOfMemory;
 use std::alloc::Global;
 use std::marker::Model;
@@ -11,7 +11,7 @@ pub struct Queue {
 
 impl Model for Queue {
     ghost use Rattle.std.specs.Prelude.{List};
-    ghost use Rattle.pa_runner.specs.declared.playing.LineOp.{LineOp};
+    ghost use Rattle.pa_runner.specs.declared.thread_lines.LineOp.{LineOp};
 
     ghost Value = { List LineOp };
 

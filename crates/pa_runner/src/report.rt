@@ -1,5 +1,6 @@
 //! The lines of the report at the end of a phase.
 ghost use Rattle.std.specs.Prelude.{◌≡◌, ℕ, ◌+◌, ◌-◌, ◌^◌, ◌<◌, ◌≤◌, OnOk, length};
+ghost use Rattle.pa_trace.specs.Limits.{most_partitions, most_threads};
 ghost use Rattle.pa_region.specs.declared.view.View.{View};
 ghost use Rattle.pa_region.specs.Views.{HasEveryStake};
 ghost use Rattle.pa_rules.specs.Report.{census_of};
@@ -8,40 +9,41 @@ ghost use Rattle.pa_course.specs.Lines.{IsCachedBy};
 ghost use Rattle.pa_runner.specs.Phases.{worker_in};
 ghost use Rattle.pa_runner.specs.Reporting.{AreCountedBy, IsLineFor, IsReported};
 
+use crate::phases::Playing;
 use pa_heap::Worker;
 use pa_machine::OutOfMemory;
 use pa_plays::Count;
 use pa_record::{Census, ReportLine, Tally};
 use pa_region::{Name, Seat};
-use pa_stock::Heap;
 use std::sync::Wait;
 
-/// Puts the lines of a phase behind those of a report: for each partition what the workers counted and have cached, and the
-/// census of its root.
-pub fn report_phase<R: Wait, N: Name>(
-    rt: &R,
-    heap: &Heap<N>,
-    workers: &[Worker<N>],
-    seat: &mut Seat,
-    phase: u32,
-    partitions: u32,
-    report: &mut Vec<ReportLine>,
-) -> Result<(), OutOfMemory>
-    requires region { seat.old.region ≡ N.region }
-    requires every { HasEveryStake seat.old.view }
-    requires partitions { partitions ≤ 4 }
-    requires many { length workers.now ≤ 16 }
-    requires few { (k : ℕ) → k < length workers.now → length (worker_in workers.now k).records ≤ 65536 }
-    ensures region { seat.new.region ≡ N.region }
-    ensures reported { OnOk result (IsReported phase partitions (length workers.now) (worker_in workers.now)
-        seat.old.view seat.new.view report.old.items report.new.items) }
-{
-    for partition in 0..partitions {
-        let census = heap.census(rt, seat, partition);
-        let line = line_of(workers, phase, partition, &census);
-        report.push(line)?;
+impl<R: Wait, N: Name, G> Playing<'_, R, N, G> {
+    /// Puts the lines of a phase behind those of a report: for each partition what the workers counted and have cached, and the
+    /// census of its root.
+    pub fn report_phase(
+        &self,
+        workers: &[Worker<N>],
+        seat: &mut Seat,
+        phase: u32,
+        report: &mut Vec<ReportLine>,
+    ) -> Result<(), OutOfMemory>
+        requires region { seat.old.region ≡ N.region }
+        requires every { HasEveryStake seat.old.view }
+        requires partitions { self.now.trace.now.partitions ≤ most_partitions }
+        requires many { length workers.now ≤ most_threads }
+        requires few { (k : ℕ) → k < length workers.now → length (worker_in workers.now k).records ≤ 65536 }
+        ensures region { seat.new.region ≡ N.region }
+        ensures reported { OnOk result (IsReported phase self.now.trace.now.partitions (length workers.now) (worker_in workers.now)
+            seat.old.view seat.new.view report.old.items report.new.items) }
+    {
+        let partitions = self.trace.partitions;
+        for partition in 0..partitions {
+            let census = self.heap.census(self.rt, seat, partition);
+            let line = line_of(workers, phase, partition, &census);
+            report.push(line)?;
+        }
+        Ok(())
     }
-    Ok(())
 }
 
 // The line of a partition, whose root has this.
@@ -51,8 +53,8 @@ fn line_of<N: Name>(
     partition: u32,
     census: &Census,
 ) -> ReportLine
-    requires partition { partition < 4 }
-    requires many { length workers.now ≤ 16 }
+    requires partition { partition < most_partitions }
+    requires many { length workers.now ≤ most_threads }
     requires few { (k : ℕ) → k < length workers.now → length (worker_in workers.now k).records ≤ 65536 }
     ensures partition { result.partition ≡ partition }
     ensures census { census_of result ≡ census.now }
@@ -87,8 +89,8 @@ fn left_of(into: Tally, out: Tally) -> Tally
 
 // What the workers counted of a partition.
 fn counted_by<N: Name>(workers: &[Worker<N>], partition: u32) -> Count
-    requires partition { partition < 4 }
-    requires many { length workers.now ≤ 16 }
+    requires partition { partition < most_partitions }
+    requires many { length workers.now ≤ most_threads }
     requires few { (k : ℕ) → k < length workers.now → length (worker_in workers.now k).records ≤ 65536 }
     ensures { AreCountedBy partition (length workers.now) (worker_in workers.now) result }
 {
@@ -112,8 +114,8 @@ fn counted_by<N: Name>(workers: &[Worker<N>], partition: u32) -> Count
 
 // What the lists of the workers have of a partition.
 fn cached_by<N: Name>(workers: &[Worker<N>], partition: u32) -> Tally
-    requires partition { partition < 4 }
-    requires many { length workers.now ≤ 16 }
+    requires partition { partition < most_partitions }
+    requires many { length workers.now ≤ most_threads }
     ensures { IsCachedBy partition (length workers.now) (worker_in workers.now) result }
 {
     let mut sum = NONE;

@@ -8,7 +8,7 @@ ghost use Rattle.pa_runner.specs.Whole.{HasPlayed, IsHeldRun};
 use crate::gate::Gate;
 use crate::merging::merge_records;
 use crate::opening::open_workers;
-use crate::phases::play_phases;
+use crate::phases::Playing;
 use pa_cells::slots_stay_seen;
 use pa_heap::{Left, Worker, close};
 use pa_machine::OutOfMemory;
@@ -55,15 +55,13 @@ fn run_in<N: Name + Send + Sync, R: Threads + Wait + Sync, G: Gate>(
     let budget = trace.lines.as_slice().len() as u32;
     let (heap, mut seat) = Heap::<N>::open(alloc, trace.region, region, seat, budget)?;
     let mut workers = open_workers(alloc, &heap, trace, &mut seat)?;
-    let report = play_phases(
+    let report = Playing {
         rt,
-        alloc,
-        &heap,
+        heap: &heap,
         gate,
         trace,
-        workers.as_mut_slice(),
-        &mut seat,
-    )?;
+    }
+    .play_phases(alloc, workers.as_mut_slice(), &mut seat)?;
     close_run(alloc, trace, heap, workers, seat, report)
 }
 

@@ -15,9 +15,6 @@ pub record IsAddedTo (lists : ℕ → List Numbered) (n : ℕ) (t : Tally) : Typ
   pub few : t.slots ≤ 64 * n
   pub small : t.bytes ≤ 58720256 * n
 
-pub added_none : (lists : ℕ → List Numbered) → IsAddedTo lists 0 (record { slots = 0; bytes = 0 })
-added_none lists = record { slots = omega arith; bytes = omega arith; few = omega arith; small = omega arith }
-
 -- the bytes of one more list are few
 list_small : (n m : ℕ) → n < 59 → m ≤ 64 → slot_of n * m ≤ 58720256
 list_small n m below few = mul-le (slot_of n) m 917504 64 (IsRow-of n below).greatest_slot few
@@ -36,14 +33,3 @@ added_more lists n m slots size t below is few count bytes h =
     let c = h.few in
     let d = h.small in
     record { slots = omega arith; bytes = omega arith; few = omega arith; small = omega arith }
-
--- all of them
-pub added_all : (lists : ℕ → List Numbered) (n : ℕ) (t : Tally) → n ≡ 59 → IsAddedTo lists n t →
-    (t.slots ≡ listed_slots lists 0 59) × (t.bytes ≡ listed_bytes (λ class. length (lists class)) 0 59)
-added_all lists n t end h =
-    let none : 59 - n ≡ 0 = omega arith in
-    let a = ap (λ k. t.slots + listed_slots lists n k) none in
-    let b = ap (λ k. t.bytes + listed_bytes (λ class. length (lists class)) n k) none in
-    let c = h.slots in
-    let d = h.bytes in
-    (omega arith, omega arith)

@@ -6,21 +6,21 @@ use Rattle.std.proofs.lemmas.List.Folds.{sum_by-replicate}
 use Rattle.std.proofs.lemmas.Bool.{cases_lt}
 use Rattle.std.proofs.lemmas.Bool.Decides.{nat_tests}
 use Rattle.pa_machine.specs.declared.title.Title.{Title}
-use Rattle.pa_record.proofs.Members.{not_in_none}
+use Rattle.pa_lists.proofs.Members.{not_in_none}
 use Rattle.pa_region.specs.declared.view.View.{View}
 use Rattle.pa_region.specs.Waiting.{unclean_of}
 use Rattle.pa_buckets.specs.Table.{slot_of}
 use Rattle.pa_cache.specs.Caches.{CacheList, IsCache}
-use Rattle.pa_plays.specs.declared.register.Register.TheVariants.{Empty}
-use Rattle.pa_plays.specs.Stocks.{IsStock, IsForThread, IsMadeFor, AreNoLists, titles_in, owns_one, refs_one, no_cache, cache_place}
+use Rattle.pa_rules.specs.declared.register.Register.TheVariants.{Empty}
+use Rattle.pa_plays.specs.Stocks.{StockRegister, IsStock, IsForThread, IsMadeFor, AreNoLists, titles_in, owns_one, refs_one, no_cache, cache_place}
 
 -- registers that are all empty
-pub all_empty : (n i : ℕ) → slice_index_or (replicate n Empty) i Empty ≡ Empty
+pub all_empty : (n i : ℕ) → slice_index_or {A = StockRegister} (replicate n Empty) i Empty ≡ Empty
 all_empty zero i = refl
 all_empty (suc n) zero = refl
 all_empty (suc n) (suc i) = all_empty n i
 
-long_replicate : (n : ℕ) → length (replicate n Empty) ≡ n
+long_replicate : (n : ℕ) → length {A = StockRegister} (replicate n Empty) ≡ n
 long_replicate zero = refl
 long_replicate (suc n) = let again = long_replicate n in omega arith
 

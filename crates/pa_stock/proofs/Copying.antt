@@ -10,9 +10,8 @@ use Rattle.pa_region.specs.Waiting.{is_unclean}
 use Rattle.pa_region.specs.Moves.{CanCount, after_count, busy}
 use Rattle.pa_region.specs.Leaves.{CountLeaves, OwnsChange}
 use Rattle.pa_cells.specs.declared.handle.Handle.{Handle}
-use Rattle.pa_plays.specs.declared.register.Register.{Register}
-use Rattle.pa_plays.specs.declared.register.Register.TheVariants.{Empty, Own, Ref, Freed, Cleared}
-use Rattle.pa_plays.specs.Stocks.{StockValue, IsStock, HasHandleTo, HasNoHandle, register_in, owns_one, refs_one}
+use Rattle.pa_rules.specs.declared.register.Register.TheVariants.{Empty, Own, Ref, Freed, Cleared}
+use Rattle.pa_plays.specs.Stocks.{StockRegister, StockValue, IsStock, HasHandleTo, HasNoHandle, register_in, owns_one, refs_one}
 use Rattle.pa_plays.specs.Workers.{HasItsStake}
 use Rattle.pa_plays.proofs.Registers.{sum_set, made_set}
 use Rattle.pa_plays.proofs.Seeing.{made_kept, made_for_kept}
@@ -33,14 +32,14 @@ can_copy s from h is stake budget below has =
     (omega arith, (least_is s.thread s.view is.stake stake).1, budget, tt)
 
 -- a register without a handle weighs nothing
-none_owned : (t : Title) (r : Register) → HasNoHandle r → owns_one t r ≡ 0
+none_owned : (t : Title) (r : StockRegister) → HasNoHandle r → owns_one t r ≡ 0
 none_owned t Empty is = refl
 none_owned t (Own h) is = absurd is
 none_owned t (Ref h) is = absurd is
 none_owned t Freed is = refl
 none_owned t Cleared is = refl
 
-none_pointed : (t : Title) (r : Register) → HasNoHandle r → refs_one t r ≡ 0
+none_pointed : (t : Title) (r : StockRegister) → HasNoHandle r → refs_one t r ≡ 0
 none_pointed t Empty is = refl
 none_pointed t (Own h) is = absurd is
 none_pointed t (Ref h) is = absurd is
@@ -69,5 +68,5 @@ copied_stock counts owns s from to word h is stake budget below within has bare 
     })
     refl (λ u. let a = leaves.frees u in omega arith) leaves.entry.stakes
   where
-    long : (xs : List Register) → to < length xs → length (slice_set xs to (Ref h)) ≡ length xs
+    long : (xs : List StockRegister) → to < length xs → length (slice_set xs to (Ref h)) ≡ length xs
     long xs inside = length-set xs to (Ref h)

@@ -10,7 +10,7 @@ use Rattle.pa_layout.specs.Pages.{supers_for}
 use Rattle.pa_record.specs.declared.root.RootAct.{RootAct}
 use Rattle.pa_record.specs.declared.root.RootAct.TheVariants as act
 use Rattle.pa_record.specs.Spans.{name_of}
-use Rattle.pa_record.proofs.Members.{first_in, later_in}
+use Rattle.pa_lists.proofs.Members.{first_in, later_in}
 use Rattle.pa_region.specs.declared.view.View.{View}
 use Rattle.pa_region.specs.Hands.{united}
 use Rattle.pa_region.specs.Aware.{IsAware}

@@ -19,7 +19,7 @@ use Rattle.pa_quarantine.specs.Filling.{poisoned}
 use Rattle.pa_quarantine.proofs.Filling.{poison_ready}
 use Rattle.pa_quarantine.proofs.Handing.{without_changed, without_less}
 use Rattle.pa_cells.specs.declared.handle.Handle.{Handle}
-use Rattle.pa_plays.specs.declared.register.Register.TheVariants.{Empty, Own, Freed}
+use Rattle.pa_rules.specs.declared.register.Register.TheVariants.{Empty, Own, Freed}
 use Rattle.pa_plays.specs.Stocks.{StockValue, IsStock, register_in, owns_one, refs_one}
 use Rattle.pa_plays.specs.Workers.{HasItsStake}
 use Rattle.pa_plays.proofs.Registers.{sum_set, made_set}

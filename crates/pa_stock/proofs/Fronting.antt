@@ -8,7 +8,7 @@ use Rattle.pa_machine.specs.declared.title.Title.{Title}
 use Rattle.pa_machine.specs.Titles.{IsWellFormed}
 use Rattle.pa_region.specs.Views.{free_of}
 use Rattle.pa_buckets.specs.Bands.{limit_of}
-use Rattle.pa_record.proofs.Members.{in_cases}
+use Rattle.pa_lists.proofs.Members.{in_cases}
 use Rattle.pa_cache.specs.Caches.{CacheList, IsCache, HoldsFree}
 use Rattle.pa_cells.specs.declared.handle.Handle.{Handle}
 use Rattle.pa_cells.specs.Handles.{HasSeenMade}

@@ -14,8 +14,8 @@ use Rattle.pa_record.specs.declared.root.RootAct.{RootAct}
 use Rattle.pa_record.specs.declared.root.RootAct.TheVariants.{Fill, Give}
 use Rattle.pa_record.specs.Numbers.{root_numbers}
 use Rattle.pa_record.specs.Spans.{name_of}
-use Rattle.pa_record.proofs.Joined.{map_cases, map_in}
-use Rattle.pa_record.proofs.Members.{in_cases, not_in_none}
+use Rattle.pa_lists.proofs.Joined.{map_cases, map_in}
+use Rattle.pa_lists.proofs.Members.{in_cases, not_in_none}
 use Rattle.pa_region.specs.declared.view.Entry.{Entry}
 use Rattle.pa_region.specs.declared.view.Entry.TheVariants.{Entered}
 use Rattle.pa_region.specs.declared.view.Made.{Made}
@@ -44,11 +44,12 @@ use Rattle.pa_plays.specs.Stocks.{StockValue, IsStock, cache_place, no_cache, ti
 use Rattle.pa_stock.specs.Giving.{Gives, GivesBatch, HandsBack, TakesBack, with_titles}
 use Rattle.pa_plays.proofs.Registers.{set_at}
 use Rattle.pa_plays.proofs.Stocks.{stock_kept}
-use Rattle.pa_stock.proofs.Parking.{made_for_more, frees_kept, owns_kept, refs_kept}
+use Rattle.pa_stock.proofs.Parking.{made_for_more, owns_kept, refs_kept}
 use Rattle.pa_stock.proofs.Fronting.{cache_of, titles_at}
 use Rattle.pa_plays.proofs.Entered.{TellsOf, Entering, if_none, entering_both, one_enters}
 use Rattle.pa_plays.proofs.Quiet.{same_titles}
 use Rattle.pa_stock.proofs.Lists.{set_titles, this_list, in_rest, in_batch, rest_or_batch}
+use Rattle.pa_root.proofs.Seeing.{free_kept}
 
 -- ---- a seat hands free titles over
 
@@ -136,7 +137,7 @@ module _ (r line p : ℕ) (ts : List Title) (v w : View) (hands : HandsBack r li
     but = keeps_but ts v once has aware.free_once
 
     free_left : (t : Title) → free_of w t ≡ free_of (left_view ts v) t
-    free_left t = frees_kept hands.left w t keeps ∙ ap (λ (z : View). free_of z t) hands.left_is
+    free_left t = free_kept hands.left w t keeps ∙ ap (λ (z : View). free_of z t) hands.left_is
 
     pub hands_clean : unclean_of w ≡ unclean_of v
     hands_clean = keeps.unclean ∙ (ap (λ (z : View). unclean_of z) hands.left_is ∙ but.unclean)
@@ -159,7 +160,7 @@ module _ (r line p : ℕ) (ts : List Title) (v w : View) (hands : HandsBack r li
 
     pub hands_numbers : KeptNumbersStay → IsAware w → (n : ℕ) (t : Title) → IsWellFormed n t → 0 < free_of w t → seen_of w t ≡ seen_of v t
     hands_numbers law now n t well free =
-        law hands.left w n t hands.aware now keeps well (let e = frees_kept hands.left w t keeps in omega arith) ∙ ap (λ (z : View). seen_of z t) hands.left_is
+        law hands.left w n t hands.aware now keeps well (let e = free_kept hands.left w t keeps in omega arith) ∙ ap (λ (z : View). seen_of z t) hands.left_is
 
 -- ---- the stock after a batch
 

@@ -2,19 +2,17 @@
 use Rattle.std.proofs.Common.{◌≡◌, ℕ, ◌<◌, ◌≤◌, Bool, true, false, not, ◌&&◌, List, [], ◌∷◌, length, refl, sym, ap, subst, arith, ◌⊎◌, inl, inr}
 use Rattle.std.specs.Prelude.{◌==◌}
 use Rattle.std.specs.List.{sum_by, filter}
-use Rattle.std.proofs.lemmas.List.Sums.{sum_by-cons, sum_by-append, sum_by-le-sum_by}
+use Rattle.std.proofs.lemmas.List.Sums.{sum_by-cons, sum_by-append}
 use Rattle.std.proofs.lemmas.Bool.{cases_Bool}
 use Rattle.std.proofs.lemmas.Bool.Decides.{nat_tests, eqb_tells}
 use Rattle.pa_machine.specs.declared.title.Title.{Title}
-use Rattle.pa_machine.specs.declared.title.OwnState.{OwnState}
-use Rattle.pa_machine.specs.declared.title.OwnState.TheVariants.{Clean, Dirty, Poisoned}
 use Rattle.pa_machine.specs.Titles.{same_title}
 use Rattle.pa_machine.specs.Holdings.{one}
 use Rattle.pa_machine.proofs.Same.{title_self}
 use Rattle.pa_region.specs.declared.view.OwnTitle.{OwnTitle}
 use Rattle.pa_region.specs.declared.view.Stake.{Stake}
 use Rattle.pa_region.specs.declared.view.View.{View}
-use Rattle.pa_region.specs.Waiting.{is_poisoned, is_unclean, poisoned_of, unclean_of}
+use Rattle.pa_region.specs.Waiting.{is_unclean}
 use Rattle.pa_region.specs.Hands.{left_after, given_after, united, IsParted}
 use Rattle.pa_region.specs.Views.{stake_of}
 use Rattle.pa_region.specs.Lending.{stake_parcel}
@@ -22,9 +20,8 @@ use Rattle.pa_region.specs.Aware.{IsAware}
 use Rattle.pa_region.specs.Takes.{BeginningsJoin, FreeNumbersStay}
 use Rattle.pa_rules.specs.Caches.{SameLists}
 use Rattle.pa_cells.specs.Handles.{SlotsStaySeen}
-use Rattle.pa_plays.specs.declared.register.Register.{Register}
-use Rattle.pa_plays.specs.declared.register.Register.TheVariants.{Empty, Own, Ref, Freed, Cleared}
-use Rattle.pa_plays.specs.Stocks.{StockValue, IsStock, HoldsStake, IsForThread, IsMadeFor, titles_in, listed_in, register_in}
+use Rattle.pa_rules.specs.declared.register.Register.TheVariants.{Empty, Own, Ref, Freed, Cleared}
+use Rattle.pa_plays.specs.Stocks.{StockRegister, StockValue, IsStock, HoldsStake, IsForThread, IsMadeFor, titles_in, listed_in, register_in}
 use Rattle.pa_plays.proofs.Quiet.{same_titles}
 use Rattle.pa_plays.proofs.Seeing.{made_for_kept, made_kept}
 use Rattle.pa_plays.proofs.Stocks.{stock_kept}
@@ -71,18 +68,6 @@ none_owned (o ∷ os) none =
     let d : one (same_title o.title o.title) ≡ 1 = ap one (title_self o.title) in
     absurd (omega arith)
 
--- an Own that is poisoned isn't clean
-pub none_poisoned : (v : View) (t : Title) → unclean_of v ≡ 0 → poisoned_of v t ≡ 0
-none_poisoned v t clean =
-    let less = sum_by-le-sum_by (λ (o : OwnTitle). one (same_title o.title t && is_poisoned o.state)) (λ (o : OwnTitle). one (is_unclean o.state)) v.owns (λ o. few (same_title o.title t) o.state) in
-    omega arith
-  where
-    few : (b : Bool) (a : OwnState) → one (b && is_poisoned a) ≤ one (is_unclean a)
-    few true Clean = omega arith
-    few true Dirty = omega arith
-    few true (Poisoned j) = omega arith
-    few false a = omega arith
-
 -- the stock after the stake came back
 pub heard_stock : BeginningsJoin → SlotsStaySeen → (s : StockValue) (n : View) → IsStock s → IsForThread s.thread n → IsAware (united s.view n) →
     IsStock (record s { view = united s.view n })
@@ -105,7 +90,7 @@ heard_stock joins stays s n is for aware =
     })
     (λ h m. stays h s.view w m (joins s.view n h.partition aware).0) (λ t. omega (arith, sum_by-append (λ (u : Title). one (same_title u t)) s.view.frees n.frees))
   where
-    made_for : (r : Register) → IsMadeFor s.view r → IsMadeFor (united s.view n) r
+    made_for : (r : StockRegister) → IsMadeFor s.view r → IsMadeFor (united s.view n) r
     made_for Empty m = tt
     made_for (Own h) m = stays h s.view (united s.view n) m (joins s.view n h.partition aware).0
     made_for (Ref h) m = stays h s.view (united s.view n) m (joins s.view n h.partition aware).0

@@ -1,6 +1,6 @@
 -- A free title that goes home from a worker's seat, and comes back where it can't: the stock in between.
-use Rattle.std.proofs.Common.{◌≡◌, ℕ, ◌<◌, true, List, [], ◌∷◌, map, Option, Some, None, Result, Ok, Err, refl, sym, ◌∙◌, ap, subst, arith, inl, inr}
-use Rattle.std.specs.Prelude.{◌==◌, ◌≢◌, AllPairs, Contains, OnOk, OnErr, filter}
+use Rattle.std.proofs.Common.{◌≡◌, ℕ, ◌<◌, List, [], ◌∷◌, map, Option, Some, None, Result, Ok, Err, refl, sym, ◌∙◌, ap, subst, arith, inl, inr}
+use Rattle.std.specs.Prelude.{◌==◌, ◌≢◌, AllPairs, Contains, OnOk, OnErr}
 use Rattle.std.specs.List.{sum_by}
 use Rattle.std.proofs.lemmas.List.{append-nil}
 use Rattle.std.proofs.lemmas.List.Sums.{sum_by-append}
@@ -12,9 +12,9 @@ use Rattle.pa_record.specs.declared.root.RootEntry.{RootEntry}
 use Rattle.pa_record.specs.declared.root.RootAct.{RootAct}
 use Rattle.pa_record.specs.Numbers.{root_numbers}
 use Rattle.pa_record.specs.Spans.{name_of}
-use Rattle.pa_record.proofs.Members.{in_cases, not_in_none}
-use Rattle.pa_record.proofs.Joined.{map_cases, map_in}
-use Rattle.pa_record.proofs.Pairs.{pairs_none, pairs_cons}
+use Rattle.pa_lists.proofs.Members.{in_cases, not_in_none}
+use Rattle.pa_lists.proofs.Joined.{map_cases, map_in}
+use Rattle.pa_lists.proofs.Pairs.{pairs_none, pairs_cons}
 use Rattle.pa_region.specs.declared.view.Entry.{Entry}
 use Rattle.pa_region.specs.declared.view.Made.{Made}
 use Rattle.pa_region.specs.declared.view.OwnTitle.{OwnTitle}
@@ -45,6 +45,7 @@ use Rattle.pa_plays.proofs.Seeing.{made_kept, made_for_kept}
 use Rattle.pa_stock.proofs.Parking.{made_for_more, kept_stock}
 use Rattle.pa_plays.proofs.Stocks.{stock_kept}
 use Rattle.pa_plays.proofs.Entered.{Entering, entering_none}
+use Rattle.pa_root.proofs.Showing.{all_stakes}
 
 -- ---- a free title is handed over
 
@@ -65,16 +66,8 @@ can_part s h back = can_hand (h.title ∷ []) s.view (alone h.title) (free_alone
 pub part_has : (h : Handle) (v : View) → HasOnly (h.title ∷ []) (note_of_title h.title v)
 part_has h v = note_has (h.title ∷ []) v
 
-pub part_made : (h : Handle) (v : View) → HasSeenMade h v → HasSeenMade h (note_of_title h.title v)
-part_made h v made = made_kept h v (note_of_title h.title v) refl made
-
--- the seat keeps its stakes
-all_stay : (ss : List Stake) → filter (λ (x : Stake). true) ss ≡ ss
-all_stay [] = refl
-all_stay (s ∷ ss) = ap (λ (xs : List Stake). s ∷ xs) (all_stay ss)
-
 pub left_stakes : (t : Title) (v : View) → (without_title t v).stakes ≡ v.stakes
-left_stakes t v = all_stay v.stakes
+left_stakes t v = all_stakes v.stakes
 
 pub left_stake : (t : Title) (v : View) (k : ℕ) → stake_of (without_title t v) k ≡ stake_of v k
 left_stake t v k = ap (λ (ss : List Stake). sum_by (λ (x : Stake). one (x.number == k)) ss) (left_stakes t v)

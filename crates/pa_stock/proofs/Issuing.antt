@@ -21,9 +21,8 @@ use Rattle.pa_region.specs.Moves.{CanCount, IsFound, after_count}
 use Rattle.pa_region.specs.Leaves.{CountLeaves, LeavesCount}
 use Rattle.pa_quarantine.specs.Filling.{zeroed}
 use Rattle.pa_cells.specs.declared.handle.Handle.{Handle}
-use Rattle.pa_plays.specs.declared.register.Register.{Register}
-use Rattle.pa_plays.specs.declared.register.Register.TheVariants.{Empty, Own}
-use Rattle.pa_plays.specs.Stocks.{StockValue, IsStock, HasNoHandle, register_in, owns_one, refs_one, titles_in, listed_slot}
+use Rattle.pa_rules.specs.declared.register.Register.TheVariants.{Empty, Own}
+use Rattle.pa_plays.specs.Stocks.{StockRegister, StockValue, IsStock, HasNoHandle, register_in, owns_one, refs_one, titles_in, listed_slot}
 use Rattle.pa_plays.specs.Workers.{HasItsStake}
 use Rattle.pa_stock.specs.Changes.{IsBack}
 use Rattle.pa_stock.specs.Allocating.{Issues}
@@ -95,7 +94,7 @@ issued_stock counts s r word h is can below bare back = record {
     leaves : LeavesCount steps.Issue h.title word (zeroed h.title s.view) (issued_view s.view h.title word)
     leaves = counts steps.Issue t word (zeroed t s.view) can
 
-    rs : List Register
+    rs : List StockRegister
     rs = s.registers
 
     inside : r < length rs

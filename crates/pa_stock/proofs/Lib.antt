@@ -26,4 +26,5 @@ pub mod Taking
 pub mod Fetching
 pub mod Popping
 pub mod Receiving
+pub mod Released
 pub mod Allocated

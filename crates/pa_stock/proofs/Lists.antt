@@ -2,15 +2,16 @@
 use Rattle.std.proofs.Common.{◌≡◌, ℕ, zero, suc, ◌+◌, ◌<◌, ◌≤◌, Bool, true, false, List, [], ◌∷◌, ◌++◌, length, take, drop, refl, sym, ◌∙◌, ap, subst, arith, inl, inr}
 use Rattle.std.specs.Prelude.{◌==◌, ◌&&◌, ◌≢◌, AllPairs, Contains, nat_lt, if◌then◌else◌, slice_index_or, slice_set}
 use Rattle.std.proofs.lemmas.List.{drop-drop, take-append-drop}
-use Rattle.std.proofs.lemmas.List.Elements.{Contains-append_left, Contains-append_right, Contains-append_cases}
+use Rattle.std.proofs.lemmas.List.Elements.{Contains-append_right, Contains-append_cases}
 use Rattle.std.proofs.lemmas.Bool.Decides.{nat_tests, eqb_tells}
 use Rattle.pa_machine.specs.declared.title.Title.{Title}
-use Rattle.pa_record.proofs.Members.{in_cases, not_in_none}
-use Rattle.pa_record.proofs.Pairs.{pairs_head, pairs_tail}
+use Rattle.pa_lists.proofs.Members.{in_cases, not_in_none}
+use Rattle.pa_lists.proofs.Pairs.{pairs_head, pairs_tail}
 use Rattle.pa_cache.specs.Caches.{CacheList, batch_after, rest_after}
 use Rattle.pa_plays.specs.Stocks.{cache_place, no_cache, titles_in}
 use Rattle.pa_stock.specs.Giving.{with_titles}
 use Rattle.pa_plays.proofs.Registers.{set_at}
+use Rattle.pa_lists.proofs.Elements.{take_in, drop_in}
 
 -- the list at one place, and another one
 pub this_list : (p c : ℕ) (ts : List Title) (lists : ℕ → ℕ → List Title) → with_titles p c ts lists p c ≡ ts
@@ -59,21 +60,15 @@ set_titles caches p c new q d low small long = by_class (nat_lt d 59) refl
 
 -- ---- a part of a list, and its rest
 
-pub in_take : {X : Type 0} (n : ℕ) (xs : List X) (x : X) → Contains (take n xs) x → Contains xs x
-in_take n xs x among = subst (λ ys. Contains ys x) (take-append-drop n xs) (Contains-append_left (take n xs) (drop n xs) x among)
-
-pub in_drop : {X : Type 0} (n : ℕ) (xs : List X) (x : X) → Contains (drop n xs) x → Contains xs x
-in_drop n xs x among = subst (λ ys. Contains ys x) (take-append-drop n xs) (Contains-append_right (take n xs) (drop n xs) x among)
-
 -- what stays and what goes were there
 pub in_rest : (keep : ℕ) (ts : List Title) (t : Title) → Contains (rest_after keep ts) t → Contains ts t
 in_rest keep ts t among = elim (Contains-append_cases (take keep ts) (drop (keep + 16) ts) t among) [
-  | inl first ↦ in_take keep ts t first
-  | inr later ↦ in_drop (keep + 16) ts t later
+  | inl first ↦ take_in keep ts t first
+  | inr later ↦ drop_in (keep + 16) ts t later
 ]
 
 pub in_batch : (keep : ℕ) (ts : List Title) (t : Title) → Contains (batch_after keep ts) t → Contains ts t
-in_batch keep ts t among = in_drop keep ts t (in_take 16 (drop keep ts) t among)
+in_batch keep ts t among = drop_in keep ts t (take_in 16 (drop keep ts) t among)
 
 -- where no title stands twice, none is in both
 apart_append : (xs ys : List Title) (t : Title) → AllPairs ◌≢◌ (xs ++ ys) → Contains xs t → Contains ys t → ⊥
@@ -93,7 +88,7 @@ pairs_after (suc n) (x ∷ xs) once = pairs_after n xs (pairs_tail (λ a b. a �
 pub rest_or_batch : (keep : ℕ) (ts : List Title) (t : Title) → AllPairs ◌≢◌ ts → Contains (rest_after keep ts) t → Contains (batch_after keep ts) t → ⊥
 rest_or_batch keep ts t once rest batch = elim (Contains-append_cases (take keep ts) (drop (keep + 16) ts) t rest) [
   | inl first ↦
-      apart_append (take keep ts) (drop keep ts) t (subst (AllPairs ◌≢◌) (sym (take-append-drop keep ts)) once) first (in_take 16 (drop keep ts) t batch)
+      apart_append (take keep ts) (drop keep ts) t (subst (AllPairs ◌≢◌) (sym (take-append-drop keep ts)) once) first (take_in 16 (drop keep ts) t batch)
   | inr later ↦
       apart_append (take 16 (drop keep ts)) (drop 16 (drop keep ts)) t (subst (AllPairs ◌≢◌) (sym (take-append-drop 16 (drop keep ts))) (pairs_after keep ts once)) batch
       (subst (λ us. Contains us t) (sym (drop-drop 16 keep ts)) later)

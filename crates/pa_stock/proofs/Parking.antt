@@ -7,11 +7,11 @@ use Rattle.std.proofs.lemmas.List.Sums.{sum_by-cons, sum_by-append}
 use Rattle.std.proofs.lemmas.Bool.Decides.{eqb_tells}
 use Rattle.pa_machine.specs.declared.title.Title.{Title}
 use Rattle.pa_machine.specs.Titles.{same_title}
-use Rattle.pa_machine.specs.Holdings.{one, FreeTitle, OwnOf, RefOf}
+use Rattle.pa_machine.specs.Holdings.{one, OwnOf, RefOf}
 use Rattle.pa_region.specs.declared.view.OwnTitle.{OwnTitle}
 use Rattle.pa_region.specs.declared.view.Stake.{Stake}
 use Rattle.pa_region.specs.declared.view.View.{View}
-use Rattle.pa_region.specs.Views.{free_of, own_of, ref_of, stake_of}
+use Rattle.pa_region.specs.Views.{own_of, ref_of, stake_of}
 use Rattle.pa_region.specs.Waiting.{is_unclean}
 use Rattle.pa_region.specs.Pairs.{log_among}
 use Rattle.pa_region.specs.Lists.{list_of, IsBeginning}
@@ -20,12 +20,11 @@ use Rattle.pa_region.specs.Hands.{CanHand, HoldsGiven, left_after, united}
 use Rattle.pa_region.specs.Lending.{Keeps}
 use Rattle.pa_region.specs.Marks.{parcel_of}
 use Rattle.pa_region.specs.Aware.{IsAware}
-use Rattle.pa_region.proofs.Pieces.{frees_have, owns_have, refs_have}
+use Rattle.pa_region.proofs.Pieces.{owns_have, refs_have}
 use Rattle.pa_cells.specs.declared.handle.Handle.{Handle}
 use Rattle.pa_cells.specs.Handles.{ParkedHandle, IsParked, HasSeenMade, LacksHandle, GiversLackHandles, TakersHaveHandles, SlotsStaySeen, handle_item}
-use Rattle.pa_plays.specs.declared.register.Register.{Register}
-use Rattle.pa_plays.specs.declared.register.Register.TheVariants.{Empty, Own, Ref, Freed, Cleared}
-use Rattle.pa_plays.specs.Stocks.{StockValue, IsStock, IsMadeFor, HasNoHandle, register_in, owns_one, refs_one}
+use Rattle.pa_rules.specs.declared.register.Register.TheVariants.{Empty, Own, Ref, Freed, Cleared}
+use Rattle.pa_plays.specs.Stocks.{StockRegister, StockValue, IsStock, IsMadeFor, HasNoHandle, register_in, owns_one, refs_one}
 use Rattle.pa_plays.specs.Workers.{HasItsStake}
 use Rattle.pa_stock.specs.Exchanging.{handle_register, register_of}
 use Rattle.pa_plays.proofs.Registers.{sum_set, made_set}
@@ -33,6 +32,7 @@ use Rattle.pa_plays.proofs.Seeing.{made_for_kept}
 use Rattle.pa_stock.proofs.Leaving.{least_is, clean_own}
 use Rattle.pa_plays.proofs.Stocks.{register_owns, register_points, stock_kept, stock_with}
 use Rattle.pa_plays.proofs.Entered.{Rests}
+use Rattle.pa_root.proofs.Seeing.{free_kept}
 
 pub rests_none : (v : View) → Rests v v
 rests_none v = record {
@@ -118,16 +118,12 @@ parked_stock law s reg own h is stake below has =
 -- ---- the stake is lent, and comes back
 
 -- how all slots were made that registers have was seen, by who has seen more
-pub made_for_more : SlotsStaySeen → (v w : View) → ((k : ℕ) → IsBeginning (list_of k v) (list_of k w)) → (r : Register) → IsMadeFor v r → IsMadeFor w r
+pub made_for_more : SlotsStaySeen → (v w : View) → ((k : ℕ) → IsBeginning (list_of k v) (list_of k w)) → (r : StockRegister) → IsMadeFor v r → IsMadeFor w r
 made_for_more stays v w more Empty m = tt
 made_for_more stays v w more (Own h) m = stays h v w m (more h.partition)
 made_for_more stays v w more (Ref h) m = stays h v w m (more h.partition)
 made_for_more stays v w more Freed m = tt
 made_for_more stays v w more Cleared m = tt
-
--- who keeps what it has holds the same titles
-pub frees_kept : (v w : View) (t : Title) → Keeps v w → free_of w t ≡ free_of v t
-frees_kept v w t keeps = sym (frees_have w t) ∙ (keeps.things (FreeTitle t) ∙ frees_have v t)
 
 pub owns_kept : (v w : View) (t : Title) → Keeps v w → own_of w t ≡ own_of v t
 owns_kept v w t keeps = sym (owns_have w t) ∙ (keeps.things (OwnOf t) ∙ owns_have v t)
@@ -146,19 +142,19 @@ kept_stock stays s w is keeps =
       made = λ k. made_for_more stays s.view w keeps.lists (register_in s.registers k) (is.handles.made k);
     })
     (record { small = is.stake.small; only = λ k other. keeps.stakes k ∙ is.stake.only k other })
-    (λ h m. stays h s.view w m (keeps.lists h.partition)) (λ t. let e = frees_kept s.view w t keeps in omega arith)
+    (λ h m. stays h s.view w m (keeps.lists h.partition)) (λ t. let e = free_kept s.view w t keeps in omega arith)
 
 -- ---- a handle is taken in
 
 -- a register without a handle weighs nothing
-pub none_owned : (t : Title) (r : Register) → HasNoHandle r → owns_one t r ≡ 0
+pub none_owned : (t : Title) (r : StockRegister) → HasNoHandle r → owns_one t r ≡ 0
 none_owned t Empty is = refl
 none_owned t (Own h) is = absurd is
 none_owned t (Ref h) is = absurd is
 none_owned t Freed is = refl
 none_owned t Cleared is = refl
 
-pub none_pointed : (t : Title) (r : Register) → HasNoHandle r → refs_one t r ≡ 0
+pub none_pointed : (t : Title) (r : StockRegister) → HasNoHandle r → refs_one t r ≡ 0
 none_pointed t Empty is = refl
 none_pointed t (Own h) is = absurd is
 none_pointed t (Ref h) is = absurd is

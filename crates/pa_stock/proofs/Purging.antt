@@ -17,10 +17,10 @@ use Rattle.pa_plays.specs.Stocks.{StockValue, IsStock, titles_in, listed_in}
 use Rattle.pa_plays.specs.Workers.{HasItsStake}
 use Rattle.pa_stock.specs.Giving.{Gives, GivesTail, with_titles}
 use Rattle.pa_stock.specs.Purging.{PurgesRoot, without_lists}
-use Rattle.pa_stock.proofs.Parking.{frees_kept}
 use Rattle.pa_plays.proofs.Entered.{one_enters}
 use Rattle.pa_stock.proofs.Lists.{this_one, other_list}
 use Rattle.pa_stock.proofs.HandedBack.{gives_none, gives_left, gives_on, gives_listed}
+use Rattle.pa_root.proofs.Seeing.{free_kept}
 
 -- the lists without those of partition p and the first n classes
 abbrev pub cleared : ℕ → ℕ → (ℕ → ℕ → List Title) → ℕ → ℕ → List Title
@@ -142,9 +142,9 @@ purged_gives law s w line p aware now low (j, it) =
       same = (refl, refl, refl);
       lists = enters.lists;
       grows = enters.grows;
-      numbers = λ n t well free. law s.view w n t aware now keeps well (let e = frees_kept s.view w t keeps in omega arith);
-      fewer = λ t. let e = frees_kept s.view w t keeps in omega arith;
-      frees = λ t none. frees_kept s.view w t keeps;
+      numbers = λ n t well free. law s.view w n t aware now keeps well (let e = free_kept s.view w t keeps in omega arith);
+      fewer = λ t. let e = free_kept s.view w t keeps in omega arith;
+      frees = λ t none. free_kept s.view w t keeps;
       kept = λ q c. refl;
       listed = λ q c t among. among;
     }

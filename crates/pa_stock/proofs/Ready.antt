@@ -2,7 +2,7 @@
 use Rattle.std.proofs.Common.{◌≡◌, ℕ, ◌<◌, sym, subst}
 use Rattle.pa_region.specs.Aware.{IsAware}
 use Rattle.pa_cells.specs.declared.handle.Handle.{Handle}
-use Rattle.pa_plays.specs.declared.register.Register.TheVariants.{Own}
+use Rattle.pa_rules.specs.declared.register.Register.TheVariants.{Own}
 use Rattle.pa_plays.specs.Stocks.{StockValue, IsStock, HasHandleTo, register_in}
 use Rattle.pa_plays.specs.Workers.{HasItsStake}
 

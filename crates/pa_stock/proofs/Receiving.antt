@@ -1,6 +1,6 @@
 -- What a root gives is taken in: the stock in between and after.
 use Rattle.std.proofs.Common.{◌≡◌, ℕ, ◌<◌, ◌≤◌, List, [], ◌∷◌, length, Option, Some, None, refl, sym, ◌∙◌, ap, subst, arith}
-use Rattle.std.specs.Prelude.{◌==◌, Result, Ok, Err, IfOk, IfErr, All, slice_index_or}
+use Rattle.std.specs.Prelude.{◌==◌, Result, Ok, Err, IfErr, All, slice_index_or}
 use Rattle.std.specs.List.{remove}
 use Rattle.std.proofs.lemmas.List.Elements.{All-contains, All-contains_itself}
 use Rattle.std.proofs.lemmas.List.Sums.{sum_by-append}
@@ -28,11 +28,6 @@ use Rattle.pa_stock.specs.Allocating.{CanLoad, GivesNone, FindsNone, with_listed
 use Rattle.pa_plays.proofs.Stocks.{stock_kept}
 use Rattle.pa_stock.proofs.Parking.{kept_stock, made_for_more}
 use Rattle.pa_stock.proofs.Relisting.{relisted_stock}
-
--- what follows of an answer and of an error follows
-pub either : {A E : Type 0} (r : Result A E) (P : A → Type 0) (Q : E → Type 0) (T : Type 0) → IfOk r P → IfErr r Q → ((a : A) → P a → T) → ((e : E) → Q e → T) → T
-either (Ok a) P Q T ok err f g = f a ok
-either (Err e) P Q T ok err f g = g e err
 
 pub err_weaker : {A E : Type 0} (r : Result A E) (P Q : E → Type 0) → ((e : E) → P e → Q e) → IfErr r P → IfErr r Q
 err_weaker (Ok a) P Q f is = tt

@@ -8,7 +8,7 @@ use Rattle.pa_machine.specs.Holdings.{one}
 use Rattle.pa_region.specs.Moves.{CanCount, after_count}
 use Rattle.pa_region.specs.Leaves.{CountLeaves}
 use Rattle.pa_cells.specs.declared.handle.Handle.{Handle}
-use Rattle.pa_plays.specs.declared.register.Register.TheVariants.{Empty, Ref, Cleared}
+use Rattle.pa_rules.specs.declared.register.Register.TheVariants.{Empty, Ref, Cleared}
 use Rattle.pa_plays.specs.Stocks.{StockValue, IsStock, register_in, owns_one, refs_one}
 use Rattle.pa_plays.specs.Workers.{HasItsStake}
 use Rattle.pa_plays.proofs.Registers.{sum_set, made_set}

@@ -14,9 +14,9 @@ use Rattle.pa_plays.specs.Stocks.{StockValue, IsStock, titles_in, listed_in}
 use Rattle.pa_plays.specs.Workers.{HasItsStake}
 use Rattle.pa_stock.specs.Giving.{Gives, GivesTail, GivesBatch, with_titles}
 use Rattle.pa_plays.proofs.Quiet.{same_titles}
-use Rattle.pa_plays.proofs.Batches.{gives_step}
 use Rattle.pa_stock.proofs.Lists.{this_list, other_list, in_batch}
 use Rattle.pa_stock.proofs.HandedBack.{gives_none, gives_left, gives_on}
+use Rattle.pa_rules.proofs.Batches.{gives_more}
 
 -- of two stocks, lists that are the same but one
 with_same : (p c : ℕ) (ts us : List Title) (lists others : ℕ → ℕ → List Title) → ts ≡ us → ((q d : ℕ) → ((q ≡ p) × (d ≡ c) → ⊥) → lists q d ≡ others q d) →
@@ -95,7 +95,7 @@ some_more line p c keep n s now next is some batch more =
     let long : 0 < length (map f (drop m ts)) = omega (arith, length-map (drop m ts) f, length-drop m ts) in
     let step : act ∷ gives (map f (drop (keep + 16 * (n + 1)) ts)) ≡ gives (map f (drop m ts)) =
     ap (λ xs. Give xs ∷ gives (map f (drop (keep + 16 * (n + 1)) ts))) named
-    ∙ (ap (λ xs. Give (take 16 (map f (drop m ts))) ∷ gives xs) (sym gone) ∙ sym (gives_step (map f (drop m ts)) long)) in
+    ∙ (ap (λ xs. Give (take 16 (map f (drop m ts))) ∷ gives xs) (sym gone) ∙ sym (gives_more (map f (drop m ts)) long)) in
     let stays : rest_after keep us ≡ outside keep (keep + 16 * (n + 1)) ts =
     ap (λ vs. vs ++ drop (keep + 16) us) (ap (take keep) left ∙ first_stay keep m ts le)
     ∙ ap (λ vs. take keep ts ++ vs) (sym (drop-drop 16 keep us) ∙ (ap (drop 16) later ∙ (drop-drop 16 m ts ∙ ap (λ k. drop k ts) at))) in

@@ -10,7 +10,7 @@ use Rattle.pa_record.specs.declared.root.RootAct.{RootAct}
 use Rattle.pa_record.specs.Numbers.{root_numbers}
 use Rattle.pa_record.specs.Root.{asked_by, names}
 use Rattle.pa_record.specs.Spans.{name_of}
-use Rattle.pa_record.proofs.Members.{in_cases, not_in_none, first_in, later_in}
+use Rattle.pa_lists.proofs.Members.{in_cases, not_in_none, first_in, later_in}
 use Rattle.pa_region.specs.declared.view.Entry.{Entry}
 use Rattle.pa_region.specs.declared.view.Entry.TheVariants.{Entered, Uncut}
 use Rattle.pa_region.specs.declared.view.Made.{Made}
@@ -30,9 +30,10 @@ use Rattle.pa_root.specs.Making.{IsEnteredAt, EntersTwo}
 use Rattle.pa_root.specs.Handing.{HasOnly, EntersFor, numbered_by, root_entry}
 use Rattle.pa_root.proofs.Together.{free_both}
 use Rattle.pa_plays.specs.Stocks.{StockValue, IsStock, titles_in}
-use Rattle.pa_stock.proofs.Parking.{frees_kept, taken_rests}
+use Rattle.pa_stock.proofs.Parking.{taken_rests}
 use Rattle.pa_plays.proofs.Entered.{Entering, entering_both, rests_enters, one_enters, two_enters}
 use Rattle.pa_plays.proofs.AskedFor.{Asks, asks_one, asks_two}
+use Rattle.pa_root.proofs.Seeing.{free_kept}
 
 joins : BeginningsJoin
 joins v w k both = (left_begins v w k both, right_begins v w k both)
@@ -127,7 +128,7 @@ module _ (s : StockValue) (u n : View) (titles : List Title) (is : IsStock s) (t
       let e = free_both u n t in
       let f = (took.has.frees t).1 among in
       let g = is.lists.free q d t listed in
-      let h = frees_kept s.view u t took.keeps in
+      let h = free_kept s.view u t took.keeps in
       let once = took.awares.3.free_once t in
       omega arith
 
@@ -136,7 +137,7 @@ module _ (s : StockValue) (u n : View) (titles : List Title) (is : IsStock s) (t
   took_same q d t listed =
       let well = is.lists.well q d t listed in
       let free = is.lists.free q d t listed in
-      let there : 0 < free_of u t = let h = frees_kept s.view u t took.keeps in omega arith in
+      let there : 0 < free_of u t = let h = free_kept s.view u t took.keeps in omega arith in
       left_number u n well.0 t took.awares.1 took.awares.3 took.long well.1 there
       ∙ kept_number s.view u well.0 t took.awares.0 took.awares.1 took.keeps well.1 free
 

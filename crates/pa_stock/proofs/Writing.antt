@@ -15,7 +15,7 @@ use Rattle.pa_region.specs.Leaves.{CountLeaves, OwnsChange, StatesAreOwns, Fille
 use Rattle.pa_quarantine.specs.Filling.{filled}
 use Rattle.pa_quarantine.proofs.Writing.{write_told}
 use Rattle.pa_cells.specs.declared.handle.Handle.{Handle}
-use Rattle.pa_plays.specs.declared.register.Register.TheVariants.{Own}
+use Rattle.pa_rules.specs.declared.register.Register.TheVariants.{Own}
 use Rattle.pa_plays.specs.Stocks.{StockValue, IsStock, register_in}
 use Rattle.pa_plays.specs.Workers.{HasItsStake}
 use Rattle.pa_stock.specs.Changes.{CanFill}

@@ -3,12 +3,14 @@ use Rattle.std.specs.Prelude.{◌≡◌, ℕ, ◌-◌, ◌<◌, ◌≤◌, List,
 use Rattle.pa_machine.specs.declared.title.Title.{Title}
 use Rattle.pa_machine.specs.declared.word.Step.TheVariants.{Issue}
 use Rattle.pa_machine.specs.Count.{number_of}
+use Rattle.pa_buckets.specs.Limits.{class_count}
 use Rattle.pa_buckets.specs.Bands.{fill_of, limit_of}
 use Rattle.pa_buckets.specs.Table.{slot_of}
 use Rattle.pa_record.specs.declared.entry.Answer.{Answer}
 use Rattle.pa_record.specs.declared.entry.Answer.TheVariants as answers
 use Rattle.pa_record.specs.declared.entry.Seen.{Seen}
 use Rattle.pa_record.specs.Spans.{name_of}
+use Rattle.pa_trace.specs.Limits.{most_partitions}
 use Rattle.pa_region.specs.declared.view.View.{View}
 use Rattle.pa_region.specs.Views.{free_of, seen_of}
 use Rattle.pa_region.specs.Moves.{CanCount, IsFound, after_count}
@@ -22,7 +24,7 @@ use Rattle.pa_root.specs.declared.fault.FillFault.TheVariants.{Full, OutOfMemory
 use Rattle.pa_root.specs.Handing.{HasOnly, FillGives, MapGives, IsFullFor}
 use Rattle.pa_cells.specs.declared.handle.Handle.{Handle}
 use Rattle.pa_cells.specs.Handles.{HasSeenMade}
-use Rattle.pa_plays.specs.declared.register.Register.TheVariants.{Own}
+use Rattle.pa_rules.specs.declared.register.Register.TheVariants.{Own}
 use Rattle.pa_plays.specs.Stocks.{StockValue, cache_place, titles_in, listed_slot}
 
 -- the caches where the list of a partition and a class has these titles
@@ -31,7 +33,7 @@ with_listed p class titles caches = slice_set caches (cache_place p class) (reco
 
 -- The front left the list of a partition and a class.
 pub record TakesFront (p class : ℕ) (t : Title) (before after : StockValue) : Type 0 where
-  pub small : class < 59
+  pub small : class < class_count
   pub rest : List Title
   pub was : titles_in before.caches p class ≡ t ∷ rest
   pub long : t.len ≡ slot_of class
@@ -67,7 +69,7 @@ pub record Receives (note : View) (before after : StockValue) : Type 0 where
 
 -- Titles that can be loaded into an empty list: each is free and on no list, and its slot was seen made for that list.
 pub record CanLoad (p class : ℕ) (titles : List Title) (s : StockValue) : Type 0 where
-  pub partition : p < 4
+  pub partition : p < most_partitions
   pub empty : titles_in s.caches p class ≡ []
   pub sized : All (λ (t : Title). t.len ≡ slot_of class) titles
   pub differ : AllPairs ◌≢◌ titles
@@ -85,7 +87,7 @@ pub record FillsList (line p class : ℕ) (t : Title) (before after : StockValue
   pub gives : FillGives before.thread p line class (fill_of class) before.view asked note (t ∷ rest)
   pub awares : IsAware asked × IsAware note
   pub long : length asked.words ≡ length note.words
-  pub small : class < 59
+  pub small : class < class_count
   pub empty : titles_in before.caches p class ≡ []
   pub after_is : after ≡ record before { view = united asked note; caches = with_listed p class rest before.caches }
 

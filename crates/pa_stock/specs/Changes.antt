@@ -4,6 +4,7 @@ use Rattle.pa_machine.specs.declared.title.Title.{Title}
 use Rattle.pa_machine.specs.declared.word.Step.{Step}
 use Rattle.pa_machine.specs.declared.word.Step.TheVariants.{Copy, Write}
 use Rattle.pa_machine.specs.Titles.{IsWellFormed}
+use Rattle.pa_buckets.specs.Limits.{class_count}
 use Rattle.pa_buckets.specs.Bands.{limit_of}
 use Rattle.pa_machine.specs.declared.title.OwnState.TheVariants.{Clean, Dirty}
 use Rattle.pa_machine.specs.Count.{CanStep}
@@ -17,9 +18,8 @@ use Rattle.pa_quarantine.specs.Filling.{filled}
 use Rattle.pa_cache.specs.Caches.{CacheList}
 use Rattle.pa_cells.specs.declared.handle.Handle.{Handle}
 use Rattle.pa_cells.specs.Handles.{HasSeenMade}
-use Rattle.pa_plays.specs.declared.register.Register.{Register}
-use Rattle.pa_plays.specs.declared.register.Register.TheVariants.{Ref}
-use Rattle.pa_plays.specs.Stocks.{StockValue, cache_place, titles_in}
+use Rattle.pa_rules.specs.declared.register.Register.TheVariants.{Ref}
+use Rattle.pa_plays.specs.Stocks.{StockRegister, StockValue, cache_place, titles_in}
 
 -- The seat looked at the handle's slot, and saw this.
 pub record LooksAtSlot (h : Handle) (seen : Seen) (before after : StockValue) : Type 0 where
@@ -46,7 +46,7 @@ pub record WritesTo (h : Handle) (value : ℕ) (seen : Seen) (before after : Sto
 
 -- It let go of the handle of a register, by a reset or a free that found this where its view was `v`, and the register has that
 -- instead.
-pub record LetsGo (step : Step) (h : Handle) (reg : ℕ) (instead : Register) (v : View) (seen : Seen) (before after : StockValue) : Type 0 where
+pub record LetsGo (step : Step) (h : Handle) (reg : ℕ) (instead : StockRegister) (v : View) (seen : Seen) (before after : StockValue) : Type 0 where
   pub slot : seen.slot ≡ name_of h.title
   pub after_is :
       after ≡ record before { view = after_count step h.title seen.found.0 v; registers = slice_set before.registers reg instead }
@@ -87,6 +87,6 @@ NeedsRoot h s = (class : ℕ) → h.class ≡ Some class → limit_of class ≤ 
 -- It was put in front of the list of its class, which had room; or nothing was done, and it needs the root.
 abbrev pub IsPut : Bool → Handle → (before after : StockValue) → Type 0
 IsPut true h before after =
-    (class : ℕ) × (h.class ≡ Some class) × (class < 59) × (length (titles_in before.caches h.partition class) < limit_of class)
+    (class : ℕ) × (h.class ≡ Some class) × (class < class_count) × (length (titles_in before.caches h.partition class) < limit_of class)
     × (after ≡ record before { caches = put_in_front h.partition class h.title before.caches })
 IsPut false h before after = (after ≡ before) × NeedsRoot h before

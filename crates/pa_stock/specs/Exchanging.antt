@@ -13,18 +13,17 @@ use Rattle.pa_region.specs.Marks.{parcel_of}
 use Rattle.pa_cells.specs.declared.handle.Handle.{Handle}
 use Rattle.pa_cells.specs.Handles.{ParkedHandle, IsParked, handle_item}
 use Rattle.pa_cells.specs.Cells.{exchange_numbers, exchange_entry, made_with_cell}
-use Rattle.pa_plays.specs.declared.register.Register.{Register}
-use Rattle.pa_plays.specs.declared.register.Register.TheVariants.{Empty, Own, Ref}
-use Rattle.pa_plays.specs.Stocks.{StockValue, HasNoHandle, register_in}
+use Rattle.pa_rules.specs.declared.register.Register.TheVariants.{Empty, Own, Ref}
+use Rattle.pa_plays.specs.Stocks.{StockRegister, StockValue, HasNoHandle, register_in}
 
 -- the register that owns this slot or points to it; that has this handle; and that has what was found
-abbrev pub handle_register : Bool → Handle → Register
+abbrev pub handle_register : Bool → Handle → StockRegister
 handle_register own h = if own then Own h else Ref h
 
-abbrev pub register_of : ParkedHandle → Register
+abbrev pub register_of : ParkedHandle → StockRegister
 register_of p = handle_register p.own p.handle
 
-abbrev pub found_register : Option ParkedHandle → Register
+abbrev pub found_register : Option ParkedHandle → StockRegister
 found_register None = Empty
 found_register (Some p) = register_of p
 

@@ -4,5 +4,6 @@ pub mod Exchanging
 pub mod Censuses
 pub mod Giving
 pub mod Homing
+pub mod Releasing
 pub mod Purging
 pub mod Allocating

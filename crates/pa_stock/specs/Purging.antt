@@ -1,6 +1,7 @@
 -- A purge of one partition: its lists go back whole, and then its root is purged.
 use Rattle.std.specs.Prelude.{◌≡◌, ℕ, ◌==◌, List, [], if◌then◌else◌}
 use Rattle.pa_machine.specs.declared.title.Title.{Title}
+use Rattle.pa_buckets.specs.Limits.{class_count}
 use Rattle.pa_rules.specs.Caches.{purge_acts, listed_slots}
 use Rattle.pa_plays.specs.Stocks.{StockValue, titles_in, listed_in}
 use Rattle.pa_stock.specs.Giving.{Gives}
@@ -12,5 +13,5 @@ without_lists p lists q c = if q == p then [] else lists q c
 -- All lists of partition p went back, this many slots in all, and its root was purged.
 abbrev pub PurgesRoot : (line p slots : ℕ) (before after : StockValue) → Type 0
 PurgesRoot line p slots before after =
-    (slots ≡ listed_slots (listed_in before p) 0 59)
-    × Gives line p (purge_acts (listed_in before p) 0 59) (without_lists p (titles_in before.caches)) before after
+    (slots ≡ listed_slots (listed_in before p) 0 class_count)
+    × Gives line p (purge_acts (listed_in before p) 0 class_count) (without_lists p (titles_in before.caches)) before after

@@ -1,18 +1,19 @@
 ghost use Rattle.std.specs.Prelude.{◌≡◌, ◌<◌, None, Some, IfOk, IfErr};
 ghost use Rattle.pa_buckets.specs.Bands.{fill_of};
 ghost use Rattle.pa_direct.specs.Shapes.{IsShape};
+ghost use Rattle.pa_trace.specs.Limits.{most_partitions};
 ghost use Rattle.pa_region.specs.Views.{least_stake};
 ghost use Rattle.pa_region.specs.Lending.{CanLend};
 ghost use Rattle.pa_root.specs.Handing.{FillGives, MapGives};
 ghost use Rattle.pa_stock.specs.Allocating.{GivesNone};
 
 use crate::heap::Heap;
+use crate::roots::with_root;
 use arrayvec::ArrayVec;
 use pa_buckets::Class;
 use pa_direct::Shape;
 use pa_machine::Title;
-use pa_pool::Pool;
-use pa_region::{Name, Note, Region, Seat};
+use pa_region::{Name, Note, Seat};
 use pa_root::{FillFault, Root};
 use std::sync::{Mutex, Wait};
 
@@ -27,33 +28,26 @@ pub(crate) fn fill_from<N: Name, R: Wait>(
 ) -> Result<(Note, ArrayVec<Title, 16>), FillFault>
     requires region { seat.old.region ≡ N.region }
     requires lender { CanLend seat.old.view }
-    requires partition { partition < 4 }
+    requires partition { partition < most_partitions }
     ensures region { seat.new.region ≡ N.region }
     ensures note { IfOk result (λ a. a.0.region ≡ N.region) }
     ensures gave { IfOk result (λ a. FillGives (least_stake seat.old.view.stakes) partition line class (fill_of class)
         seat.old.view seat.new.view a.0.view a.1.items) }
     ensures none { IfErr result (GivesNone (least_stake seat.old.view.stakes) line partition 1 (Some class) seat.old seat.new) }
 {
-    let region = heap.region();
-    match partition {
-        0 => fill_at(rt, region, seat, &heap.first, &heap.pool, line, class),
-        1 => fill_at(rt, region, seat, &heap.second, &heap.pool, line, class),
-        2 => fill_at(rt, region, seat, &heap.third, &heap.pool, line, class),
-        _ => fill_at(rt, region, seat, &heap.fourth, &heap.pool, line, class),
-    }
+    with_root!(heap, partition, root => fill_at(rt, heap, seat, root, line, class))
 }
 
 // The fill behind the root's lock.
 fn fill_at<N: Name, R: Wait, const P: u32>(
     rt: &R,
-    region: &Region,
+    heap: &Heap<N>,
     seat: &mut Seat,
     root: &Mutex<Root<N, P>>,
-    pool: &Mutex<Pool<N>>,
     line: u32,
     class: Class,
 ) -> Result<(Note, ArrayVec<Title, 16>), FillFault>
-    requires regions { (region.now ≡ N.region) × (seat.old.region ≡ N.region) }
+    requires region { seat.old.region ≡ N.region }
     requires lender { CanLend seat.old.view }
     ensures region { seat.new.region ≡ N.region }
     ensures note { IfOk result (λ a. a.0.region ≡ N.region) }
@@ -63,7 +57,7 @@ fn fill_at<N: Name, R: Wait, const P: u32>(
 {
     let mut locked = root.lock(rt);
     let root = &mut *locked;
-    match root.fill(rt, region, seat, pool, line, class) {
+    match root.fill(rt, heap.region(), seat, &heap.pool, line, class) {
         Ok((note, titles)) => Ok((note, titles)),
         Err(fault) => Err(fault),
     }
@@ -80,7 +74,7 @@ pub(crate) fn map_from<N: Name, R: Wait>(
 ) -> Result<(Note, Title), FillFault>
     requires region { seat.old.region ≡ N.region }
     requires lender { CanLend seat.old.view }
-    requires partition { partition < 4 }
+    requires partition { partition < most_partitions }
     requires shape { IsShape shape }
     ensures region { seat.new.region ≡ N.region }
     ensures note { IfOk result (λ a. a.0.region ≡ N.region) }
@@ -88,26 +82,19 @@ pub(crate) fn map_from<N: Name, R: Wait>(
         seat.old.view seat.new.view a.0.view a.1) }
     ensures none { IfErr result (GivesNone (least_stake seat.old.view.stakes) line partition shape.supers None seat.old seat.new) }
 {
-    let region = heap.region();
-    match partition {
-        0 => map_at(rt, region, seat, &heap.first, &heap.pool, line, shape),
-        1 => map_at(rt, region, seat, &heap.second, &heap.pool, line, shape),
-        2 => map_at(rt, region, seat, &heap.third, &heap.pool, line, shape),
-        _ => map_at(rt, region, seat, &heap.fourth, &heap.pool, line, shape),
-    }
+    with_root!(heap, partition, root => map_at(rt, heap, seat, root, line, shape))
 }
 
 // The direct map behind the root's lock.
 fn map_at<N: Name, R: Wait, const P: u32>(
     rt: &R,
-    region: &Region,
+    heap: &Heap<N>,
     seat: &mut Seat,
     root: &Mutex<Root<N, P>>,
-    pool: &Mutex<Pool<N>>,
     line: u32,
     shape: Shape,
 ) -> Result<(Note, Title), FillFault>
-    requires regions { (region.now ≡ N.region) × (seat.old.region ≡ N.region) }
+    requires region { seat.old.region ≡ N.region }
     requires lender { CanLend seat.old.view }
     requires shape { IsShape shape }
     ensures region { seat.new.region ≡ N.region }
@@ -118,7 +105,7 @@ fn map_at<N: Name, R: Wait, const P: u32>(
 {
     let mut locked = root.lock(rt);
     let root = &mut *locked;
-    match root.map(rt, region, seat, pool, line, shape) {
+    match root.map(rt, heap.region(), seat, &heap.pool, line, shape) {
         Ok((note, title)) => Ok((note, title)),
         Err(fault) => Err(fault),
     }

@@ -1,12 +1,14 @@
 //! What the roots of a heap have, as the report of a run counts it.
 ghost use Rattle.std.specs.Prelude.{◌≡◌, ◌<◌, []};
+ghost use Rattle.pa_trace.specs.Limits.{most_partitions};
 ghost use Rattle.pa_region.specs.Views.{HasEveryStake, least_stake};
 ghost use Rattle.pa_region.specs.Lending.{Lends};
 ghost use Rattle.pa_stock.specs.Censuses.{TellsCensus, HasSameLists};
 
 use crate::heap::Heap;
+use crate::roots::with_root;
 use pa_record::Census;
-use pa_region::{Name, Region, Seat};
+use pa_region::{Name, Seat};
 use pa_root::{Root, pools_are_read};
 use std::sync::{Mutex, Wait};
 
@@ -15,29 +17,24 @@ impl<N: Name> Heap<N> {
     /// has every stake sees nothing new by it.
     pub fn census<R: Wait>(&self, rt: &R, seat: &mut Seat, partition: u32) -> Census
         requires region { seat.old.region ≡ N.region }
-        requires partition { partition < 4 }
+        requires partition { partition < most_partitions }
         ensures region { seat.new.region ≡ N.region }
         ensures keeps { Lends (least_stake seat.old.view.stakes) [] seat.old.view seat.new.view }
         ensures taken { TellsCensus partition seat.new.view result }
         ensures same { HasEveryStake seat.old.view → HasSameLists seat.old.view seat.new.view }
     {
-        match partition {
-            0 => ask(rt, &self.region, seat, &self.first),
-            1 => ask(rt, &self.region, seat, &self.second),
-            2 => ask(rt, &self.region, seat, &self.third),
-            _ => ask(rt, &self.region, seat, &self.fourth),
-        }
+        with_root!(self, partition, root => ask(rt, self, seat, root))
     }
 }
 
 // The census of the root behind the lock.
 fn ask<N: Name, R: Wait, const P: u32>(
     rt: &R,
-    region: &Region,
+    heap: &Heap<N>,
     seat: &mut Seat,
     root: &Mutex<Root<N, P>>,
 ) -> Census
-    requires regions { (region.now ≡ N.region) × (seat.old.region ≡ N.region) }
+    requires region { seat.old.region ≡ N.region }
     ensures region { seat.new.region ≡ N.region }
     ensures keeps { Lends (least_stake seat.old.view.stakes) [] seat.old.view seat.new.view }
     ensures taken { TellsCensus P seat.new.view result }
@@ -48,7 +45,7 @@ fn ask<N: Name, R: Wait, const P: u32>(
     let root = &mut *guard;
     root.kept();
     seat.aware();
-    let census = root.census(region, seat);
+    let census = root.census(heap.region(), seat);
     seat.aware();
     census
 }

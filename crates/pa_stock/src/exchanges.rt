@@ -1,5 +1,6 @@
 //! The parts of an exchange with a cell: a handle goes out, the cell gets it and gives what it had, and that comes in.
 ghost use Rattle.std.specs.Prelude.{◌≡◌, ◌<◌, IfOk, IfErr, OnErr, IfSome, IfNone, Some};
+ghost use Rattle.pa_trace.specs.Limits.{register_count, cell_count};
 ghost use Rattle.pa_cells.specs.Handles.{IsParked, handle_item};
 ghost use Rattle.pa_plays.specs.Stocks.{HasNoHandle, register_in};
 ghost use Rattle.pa_plays.specs.Workers.{HasItsStake};
@@ -12,8 +13,8 @@ use pa_cells::{
     what_was_handed_can_wait,
 };
 use pa_machine::{Item, OutOfMemory, Title};
-use pa_plays::Register;
 use pa_region::{Name, Note, Region, beginnings_join};
+use pa_rules::Register;
 use std::sync::Wait;
 
 impl<N: Name> Stock<N> {
@@ -21,7 +22,7 @@ impl<N: Name> Stock<N> {
     pub fn park(&mut self, region: &Region, reg: u32) -> Option<Parked>
         requires region { region.now ≡ N.region }
         requires stake { HasItsStake self.old }
-        requires reg { reg < 64 }
+        requires reg { reg < register_count }
         ensures parks { Parks reg result self.old self.new }
         ensures note { IfSome result (λ p. p.note.region ≡ N.region) }
     {
@@ -39,7 +40,7 @@ impl<N: Name> Stock<N> {
     fn park_handle(&mut self, region: &Region, handle: Handle, own: bool, reg: u32) -> Parked
         requires region { region.now ≡ N.region }
         requires stake { HasItsStake self.old }
-        requires reg { reg < 64 }
+        requires reg { reg < register_count }
         requires handle { register_in self.old.registers reg ≡ handle_register own handle }
         ensures parks { Parks reg (Some result) self.old self.new }
         ensures note { result.note.region ≡ N.region }
@@ -65,7 +66,7 @@ impl<N: Name> Stock<N> {
     ) -> Result<(u32, Option<Parked>), Option<Parked>>
         requires stake { HasItsStake self.old }
         requires given { IfSome given (λ p. p.note.region ≡ N.region) }
-        requires cell { cell < 64 }
+        requires cell { cell < cell_count }
         ensures made { IfOk result (λ r. SwapsHandles line cell given r.1 r.0 self.old self.new) }
         ensures note { IfOk result (λ r. IfSome r.1 (λ p. p.note.region ≡ N.region)) }
         ensures back { IfErr result (λ p. p ≡ given) }
@@ -85,7 +86,7 @@ impl<N: Name> Stock<N> {
     pub fn take_in(&mut self, region: &Region, found: Option<Parked>, reg: u32)
         requires region { region.now ≡ N.region }
         requires note { IfSome found (λ p. p.note.region ≡ N.region) }
-        requires reg { reg < 64 }
+        requires reg { reg < register_count }
         requires none { HasNoHandle (register_in self.old.registers reg) }
         ensures taken { TakesIn reg found self.old self.new }
     {
@@ -100,7 +101,7 @@ impl<N: Name> Stock<N> {
     pub fn put_back(&mut self, region: &Region, given: Option<Parked>, reg: u32)
         requires region { region.now ≡ N.region }
         requires note { IfSome given (λ p. p.note.region ≡ N.region) }
-        requires reg { reg < 64 }
+        requires reg { reg < register_count }
         requires none { HasNoHandle (register_in self.old.registers reg) }
         ensures taken { IfSome given (λ p. TakesIn reg (Some p) self.old self.new) }
         ensures none { IfNone given (self.new ≡ self.old) }
@@ -114,7 +115,7 @@ impl<N: Name> Stock<N> {
     fn take_handle(&mut self, region: &Region, parked: Parked, reg: u32)
         requires region { region.now ≡ N.region }
         requires note { parked.note.region ≡ N.region }
-        requires reg { reg < 64 }
+        requires reg { reg < register_count }
         requires none { HasNoHandle (register_in self.old.registers reg) }
         ensures taken { TakesIn reg (Some parked) self.old self.new }
     {
@@ -154,7 +155,7 @@ fn own_or_ref(title: Title, own: bool) -> Item
 }
 
 // The register that owns the handle's slot, or points to it.
-fn register_with(handle: Handle, own: bool) -> Register
+fn register_with(handle: Handle, own: bool) -> Register<Handle>
     ensures { result ≡ handle_register own handle }
 {
     if own {

@@ -1,5 +1,7 @@
 ghost use Rattle.std.specs.Prelude.{◌≡◌, ℕ, ◌<◌, [], None, Some, IfOk, IfErr, List, All};
+ghost use Rattle.pa_buckets.specs.Limits.{class_count};
 ghost use Rattle.pa_buckets.specs.Bands.{fill_of};
+ghost use Rattle.pa_trace.specs.Limits.{most_partitions};
 ghost use Rattle.pa_cache.specs.Caches.{HoldsFree};
 ghost use Rattle.pa_direct.specs.Shapes.{IsShape};
 ghost use Rattle.pa_machine.specs.declared.title.Title.{Title};
@@ -19,7 +21,7 @@ use pa_buckets::Class;
 use pa_cells::slots_stay_seen;
 use pa_direct::Shape;
 use pa_machine::Title;
-use pa_region::{Name, Note, Region, Seat};
+use pa_region::{Name, Note, Seat};
 use pa_root::FillFault;
 use std::sync::Wait;
 
@@ -35,7 +37,7 @@ impl<N: Name> Stock<N> {
         class: Class,
     ) -> Result<Title, FillFault>
         requires stake { HasItsStake self.old }
-        requires partition { partition < 4 }
+        requires partition { partition < most_partitions }
         requires empty { titles_in self.old.caches partition class ≡ [] }
         ensures filled { IfOk result (λ t. FillsList line partition class t self.old self.new) }
         ensures none { IfErr result (FindsNone line partition 1 (Some class) self.old self.new) }
@@ -47,9 +49,9 @@ impl<N: Name> Stock<N> {
                 self.kept();
                 let mut rest = titles;
                 let title = rest.remove(0);
-                self.receive(heap.region(), note);
+                self.receive(heap, note);
                 self.kept();
-                self.load(heap.region(), partition, class, rest.as_slice());
+                self.load(heap, partition, class, rest.as_slice());
                 Ok(title)
             }
             Err(fault) => Err(fault),
@@ -66,7 +68,7 @@ impl<N: Name> Stock<N> {
         class: Class,
     ) -> Result<(Note, ArrayVec<Title, 16>), FillFault>
         requires stake { HasItsStake self.old }
-        requires partition { partition < 4 }
+        requires partition { partition < most_partitions }
         ensures same { self.new ≡ record self.old { view = self.new.view } }
         ensures note { IfOk result (λ a. a.0.region ≡ N.region) }
         ensures gave { IfOk result (λ a. FillGives self.old.thread partition line class (fill_of class)
@@ -88,7 +90,7 @@ impl<N: Name> Stock<N> {
         shape: Shape,
     ) -> Result<Title, FillFault>
         requires stake { HasItsStake self.old }
-        requires partition { partition < 4 }
+        requires partition { partition < most_partitions }
         requires shape { IsShape shape }
         ensures mapped { IfOk result (λ t. MapsTitle line partition shape.slot t self.old self.new) }
         ensures none { IfErr result (FindsNone line partition shape.supers None self.old self.new) }
@@ -97,7 +99,7 @@ impl<N: Name> Stock<N> {
         match self.ask_map(rt, heap, line, partition, shape) {
             Ok((note, title)) => {
                 self.kept();
-                self.receive(heap.region(), note);
+                self.receive(heap, note);
                 Ok(title)
             }
             Err(fault) => Err(fault),
@@ -114,7 +116,7 @@ impl<N: Name> Stock<N> {
         shape: Shape,
     ) -> Result<(Note, Title), FillFault>
         requires stake { HasItsStake self.old }
-        requires partition { partition < 4 }
+        requires partition { partition < most_partitions }
         requires shape { IsShape shape }
         ensures same { self.new ≡ record self.old { view = self.new.view } }
         ensures note { IfOk result (λ a. a.0.region ≡ N.region) }
@@ -128,30 +130,29 @@ impl<N: Name> Stock<N> {
     }
 
     // Takes in a note that has free titles, and nothing else.
-    fn receive(&mut self, region: &Region, note: Note)
-        requires regions { (region.now ≡ N.region) × (note.region ≡ N.region) }
+    fn receive(&mut self, heap: &Heap<N>, note: Note)
+        requires region { note.region ≡ N.region }
         requires only { (titles : List Title) × HasOnly titles note.view }
         ensures { Receives note.view self.old self.new }
     {
         slots_stay_seen();
         self.kept();
         note.aware();
-        region.take(&mut self.seat, note);
+        heap.region().take(&mut self.seat, note);
         self.seat.aware();
     }
 
     // Loads these titles into the empty list of a partition and a class.
-    fn load(&mut self, region: &Region, partition: u32, class: Class, titles: &[Title])
-        requires region { region.now ≡ N.region }
-        requires can { CanLoad partition class titles.now self.old }
-        ensures small { class < 59 }
+    fn load(&mut self, heap: &Heap<N>, partition: u32, class: Class, titles: &[Title])
+        requires { CanLoad partition class titles.now self.old }
+        ensures small { class < class_count }
         ensures loaded { self.new ≡ record self.old { caches = with_listed partition class titles.now self.old.caches } }
     {
         self.kept();
         all_placed(&self.seat, titles);
         let place = place_of(partition, class);
         let cache = &mut self.caches[place];
-        cache.load(region, &mut self.seat, titles);
+        cache.load(heap.region(), &mut self.seat, titles);
         cache.kept();
     }
 }

@@ -1,6 +1,7 @@
 //! Slots of a list that go back to the root of their partition.
 ghost use Rattle.std.specs.Prelude.{◌≡◌, ◌≢◌, ℕ, ◌+◌, ◌*◌, ◌<◌, ◌≤◌, length, map, take, AllPairs, Contains, OnOk, OnErr, IfErr};
 ghost use Rattle.pa_record.specs.declared.root.RootAct.TheVariants.{Give};
+ghost use Rattle.pa_trace.specs.Limits.{most_partitions};
 ghost use Rattle.pa_region.specs.Views.{least_stake};
 ghost use Rattle.pa_region.specs.Lending.{CanLend};
 ghost use Rattle.pa_region.specs.Hands.{left_after, given_after, IsParted};
@@ -13,6 +14,7 @@ ghost use Rattle.pa_stock.specs.Giving.{GivesTail, GivesBatch, HandsBack, TakesB
 
 use crate::heap::Heap;
 use crate::listing::place_of;
+use crate::roots::with_root;
 use crate::stock::Stock;
 use arrayvec::ArrayVec;
 use pa_buckets::Class;
@@ -38,7 +40,7 @@ impl<N: Name> Stock<N> {
         keep: u32,
     ) -> Result<(), OutOfMemory>
         requires stake { HasItsStake self.old }
-        requires partition { partition < 4 }
+        requires partition { partition < most_partitions }
         ensures gives { OnOk result (GivesTail line partition class keep self.old self.new) }
         ensures budget { self.new.view.budget ≡ self.old.view.budget }
     {
@@ -55,7 +57,7 @@ impl<N: Name> Stock<N> {
 
     // How many batches the titles of a list behind its first `keep` make.
     fn batches_behind(&self, partition: u32, class: Class, keep: u32) -> u32
-        requires partition { partition < 4 }
+        requires partition { partition < most_partitions }
         ensures all { length (titles_in self.now.caches partition class) ≤ keep + 16 * result }
         ensures no_more { (n : ℕ) → n < result → keep + 16 * n < length (titles_in self.now.caches partition class) }
     {
@@ -69,7 +71,7 @@ impl<N: Name> Stock<N> {
 
     // The first 16 titles of a list behind its first `keep`, or all of them where there are fewer.
     fn batch_listed(&self, partition: u32, class: Class, keep: u32) -> ArrayVec<Title, 16>
-        requires partition { partition < 4 }
+        requires partition { partition < most_partitions }
         ensures titles { result.items ≡ batch_after keep (titles_in self.now.caches partition class) }
         ensures different { AllPairs ◌≢◌ result.items }
     {
@@ -89,7 +91,7 @@ impl<N: Name> Stock<N> {
         keep: u32,
     ) -> Result<(), OutOfMemory>
         requires stake { HasItsStake self.old }
-        requires partition { partition < 4 }
+        requires partition { partition < most_partitions }
         requires some { keep < length (titles_in self.old.caches partition class) }
         ensures gives { OnOk result (GivesBatch line partition class keep self.old self.new) }
         ensures budget { self.new.view.budget ≡ self.old.view.budget }
@@ -119,7 +121,7 @@ fn give_titles<N: Name, R: Wait>(
     titles: ArrayVec<Title, 16>,
 ) -> Result<(), OutOfMemory>
     requires region { seat.old.region ≡ N.region }
-    requires partition { partition < 4 }
+    requires partition { partition < most_partitions }
     requires lender { CanLend seat.old.view }
     requires some { 1 ≤ length titles.items }
     requires free { HoldsFree seat.old.view titles.items }
@@ -185,7 +187,7 @@ fn give_to<N: Name, R: Wait>(
     titles: ArrayVec<Title, 16>,
 ) -> Result<(), Note>
     requires regions { (seat.old.region ≡ N.region) × (note.region ≡ N.region) }
-    requires partition { partition < 4 }
+    requires partition { partition < most_partitions }
     requires lender { CanLend seat.old.view }
     requires some { 1 ≤ length titles.items }
     requires has { HasOnly titles.items note.view }
@@ -197,29 +199,20 @@ fn give_to<N: Name, R: Wait>(
     ensures handed { IfErr result (λ n. n ≡ note) }
     ensures err { OnErr result (seat.new ≡ seat.old) }
 {
-    let region = heap.region();
-    if partition == 0 {
-        give_in(rt, &heap.first, region, seat, line, note, titles)
-    } else if partition == 1 {
-        give_in(rt, &heap.second, region, seat, line, note, titles)
-    } else if partition == 2 {
-        give_in(rt, &heap.third, region, seat, line, note, titles)
-    } else {
-        give_in(rt, &heap.fourth, region, seat, line, note, titles)
-    }
+    with_root!(heap, partition, root => give_in(rt, heap, root, seat, line, note, titles))
 }
 
 // Gives them to the root behind this lock.
 fn give_in<N: Name, R: Wait, const P: u32>(
     rt: &R,
+    heap: &Heap<N>,
     root: &Mutex<Root<N, P>>,
-    region: &Region,
     seat: &mut Seat,
     line: u32,
     note: Note,
     titles: ArrayVec<Title, 16>,
 ) -> Result<(), Note>
-    requires regions { (region.now ≡ N.region) × (seat.old.region ≡ N.region) × (note.region ≡ N.region) }
+    requires regions { (seat.old.region ≡ N.region) × (note.region ≡ N.region) }
     requires lender { CanLend seat.old.view }
     requires some { 1 ≤ length titles.items }
     requires has { HasOnly titles.items note.view }
@@ -233,7 +226,7 @@ fn give_in<N: Name, R: Wait, const P: u32>(
 {
     let mut locked = root.lock(rt);
     let root = &mut *locked;
-    match root.give_back(region, seat, line, note, titles) {
+    match root.give_back(heap.region(), seat, line, note, titles) {
         Ok(()) => Ok(()),
         Err((note, _)) => Err(note),
     }

@@ -1,8 +1,9 @@
 //! Single calls on the slot of a register's handle.
 ghost use Rattle.std.specs.Prelude.{◌≡◌, ℕ, ◌+◌, ◌<◌, ◌≤◌, ◌↔◌};
+ghost use Rattle.pa_trace.specs.Limits.{register_count};
 ghost use Rattle.pa_plays.specs.Stocks.{HasHandleTo, HasNoHandle, register_in};
 ghost use Rattle.pa_plays.specs.Workers.{HasItsStake};
-ghost use Rattle.pa_plays.specs.declared.register.Register.TheVariants.{Ref, Own};
+ghost use Rattle.pa_rules.specs.declared.register.Register.TheVariants.{Ref, Own};
 ghost use Rattle.pa_stock.specs.Changes.{LooksAtSlot, ReadsAt, CanFill, WritesTo, PointsTo, LetsGo};
 ghost use Rattle.pa_machine.specs.Titles.{content_count};
 ghost use Rattle.pa_machine.specs.declared.word.Step.TheVariants as steps;
@@ -10,24 +11,24 @@ ghost use Rattle.pa_machine.specs.Run.{IsReturning};
 ghost use Rattle.pa_count.specs.declared.steps.Fate.TheVariants as fates;
 ghost use Rattle.pa_region.specs.Views.{free_of};
 ghost use Rattle.pa_quarantine.specs.Filling.{poisoned};
-ghost use Rattle.pa_plays.specs.declared.register.Register.TheVariants as registers;
+ghost use Rattle.pa_rules.specs.declared.register.Register.TheVariants as registers;
 
 use crate::stock::{Stock, slot_name};
 use pa_cells::Handle;
 use pa_count::Fate;
-use pa_plays::Register;
 use pa_record::Seen;
 use pa_region::{
     Name, Region, counted_steps_leave, entries_stand_in_logs, filled_words_have_the_value,
     looks_leave, owns_change, states_are_owns,
 };
+use pa_rules::Register;
 
 impl<N: Name> Stock<N> {
     /// Looks at the slot of a register's handle.
     pub fn look(&mut self, region: &Region, handle: &Handle, reg: u32) -> Seen
         requires region { region.now ≡ N.region }
         requires stake { HasItsStake self.old }
-        requires reg { reg < 64 }
+        requires reg { reg < register_count }
         requires handle { HasHandleTo handle.now (register_in self.old.registers reg) }
         ensures { LooksAtSlot handle.now result self.old self.new }
     {
@@ -50,7 +51,7 @@ impl<N: Name> Stock<N> {
     ) -> (Seen, u64)
         requires region { region.now ≡ N.region }
         requires stake { HasItsStake self.old }
-        requires reg { reg < 64 }
+        requires reg { reg < register_count }
         requires handle { HasHandleTo handle.now (register_in self.old.registers reg) }
         requires place { place < content_count handle.now.title }
         ensures { ReadsAt handle.now place result.0 result.1 self.old self.new }
@@ -71,7 +72,7 @@ impl<N: Name> Stock<N> {
         requires region { region.now ≡ N.region }
         requires stake { HasItsStake self.old }
         requires budget { 0 < self.old.view.budget }
-        requires reg { reg < 64 }
+        requires reg { reg < register_count }
         requires handle { register_in self.old.registers reg ≡ Own handle.now }
         requires can { CanFill handle.now self.old }
         ensures { WritesTo handle.now value result self.old self.new }
@@ -93,7 +94,7 @@ impl<N: Name> Stock<N> {
         requires region { region.now ≡ N.region }
         requires stake { HasItsStake self.old }
         requires budget { 0 < self.old.view.budget }
-        requires registers { (from < 64) × (to < 64) }
+        requires registers { (from < register_count) × (to < register_count) }
         requires handle { HasHandleTo handle (register_in self.old.registers from) }
         requires none { HasNoHandle (register_in self.old.registers to) }
         ensures points { PointsTo handle to result self.old self.new }
@@ -110,12 +111,12 @@ impl<N: Name> Stock<N> {
         }
     }
 
-    /// The step of a reset: the register is cleared, and `Last` says that the step returned the slot.
-    pub fn let_go(&mut self, region: &Region, handle: &Handle, reg: u32) -> (Seen, Fate)
+    // The step of a reset: the register is cleared, and `Last` says that the step returned the slot.
+    pub(crate) fn let_go(&mut self, region: &Region, handle: &Handle, reg: u32) -> (Seen, Fate)
         requires region { region.now ≡ N.region }
         requires stake { HasItsStake self.old }
         requires budget { 0 < self.old.view.budget }
-        requires reg { reg < 64 }
+        requires reg { reg < register_count }
         requires handle { register_in self.old.registers reg ≡ registers.Ref handle.now }
         ensures gone { LetsGo steps.Reset handle.now reg registers.Cleared self.old.view result.0 self.old self.new }
         ensures fate { (result.1 ≡ fates.Last) ↔ IsReturning steps.Reset result.0.found.0 }
@@ -134,12 +135,12 @@ impl<N: Name> Stock<N> {
         (seen, fate)
     }
 
-    /// Poisons the content of an Own, and frees it in one step. `Last` says that this returned the slot.
-    pub fn give_up(&mut self, region: &Region, handle: &Handle, reg: u32) -> (Seen, Fate)
+    // Poisons the content of an Own, and frees it in one step. `Last` says that this returned the slot.
+    pub(crate) fn give_up(&mut self, region: &Region, handle: &Handle, reg: u32) -> (Seen, Fate)
         requires region { region.now ≡ N.region }
         requires stake { HasItsStake self.old }
         requires budget { 0 < self.old.view.budget }
-        requires reg { reg < 64 }
+        requires reg { reg < register_count }
         requires handle { register_in self.old.registers reg ≡ registers.Own handle.now }
         ensures gone { LetsGo steps.Free handle.now reg registers.Freed (poisoned handle.now.title self.old.view) result.0 self.old self.new }
         ensures fate { (result.1 ≡ fates.Last) ↔ IsReturning steps.Free result.0.found.0 }

@@ -1,4 +1,5 @@
 ghost use Rattle.std.specs.Prelude.{◌≡◌, ◌*◌, ◌≤◌, [], IfOk};
+ghost use Rattle.pa_layout.specs.Limits.{most_supers};
 ghost use Rattle.pa_region.specs.Start.{first_view};
 ghost use Rattle.pa_region.specs.Waiting.{unclean_of};
 ghost use Rattle.pa_region.specs.Lists.{list_of};
@@ -84,7 +85,7 @@ impl<N: Name> Heap<N> {
         budget: u32,
     ) -> Result<(Heap<N>, Seat), OutOfMemory>
         requires region { (region ≡ N.region) × (seat.region ≡ N.region) }
-        requires supers { supers ≤ 16 }
+        requires supers { supers ≤ most_supers }
         requires first { seat.view ≡ first_view (262144 * supers) budget }
         ensures regions { IfOk result (λ r. (r.0 ≡ N.region) × (r.1.region ≡ N.region)) }
         ensures stakes { IfOk result (λ r. HasAllStakes budget r.1.view) }
@@ -149,7 +150,7 @@ fn part_all(
     budget: u32,
 ) -> (Note, Note, Note, Note, Note, Note)
     requires region { seat.old.region ≡ region.now }
-    requires supers { supers ≤ 16 }
+    requires supers { supers ≤ most_supers }
     requires first { seat.old.view ≡ first_view (262144 * supers) budget }
     ensures region { seat.new.region ≡ region.now }
     ensures notes { (result.0.region ≡ region.now) × (result.1.region ≡ region.now) × (result.2.region ≡ region.now)

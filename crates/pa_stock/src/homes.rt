@@ -11,19 +11,20 @@ ghost use Rattle.pa_stock.specs.Changes.{IsBack, NeedsRoot};
 ghost use Rattle.pa_stock.specs.Homing.{ComesHome, GoesHome, Spills, IsSettled, without_title, note_of_title};
 
 use crate::heap::Heap;
+use crate::roots::with_root;
 use crate::stock::Stock;
 use arrayvec::ArrayVec;
 use pa_buckets::{Class, cache_limit};
 use pa_cells::{Handle, slots_stay_seen};
 use pa_machine::{Item, OutOfMemory};
-use pa_region::{Name, Note, Region, Seat, beginnings_join};
+use pa_region::{Name, Note, Seat, beginnings_join};
 use pa_root::Root;
 use std::sync::{Mutex, Wait};
 
 impl<N: Name> Stock<N> {
-    /// Brings a slot where it belongs that a step returned and that its list has no room for. After want of memory its title may
-    /// be on no list.
-    pub fn settle<R: Wait>(
+    // Brings a slot where it belongs that a step returned and that its list has no room for. After want of memory its title may
+    // be on no list.
+    pub(crate) fn settle<R: Wait>(
         &mut self,
         rt: &R,
         heap: &Heap<N>,
@@ -85,7 +86,7 @@ impl<N: Name> Stock<N> {
         ensures home { OnOk result (GoesHome line handle.now self.old self.new) }
     {
         self.kept();
-        let note = self.part_with(heap.region(), handle);
+        let note = self.part_with(heap, handle);
         self.kept();
         match self.deliver(rt, heap, line, note, handle) {
             Ok(()) => {
@@ -93,15 +94,14 @@ impl<N: Name> Stock<N> {
                 Ok(())
             }
             Err(note) => {
-                self.take_back(heap.region(), note);
+                self.take_back(heap, note);
                 Err(OutOfMemory)
             }
         }
     }
 
     // Hands over a free title that is on no list.
-    fn part_with(&mut self, region: &Region, handle: &Handle) -> Note
-        requires region { region.now ≡ N.region }
+    fn part_with(&mut self, heap: &Heap<N>, handle: &Handle) -> Note
         requires stake { HasItsStake self.old }
         requires back { IsBack handle.now self.old }
         ensures left { self.new ≡ record self.old { view = without_title handle.now.title self.old.view } }
@@ -110,6 +110,7 @@ impl<N: Name> Stock<N> {
         ensures stake { HasItsStake self.new }
     {
         self.kept();
+        let region = heap.region();
         region.hand(&mut self.seat, &[Item::Free(handle.title)], 0, &[])
     }
 
@@ -138,15 +139,14 @@ impl<N: Name> Stock<N> {
     }
 
     // Takes a note with free titles alone.
-    fn take_back(&mut self, region: &Region, note: Note)
-        requires region { region.now ≡ N.region }
+    fn take_back(&mut self, heap: &Heap<N>, note: Note)
         requires note { note.region ≡ N.region }
         requires has { (ts : List Title) × HasOnly ts note.view }
     {
         beginnings_join();
         slots_stay_seen();
         self.kept();
-        region.take(&mut self.seat, note);
+        heap.region().take(&mut self.seat, note);
         self.seat.aware();
     }
 }
@@ -170,12 +170,7 @@ fn to_root<N: Name, R: Wait>(
     ensures back { IfErr result (λ n. n ≡ note) }
     ensures same { OnErr result (seat.new ≡ seat.old) }
 {
-    match handle.partition {
-        0 => into_root(rt, heap, &heap.first, seat, line, note, handle),
-        1 => into_root(rt, heap, &heap.second, seat, line, note, handle),
-        2 => into_root(rt, heap, &heap.third, seat, line, note, handle),
-        _ => into_root(rt, heap, &heap.fourth, seat, line, note, handle),
-    }
+    with_root!(heap, handle.partition, root => into_root(rt, heap, root, seat, line, note, handle))
 }
 
 // Brings the title of a note into this root, behind its lock: a direct map is unmapped, a slot of a class given.

@@ -15,6 +15,8 @@ mod homes;
 mod listing;
 mod opening;
 mod purges;
+mod releases;
+mod roots;
 mod stock;
 mod takes;
 

@@ -1,18 +1,18 @@
 ghost use Rattle.std.specs.Prelude.{◌≡◌, ◌↔◌, ◌+◌, ◌*◌, ◌<◌, ◌≤◌, length, IsTrue};
+ghost use Rattle.pa_buckets.specs.Limits.{class_count};
 ghost use Rattle.pa_buckets.specs.Bands.{limit_of};
+ghost use Rattle.pa_trace.specs.Limits.{most_partitions};
+ghost use Rattle.pa_rules.specs.Limits.{list_count};
 ghost use Rattle.pa_rules.specs.Caches.{listed_slots};
 ghost use Rattle.pa_rules.specs.Report.{listed_bytes};
 ghost use Rattle.pa_plays.specs.Stocks.{listed_in, titles_in};
 ghost use Rattle.pa_stock.specs.Changes.{CanList, IsBack, IsPut, put_in_front};
 
 use crate::stock::Stock;
-use pa_buckets::{Class, cache_limit, rows_have_bounds, slot_size};
+use pa_buckets::{CLASSES, Class, cache_limit, rows_have_bounds, slot_size};
 use pa_cells::Handle;
 use pa_record::Tally;
 use pa_region::{Name, Region};
-
-// How many classes there are.
-pub(crate) const CLASSES: u32 = 59;
 
 impl<N: Name> Stock<N> {
     // Puts the free title of a handle in front of the list of its partition and class, which has room.
@@ -30,10 +30,10 @@ impl<N: Name> Stock<N> {
 
     // How many titles the list of a partition and a class has.
     pub(crate) fn count_listed(&self, partition: u32, class: Class) -> u32
-        requires { partition < 4 }
+        requires { partition < most_partitions }
         ensures count { result ≡ length (titles_in self.now.caches partition class) }
         ensures few { result ≤ 64 }
-        ensures small { class < 59 }
+        ensures small { class < class_count }
     {
         rows_have_bounds();
         self.kept();
@@ -43,18 +43,18 @@ impl<N: Name> Stock<N> {
 
     // Whether the list of a partition and a class has room for one title more.
     pub(crate) fn room(&self, partition: u32, class: Class) -> bool
-        requires { partition < 4 }
+        requires { partition < most_partitions }
         ensures room { IsTrue result ↔ (length (titles_in self.now.caches partition class) < limit_of class) }
-        ensures small { class < 59 }
+        ensures small { class < class_count }
     {
         self.count_listed(partition, class) < cache_limit(class)
     }
 
     /// How many slots the lists of a partition have, and their bytes.
     pub fn cached(&self, partition: u32) -> Tally
-        requires { partition < 4 }
-        ensures slots { result.slots ≡ listed_slots (listed_in self.now partition) 0 59 }
-        ensures bytes { result.bytes ≡ listed_bytes (λ class. length (listed_in self.now partition class)) 0 59 }
+        requires { partition < most_partitions }
+        ensures slots { result.slots ≡ listed_slots (listed_in self.now partition) 0 class_count }
+        ensures bytes { result.bytes ≡ listed_bytes (λ class. length (listed_in self.now partition class)) 0 class_count }
     {
         self.kept();
         let mut tally = Tally { slots: 0, bytes: 0 };
@@ -67,8 +67,8 @@ impl<N: Name> Stock<N> {
         tally
     }
 
-    /// Puts the title of a slot that is back in front of its list, where that has room.
-    pub fn put(&mut self, region: &Region, handle: &Handle) -> bool
+    // Puts the title of a slot that is back in front of its list, where that has room.
+    pub(crate) fn put(&mut self, region: &Region, handle: &Handle) -> bool
         requires region { region.now ≡ N.region }
         requires back { IsBack handle.now self.old }
         ensures is { IsPut result handle.now self.old self.new }
@@ -90,10 +90,10 @@ impl<N: Name> Stock<N> {
 
     // How many slots the list of a partition and a class has.
     fn listed(&self, partition: u32, class: Class) -> u32
-        requires { partition < 4 }
+        requires { partition < most_partitions }
         ensures slots { result ≡ length (listed_in self.now partition class) }
         ensures few { result ≤ limit_of class }
-        ensures small { class < 59 }
+        ensures small { class < class_count }
     {
         self.kept();
         let place = place_of(partition, class);
@@ -103,7 +103,7 @@ impl<N: Name> Stock<N> {
 
 // The class of this number.
 pub(crate) fn class_numbered(number: u32) -> Class
-    requires { number < 59 }
+    requires { number < class_count }
     ensures { result ≡ number }
 {
     Class::of(number).unwrap()
@@ -111,10 +111,10 @@ pub(crate) fn class_numbered(number: u32) -> Class
 
 // Where the cache of a partition and a class stands.
 pub(crate) fn place_of(partition: u32, class: Class) -> usize
-    requires { partition < 4 }
-    ensures place { result ≡ 59 * partition + class }
-    ensures among { result < 236 }
-    ensures small { class < 59 }
+    requires { partition < most_partitions }
+    ensures place { result ≡ class_count * partition + class }
+    ensures among { result < list_count }
+    ensures small { class < class_count }
 {
     (CLASSES * partition + class.number()) as usize
 }

@@ -1,25 +1,26 @@
 ghost use Rattle.std.specs.Prelude.{◌≡◌, ℕ, ◌+◌, ◌%◌, ◌<◌, ◌≤◌, IfOk, replicate};
+ghost use Rattle.pa_buckets.specs.Limits.{class_count};
+ghost use Rattle.pa_trace.specs.Limits.{register_count, most_partitions};
+ghost use Rattle.pa_rules.specs.Limits.{list_count};
 ghost use Rattle.pa_region.specs.Views.{stake_of};
 ghost use Rattle.pa_region.specs.Hands.{left_after, given_after, united};
 ghost use Rattle.pa_region.specs.Lending.{stake_parcel};
 ghost use Rattle.pa_rules.specs.Caches.{SameLists};
-ghost use Rattle.pa_plays.specs.declared.register.Register.TheVariants.{Empty};
+ghost use Rattle.pa_rules.specs.declared.register.Register.TheVariants.{Empty};
 ghost use Rattle.pa_plays.specs.Stocks.{AreNoLists, IsForThread, IsNewStock, listed_in};
 ghost use Rattle.pa_plays.specs.Workers.{HasItsStake};
 
-use crate::listing::{CLASSES, class_numbered};
+use crate::listing::class_numbered;
 use crate::stock::Stock;
-use pa_buckets::Class;
+use pa_buckets::{CLASSES, Class};
 use pa_cache::Cache;
-use pa_cells::slots_stay_seen;
+use pa_cells::{Handle, slots_stay_seen};
 use pa_machine::OutOfMemory;
-use pa_plays::Register;
 use pa_region::{Mark, Name, Note, Region, beginnings_join, free_numbers_stay, seen_numbers_join};
+use pa_rules::{LISTS, Register};
+use pa_trace::REGISTERS;
 use std::alloc::Global;
 use std::marker::PhantomData;
-
-// How many lists there are: one for each of 59 classes in each of 4 partitions.
-const LISTS: u32 = 236;
 
 impl<N: Name> Stock<N> {
     /// The stock of a thread's worker at the start: its registers and lists are empty, and it has what the note has.
@@ -31,7 +32,7 @@ impl<N: Name> Stock<N> {
     ) -> Result<Stock<N>, OutOfMemory>
         requires region { note.region ≡ N.region }
         requires note { IsForThread thread note.view }
-        requires partitions { partitions ≤ 4 }
+        requires partitions { partitions ≤ most_partitions }
         ensures { IfOk result (IsNewStock thread partitions note.view) }
     {
         let caches = no_lists(alloc)?;
@@ -81,15 +82,15 @@ impl<N: Name> Stock<N> {
 }
 
 // The registers of a worker at the start.
-fn empty_registers() -> [Register; 64]
-    ensures { result ≡ replicate 64 Empty }
+fn empty_registers() -> [Register<Handle>; 64]
+    ensures { result ≡ replicate register_count Empty }
 {
-    [Register::Empty; 64]
+    [Register::Empty; REGISTERS as usize]
 }
 
 // The lists of a worker at the start.
 fn no_lists(alloc: Global) -> Result<Vec<Cache>, OutOfMemory>
-    ensures { IfOk result (λ v. AreNoLists 236 v.items) }
+    ensures { IfOk result (λ v. AreNoLists list_count v.items) }
 {
     let mut caches = Vec::with_capacity(alloc, LISTS as usize)?;
     for place in 0..LISTS {
@@ -100,7 +101,7 @@ fn no_lists(alloc: Global) -> Result<Vec<Cache>, OutOfMemory>
 
 // The class of the list at this place.
 fn class_at(place: u32) -> Class
-    ensures { result ≡ place % 59 }
+    ensures { result ≡ place % class_count }
 {
     class_numbered(place % CLASSES)
 }

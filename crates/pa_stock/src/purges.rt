@@ -1,5 +1,6 @@
 //! A purge of one partition: its lists go back, and its root decommits its empty spans.
 ghost use Rattle.std.specs.Prelude.{◌≡◌, ◌<◌, ◌≤◌, IfOk, OnOk, OnErr};
+ghost use Rattle.pa_trace.specs.Limits.{most_partitions};
 ghost use Rattle.pa_region.specs.Views.{least_stake};
 ghost use Rattle.pa_region.specs.Lending.{CanLend};
 ghost use Rattle.pa_root.specs.Handing.{PurgeEnters};
@@ -7,11 +8,13 @@ ghost use Rattle.pa_plays.specs.Workers.{HasItsStake};
 ghost use Rattle.pa_stock.specs.Purging.{PurgesRoot};
 
 use crate::heap::Heap;
-use crate::listing::{CLASSES, class_numbered};
+use crate::listing::class_numbered;
+use crate::roots::with_root;
 use crate::stock::Stock;
+use pa_buckets::CLASSES;
 use pa_cells::slots_stay_seen;
 use pa_machine::OutOfMemory;
-use pa_region::{Name, Region, Seat, kept_numbers_stay};
+use pa_region::{Name, Seat, kept_numbers_stay};
 use pa_root::Root;
 use std::sync::{Mutex, Wait};
 
@@ -26,7 +29,7 @@ impl<N: Name> Stock<N> {
         partition: u32,
     ) -> Result<u32, OutOfMemory>
         requires stake { HasItsStake self.old }
-        requires partition { partition < 4 }
+        requires partition { partition < most_partitions }
         ensures purges { IfOk result (λ slots. PurgesRoot line partition slots self.old self.new) }
         ensures few { IfOk result (λ slots. slots ≤ 3776) }
         ensures budget { self.new.view.budget ≡ self.old.view.budget }
@@ -58,30 +61,24 @@ fn purge_root<N: Name, R: Wait>(
     partition: u32,
 ) -> Result<(), OutOfMemory>
     requires region { seat.old.region ≡ N.region }
-    requires partition { partition < 4 }
+    requires partition { partition < most_partitions }
     requires lender { CanLend seat.old.view }
     ensures region { seat.new.region ≡ N.region }
     ensures entered { OnOk result (PurgeEnters (least_stake seat.old.view.stakes) partition line seat.old.view seat.new.view) }
     ensures err { OnErr result (seat.new ≡ seat.old) }
 {
-    let region = heap.region();
-    match partition {
-        0 => purge_in(rt, &heap.first, region, seat, line),
-        1 => purge_in(rt, &heap.second, region, seat, line),
-        2 => purge_in(rt, &heap.third, region, seat, line),
-        _ => purge_in(rt, &heap.fourth, region, seat, line),
-    }
+    with_root!(heap, partition, root => purge_in(rt, heap, root, seat, line))
 }
 
 // Purges the root behind this lock.
 fn purge_in<N: Name, R: Wait, const P: u32>(
     rt: &R,
+    heap: &Heap<N>,
     root: &Mutex<Root<N, P>>,
-    region: &Region,
     seat: &mut Seat,
     line: u32,
 ) -> Result<(), OutOfMemory>
-    requires regions { (region.now ≡ N.region) × (seat.old.region ≡ N.region) }
+    requires region { seat.old.region ≡ N.region }
     requires lender { CanLend seat.old.view }
     ensures region { seat.new.region ≡ N.region }
     ensures entered { OnOk result (PurgeEnters (least_stake seat.old.view.stakes) P line seat.old.view seat.new.view) }
@@ -89,5 +86,5 @@ fn purge_in<N: Name, R: Wait, const P: u32>(
 {
     let mut locked = root.lock(rt);
     let root = &mut *locked;
-    root.purge(region, seat, line)
+    root.purge(heap.region(), seat, line)
 }

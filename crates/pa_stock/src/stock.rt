@@ -1,6 +1,8 @@
 ghost use Rattle.std.specs.Prelude.{◌≡◌, ℕ, ◌<◌, ◌≤◌, length};
 ghost use Rattle.pa_machine.specs.Titles.{IsWellFormed};
+ghost use Rattle.pa_layout.specs.Limits.{most_words};
 ghost use Rattle.pa_record.specs.Spans.{name_of};
+ghost use Rattle.pa_trace.specs.Limits.{register_count};
 ghost use Rattle.pa_region.specs.Aware.{IsAware};
 ghost use Rattle.pa_region.specs.Lending.{CanHost};
 ghost use Rattle.pa_region.specs.Views.{HasTitle, stake_of};
@@ -10,8 +12,8 @@ ghost use Rattle.pa_plays.specs.Stocks.{IsStock, HasHandleTo, register_in};
 use pa_cache::Cache;
 use pa_cells::Handle;
 use pa_machine::{SlotName, Title};
-use pa_plays::Register;
 use pa_region::{Name, Note, Seat};
+use pa_rules::Register;
 use std::marker::{Model, PhantomData};
 
 /// A worker's stock: its seat, its registers and its lists of free slots, with the number of its thread and of the run's
@@ -21,7 +23,7 @@ pub struct Stock<N: Name> {
     pub(crate) thread: u32,
     pub(crate) partitions: u32,
     pub(crate) seat: Seat,
-    pub(crate) registers: [Register; 64],
+    pub(crate) registers: [Register<Handle>; 64],
     pub(crate) caches: Vec<Cache>,
     pub(crate) of: PhantomData<N>,
 }
@@ -66,9 +68,9 @@ impl<N: Name> Stock<N> {
     /// The title of which a register has a handle is well formed, and the seat's list of words is as long as its region's. It
     /// costs nothing.
     pub fn placed(&self, handle: &Handle, reg: u32)
-        requires reg { reg < 64 }
+        requires reg { reg < register_count }
         requires handle { HasHandleTo handle.now (register_in self.now.registers reg) }
-        ensures small { byte_word_count N.region ≤ 4194304 }
+        ensures small { byte_word_count N.region ≤ most_words }
         ensures well { IsWellFormed (byte_word_count N.region) handle.now.title }
         ensures long { length self.now.view.words ≡ byte_word_count N.region }
     {
@@ -85,8 +87,8 @@ impl<N: Name> Stock<N> {
     }
 
     /// What a register has, by its number, 0 to 63.
-    pub fn register(&self, reg: u32) -> Register
-        requires reg { reg < 64 }
+    pub fn register(&self, reg: u32) -> Register<Handle>
+        requires reg { reg < register_count }
         ensures { result ≡ register_in self.now.registers reg }
     {
         self.registers[reg as usize]

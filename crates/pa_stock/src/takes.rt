@@ -1,4 +1,5 @@
 ghost use Rattle.std.specs.Prelude.{◌≡◌, ◌<◌};
+ghost use Rattle.pa_trace.specs.Limits.{register_count, most_partitions};
 ghost use Rattle.pa_plays.specs.Stocks.{HasNoHandle, register_in};
 ghost use Rattle.pa_plays.specs.Workers.{HasItsStake};
 ghost use Rattle.pa_stock.specs.Changes.{IsBack};
@@ -9,15 +10,15 @@ use crate::stock::{Stock, slot_name};
 use pa_buckets::Class;
 use pa_cells::Handle;
 use pa_machine::Title;
-use pa_plays::Register;
 use pa_record::{Answer, Seen};
 use pa_region::{Name, Region, counted_steps_leave, filled_words_have_the_value};
+use pa_rules::Register;
 
 impl<N: Name> Stock<N> {
     /// Takes the front of the list of a partition and a class off it. `None` exactly where it is empty.
     pub fn pop(&mut self, region: &Region, partition: u32, class: Class) -> Option<Title>
         requires region { region.now ≡ N.region }
-        requires partition { partition < 4 }
+        requires partition { partition < most_partitions }
         ensures { Pops partition class result self.old self.new }
     {
         self.kept();
@@ -34,7 +35,7 @@ impl<N: Name> Stock<N> {
         requires region { region.now ≡ N.region }
         requires stake { HasItsStake self.old }
         requires budget { 0 < self.old.view.budget }
-        requires reg { reg < 64 }
+        requires reg { reg < register_count }
         requires none { HasNoHandle (register_in self.old.registers reg) }
         requires back { IsBack handle self.old }
         ensures { Issues handle reg result self.old self.new }

@@ -1,12 +1,8 @@
 -- Texts that are joined of parts.
 use Rattle.std.proofs.Common.{◌≡◌, ℕ, List, [], ◌∷◌, ◌++◌, length, drop, sym, subst, ap, ◌∙◌}
 use Rattle.std.proofs.lemmas.List.{append_assoc, take-append-drop}
-use Rattle.std.proofs.Math.Seq.{take-append_seam, take-length}
+use Rattle.std.proofs.Math.Seq.{take-append_seam}
 use Rattle.std.specs.Io.{StartsWith}
-
--- a text starts with itself
-pub starts_itself : (xs : List ℕ) → StartsWith xs xs
-starts_itself xs = take-length xs
 
 -- a text with more behind it starts with that text
 pub starts_more : (xs ys : List ℕ) → StartsWith (xs ++ ys) xs

@@ -1,13 +1,9 @@
 -- Reading digits one after the other, with a value that stops growing.
-use Rattle.std.proofs.Common.{◌≡◌, ℕ, ◌+◌, ◌-◌, ◌*◌, ◌<◌, ◌≤◌, Bool, true, false, cond, List, [], ◌∷◌, length, Option, Some, None, Result, Ok, Err, ◌⊎◌, inl, inr, refl, sym, ap, ◌∙◌, arith}
+use Rattle.std.proofs.Common.{◌≡◌, ℕ, ◌+◌, ◌-◌, ◌*◌, ◌<◌, ◌≤◌, Bool, true, false, cond, List, [], ◌∷◌, Option, Some, None, Result, Ok, Err, ◌⊎◌, inl, inr, refl, sym, ap, ◌∙◌, arith}
 use Rattle.std.proofs.lemmas.Bool.{lt-ltb, le-ltb, cases_lt}
 use Rattle.std.specs.Result.{OkIff, result_ok}
 use Rattle.pa_text.specs.Reading.{is_digit, fit, digit_at, digits_from}
-
--- what a step answers in each of its two cases
-pub cond_is_some : {A : Type 0} (b : Bool) (x y : A) → cond b (Some x) None ≡ Some y → (b ≡ true) × (x ≡ y)
-cond_is_some true x y e = (refl, cc)
-cond_is_some false x y e = absurd cc
+use Rattle.pa_lists.proofs.Options.{if_some}
 
 pub cond_is_none : {A : Type 0} (b : Bool) (x : A) → ◌≡◌ {A = Option A} (cond b (Some x) None) None → b ≡ false
 cond_is_none true x e = absurd cc
@@ -18,7 +14,7 @@ pub digit_first : (n d : ℕ) (bytes rest : List ℕ) → digit_at bytes ≡ Som
 unfolding digits_from
 digit_first n d [] rest e = absurd cc
 digit_first n d (c ∷ cs) rest e =
-    let t = cond_is_some (is_digit c) (c - 48, cs) (d, rest) e in
+    let t = if_some (is_digit c) (c - 48, cs) (d, rest) e in
     rw t.0 (cc (ap (λ (x : ℕ × List ℕ). digits_from (10 * n + x.0) x.1) t.1))
 
 -- where no digit stands in front the number ends
@@ -26,13 +22,6 @@ pub digit_last : (n : ℕ) (bytes : List ℕ) → digit_at bytes ≡ None → di
 unfolding digits_from
 digit_last n [] e = refl
 digit_last n (c ∷ cs) e = rw (cond_is_none (is_digit c) (c - 48, cs) e) refl
-
--- a digit takes a byte
-pub digit_shorter : (d : ℕ) (bytes rest : List ℕ) → digit_at bytes ≡ Some (d, rest) → length rest < length bytes
-digit_shorter d [] rest e = absurd cc
-digit_shorter d (c ∷ cs) rest e =
-    let t = cond_is_some (is_digit c) (c - 48, cs) (d, rest) e in
-    omega (arith, ap (λ (x : ℕ × List ℕ). length x.1) t.1)
 
 -- the value is the number, or both have more than 32 bits
 abbrev pub StandsFor : ℕ → ℕ → Type 0

@@ -25,14 +25,6 @@ stop_none : (bytes : List ℕ) → IsStop bytes → digit_at bytes ≡ None
 stop_none [] h = refl
 stop_none (c ∷ cs) h = rw h refl
 
-none_stop : (bytes : List ℕ) → digit_at bytes ≡ None → IsStop bytes
-none_stop [] e = tt
-none_stop (c ∷ cs) e =
-    elim (cases_Bool (is_digit c)) [
-      | inl yes' ↦ let some' : digit_at (c ∷ cs) ≡ Some (c - 48, cs) = rw yes' refl in absurd (cc)
-      | inr no' ↦ no'
-    ]
-
 -- a digit in front is read
 digit_some : (d : ℕ) (rest : List ℕ) → IsDigit d → digit_at (d ∷ rest) ≡ Some (d - 48, rest)
 digit_some d rest h = rw (digit_true d h) refl
@@ -251,13 +243,3 @@ answers_found bytes (Some x) e = is_found bytes x.0 x.1.now e
 pub answers_none : (bytes : List ℕ) (r : Option (Option ℕ × Bor (List ℕ))) → option_map {U = Option ℕ × List ℕ} (λ x. (x.0, x.1.now)) r ≡ option_map fitted (number_at bytes) → IfNone r ((n : ℕ) (rest : List ℕ) → BeginsWith bytes n rest → ⊥)
 answers_none bytes None e = is_none bytes e
 answers_none bytes (Some x) e = tt
-
-none_as : (bytes : List ℕ) (o : Option (ℕ × List ℕ)) → number_at bytes ≡ o → ((n : ℕ) (rest : List ℕ) → BeginsWith bytes n rest → ⊥) → None ≡ option_map fitted o
-none_as bytes None same none = refl
-none_as bytes (Some x) same none = absurd (none x.0 x.1 (number_takes bytes x.0 x.1 same))
-
--- the other way: what the clauses of a reader of numbers say is that it reads as the list is read
-pub read_as : (bytes : List ℕ) (r : Option (Option ℕ × Bor (List ℕ))) → IfSome r (λ x. (n : ℕ) × BeginsWith bytes n x.1.now × (x.0 ≡ fit n)) → IfNone r ((n : ℕ) (rest : List ℕ) → BeginsWith bytes n rest → ⊥)
-    → option_map {U = Option ℕ × List ℕ} (λ x. (x.0, x.1.now)) r ≡ option_map fitted (number_at bytes)
-read_as bytes None found none = none_as bytes (number_at bytes) refl none
-read_as bytes (Some x) found none = ap (λ (v : Option ℕ). Some (v, x.1.now)) found.2 ∙ sym (ap (option_map fitted) (begins_read bytes found.0 x.1.now found.1))

@@ -7,6 +7,7 @@ use Rattle.pa_text.specs.Reading.{IsStop, number_at, hexes_at}
 use Rattle.pa_text.specs.Hex.{SlotFits, hex, slot_text}
 use Rattle.pa_text.proofs.Numerals.{number_again, decimal_numeral}
 use Rattle.pa_text.proofs.Words.{hexes_again}
+use Rattle.pa_machine.proofs.Runs.{slot_parts}
 
 -- a number with no digit behind it
 pub split_number : (m n : ℕ) (x y : List ℕ) → m < 2 ^ 64 → n < 2 ^ 64 → IsStop x → IsStop y → decimal m ++ x ≡ decimal n ++ y → (m ≡ n) × (x ≡ y)
@@ -27,17 +28,10 @@ split_word m n x y hm hn e = split_hex 16 m n x y hm hn e
 heads : (c d : ℕ) (x y : List ℕ) → c ∷ x ≡ d ∷ y → (c ≡ d) × (x ≡ y)
 heads c d x y e = (cc, cc)
 
-same_slot : (s t : SlotName) → s.start ≡ t.start → s.born ≡ t.born → s ≡ t
-same_slot s t e f =
-    ap (λ (x : ℕ). record_of x s.born) e ∙ ap (λ (x : ℕ). record_of t.start x) f
-  where
-    record_of : ℕ → ℕ → SlotName
-    record_of start born = record { start = start; born = born }
-
 pub split_slot : (s t : SlotName) (x y : List ℕ) → SlotFits s → SlotFits t → IsStop x → IsStop y → slot_text s ++ x ≡ slot_text t ++ y → (s ≡ t) × (x ≡ y)
 split_slot s t x y hs ht sx sy e =
     let start = split_hex 8 s.start t.start (46 ∷ decimal s.born ++ x) (46 ∷ decimal t.born ++ y) hs.0 ht.0
     (sym (append_assoc (hex 8 s.start) (46 ∷ decimal s.born) x) ∙ e ∙ append_assoc (hex 8 t.start) (46 ∷ decimal t.born) y) in
     let rest = heads 46 46 (decimal s.born ++ x) (decimal t.born ++ y) start.1 in
     let born = split_number s.born t.born x y (omega (arith, hs.1)) (omega (arith, ht.1)) sx sy rest.1 in
-    (same_slot s t start.0 born.0, born.1)
+    (slot_parts s t start.0 born.0, born.1)

@@ -7,7 +7,7 @@ use Rattle.pa_text.specs.Hex.{hex, hex_digit}
 use Rattle.pa_text.specs.Reading.{◌>>=◌, is_digit, hex_value, hex_at, hexes_at}
 
 -- the value of a step that gave one
-some_bind : {A B : Type 0} (o : Option A) (f : A → Option B) (y : B) → (o >>= f) ≡ Some y → (x : A) × (o ≡ Some x) × (f x ≡ Some y)
+pub some_bind : {A B : Type 0} (o : Option A) (f : A → Option B) (y : B) → (o >>= f) ≡ Some y → (x : A) × (o ≡ Some x) × (f x ≡ Some y)
 some_bind None f y e = absurd cc
 some_bind (Some x) f y e = (x, refl, e)
 
@@ -109,7 +109,7 @@ hexes_again (suc k) n rest lt =
     rw (regrouped, front, last, whole) refl
 
 -- what does not begin with so many digits does not begin with more
-hexes_none : (k j : ℕ) (bytes : List ℕ) → hexes_at k bytes ≡ None → hexes_at (j + k) bytes ≡ None
+pub hexes_none : (k j : ℕ) (bytes : List ℕ) → hexes_at k bytes ≡ None → hexes_at (j + k) bytes ≡ None
 unfolding hexes_at
 hexes_none k zero bytes e = let same : 0 + k ≡ k = omega arith in rw same e
 hexes_none k (suc j) bytes e =
@@ -131,7 +131,7 @@ hexes_more k value digit bytes rest after e f =
     rw (step, e, f) refl
 
 -- no digit more
-hexes_stop : (k value : ℕ) (bytes rest : List ℕ) → hexes_at k bytes ≡ Some (value, rest) → hex_at rest ≡ None → hexes_at (k + 1) bytes ≡ None
+pub hexes_stop : (k value : ℕ) (bytes rest : List ℕ) → hexes_at k bytes ≡ Some (value, rest) → hex_at rest ≡ None → hexes_at (k + 1) bytes ≡ None
 unfolding hexes_at
 hexes_stop k value bytes rest e f =
     let step : k + 1 ≡ suc k = omega arith in

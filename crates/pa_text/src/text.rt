@@ -143,28 +143,3 @@ fn put(bytes: &mut [u8], at: usize, new: &[u8])
     let (place, _) = spare.split_at_mut(new.len());
     place.copy_from_slice(new);
 }
-
-#[cfg(test)]
-mod tests {
-    use super::*;
-    use std::test::Fail;
-
-    // The text grows past its spare bytes, is cut, and grows again over what was cut off.
-    #[test]
-    fn a_text_grows_and_is_cut(rt: HostRuntime) -> Result<(), Fail> {
-        let mut text = Text::with_capacity(rt.alloc(), 3)?;
-        for _ in 0..3000u32 {
-            text.push(b"abc")?;
-        }
-        assert_eq!(rt; text.len(), 9000);
-        text.truncate(9001);
-        text.truncate(4);
-        text.push(b"")?;
-        text.push(b"xy")?;
-        text.append(b"-many-")?;
-        text.push(b"z")?;
-        assert_eq!(rt; text.as_slice(), b"abcaxy-many-z".as_slice());
-        assert_eq!(rt; text.into_vec().as_slice(), b"abcaxy-many-z".as_slice());
-        Ok(())
-    }
-}

@@ -50,37 +50,3 @@ fn hex_value(byte: u8) -> Option<u64>
         None
     }
 }
-
-#[cfg(test)]
-mod tests {
-    use super::*;
-
-    // Sixteen digits are read, whatever stands behind them, and fewer or others are not.
-    #[test]
-    fn words_are_read(rt: HostRuntime) {
-        let read: [(&[u8], u64, &[u8]); 5] = [
-            (b"0000000000000000", 0, b""),
-            (b"0123456789abcdef", 0x0123_4567_89ab_cdef, b""),
-            (b"fedcba98765432100", 0xfedc_ba98_7654_3210, b"0"),
-            (b"ffffffffffffffff\n", u64::MAX, b"\n"),
-            (b"efefefefefefefef g", 0xefef_efef_efef_efef, b" g"),
-        ];
-        for (bytes, value, rest) in read {
-            assert_eq!(rt; word_at(bytes), Some((value, rest)));
-        }
-        let refused: [&[u8]; 9] = [
-            b"",
-            b"000000000000000",
-            b"000000000000000 0",
-            b"000000000000000A",
-            b"F000000000000000",
-            b"g000000000000000",
-            b"0x00000000000000",
-            b"+000000000000000",
-            b"-000000000000000",
-        ];
-        for bytes in refused {
-            assert_eq!(rt; word_at(bytes), None);
-        }
-    }
-}

@@ -3,8 +3,8 @@ use Rattle.std.proofs.Common.{◌≡◌, ℕ, ◌<◌, List, slice_get, Some, re
 use Rattle.std.proofs.lemmas.Bool.{cases_lt, eqb-true}
 use Rattle.pa_trace.specs.declared.script.Op.TheVariants.{Swap}
 use Rattle.pa_record.specs.declared.history.CellEntry.{CellEntry}
-use Rattle.pa_record.proofs.Joined.{map_cases, map_in, filter_cases}
-use Rattle.pa_record.proofs.Members.{of_some}
+use Rattle.pa_lists.proofs.Joined.{map_cases, map_in, filter_cases}
+use Rattle.pa_lists.proofs.Members.{of_some}
 use Rattle.pa_region.specs.declared.view.Made.{Made}
 use Rattle.pa_rules.specs.declared.played.Played.{Played}
 use Rattle.pa_rules.specs.Cells.{IsExchange, AreCells}
@@ -12,7 +12,8 @@ use Rattle.pa_rules.specs.Order.{StandsBefore}
 use Rattle.pa_told.specs.Told.{ToldRecord, played_in}
 use Rattle.pa_told.specs.Swaps.{SwapMade, is_of_cell, AreSwapped, AreAnswered, CellsFollow}
 use Rattle.pa_told.proofs.Filters.{get_in}
-use Rattle.pa_told.proofs.Swapping.{in_get, StandsAt, cell_list, two_places, placed, in_cell, order}
+use Rattle.pa_told.proofs.Swapping.{StandsAt, cell_list, two_places, placed, in_cell, order}
+use Rattle.pa_lists.proofs.Indexed.{in_at}
 
 -- the exchange of a cell at a place, among all
 record IsOfCell (swaps : List SwapMade) (k : ℕ) (e : CellEntry) (i : ℕ) (s : SwapMade) : Type 0 where
@@ -23,7 +24,7 @@ of_cell : (swaps : List SwapMade) (k j : ℕ) (e : CellEntry) → slice_get (cel
 of_cell swaps k j e at_j =
     let (s, member, is) = map_cases (λ (z : SwapMade). z.entry) _ e (get_in (cell_list k swaps) j e at_j) in
     let (among, cell) = filter_cases (is_of_cell k) swaps s member in
-    let (i, at_i) = in_get swaps s among in
+    let (i, at_i) = in_at swaps s among in
     (i, s, record { at_i = record { at_i = at_i; is = is }; cell = eqb-true s.cell k cell })
 
 module _ (list : List Made) (cells : ℕ → List CellEntry) (swaps : List SwapMade) (ts : List ToldRecord) (are : AreSwapped list cells swaps ts) (answered : AreAnswered cells swaps ts) where

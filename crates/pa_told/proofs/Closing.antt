@@ -21,7 +21,7 @@ use Rattle.pa_told.proofs.Ends.{held_follows}
 use Rattle.pa_told.proofs.Sums.{sum_in, sum_some}
 
 -- a view with no unclean Own has none of a title
-none_unclean : (v : View) (t : Title) → unclean_of v ≡ 0 → has_unclean v t ≡ false
+pub none_unclean : (v : View) (t : Title) → unclean_of v ≡ 0 → has_unclean v t ≡ false
 none_unclean v t clean =
     let of_title : OwnTitle → ℕ = λ (o : OwnTitle). one (same_title o.title t && is_unclean o.state) in
     elim (cases_lt 0 (sum_by of_title v.owns)) [

@@ -8,7 +8,7 @@ use Rattle.pa_machine.specs.declared.word.SlotName.{SlotName}
 use Rattle.pa_machine.specs.declared.word.Step.{Step}
 use Rattle.pa_machine.specs.Count.{number_of}
 use Rattle.pa_machine.specs.Run.{Mark}
-use Rattle.pa_record.proofs.Joined.{map_cases, map_in}
+use Rattle.pa_lists.proofs.Joined.{map_cases, map_in}
 use Rattle.pa_region.specs.declared.view.Entry.TheVariants.{Counted, Looked}
 use Rattle.pa_region.specs.declared.view.View.{View}
 use Rattle.pa_region.specs.Views.{logged_of, counted_at, counted_as, looked_at}

@@ -9,7 +9,7 @@ use Rattle.pa_machine.specs.declared.word.Step.{Step}
 use Rattle.pa_machine.specs.declared.word.Step.TheVariants as steps
 use Rattle.pa_machine.specs.Count.{CanStep, number_of, held_of, refs_of}
 use Rattle.pa_machine.specs.Run.{Mark, IsFirstAt, IsRunFrom, IsOneRun, same_slot}
-use Rattle.pa_machine.proofs.Runs.{same_slot_eq, same_slot_yes}
+use Rattle.pa_machine.proofs.Runs.{same_slot_eq, same_slot_yes, issue_first}
 use Rattle.pa_buckets.specs.Table.{slot_of}
 use Rattle.pa_record.specs.declared.entry.Seen.{Seen}
 use Rattle.pa_record.specs.declared.entry.Answer.TheVariants as answers
@@ -19,7 +19,7 @@ use Rattle.pa_record.specs.declared.root.RootAct.TheVariants.{Map}
 use Rattle.pa_record.specs.Spans.{name_of}
 use Rattle.pa_record.specs.Sound.{IsMadeBy}
 use Rattle.pa_record.specs.Laws.{leaves_by}
-use Rattle.pa_record.proofs.Members.{not_in_none, first_in, later_in, in_cases}
+use Rattle.pa_lists.proofs.Members.{not_in_none, first_in, later_in, in_cases}
 use Rattle.pa_rules.specs.declared.played.Played.{Played}
 use Rattle.pa_rules.specs.Played.{marks_of}
 use Rattle.pa_rules.specs.Roots.{Journals, AreRoots, IsPoolOf}
@@ -34,19 +34,18 @@ use Rattle.pa_told.specs.Lengths.{titles_by, lengths_by}
 use Rattle.pa_told.specs.Homes.{homes_by, HaveSlots, HomesFollow}
 use Rattle.pa_told.proofs.Sizing.{made_listed, listed_made, is_partition, lengths_follow}
 use Rattle.pa_told.proofs.StepMarks.{mark_step, issue_is}
-use Rattle.pa_told.proofs.Usable.{issue_first}
 
 -- ---- the partition of a name
 
 -- a list has a title of that name, or none
-named_there : (ts : List Title) (s : SlotName) → list_any (λ (t : Title). same_slot (name_of t) s) ts ≡ true → (t : Title) × Contains ts t × (name_of t ≡ s)
+pub named_there : (ts : List Title) (s : SlotName) → list_any (λ (t : Title). same_slot (name_of t) s) ts ≡ true → (t : Title) × Contains ts t × (name_of t ≡ s)
 named_there [] s h = absurd (true≢false (sym h))
 named_there (u ∷ us) s h = elim (or_cases (same_slot (name_of u) s) (list_any (λ (t : Title). same_slot (name_of t) s) us) h) [
   | inl here ↦ (u, first_in u us, same_slot_eq (name_of u) s here)
   | inr rest ↦ let (t, among, is) = named_there us s rest in (t, later_in u t us among, is)
 ]
 
-there_named : (ts : List Title) (s : SlotName) (t : Title) → Contains ts t → name_of t ≡ s → list_any (λ (t : Title). same_slot (name_of t) s) ts ≡ true
+pub there_named : (ts : List Title) (s : SlotName) (t : Title) → Contains ts t → name_of t ≡ s → list_any (λ (t : Title). same_slot (name_of t) s) ts ≡ true
 there_named [] s t among is = absurd (not_in_none t among)
 there_named (u ∷ us) s t among is = elim (cases_Bool (same_slot (name_of u) s)) [
   | inl y ↦ rw y refl

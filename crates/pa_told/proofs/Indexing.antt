@@ -8,10 +8,9 @@ use Rattle.pa_record.specs.declared.root.RootEntry.{RootEntry}
 use Rattle.pa_record.specs.declared.pool.PoolEntry.{PoolEntry}
 use Rattle.pa_record.specs.Numbers.{root_numbers, pool_numbers}
 use Rattle.pa_record.specs.Root.{asked_by}
-use Rattle.pa_record.proofs.Joined.{filter_cases, filter_in}
-use Rattle.pa_record.proofs.Members.{not_in_none, first_in, of_some}
+use Rattle.pa_lists.proofs.Joined.{filter_cases, filter_in}
+use Rattle.pa_lists.proofs.Members.{not_in_none, first_in, of_some}
 use Rattle.pa_record.proofs.OneEntry.{one_root, one_pool}
-use Rattle.pa_record.proofs.PoolSteps.{slice_get_at}
 use Rattle.pa_region.specs.declared.view.Made.{Made}
 use Rattle.pa_region.specs.Lists.{entered_in}
 use Rattle.pa_rules.specs.Cells.{IsExchange}
@@ -24,6 +23,8 @@ use Rattle.pa_told.specs.Indices.{StandsAt, IsFullAt, IsSwapAt, Enters, asks, is
 use Rattle.pa_told.proofs.Filters.{get_in, map_one, place_at, only_one, one_place, filter_both}
 use Rattle.pa_told.proofs.Listing.{lines_have_theirs, on_line}
 use Rattle.pa_told.proofs.Orders.{place_in}
+use Rattle.pa_lists.proofs.Indexed.{at_map, slice_get_at}
+use Rattle.pa_lists.proofs.Options.{some_same}
 
 -- what stands at an index
 stands_get : (list : List Made) (m : Made) (j : ℕ) → StandsAt list m j → slice_get list j ≡ Some m
@@ -58,11 +59,6 @@ swap_at swaps x k s =
     ap (λ es. filter (is_of_cell k) es) (s.begins ∙ append_assoc s.older (s.swap ∷ []) s.rest)
     ∙ (filter-append (is_of_cell k) s.older (s.swap ∷ s.rest) ∙ ap (λ es. filter (is_of_cell k) s.older ++ es) here)
 
-get_map : {A B : Type 0} (f : A → B) (xs : List A) (i : ℕ) (x : A) → slice_get xs i ≡ Some x → slice_get (map f xs) i ≡ Some (f x)
-get_map f [] i x e = absurd cc
-get_map f (y ∷ ys) zero x e = ap (λ z. Some (f z)) (of_some y x e)
-get_map f (y ∷ ys) (suc i) x e = get_map f ys i x e
-
 swapped : (list : List Made) (cells : ℕ → List CellEntry) (swaps : List SwapMade) (x : ToldRecord) (k : ℕ) → AreSwaps list cells swaps → IsSwapAt swaps x k →
     (j : ℕ) × (e : CellEntry) × (x.played.answer ≡ Swapped j) × IsExchange cells k j e × (e.line ≡ x.played.line)
 swapped list cells swaps x k are s =
@@ -73,7 +69,7 @@ swapped list cells swaps x k are s =
       j,
       s.swap.entry,
       s.answer,
-      ap (λ es. slice_get es j) (are.cells_are k) ∙ get_map (λ (e : SwapMade). e.entry) (filter (is_of_cell k) swaps) j s.swap at,
+      ap (λ es. slice_get es j) (are.cells_are k) ∙ at_map (λ (e : SwapMade). e.entry) (filter (is_of_cell k) swaps) j s.swap at,
       sym (are.lines s.swap among) ∙ s.line,
     )
 
@@ -84,9 +80,6 @@ map_none f (x ∷ xs) e = absurd cc
 
 asks_some : (e : RootEntry) (j : ℕ) → asked_by e.act ≡ Some j → asks e ≡ true
 asks_some e j named = ap is_asked named
-
-some_one : (i j : ℕ) → Some i ≡ Some j → i ≡ j
-some_one i j e = cc
 
 -- the entry's line, and that it names one of the pool
 abbrev asks_on : ℕ → RootEntry → Bool
@@ -180,7 +173,7 @@ module _ (lists : ℕ → List Made) (pools : List PoolEntry) (roots : Journals)
               | inl of ↦
                   let alone : filter (asks_on x.played.line) (roots p) ≡ o.entry ∷ [] = same ∙ (ap (λ q. filter asks (it.roots q)) of ∙ o.asked) in
                   let entry : o.entry ≡ f = only_one o.entry f (subst (λ es. Contains es f) alone mine) in
-                  let index : o.index ≡ j = some_one o.index j (sym o.names ∙ (ap (λ (z : RootEntry). asked_by z.act) entry ∙ names)) in
+                  let index : o.index ≡ j = some_same o.index j (sym o.names ∙ (ap (λ (z : RootEntry). asked_by z.act) entry ∙ names)) in
                   let there = entry_there pool_numbers (lists 4) pools o.index o.made are.pool (stands_get (lists 4) o.made o.index o.stands) in
                   let at : slice_get pools j ≡ Some there.0 = subst (λ n. slice_get pools n ≡ Some there.0) index there.1 in
                   let e_is : e ≡ there.0 = of_some e there.0 (sym at_j ∙ at) in

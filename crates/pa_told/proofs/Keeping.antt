@@ -17,9 +17,9 @@ use Rattle.pa_record.specs.declared.root.RootEntry.{RootEntry}
 use Rattle.pa_record.specs.Spans.{name_of}
 use Rattle.pa_record.specs.Root.{new_root, root_replayed, names as slot_names}
 use Rattle.pa_record.specs.Laws.{leaves_by, times, times_left, IsNameOut}
-use Rattle.pa_record.proofs.Joined.{map_cases}
+use Rattle.pa_lists.proofs.Joined.{map_cases}
 use Rattle.pa_record.proofs.Leaving.{out_is_left}
-use Rattle.pa_record.proofs.Members.{not_in_none, first_in, later_in}
+use Rattle.pa_lists.proofs.Members.{not_in_none, first_in, later_in}
 use Rattle.pa_region.specs.declared.view.Entry.TheVariants.{Counted}
 use Rattle.pa_region.specs.declared.view.View.{View}
 use Rattle.pa_region.specs.Views.{HasTitle, free_of, logged_of, names}
@@ -37,10 +37,11 @@ use Rattle.pa_told.specs.Touches.{title_of}
 use Rattle.pa_told.specs.Standing.{HasFree, StandsHeld}
 use Rattle.pa_told.proofs.Logs.{logs_are_told}
 use Rattle.pa_told.proofs.Marks.{tells_its_mark}
-use Rattle.pa_told.proofs.Reporting.{lines_differ, all_from}
+use Rattle.pa_told.proofs.Reporting.{lines_differ}
 use Rattle.pa_told.proofs.Sizing.{stands_made, is_partition}
 use Rattle.pa_told.proofs.StepMarks.{mark_step}
 use Rattle.pa_told.proofs.Sums.{told_in}
+use Rattle.pa_lists.proofs.Elements.{all_from_members}
 
 -- a slot that left did so by some entry
 left_by_some : (s : SlotName) (es : List RootEntry) → 0 < times_left s es → (e : RootEntry) × Contains es e × Contains (leaves_by e.act) s
@@ -109,7 +110,7 @@ module _ (supers partitions threads p : ℕ) (sizes : SlotName → ℕ) (pools :
     are_roots = h.journals;
     are_pool = h.pool;
     lines = lines_differ ts h.rising;
-    threads_below = all_from (λ (x : Played). x.thread < threads) (played_in ts) (λ x among.
+    threads_below = all_from_members (λ (x : Played). x.thread < threads) (played_in ts) (λ x among.
         let (y, member, is) = map_cases (λ (z : ToldRecord). z.played) ts x among in
         subst (λ (z : Played). z.thread < threads) is (h.few y member));
     steps = h.slots;

@@ -10,7 +10,7 @@ use Rattle.pa_record.specs.declared.pool.PoolEntry.{PoolEntry}
 use Rattle.pa_record.specs.declared.root.RootEntry.{RootEntry}
 use Rattle.pa_record.specs.Numbers.{root_numbers}
 use Rattle.pa_record.specs.Spans.{name_of}
-use Rattle.pa_record.proofs.Joined.{map_cases, map_in}
+use Rattle.pa_lists.proofs.Joined.{map_cases, map_in}
 use Rattle.pa_region.specs.declared.view.Made.{Made}
 use Rattle.pa_region.specs.declared.view.View.{View}
 use Rattle.pa_rules.specs.declared.played.Played.{Played}

@@ -5,10 +5,10 @@ use Rattle.std.proofs.lemmas.Bool.{cases_Bool, cases_lt, cases_eq, eq-eqb, eqb-t
 use Rattle.std.proofs.lemmas.List.Elements.{filter-append}
 use Rattle.pa_record.specs.declared.root.RootEntry.{RootEntry}
 use Rattle.pa_record.specs.Numbers.{root_numbers}
-use Rattle.pa_record.proofs.Joined.{filter_cases, filter_in, flat_cases, pairs_flat}
-use Rattle.pa_record.proofs.Members.{not_in_none, first_in, later_in, in_cases}
+use Rattle.pa_lists.proofs.Joined.{filter_cases, filter_in, flat_cases, pairs_flat}
+use Rattle.pa_lists.proofs.Members.{not_in_none, first_in, later_in, in_cases}
 use Rattle.pa_record.proofs.OneEntry.{one_root}
-use Rattle.pa_record.proofs.Pairs.{pairs_none, pairs_cons, pairs_tail, pairs_head}
+use Rattle.pa_lists.proofs.Pairs.{pairs_none, pairs_cons, pairs_tail, pairs_head}
 use Rattle.pa_region.specs.declared.view.Entry.{Entry}
 use Rattle.pa_region.specs.declared.view.Made.{Made}
 use Rattle.pa_region.specs.Lists.{made_with, entry_in, entered_in}
@@ -32,7 +32,7 @@ made_filter k (m ∷ ms) = elim (cases_Bool (is_by k m)) [
 ]
 
 -- what a thread's log entered is what its records did, in order
-entered_append : (q : ℕ) (a b : List Entry) → entered_in q (a ++ b) ≡ entered_in q a ++ entered_in q b
+pub entered_append : (q : ℕ) (a b : List Entry) → entered_in q (a ++ b) ≡ entered_in q a ++ entered_in q b
 entered_append q [] b = refl
 entered_append q (e ∷ a) b = ap (λ xs. entry_in q e ++ xs) (entered_append q a b) ∙ sym (append_assoc (entry_in q e) (entered_in q a) (entered_in q b))
 

@@ -14,8 +14,8 @@ use Rattle.pa_trace.specs.declared.script.Op.{Op}
 use Rattle.pa_record.specs.declared.entry.Seen.{Seen}
 use Rattle.pa_record.specs.declared.entry.Answer.{Answer}
 use Rattle.pa_record.specs.declared.entry.Answer.TheVariants as answers
-use Rattle.pa_record.proofs.Members.{not_in_none, first_in, in_cases, of_some, not_some}
-use Rattle.pa_record.proofs.Joined.{filter_cases, filter_in}
+use Rattle.pa_lists.proofs.Members.{not_in_none, first_in, in_cases, of_some, not_some}
+use Rattle.pa_lists.proofs.Joined.{filter_cases, filter_in}
 use Rattle.pa_rules.specs.Played.{step_of, mark_of_answer, mark_at, look_at}
 use Rattle.pa_told.specs.Touches.{title_of, is_touch, touches, AreLooks, StepMade, value_by, done_step, step_in, IsStepTold, IsLookTold, IsReadTold, IsDoneTold, IsSeenTold, ReadsTold, IsToldBy, TellsItsMark}
 

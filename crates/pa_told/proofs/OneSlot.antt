@@ -5,7 +5,7 @@ use Rattle.pa_machine.specs.declared.word.SlotName.{SlotName}
 use Rattle.pa_machine.specs.declared.word.Step.{Step}
 use Rattle.pa_machine.specs.Count.{CanStep, number_of}
 use Rattle.pa_machine.specs.Run.{Mark, IsFirstAt}
-use Rattle.pa_record.proofs.Members.{of_some}
+use Rattle.pa_lists.proofs.Members.{of_some}
 use Rattle.pa_region.specs.History.{Done, IsLegal}
 use Rattle.pa_region.specs.Contents.{up_to, word_at_number}
 use Rattle.pa_region.proofs.LogPart.{reached_number}

@@ -4,7 +4,7 @@ use Rattle.std.specs.Prelude.{Contains}
 use Rattle.pa_record.specs.declared.root.RootEntry.{RootEntry}
 use Rattle.pa_record.specs.declared.pool.PoolEntry.{PoolEntry}
 use Rattle.pa_record.specs.Numbers.{root_numbers, pool_numbers}
-use Rattle.pa_record.proofs.Members.{of_some}
+use Rattle.pa_lists.proofs.Members.{of_some}
 use Rattle.pa_region.specs.declared.view.Made.{Made}
 use Rattle.pa_rules.specs.Order.{StandsBefore}
 use Rattle.pa_told.specs.Told.{ToldRecord}

@@ -9,8 +9,8 @@ use Rattle.std.proofs.lemmas.List.Sums.{sum_by-cons}
 use Rattle.std.proofs.lemmas.Bool.{cases_Bool, eq-eqb, eqb-true}
 use mathlib.Core.Option.{some, some-injective, some-ne-none}
 use lib.ListN.{get_elem?}
-use Rattle.pa_legal.proofs.Parts.{parts_at}
-use Rattle.pa_record.proofs.Joined.{filter_cases, flat_cases}
+use Rattle.pa_lists.proofs.Parts.{parts_at}
+use Rattle.pa_lists.proofs.Joined.{filter_cases, flat_cases}
 use Rattle.pa_region.specs.declared.view.Entry.{Entry}
 use Rattle.pa_region.specs.declared.view.Stake.{Stake}
 use Rattle.pa_region.specs.declared.view.View.{View}

@@ -8,12 +8,11 @@ use Rattle.pa_record.specs.declared.entry.Seen.{Seen}
 use Rattle.pa_record.specs.declared.entry.Answer.{Answer}
 use Rattle.pa_record.specs.declared.entry.Answer.TheVariants as answers
 use Rattle.pa_record.specs.declared.history.CellEntry.{CellEntry}
-use Rattle.pa_record.proofs.Joined.{map_cases}
+use Rattle.pa_lists.proofs.Joined.{map_cases}
 use Rattle.pa_region.specs.declared.view.View.{View}
-use Rattle.pa_rules.specs.declared.register.Reg.{Reg}
-use Rattle.pa_rules.specs.declared.register.Reg.TheVariants.{Empty, Own, Ref, Freed, Cleared}
+use Rattle.pa_rules.specs.declared.register.Register.TheVariants.{Empty, Own, Ref, Freed, Cleared}
 use Rattle.pa_rules.specs.declared.played.Played.{Played}
-use Rattle.pa_rules.specs.Registers.{Regs}
+use Rattle.pa_rules.specs.Registers.{Reg, Regs}
 use Rattle.pa_rules.specs.Contents.{HasRegs, IsReadAllowed}
 use Rattle.pa_rules.specs.Sizes.{usable_of}
 use Rattle.pa_told.specs.Told.{ToldRecord, played_in}

@@ -1,8 +1,8 @@
 -- What each read gave.
-use Rattle.std.proofs.Common.{◌≡◌, ℕ, ◌+◌, ◌<◌, ◌≤◌, Bool, true, false, not, ◌&&◌, List, ◌∷◌, ◌++◌, length, Some, None, refl, sym, ◌∙◌, ap, subst, arith, inl, inr}
+use Rattle.std.proofs.Common.{◌≡◌, ℕ, ◌+◌, ◌<◌, ◌≤◌, Bool, ◌&&◌, List, ◌∷◌, ◌++◌, length, Some, None, refl, sym, ◌∙◌, ap, subst, arith, inl, inr}
 use Rattle.std.specs.Prelude.{Contains}
 use Rattle.std.specs.List.{sum_by}
-use Rattle.std.proofs.lemmas.Bool.{cases_lt, cases_Bool, le-leb, leb-true, and_parts, not-true}
+use Rattle.std.proofs.lemmas.Bool.{cases_lt, cases_Bool, le-leb, leb-true}
 use Rattle.pa_machine.specs.declared.word.SlotName.{SlotName}
 use Rattle.pa_machine.specs.declared.word.Step.{Step}
 use Rattle.pa_machine.specs.declared.word.Step.TheVariants.{Issue, Free}
@@ -11,8 +11,7 @@ use Rattle.pa_machine.specs.Titles.{poison}
 use Rattle.pa_trace.specs.declared.script.Op.TheVariants as ops
 use Rattle.pa_record.specs.declared.entry.Seen.{Seen}
 use Rattle.pa_record.specs.declared.entry.Answer.TheVariants as answers
-use Rattle.pa_record.proofs.Joined.{map_cases, map_in, filter_cases, filter_in}
-use Rattle.pa_region.specs.declared.view.Deeds.{Deeds}
+use Rattle.pa_lists.proofs.Joined.{map_cases, map_in, filter_cases, filter_in}
 use Rattle.pa_region.specs.declared.view.Entry.{Entry}
 use Rattle.pa_region.specs.declared.view.Entry.TheVariants.{Counted, Looked, Read}
 use Rattle.pa_region.specs.declared.view.Stake.{Stake}
@@ -21,7 +20,7 @@ use Rattle.pa_region.specs.Views.{logged_of, counted_as}
 use Rattle.pa_region.specs.History.{Done}
 use Rattle.pa_region.specs.Contents.{content_at_number}
 use Rattle.pa_region.specs.Pairs.{logged_of_by}
-use Rattle.pa_region.specs.Waiting.{is_quiet, IsFreedElsewhere}
+use Rattle.pa_region.specs.Waiting.{IsFreedElsewhere}
 use Rattle.pa_region.specs.AllReads.{IsReadRight}
 use Rattle.pa_region.specs.Tells.{IsNextFree}
 use Rattle.pa_region.proofs.AtNumber.{word_found}
@@ -43,10 +42,7 @@ use Rattle.pa_told.proofs.Marks.{tells_its_mark}
 use Rattle.pa_told.proofs.Places.{each_at, filter_less, stretch_at, log_from, stake_at}
 use Rattle.pa_told.proofs.StepMarks.{mark_made, step_mark, done_is, free_op}
 use Rattle.pa_told.proofs.Sums.{told_in, counted_self, as_entry, entry_slot, entry_step}
-
--- nothing was handed over where all was quiet
-quiet_kept : (d : Deeds) → is_quiet d ≡ true → d.handed ≡ false
-quiet_kept d quiet = not-true d.handed (and_parts (not d.handed) (not d.stored && not d.poisoned) quiet).0
+use Rattle.pa_region.proofs.OneRead.{quiet_handed}
 
 no_free : (p : Step) → p ≡ Free → p ≡ Issue → ⊥
 no_free p e f = cc
@@ -226,7 +222,7 @@ module _ (sizes : SlotName → ℕ) (v : View) (ts : List ToldRecord) (off : IsR
       let (bit, reads) = subst (λ a. IsToldBy sizes x.played.op a x.stretch) answer (off.told x among) in
       let (reg, place, owned, op, told) = reads in
       let (w, stake, knows, mine, right) = read_right x seen value place owned among told in
-      right.freed bit (quiet_kept told.since told.quiet)
+      right.freed bit (quiet_handed told.since told.quiet)
 
 pub reads_follow : ReadsFollow
 reads_follow = record {

@@ -1,9 +1,9 @@
 -- The lines of the report are right.
 use Rattle.std.proofs.Common.{◌≡◌, ℕ, zero, suc, ◌+◌, ◌<◌, ◌≤◌, Bool, leb, List, [], ◌∷◌, ◌++◌, filter, map, Option, Some, None, refl, sym, ◌∙◌, ap, subst, arith, inl, inr}
-use Rattle.std.specs.Prelude.{◌≢◌, Contains, AllPairs, All, length, if◌then◌else◌}
+use Rattle.std.specs.Prelude.{◌≢◌, Contains, AllPairs, length, if◌then◌else◌}
 use Rattle.std.proofs.lemmas.Bool.{cases_lt, cases_eq, eq-eqb, ne_eqb, le-leb, leb-true}
 use Rattle.std.proofs.lemmas.List.Sums.{sum_by-cons}
-use Rattle.std.proofs.lemmas.List.Elements.{filter-append, All-nil, All-cons, Contains-append_right}
+use Rattle.std.proofs.lemmas.List.Elements.{filter-append, Contains-append_right}
 use Rattle.pa_machine.specs.declared.word.SlotName.{SlotName}
 use Rattle.pa_machine.specs.declared.word.Step.{Step}
 use Rattle.pa_machine.specs.Run.{Mark}
@@ -16,10 +16,10 @@ use Rattle.pa_record.specs.Numbers.{root_numbers, pool_numbers}
 use Rattle.pa_record.specs.Root.{new_root, root_replayed}
 use Rattle.pa_record.specs.Census.{census}
 use Rattle.pa_record.proofs.Lawful.{journal_grows}
-use Rattle.pa_record.proofs.Joined.{filter_cases, filter_in, map_cases, map_in}
-use Rattle.pa_record.proofs.Members.{not_in_none, first_in, later_in}
+use Rattle.pa_lists.proofs.Joined.{filter_cases, filter_in, map_cases, map_in}
+use Rattle.pa_lists.proofs.Members.{not_in_none, first_in, later_in}
 use Rattle.pa_record.proofs.OneEntry.{one_root, one_pool}
-use Rattle.pa_record.proofs.Pairs.{pairs_none, pairs_cons, pairs_tail, pairs_head}
+use Rattle.pa_lists.proofs.Pairs.{pairs_none, pairs_cons, pairs_tail, pairs_head}
 use Rattle.pa_region.specs.declared.view.Made.{Made}
 use Rattle.pa_rules.specs.declared.played.Played.{Played}
 use Rattle.pa_rules.specs.Played.{mark_of, marks_of}
@@ -27,8 +27,7 @@ use Rattle.pa_rules.specs.Flow.{at_step}
 use Rattle.pa_rules.specs.Roots.{Journals}
 use Rattle.pa_rules.specs.Caches.{Cache, Caches, CachesTo, with_cache, no_caches, listed_slots}
 use Rattle.pa_rules.specs.Report.{InPhases, PastPhases, HasCensus, IsReportLine, IsCached, listed_bytes, cached_slots, cached_bytes, census_of, until}
-use Rattle.pa_rules.proofs.Phases.{runs_until, mark_in}
-use Rattle.pa_rules.proofs.Running.{mark_from}
+use Rattle.pa_rules.proofs.Phases.{runs_until, within as until_mark}
 use Rattle.pa_legal.specs.Tallies.{issues, frees, enters, leaves, weight_of, one_of, bytes_of, AreHomes, IsLeft, WentIn, IsTallied}
 use Rattle.pa_legal.proofs.tallies.Adding.{tallies_follow}
 use Rattle.pa_told.specs.Told.{ToldRecord, played_in, is_until, told_until}
@@ -39,6 +38,7 @@ use Rattle.pa_told.specs.Reported.{TakenAt, counted_by, IsLeftBy, CacheLeadsTo, 
 use Rattle.pa_told.proofs.Filters.{pairs_filter, nothing_more}
 use Rattle.pa_told.proofs.Listing.{lines_have_theirs}
 use Rattle.pa_told.proofs.Merging.{own_first, other_first}
+use Rattle.pa_lists.proofs.Elements.{all_from_members}
 
 abbrev numbers : List Made → List (List ℕ)
 numbers ms = map (λ (m : Made). m.numbers) ms
@@ -63,10 +63,6 @@ made_of : (list : List Made) (es : List RootEntry) (e : RootEntry) → map (λ (
     (m : Made) × Contains list m × (m.numbers ≡ root_numbers e)
 made_of list es e same among =
     map_cases (λ (m : Made). m.numbers) list (root_numbers e) (subst (λ ns. Contains ns (root_numbers e)) (sym same) (map_in root_numbers es e among))
-
-pub all_from : {A : Type 0} (P : A → Type 0) (xs : List A) → ((x : A) → Contains xs x → P x) → All P xs
-all_from P [] each = All-nil P
-all_from P (x ∷ xs) each = All-cons P x xs (each x (first_in x xs)) (all_from P xs (λ y among. each y (later_in x y xs among)))
 
 module _ (p phase : ℕ) (lists : ℕ → List Made) (pools : List PoolEntry) (roots : Journals) (ts : List ToldRecord) (c : Census)
     (are : AreLists lists pools roots ts) (small : p < 4) (h : TakenAt p phase lists ts c) where
@@ -127,8 +123,8 @@ module _ (p phase : ℕ) (lists : ℕ → List Made) (pools : List PoolEntry) (r
     record {
       rest = goes_on.0;
       parts = goes_on.1;
-      in_phases = all_from (InPhases (played_in ts) phase) h.journal before_end;
-      past_phases = all_from (PastPhases (played_in ts) phase) goes_on.0 after_end;
+      in_phases = all_from_members (InPhases (played_in ts) phase) h.journal before_end;
+      past_phases = all_from_members (PastPhases (played_in ts) phase) goes_on.0 after_end;
     },
     h.taken ∙ ap census (sym (ap (λ ps. root_replayed ps h.journal new_root) pool_on.1 ∙ journal_grows.pool_same h.pool pool_on.0 h.journal h.replays)),
   )
@@ -235,12 +231,6 @@ lines_differ (t ∷ ts) h =
     absurd (omega arith))
     (lines_differ ts (pairs_tail less t ts h))
 
--- a mark of the records up to a phase is one of all
-until_mark : (ps : List Played) (phase : ℕ) (m : Mark) → Contains (marks_of (until phase ps)) m → Contains (marks_of ps) m
-until_mark ps phase m among =
-    let (x, member, is) = mark_from (until phase ps) m among in
-    mark_in ps x m (filter_cases (λ (z : Played). leb z.phase phase) ps x member).0 is
-
 module _ (supers partitions threads : ℕ) (home size : SlotName → ℕ) (lists : ℕ → List Made) (pools : List PoolEntry) (roots : Journals)
     (ts : List ToldRecord) (all : AreReported supers partitions threads home size lists pools roots ts) where
   right : (l : ReportLine) → IsLineTold partitions threads home size lists roots ts l → IsReportLine partitions threads (played_in ts) pools roots l
@@ -273,7 +263,7 @@ report_follows = record {
   line = λ supers partitions threads home size lists pools roots ts l all h. right supers partitions threads home size lists pools roots ts all l h;
   report = λ supers phases partitions threads home size lists pools roots ts lines all places each. record {
     places = places;
-    right = all_from (IsReportLine partitions threads (played_in ts) pools roots) lines
+    right = all_from_members (IsReportLine partitions threads (played_in ts) pools roots) lines
         (λ l among. right supers partitions threads home size lists pools roots ts all l (each l among));
   };
 }

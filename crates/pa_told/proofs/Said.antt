@@ -11,7 +11,7 @@ use Rattle.pa_trace.specs.declared.script.Trace.{Trace}
 use Rattle.pa_trace.specs.declared.script.Op.TheVariants as ops
 use Rattle.pa_trace.specs.Limits.{IsOpWithin}
 use Rattle.pa_record.specs.declared.report.ReportLine.{ReportLine}
-use Rattle.pa_record.proofs.Joined.{map_cases, map_in, filter_cases}
+use Rattle.pa_lists.proofs.Joined.{map_cases, map_in, filter_cases}
 use Rattle.pa_rules.specs.declared.played.Played.{Played}
 use Rattle.pa_rules.specs.Played.{marks_of}
 use Rattle.pa_rules.specs.Caches.{Caches, CachesTo, AreCaches, no_caches}

@@ -7,9 +7,9 @@ use Rattle.pa_region.specs.declared.view.View.{View}
 use Rattle.pa_region.specs.Lists.{list_of}
 use Rattle.pa_trace.specs.declared.script.Trace.{Trace}
 use Rattle.pa_trace.specs.declared.script.Op.TheVariants as ops
-use Rattle.pa_record.proofs.Joined.{map_in, filter_cases}
-use Rattle.pa_record.proofs.Members.{first_in}
-use Rattle.pa_record.proofs.Pairs.{pairs_none, pairs_cons, pairs_head, pairs_tail}
+use Rattle.pa_lists.proofs.Joined.{map_in, filter_cases}
+use Rattle.pa_lists.proofs.Members.{first_in}
+use Rattle.pa_lists.proofs.Pairs.{pairs_none, pairs_cons, pairs_head, pairs_tail}
 use Rattle.pa_rules.specs.Played.{AreLines}
 use Rattle.pa_rules.specs.Order.{StandsBefore}
 use Rattle.pa_rules.specs.Told.{Told}

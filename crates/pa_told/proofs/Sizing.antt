@@ -18,19 +18,19 @@ use Rattle.pa_record.specs.declared.root.RootEntry.{RootEntry}
 use Rattle.pa_record.specs.declared.root.RootAct.{RootAct}
 use Rattle.pa_record.specs.declared.root.RootAct.TheVariants.{Fill, Map, Full, Give, Unmap, Purge}
 use Rattle.pa_record.specs.Pool.{act_at}
-use Rattle.pa_record.specs.Spans.{title_at, name_of, numbers}
+use Rattle.pa_record.specs.Spans.{title_at, name_of}
 use Rattle.pa_record.specs.Root.{Root, new_root, root_next, root_replayed, RootActFits, RootReplays, RiseFrom, all_asked, asked_by, IsJournal, map_title, opened, super_of, names, empties}
 use Rattle.pa_record.specs.Sound.{IsSound, IsSettled, IsBornBelow, AsksFrom, least_after, IsMadeBy}
 use Rattle.pa_record.specs.Laws.{leaves_by}
-use Rattle.pa_record.proofs.Counting.{numbers_in, numbers_has}
+use Rattle.pa_lists.proofs.Different.{numbers_in, numbers_has}
 use Rattle.pa_record.proofs.Filling.{takes_filled, opened_sound}
 use Rattle.pa_record.proofs.Returning.{all_returned_is, times_is}
 use Rattle.pa_record.proofs.Mapping.{without_map_in, born_more}
 use Rattle.pa_record.proofs.Stepping.{next_is}
 use Rattle.pa_record.proofs.Titles.{new_sound, new_born, rise_parts}
 use Rattle.pa_record.proofs.Lawful.{journal_leaves}
-use Rattle.pa_record.proofs.Joined.{map_cases, map_in, flat_cases, flat_in}
-use Rattle.pa_record.proofs.Members.{not_in_none, first_in, later_in, in_cases}
+use Rattle.pa_lists.proofs.Joined.{map_cases, map_in, flat_cases, flat_in}
+use Rattle.pa_lists.proofs.Members.{not_in_none, first_in, later_in, in_cases}
 use Rattle.pa_rules.specs.declared.played.Played.{Played}
 use Rattle.pa_rules.specs.Roots.{Journals, AreRoots, IsPoolOf, MakesEntry}
 use Rattle.pa_rules.specs.Report.{HasSize}
@@ -38,9 +38,10 @@ use Rattle.pa_rules.specs.Held.{IsStanding}
 use Rattle.pa_rules.proofs.Following.{titles_follow}
 use Rattle.pa_rules.proofs.Owned.{title_of, HasLen}
 use Rattle.pa_told.specs.Lengths.{slots_cut, maps_by, titles_by, titles_of, length_among, lengths_by, LengthsFollow}
+use Rattle.pa_lists.specs.Numbers.{numbers}
 
 -- a title among others that agree with it has the length of its name
-length_is : (ts : List Title) (t : Title) → Contains ts t → ((u : Title) → Contains ts u → name_of u ≡ name_of t → u.len ≡ t.len) → length_among ts (name_of t) ≡ t.len
+pub length_is : (ts : List Title) (t : Title) → Contains ts t → ((u : Title) → Contains ts u → name_of u ≡ name_of t → u.len ≡ t.len) → length_among ts (name_of t) ≡ t.len
 length_is [] t among same = absurd (not_in_none t among)
 length_is (u ∷ us) t among same = elim (cases_Bool (same_slot (name_of u) (name_of t))) [
   | inl y ↦ rw y (same u (first_in u us) (same_slot_eq (name_of u) (name_of t) y))

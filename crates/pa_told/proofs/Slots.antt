@@ -7,19 +7,21 @@ use Rattle.pa_machine.specs.declared.word.SlotName.{SlotName}
 use Rattle.pa_machine.specs.declared.word.Step.{Step}
 use Rattle.pa_machine.specs.Count.{CanStep, stepped, number_of}
 use Rattle.pa_machine.specs.Run.{Mark, IsFirstAt, IsOneRun}
-use Rattle.pa_machine.proofs.Runs.{IsPath, path_push, run_of_path}
-use Rattle.pa_record.proofs.Members.{of_some}
+use Rattle.pa_machine.specs.Runs.{IsPath}
+use Rattle.pa_machine.proofs.Runs.{path_push, run_of_path}
+use Rattle.pa_lists.proofs.Members.{of_some}
 use Rattle.pa_region.specs.History.{Done, reached}
 use Rattle.pa_region.specs.Contents.{word_at_number}
 use Rattle.pa_region.proofs.AtNumber.{up_to_all, up_to_none, word_found}
 use Rattle.pa_rules.specs.declared.played.Played.{Played}
 use Rattle.pa_rules.specs.Played.{marks_of}
-use Rattle.pa_rules.specs.Report.{last_word, HasWord}
+use Rattle.pa_rules.specs.Report.{HasWord}
 use Rattle.pa_rules.proofs.Running.{mark_from}
 use Rattle.pa_told.specs.Steps.{AreSteps, SlotsFollow}
 use Rattle.pa_told.specs.Touches.{StepMade}
 use Rattle.pa_told.proofs.StepMarks.{mark_made, mark_step}
 use Rattle.pa_told.proofs.OneSlot.{IsStepAt, number_at, step_at, can_made, first_made}
+use Rattle.pa_rules.proofs.Paths.{path_ends}
 
 -- the words of the history up to a number, as a path of the marks
 abbrev HasWords : List Played → SlotName → List Done → ℕ → List ℕ → Type 0
@@ -84,18 +86,13 @@ module _ (ps : List Played) (s : SlotName) (history : List Done) (steps : AreSte
         subst (λ (z : Mark). IsFirstAt (marks_of ps) s z.found z p × CanStep p z.found) (sym same) both;
   }
 
--- a path ends with its last word
-path_end : (ms : List Mark) (s : SlotName) (u : ℕ) (vs : List ℕ) (w : ℕ) → IsPath ms s u vs w → w ≡ last_word u vs
-path_end ms s u [] w to = sym to
-path_end ms s u (v ∷ vs) w to = path_end ms s v vs w to.5
-
 -- the slot's word after the records is the last one of its history
 pub last_is : (ps : List Played) (s : SlotName) (history : List Done) → AreSteps ps s history → HasWord ps s (reached history)
 last_is ps s history steps =
     let (vs, words) = path ps s history steps (length history) (omega arith) in
     let last = word_at_number (length history) history in
     let same : reached history ≡ last = sym (ap reached (up_to_all (length history) history (omega arith))) in
-    (vs, run_of_path (marks_of ps) s 0 vs last (ends ps s history steps) words.0, same ∙ path_end (marks_of ps) s 0 vs last words.0)
+    (vs, run_of_path (marks_of ps) s 0 vs last (ends ps s history steps) words.0, same ∙ path_ends (marks_of ps) s 0 vs last words.0)
 
 pub slots_follow : SlotsFollow
 slots_follow ps history steps s =

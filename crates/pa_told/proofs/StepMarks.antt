@@ -8,9 +8,11 @@ use Rattle.pa_trace.specs.declared.script.Op.TheVariants as ops
 use Rattle.pa_record.specs.declared.entry.Seen.{Seen}
 use Rattle.pa_record.specs.declared.entry.Answer.{Answer}
 use Rattle.pa_record.specs.declared.entry.Answer.TheVariants as answers
-use Rattle.pa_record.proofs.Members.{of_some, not_some}
-use Rattle.pa_rules.specs.Played.{step_of, mark_at, look_at, mark_of_answer}
+use Rattle.pa_lists.proofs.Members.{of_some, not_some}
+use Rattle.pa_rules.specs.Played.{step_of, mark_at, mark_of_answer}
 use Rattle.pa_told.specs.Touches.{StepMade, value_by, done_step, step_in}
+use Rattle.pa_rules.proofs.Marking.{not_look}
+use Rattle.pa_machine.proofs.Runs.{none_some}
 
 -- the mark of a step that was made on a line
 abbrev pub mark_made : ℕ → StepMade → Mark
@@ -18,9 +20,6 @@ mark_made line d = record { line = line; slot = d.slot; found = d.found; step = 
 
 abbrev made_of : Step → ℕ → Seen → StepMade
 made_of step value seen = record { slot = seen.slot; step = step; found = seen.found.0; value = value }
-
-some_none : (p : Step) → None ≡ Some p → ⊥
-some_none p e = cc
 
 -- a step has its mark
 done_mark : (line value : ℕ) (seen : Seen) (o : Option Step) (d : StepMade) → done_step o value seen ≡ Some d → Some (mark_at line seen o) ≡ Some (mark_made line d)
@@ -39,23 +38,19 @@ IsMarkOf line op a m = (d : StepMade) × (step_in op a ≡ Some d) × (m ≡ mar
 mark_done : (line : ℕ) (op : Op) (seen : Seen) (m : Mark) (p : Step) (o : Option Step) → step_of op ≡ o → Some (mark_at line seen (step_of op)) ≡ Some m → m.step ≡ Some p →
     IsMarkOf line op (answers.Done seen) m
 mark_done line op seen m p None e marked step =
-    absurd (some_none p (sym e ∙ (ap (λ (x : Mark). x.step) (of_some (mark_at line seen (step_of op)) m marked) ∙ step)))
+    absurd (none_some p (sym e ∙ (ap (λ (x : Mark). x.step) (of_some (mark_at line seen (step_of op)) m marked) ∙ step)))
 mark_done line op seen m p (Some q) e marked step =
     (made_of q (value_by op) seen, ap (λ o. done_step o (value_by op) seen) e, sym (of_some (mark_at line seen (step_of op)) m marked) ∙ ap (mark_at line seen) e)
-
-mark_look : (line : ℕ) (o : Option Seen) (m : Mark) (p : Step) → look_at line o ≡ Some m → m.step ≡ Some p → ⊥
-mark_look line None m p marked step = not_some m marked
-mark_look line (Some seen) m p marked step = some_none p (ap (λ (x : Mark). x.step) (of_some (mark_at line seen None) m marked) ∙ step)
 
 pub mark_step : (line : ℕ) (op : Op) (a : Answer) (m : Mark) (p : Step) → mark_of_answer line op a ≡ Some m → m.step ≡ Some p → IsMarkOf line op a m
 mark_step line op (answers.Made seen usable) m p marked step = (made_of steps.Issue 0 seen, refl, sym (of_some (mark_at line seen (Some steps.Issue)) m marked))
 mark_step line op (answers.Done seen) m p marked step = mark_done line op seen m p (step_of op) refl marked step
-mark_step line op (answers.Value seen value) m p marked step = absurd (mark_look line (Some seen) m p marked step)
-mark_step line op (answers.Dangling seen value) m p marked step = absurd (mark_look line (Some seen) m p marked step)
-mark_step line op (answers.SecondFree seen) m p marked step = absurd (mark_look line seen m p marked step)
-mark_step line op (answers.NotOwner seen) m p marked step = absurd (mark_look line (Some seen) m p marked step)
-mark_step line op (answers.StaleUse seen) m p marked step = absurd (mark_look line seen m p marked step)
-mark_step line op (answers.Shared seen) m p marked step = absurd (mark_look line (Some seen) m p marked step)
+mark_step line op (answers.Value seen value) m p marked step = absurd (not_look line (Some seen) m p marked step)
+mark_step line op (answers.Dangling seen value) m p marked step = absurd (not_look line (Some seen) m p marked step)
+mark_step line op (answers.SecondFree seen) m p marked step = absurd (not_look line seen m p marked step)
+mark_step line op (answers.NotOwner seen) m p marked step = absurd (not_look line (Some seen) m p marked step)
+mark_step line op (answers.StaleUse seen) m p marked step = absurd (not_look line seen m p marked step)
+mark_step line op (answers.Shared seen) m p marked step = absurd (not_look line (Some seen) m p marked step)
 mark_step line op a m p marked step = absurd (not_some m marked)
 
 -- an issue is of an answer that made a slot

@@ -9,7 +9,7 @@ use Rattle.pa_machine.specs.declared.word.Step.{Step}
 use Rattle.pa_machine.specs.Count.{number_of}
 use Rattle.pa_machine.specs.Titles.{same_title}
 use Rattle.pa_machine.proofs.Same.{title_tells, title_self}
-use Rattle.pa_record.proofs.Members.{not_in_none, first_in, later_in, in_cases}
+use Rattle.pa_lists.proofs.Members.{not_in_none, first_in, later_in, in_cases}
 use Rattle.pa_region.specs.declared.view.Entry.{Entry}
 use Rattle.pa_region.specs.declared.view.Entry.TheVariants.{Counted, Looked, Read, Added, Entered, Uncut}
 use Rattle.pa_region.specs.Views.{counted_at, counted_as, looked_at, step_number}

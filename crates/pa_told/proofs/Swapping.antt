@@ -5,9 +5,9 @@ use Rattle.std.specs.List.{AllByRecursion as Each}
 use Rattle.std.proofs.lemmas.Bool.{cases_Bool, cases_lt, cases_eq, eq-eqb, ne_eqb}
 use Rattle.pa_machine.specs.declared.title.Title.{Title}
 use Rattle.pa_record.specs.declared.history.CellEntry.{CellEntry}
-use Rattle.pa_record.proofs.Joined.{map_cases, filter_in}
-use Rattle.pa_record.proofs.Members.{not_in_none, first_in, later_in, in_cases, of_some}
-use Rattle.pa_record.proofs.Pairs.{pairs_none, pairs_cons, pairs_head, pairs_tail}
+use Rattle.pa_lists.proofs.Joined.{map_cases, filter_in}
+use Rattle.pa_lists.proofs.Members.{first_in, later_in, of_some}
+use Rattle.pa_lists.proofs.Pairs.{pairs_none, pairs_cons, pairs_head, pairs_tail}
 use Rattle.pa_region.specs.declared.view.Made.{Made}
 use Rattle.pa_region.specs.Views.{seen_among}
 use Rattle.pa_region.specs.Lists.{entered_in, IsKnownTo, Rises}
@@ -21,6 +21,7 @@ use Rattle.pa_told.specs.Viewed.{IsExchanged}
 use Rattle.pa_told.specs.Swaps.{SwapMade, is_of_cell, place_of, AreSwapped, SwapsFollow}
 use Rattle.pa_told.proofs.Filters.{get_in}
 use Rattle.pa_told.proofs.Listing.{lines_have_theirs, entries_in_order, one_record}
+use Rattle.pa_lists.proofs.Indexed.{in_at, at_map}
 
 abbrev pub Apart : Made → Made → Type 0
 Apart m n = line_of m ≢ line_of n
@@ -54,19 +55,6 @@ few_apart (m ∷ ms) few =
       | inl y ↦ let more = rw y at all in omega arith
       | inr miss ↦ rw miss at all
     ]
-
--- exchanges of a cell, by their places among all
-get_map : {A B : Type 0} (f : A → B) (xs : List A) (i : ℕ) (x : A) → slice_get xs i ≡ Some x → slice_get (map f xs) i ≡ Some (f x)
-get_map f [] i x at_i = absurd cc
-get_map f (y ∷ ys) zero x at_i = ap (λ z. Some (f z)) (of_some y x at_i)
-get_map f (y ∷ ys) (suc i) x at_i = get_map f ys i x at_i
-
-pub in_get : {A : Type 0} (xs : List A) (x : A) → Contains xs x → (i : ℕ) × (slice_get xs i ≡ Some x)
-in_get [] x among = absurd (not_in_none x among)
-in_get (y ∷ ys) x among = elim (in_cases y x ys among) [
-  | inl e ↦ (0, ap Some e)
-  | inr rest ↦ let (i, at_i) = in_get ys x rest in (suc i, at_i)
-]
 
 -- an exchange among all, that is this entry
 pub record StandsAt (swaps : List SwapMade) (i : ℕ) (e : CellEntry) (s : SwapMade) : Type 0 where
@@ -165,7 +153,7 @@ module _ (list : List Made) (cells : ℕ → List CellEntry) (swaps : List SwapM
 
   -- an exchange's entry in the list, and its place by its line
   made_at : (i : ℕ) (e : CellEntry) (s : SwapMade) → StandsAt swaps i e s → slice_get list i ≡ Some s.made
-  made_at i e s at_s = subst (λ ms. slice_get ms i ≡ Some s.made) (sym are.swaps_are.list_is) (get_map (λ (z : SwapMade). z.made) swaps i s at_s.at_i)
+  made_at i e s at_s = subst (λ ms. slice_get ms i ≡ Some s.made) (sym are.swaps_are.list_is) (at_map (λ (z : SwapMade). z.made) swaps i s at_s.at_i)
 
   line_at : (i : ℕ) (e : CellEntry) (s : SwapMade) → StandsAt swaps i e s → line_of s.made ≡ e.line
   line_at i e s at_s = are.swaps_are.lines s (get_in swaps i s at_s.at_i) ∙ ap (λ (z : CellEntry). z.line) at_s.is
@@ -208,8 +196,8 @@ module _ (list : List Made) (cells : ℕ → List CellEntry) (swaps : List SwapM
       let (v, member, q) = map_cases (λ (z : ToldRecord). z.played) ts y second in
       let (m, in_m, line) = are.has u among (subst IsExchanged (sym p) is) in
       let (n, in_n, line') = are.has v member (subst IsExchanged (sym q) other) in
-      let (i, at_i) = in_get list m in_m in
-      let (j, at_j) = in_get list n in_n in
+      let (i, at_i) = in_at list m in_m in
+      let (j, at_j) = in_at list n in_n in
       let a : line_of m ≡ x.line = line ∙ ap (λ (z : Played). z.line) p in
       let b : line_of n ≡ y.line = line' ∙ ap (λ (z : Played). z.line) q in
       let before : StandsBefore u.played v.played =

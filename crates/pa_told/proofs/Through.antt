@@ -11,11 +11,10 @@ use Rattle.pa_record.specs.declared.entry.Seen.{Seen}
 use Rattle.pa_record.specs.declared.entry.Answer.{Answer}
 use Rattle.pa_record.specs.declared.entry.Answer.TheVariants as answers
 use Rattle.pa_record.specs.declared.history.CellEntry.{CellEntry}
-use Rattle.pa_record.proofs.Members.{not_in_none, first_in, later_in, in_cases}
-use Rattle.pa_rules.specs.declared.register.Reg.{Reg}
-use Rattle.pa_rules.specs.declared.register.Reg.TheVariants.{Empty, Own, Ref, Freed, Cleared}
+use Rattle.pa_lists.proofs.Members.{not_in_none, first_in, later_in, in_cases}
+use Rattle.pa_rules.specs.declared.register.Register.TheVariants.{Empty, Own, Ref, Freed, Cleared}
 use Rattle.pa_rules.specs.declared.played.Played.{Played}
-use Rattle.pa_rules.specs.Registers.{Regs, AllRegs, Facts, Row, RowsTo, AllocRow, ReadRow, ReadFromRow, with_thread, no_regs, usable_in}
+use Rattle.pa_rules.specs.Registers.{Reg, Regs, AllRegs, Facts, Row, RowsTo, AllocRow, ReadRow, ReadFromRow, with_thread, no_regs, usable_in}
 use Rattle.pa_rules.specs.Sizes.{usable_of}
 use Rattle.pa_told.specs.Told.{ToldRecord, played_in, is_of_thread}
 use Rattle.pa_told.specs.Touches.{title_of, IsReadTold, IsToldBy, AreTold}

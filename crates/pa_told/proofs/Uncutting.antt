@@ -14,8 +14,8 @@ use Rattle.pa_record.specs.Numbers.{root_numbers}
 use Rattle.pa_record.specs.Root.{Root, new_root, root_next, root_replayed, RootActFits, RootReplays, RiseFrom, all_asked, asked_by}
 use Rattle.pa_record.specs.Sound.{IsSound, AsksFrom, least_after}
 use Rattle.pa_record.proofs.Lawful.{journal_leaves}
-use Rattle.pa_record.proofs.Joined.{filter_cases}
-use Rattle.pa_record.proofs.Members.{not_in_none, in_cases}
+use Rattle.pa_lists.proofs.Joined.{filter_cases}
+use Rattle.pa_lists.proofs.Members.{not_in_none, in_cases}
 use Rattle.pa_record.proofs.OneEntry.{one_root}
 use Rattle.pa_record.proofs.Titles.{new_sound, new_born, rise_parts}
 use Rattle.pa_region.specs.declared.view.Entry.{Entry}

@@ -3,16 +3,14 @@ use Rattle.std.proofs.Common.{◌≡◌, ℕ, ◌+◌, ◌⊎◌, List, [], ◌�
 use Rattle.std.specs.Prelude.{Contains}
 use Rattle.std.proofs.lemmas.Bool.{cases_Bool}
 use Rattle.pa_machine.specs.declared.word.SlotName.{SlotName}
-use Rattle.pa_machine.specs.declared.word.Step.{Step}
 use Rattle.pa_machine.specs.declared.word.Step.TheVariants as steps
-use Rattle.pa_machine.specs.Count.{CanStep}
 use Rattle.pa_machine.specs.Run.{same_slot}
-use Rattle.pa_machine.proofs.Runs.{same_slot_eq, same_slot_yes}
+use Rattle.pa_machine.proofs.Runs.{same_slot_eq, same_slot_yes, issue_first}
 use Rattle.pa_trace.specs.declared.script.Op.{Op}
 use Rattle.pa_record.specs.declared.entry.Seen.{Seen}
 use Rattle.pa_record.specs.declared.entry.Answer.{Answer}
 use Rattle.pa_record.specs.declared.entry.Answer.TheVariants as answers
-use Rattle.pa_record.proofs.Members.{not_in_none, first_in, later_in, in_cases}
+use Rattle.pa_lists.proofs.Members.{not_in_none, first_in, later_in, in_cases}
 use Rattle.pa_region.specs.History.{reached}
 use Rattle.pa_region.specs.Contents.{word_at_number}
 use Rattle.pa_region.proofs.AtNumber.{up_to_none}
@@ -24,14 +22,6 @@ use Rattle.pa_told.specs.Touches.{IsToldBy, AreTold}
 use Rattle.pa_told.specs.Rows.{UsableFollows}
 use Rattle.pa_told.proofs.OneSlot.{step_at}
 use Rattle.pa_told.proofs.StepMarks.{issue_is}
-
--- only an issue finds the word 0
-pub issue_first : (p : Step) (w : ℕ) → CanStep p w → w ≡ 0 → p ≡ steps.Issue
-issue_first steps.Issue w can z = refl
-issue_first steps.Copy w can z = absurd (omega (arith, can.0, z))
-issue_first steps.Reset w can z = absurd (omega (arith, can.0, z))
-issue_first steps.Free w can z = absurd (omega (arith, can.0, z))
-issue_first steps.Write w can z = absurd (omega (arith, can.0, z))
 
 -- what a record says of the usable bytes: those of the slot that it made are all but 8, and it says of no other
 said : (sizes : SlotName → ℕ) (s : SlotName) (op : Op) (a : Answer) (es : List Entry) (other : ℕ) → IsToldBy sizes op a es →

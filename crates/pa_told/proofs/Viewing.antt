@@ -8,8 +8,8 @@ use Rattle.pa_machine.specs.declared.word.Step.{Step}
 use Rattle.pa_machine.specs.Count.{number_of}
 use Rattle.pa_machine.specs.Run.{Mark}
 use Rattle.pa_record.specs.declared.history.CellEntry.{CellEntry}
-use Rattle.pa_record.proofs.Joined.{map_cases}
-use Rattle.pa_record.proofs.Members.{not_some}
+use Rattle.pa_lists.proofs.Joined.{map_cases}
+use Rattle.pa_lists.proofs.Members.{not_some}
 use Rattle.pa_rules.specs.declared.played.Played.{Played}
 use Rattle.pa_rules.specs.Played.{mark_of, mark_of_answer}
 use Rattle.pa_rules.specs.Cells.{IsExchange}

@@ -3,7 +3,7 @@ use Rattle.std.proofs.Common.{ℕ, List, sym, ◌∙◌, ap, subst, inr}
 use Rattle.std.specs.Prelude.{Contains}
 use Rattle.pa_machine.specs.declared.word.SlotName.{SlotName}
 use Rattle.pa_record.specs.declared.history.CellEntry.{CellEntry}
-use Rattle.pa_record.proofs.Joined.{map_cases}
+use Rattle.pa_lists.proofs.Joined.{map_cases}
 use Rattle.pa_region.specs.declared.view.View.{View}
 use Rattle.pa_trace.specs.declared.script.Trace.{Trace}
 use Rattle.pa_rules.specs.declared.played.Played.{Played}

@@ -7,6 +7,7 @@ use Rattle.pa_record.specs.declared.root.RootEntry.{RootEntry}
 use Rattle.pa_record.specs.declared.pool.PoolEntry.{PoolEntry}
 use Rattle.pa_record.specs.Numbers.{root_numbers, pool_numbers}
 use Rattle.pa_record.specs.Root.{asked_by}
+use Rattle.pa_trace.specs.Limits.{most_partitions}
 use Rattle.pa_region.specs.declared.view.Made.{Made}
 use Rattle.pa_region.specs.Lists.{entered_in}
 use Rattle.pa_rules.specs.Cells.{IsExchange}
@@ -47,7 +48,7 @@ pub record IsSwapAt (swaps : List SwapMade) (x : ToldRecord) (k : ℕ) : Type 0 
 pub record Enters (x : ToldRecord) : Type 0 where
   pub roots : ℕ → List RootEntry
   pub pools : List PoolEntry
-  pub roots_are : (p : ℕ) → p < 4 → map (λ (m : Made). m.numbers) (entered_in p x.stretch) ≡ map root_numbers (roots p)
+  pub roots_are : (p : ℕ) → p < most_partitions → map (λ (m : Made). m.numbers) (entered_in p x.stretch) ≡ map root_numbers (roots p)
   pub pools_are : map (λ (m : Made). m.numbers) (entered_in 4 x.stretch) ≡ map pool_numbers pools
 
 -- the entry names one of the pool
@@ -72,7 +73,7 @@ pub record AskedOnce (list : List Made) (x : ToldRecord) (it : Enters x) : Type 
   pub index : ℕ
   pub made_is : entered_in 4 x.stretch ≡ made ∷ []
   pub pools : it.pools ≡ pool ∷ []
-  pub small : pool.partition < 4
+  pub small : pool.partition < most_partitions
   pub asked : filter asks (it.roots pool.partition) ≡ entry ∷ []
   pub others : (p : ℕ) → p ≢ pool.partition → filter asks (it.roots p) ≡ []
   pub names : asked_by entry.act ≡ Some index
@@ -87,8 +88,8 @@ AreAsked list ts = (x : ToldRecord) → Contains ts x → (it : Enters x) × (As
 pub record AreLists (lists : ℕ → List Made) (pools : List PoolEntry) (roots : Journals) (ts : List ToldRecord) : Type 0 where
   pub is : (q : ℕ) → q < 5 → IsListOf q (lists q) ts
   pub rising : AreRising ts
-  pub journals : (p : ℕ) → p < 4 → IsJournalOf (lists p) (roots p)
-  pub past : (p : ℕ) → 4 ≤ p → roots p ≡ []
+  pub journals : (p : ℕ) → p < most_partitions → IsJournalOf (lists p) (roots p)
+  pub past : (p : ℕ) → most_partitions ≤ p → roots p ≡ []
   pub pool : IsPoolList (lists 4) pools
 
 -- Then indices are those of a legal run.

@@ -8,6 +8,7 @@ use Rattle.pa_record.specs.declared.root.RootEntry.{RootEntry}
 use Rattle.pa_record.specs.Numbers.{root_numbers}
 use Rattle.pa_record.specs.Pool.{IsPool}
 use Rattle.pa_record.specs.Root.{IsJournal}
+use Rattle.pa_trace.specs.Limits.{most_partitions}
 use Rattle.pa_region.specs.declared.view.Made.{Made}
 use Rattle.pa_region.specs.declared.view.View.{View}
 use Rattle.pa_region.specs.Lists.{entered_in}
@@ -41,12 +42,13 @@ pub record RootsSay (partitions : ℕ) (lists : ℕ → List Made) (pools : List
     Type 0 where
   pub lists_are : AreLists lists pools roots ts
   pub journals : (p : ℕ) → IsJournal pools (roots p)
-  pub makes : (x : ToldRecord) (p : ℕ) (m : Made) (e : RootEntry) → p < 4 → Contains ts x → Contains (entered_in p x.stretch) m →
+  pub makes : (x : ToldRecord) (p : ℕ) (m : Made) (e : RootEntry) → p < most_partitions → Contains ts x →
+      Contains (entered_in p x.stretch) m →
       m.numbers ≡ root_numbers e → MakesEntry pools p e.act x.played.op
-  pub cuts : (p : ℕ) → p < 4 → HasCuts p (lists p) ts
+  pub cuts : (p : ℕ) → p < most_partitions → HasCuts p (lists p) ts
   pub none_past : (p : ℕ) → partitions ≤ p → roots p ≡ []
   pub refused : (x : ToldRecord) (j reg p size : ℕ) → Contains ts x → x.played.answer ≡ Full j → x.played.op ≡ Alloc reg p size →
-      (p < 4) × IsFullAt (lists p) x j
+      (p < most_partitions) × IsFullAt (lists p) x j
 
 -- What the closing seat is asked, from the journals, the logs and what it has.
 pub record SeatSays (supers partitions threads : ℕ) (sizes : SlotName → ℕ) (lists : ℕ → List Made) (r : Told) (ts : List ToldRecord)

@@ -8,13 +8,14 @@ use Rattle.pa_record.specs.declared.pool.PoolEntry.{PoolEntry}
 use Rattle.pa_record.specs.declared.root.RootEntry.{RootEntry}
 use Rattle.pa_record.specs.declared.root.RootAct.{RootAct}
 use Rattle.pa_record.specs.declared.root.RootAct.TheVariants.{Fill, Map, Full, Give, Unmap, Purge}
-use Rattle.pa_record.specs.Spans.{Span, title_at, name_of, numbers}
+use Rattle.pa_record.specs.Spans.{Span, title_at, name_of}
 use Rattle.pa_record.specs.Root.{new_root, root_replayed, map_title}
 use Rattle.pa_record.specs.Sound.{IsMadeBy}
 use Rattle.pa_rules.specs.declared.played.Played.{Played}
 use Rattle.pa_rules.specs.Roots.{Journals, AreRoots, IsPoolOf}
 use Rattle.pa_rules.specs.Report.{HasSize}
 use Rattle.pa_rules.specs.Held.{IsStanding}
+use Rattle.pa_lists.specs.Numbers.{numbers}
 
 -- the slots that were cut of a span, and the direct map that an entry makes
 abbrev pub slots_cut : Span → List Title

@@ -9,10 +9,9 @@ use Rattle.pa_trace.specs.declared.script.Op.TheVariants as ops
 use Rattle.pa_record.specs.declared.entry.Seen.{Seen}
 use Rattle.pa_record.specs.declared.entry.Answer.TheVariants.{Value, Dangling}
 use Rattle.pa_record.specs.declared.history.CellEntry.{CellEntry}
-use Rattle.pa_rules.specs.declared.register.Reg.{Reg}
-use Rattle.pa_rules.specs.declared.register.Reg.TheVariants.{Empty, Own, Ref, Freed, Cleared}
+use Rattle.pa_rules.specs.declared.register.Register.TheVariants.{Empty, Own, Ref, Freed, Cleared}
 use Rattle.pa_rules.specs.declared.played.Played.{Played}
-use Rattle.pa_rules.specs.Registers.{Regs}
+use Rattle.pa_rules.specs.Registers.{Reg, Regs}
 use Rattle.pa_rules.specs.Contents.{IsContent, HasRegs, IsNextFree, AreContents}
 use Rattle.pa_rules.specs.Flow.{IsInPhases}
 use Rattle.pa_rules.specs.Sizes.{usable_of}

@@ -10,6 +10,7 @@ use Rattle.pa_record.specs.declared.report.Tally.{Tally}
 use Rattle.pa_record.specs.declared.census.Census.{Census}
 use Rattle.pa_record.specs.Root.{new_root, root_replayed, IsJournal}
 use Rattle.pa_record.specs.Census.{census}
+use Rattle.pa_trace.specs.Limits.{most_partitions}
 use Rattle.pa_region.specs.declared.view.Made.{Made}
 use Rattle.pa_rules.specs.declared.played.Played.{Played}
 use Rattle.pa_rules.specs.Played.{marks_of}
@@ -72,7 +73,7 @@ pub record AreListed (partitions threads : ℕ) (roots : Journals) (xs : List Pl
 -- threads count, cached ones by their lists, and the root by its census.
 pub record IsLineTold (partitions threads : ℕ) (home size : SlotName → ℕ) (lists : ℕ → List Made) (roots : Journals) (ts : List ToldRecord)
     (l : ReportLine) : Type 0 where
-  pub partition : l.partition < 4
+  pub partition : l.partition < most_partitions
   pub live : IsLeftBy issues frees home size l.partition threads (until l.phase (played_in ts)) l.live
   pub quarantined : IsLeftBy enters leaves home size l.partition threads (until l.phase (played_in ts)) l.quarantined
   pub cached : AreListed partitions threads roots (until l.phase (played_in ts)) l.partition l.cached
@@ -96,7 +97,7 @@ pub record AreReported (supers partitions threads : ℕ) (home size : SlotName �
 --   report: so is the report of such lines, one for each phase and partition in order
 pub record ReportFollows : Type 0 where
   pub census : (p phase : ℕ) (lists : ℕ → List Made) (pools : List PoolEntry) (roots : Journals) (ts : List ToldRecord) (c : Census) →
-      AreLists lists pools roots ts → p < 4 → TakenAt p phase lists ts c → HasCensus (played_in ts) pools roots phase p c
+      AreLists lists pools roots ts → p < most_partitions → TakenAt p phase lists ts c → HasCensus (played_in ts) pools roots phase p c
   pub line : (supers partitions threads : ℕ) (home size : SlotName → ℕ) (lists : ℕ → List Made) (pools : List PoolEntry) (roots : Journals)
       (ts : List ToldRecord) (l : ReportLine) → AreReported supers partitions threads home size lists pools roots ts →
       IsLineTold partitions threads home size lists roots ts l → IsReportLine partitions threads (played_in ts) pools roots l

@@ -6,6 +6,7 @@ use Rattle.pa_machine.specs.declared.title.Title.{Title}
 use Rattle.pa_machine.specs.declared.word.SlotName.{SlotName}
 use Rattle.pa_machine.specs.declared.word.Step.{Step}
 use Rattle.pa_machine.specs.Count.{number_of}
+use Rattle.pa_buckets.specs.Limits.{class_count}
 use Rattle.pa_region.specs.declared.view.Deeds.{Deeds}
 use Rattle.pa_region.specs.declared.view.Entry.TheVariants.{Counted, Looked, Read}
 use Rattle.pa_region.specs.declared.view.Made.{Made}
@@ -19,7 +20,7 @@ use Rattle.pa_region.specs.Ends.{IsEnd}
 use Rattle.pa_trace.specs.declared.script.Trace.{Trace}
 use Rattle.pa_trace.specs.declared.script.Op.{Op}
 use Rattle.pa_trace.specs.declared.script.Op.TheVariants as ops
-use Rattle.pa_trace.specs.Limits.{IsWithinLimits}
+use Rattle.pa_trace.specs.Limits.{IsWithinLimits, most_partitions}
 use Rattle.pa_record.specs.declared.census.Census.{Census}
 use Rattle.pa_record.specs.declared.entry.Answer.TheVariants.{Full}
 use Rattle.pa_record.specs.declared.history.Held.TheVariants.{Nothing}
@@ -34,10 +35,9 @@ use Rattle.pa_record.specs.Root.{new_root, root_replayed, IsJournal}
 use Rattle.pa_record.specs.Sound.{IsMade}
 use Rattle.pa_record.specs.Spans.{name_of}
 use Rattle.pa_record.specs.Laws.{IsNameOut}
-use Rattle.pa_rules.specs.declared.register.Reg.{Reg}
-use Rattle.pa_rules.specs.declared.register.Reg.TheVariants.{Empty, Own, Ref, Freed, Cleared}
+use Rattle.pa_rules.specs.declared.register.Register.TheVariants.{Empty, Own, Ref, Freed, Cleared}
 use Rattle.pa_rules.specs.Played.{AreDue}
-use Rattle.pa_rules.specs.Registers.{Regs, Facts, Row, no_regs}
+use Rattle.pa_rules.specs.Registers.{Reg, Regs, Facts, Row, no_regs}
 use Rattle.pa_rules.specs.Cells.{IsChain}
 use Rattle.pa_rules.specs.Caches.{Caches, no_caches}
 use Rattle.pa_rules.specs.Roots.{MakesEntry}
@@ -118,10 +118,11 @@ pub record PoolTells (t : Trace) (r : Told) (v : View) (ts : List ToldRecord) : 
 --   numbers, unmaps: a root hands a slot out at the number at which it has it; a direct map that goes back is named at the number
 --     that the step which returned it left
 pub record RootsTell (t : Trace) (r : Told) (v : View) (ts : List ToldRecord) : Type 0 where
-  pub lists : (p : ℕ) → p < 4 → IsJournalOf (list_of p v) (r.roots p)
+  pub lists : (p : ℕ) → p < most_partitions → IsJournalOf (list_of p v) (r.roots p)
   pub journals : (p : ℕ) → IsJournal r.pools (r.roots p)
   pub none_past : (p : ℕ) → t.partitions ≤ p → r.roots p ≡ []
-  pub makes : (x : ToldRecord) (p : ℕ) (m : Made) (e : RootEntry) → p < 4 → Contains ts x → Contains (entered_in p x.stretch) m →
+  pub makes : (x : ToldRecord) (p : ℕ) (m : Made) (e : RootEntry) → p < most_partitions → Contains ts x →
+      Contains (entered_in p x.stretch) m →
       m.numbers ≡ root_numbers e → MakesEntry r.pools p e.act x.played.op
   pub refused : (x : ToldRecord) (j reg p size : ℕ) → Contains ts x → x.played.answer ≡ Full j → x.played.op ≡ ops.Alloc reg p size →
       IsFullAt (list_of p v) x j
@@ -243,7 +244,7 @@ pub record CloseSays (t : Trace) (r : Told) (v : View) (ts : List ToldRecord) (a
   pub unmaps : OnlyUnmapsUncut ts
   pub rooted : (p : ℕ) (u : Title) → IsMade (root_replayed r.pools (r.roots p) new_root) u →
       (IsNameOut (root_replayed r.pools (r.roots p) new_root) (name_of u) → ⊥) → 0 < free_of v u
-  pub listed : (k p class : ℕ) (m : Numbered) → k < t.threads → p < t.partitions → class < 59 → Contains (all k p class) m →
+  pub listed : (k p class : ℕ) (m : Numbered) → k < t.threads → p < t.partitions → class < class_count → Contains (all k p class) m →
       0 < free_of v (title_of (sizes_in t r) m.slot)
   pub clean : unclean_of v ≡ 0
 

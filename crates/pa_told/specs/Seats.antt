@@ -1,6 +1,7 @@
 -- What a seat's type keeps gives: that it knows all logs of the records, and that the lists are theirs.
 use Rattle.std.specs.Prelude.{◌≡◌, ℕ, ◌<◌, List, Contains}
 use Rattle.std.specs.List.{AllByRecursion as Each}
+use Rattle.pa_trace.specs.Limits.{most_threads}
 use Rattle.pa_region.specs.declared.view.Stake.{Stake}
 use Rattle.pa_region.specs.declared.view.Made.{Made}
 use Rattle.pa_region.specs.declared.view.View.{View}
@@ -13,7 +14,7 @@ use Rattle.pa_told.specs.Reads.{KnowsAll}
 
 -- each record is of one of the 16 threads
 abbrev pub AreOfThreads : List ToldRecord → Type 0
-AreOfThreads ts = (x : ToldRecord) → Contains ts x → x.played.thread < 16
+AreOfThreads ts = (x : ToldRecord) → Contains ts x → x.played.thread < most_threads
 
 -- each record entered only what is of its line
 abbrev pub AreOfLines : ℕ → List ToldRecord → Type 0

@@ -3,6 +3,7 @@ use Rattle.std.specs.Prelude.{◌≡◌, ℕ, ◌<◌, List, Contains}
 use Rattle.pa_machine.specs.declared.title.Title.{Title}
 use Rattle.pa_machine.specs.declared.word.SlotName.{SlotName}
 use Rattle.pa_machine.specs.Run.{Slots}
+use Rattle.pa_buckets.specs.Limits.{class_count}
 use Rattle.pa_record.specs.declared.numbered.Numbered.{Numbered}
 use Rattle.pa_record.specs.declared.pool.PoolEntry.{PoolEntry}
 use Rattle.pa_record.specs.declared.root.RootEntry.{RootEntry}
@@ -12,6 +13,7 @@ use Rattle.pa_record.specs.Spans.{name_of}
 use Rattle.pa_record.specs.Root.{new_root, root_replayed}
 use Rattle.pa_record.specs.Sound.{IsMade}
 use Rattle.pa_record.specs.Laws.{IsNameOut}
+use Rattle.pa_trace.specs.Limits.{most_partitions}
 use Rattle.pa_region.specs.declared.view.Entry.TheVariants.{Uncut}
 use Rattle.pa_region.specs.declared.view.Made.{Made}
 use Rattle.pa_region.specs.declared.view.View.{View}
@@ -29,7 +31,7 @@ use Rattle.pa_told.specs.Indices.{AreLists}
 -- In the list of root p the record entered that this title goes back: it is the direct map that the entry unmaps.
 pub record Unmaps (x : ToldRecord) (t : Title) : Type 0 where
   pub partition : ℕ
-  pub small : partition < 4
+  pub small : partition < most_partitions
   pub made : Made
   pub entry : RootEntry
   pub asked : ℕ
@@ -67,7 +69,7 @@ pub record HasFree (supers partitions threads : ℕ) (sizes : SlotName → ℕ) 
   pub caches : CachesTo partitions roots no_caches (played_in ts) all
   pub rooted : (p : ℕ) (t : Title) → IsMade (root_replayed pools (roots p) new_root) t →
       (IsNameOut (root_replayed pools (roots p) new_root) (name_of t) → ⊥) → 0 < free_of v t
-  pub listed : (k p class : ℕ) (m : Numbered) → k < threads → p < partitions → class < 59 → Contains (all k p class) m →
+  pub listed : (k p class : ℕ) (m : Numbered) → k < threads → p < partitions → class < class_count → Contains (all k p class) m →
       0 < free_of v (title_of sizes m.slot)
 
 -- Then the seat holds each title that stands and that no log names, where it has the length of its slot.

@@ -3,6 +3,7 @@ use Rattle.std.specs.Prelude.{◌≡◌, ℕ, ◌<◌, ◌≤◌, List, ◌==◌
 use Rattle.std.specs.List.{sum_by}
 use Rattle.std.specs.List.{AllByRecursion as Each}
 use Rattle.pa_machine.specs.declared.title.Title.{Title}
+use Rattle.pa_trace.specs.Limits.{most_threads}
 use Rattle.pa_region.specs.declared.view.Entry.{Entry}
 use Rattle.pa_region.specs.declared.view.Stake.{Stake}
 use Rattle.pa_region.specs.declared.view.View.{View}
@@ -45,7 +46,7 @@ told_until phase ts = filter (is_until phase) ts
 pub record AreLogs (v : View) (ts : List ToldRecord) : Type 0 where
   pub every : HasEveryStake v
   pub once : (k : ℕ) → stake_of v k ≤ 1
-  pub threads : (x : ToldRecord) → Contains ts x → x.played.thread < 16
+  pub threads : (x : ToldRecord) → Contains ts x → x.played.thread < most_threads
   pub logs : Each (λ (s : Stake). s.log ≡ log_of s.number ts) v.stakes
 
 -- what is weighed over the logs of such a view is weighed over the records

@@ -1,7 +1,7 @@
 -- Lines in a text: where a line ends, and that a text is cut in one way.
-use Rattle.std.proofs.Common.{◌≡◌, ℕ, zero, suc, ◌+◌, ◌/◌, ◌%◌, ◌<◌, ◌≤◌, inl, inr, List, [], ◌∷◌, ◌++◌, length, get_or, take, drop, Bool, true, not, ◌&&◌, eqb, codes, refl, sym, ap, subst, ◌∙◌, arith}
+use Rattle.std.proofs.Common.{◌≡◌, ℕ, zero, suc, ◌+◌, ◌/◌, ◌%◌, ◌<◌, inl, inr, List, [], ◌∷◌, ◌++◌, length, get_or, take, drop, Bool, true, not, ◌&&◌, eqb, codes, refl, sym, ap, subst, ◌∙◌, arith}
 use Rattle.std.specs.List.{AllByRecursion}
-use Rattle.std.proofs.lemmas.List.{take_more, take_all, drop_more, take-append-drop}
+use Rattle.std.proofs.lemmas.List.{drop_more, take-append-drop}
 use Rattle.std.proofs.lemmas.Bool.{and_parts, eqb-false, ne_eqb, not-true, cases_lt, lt-ltb, le-ltb}
 use Rattle.pa_text.specs.Hex.{hex, hex_digit}
 use Rattle.pa_text.specs.Numeral.{IsDigit, IsNumeral}
@@ -18,12 +18,6 @@ use Rattle.pa_trace.specs.Faults.{with_front, lines_of}
 pub one_line_append : (a b : List ℕ) → IsOneLine a → IsOneLine b → IsOneLine (a ++ b)
 one_line_append [] b ha hb = hb
 one_line_append (x ∷ a) b ha hb = (ha.0, one_line_append a b ha.1 hb)
-
-pub one_line_more : (bytes : List ℕ) (i : ℕ) → i < length bytes → (get_or bytes i 0 ≡ 10 → ⊥) → IsOneLine (take i bytes) → IsOneLine (take (i + 1) bytes)
-one_line_more bytes i lt other h = rw (take_more bytes i 0 lt) (one_line_append (take i bytes) (get_or bytes i 0 ∷ []) h (other, tt))
-
-pub one_line_all : (bytes : List ℕ) (n : ℕ) → length bytes ≤ n → IsOneLine (take n bytes) → IsOneLine bytes
-one_line_all bytes n le h = subst (λ (x : List ℕ). IsOneLine x) (take_all n bytes le) h
 
 -- the first LF cuts the bytes
 pub cut_here : (bytes : List ℕ) (i : ℕ) → i < length bytes → get_or bytes i 0 ≡ 10 → bytes ≡ take i bytes ++ 10 ∷ drop 1 (drop i bytes)
@@ -106,14 +100,14 @@ word_line (b ∷ bs) e =
     let p = and_parts (not (eqb b 10)) (has_no_lf bs) e in
     (eqb-false b 10 (not-true (eqb b 10) p.0), word_line bs p.1)
 
-digit_line : (d : ℕ) → hex_digit d ≡ 10 → ⊥
+pub digit_line : (d : ℕ) → hex_digit d ≡ 10 → ⊥
 digit_line d e =
     elim (cases_lt d 10) [
       | inl low ↦ let is : hex_digit d ≡ 48 + d = rw (lt-ltb d 10 low) refl in omega (arith, e, is)
       | inr high ↦ let is : hex_digit d ≡ 87 + d = rw (le-ltb d 10 high) refl in omega (arith, e, is)
     ]
 
-hex_line : (k n : ℕ) → IsOneLine (hex k n)
+pub hex_line : (k n : ℕ) → IsOneLine (hex k n)
 unfolding hex
 hex_line zero n = tt
 hex_line (suc k) n = one_line_append (hex k (n / 16)) (hex_digit (n % 16) ∷ []) (hex_line k (n / 16)) (digit_line (n % 16), tt)

@@ -104,7 +104,7 @@ first_stays (x ∷ w ∷ xs) (y ∷ ys) e full longer (inr g) =
     let later = behind_stays g.1 g.2 (w ∷ xs) ys 2 (length x) e full longer.1 g.6 in
     subst (λ (z : List ℕ). IsFirstOf (z ∷ ys) e) longer.0 (inr (g.0, g.1, g.2, g.3, g.4, g.5, later))
 
-first_early : (e : TraceFault) (bytes more : List ℕ) → length bytes ≡ 4194305 → IsFirstFault e bytes → IsFirstFault e (bytes ++ more)
+pub first_early : (e : TraceFault) (bytes more : List ℕ) → length bytes ≡ 4194305 → IsFirstFault e bytes → IsFirstFault e (bytes ++ more)
 first_early e bytes more full h = first_stays (lines_of bytes) (lines_of (bytes ++ more)) e (lines_total bytes ∙ full) (lines_extend bytes more) h
 
 pub fault_early : (e : TraceFault) (bytes more : List ℕ) → length bytes ≡ 4194305 → IsFault e bytes → IsFault e (bytes ++ more)

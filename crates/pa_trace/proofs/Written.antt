@@ -1,23 +1,16 @@
 -- What is appended part by part is the text of an op, a line, a head and the lines.
-use Rattle.std.proofs.Common.{◌≡◌, ℕ, ◌<◌, List, [], ◌∷◌, ◌++◌, Result, Ok, Err, codes, refl, sym, ap, subst, ◌∙◌, append_assoc, arith}
-use Rattle.std.specs.Result.{OnOk}
+use Rattle.std.proofs.Common.{◌≡◌, ℕ, ◌<◌, List, [], ◌∷◌, ◌++◌, codes, refl, sym, ap, subst, ◌∙◌, append_assoc, arith}
 use Rattle.std.specs.Fmt.{decimal}
 use Rattle.std.proofs.lemmas.List.{append-nil}
-use Rattle.pa_text.specs.Hex.{hex}
 use Rattle.pa_text.proofs.Numerals.{decimal_numeral}
 use Rattle.pa_trace.specs.declared.script.Trace.{Trace}
 use Rattle.pa_trace.specs.declared.script.Line.{Line}
 use Rattle.pa_trace.specs.declared.script.Line.TheVariants.{Do}
 use Rattle.pa_trace.specs.declared.script.Op.{Op}
-use Rattle.pa_trace.specs.declared.script.Op.TheVariants.{Alloc, Copy, Write, Read, Swap}
+use Rattle.pa_trace.specs.declared.script.Op.TheVariants.{Alloc, Copy, Read, Swap}
 use Rattle.pa_trace.specs.Grammar.{IsOpText, IsLineText, AreLinesText, IsTraceText}
 use Rattle.pa_trace.specs.Faults.{IsHeadLine, IsBodyLine}
 use Rattle.pa_trace.specs.Cut.{Appends, IsField}
-
--- what follows where a step succeeds
-pub on_ok : {A E : Type 0} (r : Result A E) (P Q : Type 0) → OnOk r P → (P → Q) → OnOk r Q
-on_ok (Ok x) P Q h f = f h
-on_ok (Err e) P Q h f = tt
 
 pub field_written : (word : List ℕ) (n : ℕ) (old mid new : List ℕ) → n < 4294967296 → mid ≡ old ++ word → new ≡ mid ++ decimal n → Appends (IsField word n) old new
 field_written word n old mid new small e f =
@@ -56,22 +49,12 @@ pub swap_written : (cell reg : ℕ) (old a b : List ℕ) → Appends (IsField (c
 swap_written cell reg old a b x y =
     (x.0 ++ y.0, (x.1.0, y.1.0, x.1.1, y.1.1, two_texts x.0 y.0 (codes "X c") x.1.0 (codes " r") y.1.0 x.1.2 y.1.2), join_two old a b x.0 y.0 x.2 y.2)
 
-pub write_written : (reg value : ℕ) (old a b c : List ℕ) → value < 18446744073709551616 → Appends (IsField (codes "W r") reg) old a → b ≡ a ++ codes " " → c ≡ b ++ hex 16 value → Appends (IsOpText (Write reg value)) old c
-write_written reg value old a b c small x e f = (
-  x.0 ++ codes " " ++ hex 16 value,
-  (x.1.0, x.1.1, small, ap (λ (y : List ℕ). y ++ codes " " ++ hex 16 value) x.1.2),
-  join_three old a b c x.0 (codes " ") (hex 16 value) x.2 e f,
-)
-
 pub do_written : (thread : ℕ) (op : Op) (old a b c : List ℕ) → Appends (IsField [] thread) old a → b ≡ a ++ codes " " → Appends (IsOpText op) b c → Appends (IsLineText (Do thread op)) old c
 do_written thread op old a b c x e y = (
   x.0 ++ codes " " ++ y.0,
   (x.1.0, y.0, x.1.1, y.1, ap (λ (z : List ℕ). z ++ codes " " ++ y.0) x.1.2),
   join_three old a b c x.0 (codes " ") y.0 x.2 e y.2,
 )
-
-pub line_written : (l : Line) (old a b : List ℕ) → Appends (IsLineText l) old a → b ≡ a ++ 10 ∷ [] → Appends (IsBodyLine l) old b
-line_written l old a b x e = (x.0 ++ 10 ∷ [], (x.0, x.1, refl), join_two old a b x.0 (10 ∷ []) x.2 e)
 
 pub head_written : (region partitions threads : ℕ) (old a b c d : List ℕ) → Appends (IsField (codes "trace 1 region ") region) old a → Appends (IsField (codes " partitions ") partitions) a b
     → Appends (IsField (codes " threads ") threads) b c → d ≡ c ++ 10 ∷ [] → Appends (IsHeadLine region partitions threads) old d

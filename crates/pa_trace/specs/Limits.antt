@@ -1,6 +1,7 @@
 -- The limits of a trace.
 use Rattle.std.specs.Prelude.{ℕ, ◌<◌, ◌≤◌, List, length}
 use Rattle.std.specs.List.{AllByRecursion}
+use Rattle.pa_layout.specs.Limits.{most_supers}
 use Rattle.pa_trace.specs.declared.script.Trace.{Trace}
 use Rattle.pa_trace.specs.declared.script.Line.{Line}
 use Rattle.pa_trace.specs.declared.script.Line.TheVariants.{Phase, Do}
@@ -8,16 +9,30 @@ use Rattle.pa_trace.specs.declared.script.Op.{Op}
 use Rattle.pa_trace.specs.declared.script.Op.TheVariants.{Alloc, Copy, Reset, Free, Write, Read, Swap, Purge}
 use Rattle.pa_trace.specs.Grammar.{IsTraceText}
 
+-- the registers of a thread, and the cells
+abbrev pub register_count : ℕ
+register_count = 64
+
+abbrev pub cell_count : ℕ
+cell_count = 64
+
+-- the most partitions and the most threads of a trace
+abbrev pub most_partitions : ℕ
+most_partitions = 4
+
+abbrev pub most_threads : ℕ
+most_threads = 16
+
 -- an op of a trace with so many partitions: registers and cells are 0 to 63, a partition is one of the trace's, sizes
 -- and numbers of words have 32 bits
 abbrev pub IsOpWithin : ℕ → Op → Type 0
-IsOpWithin partitions (Alloc reg partition size) = (reg < 64) × (partition < partitions) × (size ≤ 4294967295)
-IsOpWithin partitions (Copy from to) = (from < 64) × (to < 64)
-IsOpWithin partitions (Reset reg) = reg < 64
-IsOpWithin partitions (Free reg) = reg < 64
-IsOpWithin partitions (Write reg value) = reg < 64
-IsOpWithin partitions (Read reg place) = (reg < 64) × (place ≤ 4294967295)
-IsOpWithin partitions (Swap cell reg) = (cell < 64) × (reg < 64)
+IsOpWithin partitions (Alloc reg partition size) = (reg < register_count) × (partition < partitions) × (size ≤ 4294967295)
+IsOpWithin partitions (Copy from to) = (from < register_count) × (to < register_count)
+IsOpWithin partitions (Reset reg) = reg < register_count
+IsOpWithin partitions (Free reg) = reg < register_count
+IsOpWithin partitions (Write reg value) = reg < register_count
+IsOpWithin partitions (Read reg place) = (reg < register_count) × (place ≤ 4294967295)
+IsOpWithin partitions (Swap cell reg) = (cell < cell_count) × (reg < register_count)
 IsOpWithin partitions Purge = Unit {0}
 
 -- a line of a trace with so many partitions and threads: its thread is one of the trace's
@@ -28,7 +43,8 @@ IsLineWithin partitions threads (Do thread op) = (thread < threads) × IsOpWithi
 -- a head: 1 to 16 super pages, 1 to 4 partitions, 1 to 16 threads
 abbrev pub IsHeadWithin : ℕ → ℕ → ℕ → Type 0
 IsHeadWithin region partitions threads =
-    ((1 ≤ region) × (region ≤ 16)) × ((1 ≤ partitions) × (partitions ≤ 4)) × ((1 ≤ threads) × (threads ≤ 16))
+    ((1 ≤ region) × (region ≤ most_supers)) × ((1 ≤ partitions) × (partitions ≤ most_partitions)) × ((1 ≤ threads)
+    × (threads ≤ most_threads))
 
 -- the most lines of a trace, the head included, and the most bytes of its text
 abbrev pub most_lines : ℕ

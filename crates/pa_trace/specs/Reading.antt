@@ -1,6 +1,7 @@
 -- Reading a line from left to right. A number is handed on with its value where it has 32 bits.
 use Rattle.std.specs.Prelude.{◌≡◌, ℕ, ◌==◌, ◌&&◌, nat_eq, nat_lt, nat_le, if◌then◌else◌, List, [], ◌∷◌, length, take, drop, codes, Option, Some, None, Result, Ok, Err}
 use Rattle.std.specs.Cmp.Lexicographic.{pointwise}
+use Rattle.pa_layout.specs.Limits.{most_supers}
 use Rattle.pa_text.specs.Reading.{fitted, number_at, hexes_at}
 use Rattle.pa_trace.specs.declared.field.LineFault.{LineFault}
 use Rattle.pa_trace.specs.declared.field.LineFault.TheVariants.{Outside, Past}
@@ -9,6 +10,7 @@ use Rattle.pa_trace.specs.declared.script.Line.{Line}
 use Rattle.pa_trace.specs.declared.script.Line.TheVariants.{Phase, Do}
 use Rattle.pa_trace.specs.declared.script.Op.{Op}
 use Rattle.pa_trace.specs.declared.script.Op.TheVariants.{Alloc, Copy, Reset, Free, Write, Read, Swap, Purge}
+use Rattle.pa_trace.specs.Limits.{register_count, cell_count, most_partitions, most_threads}
 
 -- one step that may fail, and then the next
 infixl 10 ◌>>=◌
@@ -99,9 +101,9 @@ count_in (Some n) most = if nat_le 1 n && nat_le n most then Ok n else Err Past
 
 abbrev pub head_of : Option ℕ → Option ℕ → Option ℕ → Result Head LineFault
 head_of one two three = do
-  region ← count_in one 16
-  partitions ← count_in two 4
-  threads ← count_in three 16
+  region ← count_in one most_supers
+  partitions ← count_in two most_partitions
+  threads ← count_in three most_threads
   Ok (record { region = region; partitions = partitions; threads = threads })
 
 unfoldable pub head_in : List ℕ → Result Head LineFault
@@ -112,7 +114,7 @@ head_in bytes = do
 unfoldable pub alloc_in : ℕ → List ℕ → Result Op LineFault
 alloc_in partitions bytes = do
   numbers ← three_in bytes (codes " r") (codes " p") (codes " ")
-  reg ← below numbers.0 64
+  reg ← below numbers.0 register_count
   partition ← below numbers.1 partitions
   size ← within numbers.2
   Ok (Alloc reg partition size)
@@ -120,40 +122,40 @@ alloc_in partitions bytes = do
 unfoldable pub copy_in : List ℕ → Result Op LineFault
 copy_in bytes = do
   numbers ← two_in bytes (codes " r") (codes " r")
-  from ← below numbers.0 64
-  to ← below numbers.1 64
+  from ← below numbers.0 register_count
+  to ← below numbers.1 register_count
   Ok (Copy from to)
 
 unfoldable pub reset_in : List ℕ → Result Op LineFault
 reset_in bytes = do
   number ← one_in bytes (codes " r")
-  reg ← below number 64
+  reg ← below number register_count
   Ok (Reset reg)
 
 unfoldable pub free_in : List ℕ → Result Op LineFault
 free_in bytes = do
   number ← one_in bytes (codes " r")
-  reg ← below number 64
+  reg ← below number register_count
   Ok (Free reg)
 
 unfoldable pub write_in : List ℕ → Result Op LineFault
 write_in bytes = do
   x ← field_and_word_in bytes (codes " r")
-  reg ← below x.0 64
+  reg ← below x.0 register_count
   Ok (Write reg x.1)
 
 unfoldable pub read_in : List ℕ → Result Op LineFault
 read_in bytes = do
   numbers ← two_in bytes (codes " r") (codes " ")
-  reg ← below numbers.0 64
+  reg ← below numbers.0 register_count
   place ← within numbers.1
   Ok (Read reg place)
 
 unfoldable pub swap_in : List ℕ → Result Op LineFault
 swap_in bytes = do
   numbers ← two_in bytes (codes " c") (codes " r")
-  cell ← below numbers.0 64
-  reg ← below numbers.1 64
+  cell ← below numbers.0 cell_count
+  reg ← below numbers.1 register_count
   Ok (Swap cell reg)
 
 unfoldable pub purge_in : List ℕ → Result Op LineFault

@@ -5,12 +5,14 @@ use crate::field::{LineFault, behind, below, number_in, three_numbers};
 use crate::op::op_in;
 use crate::script::Line;
 
-// The most super pages of a region, partitions and threads.
-const MOST_SUPER_PAGES: u32 = 16;
+/// The most super pages of a region.
+pub const MOST_SUPER_PAGES: u32 = 16;
 
-const MOST_PARTITIONS: u32 = 4;
+/// The most partitions of a heap.
+pub const MOST_PARTITIONS: u32 = 4;
 
-const MOST_THREADS: u32 = 16;
+/// The most threads of a trace.
+pub const MOST_THREADS: u32 = 16;
 
 /// The numbers of a head: the region in super pages, the partitions and the threads.
 #[derive(Clone, Copy, Debug, PartialEq, Eq)]

@@ -14,8 +14,8 @@ use std::marker::Model;
 /// The most lines of a trace, the head included.
 pub const MOST_LINES: u32 = 65_536;
 
-// The most bytes of a trace.
-const MOST_BYTES: usize = 4_194_304;
+/// The most bytes of a trace.
+pub const MOST_BYTES: usize = 4_194_304;
 
 /// Reads the text of a trace, line by line. It is seen as what is unread.
 #[derive(Drop)]

@@ -6,10 +6,11 @@ use crate::field::{
 };
 use crate::script::Op;
 
-// Registers and cells are numbered below this.
-const REGISTERS: u32 = 64;
+/// The registers of a thread.
+pub const REGISTERS: u32 = 64;
 
-const CELLS: u32 = 64;
+/// The cells of a heap.
+pub const CELLS: u32 = 64;
 
 // The op, which is the whole rest of the line.
 #[tactic(auto, unfolding(crate::specs::Reading::op_in))]

@@ -6,9 +6,8 @@ use Rattle.pa_machine.specs.declared.word.Step.{Step}
 use Rattle.pa_machine.specs.declared.word.Step.TheVariants as steps
 use Rattle.pa_machine.specs.Count.{held_of, refs_of, CanStep, stepped}
 use Rattle.pa_machine.proofs.Runs.{same_slot_cases, same_slot_yes, same_slot_no}
-use Rattle.pa_rules.specs.declared.register.Reg.{Reg}
-use Rattle.pa_rules.specs.declared.register.Reg.TheVariants.{Empty, Own, Ref, Freed, Cleared}
-use Rattle.pa_rules.specs.Registers.{AllRegs, reg_of}
+use Rattle.pa_rules.specs.declared.register.Register.TheVariants.{Empty, Own, Ref, Freed, Cleared}
+use Rattle.pa_rules.specs.Registers.{Reg, AllRegs, reg_of}
 use Rattle.pa_turns.specs.Shown.{Shown, owns, points, amount, IsUsed, AreHandles, with_slot, with_reg}
 use Rattle.pa_turns.specs.Turns.{HoldsNone}
 use Rattle.pa_turns.proofs.Contents.{StepsTo}

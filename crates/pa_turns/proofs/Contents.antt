@@ -1,12 +1,13 @@
 -- What the records so far say of the contents of the slots, kept by each line.
-use Rattle.std.proofs.Common.{◌≡◌, ℕ, ◌+◌, ◌<◌, ◌≤◌, ◌⊎◌, inl, inr, List, [], ◌∷◌, ◌++◌, Some, None, IsSome, Contains, refl, sym, ap, ◌∙◌, subst, arith, rules}
+use Rattle.std.proofs.Common.{◌≡◌, ℕ, ◌+◌, ◌<◌, ◌≤◌, ◌⊎◌, inl, inr, List, [], ◌∷◌, ◌++◌, Some, None, Contains, refl, sym, ap, ◌∙◌, subst, arith}
 use Rattle.std.proofs.lemmas.List.Elements.{Contains-append_left, Contains-push, Contains-push_cases}
 use Rattle.pa_machine.specs.declared.word.SlotName.{SlotName}
 use Rattle.pa_machine.specs.declared.word.Step.{Step}
 use Rattle.pa_machine.specs.declared.word.Step.TheVariants as steps
 use Rattle.pa_machine.specs.Count.{number_of, held_of, CanStep, stepped}
 use Rattle.pa_machine.specs.Run.{Mark}
-use Rattle.pa_machine.proofs.Runs.{HasRuns, number_stepped, same_slot_cases}
+use Rattle.pa_machine.specs.Runs.{HasRuns}
+use Rattle.pa_machine.proofs.Runs.{number_stepped, same_slot_cases, some_is}
 use Rattle.pa_trace.specs.declared.script.Op.TheVariants as ops
 use Rattle.pa_record.specs.declared.entry.Seen.{Seen}
 use Rattle.pa_record.specs.declared.entry.Answer.{Answer}
@@ -15,7 +16,8 @@ use Rattle.pa_rules.specs.declared.played.Played.{Played}
 use Rattle.pa_rules.specs.Played.{mark_at, mark_of, mark_of_answer, marks_of}
 use Rattle.pa_rules.specs.Contents.{IsMadeAt, IsWrittenAt, IsWrittenFor, IsContent, IsReadExact, AreExactContents}
 use Rattle.pa_turns.specs.Known.{HasNumbers, HasContents}
-use Rattle.pa_turns.proofs.Marking.{mark_among}
+use Rattle.pa_rules.proofs.Marking.{read_mark}
+use Rattle.pa_rules.proofs.Phases.{mark_in}
 
 -- this one record made slot s, or wrote the value to it, and found this number
 abbrev pub IsMadeBy : Played → SlotName → ℕ → Type 0
@@ -52,19 +54,12 @@ pub written_mark : (x : Played) (s : SlotName) (n value : ℕ) → (h : IsWritte
 written_mark x s n value h =
     ap (λ a. mark_of_answer x.line x.op a) h.3 ∙ ap (λ o. mark_of_answer x.line o (Done h.0)) h.2
 
-value_mark : (x : Played) (seen : Seen) (value : ℕ) → x.answer ≡ Value seen value → mark_of x ≡ Some (mark_at x.line seen None)
-value_mark x seen value e = ap (λ a. mark_of_answer x.line x.op a) e
-
--- every record that made or wrote a slot found a number below the slot's
-some_is : (p : Step) → IsSome (Some p)
-some_is p = search rules
-
 counted : (ps : List Played) (word : SlotName → ℕ) → HasRuns (marks_of ps) word → (x : Played) (seen : Seen) (step : Step) (s : SlotName) (n : ℕ) → Contains ps x
     → mark_of x ≡ Some (mark_at x.line seen (Some step)) → seen.slot ≡ s → number_of seen.found.0 ≡ n → n < number_of (word s)
 counted ps word runs x seen step s n c e at number =
     let m : Mark = mark_at x.line seen (Some step) in
     let P : SlotName → Type 0 = λ t. number_of m.found < number_of (word t) in
-    let lt : number_of m.found < number_of (word s) = subst P at (runs.counted m (mark_among ps x m c e) (some_is step)) in
+    let lt : number_of m.found < number_of (word s) = subst P at (runs.counted m (mark_in ps x m c e) (some_is step)) in
     omega (arith, lt, number)
 
 made_below : (ps : List Played) (word : SlotName → ℕ) → HasRuns (marks_of ps) word → (s : SlotName) (n : ℕ) → IsMadeAt ps s n → n < number_of (word s)
@@ -167,7 +162,7 @@ read_push ps x line word numbers found right here p c = elim (Contains-push_case
   | inl a ↦ right_kept ps x p.answer
       (λ seen value e.
       let m : Mark = mark_at p.line seen None in
-      let le : number_of seen.found.0 ≤ number_of (word seen.slot) = numbers.found m (mark_among ps p m a (value_mark p seen value e)) in
+      let le : number_of seen.found.0 ≤ number_of (word seen.slot) = numbers.found m (mark_in ps p m a (read_mark p seen value e)) in
       quiet_upto ps x word seen.slot (number_of seen.found.0) found le)
       (right p a)
   | inr e ↦ let P : Played → Type 0 = λ y. IsReadExact (ps ++ x ∷ []) y.answer in subst P e here

@@ -5,7 +5,8 @@ use Rattle.std.proofs.lemmas.List.Sums.{sum_by-cons}
 use Rattle.pa_machine.specs.declared.word.SlotName.{SlotName}
 use Rattle.pa_machine.specs.Count.{number_of}
 use Rattle.pa_machine.specs.Run.{Mark, same_slot}
-use Rattle.pa_machine.proofs.Runs.{IsPath, run_of_path, runs_end, slots_of_runs, same_slot_yes}
+use Rattle.pa_machine.specs.Runs.{IsPath}
+use Rattle.pa_machine.proofs.Runs.{run_of_path, runs_end, slots_of_runs, same_slot_yes}
 use Rattle.pa_trace.specs.declared.script.Line.{Line}
 use Rattle.pa_record.specs.declared.entry.Answer.{Answer}
 use Rattle.pa_record.specs.declared.entry.Answer.TheVariants.{Made, Done, Value, Dangling, SecondFree, NotOwner, StaleReset, StaleUse, Nothing, Filled, NotRef, Shared, OutOfRange, TooLarge, Full, Swapped, Purged}
@@ -27,9 +28,9 @@ use Rattle.pa_turns.specs.Known.{HasExchanged, IsToldTo}
 use Rattle.pa_turns.specs.Laws.{EndsRight}
 use Rattle.pa_turns.proofs.Histories.{exchanged_order, exchanged_cells}
 use Rattle.pa_turns.proofs.Lines.{played_phases}
-use Rattle.pa_turns.proofs.Marking.{mark_among}
 use Rattle.pa_turns.proofs.Rows.{rows_end, usable_made}
 use Rattle.pa_turns.proofs.Words.{used_made}
+use Rattle.pa_rules.proofs.Phases.{mark_in}
 
 -- one mark's part of how many steps stand before a line
 one : SlotName → ℕ → Mark → ℕ
@@ -94,9 +95,9 @@ seen_in_file_order threads ls ps a h = record {
   ahead = λ x c b. let lt : x.line < x.line = before_line ls ps a h.lines h.exchanged x x c c b in omega (arith, lt);
   rising = λ x y m n c d b e f same.
       let lt : x.line < y.line = before_line ls ps a h.lines h.exchanged x y c d b in
-      let among : Contains (marks_of ps) m = mark_among ps x m c e in
+      let among : Contains (marks_of ps) m = mark_in ps x m c e in
       let first : number_of m.found ≡ steps_before m.slot m.line (marks_of ps) = h.numbers.order m among in
-      let then' : number_of n.found ≡ steps_before n.slot n.line (marks_of ps) = h.numbers.order n (mark_among ps y n d f) in
+      let then' : number_of n.found ≡ steps_before n.slot n.line (marks_of ps) = h.numbers.order n (mark_in ps y n d f) in
       let at : steps_before n.slot n.line (marks_of ps) ≡ steps_before m.slot n.line (marks_of ps) = ap (λ s. steps_before s n.line (marks_of ps)) (sym same) in
       let low : m.line < n.line = omega (arith, lt, mark_line x m e, mark_line y n f) in
       elim (cases_Bool (is_some m.step)) [

@@ -2,22 +2,21 @@
 use Rattle.std.proofs.Common.{◌≡◌, ℕ, ◌+◌, ◌*◌, ◌<◌, ◌≤◌, inl, inr, refl, ap, arith, zero, suc}
 use Rattle.std.proofs.lemmas.Bool.{cases_eq, eq-eqb, ne_eqb}
 use Rattle.pa_record.specs.declared.history.Held.{Held}
-use Rattle.pa_rules.specs.declared.register.Reg.{Reg}
-use Rattle.pa_rules.specs.Registers.{AllRegs, reg_of, with}
+use Rattle.pa_rules.specs.Registers.{Reg, AllRegs, reg_of, with}
 use Rattle.pa_turns.specs.Shown.{over, amount, with_reg, with_held}
 
-over_same : (n : ℕ) (f g : ℕ → ℕ) → ((i : ℕ) → g i ≡ f i) → over n g ≡ over n f
+pub over_same : (n : ℕ) (f g : ℕ → ℕ) → ((i : ℕ) → g i ≡ f i) → over n g ≡ over n f
 over_same zero f g h = refl
 over_same (suc n) f g h = omega (arith, over_same n f g h, h n)
 
-over_past : (n i : ℕ) (f g : ℕ → ℕ) → n ≤ i → ((j : ℕ) → (j ≡ i → ⊥) → g j ≡ f j) → over n g ≡ over n f
+pub over_past : (n i : ℕ) (f g : ℕ → ℕ) → n ≤ i → ((j : ℕ) → (j ≡ i → ⊥) → g j ≡ f j) → over n g ≡ over n f
 over_past zero i f g le h = refl
 over_past (suc n) i f g le h =
     let ne : n ≡ i → ⊥ = λ e. omega (arith, e) in
     omega (arith, over_past n i f g (omega arith) h, h n ne)
 
 -- one of the summed is changed
-over_one : (n i : ℕ) (f g : ℕ → ℕ) → i < n → ((j : ℕ) → (j ≡ i → ⊥) → g j ≡ f j) → over n g + f i ≡ over n f + g i
+pub over_one : (n i : ℕ) (f g : ℕ → ℕ) → i < n → ((j : ℕ) → (j ≡ i → ⊥) → g j ≡ f j) → over n g + f i ≡ over n f + g i
 over_one zero i f g lt h = absurd (omega arith)
 over_one (suc n) i f g lt h = elim (cases_eq n i) [
   | inl e ↦ omega (arith, over_past n i f g (omega arith) h, ap f e, ap g e)

@@ -1,5 +1,5 @@
 -- The op lines of a trace with a line more, and that earlier phases have smaller lines.
-use Rattle.std.proofs.Common.{◌≡◌, ℕ, ◌+◌, ◌<◌, ◌≤◌, List, [], ◌∷◌, ◌++◌, map, length, Contains, refl, sym, ap, ◌∙◌, subst, arith, zero, suc, count_by, cond}
+use Rattle.std.proofs.Common.{◌≡◌, ℕ, ◌+◌, ◌<◌, ◌≤◌, List, [], ◌∷◌, ◌++◌, map, length, Contains, sym, ap, ◌∙◌, subst, arith, count_by, cond}
 use Rattle.std.proofs.lemmas.List.Sums.{sum_by-cons}
 use Rattle.std.proofs.lemmas.List.{get_or-map, length-map, map-append}
 use Rattle.pa_trace.specs.declared.script.Line.{Line}
@@ -10,6 +10,7 @@ use Rattle.pa_rules.specs.Played.{OpLine, AreLines, op_lines, op_line_of}
 use Rattle.pa_rules.specs.Legal.{is_phase, phases_in}
 use Rattle.pa_record.specs.declared.entry.Answer.{Answer}
 use Rattle.pa_turns.specs.Turns.{played_at}
+use Rattle.pa_rules.proofs.Lined.{lines_phases}
 
 -- the phase after these lines
 abbrev pub phase_after : ℕ → List Line → ℕ
@@ -35,36 +36,6 @@ lines_push n phase (Do t o ∷ ls) thread op =
     let g : List OpLine → List OpLine = λ xs. first ∷ xs in
     let e : n + 1 + length ls ≡ n + length (Do t o ∷ ls) = omega arith in
     ap g (lines_push (n + 1) phase ls thread op) ∙ ap f e
-
-pub lines_phase : (n phase : ℕ) (ls : List Line) → op_lines n phase (ls ++ Phase ∷ []) ≡ op_lines n phase ls
-lines_phase n phase [] = refl
-lines_phase n phase (Phase ∷ ls) = lines_phase (n + 1) (phase + 1) ls
-lines_phase n phase (Do t o ∷ ls) =
-    let first : OpLine = record { line = n; thread = t; phase = phase; op = o } in
-    let g : List OpLine → List OpLine = λ xs. first ∷ xs in
-    ap g (lines_phase (n + 1) phase ls)
-
--- lines and phases only grow
-lines_from : (n phase : ℕ) (ls : List Line) (a : OpLine) → Contains (op_lines n phase ls) a → (n ≤ a.line) × (phase ≤ a.phase)
-lines_from n phase [] a c = absurd (omega (arith, c.1))
-lines_from n phase (Phase ∷ ls) a c = let k = lines_from (n + 1) (phase + 1) ls a c in (omega (arith, k.0), omega (arith, k.1))
-lines_from n phase (Do t o ∷ ls) a (zero, c, e) = (omega (arith, ap (λ (x : OpLine). x.line) e), omega (arith, ap (λ (x : OpLine). x.phase) e))
-lines_from n phase (Do t o ∷ ls) a (suc i, c, e) =
-    let k = lines_from (n + 1) phase ls a (i, omega (arith, c), e) in (omega (arith, k.0), k.1)
-
--- an op line of an earlier phase has a smaller line
-lines_phases : (n phase : ℕ) (ls : List Line) (a b : OpLine) → Contains (op_lines n phase ls) a → Contains (op_lines n phase ls) b
-    → a.phase < b.phase → a.line < b.line
-lines_phases n phase [] a b c d lt = absurd (omega (arith, c.1))
-lines_phases n phase (Phase ∷ ls) a b c d lt = lines_phases (n + 1) (phase + 1) ls a b c d lt
-lines_phases n phase (Do t o ∷ ls) a b (zero, c, e) (zero, d, f) lt =
-    absurd (omega (arith, lt, ap (λ (x : OpLine). x.phase) e, ap (λ (x : OpLine). x.phase) f))
-lines_phases n phase (Do t o ∷ ls) a b (zero, c, e) (suc j, d, f) lt =
-    omega (arith, (lines_from (n + 1) phase ls b (j, omega (arith, d), f)).0, ap (λ (x : OpLine). x.line) e)
-lines_phases n phase (Do t o ∷ ls) a b (suc i, c, e) (zero, d, f) lt =
-    absurd (omega (arith, lt, (lines_from (n + 1) phase ls a (i, omega (arith, c), e)).1, ap (λ (x : OpLine). x.phase) f))
-lines_phases n phase (Do t o ∷ ls) a b (suc i, c, e) (suc j, d, f) lt =
-    lines_phases (n + 1) phase ls a b (i, omega (arith, c), e) (j, omega (arith, d), f) lt
 
 op_line_among : (ps : List Played) (p : Played) → Contains ps p → Contains (map op_line_of ps) (op_line_of p)
 op_line_among ps p (i, lt, e) = (i, omega (arith, lt, length-map ps op_line_of), get_or-map op_line_of ps i p (op_line_of p) lt ∙ ap op_line_of e)

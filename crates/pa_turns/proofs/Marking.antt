@@ -62,15 +62,6 @@ told_first : (o : Option Mark) (m : Mark) (ms : List Mark) → o ≡ Some m → 
 told_first None m ms e = absurd cc
 told_first (Some n) m ms e = (0, omega arith, some_mark n m e)
 
-told_later : (o : Option Mark) (m : Mark) (ms : List Mark) → Contains ms m → Contains (cons_option o ms) m
-told_later None m ms c = c
-told_later (Some n) m ms c = (c.0 + 1, omega (arith, c.1), rw add-one c.2)
-
-pub mark_among : (ps : List Played) (p : Played) (m : Mark) → Contains ps p → mark_of p ≡ Some m → Contains (marks_of ps) m
-mark_among [] p m c e = absurd (omega (arith, c.1))
-mark_among (q ∷ ps) p m (zero, c, same) e = told_first (mark_of q) m (marks_of ps) (ap mark_of same ∙ e)
-mark_among (q ∷ ps) p m (suc a, c, same) e = told_later (mark_of q) m (marks_of ps) (mark_among ps p m (a, omega (arith, c), same) e)
-
 -- the record that tells of a mark
 abbrev pub IsTold : List Played → Mark → Type 0
 IsTold ps m = (p : Played) × Contains ps p × (mark_of p ≡ Some m)

@@ -13,11 +13,10 @@ use Rattle.pa_trace.specs.declared.script.Line.{Line}
 use Rattle.pa_record.specs.declared.entry.Seen.{Seen}
 use Rattle.pa_record.specs.declared.entry.Answer.{Answer}
 use Rattle.pa_record.specs.declared.entry.Answer.TheVariants.{Made, Done}
-use Rattle.pa_rules.specs.declared.register.Reg.{Reg}
-use Rattle.pa_rules.specs.declared.register.Reg.TheVariants.{Empty, Own, Ref, Freed, Cleared}
+use Rattle.pa_rules.specs.declared.register.Register.TheVariants.{Empty, Own, Ref, Freed, Cleared}
 use Rattle.pa_rules.specs.declared.played.Played.{Played}
 use Rattle.pa_rules.specs.Played.{mark_at, mark_of}
-use Rattle.pa_rules.specs.Registers.{Regs, AllRegs, Facts, with, with_thread, Becomes, Row, AllocRow, CopyRow, CopyToRow, ResetRow, FreeRow, WriteRow}
+use Rattle.pa_rules.specs.Registers.{Reg, Regs, AllRegs, Facts, with, with_thread, Becomes, Row, AllocRow, CopyRow, CopyToRow, ResetRow, FreeRow, WriteRow}
 use Rattle.pa_rules.specs.Contents.{IsContent}
 use Rattle.pa_rules.specs.Sizes.{usable_of}
 use Rattle.pa_turns.specs.Shown.{Shown, IsUsed, with_slot, with_reg}

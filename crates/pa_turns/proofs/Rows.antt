@@ -8,10 +8,9 @@ use Rattle.pa_record.specs.declared.entry.Seen.{Seen}
 use Rattle.pa_record.specs.declared.entry.Answer.{Answer}
 use Rattle.pa_record.specs.declared.entry.Answer.TheVariants.{Made, Done, Value, Dangling, SecondFree, NotOwner, StaleReset, StaleUse, Nothing, Filled, NotRef, Shared, OutOfRange, TooLarge, Full, Swapped, Purged}
 use Rattle.pa_record.specs.declared.history.CellEntry.{CellEntry}
-use Rattle.pa_rules.specs.declared.register.Reg.{Reg}
-use Rattle.pa_rules.specs.declared.register.Reg.TheVariants.{Empty, Own, Ref, Freed, Cleared}
+use Rattle.pa_rules.specs.declared.register.Register.TheVariants.{Empty, Own, Ref, Freed, Cleared}
 use Rattle.pa_rules.specs.declared.played.Played.{Played}
-use Rattle.pa_rules.specs.Registers.{Regs, AllRegs, Row, RowsTo, AllocRow, ReadRow, ReadFromRow, with_thread, made_of, usable_or, usable_in}
+use Rattle.pa_rules.specs.Registers.{Reg, Regs, AllRegs, Row, RowsTo, AllocRow, ReadRow, ReadFromRow, with_thread, made_of, usable_or, usable_in}
 use Rattle.pa_rules.specs.Cells.{IsExchange}
 use Rattle.pa_turns.specs.Shown.{IsUsed}
 use Rattle.pa_turns.specs.Known.{facts_of, RowsNamed, AreSized}

@@ -9,21 +9,20 @@ use Rattle.pa_trace.specs.declared.script.Line.TheVariants.{Phase}
 use Rattle.pa_record.specs.declared.history.CellEntry.{CellEntry}
 use Rattle.pa_record.specs.declared.history.Held.{Held}
 use Rattle.pa_record.specs.declared.history.Held.TheVariants.{Nothing}
-use Rattle.pa_rules.specs.declared.register.Reg.{Reg}
-use Rattle.pa_rules.specs.declared.register.Reg.TheVariants.{Empty}
+use Rattle.pa_rules.specs.declared.register.Register.TheVariants.{Empty}
 use Rattle.pa_rules.specs.declared.played.Played.{Played}
 use Rattle.pa_rules.specs.Played.{marks_of}
-use Rattle.pa_rules.specs.Registers.{AllRegs, reg_of, no_regs}
+use Rattle.pa_rules.specs.Registers.{Reg, AllRegs, reg_of, no_regs}
 use Rattle.pa_rules.specs.Contents.{IsContent}
 use Rattle.pa_turns.specs.Shown.{Shown, over, amount, owns, points}
 use Rattle.pa_turns.specs.Known.{HasExchanged, HasNumbers, IsToldTo}
 use Rattle.pa_turns.specs.Laws.{StartsTold, LikeIsTold, PhaseGoesOn}
 use Rattle.pa_turns.proofs.Histories.{exchanged_none, exchanged_later}
-use Rattle.pa_turns.proofs.Lines.{lines_phase}
 use Rattle.pa_turns.proofs.Numbers.{numbers_none, numbers_later}
 use Rattle.pa_turns.proofs.Contents.{contents_none}
 use Rattle.pa_turns.proofs.Rows.{rows_on}
 use Rattle.pa_turns.proofs.Words.{made_used}
+use Rattle.pa_rules.proofs.Lined.{lines_phase}
 
 over_none : (n : ℕ) (f : ℕ → ℕ) → ((i : ℕ) → f i ≡ 0) → over n f ≡ 0
 over_none zero f h = refl

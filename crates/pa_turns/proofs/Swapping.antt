@@ -6,9 +6,8 @@ use Rattle.pa_trace.specs.declared.script.Op.TheVariants as ops
 use Rattle.pa_record.specs.declared.entry.Answer.TheVariants.{Swapped}
 use Rattle.pa_record.specs.declared.history.CellEntry.{CellEntry}
 use Rattle.pa_record.specs.declared.history.Held.{Held}
-use Rattle.pa_rules.specs.declared.register.Reg.{Reg}
-use Rattle.pa_rules.specs.declared.register.Reg.TheVariants.{Empty, Own, Ref, Freed, Cleared}
-use Rattle.pa_rules.specs.Registers.{Regs, handle_of, reg_of, with_thread}
+use Rattle.pa_rules.specs.declared.register.Register.TheVariants.{Empty, Own, Ref, Freed, Cleared}
+use Rattle.pa_rules.specs.Registers.{Reg, Regs, handle_of, reg_of, with_thread}
 use Rattle.pa_turns.specs.Shown.{Shown, owns, points, amount, IsUsed, AreHandles, with_reg, with_held}
 use Rattle.pa_turns.specs.Turns.{played_at, exchange_of, after_swap}
 use Rattle.pa_turns.specs.Laws.{SwapGoesOn}

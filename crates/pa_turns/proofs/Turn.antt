@@ -7,7 +7,8 @@ use Rattle.pa_machine.specs.declared.word.SlotName.{SlotName}
 use Rattle.pa_machine.specs.declared.word.Step.{Step}
 use Rattle.pa_machine.specs.Count.{number_of, held_of, refs_of, CanStep, stepped}
 use Rattle.pa_machine.specs.Run.{Mark}
-use Rattle.pa_machine.proofs.Runs.{HasRuns, runs_look, runs_step, same_slot_cases, number_stepped}
+use Rattle.pa_machine.specs.Runs.{HasRuns}
+use Rattle.pa_machine.proofs.Runs.{runs_look, runs_step, same_slot_cases, number_stepped}
 use Rattle.pa_trace.specs.declared.script.Op.{Op}
 use Rattle.pa_trace.specs.declared.script.Line.{Line}
 use Rattle.pa_trace.specs.declared.script.Line.TheVariants.{Do}

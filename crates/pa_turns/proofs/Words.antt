@@ -1,30 +1,24 @@
 -- The word of a slot that was stepped on, and what a handle says of its slot's word.
-use Rattle.std.proofs.Common.{◌≡◌, ℕ, ◌+◌, ◌*◌, ◌<◌, ◌≤◌, inl, inr, List, [], ◌∷◌, Some, IsSome, rules, Contains, refl, ap, ◌∙◌, arith}
+use Rattle.std.proofs.Common.{◌≡◌, ℕ, ◌+◌, ◌*◌, ◌<◌, ◌≤◌, inl, inr, List, [], ◌∷◌, Some, Contains, refl, ap, ◌∙◌, arith}
 use Rattle.pa_machine.specs.declared.word.SlotName.{SlotName}
 use Rattle.pa_machine.specs.declared.word.Step.{Step}
 use Rattle.pa_machine.specs.declared.word.Step.TheVariants as steps
-use Rattle.pa_machine.specs.Count.{number_of, held_of, refs_of, CanStep}
+use Rattle.pa_machine.specs.Count.{number_of, held_of, refs_of}
 use Rattle.pa_machine.specs.Run.{Mark}
-use Rattle.pa_machine.proofs.Runs.{HasRuns, IsPath, same_slot_yes, same_slot_no, same_slot_cases}
+use Rattle.pa_machine.specs.Runs.{HasRuns, IsPath}
+use Rattle.pa_machine.proofs.Runs.{same_slot_yes, same_slot_no, same_slot_cases, some_is, issue_first}
 use Rattle.pa_record.specs.declared.entry.Seen.{Seen}
 use Rattle.pa_record.specs.declared.entry.Answer.TheVariants.{Made}
-use Rattle.pa_rules.specs.declared.register.Reg.{Reg}
-use Rattle.pa_rules.specs.declared.register.Reg.TheVariants.{Empty, Own, Ref, Freed, Cleared}
+use Rattle.pa_rules.specs.Registers.{Reg}
+use Rattle.pa_rules.specs.declared.register.Register.TheVariants.{Empty, Own, Ref, Freed, Cleared}
 use Rattle.pa_rules.specs.declared.played.Played.{Played}
 use Rattle.pa_rules.specs.Played.{mark_at, mark_of, mark_of_answer, marks_of}
 use Rattle.pa_turns.specs.Shown.{Shown, owns, points, amount, AreHandles}
 use Rattle.pa_turns.specs.Turns.{Names}
 use Rattle.pa_turns.specs.Laws.{HandleLets}
-use Rattle.pa_turns.proofs.Marking.{mark_among, mark_told, issue_made}
+use Rattle.pa_turns.proofs.Marking.{mark_told, issue_made}
 use Rattle.pa_turns.proofs.Handles.{amount_part, amount_few}
-
--- only an issue steps the word 0
-issue_first : (p : Step) (w : ℕ) → CanStep p w → w ≡ 0 → p ≡ steps.Issue
-issue_first steps.Issue w c z = refl
-issue_first steps.Copy w c z = absurd (omega (arith, c.0, z))
-issue_first steps.Reset w c z = absurd (omega (arith, c.0, z))
-issue_first steps.Free w c z = absurd (omega (arith, c.0, z))
-issue_first steps.Write w c z = absurd (omega (arith, c.0, z))
+use Rattle.pa_rules.proofs.Phases.{mark_in}
 
 -- a record made the slot
 pub record WasMade (ps : List Played) (s : SlotName) : Type 0 where
@@ -50,16 +44,12 @@ used_made ps word s runs up =
     let k = runs.path s in
     first_made ps s k.0 (word s) k.1 up
 
--- and one that was made was stepped on
-some_is : (p : Step) → IsSome (Some p)
-some_is p = search rules
-
 pub made_used : (ps : List Played) (word : SlotName → ℕ) (x : Played) (seen : Seen) (n : ℕ) → HasRuns (marks_of ps) word → Contains ps x → x.answer ≡ Made seen n
     → 0 < word seen.slot
 made_used ps word x seen n runs c e =
     let m : Mark = mark_at x.line seen (Some steps.Issue) in
     let told : mark_of x ≡ Some m = ap (λ a. mark_of_answer x.line x.op a) e in
-    let low : number_of m.found < number_of (word m.slot) = runs.counted m (mark_among ps x m c told) (some_is steps.Issue) in
+    let low : number_of m.found < number_of (word m.slot) = runs.counted m (mark_in ps x m c told) (some_is steps.Issue) in
     omega (arith, low)
 
 -- what one register has of a slot

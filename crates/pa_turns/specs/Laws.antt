@@ -13,7 +13,8 @@ use Rattle.pa_record.specs.declared.entry.Seen.{Seen}
 use Rattle.pa_record.specs.declared.entry.Answer.{Answer}
 use Rattle.pa_record.specs.declared.entry.Answer.TheVariants.{Made, Done, Swapped}
 use Rattle.pa_record.specs.declared.history.Held.TheVariants.{Nothing}
-use Rattle.pa_rules.specs.declared.register.Reg.TheVariants.{Own, Ref}
+use Rattle.pa_trace.specs.Limits.{register_count, cell_count}
+use Rattle.pa_rules.specs.declared.register.Register.TheVariants.{Own, Ref}
 use Rattle.pa_rules.specs.declared.played.Played.{Played}
 use Rattle.pa_rules.specs.Played.{AreDue, entry_of, marks_of}
 use Rattle.pa_rules.specs.Registers.{Row, no_regs, AreRegisters}
@@ -58,7 +59,7 @@ abbrev pub LookGoesOn : Type 0
 LookGoesOn =
     (threads : ℕ) (ls : List Line) (ps : List Played) (a : Shown) (thread reg : ℕ) (op : Op) (answer : Answer) (seen : Seen) →
     CanPlay threads ls ps a thread →
-    reg < 64 → Names seen.slot (a.regs thread reg) → seen.found.0 ≡ a.word seen.slot → Looks a seen answer →
+    reg < register_count → Names seen.slot (a.regs thread reg) → seen.found.0 ≡ a.word seen.slot → Looks a seen answer →
     ((cell reg : ℕ) → op ≡ ops.Swap cell reg → ⊥) →
     Row (facts_of a.usable a.cells) op (a.regs thread) answer (a.regs thread) → LeadsTo threads ls ps thread op answer a
 
@@ -67,7 +68,8 @@ abbrev pub MadeGoesOn : Type 0
 MadeGoesOn =
     (threads : ℕ) (ls : List Line) (ps : List Played) (a : Shown) (thread reg partition size : ℕ) (seen : Seen) →
     CanPlay threads ls ps a thread →
-    reg < 64 → HoldsNone (a.regs thread reg) → size ≤ greatest_size → seen.found.0 ≡ a.word seen.slot → held_of seen.found.0 ≡ 0 →
+    reg < register_count → HoldsNone (a.regs thread reg) → size ≤ greatest_size → seen.found.0 ≡ a.word seen.slot →
+    held_of seen.found.0 ≡ 0 →
     refs_of seen.found.0 ≡ 0 →
     a.usable seen.slot ≡ usable_of size →
     LeadsTo threads ls ps thread (ops.Alloc reg partition size) (Made seen (usable_of size)) (after_made a thread reg seen)
@@ -76,35 +78,36 @@ MadeGoesOn =
 abbrev pub CopyGoesOn : Type 0
 CopyGoesOn =
     (threads : ℕ) (ls : List Line) (ps : List Played) (a : Shown) (thread from to : ℕ) (seen : Seen) → CanPlay threads ls ps a thread →
-    from < 64 → to < 64 → Names seen.slot (a.regs thread from) → HoldsNone (a.regs thread to) → seen.found.0 ≡ a.word seen.slot →
+    from < register_count → to < register_count → Names seen.slot (a.regs thread from) → HoldsNone (a.regs thread to) →
+    seen.found.0 ≡ a.word seen.slot →
     LeadsTo threads ls ps thread (ops.Copy from to) (Done seen) (after_copy a thread to seen)
 
 -- a reset of a raw_ptr
 abbrev pub ResetGoesOn : Type 0
 ResetGoesOn =
     (threads : ℕ) (ls : List Line) (ps : List Played) (a : Shown) (thread reg : ℕ) (seen : Seen) → CanPlay threads ls ps a thread →
-    reg < 64 → a.regs thread reg ≡ Ref seen.slot → seen.found.0 ≡ a.word seen.slot →
+    reg < register_count → a.regs thread reg ≡ Ref seen.slot → seen.found.0 ≡ a.word seen.slot →
     LeadsTo threads ls ps thread (ops.Reset reg) (Done seen) (after_reset a thread reg seen)
 
 -- a free by the owner
 abbrev pub FreeGoesOn : Type 0
 FreeGoesOn =
     (threads : ℕ) (ls : List Line) (ps : List Played) (a : Shown) (thread reg : ℕ) (seen : Seen) → CanPlay threads ls ps a thread →
-    reg < 64 → a.regs thread reg ≡ Own seen.slot → seen.found.0 ≡ a.word seen.slot →
+    reg < register_count → a.regs thread reg ≡ Own seen.slot → seen.found.0 ≡ a.word seen.slot →
     LeadsTo threads ls ps thread (ops.Free reg) (Done seen) (after_free a thread reg seen)
 
 -- a write by the owner, where no raw_ptr points to the slot
 abbrev pub WriteGoesOn : Type 0
 WriteGoesOn =
     (threads : ℕ) (ls : List Line) (ps : List Played) (a : Shown) (thread reg value : ℕ) (seen : Seen) → CanPlay threads ls ps a thread →
-    reg < 64 → a.regs thread reg ≡ Own seen.slot → seen.found.0 ≡ a.word seen.slot → refs_of seen.found.0 ≡ 0 →
+    reg < register_count → a.regs thread reg ≡ Own seen.slot → seen.found.0 ≡ a.word seen.slot → refs_of seen.found.0 ≡ 0 →
     LeadsTo threads ls ps thread (ops.Write reg value) (Done seen) (after_write a value seen)
 
 -- an exchange of a register and a cell
 abbrev pub SwapGoesOn : Type 0
 SwapGoesOn =
     (threads : ℕ) (ls : List Line) (ps : List Played) (a : Shown) (thread cell reg : ℕ) → CanPlay threads ls ps a thread →
-    cell < 64 → reg < 64 →
+    cell < cell_count → reg < register_count →
     LeadsTo threads ls ps thread (ops.Swap cell reg) (Swapped (length (a.cells cell))) (after_swap a (length ls + 2) thread cell reg)
 
 -- What a handle lets its thread do: the slot was stepped on, its word is in use, and its step can be made.
@@ -118,7 +121,7 @@ pub record LetsStep (a : Shown) (thread reg : ℕ) : Type 0 where
 
 abbrev pub HandleLets : Type 0
 HandleLets =
-    (threads : ℕ) (ls : List Line) (ps : List Played) (a : Shown) (thread reg : ℕ) → CanPlay threads ls ps a thread → reg < 64 →
+    (threads : ℕ) (ls : List Line) (ps : List Played) (a : Shown) (thread reg : ℕ) → CanPlay threads ls ps a thread → reg < register_count →
     LetsStep a thread reg
 
 -- what the records are at the end

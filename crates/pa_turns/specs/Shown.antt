@@ -5,9 +5,9 @@ use Rattle.pa_machine.specs.Count.{held_of, refs_of}
 use Rattle.pa_machine.specs.Run.{same_slot}
 use Rattle.pa_record.specs.declared.history.CellEntry.{CellEntry}
 use Rattle.pa_record.specs.declared.history.Held.{Held}
-use Rattle.pa_rules.specs.declared.register.Reg.{Reg}
-use Rattle.pa_rules.specs.declared.register.Reg.TheVariants.{Empty, Own, Ref, Freed, Cleared}
-use Rattle.pa_rules.specs.Registers.{AllRegs, reg_of, with, with_thread}
+use Rattle.pa_trace.specs.Limits.{register_count, cell_count}
+use Rattle.pa_rules.specs.declared.register.Register.TheVariants.{Empty, Own, Ref, Freed, Cleared}
+use Rattle.pa_rules.specs.Registers.{Reg, AllRegs, reg_of, with, with_thread}
 
 -- the registers of all threads, what each cell holds, each cell's history, and what each slot has
 pub record Shown : Type 0 where
@@ -62,7 +62,7 @@ over (suc n) f = over n f + f n
 
 -- what the registers of so many threads and the cells have, each by itself
 abbrev pub amount : ℕ → (Reg → ℕ) → AllRegs → (ℕ → Held) → ℕ
-amount threads f regs held = over threads (λ t. over 64 (λ r. f (regs t r))) + over 64 (λ k. f (reg_of (held k)))
+amount threads f regs held = over threads (λ t. over register_count (λ r. f (regs t r))) + over cell_count (λ k. f (reg_of (held k)))
 
 -- the slot of a handle was stepped on
 abbrev pub IsUsed : (SlotName → ℕ) → Reg → Type 0

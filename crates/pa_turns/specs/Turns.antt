@@ -11,10 +11,10 @@ use Rattle.pa_record.specs.declared.entry.Seen.{Seen}
 use Rattle.pa_record.specs.declared.entry.Answer.{Answer}
 use Rattle.pa_record.specs.declared.entry.Answer.TheVariants.{Made, Done, Value, Dangling, SecondFree, NotOwner, StaleReset, StaleUse, Nothing, Filled, NotRef, Shared, OutOfRange, TooLarge, Full, Swapped, Purged}
 use Rattle.pa_record.specs.declared.history.CellEntry.{CellEntry}
-use Rattle.pa_rules.specs.declared.register.Reg.{Reg}
-use Rattle.pa_rules.specs.declared.register.Reg.TheVariants.{Empty, Own, Ref, Freed, Cleared}
+use Rattle.pa_trace.specs.Limits.{most_threads}
+use Rattle.pa_rules.specs.declared.register.Register.TheVariants.{Empty, Own, Ref, Freed, Cleared}
 use Rattle.pa_rules.specs.declared.played.Played.{Played}
-use Rattle.pa_rules.specs.Registers.{handle_of, reg_of}
+use Rattle.pa_rules.specs.Registers.{Reg, handle_of, reg_of}
 use Rattle.pa_rules.specs.Legal.{phases_in}
 use Rattle.pa_turns.specs.Shown.{Shown, with_reg, with_slot, with_held, with_entry}
 use Rattle.pa_turns.specs.Known.{IsToldTo}
@@ -31,7 +31,7 @@ LeadsTo threads ls ps thread op answer after = IsToldTo threads (ls ++ Do thread
 pub record CanPlay (threads : ℕ) (ls : List Line) (ps : List Played) (a : Shown) (thread : ℕ) : Type 0 where
   pub told : IsToldTo threads ls ps a
   pub among : thread < threads
-  pub few : threads ≤ 16
+  pub few : threads ≤ most_threads
   pub short : length ls < 65536
 
 -- the register has a handle to the slot, or none

@@ -6,7 +6,7 @@ use Rattle.pa_trace.specs.declared.script.Trace.{Trace}
 use Rattle.pa_record.specs.declared.history.CellEntry.{CellEntry}
 use Rattle.pa_record.specs.declared.history.Held.{Held}
 use Rattle.pa_record.specs.declared.history.Held.TheVariants.{Nothing}
-use Rattle.pa_record.proofs.Members.{of_some, not_some}
+use Rattle.pa_lists.proofs.Members.{of_some, not_some}
 use Rattle.pa_rules.specs.declared.played.Played.{Played}
 use Rattle.pa_rules.specs.declared.verdict.Clause.TheVariants as clauses
 use Rattle.pa_rules.specs.declared.verdict.Place.TheVariants as places
@@ -14,7 +14,7 @@ use Rattle.pa_rules.specs.Told.{Told, records_of}
 use Rattle.pa_rules.specs.Cells.{IsChain, IsExchange, AreCells}
 use Rattle.pa_rules.specs.RecordDemands.{WasGiven, IsAbove, ExchangeFits}
 use Rattle.pa_verdict.specs.Clauses.{IsMet, CellsArePlaces}
-use Rattle.pa_verdict.proofs.Lists.{at_in, in_at}
+use Rattle.pa_lists.proofs.Indexed.{at_in, in_at}
 use Rattle.pa_verdict.proofs.Ordering.{due_differ, order_meets, order_whole}
 
 -- what the exchange before the one of this index gave, where the first one finds what the cell held

@@ -8,7 +8,7 @@ use Rattle.pa_machine.specs.Count.{number_of}
 use Rattle.pa_machine.specs.Run.{Mark, IsFirstAt, IsRunFrom, Slots}
 use Rattle.pa_machine.proofs.Runs.{same_slot_yes, same_slot_eq, number_stepped}
 use Rattle.pa_record.specs.declared.root.RootEntry.{RootEntry}
-use Rattle.pa_record.proofs.Members.{not_in_none, in_cases}
+use Rattle.pa_lists.proofs.Members.{not_in_none, in_cases}
 use Rattle.pa_rules.specs.declared.played.Played.{Played}
 use Rattle.pa_rules.specs.declared.verdict.Clause.TheVariants as clauses
 use Rattle.pa_rules.specs.declared.verdict.Place.TheVariants as places
@@ -23,7 +23,7 @@ use Rattle.pa_rules.proofs.Running.{OtherRecord, one_mark, run_rises, marks_diff
 use Rattle.pa_rules.proofs.ByLines.{same_record}
 use Rattle.pa_rules.proofs.Phases.{mark_in}
 use Rattle.pa_verdict.specs.Clauses.{IsMet, HoldersArePlaces}
-use Rattle.pa_verdict.proofs.Lists.{at_in, in_at}
+use Rattle.pa_lists.proofs.Indexed.{at_in, in_at}
 use Rattle.pa_verdict.proofs.Ordering.{due_differ}
 use Rattle.pa_verdict.proofs.Moves.{entry_moves, moves_before, moves_split, move_place}
 
@@ -39,7 +39,7 @@ has_fit : (ps : List Played) (s : SlotName) (k : ℕ) (pre rest : List Move) (m 
 has_fit ps s k [] rest m h = h
 has_fit ps s k (n ∷ pre) rest m h = h
 
-own_move : (m : Move) → is_move_of m.slot m.number m ≡ true
+pub own_move : (m : Move) → is_move_of m.slot m.number m ≡ true
 own_move m = rw (same_slot_yes m.slot m.slot refl, eq-eqb m.number m.number refl) refl
 
 -- what an entry owes for one of its moves

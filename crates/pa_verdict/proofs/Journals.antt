@@ -7,7 +7,7 @@ use Rattle.pa_trace.specs.declared.script.Trace.{Trace}
 use Rattle.pa_record.specs.declared.pool.PoolEntry.{PoolEntry}
 use Rattle.pa_record.specs.declared.root.RootEntry.{RootEntry}
 use Rattle.pa_record.specs.Root.{Root, new_root, root_next, root_replayed, RootActFits, RootReplays, RiseFrom, asked_by, all_asked}
-use Rattle.pa_record.proofs.Members.{of_some, not_some}
+use Rattle.pa_lists.proofs.Members.{of_some, not_some}
 use Rattle.pa_rules.specs.declared.played.Played.{Played}
 use Rattle.pa_rules.specs.declared.verdict.Clause.TheVariants as clauses
 use Rattle.pa_rules.specs.declared.verdict.Place.TheVariants as places
@@ -15,7 +15,7 @@ use Rattle.pa_rules.specs.Told.{Told, records_of}
 use Rattle.pa_rules.specs.Roots.{Journals, IsEntry, AreRoots}
 use Rattle.pa_rules.specs.HeapDemands.{EntryFits}
 use Rattle.pa_verdict.specs.Clauses.{IsMet, RootsArePlaces}
-use Rattle.pa_verdict.proofs.Lists.{at_in, in_at}
+use Rattle.pa_lists.proofs.Indexed.{at_in, in_at}
 use Rattle.pa_verdict.proofs.Ordering.{due_differ, order_meets, order_whole}
 
 acts_at : (pools : List PoolEntry) (es : List RootEntry) (r : Root) (j : ℕ) (e : RootEntry) → RootReplays pools es r → slice_get es j ≡ Some e

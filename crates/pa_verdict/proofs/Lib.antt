@@ -1,4 +1,3 @@
-pub mod Lists
 pub mod Simple
 pub mod Walks
 pub mod Ordering
@@ -10,6 +9,3 @@ pub mod Titles
 pub mod Moves
 pub mod Holding
 pub mod Verdict
-pub mod WrongRuns
-pub mod Refused
-pub mod Astray

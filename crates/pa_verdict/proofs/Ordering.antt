@@ -12,7 +12,7 @@ use Rattle.pa_rules.proofs.Running.{OtherRecord}
 use Rattle.pa_rules.proofs.ByLines.{same_record}
 use Rattle.pa_rules.proofs.Numbering.{lines_differ}
 use Rattle.pa_rules.proofs.Recorded.{records_are_lines}
-use Rattle.pa_verdict.proofs.Lists.{map_at, at_map, one_at}
+use Rattle.pa_lists.proofs.Indexed.{map_at, at_map, one_at}
 
 -- where the records are those due, each has a line of its own
 pub due_differ : (t : Trace) (r : Told) → AreDue t.lines r.entries → AllPairs OtherRecord (records_of t r)

@@ -7,7 +7,7 @@ use Rattle.pa_machine.specs.declared.word.Step.{Step}
 use Rattle.pa_machine.specs.Count.{CanStep, stepped}
 use Rattle.pa_machine.specs.Run.{Mark, IsFirstAt, IsRunFrom, IsOneRun, Slots}
 use Rattle.pa_machine.proofs.Runs.{same_slot_cases}
-use Rattle.pa_record.proofs.Members.{not_in_none, first_in, later_in, in_cases, of_some}
+use Rattle.pa_lists.proofs.Members.{not_in_none, first_in, later_in, in_cases, of_some}
 use Rattle.pa_rules.specs.declared.verdict.Clause.TheVariants as clauses
 use Rattle.pa_rules.specs.declared.verdict.Place.TheVariants as places
 use Rattle.pa_rules.specs.Told.{Told, records_of}
@@ -15,7 +15,7 @@ use Rattle.pa_rules.specs.Played.{marks_of}
 use Rattle.pa_rules.proofs.Running.{OtherLine, one_mark, mark_from, marks_differ}
 use Rattle.pa_rules.proofs.Phases.{mark_in}
 use Rattle.pa_verdict.specs.Clauses.{IsMet, SlotsArePlaces}
-use Rattle.pa_verdict.proofs.Lists.{at_in, in_at}
+use Rattle.pa_lists.proofs.Indexed.{at_in, in_at}
 use Rattle.pa_verdict.proofs.Ordering.{due_differ}
 
 -- two runs of a slot from one word are one

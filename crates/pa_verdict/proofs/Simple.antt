@@ -1,7 +1,7 @@
 -- The clauses that say of each record by itself what they ask: lines, contents, seen; and the report.
-use Rattle.std.proofs.Common.{List, ap, get_or}
-use Rattle.std.specs.Prelude.{All, Contains, slice_get, map}
-use Rattle.std.proofs.lemmas.List.Elements.{All-contains, Contains-get_or}
+use Rattle.std.proofs.Common.{ap}
+use Rattle.std.specs.Prelude.{slice_get, map}
+use Rattle.std.proofs.lemmas.List.Elements.{All-contains}
 use Rattle.pa_trace.specs.declared.script.Trace.{Trace}
 use Rattle.pa_record.specs.declared.report.ReportLine.{ReportLine}
 use Rattle.pa_rules.specs.declared.verdict.Clause.TheVariants as clauses
@@ -14,7 +14,8 @@ use Rattle.pa_rules.specs.Report.{IsReport, IsReportLine, phases_of}
 use Rattle.pa_rules.specs.Sizes.{usable_of}
 use Rattle.pa_rules.specs.Legal.{phases_in}
 use Rattle.pa_verdict.specs.Clauses.{IsMet, LinesArePlaces, ContentsArePlaces, SeenIsPlaces, ReportIsPlaces}
-use Rattle.pa_verdict.proofs.Lists.{at_in, in_at, same_lists}
+use Rattle.pa_lists.proofs.Indexed.{at_in, in_at, same_lists}
+use Rattle.pa_lists.proofs.Elements.{all_from_members}
 
 lines_meet : (t : Trace) (r : Told) → AreDue t.lines r.entries → IsMet clauses.Lines t r
 lines_meet t r h (places.Record i) = ap (λ zs. slice_get zs i) h
@@ -57,9 +58,6 @@ seen_is_places t r = (
   },
 )
 
-All-from_contains : {A : Type 0} (P : A → Type 0) (xs : List A) → ((x : A) → Contains xs x → P x) → All P xs
-All-from_contains P xs h k d below = h (get_or xs k d) (Contains-get_or xs k d below)
-
 abbrev IsRight : Trace → Told → ReportLine → Type 0
 IsRight t r l = IsReportLine t.partitions t.threads (records_of t r) r.pools r.roots l
 
@@ -78,6 +76,6 @@ report_is_places t r = (
   report_meets t r,
   λ met. record {
     places = same_lists (map (λ (l : ReportLine). (l.phase, l.partition)) r.report) (phases_of t.partitions 1 (phases_in t.lines)) (λ i. (met (places.Report i)).0);
-    right = All-from_contains (IsRight t r) r.report (λ l among. let (i, at) = in_at r.report l among in (met (places.Report i)).1 l at);
+    right = all_from_members (IsRight t r) r.report (λ l among. let (i, at) = in_at r.report l among in (met (places.Report i)).1 l at);
   },
 )

@@ -9,7 +9,7 @@ use Rattle.pa_record.specs.declared.pool.PoolEntry.{PoolEntry}
 use Rattle.pa_record.specs.declared.root.RootEntry.{RootEntry}
 use Rattle.pa_record.specs.Root.{Root, new_root, root_next, RootReplays, IsJournal}
 use Rattle.pa_record.specs.Sound.{IsMadeBy, AreTitles}
-use Rattle.pa_record.proofs.Members.{not_some}
+use Rattle.pa_lists.proofs.Members.{not_some}
 use Rattle.pa_record.proofs.Lawful.{journal_leaves}
 use Rattle.pa_record.proofs.Asked.{titles_are_asked}
 use Rattle.pa_rules.specs.declared.played.Played.{Played}

@@ -11,7 +11,7 @@ use Rattle.pa_rules.specs.Roots.{Journals}
 use Rattle.pa_rules.specs.Caches.{Cache, Caches, CacheRow, CachesTo, AreCaches, no_caches, with_cache}
 use Rattle.pa_rules.specs.Sizes.{usable_of}
 use Rattle.pa_verdict.specs.Clauses.{IsMet, RegistersArePlaces, CachesArePlaces}
-use Rattle.pa_verdict.proofs.Lists.{end_of, cut_at}
+use Rattle.pa_lists.proofs.Indexed.{end_of, cut_at}
 
 -- ---- registers
 

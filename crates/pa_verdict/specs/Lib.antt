@@ -1,3 +1,2 @@
 pub mod Clauses
 pub mod Verdict
-pub mod WrongRuns

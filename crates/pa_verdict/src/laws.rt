@@ -2,7 +2,6 @@ ghost use Rattle.pa_verdict.specs.Clauses.{CachesArePlaces, CellsArePlaces, Cont
 ghost use Rattle.pa_verdict.specs.Clauses.{PoolIsPlaces, RegistersArePlaces, ReportIsPlaces, RootsArePlaces};
 ghost use Rattle.pa_verdict.specs.Clauses.{SeenIsPlaces, SlotsArePlaces, TitlesArePlaces};
 ghost use Rattle.pa_verdict.specs.Verdict.{LegalIs, OneVerdict, TitlesNeverFail};
-ghost use Rattle.pa_verdict.specs.WrongRuns.{AstrayFails, MapsFail, RefusedFails};
 
 /// The law that the records are those due exactly where each is the one that is due at its place.
 pub fn lines_are_places()
@@ -77,19 +76,4 @@ pub fn titles_never_fail()
 /// The law that a run has one verdict.
 pub fn one_verdict()
     ensures { OneVerdict }
-{}
-
-/// A run that was worked out by hand, in which a direct map is said to come again, fails caches at the record that says so.
-pub fn maps_fail()
-    ensures { MapsFail }
-{}
-
-/// A run in which a journal names an entry of the pool that isn't there fails roots at that line, and pool holds.
-pub fn refused_fails()
-    ensures { RefusedFails }
-{}
-
-/// A run in which an allocation got a slot of another partition fails caches at its record, and holders holds.
-pub fn astray_fails()
-    ensures { AstrayFails }
 {}

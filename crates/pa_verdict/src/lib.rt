@@ -4,8 +4,7 @@
 mod laws;
 
 pub use laws::{
-    astray_fails, caches_are_places, cells_are_places, contents_are_places, holders_are_places,
-    legal_is, lines_are_places, maps_fail, one_verdict, pool_is_places, refused_fails,
-    registers_are_places, report_is_places, roots_are_places, seen_is_places, slots_are_places,
-    titles_are_places, titles_never_fail,
+    caches_are_places, cells_are_places, contents_are_places, holders_are_places, legal_is,
+    lines_are_places, one_verdict, pool_is_places, registers_are_places, report_is_places,
+    roots_are_places, seen_is_places, slots_are_places, titles_are_places, titles_never_fail,
 };

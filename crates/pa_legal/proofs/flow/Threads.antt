@@ -12,8 +12,8 @@ use Rattle.pa_record.specs.declared.root.RootEntry.{RootEntry}
 use Rattle.pa_record.specs.declared.root.RootAct.{RootAct}
 use Rattle.pa_record.specs.declared.root.RootAct.TheVariants.{Fill, Map, Full, Give, Unmap, Purge}
 use Rattle.pa_record.specs.Root.{IsJournal}
-use Rattle.pa_record.proofs.Members.{not_in_none, first_in, later_in, in_cases}
-use Rattle.pa_record.proofs.Pairs.{pairs_head, pairs_tail}
+use Rattle.pa_lists.proofs.Members.{not_in_none, first_in, later_in, in_cases}
+use Rattle.pa_lists.proofs.Pairs.{pairs_head, pairs_tail}
 use Rattle.pa_rules.specs.declared.played.Played.{Played}
 use Rattle.pa_rules.specs.Played.{mark_of}
 use Rattle.pa_rules.specs.Roots.{Journals}
@@ -41,12 +41,6 @@ returns_at s k x = marked (is_return_at s k) (mark_of x)
 -- ---- along some records
 
 module _ (partitions : ℕ) (pools : List PoolEntry) (roots : Journals) (s : SlotName) (k p t : ℕ) (journals : (q : ℕ) → IsJournal pools (roots q)) (own : IsOnlyOf roots p s) (below : p < partitions) where
-  abbrev Outs : Played → ℕ
-  Outs x = moved_in is_out s k (acts_of roots x.line p)
-
-  abbrev Backs : Played → ℕ
-  Backs x = moved_in is_back s k (acts_of roots x.line p)
-
   pub all_flow : (xs : List Played) (all after : Caches) → ((x : Played) → Contains xs x → IsNewMap roots x × UnmapsNext roots x) → ((u : ℕ) → IsKnown roots (all u)) → CachesTo partitions roots all xs after →
       listed s k (after t p) 0 59 + over t (issues_at s k) xs + over t (λ x. moved_in is_back s k (acts_of roots x.line p)) xs
       ≡ listed s k (all t p) 0 59 + over t (λ x. moved_in is_out s k (acts_of roots x.line p)) xs + over t (returns_at s k) xs

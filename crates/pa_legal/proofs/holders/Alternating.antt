@@ -11,8 +11,8 @@ use Rattle.pa_record.specs.declared.root.RootAct.{RootAct}
 use Rattle.pa_record.specs.declared.root.RootAct.TheVariants.{Fill, Map, Full, Give, Unmap, Purge}
 use Rattle.pa_record.specs.Root.{names}
 use Rattle.pa_record.specs.Laws.{leaves_by}
-use Rattle.pa_record.proofs.Members.{not_in_none, first_in, in_cases, not_some}
-use Rattle.pa_record.proofs.Joined.{map_cases, map_in, filter_cases, filter_in, flat_cases}
+use Rattle.pa_lists.proofs.Members.{not_in_none, first_in, in_cases, not_some}
+use Rattle.pa_lists.proofs.Joined.{map_cases, map_in, filter_cases, filter_in, flat_cases}
 use Rattle.pa_rules.specs.Roots.{Journals}
 use Rattle.pa_rules.specs.Holders.{Way, Out, Back, Move, move_of, moves_by, is_move_of, moves_at}
 use Rattle.pa_rules.proofs.FourPlaces.{HasLeft}

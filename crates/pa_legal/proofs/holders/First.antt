@@ -8,8 +8,8 @@ use Rattle.pa_machine.specs.declared.word.Step.TheVariants.{Issue, Copy, Reset, 
 use Rattle.pa_machine.specs.Count.{number_of, held_of, refs_of}
 use Rattle.pa_machine.specs.Run.{Mark, IsReturning, Slots}
 use Rattle.pa_machine.proofs.Runs.{same_slot_eq, same_slot_yes}
-use Rattle.pa_record.proofs.Members.{not_in_none, first_in, later_in, in_cases}
-use Rattle.pa_record.proofs.Pairs.{pairs_head, pairs_tail}
+use Rattle.pa_lists.proofs.Members.{not_in_none, first_in, later_in, in_cases}
+use Rattle.pa_lists.proofs.Pairs.{pairs_head, pairs_tail}
 use Rattle.pa_rules.specs.declared.played.Played.{Played}
 use Rattle.pa_rules.specs.Played.{mark_of, marks_of}
 use Rattle.pa_rules.specs.Holders.{Holder, InRoot, WithThread, IsReturnedBy, IsFirstHolder}
@@ -54,11 +54,6 @@ returned_cases ps s k x among = elim (marked_cases (is_return_at s k) (mark_of x
       let (p, is) = by_step ps s k x m m.step among mark refl (same_slot_eq s m.slot slot) step (eqb-true (number_of m.found + 1) k number) in
       inr (m, p, is)
 ]
-
--- a mark that passes counts once
-marked_few : (test : Mark → Bool) (o : Option Mark) → (marked test o ≡ 0) ⊎ (marked test o ≡ 1)
-marked_few test None = inl refl
-marked_few test (Some m) = elim (cases_Bool (test m)) [ inl hit ↦ inr (rw hit refl) | inr miss ↦ inl (rw miss refl) ]
 
 pub is_returned : (ps : List Played) (s : SlotName) (k : ℕ) (x : Played) (m : Mark) (p : Step) → Returns ps s k x m p → IsReturnedBy ps s k x
 is_returned ps s k x m p r = (r.steps.among, m, p, r.steps.mark, r.steps.slot, r.steps.step, r.returning, r.number)

@@ -14,7 +14,7 @@ use Rattle.pa_record.specs.declared.pool.PoolEntry.{PoolEntry}
 use Rattle.pa_record.specs.declared.root.RootEntry.{RootEntry}
 use Rattle.pa_record.specs.declared.root.RootAct.TheVariants.{Unmap}
 use Rattle.pa_record.specs.Root.{IsJournal}
-use Rattle.pa_record.proofs.Members.{not_in_none}
+use Rattle.pa_lists.proofs.Members.{not_in_none}
 use Rattle.pa_rules.specs.declared.played.Played.{Played}
 use Rattle.pa_rules.specs.Played.{mark_of, mark_of_answer, mark_at, marks_of}
 use Rattle.pa_rules.specs.Roots.{Journals, IsEntry, AreRoots, IsPoolOf}
@@ -28,6 +28,7 @@ use Rattle.pa_legal.proofs.Naming.{unnamed}
 use Rattle.pa_legal.proofs.Words.{same_word, goes_on, goes_past, leaves_free, only_issue}
 use Rattle.pa_legal.proofs.holders.Maps.{new_map}
 use Rattle.pa_legal.proofs.holders.Records.{ReturnsMap, unmap_returns, issue_makes}
+use Rattle.pa_lists.proofs.Indexed.{at_in}
 
 -- an entry, and those behind it
 behind : {A : Type 0} (xs : List A) (i j : ℕ) (e f : A) → slice_get xs i ≡ Some e → slice_get xs j ≡ Some f → i < j → (before rest : List A) × (xs ≡ before ++ e ∷ rest) × Contains rest f
@@ -39,9 +40,6 @@ behind (x ∷ xs) zero (suc j) e f at at' less = ([], xs, ap (λ z. z ∷ xs) (g
     get_in xs j e at = (j, slice_get_within xs j e at, get_or_from_slice_get xs j e e at)
 behind (x ∷ xs) (suc i) zero e f at at' less = absurd (omega arith)
 behind (x ∷ xs) (suc i) (suc j) e f at at' less = let (before, rest, parts, member) = behind xs i j e f at at' (omega arith) in (x ∷ before, rest, ap (λ zs. x ∷ zs) parts, member)
-
-entry_in : {A : Type 0} (xs : List A) (j : ℕ) (e : A) → slice_get xs j ≡ Some e → Contains xs e
-entry_in xs j e at = (j, slice_get_within xs j e at, get_or_from_slice_get xs j e e at)
 
 -- A direct map that a record returned.
 module _ (supers partitions : ℕ) (ps : List Played) (pools : List PoolEntry) (roots : Journals) (j : AreRoots partitions ps pools roots) (h : IsPoolOf supers ps pools roots) (unlike : AllPairs OtherRecord ps) (slots : Slots (marks_of ps)) (caches : AreCaches partitions roots ps) where
@@ -109,7 +107,7 @@ module _ (supers partitions : ℕ) (ps : List Played) (pools : List PoolEntry) (
   pub gone_from_records : (p i asked n : ℕ) (slot : Numbered) (e : RootEntry) (x : Played) → IsEntry roots p i e → e.act ≡ Unmap asked slot → Contains ps x → IsOfSlot x slot.slot n → n < slot.number
   gone_from_records p i asked n slot e x at is among of =
       let unlike = rising_differ ps a.rising in
-      let there = entry_in (roots p) i e at in
+      let there = at_in (roots p) i e at in
       let (y, here, makes) = a.journals.lines p i e at in
       let r = unmap_returns partitions roots ps y e p asked slot a.caches (below supers partitions ps pools roots a.journals a.pool unlike a.slots a.caches p e there) here.0 there (sym here.1) is in
       let number = a.unmaps y here.0 r.seen p asked slot e r.answer there (sym here.1) is in

@@ -6,7 +6,7 @@ use Rattle.std.proofs.lemmas.List.{append-nil}
 use Rattle.std.proofs.lemmas.List.Elements.{Contains-append_left}
 use Rattle.pa_machine.specs.declared.word.SlotName.{SlotName}
 use Rattle.pa_record.specs.declared.pool.PoolEntry.{PoolEntry}
-use Rattle.pa_record.proofs.Members.{first_in, later_in}
+use Rattle.pa_lists.proofs.Members.{first_in, later_in}
 use Rattle.pa_rules.specs.declared.played.Played.{Played}
 use Rattle.pa_rules.specs.Roots.{Journals}
 use Rattle.pa_rules.specs.Order.{IsOfLine}
@@ -22,7 +22,7 @@ use Rattle.pa_legal.proofs.flow.Threads.{issues_at, weigh}
 use Rattle.pa_legal.proofs.holders.Order.{move_made}
 use Rattle.pa_legal.proofs.holders.First.{IsFirst, IsNever, first_holder}
 use Rattle.pa_legal.proofs.holders.Alternating.{turn_of, away_at, alternate, moved_left}
-use Rattle.pa_legal.proofs.Parts.{map_parts}
+use Rattle.pa_lists.proofs.Parts.{map_parts}
 use Rattle.pa_legal.proofs.holders.Holding.{thread_at, thread_is, weighed, over_some, lines, flow, less}
 
 -- each of these moves has a record

@@ -6,8 +6,8 @@ use Rattle.std.proofs.lemmas.List.Elements.{Contains-append_left, Contains-appen
 use Rattle.std.proofs.lemmas.List.Sums.{sum_by-cons}
 use Rattle.pa_machine.specs.declared.word.SlotName.{SlotName}
 use Rattle.pa_record.specs.declared.pool.PoolEntry.{PoolEntry}
-use Rattle.pa_record.proofs.Members.{not_in_none, first_in, later_in, in_cases}
-use Rattle.pa_record.proofs.Pairs.{pairs_none, pairs_cons, pairs_head, pairs_tail}
+use Rattle.pa_lists.proofs.Members.{not_in_none, first_in, later_in, in_cases}
+use Rattle.pa_lists.proofs.Pairs.{pairs_none, pairs_cons, pairs_head, pairs_tail}
 use Rattle.pa_rules.specs.declared.played.Played.{Played}
 use Rattle.pa_rules.specs.Roots.{Journals}
 use Rattle.pa_rules.specs.Order.{IsOfLine}
@@ -23,7 +23,7 @@ use Rattle.pa_legal.specs.Known.{AreKnown}
 use Rattle.pa_legal.proofs.flow.Counts.{is_back, listed_none}
 use Rattle.pa_legal.proofs.flow.Cuts.{caches_cut}
 use Rattle.pa_legal.proofs.flow.Threads.{over, issues_at, returns_at, all_flow, mine, weigh, weigh_cons, weigh_append, weigh_parts, weigh_zero, over_lines, mine_one}
-use Rattle.pa_legal.proofs.Parts.{pairs_across, pairs_after, parts_at}
+use Rattle.pa_lists.proofs.Parts.{pairs_across, pairs_after, parts_at}
 use Rattle.pa_legal.proofs.holders.Maps.{new_map}
 use Rattle.pa_legal.proofs.holders.Order.{InOrder, one_way, move_made, moves_order}
 use Rattle.pa_legal.proofs.holders.Alternating.{turn_of}

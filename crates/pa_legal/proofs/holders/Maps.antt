@@ -15,7 +15,7 @@ use Rattle.pa_record.specs.declared.pool.PoolAct.{PoolAct}
 use Rattle.pa_record.specs.declared.root.RootEntry.{RootEntry}
 use Rattle.pa_record.specs.declared.root.RootAct.TheVariants.{Map}
 use Rattle.pa_record.specs.Root.{Root, new_root, root_next, RootActFits, RootReplays, asked_by}
-use Rattle.pa_record.proofs.Members.{not_in_none, first_in, in_cases, of_some, not_some}
+use Rattle.pa_lists.proofs.Members.{not_in_none, first_in, in_cases, of_some, not_some}
 use Rattle.pa_rules.specs.declared.played.Played.{Played}
 use Rattle.pa_rules.specs.Played.{mark_of, mark_of_answer, mark_at, marks_of}
 use Rattle.pa_rules.specs.Roots.{Journals, AreRoots, IsPoolOf}

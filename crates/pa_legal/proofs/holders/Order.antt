@@ -12,8 +12,8 @@ use Rattle.pa_record.specs.declared.pool.PoolEntry.{PoolEntry}
 use Rattle.pa_record.specs.declared.root.RootEntry.{RootEntry}
 use Rattle.pa_record.specs.declared.root.RootAct.{RootAct}
 use Rattle.pa_record.specs.declared.root.RootAct.TheVariants.{Fill, Map, Full, Give, Unmap, Purge}
-use Rattle.pa_record.proofs.Members.{not_in_none}
-use Rattle.pa_record.proofs.Joined.{map_cases, filter_cases, flat_cases, pairs_flat}
+use Rattle.pa_lists.proofs.Members.{not_in_none}
+use Rattle.pa_lists.proofs.Joined.{map_cases, filter_cases, flat_cases, pairs_flat}
 use Rattle.pa_rules.specs.declared.played.Played.{Played}
 use Rattle.pa_rules.specs.Roots.{Journals, MakesEntry, AreRoots}
 use Rattle.pa_rules.specs.Order.{IsOfLine, StandsBefore}

@@ -15,8 +15,8 @@ use Rattle.pa_record.specs.declared.numbered.Numbered.{Numbered}
 use Rattle.pa_record.specs.declared.root.RootEntry.{RootEntry}
 use Rattle.pa_record.specs.declared.root.RootAct.{RootAct}
 use Rattle.pa_record.specs.declared.root.RootAct.TheVariants.{Fill, Map, Full, Give, Unmap, Purge}
-use Rattle.pa_record.proofs.Members.{not_in_none, first_in, in_cases, of_some, not_some}
-use Rattle.pa_record.proofs.Joined.{map_in, filter_in}
+use Rattle.pa_lists.proofs.Members.{not_in_none, first_in, in_cases, of_some, not_some}
+use Rattle.pa_lists.proofs.Joined.{map_in, filter_in}
 use Rattle.pa_rules.specs.declared.played.Played.{Played}
 use Rattle.pa_rules.specs.Played.{mark_of, mark_of_answer, mark_at, look_at, step_of}
 use Rattle.pa_rules.specs.Roots.{Journals}
@@ -26,7 +26,7 @@ use Rattle.pa_rules.proofs.Flowing.{class_leaves, map_leaves, no_issue}
 use Rattle.pa_rules.proofs.Known.{IsKnown, first_keeps, entry_of_act, all_known}
 use Rattle.pa_rules.proofs.FourPlaces.{HasLeft}
 use Rattle.pa_legal.proofs.flow.Cuts.{caches_cut}
-use Rattle.pa_legal.proofs.Parts.{parts_at}
+use Rattle.pa_lists.proofs.Parts.{parts_at}
 
 -- the row of a record, with what its thread's lists were
 pub row_of : (partitions : ℕ) (roots : Journals) (ps : List Played) (x : Played) → AreCaches partitions roots ps → Contains ps x →
@@ -66,7 +66,7 @@ pub record ReturnsMap (roots : Journals) (x : Played) (s : SlotName) : Type 0 wh
   pub partition : ℕ
   pub direct : IsDirect roots s partition
 
-in_batches : (n : ℕ) (xs : List Numbered) (act : RootAct) → Contains (batches n xs) act → (ys : List Numbered) × (act ≡ Give ys)
+pub in_batches : (n : ℕ) (xs : List Numbered) (act : RootAct) → Contains (batches n xs) act → (ys : List Numbered) × (act ≡ Give ys)
 in_batches zero xs act among = absurd (not_in_none act among)
 in_batches (suc n) [] act among = absurd (not_in_none act among)
 in_batches (suc n) (x ∷ xs) act among = elim (in_cases (Give (take 16 (x ∷ xs))) act (batches n (drop 16 (x ∷ xs))) among) [

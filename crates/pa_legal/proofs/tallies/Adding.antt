@@ -10,8 +10,8 @@ use Rattle.pa_machine.specs.declared.word.Step.{Step}
 use Rattle.pa_machine.specs.Run.{Mark, Slots, IsRunFrom, IsLive, IsQuarantined}
 use Rattle.pa_record.specs.declared.pool.PoolEntry.{PoolEntry}
 use Rattle.pa_record.specs.declared.report.Tally.{Tally}
-use Rattle.pa_record.proofs.Members.{first_in, later_in}
-use Rattle.pa_record.proofs.Joined.{map_cases, map_in, filter_cases, filter_in}
+use Rattle.pa_lists.proofs.Members.{first_in, later_in}
+use Rattle.pa_lists.proofs.Joined.{map_cases, map_in, filter_cases, filter_in}
 use Rattle.pa_rules.specs.declared.played.Played.{Played}
 use Rattle.pa_rules.specs.Played.{marks_of}
 use Rattle.pa_rules.specs.Roots.{Journals, AreRoots, IsPoolOf}

@@ -9,10 +9,10 @@ use Rattle.pa_machine.specs.declared.word.Step.{Step}
 use Rattle.pa_machine.specs.Run.{Mark, same_slot}
 use Rattle.pa_machine.proofs.Runs.{same_slot_yes, same_slot_no}
 use Rattle.pa_record.specs.Laws.{times}
-use Rattle.pa_record.proofs.Members.{not_in_none, first_in, later_in, in_cases}
-use Rattle.pa_record.proofs.Pairs.{pairs_none, pairs_cons, pairs_head, pairs_tail}
+use Rattle.pa_lists.proofs.Members.{not_in_none, first_in, later_in, in_cases}
+use Rattle.pa_lists.proofs.Pairs.{pairs_none, pairs_cons, pairs_head, pairs_tail}
 use Rattle.pa_rules.specs.Flow.{at_step, steps_so}
-use Rattle.pa_rules.proofs.Totals.{total, total_add, total_same, some_times}
+use Rattle.pa_rules.proofs.Totals.{total, total_add, total_same, some_times, total_none}
 use Rattle.pa_rules.proofs.FourPlaces.{times_member}
 use Rattle.pa_legal.specs.Tallies.{weight_of}
 
@@ -57,10 +57,6 @@ distinct_once (t ∷ ss) = elim (cases_eq (times t ss) 0) [
 
 -- ---- sums
 
-pub total_zero : (ss : List SlotName) → total (λ s. 0) ss ≡ 0
-total_zero [] = refl
-total_zero (s ∷ ss) = let ih = total_zero ss in omega arith
-
 pub total_sum : (f : SlotName → ℕ) (ss : List SlotName) → total f ss ≡ sum (map f ss)
 total_sum f ss = by_sum ss ∙ sym (sum-map f ss)
   where
@@ -85,7 +81,7 @@ once_total g n (s ∷ ss) h among = elim (in_cases s n ss among) [
   | inl e ↦
       let rest = total_same (λ t. cond {A = ℕ} (same_slot t n) (g t) 0) (λ t. 0) ss
       (λ t member. rw (same_slot_no t n (λ f. pairs_head (λ (a b : SlotName). a ≢ b) s t ss h member (e ∙ sym f))) refl) in
-      let none = total_zero ss in
+      let none = total_none ss in
       let here : cond {A = ℕ} (same_slot s n) (g s) 0 ≡ g s = rw (same_slot_yes s n e) refl in
       let same : g s ≡ g n = ap g e in
       omega arith
@@ -119,7 +115,7 @@ weight_times test s c (m ∷ ms) =
 -- over all names it is what the marks weigh
 pub over_names : (test : Step → ℕ → Bool) (g : SlotName → ℕ) (ss : List SlotName) (ms : List Mark) → AllPairs ◌≢◌ ss → ((m : Mark) → Contains ms m → Contains ss m.slot) →
     total (λ s. slot_weight test s (g s) ms) ss ≡ weight_of test g ms
-over_names test g ss [] h inside = total_zero ss
+over_names test g ss [] h inside = total_none ss
 over_names test g ss (m ∷ ms) h inside =
     let a = total_same (λ s. slot_weight test s (g s) (m ∷ ms)) (λ s. cond {A = ℕ} (steps_so test s m) (g s) 0 + slot_weight test s (g s) ms) ss
     (λ s among. sum_by-cons (λ (n : Mark). cond {A = ℕ} (steps_so test s n) (g s) 0) m ms) in
@@ -137,7 +133,7 @@ over_names test g ss (m ∷ ms) h inside =
         with_true : (p : Bool) (n : ℕ) → cond {A = ℕ} (p && true) n 0 ≡ cond {A = ℕ} p n 0
         with_true true n = refl
         with_true false n = refl
-    at_mark false = total_same (λ s. cond {A = ℕ} (same_slot s m.slot && false) (g s) 0) (λ s. 0) ss (λ s among. with_false (same_slot s m.slot) (g s)) ∙ total_zero ss
+    at_mark false = total_same (λ s. cond {A = ℕ} (same_slot s m.slot && false) (g s) 0) (λ s. 0) ss (λ s among. with_false (same_slot s m.slot) (g s)) ∙ total_none ss
       where
         with_false : (p : Bool) (n : ℕ) → cond {A = ℕ} (p && false) n 0 ≡ 0
         with_false true n = refl

@@ -6,17 +6,19 @@ use Rattle.pa_trace.specs.declared.script.Op.TheVariants.{Swap}
 use Rattle.pa_record.specs.declared.history.CellEntry.{CellEntry}
 use Rattle.pa_record.specs.declared.pool.PoolEntry.{PoolEntry}
 use Rattle.pa_record.specs.declared.root.RootEntry.{RootEntry}
-use Rattle.pa_record.proofs.Members.{not_in_none, first_in, in_cases}
-use Rattle.pa_record.proofs.Pairs.{pairs_head}
+use Rattle.pa_lists.proofs.Members.{not_in_none, first_in, in_cases}
+use Rattle.pa_lists.proofs.Pairs.{pairs_head}
 use Rattle.pa_rules.specs.declared.played.Played.{Played}
-use Rattle.pa_rules.specs.Roots.{Journals, MakesEntry}
+use Rattle.pa_rules.specs.Roots.{MakesEntry}
 use Rattle.pa_rules.specs.Order.{IsOfLine}
-use Rattle.pa_rules.specs.Caches.{Cache, Caches, CacheRow, CachesTo, no_caches, with_cache}
+use Rattle.pa_rules.specs.Caches.{Cache, Caches, CacheRow, CachesTo, no_caches}
 use Rattle.pa_rules.proofs.ByLines.{same_record}
 use Rattle.pa_rules.proofs.Numbering.{rising_differ}
 use Rattle.pa_legal.proofs.flow.Cuts.{caches_cut}
-use Rattle.pa_one_run.proofs.lines.Lists.{get_of, in_one, pairs_across, pairs_after}
-use Rattle.pa_one_run.proofs.Filed.{Parts, IsFiled, Earlier}
+use Rattle.pa_one_run.specs.Parts.{Parts}
+use Rattle.pa_lists.proofs.Elements.{in_one, pairs_across, pairs_after}
+use Rattle.pa_one_run.proofs.Filed.{IsFiled, Earlier}
+use Rattle.pa_lists.proofs.Indexed.{in_at}
 
 -- the records before a line, and those from it on
 pub record IsCut (a : Parts) (n : ℕ) (before rest : List Played) : Type 0 where
@@ -74,7 +76,7 @@ same_played a x y h first second e = same_record a.ps x y (rising_differ a.ps h.
 
 -- the record of an entry's line makes it
 pub entry_made : (a : Parts) (p : ℕ) (e : RootEntry) → IsFiled a → Contains (a.roots p) e → (x : Played) × IsOfLine a.ps e.line x × MakesEntry a.pools p e.act x.op
-entry_made a p e h among = let (j, at) = get_of (a.roots p) e among in h.journals.lines p j e at
+entry_made a p e h among = let (j, at) = in_at (a.roots p) e among in h.journals.lines p j e at
 
 -- some record has the line
 abbrev pub IsRecorded : Parts → ℕ → Type 0
@@ -85,7 +87,7 @@ entries_recorded a p e h among = let (x, of, makes) = entry_made a p e h among i
 
 pub pool_recorded : (a : Parts) (e : PoolEntry) → IsFiled a → Contains a.pools e → IsRecorded a e.line
 pool_recorded a e h among =
-    let (j, at) = get_of a.pools e among in
+    let (j, at) = in_at a.pools e among in
     let (i, f, named, asks, line) = h.pool.named j e at in
     let (x, of, makes) = h.journals.lines e.partition i f named in
     (x, (of.0, of.1 ∙ line))
@@ -93,7 +95,7 @@ pool_recorded a e h among =
 -- the record of an exchange's line swaps with its cell
 pub exchange_made : (a : Parts) (k : ℕ) (e : CellEntry) → IsFiled a → Contains (a.cells k) e → (x : Played) × (reg : ℕ) × Contains a.ps x × (x.line ≡ e.line) × (x.op ≡ Swap k reg)
 exchange_made a k e h among =
-    let (j, at) = get_of (a.cells k) e among in
+    let (j, at) = in_at (a.cells k) e among in
     let (x, reg, of, op) = h.exchanged.lines k j e at in
     (x, reg, of.0, of.1, op)
 
@@ -109,12 +111,6 @@ recorded_cases a n m before rest cut late line (x, (among, same)) =
     ]
 
 -- ---- the caches at a cut
-
--- one record more
-pub caches_snoc : (partitions : ℕ) (roots : Journals) (first all : Caches) (before : List Played) (x : Played) (next : Cache) → CachesTo partitions roots first before all →
-    CacheRow partitions roots x x.answer (all x.thread) next → CachesTo partitions roots first (before ++ x ∷ []) (with_cache all x.thread next)
-caches_snoc partitions roots first all [] x next to row = (next, subst (λ (c : Caches). CacheRow partitions roots x x.answer (c x.thread) next) to row, ap (λ (c : Caches). with_cache c x.thread next) to)
-caches_snoc partitions roots first all (y ∷ before) x next (after, here, to) row = (after, here, caches_snoc partitions roots (with_cache first y.thread after) all before x next to row)
 
 -- the caches before a record, and its row
 pub record_row : (a : Parts) (before rest : List Played) (x : Played) → IsFiled a → a.ps ≡ before ++ x ∷ rest →

@@ -1,24 +1,17 @@
 -- Lists in the order of their lines: what stands before a line, on it and past it.
-use Rattle.std.proofs.Common.{◌≡◌, ℕ, zero, suc, ◌+◌, ◌<◌, ◌≤◌, List, [], ◌∷◌, ◌++◌, length, map, filter, drop, get_or, Some, refl, sym, ◌∙◌, ap, subst, arith, inl, inr, ◌⊎◌}
+use Rattle.std.proofs.Common.{◌≡◌, ℕ, zero, suc, ◌+◌, ◌<◌, ◌≤◌, List, [], ◌∷◌, ◌++◌, length, map, drop, get_or, Some, refl, sym, ◌∙◌, ap, subst, arith, inl, inr, ◌⊎◌}
 use Rattle.std.specs.Prelude.{Contains, ◌==◌, nat_lt, slice_get}
 use Rattle.std.specs.List.Sorted.{IsNonDecreasingBy, IsStrictlyIncreasing}
 use Rattle.std.proofs.lemmas.List.{length-map, get_or-map}
 use Rattle.std.proofs.lemmas.List.Kept.{AllPairs-from_increasing}
 use Rattle.std.proofs.lemmas.Bool.{cases_lt, cases_eq, eq-eqb, ne_eqb, eqb-true, lt-ltb, le-ltb, ltb-true}
 use Rattle.std.proofs.lemmas.Option.{slice_get-get_or}
-use Rattle.pa_record.proofs.Members.{not_in_none, first_in, later_in, in_cases, of_some, not_some}
-use Rattle.pa_record.proofs.Joined.{filter_cases, filter_in}
-use Rattle.pa_one_run.proofs.lines.Lists.{both_parts, filter_all, filter_none, get_of, get_in}
-
--- what stands before line n, on it, and past it
-abbrev pub below : {A : Type 0} → (A → ℕ) → ℕ → List A → List A
-below f n xs = filter (λ x. nat_lt (f x) n) xs
-
-abbrev pub on : {A : Type 0} → (A → ℕ) → ℕ → List A → List A
-on f n xs = filter (λ x. f x == n) xs
-
-abbrev pub past : {A : Type 0} → (A → ℕ) → ℕ → List A → List A
-past f n xs = filter (λ x. nat_lt n (f x)) xs
+use Rattle.pa_lists.proofs.Members.{not_in_none, first_in, later_in, in_cases, of_some, not_some}
+use Rattle.pa_lists.proofs.Joined.{filter_cases, filter_in}
+use Rattle.pa_record.proofs.Filtered.{filter_all, filter_none}
+use Rattle.pa_one_run.specs.Before.{below, on, past}
+use Rattle.pa_lists.proofs.Elements.{both_parts}
+use Rattle.pa_lists.proofs.Indexed.{in_at, at_in}
 
 -- a list whose lines don't fall: the first has none greater behind it
 pub rising_tail : {A : Type 0} (f : A → ℕ) (x : A) (xs : List A) → IsNonDecreasingBy f (x ∷ xs) → IsNonDecreasingBy f xs
@@ -99,7 +92,7 @@ pub on_alone : {A : Type 0} (f : A → ℕ) (n : ℕ) (xs : List A) (j : ℕ) (e
 on_alone f n [] j e at same alone = absurd (not_some e at)
 on_alone f n (x ∷ xs) zero e at same alone =
     let is : x ≡ e = of_some x e at in
-    let none : on f n xs ≡ [] = on_none f n xs (λ d among here. let (k, there) = get_of xs d among in let late : suc k ≡ 0 = alone (suc k) d there here in absurd cc) in
+    let none : on f n xs ≡ [] = on_none f n xs (λ d among here. let (k, there) = in_at xs d among in let late : suc k ≡ 0 = alone (suc k) d there here in absurd cc) in
     rw (eq-eqb (f x) n (ap f is ∙ same), none) (ap (λ z. z ∷ []) is)
 on_alone f n (x ∷ xs) (suc j) e at same alone =
     let other : f x ≡ n → ⊥ = λ here. let early : 0 ≡ suc j = alone 0 x refl here in absurd cc in
@@ -116,7 +109,7 @@ on_one f n (x ∷ xs) e d zero h one at same =
     let it : x ∷ on f n xs ≡ e ∷ [] = rw (eq-eqb (f x) n here) at one in
     rw (le-ltb (f x) n (omega arith), none) (refl, sym is ∙ ap (λ ys. get_or ys 0 x) it)
 on_one f n (x ∷ xs) e d (suc k) h one at same =
-    let member : Contains xs d = get_in xs k d at in
+    let member : Contains xs d = at_in xs k d at in
     let up = rising_head f x d xs h member in
     elim (cases_eq (f x) n) [
       | inl here ↦
@@ -137,7 +130,7 @@ get_below f n (x ∷ xs) zero e h at less =
     let low : f x < n = let same : f x ≡ f e = ap f is in omega arith in
     rw (lt-ltb _ _ low) at
 get_below f n (x ∷ xs) (suc k) e h at less =
-    let up = rising_head f x e xs h (get_in xs k e at) in
+    let up = rising_head f x e xs h (at_in xs k e at) in
     let low : f x < n = omega arith in
     rw (lt-ltb _ _ low) (get_below f n xs k e (rising_tail f x xs h) at less)
 

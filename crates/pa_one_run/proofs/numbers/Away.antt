@@ -11,16 +11,18 @@ use Rattle.pa_record.specs.declared.numbered.Numbered.{Numbered}
 use Rattle.pa_record.specs.declared.root.RootEntry.{RootEntry}
 use Rattle.pa_record.specs.declared.root.RootAct.{RootAct}
 use Rattle.pa_record.specs.declared.root.RootAct.TheVariants.{Fill}
-use Rattle.pa_record.proofs.Members.{first_in}
+use Rattle.pa_lists.proofs.Members.{first_in}
 use Rattle.pa_rules.specs.declared.played.Played.{Played}
 use Rattle.pa_rules.specs.Played.{marks_of}
 use Rattle.pa_rules.specs.Caches.{acts_of}
 use Rattle.pa_rules.specs.Holders.{Holder, InRoot, Out, Way, Move, moves_at, IsFirstHolder, HasHolders}
-use Rattle.pa_one_run.proofs.lines.Sorting.{below, on, past, below_on_past, below_none, below_next}
-use Rattle.pa_one_run.proofs.Filed.{Parts, IsFiled, entry_line}
+use Rattle.pa_one_run.specs.Parts.{Parts, entry_line}
+use Rattle.pa_one_run.specs.Before.{below, on, past}
+use Rattle.pa_one_run.proofs.lines.Sorting.{below_on_past, below_none, below_next}
+use Rattle.pa_one_run.proofs.Filed.{IsFiled}
 use Rattle.pa_one_run.proofs.numbers.Ways.{ways_of, is_away, WaysFit, ways_append, fit_later, ways_in_some, way_at, moves_ways, holders_fit}
 use Rattle.pa_one_run.proofs.words.Found.{held_free}
-use Rattle.pa_one_run.proofs.lines.Lists.{left_none}
+use Rattle.pa_lists.proofs.Elements.{left_none}
 use Rattle.pa_one_run.proofs.lines.Cuts.{IsCut, entries_recorded, recorded_cases, cut_next}
 
 abbrev pub entry_act : RootEntry → RootAct

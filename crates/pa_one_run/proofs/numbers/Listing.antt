@@ -5,11 +5,12 @@ use Rattle.std.proofs.lemmas.Bool.{cases_eq, eq-eqb, ne_eqb}
 use Rattle.pa_machine.specs.declared.word.SlotName.{SlotName}
 use Rattle.pa_record.specs.declared.numbered.Numbered.{Numbered}
 use Rattle.pa_record.specs.Root.{names}
-use Rattle.pa_record.proofs.Members.{not_in_none}
-use Rattle.pa_record.proofs.Joined.{map_in}
+use Rattle.pa_lists.proofs.Members.{not_in_none}
+use Rattle.pa_lists.proofs.Joined.{map_in}
 use Rattle.pa_rules.specs.Caches.{Cache, Caches, SameLists, with_list, with_cache, kept, spilled}
 use Rattle.pa_rules.specs.Flow.{listed_times, cached_times}
-use Rattle.pa_rules.proofs.Counted.{once, stands, times_cons, stands_kept, listed_none, listed_changed, cached_changed}
+use Rattle.pa_rules.specs.Once.{once}
+use Rattle.pa_rules.proofs.Counted.{stands, times_cons, stands_kept, listed_none, listed_changed, cached_changed}
 use Rattle.pa_rules.proofs.Totals.{some_cached, some_listed, some_times}
 
 -- m is of slot s and stands in a list of partition p of one of the threads

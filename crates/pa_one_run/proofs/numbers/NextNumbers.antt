@@ -17,27 +17,31 @@ use Rattle.pa_record.specs.declared.entry.Answer.{Answer}
 use Rattle.pa_record.specs.declared.numbered.Numbered.{Numbered}
 use Rattle.pa_record.specs.declared.root.RootAct.{RootAct}
 use Rattle.pa_record.specs.declared.root.RootAct.TheVariants.{Map, Full, Unmap}
-use Rattle.pa_record.proofs.Members.{not_in_none, first_in, later_in, in_cases, of_some, not_some}
+use Rattle.pa_lists.proofs.Members.{not_in_none, first_in, later_in, in_cases, of_some, not_some}
 use Rattle.pa_record.specs.declared.entry.Answer.TheVariants as answers
 use Rattle.pa_rules.specs.declared.played.Played.{Played}
 use Rattle.pa_rules.specs.Played.{mark_of, mark_of_answer, mark_at, look_at, step_of}
 use Rattle.pa_rules.specs.Holders.{Out, Back}
 use Rattle.pa_rules.specs.Caches.{Cache, Caches, with_list, with_cache, SameLists, acts_of, OnlyActs, NoActs, IsOfClass, FilledFirst, FrontIs, MadeRow, FullRow, ReturnRow, DoneRow, PurgedRow, CacheRow, CachesTo, no_caches, gives, kept, spilled}
 use Rattle.pa_rules.specs.Flow.{cached_times, listed_times, busy, is_issue}
+use Rattle.pa_rules.specs.Once.{once}
 use Rattle.pa_rules.proofs.Running.{busy_some}
-use Rattle.pa_rules.proofs.Counted.{once, stands}
+use Rattle.pa_rules.proofs.Counted.{stands}
 use Rattle.pa_rules.proofs.Known.{IsKnown, first_keeps, entry_of_act, kept_in, all_known}
 use Rattle.pa_rules.proofs.Flowing.{not_once, class_leaves, no_issue, class_real}
-use Rattle.pa_one_run.proofs.Filed.{Parts, IsFiled, word_after}
+use Rattle.pa_rules.proofs.CachesAfter.{caches_snoc}
+use Rattle.pa_one_run.specs.Parts.{Parts}
+use Rattle.pa_one_run.specs.Before.{word_after}
+use Rattle.pa_one_run.proofs.Filed.{IsFiled}
 use Rattle.pa_one_run.proofs.roots.Classes.{one_class, class_or_direct}
 use Rattle.pa_one_run.proofs.numbers.Once.{once as somewhere}
 use Rattle.pa_one_run.proofs.numbers.Ways.{ways_by, ways_of, is_away, ways_in_none, gives_none, purge_none}
 use Rattle.pa_one_run.proofs.numbers.Away.{acts_before, fill_finds}
 use Rattle.pa_one_run.proofs.numbers.Standing.{AreNumbered, fewer, still, steps, filled, gives as given_back}
 use Rattle.pa_one_run.proofs.numbers.Listing.{Stands, nowhere, unlisted, unstood, stands_same, stands_changed, stands_emptied, kept_times, emptied_times}
-use Rattle.pa_one_run.proofs.lines.Cuts.{cut_here, cut_next, caches_snoc, IsCut}
+use Rattle.pa_one_run.proofs.lines.Cuts.{cut_here, cut_next, IsCut}
 use Rattle.pa_one_run.proofs.numbers.Numbering.{number_after, IsApart, StepsOn, apart_number, step_found, step_word, step_number, step_busy, step_away, step_enabled}
-use Rattle.pa_one_run.proofs.lines.Lists.{in_middle, drop_in, in_one}
+use Rattle.pa_lists.proofs.Elements.{in_middle, drop_in, in_one}
 
 -- a slot of a class stands in one list or is in use, or neither
 at_most_once : (a : Parts) (n p class : ℕ) (before rest : List Played) (all : Caches) (s : SlotName) → IsFiled a → IsCut a n before rest → CachesTo a.partitions a.roots no_caches before all →
@@ -68,7 +72,7 @@ apart_slot x s n is other m mark same = absurd (other (ap (λ (z : Mark). z.slot
 once_few : (s t : SlotName) → once s t ≤ 1
 once_few s t = elim (cases_Bool (same_slot s t)) [ inl hit ↦ rw hit (omega arith) | inr miss ↦ rw miss (omega arith) ]
 
-spilled_in : (class : ℕ) (xs : List Numbered) (n : Numbered) → Contains (spilled class xs) n → Contains xs n
+pub spilled_in : (class : ℕ) (xs : List Numbered) (n : Numbered) → Contains (spilled class xs) n → Contains xs n
 spilled_in class xs n among = elim (cases_Bool (nat_lt (limit_of class) (length xs))) [
   | inl over ↦
       let back : Contains (drop (limit_of class / 2) xs) n = rw over at among in

@@ -12,11 +12,13 @@ use Rattle.pa_rules.specs.Played.{mark_of}
 use Rattle.pa_rules.specs.Flow.{busy, is_issue}
 use Rattle.pa_rules.proofs.Running.{busy_some}
 use Rattle.pa_rules.proofs.Phases.{mark_in}
-use Rattle.pa_one_run.proofs.Filed.{Parts, IsFiled, stepped_by, word_after}
+use Rattle.pa_one_run.specs.Parts.{Parts}
+use Rattle.pa_one_run.specs.Before.{stepped_by, word_after}
+use Rattle.pa_one_run.proofs.Filed.{IsFiled}
 use Rattle.pa_one_run.proofs.numbers.Away.{acts_before, unfree_away}
 use Rattle.pa_one_run.proofs.numbers.Ways.{is_away}
 use Rattle.pa_one_run.proofs.words.Found.{found_is, step_can, word_same, word_other, word_here}
-use Rattle.pa_one_run.proofs.lines.Lists.{in_middle}
+use Rattle.pa_lists.proofs.Elements.{in_middle}
 
 -- the number of a slot's word after some records
 abbrev pub number_after : List Played → SlotName → ℕ

@@ -13,8 +13,8 @@ use Rattle.pa_record.specs.declared.root.RootAct.{RootAct}
 use Rattle.pa_record.specs.declared.root.RootAct.TheVariants.{Fill, Map, Full}
 use Rattle.pa_record.specs.Root.{names}
 use Rattle.pa_record.specs.Laws.{leaves_by, times}
-use Rattle.pa_record.proofs.Members.{not_in_none, in_cases}
-use Rattle.pa_record.proofs.Joined.{map_in}
+use Rattle.pa_lists.proofs.Members.{not_in_none, in_cases}
+use Rattle.pa_lists.proofs.Joined.{map_in}
 use Rattle.pa_record.specs.declared.entry.Answer.TheVariants as answers
 use Rattle.pa_rules.specs.declared.played.Played.{Played}
 use Rattle.pa_rules.specs.Played.{step_of}
@@ -22,15 +22,18 @@ use Rattle.pa_rules.specs.Caches.{Cache, Caches, with_cache, acts_of, OnlyActs, 
 use Rattle.pa_rules.specs.Flow.{left_in}
 use Rattle.pa_rules.proofs.Counted.{stands, left_gives, left_purge}
 use Rattle.pa_rules.proofs.Totals.{some_times}
-use Rattle.pa_one_run.proofs.Filed.{Parts, IsFiled, word_after}
+use Rattle.pa_rules.proofs.CachesAfter.{caches_snoc}
+use Rattle.pa_one_run.specs.Parts.{Parts}
+use Rattle.pa_one_run.specs.Before.{word_after}
+use Rattle.pa_one_run.proofs.Filed.{IsFiled}
 use Rattle.pa_one_run.proofs.numbers.Away.{acts_before, fill_finds, acts_next, acts_none}
 use Rattle.pa_one_run.proofs.numbers.Standing.{AreNumbered, root_number}
 use Rattle.pa_one_run.proofs.numbers.Listing.{Stands}
-use Rattle.pa_one_run.proofs.lines.Cuts.{cut_here, caches_snoc, IsCut, record_row}
+use Rattle.pa_one_run.proofs.lines.Cuts.{cut_here, IsCut, record_row}
 use Rattle.pa_one_run.proofs.numbers.Numbering.{number_after}
 use Rattle.pa_one_run.proofs.numbers.NextNumbers.{IsNext, class_partition, next_numbers}
 use Rattle.pa_one_run.proofs.roots.Replays.{act_entry}
-use Rattle.pa_one_run.proofs.lines.Lists.{in_one}
+use Rattle.pa_lists.proofs.Elements.{in_one}
 
 -- ---- before each line
 

@@ -6,7 +6,7 @@ use Rattle.std.proofs.lemmas.List.Elements.{Contains-append_cases}
 use Rattle.pa_machine.specs.declared.word.SlotName.{SlotName}
 use Rattle.pa_record.specs.declared.root.RootEntry.{RootEntry}
 use Rattle.pa_record.specs.Laws.{leaves_by}
-use Rattle.pa_record.proofs.Joined.{filter_cases}
+use Rattle.pa_lists.proofs.Joined.{filter_cases}
 use Rattle.pa_rules.specs.declared.played.Played.{Played}
 use Rattle.pa_rules.specs.Caches.{Caches, CachesTo, no_caches}
 use Rattle.pa_rules.specs.Flow.{cached_times, busy}
@@ -14,12 +14,13 @@ use Rattle.pa_rules.proofs.Running.{OtherRecord}
 use Rattle.pa_rules.proofs.Numbering.{rising_differ}
 use Rattle.pa_rules.proofs.ByLines.{IsFront}
 use Rattle.pa_rules.proofs.FourPlaces.{slot_once, IsOnce}
-use Rattle.pa_one_run.proofs.lines.Sorting.{below, on, past, in_below, in_on, below_on_past}
-use Rattle.pa_one_run.proofs.Filed.{Parts, IsFiled, entry_line, word_after}
-use Rattle.pa_one_run.proofs.lines.Lists.{pairs_front, all_front}
+use Rattle.pa_one_run.specs.Parts.{Parts, entry_line}
+use Rattle.pa_one_run.specs.Before.{word_after, below, on, past, root_at}
+use Rattle.pa_one_run.proofs.lines.Sorting.{in_below, in_on, below_on_past}
+use Rattle.pa_one_run.proofs.Filed.{IsFiled}
+use Rattle.pa_lists.proofs.Elements.{pairs_front, all_front}
 use Rattle.pa_one_run.proofs.words.Found.{front_slots, front_word}
 use Rattle.pa_one_run.proofs.lines.Cuts.{IsCut, entries_recorded, early_in}
-use Rattle.pa_one_run.proofs.roots.Replays.{root_at}
 
 -- the entries before a line are those on the lines of the records before it
 pub front_below : (a : Parts) (n p : ℕ) (before rest : List Played) → IsFiled a → IsCut a n before rest → IsFront before (a.roots p) (below entry_line n (a.roots p))

@@ -11,13 +11,13 @@ use Rattle.pa_record.specs.declared.numbered.Numbered.{Numbered}
 use Rattle.pa_record.specs.declared.root.RootEntry.{RootEntry}
 use Rattle.pa_record.specs.declared.root.RootAct.{RootAct}
 use Rattle.pa_record.specs.declared.root.RootAct.TheVariants.{Fill, Map, Full, Give, Unmap, Purge}
-use Rattle.pa_record.proofs.Members.{not_in_none, first_in, later_in, in_cases}
+use Rattle.pa_lists.proofs.Members.{not_in_none, first_in, later_in, in_cases}
 use Rattle.pa_rules.specs.declared.played.Played.{Played}
 use Rattle.pa_rules.specs.Caches.{batches, gives, purge_acts}
 use Rattle.pa_rules.specs.Holders.{Holder, Way, Out, Back, Move, move_of, moves_by, is_move_of, moves_at, IsFirstHolder, made_by, MovesFit, HasHolders}
 pub use Rattle.pa_legal.specs.Turns.{is_out, is_with}
 use Rattle.pa_legal.proofs.holders.Held.{needed_way, made_way}
-use Rattle.pa_one_run.proofs.lines.Lists.{take_in, drop_in}
+use Rattle.pa_lists.proofs.Elements.{take_in, drop_in}
 
 -- the slot and the number are those of the numbered slot
 abbrev pub hits : SlotName → ℕ → Numbered → Bool

@@ -16,15 +16,16 @@ use Rattle.pa_record.specs.declared.root.RootEntry.{RootEntry}
 use Rattle.pa_record.specs.declared.root.RootAct.{RootAct}
 use Rattle.pa_record.specs.declared.root.RootAct.TheVariants.{Fill, Map, Full, Give, Unmap, Purge}
 use Rattle.pa_record.specs.Root.{asked_by}
-use Rattle.pa_record.proofs.Members.{not_in_none, first_in, in_cases}
+use Rattle.pa_lists.proofs.Members.{not_in_none, first_in, in_cases}
 use Rattle.pa_record.specs.declared.entry.Answer.TheVariants as answers
 use Rattle.pa_rules.specs.declared.played.Played.{Played}
 use Rattle.pa_rules.specs.Played.{step_of, mark_at, mark_of, mark_of_answer}
 use Rattle.pa_rules.specs.Roots.{Journals}
 use Rattle.pa_rules.specs.Caches.{Cache, with_list, SameLists, acts_of, OnlyActs, NoActs, batches, gives, purge_acts, all_listed, kept, spilled, FrontIs, FilledFirst, MadeRow, FullRow, IsDirect, unmap_at, ReturnRow, DoneRow, PurgedRow, CacheRow}
-use Rattle.pa_one_run.proofs.lines.Sorting.{below, on}
-use Rattle.pa_one_run.proofs.Filed.{Parts, IsFiled, IsMadeIn, entry_line, pool_line, word_after}
-use Rattle.pa_one_run.proofs.roots.Classes.{class_once, map_once, class_or_map}
+use Rattle.pa_rules.proofs.Asking.{class_once, map_once, class_or_map}
+use Rattle.pa_one_run.specs.Parts.{Parts, entry_line, pool_line}
+use Rattle.pa_one_run.specs.Before.{word_after, below, on}
+use Rattle.pa_one_run.proofs.Filed.{IsFiled, IsMadeIn}
 use Rattle.pa_one_run.proofs.roots.Replays.{entry_place}
 use Rattle.pa_one_run.proofs.roots.Asking.{asks_nothing}
 use Rattle.pa_one_run.proofs.numbers.Numbers.{filled_numbers}
@@ -32,7 +33,7 @@ use Rattle.pa_one_run.proofs.rows.Handles.{done_made}
 use Rattle.pa_one_run.proofs.roots.Requests.{Beside, IsAlike, only_alike, only_unasked, quiet_alike, fills_alike, same_slots, maps_alike, fulls_alike, map_fulls_alike, fill_or_full, map_or_full, unmaps_alike}
 use Rattle.pa_one_run.proofs.placing.Unmaps.{unmap_number}
 use Rattle.pa_one_run.proofs.placing.Returns.{AreAfter, class_alike, direct_alike, class_not_direct, direct_not_class}
-use Rattle.pa_one_run.proofs.lines.Lists.{in_middle, in_one}
+use Rattle.pa_lists.proofs.Elements.{in_middle, in_one}
 
 -- the lists after a record, and what its line did
 pub record IsRowAlike (a b : Parts) (n : ℕ) (next next' : Cache) : Type 0 where

@@ -2,18 +2,19 @@
 use Rattle.std.proofs.Common.{◌≡◌, ℕ, List, [], ◌∷◌, ◌++◌, ◌<◌, refl, sym, ◌∙◌, ap, subst, arith, append_assoc}
 use Rattle.std.specs.Prelude.{Contains}
 use Rattle.pa_record.specs.declared.entry.Answer.{Answer}
-use Rattle.pa_record.proofs.Members.{first_in, later_in}
+use Rattle.pa_lists.proofs.Members.{first_in, later_in}
 use Rattle.pa_record.specs.declared.entry.Answer.TheVariants as answers
 use Rattle.pa_rules.specs.declared.played.Played.{Played}
 use Rattle.pa_rules.specs.Played.{OpLine, op_line_of}
 use Rattle.pa_rules.specs.Caches.{Cache, Caches, CacheRow, CachesTo, no_caches, with_cache}
-use Rattle.pa_one_run.proofs.lines.Sorting.{on}
-use Rattle.pa_one_run.proofs.Filed.{Parts, IsFiled, Agrees, IsPlacedAlike, entry_line, pool_line, agrees_earlier, agrees_swap, agrees_self}
+use Rattle.pa_one_run.specs.Parts.{Parts, entry_line, pool_line}
+use Rattle.pa_one_run.specs.Before.{on}
+use Rattle.pa_one_run.proofs.Filed.{IsFiled, Agrees, IsPlacedAlike, agrees_earlier, agrees_swap, agrees_self}
 use Rattle.pa_one_run.proofs.roots.Replays.{acts_tell}
 use Rattle.pa_one_run.proofs.roots.Requests.{Beside}
 use Rattle.pa_one_run.proofs.placing.CacheRows.{row_alike, made_alike, made_or_full, full_entry, purged_alike}
 use Rattle.pa_one_run.proofs.lines.Cuts.{record_row, cut_here}
-use Rattle.pa_one_run.proofs.lines.Lists.{parts_at}
+use Rattle.pa_lists.proofs.Elements.{parts_at}
 
 -- ---- along the records
 

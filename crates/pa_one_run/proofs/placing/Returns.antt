@@ -3,9 +3,11 @@ use Rattle.std.proofs.Common.{◌≡◌, ℕ, ◌⊎◌, List, ◌++◌, ◌∙�
 use Rattle.pa_machine.specs.declared.word.SlotName.{SlotName}
 use Rattle.pa_rules.specs.declared.played.Played.{Played}
 use Rattle.pa_rules.specs.Caches.{IsOfClass, IsDirect}
-use Rattle.pa_one_run.proofs.Filed.{Parts, IsFiled, IsMadeIn}
-use Rattle.pa_one_run.proofs.roots.Classes.{class_once, map_once, class_or_map, made_class, one_class, one_direct, class_or_direct}
-use Rattle.pa_one_run.proofs.lines.Lists.{in_front}
+use Rattle.pa_rules.proofs.Asking.{class_once, map_once, class_or_map}
+use Rattle.pa_one_run.specs.Parts.{Parts}
+use Rattle.pa_one_run.proofs.Filed.{IsFiled, IsMadeIn}
+use Rattle.pa_one_run.proofs.roots.Classes.{made_class, one_class, one_direct, class_or_direct}
+use Rattle.pa_lists.proofs.Elements.{in_front}
 
 -- the slot has one place in both runs
 abbrev IsPlacedIn : Parts → Parts → SlotName → Type 0

@@ -1,5 +1,5 @@
 -- A direct map goes back at the number that the returning step left: that follows from its holders.
-use Rattle.std.proofs.Common.{◌≡◌, ℕ, ◌+◌, true, List, [], ◌∷◌, flat_map, Option, Some, None, refl, sym, ◌∙◌, ap, subst, arith, inl, inr}
+use Rattle.std.proofs.Common.{◌≡◌, ℕ, ◌+◌, true, List, [], ◌∷◌, flat_map, Some, refl, sym, ◌∙◌, ap, subst, arith, inl, inr}
 use Rattle.std.specs.Prelude.{Contains, slice_get}
 use Rattle.std.proofs.lemmas.Bool.{cases_order, eq-eqb}
 use Rattle.pa_machine.specs.declared.word.SlotName.{SlotName}
@@ -12,23 +12,22 @@ use Rattle.pa_record.specs.declared.entry.Answer.{Answer}
 use Rattle.pa_record.specs.declared.entry.Answer.TheVariants.{Made, Done, Value, Dangling, SecondFree, NotOwner, StaleUse, Shared}
 use Rattle.pa_record.specs.declared.numbered.Numbered.{Numbered}
 use Rattle.pa_record.specs.declared.root.RootEntry.{RootEntry}
-use Rattle.pa_record.proofs.Members.{not_in_none, first_in, of_some, not_some}
-use Rattle.pa_record.proofs.Joined.{filter_in, flat_in}
+use Rattle.pa_lists.proofs.Members.{not_in_none, first_in, of_some, not_some}
+use Rattle.pa_lists.proofs.Joined.{filter_in, flat_in}
 use Rattle.pa_rules.specs.declared.played.Played.{Played}
-use Rattle.pa_rules.specs.Played.{step_of, mark_at, look_at, mark_of, mark_of_answer}
+use Rattle.pa_rules.specs.Played.{step_of, mark_at, mark_of, mark_of_answer}
 use Rattle.pa_rules.specs.Caches.{Cache, IsOfClass, IsDirect, ReturnRow, DoneRow, CacheRow, acts_of, unmap_at}
 use Rattle.pa_rules.specs.Holders.{Holder, Move, Back, moves_by, is_move_of, moves_at, IsReturnedBy, IsFirstHolder, HasHolders, NamesSlot}
-use Rattle.pa_one_run.proofs.Filed.{Parts, IsFiled}
+use Rattle.pa_one_run.specs.Parts.{Parts}
+use Rattle.pa_one_run.proofs.Filed.{IsFiled}
 use Rattle.pa_one_run.proofs.roots.Classes.{one_direct, class_or_direct}
 use Rattle.pa_one_run.proofs.roots.Replays.{act_entry}
 use Rattle.pa_one_run.proofs.lines.Cuts.{record_row, same_played}
-use Rattle.pa_one_run.proofs.lines.Lists.{get_of, get_in, parts_at}
+use Rattle.pa_lists.proofs.Elements.{parts_at}
+use Rattle.pa_lists.proofs.Indexed.{in_at, at_in}
+use Rattle.pa_rules.proofs.Marking.{not_look}
 
 -- ---- a step that returned a slot
-
-look_none : (line : ℕ) (o : Option Seen) (m : Mark) (step : Step) → look_at line o ≡ Some m → m.step ≡ Some step → ⊥
-look_none line None m step is steps = not_some m is
-look_none line (Some seen) m step is steps = not_some step (ap (λ (z : Mark). z.step) (of_some (mark_at line seen None) m is) ∙ steps)
 
 -- it answered `done`
 record IsDone (y : Played) (a : Answer) (m : Mark) (step : Step) : Type 0 where
@@ -45,12 +44,12 @@ done_by y (Done seen) m step is steps returning =
 done_by y (Made seen usable) m step is steps returning =
     let stepped : Some _ ≡ Some step = ap (λ (z : Mark). z.step) (of_some _ m is) ∙ steps in
     absurd (subst (λ p. IsReturning p m.found) (sym (of_some _ step stepped)) returning)
-done_by y (Value seen value) m step is steps returning = absurd (look_none y.line (Some seen) m step is steps)
-done_by y (Dangling seen value) m step is steps returning = absurd (look_none y.line (Some seen) m step is steps)
-done_by y (SecondFree seen) m step is steps returning = absurd (look_none y.line seen m step is steps)
-done_by y (NotOwner seen) m step is steps returning = absurd (look_none y.line (Some seen) m step is steps)
-done_by y (StaleUse seen) m step is steps returning = absurd (look_none y.line seen m step is steps)
-done_by y (Shared seen) m step is steps returning = absurd (look_none y.line (Some seen) m step is steps)
+done_by y (Value seen value) m step is steps returning = absurd (not_look y.line (Some seen) m step is steps)
+done_by y (Dangling seen value) m step is steps returning = absurd (not_look y.line (Some seen) m step is steps)
+done_by y (SecondFree seen) m step is steps returning = absurd (not_look y.line seen m step is steps)
+done_by y (NotOwner seen) m step is steps returning = absurd (not_look y.line (Some seen) m step is steps)
+done_by y (StaleUse seen) m step is steps returning = absurd (not_look y.line seen m step is steps)
+done_by y (Shared seen) m step is steps returning = absurd (not_look y.line (Some seen) m step is steps)
 done_by y a m step is steps returning = absurd (not_some m is)
 
 -- ---- the entry of its line
@@ -67,7 +66,7 @@ record HasUnmap (a : Parts) (p line : ℕ) (s : SlotName) (number : ℕ) : Type 
 unmap_on : (a : Parts) (p line asked number : ℕ) (s : SlotName) → acts_of a.roots line p ≡ unmap_at asked s number ∷ [] → HasUnmap a p line s number
 unmap_on a p line asked number s only =
     let (e, member, same, act) = act_entry a.roots line p (unmap_at asked s number) (subst (λ acts. Contains acts (unmap_at asked s number)) (sym only) (first_in (unmap_at asked s number) [])) in
-    let (j, at) = get_of (a.roots p) e member in
+    let (j, at) = in_at (a.roots p) e member in
     record { asked = asked; index = j; entry = e; at = at; line_is = same; act = act }
 
 -- an entry that names it
@@ -123,7 +122,7 @@ unmap_free : (a : Parts) (p line number : ℕ) (s : SlotName) → IsFiled a → 
 unmap_free a p line number s h u =
     let move : Move = record { line = u.entry.line; slot = s; number = number; way = Back } in
     let among : Contains (moves_by u.entry.line u.entry.act) move = subst (λ z. Contains (moves_by u.entry.line z) move) (sym u.act) (first_in move []) in
-    let all = flat_in (λ (e : RootEntry). moves_by e.line e.act) (a.roots p) u.entry move (get_in (a.roots p) u.index u.entry u.at) among in
+    let all = flat_in (λ (e : RootEntry). moves_by e.line e.act) (a.roots p) u.entry move (at_in (a.roots p) u.index u.entry u.at) among in
     let test : is_move_of s number move ≡ true = rw (same_slot_yes s s refl, eq-eqb number number refl) refl in
     holder_of a.ps s number (moves_at (a.roots p) s number) move (h.holders.moves p s number)
     (filter_in (is_move_of s number) (flat_map (λ (e : RootEntry). moves_by e.line e.act) (a.roots p)) move all test)

@@ -7,15 +7,18 @@ use Rattle.pa_record.specs.declared.root.RootEntry.{RootEntry}
 use Rattle.pa_record.specs.declared.root.RootAct.{RootAct}
 use Rattle.pa_record.specs.Pool.{PoolState, new_pool, pool_next, pool_replayed, PoolReplays, PoolActFits, act_at}
 use Rattle.pa_record.specs.Root.{RootReplays, asked_by}
-use Rattle.pa_record.proofs.Members.{not_in_none, first_in, of_some, not_some}
-use Rattle.pa_record.proofs.Joined.{map_in}
+use Rattle.pa_lists.proofs.Members.{not_in_none, first_in, of_some, not_some}
+use Rattle.pa_lists.proofs.Joined.{map_in}
 use Rattle.pa_record.proofs.Same.{same_pool}
 use Rattle.pa_rules.specs.Caches.{acts_of, OnlyActs}
 use Rattle.pa_rules.proofs.Naming.{asked_there}
-use Rattle.pa_one_run.proofs.lines.Sorting.{below, on, past, in_on, on_in, on_none, below_on_past, on_one, on_alone}
-use Rattle.pa_one_run.proofs.Filed.{Parts, IsFiled, Agrees, entry_line, pool_line}
-use Rattle.pa_one_run.proofs.roots.Replays.{named_of, on_line, line_replays, root_at, pool_at}
-use Rattle.pa_one_run.proofs.lines.Lists.{get_of, get_in, in_one}
+use Rattle.pa_one_run.specs.Parts.{Parts, entry_line, pool_line}
+use Rattle.pa_one_run.specs.Before.{below, on, past, root_at}
+use Rattle.pa_one_run.proofs.lines.Sorting.{in_on, on_in, on_none, below_on_past, on_one, on_alone}
+use Rattle.pa_one_run.proofs.Filed.{IsFiled, Agrees}
+use Rattle.pa_one_run.proofs.roots.Replays.{named_of, on_line, line_replays, pool_at}
+use Rattle.pa_lists.proofs.Elements.{in_one}
+use Rattle.pa_lists.proofs.Indexed.{in_at, at_in}
 
 -- a line's only entry of a journal names the line's only entry of the pool, which fits the pool before the line
 pub record IsAsked (a : Parts) (n p j : ℕ) (e : PoolEntry) : Type 0 where
@@ -34,7 +37,7 @@ pub record IsNamer (a : Parts) (n p k : ℕ) (f : RootEntry) : Type 0 where
 pub namer_of : (a : Parts) (n k : ℕ) (d : PoolEntry) → IsFiled a → slice_get a.pools k ≡ Some d → d.line ≡ n → (f : RootEntry) × IsNamer a n d.partition k f
 namer_of a n k d h at here =
     let (i, f, there, names, line) = h.pool.named k d at in
-    (f, record { on = on_in entry_line n (a.roots d.partition) f (get_in (a.roots d.partition) i f there) (line ∙ here); names = names })
+    (f, record { on = on_in entry_line n (a.roots d.partition) f (at_in (a.roots d.partition) i f there) (line ∙ here); names = names })
 
 pool_front : (pools xs ys : List PoolEntry) (s : PoolState) → PoolReplays pools (xs ++ ys) s → PoolReplays pools xs s
 pool_front pools [] ys s h = tt
@@ -92,7 +95,7 @@ pub asks_nothing : (a : Parts) (n : ℕ) → IsFiled a → ((p : ℕ) (act : Roo
 asks_nothing a n h none =
     on_none pool_line n a.pools
     (λ d among here.
-    let (k, at) = get_of a.pools d among in
+    let (k, at) = in_at a.pools d among in
     let (f, namer) = namer_of a n k d h at here in
     let no = none d.partition f.act (map_in (λ (z : RootEntry). z.act) (on entry_line n (a.roots d.partition)) f namer.on) in
     not_some k (sym no ∙ namer.names))

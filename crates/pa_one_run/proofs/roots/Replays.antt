@@ -8,28 +8,25 @@ use Rattle.pa_record.specs.declared.root.RootAct.{RootAct}
 use Rattle.pa_record.specs.declared.root.RootAct.TheVariants.{Fill, Map, Full, Give, Unmap, Purge}
 use Rattle.pa_record.specs.Pool.{PoolState, new_pool, pool_replayed, act_at}
 use Rattle.pa_record.specs.Root.{Root, new_root, takes, opened, super_of, root_next, root_replayed, RootReplays, IsJournal, asked_by}
-use Rattle.pa_record.proofs.Members.{of_some, first_in, later_in}
+use Rattle.pa_lists.proofs.Members.{of_some, first_in, later_in}
 use Rattle.pa_record.proofs.Same.{same_root}
-use Rattle.pa_record.proofs.Joined.{map_cases}
+use Rattle.pa_lists.proofs.Joined.{map_cases}
 use Rattle.pa_rules.specs.Roots.{IsEntry, Journals}
 use Rattle.pa_rules.specs.Caches.{acts_of}
 use Rattle.pa_rules.proofs.Owned.{journal_front}
-use Rattle.pa_one_run.proofs.lines.Sorting.{below, on, past, in_below, in_on, below_on_past, on_one, get_below, below_get}
-use Rattle.pa_one_run.proofs.Filed.{Parts, IsFiled, Agrees, entry_line, pool_line, agrees_swap}
-use Rattle.pa_one_run.proofs.lines.Lists.{get_of, map_tells, map_one, both_have}
+use Rattle.pa_one_run.specs.Parts.{Parts, entry_line, pool_line}
+use Rattle.pa_one_run.specs.Before.{below, on, past, root_at}
+use Rattle.pa_one_run.proofs.lines.Sorting.{in_below, in_on, below_on_past, on_one, get_below, below_get}
+use Rattle.pa_one_run.proofs.Filed.{IsFiled, Agrees, agrees_swap}
+use Rattle.pa_lists.proofs.Elements.{map_tells, map_one, both_have}
+use Rattle.pa_lists.proofs.Indexed.{in_at}
+use Rattle.pa_record.proofs.Replaying.{replays_rest}
 
--- the root of a partition before a line, and the pool
-abbrev pub root_at : Parts → ℕ → ℕ → Root
-root_at a n p = root_replayed a.pools (below entry_line n (a.roots p)) new_root
-
+-- the pool before a line
 abbrev pub pool_at : Parts → ℕ → PoolState
 pool_at a n = pool_replayed (below pool_line n a.pools) (new_pool a.supers)
 
 -- ---- the parts of a journal
-
-replays_rest : (pools : List PoolEntry) (xs ys : List RootEntry) (r : Root) → RootReplays pools (xs ++ ys) r → RootReplays pools ys (root_replayed pools xs r)
-replays_rest pools [] ys r h = h
-replays_rest pools (x ∷ xs) ys r h = replays_rest pools xs ys (root_next pools x.act r) h.1
 
 -- the entries up to a line
 line_journal : (a : Parts) (n p : ℕ) → IsFiled a → IsJournal a.pools (below entry_line n (a.roots p) ++ on entry_line n (a.roots p))
@@ -45,7 +42,7 @@ line_replays a n p h = replays_rest a.pools (below entry_line n (a.roots p)) (on
 
 -- ---- one journal beside two pools
 
-next_same : (pools other : List PoolEntry) (act : RootAct) (r : Root) → ((j : ℕ) → asked_by act ≡ Some j → act_at pools j ≡ act_at other j) → root_next pools act r ≡ root_next other act r
+pub next_same : (pools other : List PoolEntry) (act : RootAct) (r : Root) → ((j : ℕ) → asked_by act ≡ Some j → act_at pools j ≡ act_at other j) → root_next pools act r ≡ root_next other act r
 next_same pools other (Fill class None slots) r h = refl
 next_same pools other (Fill class (Some j) slots) r h = ap (λ o. (takes class (fill_of class) (opened (super_of o) j r)).root) (h j refl)
 next_same pools other (Map asked slot len) r h = refl
@@ -55,7 +52,7 @@ next_same pools other (Unmap asked slot) r h = refl
 next_same pools other Purge r h = refl
 
 -- a journal leaves one root beside two pools that have the entries that it names
-replayed_same : (pools other : List PoolEntry) (es : List RootEntry) (r : Root) → ((e : RootEntry) (j : ℕ) → Contains es e → asked_by e.act ≡ Some j → act_at pools j ≡ act_at other j) →
+pub replayed_same : (pools other : List PoolEntry) (es : List RootEntry) (r : Root) → ((e : RootEntry) (j : ℕ) → Contains es e → asked_by e.act ≡ Some j → act_at pools j ≡ act_at other j) →
     root_replayed pools es r ≡ root_replayed other es r
 replayed_same pools other [] r h = refl
 replayed_same pools other (e ∷ es) r h =
@@ -69,7 +66,7 @@ pub record IsNamed (a : Parts) (p : ℕ) (e : RootEntry) (d : PoolEntry) : Type 
 
 pub named_of : (a : Parts) (p j : ℕ) (e : RootEntry) (d : PoolEntry) → IsFiled a → Contains (a.roots p) e → asked_by e.act ≡ Some j → slice_get a.pools j ≡ Some d → IsNamed a p e d
 named_of a p j e d h among asks at =
-    let (i, here) = get_of (a.roots p) e among in
+    let (i, here) = in_at (a.roots p) e among in
     let (k, f, there, names, line) = h.pool.named j d at in
     let (same, place) = h.pool.once j p d.partition i k d at (e, here, asks) (f, there, names) in
     let here' : slice_get (a.roots d.partition) k ≡ Some e = subst (λ q. slice_get (a.roots q) k ≡ Some e) same (subst (λ m. slice_get (a.roots p) m ≡ Some e) place here) in

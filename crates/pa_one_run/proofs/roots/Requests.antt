@@ -18,7 +18,7 @@ use Rattle.pa_record.specs.declared.root.RootAct.TheVariants.{Fill, Map, Full, U
 use Rattle.pa_record.specs.Pool.{new_pool, pool_replayed, PoolActFits, IsLowest, act_at, FoundNone}
 use Rattle.pa_record.specs.Spans.{name_of}
 use Rattle.pa_record.specs.Root.{Root, RootActFits, RootReplays, takes, opened, super_of, names, map_title, asked_by}
-use Rattle.pa_record.proofs.Members.{not_in_none, first_in, of_some, not_some}
+use Rattle.pa_lists.proofs.Members.{not_in_none, first_in, of_some, not_some}
 use Rattle.pa_record.proofs.Tested.{name_is}
 use Rattle.pa_record.proofs.Same.{same_numbered}
 use Rattle.pa_record.proofs.PoolSteps.{pool_answers}
@@ -28,12 +28,13 @@ use Rattle.pa_rules.specs.declared.played.Played.{Played}
 use Rattle.pa_rules.specs.Roots.{Journals, AsksForMap, MakesEntry}
 use Rattle.pa_rules.specs.Caches.{acts_of, OnlyActs, NoActs}
 use Rattle.pa_rules.proofs.Running.{one_by}
-use Rattle.pa_one_run.proofs.lines.Sorting.{below, on}
-use Rattle.pa_one_run.proofs.Filed.{Parts, IsFiled, Agrees, entry_line, pool_line}
-use Rattle.pa_one_run.proofs.roots.Classes.{map_once}
-use Rattle.pa_one_run.proofs.roots.Replays.{line_replays, front_journal, roots_agree, act_entry, root_at, pool_at}
+use Rattle.pa_rules.proofs.Asking.{map_once}
+use Rattle.pa_one_run.specs.Parts.{Parts, entry_line, pool_line}
+use Rattle.pa_one_run.specs.Before.{below, on, root_at}
+use Rattle.pa_one_run.proofs.Filed.{IsFiled, Agrees}
+use Rattle.pa_one_run.proofs.roots.Replays.{line_replays, front_journal, roots_agree, act_entry, pool_at}
 use Rattle.pa_one_run.proofs.roots.Asking.{IsAsked, asks_pool, asks_nothing, asked_alike}
-use Rattle.pa_one_run.proofs.lines.Lists.{in_middle, in_one, map_tells}
+use Rattle.pa_lists.proofs.Elements.{in_middle, in_one, map_tells}
 use Rattle.pa_one_run.proofs.lines.Cuts.{entry_made, same_played}
 
 -- the entries of a line did the same in two runs, and are the same in the pool

@@ -10,17 +10,14 @@ use Rattle.pa_record.specs.declared.history.Held.{Held}
 use Rattle.pa_record.specs.declared.history.Held.TheVariants.{Nothing}
 use Rattle.pa_rules.specs.declared.played.Played.{Played}
 use Rattle.pa_rules.specs.Cells.{IsChain}
-use Rattle.pa_one_run.proofs.lines.Sorting.{below, on, past, on_in, on_none, on_one, below_on_past, get_below, below_get, rising_strictly, on_alone}
-use Rattle.pa_one_run.proofs.Filed.{Parts, IsFiled, Agrees, cell_line}
-use Rattle.pa_one_run.proofs.lines.Lists.{in_one}
+use Rattle.pa_one_run.specs.Parts.{Parts, cell_line}
+use Rattle.pa_one_run.specs.Before.{below, on, past, gave_last}
+use Rattle.pa_one_run.proofs.lines.Sorting.{on_in, on_none, on_one, below_on_past, get_below, below_get, rising_strictly, on_alone}
+use Rattle.pa_one_run.proofs.Filed.{IsFiled, Agrees}
+use Rattle.pa_lists.proofs.Elements.{in_one}
 use Rattle.pa_one_run.proofs.lines.Cuts.{same_played, exchange_made}
 
 -- ---- the history of one cell
-
--- what the last exchange gave; before the first, what the cell held
-abbrev pub gave_last : Held → List CellEntry → Held
-gave_last held [] = held
-gave_last held (e ∷ es) = gave_last e.gave es
 
 chain_found : (held : Held) (xs ys : List CellEntry) (e : CellEntry) → IsChain held (xs ++ e ∷ ys) → e.found ≡ gave_last held xs
 chain_found held [] ys e h = h.0

@@ -16,21 +16,23 @@ use Rattle.pa_record.specs.declared.entry.Seen.{Seen}
 use Rattle.pa_record.specs.declared.entry.Answer.{Answer}
 use Rattle.pa_record.specs.declared.entry.Answer.TheVariants.{Made, Done, Value, Dangling, SecondFree, NotOwner, StaleUse, Shared, Full, Swapped, Purged}
 use Rattle.pa_record.specs.declared.history.CellEntry.{CellEntry}
-use Rattle.pa_record.proofs.Members.{not_in_none, first_in, later_in, in_cases, of_some, not_some}
+use Rattle.pa_lists.proofs.Members.{not_in_none, first_in, later_in, in_cases, of_some, not_some}
 use Rattle.pa_record.proofs.Same.{same_seen, same_cell}
 use Rattle.pa_record.specs.declared.history.Held.TheVariants as held
-use Rattle.pa_rules.specs.declared.register.Reg.{Reg}
-use Rattle.pa_rules.specs.declared.register.Reg.TheVariants.{Empty, Own, Ref, Freed, Cleared}
+use Rattle.pa_rules.specs.declared.register.Register.TheVariants.{Empty, Own, Ref, Freed, Cleared}
 use Rattle.pa_rules.specs.declared.played.Played.{Played}
 use Rattle.pa_rules.specs.Played.{OpLine, op_line_of, mark_at, look_at, mark_of_answer, step_of}
-use Rattle.pa_rules.specs.Registers.{Regs, AllRegs, Facts, Row, RowsTo, with_thread, AllocRow, RequestRow, CopyRow, CopyToRow, ResetRow, FreeRow, WriteRow, ReadRow, ReadFromRow, handle_of, reg_of, no_regs, made_of, usable_or, usable_in}
+use Rattle.pa_rules.specs.Registers.{Reg, Regs, AllRegs, Facts, Row, RowsTo, with_thread, AllocRow, RequestRow, CopyRow, CopyToRow, ResetRow, FreeRow, WriteRow, ReadRow, ReadFromRow, handle_of, reg_of, no_regs, made_of, usable_or, usable_in}
 use Rattle.pa_rules.specs.Contents.{IsReadExact}
-use Rattle.pa_one_run.proofs.lines.Sorting.{below, on}
-use Rattle.pa_one_run.proofs.Filed.{Parts, IsFiled, Agrees, IsPlacedAlike, IsMadeIn, word_after, cell_line}
-use Rattle.pa_one_run.proofs.rows.Exchanges.{gave_last, exchange_here, exchange_none, exchange_kept}
-use Rattle.pa_one_run.proofs.rows.Handles.{facts_of, HasRegisters, slot_in, swapped_of, found_by, change_of, changed, row_leads, row_at, holds_made, swap_gave}
+use Rattle.pa_rules.specs.Changes.{swapped_of, found_in, change_of, changed}
+use Rattle.pa_rules.proofs.Leading.{slot_in, row_leads}
+use Rattle.pa_one_run.specs.Parts.{Parts, cell_line}
+use Rattle.pa_one_run.specs.Before.{word_after, below, on, facts_of, HasRegisters, gave_last}
+use Rattle.pa_one_run.proofs.Filed.{IsFiled, Agrees, IsPlacedAlike, IsMadeIn}
+use Rattle.pa_one_run.proofs.rows.Exchanges.{exchange_here, exchange_none, exchange_kept}
+use Rattle.pa_one_run.proofs.rows.Handles.{row_at, holds_made, swap_gave}
 use Rattle.pa_one_run.proofs.words.Found.{found_is}
-use Rattle.pa_one_run.proofs.lines.Lists.{in_middle, in_front}
+use Rattle.pa_lists.proofs.Elements.{in_middle, in_front}
 use Rattle.pa_one_run.proofs.lines.Cuts.{cut_here}
 
 -- ---- the registers
@@ -51,7 +53,7 @@ change_alike cells others (ops.Free reg) answer h = refl
 change_alike cells others (ops.Write reg value) answer h = refl
 change_alike cells others (ops.Read reg place) answer h = refl
 change_alike cells others (ops.Swap cell reg) answer h =
-    swap_alike (slice_get (cells cell)) (slice_get (others cell)) (λ c. (reg, reg_of (found_by c))) (swapped_of answer) (λ j e. h cell reg j refl e)
+    swap_alike (slice_get (cells cell)) (slice_get (others cell)) (λ c. (reg, reg_of (found_in c))) (swapped_of answer) (λ j e. h cell reg j refl e)
 change_alike cells others ops.Purge answer h = refl
 
 -- so the same answers to the same ops lead to the same registers

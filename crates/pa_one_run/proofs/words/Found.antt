@@ -1,5 +1,5 @@
 -- The word that a record finds is the one that the records before it leave.
-use Rattle.std.proofs.Common.{◌≡◌, ℕ, List, [], ◌∷◌, ◌++◌, Some, None, refl, sym, ◌∙◌, ap, arith, inl, inr}
+use Rattle.std.proofs.Common.{◌≡◌, ℕ, List, [], ◌∷◌, ◌++◌, Some, None, refl, ◌∙◌, ap, arith, inl, inr}
 use Rattle.std.specs.Prelude.{Contains}
 use Rattle.std.proofs.lemmas.List.{append-nil}
 use Rattle.std.proofs.lemmas.List.Elements.{filter_map-append}
@@ -7,18 +7,21 @@ use Rattle.pa_machine.specs.declared.word.SlotName.{SlotName}
 use Rattle.pa_machine.specs.declared.word.Step.{Step}
 use Rattle.pa_machine.specs.Count.{CanStep, number_of, held_of, refs_of, stepped}
 use Rattle.pa_machine.specs.Run.{Mark, Slots}
-use Rattle.pa_machine.proofs.Runs.{IsPath, runs_end, run_of_path, slots_of_runs, number_stepped}
-use Rattle.pa_record.proofs.Members.{first_in}
+use Rattle.pa_machine.proofs.Runs.{runs_end, run_of_path, slots_of_runs, number_stepped}
+use Rattle.pa_lists.proofs.Members.{first_in}
 use Rattle.pa_rules.specs.declared.played.Played.{Played}
 use Rattle.pa_rules.specs.Played.{mark_of, marks_of}
-use Rattle.pa_rules.specs.Report.{HasWord, last_word}
+use Rattle.pa_rules.specs.Report.{HasWord}
 use Rattle.pa_rules.specs.Holders.{Holder, IsFirstHolder}
 use Rattle.pa_rules.proofs.Phases.{mark_in}
-use Rattle.pa_one_run.proofs.Filed.{Parts, IsFiled, stepped_by, word_from, word_after}
+use Rattle.pa_one_run.proofs.Filed.{IsFiled}
 use Rattle.pa_one_run.proofs.words.Fronts.{finds_by_numbers, word_at, word_beside, IsFront, front_of}
 use Rattle.pa_legal.proofs.Words.{same_word, leaves_free}
+use Rattle.pa_one_run.specs.Parts.{Parts}
+use Rattle.pa_one_run.specs.Before.{stepped_by, word_from, word_after}
 use Rattle.pa_one_run.proofs.words.Marks.{marks_rise, goes_on}
-use Rattle.pa_one_run.proofs.lines.Lists.{in_middle}
+use Rattle.pa_lists.proofs.Elements.{in_middle}
+use Rattle.pa_rules.proofs.Paths.{path_ends}
 
 -- ---- the records before one
 
@@ -54,10 +57,6 @@ step_can a before rest x m p h parts is step = let (vs, run, one) = h.slots m.sl
 -- the records before a line have one run for each slot, which ends at its word
 pub front_slots : (a : Parts) (before rest : List Played) → IsFiled a → a.ps ≡ before ++ rest → Slots (marks_of before)
 front_slots a before rest h parts = slots_of_runs (marks_of before) (λ s. word_after before s) (front_is a before rest h parts).runs
-
-path_ends : (ms : List Mark) (s : SlotName) (u : ℕ) (vs : List ℕ) (w : ℕ) → IsPath ms s u vs w → w ≡ last_word u vs
-path_ends ms s u [] w h = sym h
-path_ends ms s u (v ∷ vs) w (m, p, first, can, is, rest) = path_ends ms s v vs w rest
 
 pub front_word : (a : Parts) (before rest : List Played) (s : SlotName) → IsFiled a → a.ps ≡ before ++ rest → HasWord before s (word_after before s)
 front_word a before rest s h parts =

@@ -8,14 +8,15 @@ use Rattle.pa_machine.specs.declared.word.SlotName.{SlotName}
 use Rattle.pa_machine.specs.declared.word.Step.{Step}
 use Rattle.pa_machine.specs.Count.{number_of, stepped}
 use Rattle.pa_machine.specs.Run.{Mark, Slots, same_slot}
-use Rattle.pa_machine.proofs.Runs.{HasRuns, runs_none, runs_same, runs_look, runs_step, same_slot_cases, same_slot_yes, same_slot_no, number_stepped}
-use Rattle.pa_record.proofs.Members.{first_in, later_in, in_cases}
-use Rattle.pa_record.proofs.Pairs.{pairs_head}
+use Rattle.pa_machine.specs.Runs.{HasRuns}
+use Rattle.pa_machine.proofs.Runs.{runs_none, runs_same, runs_look, runs_step, same_slot_cases, same_slot_yes, same_slot_no, number_stepped}
+use Rattle.pa_lists.proofs.Members.{first_in, later_in, in_cases}
+use Rattle.pa_lists.proofs.Pairs.{pairs_head}
 use Rattle.pa_rules.specs.FileOrder.{is_step_before, steps_before, AreNumbersInFileOrder}
 use Rattle.pa_legal.proofs.Words.{same_word}
-use Rattle.pa_one_run.proofs.Filed.{stepped_by, word_from}
+use Rattle.pa_one_run.specs.Before.{stepped_by, word_from}
 use Rattle.pa_one_run.proofs.words.Marks.{Rises, goes_on}
-use Rattle.pa_one_run.proofs.lines.Lists.{pairs_across, in_middle, pairs_after}
+use Rattle.pa_lists.proofs.Elements.{pairs_across, in_middle, pairs_after}
 
 -- ---- the words of the first marks
 

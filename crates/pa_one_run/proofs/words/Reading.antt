@@ -14,12 +14,13 @@ use Rattle.pa_rules.specs.declared.played.Played.{Played}
 use Rattle.pa_rules.specs.Played.{mark_of, marks_of, mark_at}
 use Rattle.pa_rules.specs.Contents.{IsMadeAt, IsWrittenAt, IsWrittenFor, IsContent, IsReadExact}
 use Rattle.pa_rules.specs.FileOrder.{is_step_before, steps_before}
-use Rattle.pa_rules.proofs.Marking.{mark_line}
+use Rattle.pa_rules.proofs.Marking.{mark_line, read_mark}
 use Rattle.pa_rules.proofs.Running.{first_line}
 use Rattle.pa_rules.proofs.Phases.{mark_in}
-use Rattle.pa_one_run.proofs.Filed.{Parts, IsFiled}
-use Rattle.pa_one_run.proofs.lines.Lists.{in_middle, in_front}
+use Rattle.pa_one_run.proofs.Filed.{IsFiled}
+use Rattle.pa_lists.proofs.Elements.{in_middle, in_front}
 use Rattle.pa_legal.proofs.Words.{same_word}
+use Rattle.pa_one_run.specs.Parts.{Parts}
 use Rattle.pa_one_run.proofs.lines.Cuts.{same_played, early_in, cut_here}
 
 -- ---- a record that found a lesser number of the slot stands before
@@ -55,14 +56,11 @@ stands_before a before rest x q m n h parts is member is' slot less = elim (case
 
 -- ---- the marks of what made, wrote and read
 
-made_mark : (q : Played) (seen : Seen) (usable : ℕ) → q.answer ≡ Made seen usable → mark_of q ≡ Some (mark_at q.line seen (Some steps.Issue))
+pub made_mark : (q : Played) (seen : Seen) (usable : ℕ) → q.answer ≡ Made seen usable → mark_of q ≡ Some (mark_at q.line seen (Some steps.Issue))
 made_mark q seen usable e = rw e refl
 
-written_mark : (q : Played) (seen : Seen) (reg value : ℕ) → q.op ≡ ops.Write reg value → q.answer ≡ Done seen → mark_of q ≡ Some (mark_at q.line seen (Some steps.Write))
+pub written_mark : (q : Played) (seen : Seen) (reg value : ℕ) → q.op ≡ ops.Write reg value → q.answer ≡ Done seen → mark_of q ≡ Some (mark_at q.line seen (Some steps.Write))
 written_mark q seen reg value op e = rw (e, op) refl
-
-read_mark : (x : Played) (seen : Seen) (v : ℕ) → x.answer ≡ Value seen v → mark_of x ≡ Some (mark_at x.line seen None)
-read_mark x seen v e = rw e refl
 
 -- ---- the content before a record that reads
 

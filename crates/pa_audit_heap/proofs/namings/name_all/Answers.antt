@@ -6,7 +6,7 @@ use Rattle.pa_audit_heap.specs.declared.namings.Naming.{Naming}
 use Rattle.pa_audit_heap.specs.declared.namings.Naming.TheVariants.{Nobody, Once}
 use Rattle.pa_record.specs.declared.root.RootEntry.{RootEntry}
 use Rattle.pa_record.specs.Root.{asked_by}
-use Rattle.pa_record.proofs.Members.{not_some}
+use Rattle.pa_lists.proofs.Members.{not_some}
 use Rattle.pa_rules.specs.Roots.{journal_at}
 use Rattle.pa_audit_heap.specs.Namings.{AreNamings, named_by}
 use Rattle.pa_audit_heap.proofs.Naming.{namings_other, namings_more, namings_next}

@@ -6,11 +6,12 @@ use Rattle.pa_record.specs.declared.pool.PoolEntry.{PoolEntry}
 use Rattle.pa_audit_heap.specs.declared.namings.Naming.TheVariants.{Nobody}
 use Rattle.pa_audit_heap.specs.Namings.{IsNaming, IsNamed}
 use Rattle.pa_audit_heap.specs.Parts.{IsNamedAt}
-use Rattle.pa_audit_heap.proofs.Listed.{one_there, none_past}
 use Rattle.pa_audit_heap.proofs.Naming.{named_is, naming_is, all_journals}
 use Rattle.pa_audit_heap.proofs.Playing.{no_entry, entry_at}
-use Rattle.pa_audit_heap.proofs.Telling.{tells_none, met_more}
+use Rattle.pa_audit_heap.proofs.Telling.{tells_none}
 use Rattle.pa_audit_heap.proofs.pool.are_named.Goals as goal
+use Rattle.pa_lists.proofs.Indexed.{one_at, none_past}
+use Rattle.pa_lists.proofs.Tests.{met_more}
 
 pub returns-then-not-is_named : goal.returns-then-not-is_named
 returns-then-not-is_named c =
@@ -44,7 +45,7 @@ loop-entry-preserved c =
     let named = named_is roots (length c.args.roots.now) i e (all_journals c.args.roots.now) (subst (IsNaming roots (length c.args.roots.now) 0 i) is (namings.each i within)) in
     record {
       at = omega arith;
-      met = met_more (IsNamedAt pools roots) i l.invariant.met (λ d there. subst (λ (z : PoolEntry). IsNamed roots i z) (one_there pools i e d (entry_at pools i within) there) named);
+      met = met_more (IsNamedAt pools roots) i l.invariant.met (λ d there. subst (λ (z : PoolEntry). IsNamed roots i z) (one_at pools i e d (entry_at pools i within) there) named);
     }
 
 pub returns : goal.returns

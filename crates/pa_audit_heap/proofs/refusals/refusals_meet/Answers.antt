@@ -5,8 +5,9 @@ use Rattle.pa_rules.specs.declared.verdict.Place.TheVariants as places
 use Rattle.pa_rules.specs.Roots.{journal_at}
 use Rattle.pa_rules.specs.HeapDemands.{RootsDemand}
 use Rattle.pa_audit_heap.proofs.Refusing.{no_played, NamesFullAt, record_named, named_record, named_past, named_here}
-use Rattle.pa_audit_heap.proofs.Telling.{tells_none, tells_same, met_more}
+use Rattle.pa_audit_heap.proofs.Telling.{tells_none, tells_same}
 use Rattle.pa_audit_heap.proofs.refusals.refusals_meet.Goals as goal
+use Rattle.pa_lists.proofs.Tests.{met_more}
 
 pub returns-then-not-names_full : goal.returns-then-not-names_full
 returns-then-not-names_full c = λ partitions pools.

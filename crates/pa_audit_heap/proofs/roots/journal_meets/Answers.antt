@@ -9,8 +9,9 @@ use Rattle.pa_audit_heap.specs.Censuses.{HaveCensuses}
 use Rattle.pa_audit_heap.specs.Walking.{TellsWalk}
 use Rattle.pa_audit_heap.proofs.Counting.{counted_all}
 use Rattle.pa_audit_heap.proofs.Journaling.{meets_alone, meets_among, meets_past}
-use Rattle.pa_audit_heap.proofs.Telling.{met_more, tells_none}
+use Rattle.pa_audit_heap.proofs.Telling.{tells_none}
 use Rattle.pa_audit_heap.proofs.roots.journal_meets.Goals as goal
+use Rattle.pa_lists.proofs.Tests.{met_more}
 
 pub loop-at-init : goal.loop-at-init
 loop-at-init c = record {

@@ -9,9 +9,9 @@ use Rattle.pa_audit_holders.proofs.caches.caches_meet.Given as goal
 abbrev pub invariant-loop-end : goal.invariant-loop-end
 invariant-loop-end l = record {
   many : length l.cached.items ≡ l.end-index;
-  low : IsLow (map (λ (x : Played). x.phase) l.records) l.end-index l.from;
+  low : IsLow (map (λ (x : Played). x.phase) l.books.records) l.end-index l.from;
   threads : length l.caches.items ≡ 16;
-  walk : CachesSoFar l.partitions (journal_at l.roots) l.records (caches_in l.caches.items) l.from;
+  walk : CachesSoFar l.books.partitions (journal_at l.books.roots) l.books.records (caches_in l.caches.items) l.from;
   listed : HaveListed l.threads (caches_in l.caches.items) l.listed;
-  told : HaveCached l.partitions l.threads (journal_at l.roots) l.records l.cached.items;
+  told : HaveCached l.books.partitions l.threads (journal_at l.books.roots) l.books.records l.cached.items;
 }

@@ -1,17 +1,23 @@
-use Rattle.std.proofs.Common.{◌<◌, List, length, arith, subst}
+use Rattle.std.proofs.Common.{ℕ, ◌<◌, List, get_or, length, set, sym, ◌∙◌, ap, arith, subst}
 use Rattle.pa_record.specs.declared.numbered.Numbered.{Numbered}
 use Rattle.pa_rules.specs.Roots.{journal_at}
 use Rattle.pa_rules.specs.Caches.{CacheRow}
-use Rattle.pa_audit_holders.specs.Lists.{cache_in}
-use Rattle.pa_audit_holders.specs.Rows.{TellsRow}
+use Rattle.pa_audit_holders.specs.Lists.{cache_in, caches_in}
+use Rattle.pa_audit_holders.specs.Rows.{TellsNext, TellsRow}
 use Rattle.pa_audit_holders.proofs.Leading.{play_next}
 use Rattle.pa_audit_holders.proofs.caches.play.Goals as goal
 
 pub returns-clause-next : goal.returns-clause-next
 returns-clause-next c =
-    let low = c.requires.within.0 in
+    let page = c.args.page.now in
+    let threads = c.args.caches.now.items in
+    let same = c.thread.ensures.thread in
+    let low = c.thread.ensures.few in
     let many = c.requires.threads in
-    let below : c.args.told.thread < length c.args.caches.now.items = omega (arith, low, many) in
-    let roots = journal_at c.args.roots.now in
-    play_next c.args.partitions roots c.args.told c.args.caches.now.items c.index_mut-cache.result.now c.plays.new.cache c.in_ok-fits.fits below
-    (subst (λ (z : List (List Numbered)). TellsRow (CacheRow c.args.partitions roots c.args.told c.args.told.answer (cache_in z)) (cache_in c.plays.new.cache) c.in_ok-fits.fits) c.index_mut-cache.ensures.value c.in_ok-fits.ensures)
+    let below : page.told.thread < length threads = omega (arith, same, low, many) in
+    let roots = journal_at page.roots in
+    let after = c.plays.new.cache in
+    let is = c.index_mut-cache.ensures.value ∙ ap (λ (k : ℕ). get_or threads k c.index_mut-cache.result.now) same in
+    subst (λ (k : ℕ). TellsNext page.partitions roots page.told (caches_in threads) (caches_in (set threads k after)) c.in_ok-fits.fits) (sym same)
+    (play_next page.partitions roots page.told threads c.index_mut-cache.result.now after c.in_ok-fits.fits below
+    (subst (λ (z : List (List Numbered)). TellsRow (CacheRow page.partitions roots page.told page.told.answer (cache_in z)) (cache_in after) c.in_ok-fits.fits) is c.in_ok-fits.ensures))

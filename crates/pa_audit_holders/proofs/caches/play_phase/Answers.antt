@@ -1,20 +1,35 @@
-use Rattle.std.proofs.Common.{arith}
+use Rattle.std.proofs.Common.{◌<◌, get_or, length, arith, subst}
+use Rattle.std.proofs.lemmas.Option.{slice_get-get_or}
 use Rattle.pa_rules.specs.Roots.{journal_at}
+use Rattle.pa_audit_holders.specs.Books.{RecordPage}
 use Rattle.pa_audit_holders.specs.Lists.{caches_in}
+use Rattle.pa_audit_holders.specs.Rows.{TellsNext}
 use Rattle.pa_audit_holders.proofs.Caching.{caches_more, caches_not}
 use Rattle.pa_audit_holders.proofs.caches.play_phase.Goals as goal
 
 pub returns-then-not-fits-clause-played : goal.returns-then-not-fits-clause-played
 returns-then-not-fits-clause-played c =
     let l = c.loop-at in
-    caches_not c.args.partitions (journal_at c.args.roots.now) c.args.records.now (caches_in l.caches.items) (caches_in c.play.new.caches.items) l.at _ c.in_ok-fits.fits c.requires.kinds
-    (omega (arith, c.loop-at-test.true, c.requires.end)) l.invariant.walk c.in_ok-fits.ensures.next c.if-not-fits.true
+    let b = c.args.books.now in
+    let before = caches_in l.caches.items in
+    let after = caches_in c.play.new.caches.items in
+    let below : l.at < length b.records = omega (arith, c.loop-at-test.true, c.requires.end) in
+    let d = c.page-page.result.told in
+    let is = c.page-page.ensures.page (get_or b.records l.at d) (slice_get-get_or b.records l.at d below) in
+    let next = subst (λ (g : RecordPage). TellsNext g.partitions (journal_at g.roots) g.told before after c.in_ok-fits.fits) is c.in_ok-fits.ensures.next in
+    caches_not b.partitions (journal_at b.roots) b.records before after l.at d c.in_ok-fits.fits c.page-page.ensures.kinds below l.invariant.walk next c.if-not-fits.true
 
 pub loop-at-preserved : goal.loop-at-preserved
 loop-at-preserved c =
     let l = c.loop-at in
+    let b = c.args.books.now in
+    let before = caches_in l.caches.items in
+    let after = caches_in c.play.new.caches.items in
+    let below : l.at < length b.records = omega (arith, c.loop-at-test.true, c.requires.end) in
+    let d = c.page-page.result.told in
+    let is = c.page-page.ensures.page (get_or b.records l.at d) (slice_get-get_or b.records l.at d below) in
+    let next = subst (λ (g : RecordPage). TellsNext g.partitions (journal_at g.roots) g.told before after c.in_ok-fits.fits) is c.in_ok-fits.ensures.next in
     record {
       threads = c.in_ok-fits.ensures.threads;
-      walk = caches_more c.args.partitions (journal_at c.args.roots.now) c.args.records.now (caches_in l.caches.items) (caches_in c.play.new.caches.items) l.at _ c.in_ok-fits.fits
-          (omega (arith, c.loop-at-test.true, c.requires.end)) l.invariant.walk c.in_ok-fits.ensures.next c.if-not-fits.false;
+      walk = caches_more b.partitions (journal_at b.roots) b.records before after l.at d c.in_ok-fits.fits below l.invariant.walk next c.if-not-fits.false;
     }

@@ -7,5 +7,5 @@ use Rattle.pa_audit_holders.proofs.caches.play_phase.Given as goal
 abbrev pub invariant-loop-at : goal.invariant-loop-at
 invariant-loop-at l = record {
   threads : length l.caches.items ≡ 16;
-  walk : CachesSoFar l.partitions (journal_at l.roots) l.records (caches_in l.caches.items) l.at;
+  walk : CachesSoFar l.books.partitions (journal_at l.books.roots) l.books.records (caches_in l.caches.items) l.at;
 }

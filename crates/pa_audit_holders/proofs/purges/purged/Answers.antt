@@ -6,8 +6,8 @@ use Rattle.pa_audit_holders.proofs.purges.purged.Goals as goal
 
 pub returns-then-not-purges_all : goal.returns-then-not-purges_all
 returns-then-not-purges_all c = λ next row. both_ways _ c.if-not-purges_all.true
-    (c.purges_all.ensures.1 (purged_was c.args.partitions (journal_at c.args.roots.now) c.args.told c.args.slots (cache_in c.args.cache.now) next row))
+    (c.purges_all.ensures.1 (purged_was c.args.page.now.partitions (journal_at c.args.page.now.roots) c.args.page.now.told c.args.slots (cache_in c.args.cache.now) next row))
 
 pub returns : goal.returns
-returns c = purged_row c.args.partitions (journal_at c.args.roots.now) c.args.told c.args.slots (cache_in c.args.cache.now) (cache_in c.clear.new.self) c.clear.ensures
+returns c = purged_row c.args.page.now.partitions (journal_at c.args.page.now.roots) c.args.page.now.told c.args.slots (cache_in c.args.cache.now) (cache_in c.clear.new.self) c.clear.ensures
     (c.purges_all.ensures.0 c.if-not-purges_all.false)

@@ -5,4 +5,4 @@ use Rattle.pa_audit_holders.proofs.Purging.{ArePurging}
 use Rattle.pa_audit_holders.proofs.purges.purges_all.Given as goal
 
 abbrev pub invariant-loop-partition : goal.invariant-loop-partition
-invariant-loop-partition l = ArePurging l.partitions (journal_at l.roots) l.line l.slots (cache_in l.cache) l.partition (l.partitions - l.partition) l.left
+invariant-loop-partition l = ArePurging l.page.partitions (journal_at l.page.roots) l.page.told.line l.slots (cache_in l.cache) l.partition (l.page.partitions - l.partition) l.left

@@ -7,4 +7,7 @@ use Rattle.pa_audit_holders.specs.Rows.{TellsRow}
 use Rattle.pa_audit_holders.proofs.returns.done.Goals as goal
 
 pub returns-in-Some : goal.returns-in-Some
-returns-in-Some c = subst (λ o. IfOk c.stepped.result (TellsRow (DoneRow (journal_at c.args.roots.now) c.args.told o c.args.seen (cache_in c.args.cache.now)) (cache_in c.stepped.new.cache))) (sym c.in-Some.is) c.stepped.ensures
+returns-in-Some c =
+    subst (λ o. IfOk c.stepped.result (TellsRow
+    (DoneRow (journal_at c.args.page.now.roots) c.args.page.now.told o c.args.seen (cache_in c.args.cache.now))
+    (cache_in c.stepped.new.cache))) (sym c.in-Some.is) c.stepped.ensures

@@ -9,15 +9,17 @@ use Rattle.pa_audit_holders.proofs.returns.go_home.Goals as goal
 
 pub returns-in_ok-fits-in-Some : goal.returns-in_ok-fits-in-Some
 returns-in_ok-fits-in-Some c =
-    let roots = journal_at c.args.roots.now in
+    let roots = journal_at c.args.page.now.roots in
     let s = c.args.slot.slot in
     let number : c.unwrap-class.result ≡ c.in-Some.number = subst (λ o. IfSome o (λ k. k ≡ c.in-Some.number)) c.unwrap-class.ensures c.of.ensures.class in
     let home = subst (λ o. IsHomeIn roots s c.args.home.partition o) c.in-Some.is c.requires.home.goes in
-    back_by_class roots c.args.told c.args.slot (cache_in c.args.cache.now) (cache_in c.put_in_list.new.cache) c.args.home.partition c.unwrap-class.result c.in_ok-fits-in-Some.fits (c.requires.kinds s)
+    back_by_class roots c.args.page.now.told c.args.slot (cache_in c.args.cache.now) (cache_in c.put_in_list.new.cache)
+    c.args.home.partition c.unwrap-class.result c.in_ok-fits-in-Some.fits c.requires.one
     (subst (λ k. IsOfClass roots s c.args.home.partition k) (sym number) home.0) c.in_ok-fits-in-Some.ensures
 
 pub returns-in-None : goal.returns-in-None
 returns-in-None c =
-    let roots = journal_at c.args.roots.now in
+    let roots = journal_at c.args.page.now.roots in
     let s = c.args.slot.slot in
-    back_by_map roots c.args.told c.args.slot (cache_in c.args.cache.now) c.args.home.partition c.is_unmapped.result (c.requires.kinds s) (subst (λ o. IsHomeIn roots s c.args.home.partition o) c.in-None.is c.requires.home.goes) c.is_unmapped.ensures
+    back_by_map roots c.args.page.now.told c.args.slot (cache_in c.args.cache.now) c.args.home.partition c.is_unmapped.result
+    c.requires.one (subst (λ o. IsHomeIn roots s c.args.home.partition o) c.in-None.is c.requires.home.goes) c.is_unmapped.ensures

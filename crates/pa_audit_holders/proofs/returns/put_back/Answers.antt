@@ -4,4 +4,4 @@ use Rattle.pa_audit_holders.proofs.Leading.{back_by_none}
 use Rattle.pa_audit_holders.proofs.returns.put_back.Goals as goal
 
 pub returns-in-None : goal.returns-in-None
-returns-in-None c = back_by_none (journal_at c.args.roots.now) c.args.told c.args.slot (cache_in c.args.cache.now) c.in-None.ensures
+returns-in-None c = back_by_none (journal_at c.args.page.now.roots) c.args.page.now.told c.args.slot (cache_in c.args.cache.now) c.in-None.ensures.home

@@ -1,4 +1,4 @@
-use Rattle.std.proofs.Common.{sym, subst}
+use Rattle.std.proofs.Common.{sym, ◌∙◌, subst}
 use Rattle.std.specs.Result.{IfOk}
 use Rattle.pa_rules.specs.Roots.{journal_at}
 use Rattle.pa_rules.specs.Caches.{CacheRow}
@@ -7,11 +7,19 @@ use Rattle.pa_audit_holders.specs.Rows.{TellsRow}
 use Rattle.pa_audit_holders.proofs.rows.plays.Goals as goal
 
 pub returns-in-Made : goal.returns-in-Made
-returns-in-Made c = subst (λ a. IfOk c.made.result (TellsRow (CacheRow c.args.partitions (journal_at c.args.roots.now) c.args.told a (cache_in c.args.cache.now)) (cache_in c.made.new.cache))) (sym c.in-Made.is) c.made.ensures
+returns-in-Made c =
+    subst (λ a. IfOk c.made.result (TellsRow
+    (CacheRow c.args.page.now.partitions (journal_at c.args.page.now.roots) c.args.page.now.told a (cache_in c.args.cache.now))
+    (cache_in c.made.new.cache))) (sym c.in-Made.is ∙ c.answer.ensures) c.made.ensures
 
 pub returns-in-Full : goal.returns-in-Full
-returns-in-Full c = subst (λ a. TellsRow (CacheRow c.args.partitions (journal_at c.args.roots.now) c.args.told a (cache_in c.args.cache.now)) (cache_in c.args.cache.now) c.full.result) (sym c.in-Full.is) c.full.ensures
+returns-in-Full c =
+    subst (λ a. TellsRow
+    (CacheRow c.args.page.now.partitions (journal_at c.args.page.now.roots) c.args.page.now.told a (cache_in c.args.cache.now))
+    (cache_in c.args.cache.now) c.full.result) (sym c.in-Full.is ∙ c.answer.ensures) c.full.ensures
 
 pub returns-in-Purged : goal.returns-in-Purged
 returns-in-Purged c =
-    subst (λ a. TellsRow (CacheRow c.args.partitions (journal_at c.args.roots.now) c.args.told a (cache_in c.args.cache.now)) (cache_in c.purged.new.cache) c.purged.result) (sym c.in-Purged.is) c.purged.ensures
+    subst (λ a. TellsRow
+    (CacheRow c.args.page.now.partitions (journal_at c.args.page.now.roots) c.args.page.now.told a (cache_in c.args.cache.now))
+    (cache_in c.purged.new.cache) c.purged.result) (sym c.in-Purged.is ∙ c.answer.ensures) c.purged.ensures

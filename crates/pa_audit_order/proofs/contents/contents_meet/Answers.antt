@@ -4,12 +4,14 @@ use Rattle.pa_rules.specs.declared.verdict.Place.TheVariants as places
 use Rattle.pa_rules.specs.Cells.{history_at}
 use Rattle.pa_rules.specs.RecordDemands.{ContentsDemand}
 use Rattle.pa_rules.specs.Sizes.{usable_of}
-use Rattle.pa_audit_records.proofs.Telling.{met_more, tells_at, tells_none}
-use Rattle.pa_audit_records.proofs.Walking.{not_there, regs_start}
+use Rattle.pa_audit_records.proofs.Telling.{tells_at, tells_none}
+use Rattle.pa_audit_records.proofs.Walking.{regs_start}
 use Rattle.pa_audit_order.specs.declared.numbers.Kind.TheVariants.{Fill, Free}
 use Rattle.pa_audit_order.proofs.Giving.{regs_on, content_met, content_may}
 use Rattle.pa_audit_order.proofs.Stamping.{one_at}
 use Rattle.pa_audit_order.proofs.contents.contents_meet.Goals as goal
+use Rattle.pa_lists.proofs.Indexed.{none_past}
+use Rattle.pa_lists.proofs.Tests.{met_more}
 
 pub by_number-requires-clause-one : goal.by_number-requires-clause-one
 by_number-requires-clause-one c = one_at Fill c.args.records.now c.requires.rising c.requires.slots
@@ -56,4 +58,4 @@ pub returns : goal.returns
 returns c =
     let ps = c.args.records.now in
     let cells = history_at c.args.cells.now in
-    tells_none (λ k. ContentsDemand usable_of cells ps (places.Record k)) (length ps) c.loop-record.record-index c.loop-record-test.false c.loop-record.invariant.met (λ j past x at. absurd (not_there ps j x past at))
+    tells_none (λ k. ContentsDemand usable_of cells ps (places.Record k)) (length ps) c.loop-record.record-index c.loop-record-test.false c.loop-record.invariant.met (λ j past x at. absurd (none_past ps j x past at))

@@ -1,5 +1,5 @@
 use Rattle.std.proofs.Common.{None}
-use Rattle.pa_record.proofs.Members.{not_some}
+use Rattle.pa_lists.proofs.Members.{not_some}
 use Rattle.pa_rules.specs.Cells.{history_at}
 use Rattle.pa_audit_order.proofs.Handing.{giver_is, giver_all, given_all}
 use Rattle.pa_audit_order.proofs.hands.giver.Goals as goal

@@ -4,9 +4,9 @@ use Rattle.pa_rules.specs.declared.verdict.Place.TheVariants as places
 use Rattle.pa_rules.specs.Cells.{history_at}
 use Rattle.pa_rules.specs.RecordDemands.{CellsDemand}
 use Rattle.pa_audit_records.proofs.Telling.{tells_at, tells_none}
-use Rattle.pa_audit_records.proofs.Walking.{not_there}
 use Rattle.pa_audit_records.proofs.Exchanging.{cell_start, cell_more, cell_not, cell_end, history_is, exchange_here}
 use Rattle.pa_audit_records.proofs.cells.cell_meets.Goals as goal
+use Rattle.pa_lists.proofs.Indexed.{none_past}
 
 pub loop-entry-init : goal.loop-entry-init
 loop-entry-init c = record {
@@ -48,7 +48,7 @@ returns-clause-tells c =
     let k = c.args.cell in
     let is = c.entries-entries.ensures.entries ∙ history_is c.args.cells.now k c.index-cells-cell.result c.requires.cell c.index-cells-cell.is in
     let end : length (cells k) ≤ c.loop-entry.entry-index = subst (λ zs. length zs ≤ c.loop-entry.entry-index) is c.loop-entry-test.false in
-    tells_none (λ i. CellsDemand cells ps (places.Cell k i)) (length (cells k)) c.loop-entry.entry-index end c.loop-entry.invariant.cell.met (λ i past e at. absurd (not_there (cells k) i e past at))
+    tells_none (λ i. CellsDemand cells ps (places.Cell k i)) (length (cells k)) c.loop-entry.entry-index end c.loop-entry.invariant.cell.met (λ i past e at. absurd (none_past (cells k) i e past at))
 
 pub returns-clause-known : goal.returns-clause-known
 returns-clause-known c =

@@ -3,10 +3,11 @@ use Rattle.std.proofs.lemmas.Bool.{false≢true}
 use Rattle.pa_rules.specs.declared.verdict.Place.TheVariants as places
 use Rattle.pa_rules.specs.Cells.{history_at}
 use Rattle.pa_rules.specs.RecordDemands.{CellsDemand}
-use Rattle.pa_audit_records.proofs.Telling.{met_more, tells_at, tells_none}
-use Rattle.pa_audit_records.proofs.Walking.{not_there}
+use Rattle.pa_audit_records.proofs.Telling.{tells_at, tells_none}
 use Rattle.pa_audit_records.proofs.Exchanging.{swap_met, swap_fits}
 use Rattle.pa_audit_records.proofs.cells.swaps_meet.Goals as goal
+use Rattle.pa_lists.proofs.Indexed.{none_past}
+use Rattle.pa_lists.proofs.Tests.{met_more}
 
 pub returns-then-not-swap_fits : goal.returns-then-not-swap_fits
 returns-then-not-swap_fits c =
@@ -30,4 +31,4 @@ pub returns : goal.returns
 returns c =
     let ps = c.args.records.now in
     let cells = history_at c.args.cells.now in
-    tells_none (λ k. CellsDemand cells ps (places.Record k)) (length ps) c.loop-record.record-index c.loop-record-test.false c.loop-record.invariant.met (λ j past x k reg at op. absurd (not_there ps j x past at))
+    tells_none (λ k. CellsDemand cells ps (places.Record k)) (length ps) c.loop-record.record-index c.loop-record-test.false c.loop-record.invariant.met (λ j past x k reg at op. absurd (none_past ps j x past at))

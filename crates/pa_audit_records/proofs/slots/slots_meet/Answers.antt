@@ -3,11 +3,12 @@ use Rattle.pa_audit_records.specs.ByKeys.{value_at}
 use Rattle.std.proofs.lemmas.Bool.{false≢true}
 use Rattle.pa_rules.specs.declared.verdict.Place.TheVariants as places
 use Rattle.pa_rules.specs.RecordDemands.{SlotsDemand}
-use Rattle.pa_audit_records.proofs.Telling.{met_more, tells_at, tells_none}
-use Rattle.pa_audit_records.proofs.Walking.{not_there}
+use Rattle.pa_audit_records.proofs.Telling.{tells_at, tells_none}
 use Rattle.pa_audit_records.proofs.Fitting.{slot_met, slot_fits}
 use Rattle.pa_audit_records.proofs.Going.{slots_met}
 use Rattle.pa_audit_records.proofs.slots.slots_meet.Goals as goal
+use Rattle.pa_lists.proofs.Indexed.{none_past}
+use Rattle.pa_lists.proofs.Tests.{met_more}
 
 pub returns-then-branch : goal.returns-then-branch
 returns-then-branch c = slots_met c.args.records.now (c.in_ok-stand_in_order.ensures c.if-branch.true)
@@ -36,4 +37,4 @@ loop-record-preserved c =
 pub returns : goal.returns
 returns c =
     let ps = c.args.records.now in
-    tells_none (λ k. SlotsDemand ps (places.Record k)) (length ps) c.loop-record.record-index c.loop-record-test.false c.loop-record.invariant.met (λ j past x m at is. absurd (not_there ps j x past at))
+    tells_none (λ k. SlotsDemand ps (places.Record k)) (length ps) c.loop-record.record-index c.loop-record-test.false c.loop-record.invariant.met (λ j past x m at is. absurd (none_past ps j x past at))

@@ -1,12 +1,17 @@
-use Rattle.std.proofs.Common.{◌∙◌, refl, sym}
-use Rattle.pa_record.specs.declared.entry.Answer.TheVariants.{Filled}
-use Rattle.pa_heap.proofs.Fulling.{alloc_refuses}
+use Rattle.std.proofs.Common.{subst}
+use Rattle.std.specs.Prelude.{IsTrue}
+use Rattle.pa_rules.specs.Nexts.{HasSomeHandle}
+use Rattle.pa_plays.specs.Stocks.{StockRegister}
+use Rattle.pa_plays.proofs.Registers.{bare_register}
+use Rattle.pa_heap.proofs.Fulling.{alloc_fills}
 use Rattle.pa_heap.proofs.allocs.alloc.Goals as goal
 
-pub returns-in-Own-clause-does : goal.returns-in-Own-clause-does
-returns-in-Own-clause-does g c =
-    alloc_refuses c.args.stock.now c.args.reg c.args.partition c.args.size _ Filled c.kept.ensures.stock tt (sym c.in-Own.is ∙ c.register.ensures) (λ o. (refl, λ k. refl)) c.args.line
+pub returns-then-filled-clause-does : goal.returns-then-filled-clause-does
+returns-then-filled-clause-does g c =
+    alloc_fills c.args.stock.now c.args.reg c.args.partition c.args.size c.kept.ensures.stock
+    (subst (λ (r : StockRegister). HasSomeHandle r) c.register.ensures (c.has_handle-filled.ensures.0 c.if-filled.true)) c.args.line
 
-pub returns-in-Ref-clause-does : goal.returns-in-Ref-clause-does
-returns-in-Ref-clause-does g c =
-    alloc_refuses c.args.stock.now c.args.reg c.args.partition c.args.size _ Filled c.kept.ensures.stock tt (sym c.in-Ref.is ∙ c.register.ensures) (λ o. (refl, λ k. refl)) c.args.line
+pub request-requires-clause-none : goal.request-requires-clause-none
+request-requires-clause-none g c =
+    bare_register _ c.has_handle-filled.result c.if-filled.false
+    (subst (λ (r : StockRegister). HasSomeHandle r → IsTrue c.has_handle-filled.result) c.register.ensures c.has_handle-filled.ensures.1)

@@ -1,4 +1,3 @@
-use Rattle.std.proofs.Common.{None}
 use Rattle.pa_machine.specs.Tables.{IsFilled}
 use Rattle.pa_machine.proofs.changes.point_words.Given as goal
 

@@ -1,11 +1,11 @@
-use Rattle.std.proofs.Common.{◌≡◌, ◌+◌, ◌<◌, refl, sym, ap, get_or, take, Some, Err, subst}
+use Rattle.std.proofs.Common.{◌≡◌, ◌+◌, ◌<◌, sym, ap, get_or, take, Err, subst}
 use Rattle.std.proofs.lemmas.List.{take_more}
 use Rattle.std.proofs.lemmas.Option.{slice_get-get_or}
 use Rattle.pa_machine.specs.declared.word.Step.TheVariants.{Issue}
 use Rattle.pa_machine.specs.declared.event.Event.{Event}
 use Rattle.pa_machine.specs.declared.event.Event.TheVariants.{Count}
 use Rattle.pa_machine.specs.Events.{State}
-use Rattle.pa_machine.specs.Trail.{IsRunTo, IsRefusedFor, IsGoodState}
+use Rattle.pa_machine.specs.Trail.{IsRunTo}
 use Rattle.pa_machine.proofs.Lasting.{run_start, run_more, refused_at}
 use Rattle.pa_machine.proofs.machine.core_run.Goals as goal
 

@@ -1,4 +1,4 @@
-use Rattle.std.proofs.Common.{take, length}
+use Rattle.std.proofs.Common.{take}
 use Rattle.pa_machine.specs.Trail.{IsRunTo, IsGoodState}
 use Rattle.pa_machine.proofs.machine.core_run.Given as goal
 

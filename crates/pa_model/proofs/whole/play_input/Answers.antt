@@ -8,7 +8,7 @@ use Rattle.pa_model.proofs.whole.play_input.Goals as goal
 
 pub loop-player-init : goal.loop-player-init
 loop-player-init c =
-    input_begins c.args.bytes.now c.in_ok-reader.reader c.in_ok-player.player c.head-region.result c.head-region.ensures c.in_ok-reader.ensures.head c.in_ok-player.ensures.begun
+    input_begins c.args.bytes.now c.in_ok-reader.reader c.in_ok-player.player c.head-region.result c.head-region.ensures c.in_ok-reader.ensures.head c.in_ok-player.ensures
 
 pub line-requires : goal.line-requires
 line-requires c =
@@ -22,7 +22,7 @@ loop-player-preserved c =
     let u : Unread = c.loop-player.reader in
     let v : Unread = c.next.new.self in
     let line = subst (λ found. MatchOption found (IsEndRead u v) (λ l. IsLineRead u l v)) c.in-Some.is c.in_ok-line.ensures.line in
-    input_goes_on c.args.bytes.now u c.loop-player.player c.loop-player.invariant c.in-Some.line v c.line.new.self line c.in_ok-line-2.ensures.goes
+    input_goes_on c.args.bytes.now u c.loop-player.player c.loop-player.invariant c.in-Some.line v c.line.new.self line c.in_ok-line-2.ensures
 
 pub finish-requires : goal.finish-requires
 finish-requires c = input_ends c.args.bytes.now c.loop-player.reader c.loop-player.player c.loop-player.invariant

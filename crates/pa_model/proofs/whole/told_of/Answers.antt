@@ -1,9 +1,8 @@
-use Rattle.std.proofs.Common.{◌≡◌, ◌<◌, ◌≤◌, List, length, get_or, ap, sym, ◌∙◌, subst, arith}
+use Rattle.std.proofs.Common.{◌≡◌, ◌<◌, ◌≤◌, List, length, get_or, ap, sym, subst, arith}
 use Rattle.pa_trace.specs.declared.script.Line.{Line}
 use Rattle.pa_trace.specs.declared.script.Line.TheVariants.{Phase}
 use Rattle.pa_model.specs.Changes.{phase_ended}
 use Rattle.pa_model.specs.Played.{IsAllTold}
-use Rattle.pa_model.specs.Told.{KeepsForm, Lists}
 use Rattle.pa_model.proofs.AllTold.{all_told}
 use Rattle.pa_model.proofs.Outcome.{if_ok}
 use Rattle.pa_model.proofs.Reporting.{end_ready}
@@ -14,10 +13,7 @@ use Rattle.pa_model.proofs.whole.told_of.Goals as goal
 pub loop-line-init : goal.loop-line-init
 loop-line-init c =
     let t = c.args.trace.now in
-    record {
-      playing = begins_playing t.region t.partitions t.threads c.in_ok-player.player c.requires.within.head c.in_ok-player.ensures.begun;
-      form = c.in_ok-player.ensures.form;
-    }
+    begins_playing t.region t.partitions t.threads c.in_ok-player.player c.requires.within.head c.in_ok-player.ensures
 
 pub line-requires : goal.line-requires
 line-requires c =
@@ -26,7 +22,7 @@ line-requires c =
     let size = ap (λ (z : List Line). length z) c.as_slice-lines.ensures in
     let is = ap (λ (z : List Line). get_or z i Phase) c.as_slice-lines.ensures in
     let lt : i < length t.lines = omega (arith, size, c.loop-line-test.true) in
-    line_ready t i c.loop-line.player (get_or c.as_slice-lines.result.now i Phase) Phase c.requires.within lt is c.loop-line.invariant.playing
+    line_ready t i c.loop-line.player (get_or c.as_slice-lines.result.now i Phase) Phase c.requires.within lt is c.loop-line.invariant
 
 pub loop-line-preserved : goal.loop-line-preserved
 loop-line-preserved c =
@@ -35,10 +31,7 @@ loop-line-preserved c =
     let size = ap (λ (z : List Line). length z) c.as_slice-lines.ensures in
     let is = ap (λ (z : List Line). get_or z i Phase) c.as_slice-lines.ensures in
     let lt : i < length t.lines = omega (arith, size, c.loop-line-test.true) in
-    record {
-      playing = line_more t i c.loop-line.player c.line.new.self (get_or c.as_slice-lines.result.now i Phase) Phase c.requires.within lt is c.loop-line.invariant.playing c.in_ok-line.ensures.goes;
-      form = c.in_ok-line.ensures.form ∙ c.loop-line.invariant.form;
-    }
+    line_more t i c.loop-line.player c.line.new.self (get_or c.as_slice-lines.result.now i Phase) Phase c.requires.within lt is c.loop-line.invariant c.in_ok-line.ensures
 
 pub finish-requires : goal.finish-requires
 finish-requires c =
@@ -46,18 +39,13 @@ finish-requires c =
     let size = ap (λ (z : List Line). length z) c.as_slice-lines.ensures in
     let past : length t.lines ≤ c.loop-line.line-index = omega (arith, size, c.loop-line-test.false) in
     let few = c.requires.within.few in
-    end_ready t.region t.partitions t.threads t.lines c.loop-line.player (omega arith) (all_played t c.loop-line.line-index c.loop-line.player past c.loop-line.invariant.playing)
+    end_ready t.region t.partitions t.threads t.lines c.loop-line.player (omega arith) (all_played t c.loop-line.line-index c.loop-line.player past c.loop-line.invariant)
 
-pub returns-clause-all : goal.returns-clause-all
-returns-clause-all c =
+pub returns : goal.returns
+returns c =
     let t = c.args.trace.now in
     let p = c.loop-line.player in
     let size = ap (λ (z : List Line). length z) c.as_slice-lines.ensures in
     let past : length t.lines ≤ c.loop-line.line-index = omega (arith, size, c.loop-line-test.false) in
-    let playing = all_played t c.loop-line.line-index p past c.loop-line.invariant.playing in
+    let playing = all_played t c.loop-line.line-index p past c.loop-line.invariant in
     if_ok c.finish.result (λ told. told ≡ (phase_ended p).told) (IsAllTold t) c.finish.ensures (λ told is. subst (IsAllTold t) (sym is) (all_told t p c.requires.within playing))
-
-pub returns-clause-form : goal.returns-clause-form
-returns-clause-form c =
-    let p = c.loop-line.player in
-    if_ok c.finish.result (λ told. told ≡ (phase_ended p).told) (KeepsForm c.args.told) c.finish.ensures (λ told is. ap (λ (z : Lists). z.printed) is ∙ c.loop-line.invariant.form)

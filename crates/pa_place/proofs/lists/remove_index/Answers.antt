@@ -1,6 +1,6 @@
 use Rattle.std.proofs.Common.{◌<◌, length, refl, sym, ◌∙◌, ap, arith, Some}
 use Rattle.std.proofs.lemmas.Option.{slice_get_read, slice_get_within}
-use Rattle.pa_record.proofs.Members.{of_some}
+use Rattle.pa_lists.proofs.Members.{of_some}
 use Rattle.pa_place.specs.Listing.{IsTurnCut}
 use Rattle.pa_place.proofs.Placing.{there}
 use Rattle.pa_place.proofs.Turns.{removed_cut, none_at_cut}

@@ -1,17 +1,17 @@
 use Rattle.std.proofs.Common.{arith}
-use Rattle.pa_text.proofs.Words.{hexes_first, hexes_more}
-use Rattle.pa_reader.proofs.Wide.{hexes_end, hexes_all, hexes_bound, hexes_room}
+use Rattle.pa_text.proofs.Words.{hexes_first, hexes_more, hexes_small}
+use Rattle.pa_reader.proofs.Wide.{hexes_end, hexes_all, hexes_bound}
 use Rattle.pa_reader.proofs.digits.hexes.Goals as goal
 
 pub loop-init : goal.loop-init
 loop-init c = hexes_first c.args.bytes.now
 
 pub overflow_mul-value : goal.overflow_mul-value
-overflow_mul-value c = omega (arith, hexes_room c.loop.counter c.loop.value c.args.bytes.now c.loop.rest.now c.loop.invariant (omega arith))
+overflow_mul-value c = omega (arith, hexes_small c.loop.counter c.loop.value c.args.bytes.now c.loop.rest.now c.loop.invariant (omega arith))
 
 pub overflow_add-value : goal.overflow_add-value
 overflow_add-value c =
-    omega (arith, c.in-Some.ensures.small, hexes_room c.loop.counter c.loop.value c.args.bytes.now c.loop.rest.now c.loop.invariant (omega arith))
+    omega (arith, c.in-Some.ensures.small, hexes_small c.loop.counter c.loop.value c.args.bytes.now c.loop.rest.now c.loop.invariant (omega arith))
 
 pub loop-preserved : goal.loop-preserved
 loop-preserved c =

@@ -1,8 +1,8 @@
 use Rattle.std.proofs.Common.{arith}
 use Rattle.pa_trace.specs.Generated.{drawn_object}
-use Rattle.pa_trace.proofs.Written.{on_ok}
 use Rattle.pa_trace.proofs.Drawn.{behind_parts}
 use Rattle.pa_trace.proofs.generator.push_thread.Goals as goal
+use Rattle.pa_lists.proofs.Tests.{on_ok}
 
 pub returns : goal.returns
 returns c =

@@ -1,7 +1,8 @@
 use Rattle.std.proofs.Common.{ℕ, ◌++◌, ap, ◌∙◌, arith}
 use Rattle.std.specs.Fmt.{decimal}
-use Rattle.pa_trace.proofs.Written.{on_ok, field_written}
+use Rattle.pa_trace.proofs.Written.{field_written}
 use Rattle.pa_trace.proofs.writing.push_field.Goals as goal
+use Rattle.pa_lists.proofs.Tests.{on_ok}
 
 pub returns : goal.returns
 returns c =

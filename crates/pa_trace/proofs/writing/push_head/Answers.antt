@@ -1,5 +1,6 @@
-use Rattle.pa_trace.proofs.Written.{on_ok, head_written}
+use Rattle.pa_trace.proofs.Written.{head_written}
 use Rattle.pa_trace.proofs.writing.push_head.Goals as goal
+use Rattle.pa_lists.proofs.Tests.{on_ok}
 
 pub returns : goal.returns
 returns c =

@@ -1,5 +1,6 @@
-use Rattle.pa_trace.proofs.Written.{on_ok, alloc_written, copy_written, read_written, swap_written}
+use Rattle.pa_trace.proofs.Written.{alloc_written, copy_written, read_written, swap_written}
 use Rattle.pa_trace.proofs.writing.push_op.Goals as goal
+use Rattle.pa_lists.proofs.Tests.{on_ok}
 
 pub returns-in_ok-push_field-in-Alloc-2 : goal.returns-in_ok-push_field-in-Alloc-2
 returns-in_ok-push_field-in-Alloc-2 c =

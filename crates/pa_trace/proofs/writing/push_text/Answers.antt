@@ -1,5 +1,6 @@
-use Rattle.pa_trace.proofs.Written.{on_ok, do_written}
+use Rattle.pa_trace.proofs.Written.{do_written}
 use Rattle.pa_trace.proofs.writing.push_text.Goals as goal
+use Rattle.pa_lists.proofs.Tests.{on_ok}
 
 pub returns-in_ok-push_byte-in-Do : goal.returns-in_ok-push_byte-in-Do
 returns-in_ok-push_byte-in-Do c =

@@ -5,8 +5,9 @@ use Rattle.pa_record.specs.declared.pool.PoolAct.TheVariants as pool
 use Rattle.pa_record.specs.Pool.{GaveRun}
 use Rattle.pa_record.specs.Root.{unmapped}
 use Rattle.pa_place.specs.Placed.{IsStep}
-use Rattle.pa_audit_heap.proofs.Rooting.{at_entry, did_within, unmap_plays, unmap_misfits, unmap_none}
+use Rattle.pa_audit_heap.proofs.Rooting.{at_entry, unmap_plays, unmap_misfits, unmap_none}
 use Rattle.pa_audit_heap.proofs.replay.Replay.unmap.Goals as goal
+use Rattle.pa_record.proofs.Calling.{act_low}
 
 pub returns-in_default : goal.returns-in_default
 returns-in_default c = unmap_none c.args.pools.now c.args.self.now.root c.args.asked c.args.slot c.in_default.ensures.none
@@ -29,7 +30,7 @@ returns-then-not-gave_run c =
 pub play_to-requires-clause-within : goal.play_to-requires-clause-within
 play_to-requires-clause-within c =
     let gave = c.gave_run.ensures.0 c.if-not-gave_run.false in
-    let within = did_within c.args.pools.now c.args.asked (pool.Give c.supers_for.result c.super_page_of-first.result) gave in
+    let within = act_low c.args.pools.now c.args.asked (pool.Give c.supers_for.result c.super_page_of-first.result) gave in
     omega arith
 
 pub unmap-requires-clause-one_take : goal.unmap-requires-clause-one_take

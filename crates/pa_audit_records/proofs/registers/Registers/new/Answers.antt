@@ -1,5 +1,5 @@
 use Rattle.std.proofs.Common.{◌≡◌, rules, replicate, sym, subst}
-use Rattle.pa_rules.specs.declared.register.Reg.TheVariants.{Empty}
+use Rattle.pa_rules.specs.declared.register.Register.TheVariants.{Empty}
 use Rattle.pa_rules.specs.Registers.{no_regs}
 use Rattle.pa_audit_records.specs.Tables.{AreRegsOf}
 use Rattle.pa_audit_records.proofs.Rowing.{all_empty}

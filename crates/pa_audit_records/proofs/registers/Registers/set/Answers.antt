@@ -1,5 +1,5 @@
 use Rattle.std.proofs.Common.{◌+◌, ◌*◌, List, set, arith, subst}
-use Rattle.pa_rules.specs.declared.register.Reg.{Reg}
+use Rattle.pa_rules.specs.Registers.{Reg}
 use Rattle.pa_audit_records.specs.Tables.{AreRegsOf, regs_in, with_register}
 use Rattle.pa_audit_records.proofs.Rowing.{set_register}
 use Rattle.pa_audit_records.proofs.registers.Registers.set.Goals as goal

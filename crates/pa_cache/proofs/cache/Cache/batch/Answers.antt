@@ -1,6 +1,6 @@
-use Rattle.std.proofs.Common.{◌≡◌, drop, sym, subst, ap, ◌∙◌}
+use Rattle.std.proofs.Common.{◌≡◌, drop, sym, subst, ◌∙◌}
 use Rattle.std.specs.Prelude.{◌≢◌, AllPairs}
-use Rattle.pa_cache.specs.Caches.{CacheList, IsCache, batch_after}
+use Rattle.pa_cache.specs.Caches.{CacheList, IsCache}
 use Rattle.pa_cache.proofs.Middle.{pairs_take, pairs_drop}
 use Rattle.pa_cache.proofs.cache.Cache.batch.Goals as goal
 

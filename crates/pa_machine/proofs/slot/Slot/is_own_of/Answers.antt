@@ -1,6 +1,5 @@
-use Rattle.std.proofs.Common.{refl, sym, ◌∙◌, ap, inl, inr, Some}
+use Rattle.std.proofs.Common.{refl, ◌∙◌, inl, inr}
 use Rattle.std.proofs.lemmas.Bool.Decides.{eqb_tells}
-use Rattle.pa_machine.specs.declared.slot.Owner.{Owner}
 use Rattle.pa_machine.proofs.Reading.{owner_is}
 use Rattle.pa_machine.proofs.slot.Slot.is_own_of.Goals as goal
 

@@ -1,8 +1,8 @@
-use Rattle.std.proofs.Common.{◌≡◌, ◌/◌, ◌∙◌, refl, sym, ap, get_or, Some, None, subst}
+use Rattle.std.proofs.Common.{◌≡◌, ◌/◌, ◌∙◌, refl, ap}
 use Rattle.std.specs.Vec.{with_item, with_items}
 use Rattle.pa_machine.specs.declared.tables.Tables.{Tables}
 use Rattle.pa_machine.specs.Count.{stepped}
-use Rattle.pa_machine.specs.Tables.{Place, IsEntryAt, IsSlotStepped, IsSameSlot, state_of}
+use Rattle.pa_machine.specs.Tables.{IsSlotStepped, IsSameSlot}
 use Rattle.pa_machine.proofs.Outcomes.{any_err}
 use Rattle.pa_machine.proofs.Enabling.{well_counted}
 use Rattle.pa_machine.proofs.Rows.{back_after, count_row, same_row, count_entry, changed_row, kept_items}

@@ -1,14 +1,10 @@
-use Rattle.std.proofs.Common.{◌≡◌, ◌∙◌, ◌+◌, ◌/◌, ◌<◌, ◌≤◌, ℕ, refl, sym, ap, get_or, set, Some, None, subst, arith, length, rules, List}
-use Rattle.std.specs.Vec.{with_item, with_items}
-use Rattle.std.specs.Prelude.{Box}
-use Rattle.std.proofs.lemmas.List.{with_items_is}
-use Rattle.pa_machine.specs.declared.title.OwnState.TheVariants.{Clean, Dirty, Poisoned}
-use Rattle.pa_machine.specs.declared.slot.Slot.{Slot}
+use Rattle.std.proofs.Common.{◌≡◌, ◌∙◌, ◌+◌, ◌/◌, ◌<◌, ◌≤◌, ℕ, refl, ap, Some, arith, length}
+use Rattle.std.specs.Vec.{with_items}
+use Rattle.pa_machine.specs.declared.title.OwnState.TheVariants.{Clean}
 use Rattle.pa_machine.specs.declared.tables.Tables.{Tables}
-use Rattle.pa_machine.specs.Titles.{content_place, progress, poison}
-use Rattle.pa_machine.specs.Tables.{IsNextSlot, IsFilled, state_of}
-use Rattle.pa_machine.proofs.Enabling.{actor_is, well_free, well_own, well_ref, well_raw, over_entry}
-use Rattle.pa_machine.proofs.Reading.{reads_free, reads_own, reads_ref}
+use Rattle.pa_machine.specs.Tables.{IsNextSlot}
+use Rattle.pa_machine.proofs.Enabling.{actor_is, well_own}
+use Rattle.pa_machine.proofs.Reading.{reads_own}
 use Rattle.pa_machine.proofs.Rows.{changed_row, kept_items, entry_there}
 use Rattle.pa_machine.proofs.Handing.{hand_own_row}
 use Rattle.pa_machine.proofs.tables.Tables.hand_own.Goals as goal

@@ -1,4 +1,4 @@
-use Rattle.std.proofs.Common.{◌<◌, arith, inl, inr}
+use Rattle.std.proofs.Common.{◌<◌, arith}
 use Rattle.std.proofs.lemmas.Bool.Decides.{nat_tests}
 use Rattle.pa_machine.proofs.Enabling.{actor_is, actor_has}
 use Rattle.pa_machine.proofs.tables.Tables.has_actor.Goals as goal

@@ -1,4 +1,4 @@
-use Rattle.std.proofs.Common.{◌≡◌, sym, Option, Some, None, IfSome}
+use Rattle.std.proofs.Common.{◌≡◌, sym}
 use Rattle.pa_machine.proofs.Outcomes.{if_some}
 use Rattle.pa_machine.proofs.tables.Tables.own_over.Goals as goal
 

@@ -1,7 +1,6 @@
-use Rattle.std.proofs.Common.{◌≡◌, ◌∙◌, ◌+◌, ◌/◌, ◌<◌, ◌≤◌, ℕ, refl, sym, ap, get_or, set, Some, None, subst, arith, length}
+use Rattle.std.proofs.Common.{◌≡◌, ◌∙◌, ◌+◌, ◌/◌, ◌<◌, ◌≤◌, ℕ, refl, Some, arith}
 use Rattle.std.specs.Vec.{with_item, with_items}
 use Rattle.pa_machine.specs.declared.title.OwnState.TheVariants.{Dirty}
-use Rattle.pa_machine.specs.declared.slot.Slot.{Slot}
 use Rattle.pa_machine.specs.declared.tables.Tables.{Tables}
 use Rattle.pa_machine.specs.Tables.{IsNextSlot}
 use Rattle.pa_machine.proofs.Enabling.{over_entry}

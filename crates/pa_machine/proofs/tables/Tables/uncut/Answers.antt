@@ -1,15 +1,8 @@
-use Rattle.std.proofs.Common.{◌≡◌, ◌∙◌, ◌+◌, ◌/◌, ◌<◌, ◌≤◌, ℕ, refl, sym, ap, get_or, set, Some, None, subst, arith, length, rules, List}
+use Rattle.std.proofs.Common.{◌≡◌, ◌∙◌, ◌+◌, ◌/◌, ◌<◌, ◌≤◌, ℕ, refl, sym, ap, Some, None, subst, length, List}
 use Rattle.std.specs.Vec.{with_item, with_items}
-use Rattle.std.specs.Prelude.{Box}
 use Rattle.std.proofs.lemmas.List.{with_items_is}
-use Rattle.pa_machine.specs.declared.title.OwnState.TheVariants.{Clean, Dirty, Poisoned}
-use Rattle.pa_machine.specs.declared.slot.Slot.{Slot}
 use Rattle.pa_machine.specs.declared.tables.Tables.{Tables}
-use Rattle.pa_machine.specs.Titles.{content_place, progress, poison}
-use Rattle.pa_machine.specs.Tables.{IsNextSlot, IsFilled, state_of}
-use Rattle.pa_machine.proofs.Enabling.{actor_is, well_free, well_own, well_ref, well_raw, over_entry}
-use Rattle.pa_machine.proofs.Reading.{reads_free, reads_own, reads_ref}
-use Rattle.pa_machine.proofs.Rows.{changed_row, kept_items, entry_there}
+use Rattle.pa_machine.specs.Tables.{IsFilled}
 use Rattle.std.proofs.Common.{Option}
 use Rattle.pa_machine.proofs.Taking.{uncut_row}
 use Rattle.pa_machine.proofs.tables.Tables.uncut.Goals as goal

@@ -1,11 +1,12 @@
 use Rattle.std.proofs.Common.{◌≡◌, ◌+◌, ◌-◌, ◌*◌, ◌/◌, ◌<◌, ◌≤◌, ◌++◌, max, min, arith, sym, ◌∙◌, ap, subst}
 use Rattle.pa_buckets.specs.declared.spans.SpanShape.{SpanShape}
 use Rattle.pa_buckets.specs.Table.{slot_of, slots_of}
-use Rattle.pa_record.specs.Spans.{Span, more_pages, more_slots, numbers}
+use Rattle.pa_record.specs.Spans.{Span, more_pages, more_slots}
 use Rattle.pa_record.specs.Sound.{IsCounted}
 use Rattle.pa_place.proofs.Bounds.{HasRoom, has_room}
 use Rattle.pa_place.proofs.CameBack.{provisioned_is}
 use Rattle.pa_place.proofs.plain_span.PlainSpan.provision.Goals as goal
+use Rattle.pa_lists.specs.Numbers.{numbers}
 
 room : (i v : Span) → i ≡ v → IsCounted v → v.provisioned < slots_of v.class → HasRoom i
 room i v e h below = subst HasRoom (sym e) (has_room v h below)

@@ -1,7 +1,8 @@
 use Rattle.std.proofs.Common.{◌≡◌, ◌<◌, ◌-◌, ◌++◌, ◌∷◌, ◌+◌, [], sym, ◌∙◌, ap, length, arith}
-use Rattle.pa_record.specs.Spans.{Span, numbers}
+use Rattle.pa_record.specs.Spans.{Span}
 use Rattle.pa_place.proofs.CameBack.{list_length, numbers_step}
 use Rattle.pa_place.proofs.plain_span.PlainSpan.take_front.Goals as goal
+use Rattle.pa_lists.specs.Numbers.{numbers}
 
 pub returns-in-None-clause-front : goal.returns-in-None-clause-front
 returns-in-None-clause-front c =

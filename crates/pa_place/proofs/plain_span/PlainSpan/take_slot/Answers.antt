@@ -1,7 +1,8 @@
 use Rattle.std.proofs.Common.{arith, ap}
 use Rattle.pa_record.specs.Spans.{Span}
-use Rattle.pa_place.proofs.Bounds.{front_length, free_allocated, few_slots, served_number, served_low}
+use Rattle.pa_place.proofs.Bounds.{front_length, few_slots, served_number, served_low}
 use Rattle.pa_place.proofs.plain_span.PlainSpan.take_slot.Goals as goal
+use Rattle.pa_record.proofs.Taking.{free_allocated}
 
 pub take_front-number-requires-clause-some : goal.take_front-number-requires-clause-some
 take_front-number-requires-clause-some c = rw c.make_front.ensures (front_length c.args.self.now c.requires.counted c.requires.some)

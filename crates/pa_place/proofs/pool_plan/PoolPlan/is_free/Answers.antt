@@ -2,8 +2,8 @@ use Rattle.std.proofs.Common.{◌≡◌, arith, ap, subst, sym}
 use Rattle.std.specs.Prelude.{All}
 use Rattle.std.proofs.lemmas.List.Elements.{All-contains}
 use Rattle.pa_record.specs.Pool.{PoolState, IsApart}
-use Rattle.pa_place.proofs.Runs.{all_from_members}
 use Rattle.pa_place.proofs.pool_plan.PoolPlan.is_free.Goals as goal
+use Rattle.pa_lists.proofs.Elements.{all_from_members}
 
 pub returns-then-inside : goal.returns-then-inside
 returns-then-inside c =

@@ -1,7 +1,7 @@
 use Rattle.std.proofs.Common.{◌≡◌, length, refl, sym, ◌∙◌, ap, subst}
 use Rattle.std.specs.Prelude.{slice_set}
 use Rattle.std.proofs.lemmas.Option.{slice_get_read}
-use Rattle.pa_record.proofs.Members.{of_some}
+use Rattle.pa_lists.proofs.Members.{of_some}
 use Rattle.pa_record.specs.Root.{in_state}
 use Rattle.pa_place.specs.Filed.{AreFiled, IsFiledAnew}
 use Rattle.pa_place.proofs.Filing.{can_file, filed_anew, room_anew}

@@ -1,7 +1,7 @@
 use Rattle.std.proofs.Common.{◌≡◌, ◌<◌, length, ◌++◌, ap, refl, sym, ◌∙◌, subst, Some}
 use Rattle.std.proofs.lemmas.Option.{slice_get_read, slice_get_within}
 use Rattle.pa_record.specs.Root.{in_state, turn_after}
-use Rattle.pa_record.proofs.Members.{of_some}
+use Rattle.pa_lists.proofs.Members.{of_some}
 use Rattle.pa_place.specs.Order.{IsOrdered}
 use Rattle.pa_record.specs.Spans.{Span, with_free}
 use Rattle.pa_buckets.specs.Table.{slots_of}
@@ -12,8 +12,9 @@ use Rattle.pa_place.specs.Served.{IsServed}
 use Rattle.pa_place.specs.Store.{root_of}
 use Rattle.pa_place.proofs.Ordering.{order_changed, served_like}
 use Rattle.pa_place.proofs.Filing.{filed_alike, turns_alike, sound_turns, served_numbers, in_use_other, entered_after, set_within}
-use Rattle.pa_place.proofs.Placing.{member_at, span_low, served_root}
+use Rattle.pa_place.proofs.Placing.{span_low, served_root}
 use Rattle.pa_place.proofs.store.Store.take_at.Goals as goal
+use Rattle.pa_lists.proofs.Indexed.{at_in}
 
 pub take_slot-title-requires-clause-low : goal.take_slot-title-requires-clause-low
 take_slot-title-requires-clause-low c =
@@ -21,7 +22,7 @@ take_slot-title-requires-clause-low c =
     let s = c.index_mut-span.result.now in
     let within = slice_get_within ss c.args.at c.requires.usable.0 c.requires.usable.1 in
     let here = slice_get_read ss (length ss) c.args.at s refl within c.index_mut-span.ensures.value in
-    span_low (root_of c.args.self.now) s c.requires.ready (member_at ss c.args.at s here)
+    span_low (root_of c.args.self.now) s c.requires.ready (at_in ss c.args.at s here)
 
 pub enter-requires : goal.enter-requires
 enter-requires c =
@@ -74,7 +75,7 @@ tell_made-requires-clause-low c =
     let s = c.index_mut-span.result.now in
     let within = slice_get_within ss c.args.at c.requires.usable.0 c.requires.usable.1 in
     let here = slice_get_read ss (length ss) c.args.at s refl within c.index_mut-span.ensures.value in
-    let among = member_at ss c.args.at s here in
+    let among = at_in ss c.args.at s here in
     let served = c.take_slot-title.ensures in
     served_low s (with_free s) c.take_slot-title.new.self refl (served_after s c.take_slot-title.new.self c.take_slot-title.result served) (span_low (root_of c.args.self.now) s c.requires.ready among)
 
@@ -84,7 +85,7 @@ tell_made-requires-clause-most c =
     let s = c.index_mut-span.result.now in
     let within = slice_get_within ss c.args.at c.requires.usable.0 c.requires.usable.1 in
     let here = slice_get_read ss (length ss) c.args.at s refl within c.index_mut-span.ensures.value in
-    let among = member_at ss c.args.at s here in
+    let among = at_in ss c.args.at s here in
     let served = c.take_slot-title.ensures in
     served_most s c.take_slot-title.new.self c.take_slot-title.result (c.requires.ready.sound.spans s among).counted (subst (λ (z : Span). z.allocated < slots_of z.class) (of_some c.requires.usable.0 s (sym c.requires.usable.1 ∙ here)) c.requires.usable.2) served
 

@@ -3,6 +3,7 @@ use Rattle.std.proofs.lemmas.List.{length-append}
 use Rattle.std.specs.Prelude.{Vec}
 use Rattle.std.specs.declared.alloc.Global.{Global}
 use Rattle.pa_buckets.proofs.Facts.{IsRow-of}
+use Rattle.pa_region.specs.declared.view.View.{View}
 use Rattle.pa_region.specs.Views.{least_stake}
 use Rattle.pa_region.specs.Lending.{IsNoted}
 use Rattle.pa_record.specs.declared.root.RootEntry.{RootEntry}
@@ -40,22 +41,22 @@ take_out-note-requires-clause-room g c =
 
 pub append-requires-clause-host : goal.append-requires-clause-host
 append-requires-clause-host g c =
-    let s : RootState = root_of_parts c.self.inside.seat.view c.make_room.new.journal.items c.ready.new.self.root in
+    let s : RootState = root_of_parts c.self.inside.ledger.seat.view c.make_room.new.journal.items c.ready.new.self.root in
     let p = g.row.P in let class = c.args.class in let asked = c.in_ok-asked.asked in
     let opened = c.in_ok-asked.ensures.opened in
     let taken = c.take_out-note in
     let out = taken.ensures.out p asked s opened.ready opened.root_is in
-    hosts_left p class asked s c.open_page.new.own.view taken.new.own.view taken.result.0.view taken.result.1.items taken.result.2 taken.new.placement.root out
+    hosts_left p class asked s c.open_page.new.self.seat.view taken.new.own.view taken.result.0.view taken.result.1.items taken.result.2 taken.new.placement.root out
 
 pub invariant_of-self-2 : goal.invariant_of-self-2
 invariant_of-self-2 g c =
     let i = c.self.inside in
-    let s : RootState = root_of_parts i.seat.view c.make_room.new.journal.items c.ready.new.self.root in
+    let s : RootState = root_of_parts i.ledger.seat.view c.make_room.new.journal.items c.ready.new.self.root in
     let p = g.row.P in let class = c.args.class in let asked = c.in_ok-asked.asked in
     let opened = c.in_ok-asked.ensures.opened in
     let taken = c.take_out-note in
     let out = taken.ensures.out p asked s opened.ready opened.root_is in
-    let u = c.open_page.new.own.view in
+    let u = c.open_page.new.self.seat.view in
     let left = taken.new.own.view in let note = taken.result.0.view in let titles = taken.result.1.items in let slots = taken.result.2 in
     let root = taken.new.placement.root in let x = c.append.new.host.view in
     let e : RootEntry = root_entry c.args.line (Fill class asked slots) in
@@ -70,7 +71,7 @@ invariant_of-self-2 g c =
     let step = taken.ensures.turn in
     let before : c.open_page.new.placement.root.turn ≡ i.placement.root.turn =
     ap (λ (r : Root). r.turn) opened.root_is ∙ (ready_turn asked s u ∙ ap (λ (r : Root). r.turn) c.in_ok-ready.ensures.root) in (
-      c.append.ensures.regions.1 ∙ (taken.ensures.regions.0 ∙ c.in_ok-asked.ensures.regions.1),
+      c.append.ensures.regions.1 ∙ (taken.ensures.regions.0 ∙ c.in_ok-asked.ensures.region),
       omega arith,
       omega arith,
       subst (λ js. IsRootSound p (record { view = x; journal = js; root = root })) (sym grown) sound,
@@ -79,18 +80,20 @@ invariant_of-self-2 g c =
 pub returns-clause-gave : goal.returns-clause-gave
 returns-clause-gave g c =
     let i = c.self.inside in
-    let s : RootState = root_of_parts i.seat.view c.make_room.new.journal.items c.ready.new.self.root in
+    let s : RootState = root_of_parts i.ledger.seat.view c.make_room.new.journal.items c.ready.new.self.root in
     let p = g.row.P in let class = c.args.class in let asked = c.in_ok-asked.asked in let line = c.args.line in
     let opened = c.in_ok-asked.ensures.opened in
     let taken = c.take_out-note in
     let out = taken.ensures.out p asked s opened.ready opened.root_is in
-    let u = c.open_page.new.own.view in
+    let u = c.open_page.new.self.seat.view in
     let left = taken.new.own.view in let note = taken.result.0.view in let titles = taken.result.1.items in let slots = taken.result.2 in
     let root = taken.new.placement.root in let x = c.append.new.host.view in
-    let v = c.args.seat.now.view in let a = c.open_page.new.seat.view in let after = c.append.new.lender.view in
+    let v = c.args.seat.now.view in let a = c.open_page.new.asking.seat.now.view in let after = c.append.new.lender.view in
     let r = least_stake v.stakes in
     let e : RootEntry = root_entry line (Fill class asked slots) in
-    let (m, noted) = c.append.ensures.noted in
+    let (m, noted_then) = c.append.ensures.noted in
+    let noted : IsNoted (least_stake a.stakes) p (root_numbers e) a after left x m =
+    subst (λ (z : View). IsNoted (least_stake z.stakes) p (root_numbers e) z after left x m) (search rules) noted_then in
     let noted' : IsNoted r p (root_numbers e) a after left x m =
     subst (λ k. IsNoted k p (root_numbers e) a after left x m) (same_stake r p line asked v a opened.told c.requires.lender) noted in
     let grown : c.append.new.journal.items ≡ s.journal ++ e ∷ [] =

@@ -26,7 +26,7 @@ use Rattle.pa_root.proofs.root.Root.give_back.Goals as goal
 pub numbers_seen-slots-requires-clause-free : goal.numbers_seen-slots-requires-clause-free
 numbers_seen-slots-requires-clause-free g c =
     let titles = c.args.titles.items in
-    let v = c.self.inside.seat.view in let w = c.args.note.view in
+    let v = c.self.inside.ledger.seat.view in let w = c.args.note.view in
     let there : All (λ (t : Title). 0 < free_of c.take.new.seat.view t) titles =
     λ k d less. subst (λ (x : View). 0 < free_of x (slice_index_or titles k d)) (sym c.take.ensures.view)
     (free_there v w titles c.requires.has (slice_index_or titles k d) (All-contains_itself titles k d less)) in
@@ -35,9 +35,9 @@ numbers_seen-slots-requires-clause-free g c =
 pub give-requires-clause-out : goal.give-requires-clause-out
 give-requires-clause-out g c =
     let i = c.self.inside in
-    let s : RootState = record { view = i.seat.view; journal = i.journal.items; root = i.placement.root } in
+    let s : RootState = record { view = i.ledger.seat.view; journal = i.ledger.journal.items; root = i.placement.root } in
     let titles = c.args.titles.items in let w = c.args.note.view in
-    let regions : i.seat.region ≡ c.args.note.region = c.self.invariant.0 ∙ sym c.requires.regions.2 in
+    let regions : i.ledger.seat.region ≡ c.args.note.region = c.self.invariant.0 ∙ sym c.requires.regions.2 in
     let long : length s.view.words ≡ length w.words =
     c.aware.ensures.long ∙ (ap byte_word_count regions ∙ sym c.aware-2.ensures.long) in
     let can = can_come g.row.P s w c.take.new.seat.view titles c.self.invariant.3 c.aware.ensures.aware c.aware-2.ensures.aware
@@ -47,9 +47,9 @@ give-requires-clause-out g c =
 pub give-requires-clause-once : goal.give-requires-clause-once
 give-requires-clause-once g c =
     let i = c.self.inside in
-    let s : RootState = record { view = i.seat.view; journal = i.journal.items; root = i.placement.root } in
+    let s : RootState = record { view = i.ledger.seat.view; journal = i.ledger.journal.items; root = i.placement.root } in
     let titles = c.args.titles.items in let w = c.args.note.view in
-    let regions : i.seat.region ≡ c.args.note.region = c.self.invariant.0 ∙ sym c.requires.regions.2 in
+    let regions : i.ledger.seat.region ≡ c.args.note.region = c.self.invariant.0 ∙ sym c.requires.regions.2 in
     let long : length s.view.words ≡ length w.words =
     c.aware.ensures.long ∙ (ap byte_word_count regions ∙ sym c.aware-2.ensures.long) in
     let can = can_come g.row.P s w c.take.new.seat.view titles c.self.invariant.3 c.aware.ensures.aware c.aware-2.ensures.aware
@@ -59,10 +59,10 @@ give-requires-clause-once g c =
 pub invariant_of-self-2 : goal.invariant_of-self-2
 invariant_of-self-2 g c =
     let i = c.self.inside in
-    let s : RootState = record { view = i.seat.view; journal = i.journal.items; root = i.placement.root } in
+    let s : RootState = record { view = i.ledger.seat.view; journal = i.ledger.journal.items; root = i.placement.root } in
     let titles = c.args.titles.items in let w = c.args.note.view in
     let x = c.append.new.host.view in
-    let regions : i.seat.region ≡ c.args.note.region = c.self.invariant.0 ∙ sym c.requires.regions.2 in
+    let regions : i.ledger.seat.region ≡ c.args.note.region = c.self.invariant.0 ∙ sym c.requires.regions.2 in
     let long : length s.view.words ≡ length w.words =
     c.aware.ensures.long ∙ (ap byte_word_count regions ∙ sym c.aware-2.ensures.long) in
     let can = can_come g.row.P s w c.take.new.seat.view titles c.self.invariant.3 c.aware.ensures.aware c.aware-2.ensures.aware
@@ -102,11 +102,11 @@ invariant_of-self-2 g c =
 pub returns-clause-took : goal.returns-clause-took
 returns-clause-took g c =
     let i = c.self.inside in
-    let s : RootState = record { view = i.seat.view; journal = i.journal.items; root = i.placement.root } in
+    let s : RootState = record { view = i.ledger.seat.view; journal = i.ledger.journal.items; root = i.placement.root } in
     let titles = c.args.titles.items in let w = c.args.note.view in
     let v = c.args.seat.now.view in
     let r = least_stake v.stakes in
-    let regions : i.seat.region ≡ c.args.note.region = c.self.invariant.0 ∙ sym c.requires.regions.2 in
+    let regions : i.ledger.seat.region ≡ c.args.note.region = c.self.invariant.0 ∙ sym c.requires.regions.2 in
     let long : length s.view.words ≡ length w.words =
     c.aware.ensures.long ∙ (ap byte_word_count regions ∙ sym c.aware-2.ensures.long) in
     let can = can_come g.row.P s w c.take.new.seat.view titles c.self.invariant.3 c.aware.ensures.aware c.aware-2.ensures.aware
@@ -122,9 +122,9 @@ returns-clause-took g c =
 pub returns-clause-journal : goal.returns-clause-journal
 returns-clause-journal g c =
     let i = c.self.inside in
-    let s : RootState = record { view = i.seat.view; journal = i.journal.items; root = i.placement.root } in
+    let s : RootState = record { view = i.ledger.seat.view; journal = i.ledger.journal.items; root = i.placement.root } in
     let titles = c.args.titles.items in let w = c.args.note.view in
-    let regions : i.seat.region ≡ c.args.note.region = c.self.invariant.0 ∙ sym c.requires.regions.2 in
+    let regions : i.ledger.seat.region ≡ c.args.note.region = c.self.invariant.0 ∙ sym c.requires.regions.2 in
     let long : length s.view.words ≡ length w.words =
     c.aware.ensures.long ∙ (ap byte_word_count regions ∙ sym c.aware-2.ensures.long) in
     let can = can_come g.row.P s w c.take.new.seat.view titles c.self.invariant.3 c.aware.ensures.aware c.aware-2.ensures.aware

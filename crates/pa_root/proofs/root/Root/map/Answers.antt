@@ -1,14 +1,15 @@
-use Rattle.std.proofs.Common.{◌≡◌, ◌+◌, [], ◌∷◌, ◌++◌, None, length, refl, sym, ◌∙◌, ap, subst, arith}
+use Rattle.std.proofs.Common.{rules, ◌≡◌, ◌+◌, [], ◌∷◌, ◌++◌, None, length, refl, sym, ◌∙◌, ap, subst, arith}
 use Rattle.std.proofs.lemmas.List.{length-append}
 use Rattle.std.specs.Prelude.{Vec}
 use Rattle.std.specs.declared.alloc.Global.{Global}
 use Rattle.pa_machine.specs.declared.title.Title.{Title}
+use Rattle.pa_region.specs.declared.view.View.{View}
+use Rattle.pa_region.specs.Shares.{Share, byte_word_count}
 use Rattle.pa_region.specs.Views.{least_stake, seen_of}
 use Rattle.pa_region.specs.Hands.{CanHand, left_after, given_after}
 use Rattle.pa_region.specs.Cuts.{after_cut}
 use Rattle.pa_region.specs.Aware.{IsAware}
 use Rattle.pa_region.specs.Lending.{HostsKeeper, IsNoted}
-use Rattle.pa_region.specs.Shares.{byte_word_count}
 use Rattle.pa_record.specs.declared.root.RootEntry.{RootEntry}
 use Rattle.pa_record.specs.declared.root.RootAct.TheVariants.{Map}
 use Rattle.pa_record.specs.Numbers.{root_numbers}
@@ -32,36 +33,40 @@ invariant_of-self-in-Err g c =
     let i = c.self.inside in
     let p = g.row.P in let count = c.args.shape.supers in
     let r = least_stake c.args.seat.now.view.stakes in
-    let js = c.make_room.new.journal.items in let js_now = c.ask_room-room.new.journal.items in
+    let js = c.make_room.new.journal.items in let js_now = c.ask_room-room.new.self.journal.items in
     let root = c.ready_map.new.self.root in
-    let same : root_of_parts i.seat.view js root ≡ root_of_parts i.seat.view i.journal.items i.placement.root =
-    ap (λ es. root_of_parts i.seat.view es root) c.in_ok-make_room.ensures.same ∙ ap (λ z. root_of_parts i.seat.view i.journal.items z) c.in_ok-ready_map.ensures.root in
+    let same : root_of_parts i.ledger.seat.view js root ≡ root_of_parts i.ledger.seat.view i.ledger.journal.items i.placement.root =
+    ap (λ es. root_of_parts i.ledger.seat.view es root) c.in_ok-make_room.ensures.same ∙ ap (λ z. root_of_parts i.ledger.seat.view i.ledger.journal.items z) c.in_ok-ready_map.ensures.root in
     let sound = subst (λ z. IsRootSound p z) (sym same) c.self.invariant.3 in
-    let (told, after) = none_given r p c.args.line count None c.args.seat.now c.ask_room-room.new.seat i.seat c.ask_room-room.new.own js js_now root c.in-Err.fault sound
+    let (told, after) = none_given r p c.args.line count None c.args.seat.now c.ask_room-room.new.asking.seat.now i.ledger.seat c.ask_room-room.new.self.seat js js_now root c.in-Err.fault sound
     (λ asked found. (count, found)) c.in-Err.ensures.refused in
-    let long = none_long r p c.args.line count None c.args.seat.now c.ask_room-room.new.seat (root_of_parts i.seat.view js root)
-    (root_of_parts c.ask_room-room.new.own.view js_now root) c.in-Err.fault told in
+    let long = none_long r p c.args.line count None c.args.seat.now c.ask_room-room.new.asking.seat.now (root_of_parts i.ledger.seat.view js root)
+    (root_of_parts c.ask_room-room.new.self.seat.view js_now root) c.in-Err.fault told in
     let low = long.0 in let high = long.1 in
     let few = c.in_ok-make_room.ensures.few in
     let size = ap length c.in_ok-make_room.ensures.same in
     let turn = c.self.invariant.2 in
     let turns = ap (λ (z : Root). z.turn) c.in_ok-ready_map.ensures.root in
-    (c.in-Err.ensures.regions.1, omega arith, omega arith, after)
+    (c.in-Err.ensures.region, omega arith, omega arith, after)
 
 pub returns-in-Err-clause-none : goal.returns-in-Err-clause-none
 returns-in-Err-clause-none g c =
     let i = c.self.inside in
     let p = g.row.P in let count = c.args.shape.supers in
     let r = least_stake c.args.seat.now.view.stakes in
-    let js = c.make_room.new.journal.items in let js_now = c.ask_room-room.new.journal.items in
+    let js = c.make_room.new.journal.items in let js_now = c.ask_room-room.new.self.journal.items in
     let root = c.ready_map.new.self.root in
-    let same : root_of_parts i.seat.view js root ≡ root_of_parts i.seat.view i.journal.items i.placement.root =
-    ap (λ es. root_of_parts i.seat.view es root) c.in_ok-make_room.ensures.same ∙ ap (λ z. root_of_parts i.seat.view i.journal.items z) c.in_ok-ready_map.ensures.root in
+    let same : root_of_parts i.ledger.seat.view js root ≡ root_of_parts i.ledger.seat.view i.ledger.journal.items i.placement.root =
+    ap (λ es. root_of_parts i.ledger.seat.view es root) c.in_ok-make_room.ensures.same ∙ ap (λ z. root_of_parts i.ledger.seat.view i.ledger.journal.items z) c.in_ok-ready_map.ensures.root in
     let sound = subst (λ z. IsRootSound p z) (sym same) c.self.invariant.3 in
-    let told = (none_given r p c.args.line count None c.args.seat.now c.ask_room-room.new.seat i.seat c.ask_room-room.new.own js js_now root c.in-Err.fault sound
+    let told = (none_given r p c.args.line count None c.args.seat.now c.ask_room-room.new.asking.seat.now i.ledger.seat c.ask_room-room.new.self.seat js js_now root c.in-Err.fault sound
     (λ asked found. (count, found)) c.in-Err.ensures.refused).0 in
-    subst (λ z. NoneGiven r p c.args.line count None c.args.seat.now c.ask_room-room.new.seat z (root_of_parts c.ask_room-room.new.own.view js_now root) c.in-Err.fault)
-    (same ∙ c.self.view_is) told
+    let given : NoneGiven r p c.args.line count None c.args.seat.now c.ask_room-room.new.asking.seat.now c.args.self.now
+    (root_of_parts c.ask_room-room.new.self.seat.view js_now root) c.in-Err.fault =
+    subst (λ z. NoneGiven r p c.args.line count None c.args.seat.now c.ask_room-room.new.asking.seat.now z (root_of_parts c.ask_room-room.new.self.seat.view js_now root) c.in-Err.fault)
+    (same ∙ c.self.view_is) told in
+    subst (λ (z : Share). NoneGiven r p c.args.line count None c.args.seat.now z c.args.self.now (root_of_parts c.ask_room-room.new.self.seat.view js_now root) c.in-Err.fault)
+    (sym (search rules)) given
 
 -- ---- where there is
 
@@ -72,12 +77,12 @@ map-requires-clause-born g c =
     let (asked, first, note) = c.in-Ok.found in
     let js = c.make_room.new.journal.items in
     let root = c.ready_map.new.self.root in
-    let s : RootState = root_of_parts i.seat.view js root in
-    let v = c.args.seat.now.view in let a = c.ask_room-room.new.seat.view in let w = c.ask_room-room.new.own.view in
+    let s : RootState = root_of_parts i.ledger.seat.view js root in
+    let v = c.args.seat.now.view in let a = c.ask_room-room.new.asking.seat.now.view in let w = c.ask_room-room.new.self.seat.view in
     let r = least_stake v.stakes in
-    let same : s ≡ root_of_parts i.seat.view i.journal.items i.placement.root =
-    ap (λ es. root_of_parts i.seat.view es root) c.in_ok-make_room.ensures.same ∙ ap (λ z. root_of_parts i.seat.view i.journal.items z) c.in_ok-ready_map.ensures.root in
-    let regions = c.in-Ok.ensures.regions.1 ∙ sym c.in-Ok.ensures.note.0 in
+    let same : s ≡ root_of_parts i.ledger.seat.view i.ledger.journal.items i.placement.root =
+    ap (λ es. root_of_parts i.ledger.seat.view es root) c.in_ok-make_room.ensures.same ∙ ap (λ z. root_of_parts i.ledger.seat.view i.ledger.journal.items z) c.in_ok-ready_map.ensures.root in
+    let regions = c.in-Ok.ensures.region ∙ sym c.in-Ok.ensures.note.0 in
     let has : HasPages p c.args.line count asked first s r v a w note.view = record {
       sound = subst (λ z. IsRootSound p z) (sym same) c.self.invariant.3;
       aware = c.aware.ensures.aware;
@@ -99,12 +104,12 @@ hand-note-requires-clause-able g c =
     let (asked, first, came) = c.in-Ok.found in
     let js = c.make_room.new.journal.items in
     let root = c.ready_map.new.self.root in
-    let s : RootState = root_of_parts i.seat.view js root in
-    let v = c.args.seat.now.view in let a = c.ask_room-room.new.seat.view in let w = c.ask_room-room.new.own.view in let note = came.view in
+    let s : RootState = root_of_parts i.ledger.seat.view js root in
+    let v = c.args.seat.now.view in let a = c.ask_room-room.new.asking.seat.now.view in let w = c.ask_room-room.new.self.seat.view in let note = came.view in
     let r = least_stake v.stakes in
-    let same : s ≡ root_of_parts i.seat.view i.journal.items i.placement.root =
-    ap (λ es. root_of_parts i.seat.view es root) c.in_ok-make_room.ensures.same ∙ ap (λ z. root_of_parts i.seat.view i.journal.items z) c.in_ok-ready_map.ensures.root in
-    let regions = c.in-Ok.ensures.regions.1 ∙ sym c.in-Ok.ensures.note.0 in
+    let same : s ≡ root_of_parts i.ledger.seat.view i.ledger.journal.items i.placement.root =
+    ap (λ es. root_of_parts i.ledger.seat.view es root) c.in_ok-make_room.ensures.same ∙ ap (λ z. root_of_parts i.ledger.seat.view i.ledger.journal.items z) c.in_ok-ready_map.ensures.root in
+    let regions = c.in-Ok.ensures.region ∙ sym c.in-Ok.ensures.note.0 in
     let pages : HasPages p line c.args.shape.supers asked first s r v a w note = record {
       sound = subst (λ z. IsRootSound p z) (sym same) c.self.invariant.3;
       aware = c.aware.ensures.aware;
@@ -137,12 +142,12 @@ append-requires-clause-host g c =
     let (asked, first, came) = c.in-Ok.found in
     let js = c.make_room.new.journal.items in
     let root = c.ready_map.new.self.root in
-    let s : RootState = root_of_parts i.seat.view js root in
-    let v = c.args.seat.now.view in let a = c.ask_room-room.new.seat.view in let w = c.ask_room-room.new.own.view in let note = came.view in
+    let s : RootState = root_of_parts i.ledger.seat.view js root in
+    let v = c.args.seat.now.view in let a = c.ask_room-room.new.asking.seat.now.view in let w = c.ask_room-room.new.self.seat.view in let note = came.view in
     let r = least_stake v.stakes in
-    let same : s ≡ root_of_parts i.seat.view i.journal.items i.placement.root =
-    ap (λ es. root_of_parts i.seat.view es root) c.in_ok-make_room.ensures.same ∙ ap (λ z. root_of_parts i.seat.view i.journal.items z) c.in_ok-ready_map.ensures.root in
-    let regions = c.in-Ok.ensures.regions.1 ∙ sym c.in-Ok.ensures.note.0 in
+    let same : s ≡ root_of_parts i.ledger.seat.view i.ledger.journal.items i.placement.root =
+    ap (λ es. root_of_parts i.ledger.seat.view es root) c.in_ok-make_room.ensures.same ∙ ap (λ z. root_of_parts i.ledger.seat.view i.ledger.journal.items z) c.in_ok-ready_map.ensures.root in
+    let regions = c.in-Ok.ensures.region ∙ sym c.in-Ok.ensures.note.0 in
     let pages : HasPages p line c.args.shape.supers asked first s r v a w note = record {
       sound = subst (λ z. IsRootSound p z) (sym same) c.self.invariant.3;
       aware = c.aware.ensures.aware;
@@ -176,12 +181,12 @@ invariant_of-self-2 g c =
     let (asked, first, came) = c.in-Ok.found in
     let js = c.make_room.new.journal.items in
     let root = c.ready_map.new.self.root in
-    let s : RootState = root_of_parts i.seat.view js root in
-    let v = c.args.seat.now.view in let a = c.ask_room-room.new.seat.view in let w = c.ask_room-room.new.own.view in let note = came.view in
+    let s : RootState = root_of_parts i.ledger.seat.view js root in
+    let v = c.args.seat.now.view in let a = c.ask_room-room.new.asking.seat.now.view in let w = c.ask_room-room.new.self.seat.view in let note = came.view in
     let r = least_stake v.stakes in
-    let same : s ≡ root_of_parts i.seat.view i.journal.items i.placement.root =
-    ap (λ es. root_of_parts i.seat.view es root) c.in_ok-make_room.ensures.same ∙ ap (λ z. root_of_parts i.seat.view i.journal.items z) c.in_ok-ready_map.ensures.root in
-    let regions = c.in-Ok.ensures.regions.1 ∙ sym c.in-Ok.ensures.note.0 in
+    let same : s ≡ root_of_parts i.ledger.seat.view i.ledger.journal.items i.placement.root =
+    ap (λ es. root_of_parts i.ledger.seat.view es root) c.in_ok-make_room.ensures.same ∙ ap (λ z. root_of_parts i.ledger.seat.view i.ledger.journal.items z) c.in_ok-ready_map.ensures.root in
+    let regions = c.in-Ok.ensures.region ∙ sym c.in-Ok.ensures.note.0 in
     let pages : HasPages p line c.args.shape.supers asked first s r v a w note = record {
       sound = subst (λ z. IsRootSound p z) (sym same) c.self.invariant.3;
       aware = c.aware.ensures.aware;
@@ -210,7 +215,10 @@ invariant_of-self-2 g c =
     let e : RootEntry = root_entry line (Map asked (name_of t) len) in
     let named : root_entry line (Map asked (record { start = c.cut_map-title.result.start; born = asked }) len) ≡ e =
     ap (λ (z : Title). root_entry line (Map asked (record { start = z.start; born = asked }) len)) is in
-    let (m, noted) = c.append.ensures.noted in
+    let (m, noted_then) = c.append.ensures.noted in
+    let noted : IsNoted (least_stake a.stakes) p (root_numbers (root_entry line (Map asked (record { start = c.cut_map-title.result.start; born = asked }) len))) a c.append.new.lender.view c.hand-note.new.seat.view now m =
+    subst (λ (z : View). IsNoted (least_stake z.stakes) p (root_numbers (root_entry line (Map asked (record { start = c.cut_map-title.result.start; born = asked }) len))) z c.append.new.lender.view c.hand-note.new.seat.view now m)
+    (search rules) noted_then in
     let noted' : IsNoted (least_stake a.stakes) p (root_numbers e) a c.append.new.lender.view y now m =
     subst (λ h. IsNoted (least_stake a.stakes) p (root_numbers e) a c.append.new.lender.view h now m) left
     (subst (λ z. IsNoted (least_stake a.stakes) p (root_numbers z) a c.append.new.lender.view c.hand-note.new.seat.view now m) named noted) in
@@ -226,7 +234,7 @@ invariant_of-self-2 g c =
     let turn = c.self.invariant.2 in
     let turns = c.map.ensures.turn ∙ ap (λ (z : Root). z.turn) c.in_ok-ready_map.ensures.root in
     let after : c.map.new.self.root ≡ mapped t root = c.map.ensures.mapped ∙ ap (λ z. mapped z root) c.map.ensures.title in (
-      c.append.ensures.regions.1 ∙ (c.hand-note.ensures.regions.0 ∙ (c.cut_map-title.ensures.region ∙ (c.take.ensures.region ∙ c.in-Ok.ensures.regions.1))),
+      c.append.ensures.regions.1 ∙ (c.hand-note.ensures.regions.0 ∙ (c.cut_map-title.ensures.region ∙ (c.take.ensures.region ∙ c.in-Ok.ensures.region))),
       omega arith,
       omega arith,
       subst (λ es. IsRootSound p (record { view = now; journal = es; root = c.map.new.self.root })) (sym grown)
@@ -241,12 +249,12 @@ returns-clause-gave g c =
     let (asked, first, came) = c.in-Ok.found in
     let js = c.make_room.new.journal.items in
     let root = c.ready_map.new.self.root in
-    let s : RootState = root_of_parts i.seat.view js root in
-    let v = c.args.seat.now.view in let a = c.ask_room-room.new.seat.view in let w = c.ask_room-room.new.own.view in let note = came.view in
+    let s : RootState = root_of_parts i.ledger.seat.view js root in
+    let v = c.args.seat.now.view in let a = c.ask_room-room.new.asking.seat.now.view in let w = c.ask_room-room.new.self.seat.view in let note = came.view in
     let r = least_stake v.stakes in
-    let same : s ≡ root_of_parts i.seat.view i.journal.items i.placement.root =
-    ap (λ es. root_of_parts i.seat.view es root) c.in_ok-make_room.ensures.same ∙ ap (λ z. root_of_parts i.seat.view i.journal.items z) c.in_ok-ready_map.ensures.root in
-    let regions = c.in-Ok.ensures.regions.1 ∙ sym c.in-Ok.ensures.note.0 in
+    let same : s ≡ root_of_parts i.ledger.seat.view i.ledger.journal.items i.placement.root =
+    ap (λ es. root_of_parts i.ledger.seat.view es root) c.in_ok-make_room.ensures.same ∙ ap (λ z. root_of_parts i.ledger.seat.view i.ledger.journal.items z) c.in_ok-ready_map.ensures.root in
+    let regions = c.in-Ok.ensures.region ∙ sym c.in-Ok.ensures.note.0 in
     let pages : HasPages p line c.args.shape.supers asked first s r v a w note = record {
       sound = subst (λ z. IsRootSound p z) (sym same) c.self.invariant.3;
       aware = c.aware.ensures.aware;
@@ -276,7 +284,10 @@ returns-clause-gave g c =
     let e : RootEntry = root_entry line (Map asked (name_of t) len) in
     let named : root_entry line (Map asked (record { start = c.cut_map-title.result.start; born = asked }) len) ≡ e =
     ap (λ (z : Title). root_entry line (Map asked (record { start = z.start; born = asked }) len)) is in
-    let (m, noted) = c.append.ensures.noted in
+    let (m, noted_then) = c.append.ensures.noted in
+    let noted : IsNoted (least_stake a.stakes) p (root_numbers (root_entry line (Map asked (record { start = c.cut_map-title.result.start; born = asked }) len))) a after c.hand-note.new.seat.view now m =
+    subst (λ (z : View). IsNoted (least_stake z.stakes) p (root_numbers (root_entry line (Map asked (record { start = c.cut_map-title.result.start; born = asked }) len))) z after c.hand-note.new.seat.view now m)
+    (search rules) noted_then in
     let noted' : IsNoted (least_stake a.stakes) p (root_numbers e) a after y now m =
     subst (λ h. IsNoted (least_stake a.stakes) p (root_numbers e) a after h now m) left
     (subst (λ z. IsNoted (least_stake a.stakes) p (root_numbers z) a after c.hand-note.new.seat.view now m) named noted) in

@@ -11,7 +11,7 @@ use Rattle.pa_root.proofs.root.Root.purge.Goals as goal
 pub invariant_of-self-2 : goal.invariant_of-self-2
 invariant_of-self-2 g c =
     let i = c.self.inside in
-    let s : RootState = record { view = i.seat.view; journal = i.journal.items; root = i.placement.root } in
+    let s : RootState = record { view = i.ledger.seat.view; journal = i.ledger.journal.items; root = i.placement.root } in
     let x = c.append.new.host.view in
     let (m, noted) = c.append.ensures.noted in
     let e : RootEntry = root_entry c.args.line Purge in

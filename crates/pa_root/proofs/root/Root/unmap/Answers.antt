@@ -1,6 +1,9 @@
-use Rattle.std.proofs.Common.{◌≡◌, ◌+◌, [], ◌∷◌, ◌++◌, length, sym, ◌∙◌, ap, subst, arith}
+use Rattle.std.proofs.Common.{rules, ◌≡◌, ◌+◌, [], ◌∷◌, ◌++◌, length, sym, ◌∙◌, ap, subst, arith}
 use Rattle.std.proofs.lemmas.List.{length-append}
 use Rattle.pa_layout.specs.Pages.{super_page_at, supers_for}
+use Rattle.pa_region.specs.declared.view.View.{View}
+use Rattle.pa_region.specs.Lending.{IsNoted}
+use Rattle.pa_record.specs.Numbers.{root_numbers}
 use Rattle.pa_region.specs.Views.{least_stake}
 use Rattle.pa_region.specs.Lists.{list_of}
 use Rattle.pa_region.specs.Aware.{IsAware}
@@ -19,7 +22,7 @@ use Rattle.pa_root.proofs.root.Root.unmap.Goals as goal
 pub hand_map-run-requires-clause-stands : goal.hand_map-run-requires-clause-stands
 hand_map-run-requires-clause-stands g c =
     let i = c.self.inside in
-    let s : RootState = record { view = i.seat.view; journal = i.journal.items; root = i.placement.root } in
+    let s : RootState = record { view = i.ledger.seat.view; journal = i.ledger.journal.items; root = i.placement.root } in
     let t = c.args.title in let w = c.args.note.view in let v = c.args.seat.now.view in
     let r = least_stake v.stakes in
     let k = c.take_title-number in
@@ -40,7 +43,7 @@ hand_map-run-requires-clause-inside g c = c.take_title-number.ensures.back.insid
 pub hand_map-run-requires-clause-able : goal.hand_map-run-requires-clause-able
 hand_map-run-requires-clause-able g c =
     let i = c.self.inside in
-    let s : RootState = record { view = i.seat.view; journal = i.journal.items; root = i.placement.root } in
+    let s : RootState = record { view = i.ledger.seat.view; journal = i.ledger.journal.items; root = i.placement.root } in
     let t = c.args.title in let w = c.args.note.view in let v = c.args.seat.now.view in
     let r = least_stake v.stakes in
     let k = c.take_title-number in
@@ -58,7 +61,7 @@ hand_map-run-requires-clause-able g c =
 pub give_run-asked-requires-clause-back : goal.give_run-asked-requires-clause-back
 give_run-asked-requires-clause-back g c =
     let i = c.self.inside in
-    let s : RootState = record { view = i.seat.view; journal = i.journal.items; root = i.placement.root } in
+    let s : RootState = record { view = i.ledger.seat.view; journal = i.ledger.journal.items; root = i.placement.root } in
     let t = c.args.title in let w = c.args.note.view in let v = c.args.seat.now.view in
     let r = least_stake v.stakes in
     let k = c.take_title-number in
@@ -76,7 +79,7 @@ give_run-asked-requires-clause-back g c =
 pub append-requires-clause-host : goal.append-requires-clause-host
 append-requires-clause-host g c =
     let i = c.self.inside in
-    let s : RootState = record { view = i.seat.view; journal = i.journal.items; root = i.placement.root } in
+    let s : RootState = record { view = i.ledger.seat.view; journal = i.ledger.journal.items; root = i.placement.root } in
     let t = c.args.title in let w = c.args.note.view in let v = c.args.seat.now.view in
     let r = least_stake v.stakes in
     let k = c.take_title-number in
@@ -90,14 +93,14 @@ append-requires-clause-host g c =
       named = c.requires.named;
     } in
     let h = c.hand_map-run in let a = c.give_run-asked in
-    let y2 = a.new.root.view in let v2 = a.new.seat.view in let q = least_stake k.new.seat.view.stakes in
+    let y2 = a.new.root.view in let v2 = a.new.self.seat.now.view in let q = least_stake k.new.seat.view.stakes in
     let given = given_for g.row.P r k.result s t v k.new.seat.view k.new.root.view w b c.args.line q a.result v2 h.new.seat.view h.result.view y2 h.ensures.left h.ensures.given a.ensures.gave in
     hosts_later g.row.P r k.result s t v k.new.seat.view k.new.root.view w b y2 (given.keeps 0).keeps
 
 pub invariant_of-self-2 : goal.invariant_of-self-2
 invariant_of-self-2 g c =
     let i = c.self.inside in
-    let s : RootState = record { view = i.seat.view; journal = i.journal.items; root = i.placement.root } in
+    let s : RootState = record { view = i.ledger.seat.view; journal = i.ledger.journal.items; root = i.placement.root } in
     let t = c.args.title in let w = c.args.note.view in let v = c.args.seat.now.view in
     let r = least_stake v.stakes in
     let k = c.take_title-number in
@@ -111,13 +114,15 @@ invariant_of-self-2 g c =
       named = c.requires.named;
     } in
     let h = c.hand_map-run in let a = c.give_run-asked in
-    let y2 = a.new.root.view in let v2 = a.new.seat.view in let q = least_stake k.new.seat.view.stakes in
+    let y2 = a.new.root.view in let v2 = a.new.self.seat.now.view in let q = least_stake k.new.seat.view.stakes in
     let given = given_for g.row.P r k.result s t v k.new.seat.view k.new.root.view w b c.args.line q a.result v2 h.new.seat.view h.result.view y2 h.ensures.left h.ensures.given a.ensures.gave in
     let x = c.append.new.host.view in
-    let (m, noted) = c.append.ensures.noted in
+    let (m, noted_then) = c.append.ensures.noted in
     let slot : Numbered = record { slot = name_of t; number = k.result } in
     let e : RootEntry = root_entry c.args.line (Unmap a.result slot) in
     let left : IsAware (left_after (run_parcel (super_page_at t.start) (supers_for t.len) t.born) k.new.root.view) = subst IsAware h.ensures.left h.ensures.aware in
+    let noted : IsNoted (least_stake v2.stakes) g.row.P (root_numbers e) v2 c.append.new.lender.view y2 x m =
+    subst (λ (z : View). IsNoted (least_stake z.stakes) g.row.P (root_numbers e) z c.append.new.lender.view y2 x m) (search rules) noted_then in
     let sound = sound_after g.row.P r k.result s t v k.new.seat.view k.new.root.view w b c.args.line a.result q (least_stake v2.stakes) v2 c.append.new.lender.view y2 x m given noted left c.append.ensures.aware.1 in
     let same = c.make_room.ensures.same in
     let grown : c.append.new.journal.items ≡ s.journal ++ e ∷ [] = c.append.ensures.journal ∙ ap (λ js. js ++ e ∷ []) same in
@@ -127,7 +132,7 @@ invariant_of-self-2 g c =
     let step = (c.unmap.ensures.step 0).turn in
     let turn = c.self.invariant.2 in
     let at = ap length same in (
-      c.append.ensures.regions.1 ∙ a.ensures.regions.1,
+      c.append.ensures.regions.1 ∙ a.ensures.region,
       omega arith,
       omega arith,
       subst (λ js. IsRootSound g.row.P (record { view = x; journal = js; root = c.unmap.new.self.root })) (sym grown)
@@ -137,7 +142,7 @@ invariant_of-self-2 g c =
 pub returns-clause-took : goal.returns-clause-took
 returns-clause-took g c =
     let i = c.self.inside in
-    let s : RootState = record { view = i.seat.view; journal = i.journal.items; root = i.placement.root } in
+    let s : RootState = record { view = i.ledger.seat.view; journal = i.ledger.journal.items; root = i.placement.root } in
     let t = c.args.title in let w = c.args.note.view in let v = c.args.seat.now.view in
     let r = least_stake v.stakes in
     let k = c.take_title-number in
@@ -151,12 +156,14 @@ returns-clause-took g c =
       named = c.requires.named;
     } in
     let h = c.hand_map-run in let a = c.give_run-asked in
-    let y2 = a.new.root.view in let v2 = a.new.seat.view in let q = least_stake k.new.seat.view.stakes in
+    let y2 = a.new.root.view in let v2 = a.new.self.seat.now.view in let q = least_stake k.new.seat.view.stakes in
     let given = given_for g.row.P r k.result s t v k.new.seat.view k.new.root.view w b c.args.line q a.result v2 h.new.seat.view h.result.view y2 h.ensures.left h.ensures.given a.ensures.gave in
     let x = c.append.new.host.view in
-    let (m, noted) = c.append.ensures.noted in
+    let (m, noted_then) = c.append.ensures.noted in
     let slot : Numbered = record { slot = name_of t; number = k.result } in
     let e : RootEntry = root_entry c.args.line (Unmap a.result slot) in
+    let noted : IsNoted (least_stake v2.stakes) g.row.P (root_numbers e) v2 c.append.new.lender.view y2 x m =
+    subst (λ (z : View). IsNoted (least_stake z.stakes) g.row.P (root_numbers e) z c.append.new.lender.view y2 x m) (search rules) noted_then in
     let same_q : q ≡ r = (lends_again v k.new.seat.view k.ensures.back.lends.keeps c.requires.lender).1 in
     let same_k : least_stake v2.stakes ≡ r = (lends_again k.new.seat.view v2 given.lends.keeps k.ensures.again).1 ∙ same_q in
     let enters = told g.row.P r k.result s t v k.new.seat.view k.new.root.view w b c.args.line a.result q (least_stake v2.stakes) v2 c.append.new.lender.view y2 x m given noted same_q same_k in

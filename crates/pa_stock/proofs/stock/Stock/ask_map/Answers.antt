@@ -8,8 +8,9 @@ use Rattle.pa_stock.specs.Allocating.{GivesNone, FindsNone}
 use Rattle.pa_stock.proofs.Leaving.{least_is}
 use Rattle.pa_stock.proofs.Parking.{kept_stock}
 use Rattle.pa_region.specs.Views.{least_stake}
-use Rattle.pa_stock.proofs.Receiving.{either, err_weaker, none_stock, finds_none}
+use Rattle.pa_stock.proofs.Receiving.{err_weaker, none_stock, finds_none}
 use Rattle.pa_stock.proofs.stock.Stock.ask_map.Goals as goal
+use Rattle.pa_lists.proofs.Tests.{either}
 
 pub map_from-requires-clause-lender : goal.map_from-requires-clause-lender
 map_from-requires-clause-lender g c =

@@ -4,9 +4,10 @@ use Rattle.pa_region.specs.Aware.{IsAware}
 use Rattle.pa_region.specs.Shares.{byte_word_count}
 use Rattle.pa_rules.specs.Caches.{SameLists}
 use Rattle.pa_plays.specs.Stocks.{StockValue, IsStock, IsForThread, listed_in}
-use Rattle.pa_stock.proofs.Handing.{none_poisoned, heard_stock, heard_lists}
+use Rattle.pa_stock.proofs.Handing.{heard_stock, heard_lists}
 use Rattle.pa_stock.proofs.Ready.{inside_aware}
 use Rattle.pa_stock.proofs.stock.Stock.hear.Goals as goal
+use Rattle.pa_region.proofs.LendBack.{none_poisoned}
 
 pub take-requires-clause-able : goal.take-requires-clause-able
 take-requires-clause-able g c k t has = none_poisoned c.self.inside.seat.view t c.self.invariant.1.handles.clean

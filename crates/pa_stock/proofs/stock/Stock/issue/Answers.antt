@@ -5,7 +5,7 @@ use Rattle.pa_machine.specs.declared.word.Step.TheVariants as steps
 use Rattle.pa_record.specs.declared.entry.Answer.TheVariants.{Made}
 use Rattle.pa_region.specs.declared.view.View.{View}
 use Rattle.pa_region.specs.Moves.{CanCount, after_count}
-use Rattle.pa_plays.specs.declared.register.Register.TheVariants.{Own}
+use Rattle.pa_rules.specs.declared.register.Register.TheVariants.{Own}
 use Rattle.pa_plays.specs.Stocks.{StockValue, IsStock, HasNoHandle, register_in}
 use Rattle.pa_plays.specs.Workers.{HasItsStake}
 use Rattle.pa_stock.specs.Changes.{IsBack}

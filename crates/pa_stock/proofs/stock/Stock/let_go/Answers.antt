@@ -1,7 +1,7 @@
 use Rattle.std.proofs.Common.{◌≡◌, ◌∙◌, sym, subst, inr}
 use Rattle.std.specs.Prelude.{slice_set}
 use Rattle.pa_region.specs.declared.view.View.{View}
-use Rattle.pa_plays.specs.declared.register.Register.TheVariants.{Ref, Cleared}
+use Rattle.pa_rules.specs.declared.register.Register.TheVariants.{Ref, Cleared}
 use Rattle.pa_plays.specs.Stocks.{StockValue, IsStock, register_in}
 use Rattle.pa_stock.proofs.Resetting.{can_reset, cleared_stock}
 use Rattle.pa_stock.proofs.Ready.{inside, inside_budget}

@@ -12,12 +12,12 @@ use Rattle.pa_stock.proofs.stock.Stock.load.Goals as goal
 pub all_placed-requires : goal.all_placed-requires
 all_placed-requires g c =
     let i : StockValue = record { thread = c.self.inside.thread; partitions = c.self.inside.partitions; view = c.self.inside.seat.view; registers = c.self.inside.registers; caches = c.self.inside.caches.items } in
-    loads_free i c.args.partition c.args.class c.args.titles.now (subst (λ (z : StockValue). CanLoad c.args.partition c.args.class c.args.titles.now z) (sym c.self.view_is) c.requires.can)
+    loads_free i c.args.partition c.args.class c.args.titles.now (subst (λ (z : StockValue). CanLoad c.args.partition c.args.class c.args.titles.now z) (sym c.self.view_is) c.requires)
 
 pub load-requires-clause-empty : goal.load-requires-clause-empty
 load-requires-clause-empty g c =
     let i : StockValue = record { thread = c.self.inside.thread; partitions = c.self.inside.partitions; view = c.self.inside.seat.view; registers = c.self.inside.registers; caches = c.self.inside.caches.items } in
-    let can = subst (λ (z : StockValue). CanLoad c.args.partition c.args.class c.args.titles.now z) (sym c.self.view_is) c.requires.can in
+    let can = subst (λ (z : StockValue). CanLoad c.args.partition c.args.class c.args.titles.now z) (sym c.self.view_is) c.requires in
     let at = list_at i c.args.partition c.args.class c.place_of-place.result c.index_mut-cache.result.now c.self.invariant.1 can.partition
     c.place_of-place.ensures.small c.place_of-place.ensures.place c.index_mut-cache.ensures.value in
     at.titles_are ∙ can.empty
@@ -25,12 +25,12 @@ load-requires-clause-empty g c =
 pub load-requires-clause-free : goal.load-requires-clause-free
 load-requires-clause-free g c =
     let i : StockValue = record { thread = c.self.inside.thread; partitions = c.self.inside.partitions; view = c.self.inside.seat.view; registers = c.self.inside.registers; caches = c.self.inside.caches.items } in
-    loads_free i c.args.partition c.args.class c.args.titles.now (subst (λ (z : StockValue). CanLoad c.args.partition c.args.class c.args.titles.now z) (sym c.self.view_is) c.requires.can)
+    loads_free i c.args.partition c.args.class c.args.titles.now (subst (λ (z : StockValue). CanLoad c.args.partition c.args.class c.args.titles.now z) (sym c.self.view_is) c.requires)
 
 pub load-requires-clause-size : goal.load-requires-clause-size
 load-requires-clause-size g c =
     let i : StockValue = record { thread = c.self.inside.thread; partitions = c.self.inside.partitions; view = c.self.inside.seat.view; registers = c.self.inside.registers; caches = c.self.inside.caches.items } in
-    let can = subst (λ (z : StockValue). CanLoad c.args.partition c.args.class c.args.titles.now z) (sym c.self.view_is) c.requires.can in
+    let can = subst (λ (z : StockValue). CanLoad c.args.partition c.args.class c.args.titles.now z) (sym c.self.view_is) c.requires in
     let at = list_at i c.args.partition c.args.class c.place_of-place.result c.index_mut-cache.result.now c.self.invariant.1 can.partition
     c.place_of-place.ensures.small c.place_of-place.ensures.place c.index_mut-cache.ensures.value in
     λ k d less. can.sized k d less ∙ ap slot_of (sym at.class_is)
@@ -40,7 +40,7 @@ invariant_of-self g c =
     let i : StockValue = record { thread = c.self.inside.thread; partitions = c.self.inside.partitions; view = c.self.inside.seat.view; registers = c.self.inside.registers; caches = c.self.inside.caches.items } in
     let p = c.args.partition in
     let ts = c.args.titles.now in
-    let can = subst (λ (z : StockValue). CanLoad p c.args.class ts z) (sym c.self.view_is) c.requires.can in
+    let can = subst (λ (z : StockValue). CanLoad p c.args.class ts z) (sym c.self.view_is) c.requires in
     let at = list_at i p c.args.class c.place_of-place.result c.index_mut-cache.result.now c.self.invariant.1 can.partition
     c.place_of-place.ensures.small c.place_of-place.ensures.place c.index_mut-cache.ensures.value in
     let e = listed_caches i p c.args.class c.place_of-place.result c.index_mut-cache.result.now c.load.new.self at c.place_of-place.ensures.place c.load.ensures.class in
@@ -57,7 +57,7 @@ returns-clause-loaded g c =
     let i : StockValue = record { thread = c.self.inside.thread; partitions = c.self.inside.partitions; view = c.self.inside.seat.view; registers = c.self.inside.registers; caches = c.self.inside.caches.items } in
     let p = c.args.partition in
     let ts = c.args.titles.now in
-    let can = subst (λ (z : StockValue). CanLoad p c.args.class ts z) (sym c.self.view_is) c.requires.can in
+    let can = subst (λ (z : StockValue). CanLoad p c.args.class ts z) (sym c.self.view_is) c.requires in
     let at = list_at i p c.args.class c.place_of-place.result c.index_mut-cache.result.now c.self.invariant.1 can.partition
     c.place_of-place.ensures.small c.place_of-place.ensures.place c.index_mut-cache.ensures.value in
     let e = listed_caches i p c.args.class c.place_of-place.result c.index_mut-cache.result.now c.load.new.self at c.place_of-place.ensures.place c.load.ensures.class in

@@ -5,7 +5,7 @@ use Rattle.pa_region.specs.declared.view.View.{View}
 use Rattle.pa_region.specs.Hands.{CanHand, left_after, given_after}
 use Rattle.pa_region.specs.Marks.{parcel_of}
 use Rattle.pa_cells.specs.Handles.{IsParked}
-use Rattle.pa_plays.specs.declared.register.Register.TheVariants.{Empty}
+use Rattle.pa_rules.specs.declared.register.Register.TheVariants.{Empty}
 use Rattle.pa_plays.specs.Stocks.{StockValue, IsStock, register_in}
 use Rattle.pa_plays.specs.Workers.{HasItsStake}
 use Rattle.pa_stock.specs.Exchanging.{Parks, handle_register}

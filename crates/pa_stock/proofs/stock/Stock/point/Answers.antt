@@ -1,7 +1,7 @@
 use Rattle.std.proofs.Common.{◌∙◌, sym, subst}
 use Rattle.std.specs.Prelude.{slice_set}
 use Rattle.pa_region.specs.declared.view.View.{View}
-use Rattle.pa_plays.specs.declared.register.Register.TheVariants.{Ref}
+use Rattle.pa_rules.specs.declared.register.Register.TheVariants.{Ref}
 use Rattle.pa_plays.specs.Stocks.{StockValue, IsStock, HasNoHandle, register_in}
 use Rattle.pa_stock.proofs.Copying.{can_copy, copied_stock}
 use Rattle.pa_stock.proofs.Ready.{inside, inside_budget}

@@ -24,6 +24,6 @@ returns g c =
     subst (λ (z : StockValue). Receives n z (record i { view = c.take.new.seat.view })) c.self.view_is (record {
       only = c.requires.only;
       aware = c.aware.ensures.aware;
-      long = ap (λ (z : StockValue). length z.view.words) c.self.view_is ∙ (c.kept.ensures.long ∙ (ap byte_word_count (sym c.requires.regions.1) ∙ sym c.aware.ensures.long));
+      long = ap (λ (z : StockValue). length z.view.words) c.self.view_is ∙ (c.kept.ensures.long ∙ (ap byte_word_count (sym c.requires.region) ∙ sym c.aware.ensures.long));
       after_is = ap (λ (v : View). record i { view = v }) c.take.ensures.view;
     })

@@ -6,12 +6,11 @@ use Rattle.pa_region.specs.Aware.{IsAware}
 use Rattle.pa_region.specs.Shares.{Share, byte_word_count}
 use Rattle.pa_cells.specs.declared.handle.Handle.{Handle}
 use Rattle.pa_cells.specs.Handles.{ParkedHandle}
-use Rattle.pa_plays.specs.declared.register.Register.{Register}
-use Rattle.pa_plays.specs.Stocks.{StockValue, IsStock, HasNoHandle, register_in}
+use Rattle.pa_plays.specs.Stocks.{StockRegister, StockValue, IsStock, HasNoHandle, register_in}
 use Rattle.pa_stock.specs.Exchanging.{TakesHandleIn, handle_register}
-use Rattle.pa_stock.proofs.Handing.{none_poisoned}
 use Rattle.pa_stock.proofs.Parking.{taken_stock}
 use Rattle.pa_stock.proofs.stock.Stock.take_handle.Goals as goal
+use Rattle.pa_region.proofs.LendBack.{none_poisoned}
 
 pub take-requires-clause-able : goal.take-requires-clause-able
 take-requires-clause-able g c k t has = none_poisoned c.self.inside.seat.view t c.self.invariant.1.handles.clean
@@ -26,7 +25,7 @@ invariant_of-self g c =
     let bare = subst (λ (z : StockValue). HasNoHandle (register_in z.registers c.args.reg)) (sym c.self.view_is) c.requires.none in (
       c.take.ensures.region ∙ c.self.invariant.0,
       subst (λ (v : View). IsStock (record i { view = v; registers = slice_set i.registers c.args.reg c.register_with.result })) (sym view)
-          (subst (λ (r : Register). IsStock (record i { view = united i.view p.note.view; registers = slice_set i.registers c.args.reg r })) (sym reg)
+          (subst (λ (r : StockRegister). IsStock (record i { view = united i.view p.note.view; registers = slice_set i.registers c.args.reg r })) (sym reg)
           (taken_stock c.takers_have_handles.ensures c.beginnings_join.ensures c.slots_stay_seen.ensures i c.args.reg p c.self.invariant.1 c.requires.reg bare c.parts-handle.ensures.parked both)),
     )
 
@@ -45,6 +44,6 @@ returns g c =
                 ∙ (ap byte_word_count (sym (ap (λ (n : Share). n.region) c.parts-handle.ensures.note ∙ c.requires.note)) ∙ (sym c.aware.ensures.long
                 ∙ ap (λ (n : Share). length n.view.words) c.parts-handle.ensures.note)));
             after_is = ap (λ (v : View). record i { view = v; registers = slice_set i.registers c.args.reg c.register_with.result }) view
-                ∙ ap (λ (r : Register). record i { view = united i.view p.note.view; registers = slice_set i.registers c.args.reg r }) reg;
+                ∙ ap (λ (r : StockRegister). record i { view = united i.view p.note.view; registers = slice_set i.registers c.args.reg r }) reg;
           });
     }

@@ -1,5 +1,0 @@
-use Rattle.pa_cells.proofs.tests.handles_go_through_two_cells.Given as goal
-
--- the region that was just made
-abbrev pub ghosts-exchange_here : goal.ghosts-exchange_here
-ghosts-exchange_here g a = record { region = a.region.now }

@@ -1,0 +1,10 @@
+pub mod Worked
+pub mod WorkedWrites
+pub mod WorkedPurge
+pub mod WorkedOnly
+pub mod WorkedHeld
+pub mod WorkedKnown
+pub mod WorkedEarly
+pub mod WorkedPlayed
+pub mod WrongRuns
+pub mod told

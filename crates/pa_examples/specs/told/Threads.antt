@@ -1,0 +1,123 @@
+-- The worked run of two threads with what its logs, its lists and its seats tell: one thread gives the other a raw_ptr
+-- through a cell and frees the slot, while the other reads it and finds poison.
+use Rattle.std.specs.Prelude.{ℕ, List, [], ◌∷◌, map, false, Some}
+use Rattle.pa_machine.specs.declared.word.Step.TheVariants.{Issue, Copy, Reset, Free}
+use Rattle.pa_machine.specs.Titles.{poison}
+use Rattle.pa_region.specs.declared.view.Entry.{Entry}
+use Rattle.pa_region.specs.declared.view.Entry.TheVariants.{Counted, Looked, Read, Entered}
+use Rattle.pa_region.specs.declared.view.SeenNumber.{SeenNumber}
+use Rattle.pa_region.specs.Moves.{no_deeds}
+use Rattle.pa_trace.specs.declared.script.Op.TheVariants as ops
+use Rattle.pa_record.specs.declared.entry.Answer.TheVariants as answers
+use Rattle.pa_record.specs.declared.history.CellEntry.{CellEntry}
+use Rattle.pa_record.specs.declared.history.Held.TheVariants as held
+use Rattle.pa_record.specs.declared.pool.PoolEntry.{PoolEntry}
+use Rattle.pa_record.specs.declared.root.RootEntry.{RootEntry}
+use Rattle.pa_record.specs.declared.run.Run.{Run}
+use Rattle.pa_record.specs.Numbers.{root_numbers, pool_numbers, cell_numbers}
+use Rattle.pa_record.specs.Worked.{slots, fill, pool_take}
+use Rattle.pa_rules.specs.Played.{entry_of}
+use Rattle.pa_rules.specs.Told.{told_by}
+use Rattle.pa_examples.specs.Worked.{IsRunOf, seen_at, two_threads_trace, two_threads_records, two_threads_journal, two_threads_pool, two_threads_history, two_threads_report}
+use Rattle.pa_told.specs.Told.{ToldRecord}
+use Rattle.pa_told.specs.Whole.{IsPlayedOut}
+use Rattle.pa_told.specs.Worked.{sixteen, its_title, view_of}
+use Rattle.pa_examples.specs.told.Worked.{Worked, told_records}
+
+-- the slot was seen at this number
+abbrev pub seen_number : ℕ → List SeenNumber
+seen_number n = record { title = its_title; number = n } ∷ []
+
+-- what the two threads entered in the lists of the pool, of the root and of the cells
+abbrev pub took : PoolEntry → Entry
+took e = Entered 4 (record { stake = 0; numbers = pool_numbers e; seen = [] })
+
+abbrev pub filled : RootEntry → Entry
+filled e = Entered 0 (record { stake = 0; numbers = root_numbers e; seen = [] })
+
+abbrev pub exchanged : ℕ → CellEntry → ℕ → Entry
+exchanged stake e n = Entered 5 (record { stake = stake; numbers = cell_numbers e; seen = seen_number n })
+
+-- the entries of the first and of the only others
+abbrev pub the_take : PoolEntry
+the_take = pool_take 2 0 1 (Some 0)
+
+abbrev pub the_fill : RootEntry
+the_fill = fill 2 0 (Some 0) (slots 0 0 (16384 ∷ 16400 ∷ 16416 ∷ 16432 ∷ 16448 ∷ 16464 ∷ 16480 ∷ 16496 ∷ []))
+
+abbrev pub the_gift : CellEntry
+the_gift = record { line = 4; gave = held.Ref (record { start = 16384; born = 0 }); found = held.Nothing }
+
+abbrev pub the_taking : CellEntry
+the_taking = record { line = 7; gave = held.Nothing; found = held.Ref (record { start = 16384; born = 0 }) }
+
+-- a look of the slot that finds this word, and a read right after it that gives poison
+abbrev pub read_poison : ℕ → List Entry
+read_poison word = Looked its_title word ∷ Read its_title 0 poison no_deeds false false ∷ []
+
+-- the read while the other thread frees the slot
+abbrev pub the_read : Worked
+the_read = record {
+  played = record { line = 8; thread = 1; phase = 2; op = ops.Read 0 0; answer = answers.Value (seen_at 16384 0 0x2000003) poison };
+  stretch = read_poison 0x2000003;
+  saw = seen_number 2;
+  gives = seen_number 2;
+}
+
+-- the eight records
+abbrev pub threads_worked : List Worked
+threads_worked =
+    record {
+      played = record { line = 2; thread = 0; phase = 1; op = ops.Alloc 0 0 8; answer = answers.Made (seen_at 16384 0 0) 8 };
+      stretch = took the_take ∷ filled the_fill ∷ Counted its_title Issue 0 0 ∷ [];
+      saw = [];
+      gives = seen_number 1;
+    }
+    ∷ record {
+      played = record { line = 3; thread = 0; phase = 1; op = ops.Copy 0 1; answer = answers.Done (seen_at 16384 0 0x1000001) };
+      stretch = Counted its_title Copy 0x1000001 0 ∷ [];
+      saw = seen_number 1;
+      gives = seen_number 2;
+    }
+    ∷ record {
+      played = record { line = 4; thread = 0; phase = 1; op = ops.Swap 0 1; answer = answers.Swapped 0 };
+      stretch = exchanged 0 the_gift 2 ∷ [];
+      saw = seen_number 2;
+      gives = seen_number 2;
+    }
+    ∷ record {
+      played = record { line = 6; thread = 0; phase = 2; op = ops.Free 0; answer = answers.Done (seen_at 16384 0 0x2000003) };
+      stretch = Counted its_title Free 0x2000003 0 ∷ [];
+      saw = seen_number 2;
+      gives = seen_number 3;
+    }
+    ∷ record {
+      played = record { line = 7; thread = 1; phase = 2; op = ops.Swap 0 0; answer = answers.Swapped 1 };
+      stretch = exchanged 1 the_taking 2 ∷ [];
+      saw = seen_number 2;
+      gives = seen_number 2;
+    }
+    ∷ the_read
+    ∷ record {
+      played = record { line = 10; thread = 1; phase = 3; op = ops.Read 0 0; answer = answers.Dangling (seen_at 16384 0 0x3000002) poison };
+      stretch = read_poison 0x3000002;
+      saw = seen_number 3;
+      gives = seen_number 3;
+    }
+    ∷ record {
+      played = record { line = 11; thread = 1; phase = 3; op = ops.Reset 0; answer = answers.Done (seen_at 16384 0 0x3000002) };
+      stretch = Counted its_title Reset 0x3000002 0 ∷ [];
+      saw = seen_number 3;
+      gives = seen_number 4;
+    }
+    ∷ []
+
+abbrev pub threads_told : List ToldRecord
+threads_told = told_records threads_worked
+
+-- a run that tells what was worked out meets, with these records, all that is asked; a line's place is its number
+abbrev pub TwoThreadsArePlayedOut : Type 0
+TwoThreadsArePlayedOut =
+    (r : Run) →
+    IsRunOf r (map entry_of two_threads_records) (two_threads_journal ∷ []) two_threads_pool (two_threads_history ∷ []) two_threads_report →
+    IsPlayedOut sixteen (λ line. line) two_threads_trace (told_by r) (view_of threads_told) threads_told

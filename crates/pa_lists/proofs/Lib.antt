@@ -1,0 +1,9 @@
+pub mod Members
+pub mod Joined
+pub mod Pairs
+pub mod Different
+pub mod Parts
+pub mod Indexed
+pub mod Elements
+pub mod Tests
+pub mod Options

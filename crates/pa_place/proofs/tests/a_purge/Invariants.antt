@@ -1,6 +1,0 @@
-use Rattle.std.proofs.Common.{◌+◌}
-use Rattle.pa_place.specs.Tests.{IsYoung}
-use Rattle.pa_place.proofs.tests.a_purge.Given as goal
-
-abbrev pub invariant-gives : goal.invariant-gives
-invariant-gives g l = IsYoung (1 + l.at) l.pool-inside.entries l.placement

@@ -1,5 +1,0 @@
-use Rattle.pa_place.specs.Tests.{HasOnlyMaps}
-use Rattle.pa_place.proofs.tests.as_many_direct_maps_as_there_are.Given as goal
-
-abbrev pub invariant-maps : goal.invariant-maps
-invariant-maps g l = HasOnlyMaps l.at l.pool l.placement

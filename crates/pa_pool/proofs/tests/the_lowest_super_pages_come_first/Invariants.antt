@@ -1,5 +1,0 @@
-use Rattle.pa_pool.proofs.tests.the_lowest_super_pages_come_first.Given as goal
-
--- the region that was just made
-abbrev pub ghosts-play : goal.ghosts-play
-ghosts-play g a = record { region = a.region.now }

@@ -1,0 +1,85 @@
+-- What an op does by its register alone is what its row asks: a law for each op.
+use Rattle.std.specs.Prelude.{◌≡◌, ◌↔◌, ℕ, ◌*◌, ◌<◌, ◌≤◌, ◌⊎◌, Result, Ok, Err}
+use Rattle.pa_machine.specs.declared.word.SlotName.{SlotName}
+use Rattle.pa_machine.specs.Count.{refs_of}
+use Rattle.pa_record.specs.declared.entry.Seen.{Seen}
+use Rattle.pa_record.specs.declared.entry.Answer.{Answer}
+use Rattle.pa_record.specs.declared.entry.Answer.TheVariants.{Done, Filled, Shared, OutOfRange}
+use Rattle.pa_rules.specs.declared.register.Register.TheVariants.{Ref, Freed, Cleared}
+use Rattle.pa_rules.specs.declared.register.Next.{Next}
+use Rattle.pa_rules.specs.declared.register.Next.TheVariants.{Refused, Step, Look}
+use Rattle.pa_rules.specs.Registers.{Reg, Regs, Facts, with, Becomes, RequestRow, AllocRow, CopyToRow, CopyRow, ResetRow, FreeRow, WriteRow, ReadRow}
+use Rattle.pa_rules.specs.Nexts.{HasSomeHandle, copy_next, reset_next, free_next, write_next, read_next, looked_free, looked_write, looked_read}
+
+-- an op that is refused with this answer
+abbrev pub IsRefusedSo : Answer → Regs → Answer → Regs → Type 0
+IsRefusedSo refusal regs answer after = (answer ≡ refusal) × Becomes after regs
+
+-- a step on slot s that was made, and leaves these registers
+abbrev pub IsStepped : SlotName → Regs → Answer → Regs → Type 0
+IsStepped s regs answer after = (seen : Seen) × (seen.slot ≡ s) × (answer ≡ Done seen) × Becomes after regs
+
+-- a look at slot s, which is answered so
+abbrev pub IsAnsweredBy : (Seen → Answer) → SlotName → Regs → Answer → Regs → Type 0
+IsAnsweredBy looked s regs answer after = (seen : Seen) × (seen.slot ≡ s) × (answer ≡ looked seen) × Becomes after regs
+
+-- a copy: the row of its second register says what its step asks
+abbrev pub CopyBy : Result SlotName Answer → Regs → ℕ → Answer → Regs → Type 0
+CopyBy (Ok s) regs to answer after = CopyToRow (regs to) s regs to answer after
+CopyBy (Err refusal) regs to answer after = IsRefusedSo refusal regs answer after
+
+abbrev pub CopiesAreNext : Type 0
+CopiesAreNext = (r : Reg) (regs : Regs) (to : ℕ) (answer : Answer) (after : Regs) →
+    CopyRow r regs to answer after ↔ CopyBy (copy_next r) regs to answer after
+
+abbrev pub ResetBy : Result SlotName Answer → Regs → ℕ → Answer → Regs → Type 0
+ResetBy (Ok s) regs reg answer after = IsStepped s (with regs reg Cleared) answer after
+ResetBy (Err refusal) regs reg answer after = IsRefusedSo refusal regs answer after
+
+abbrev pub ResetsAreNext : Type 0
+ResetsAreNext = (r : Reg) (regs : Regs) (reg : ℕ) (answer : Answer) (after : Regs) →
+    ResetRow r regs reg answer after ↔ ResetBy (reset_next r) regs reg answer after
+
+abbrev pub FreeBy : Next SlotName → Regs → ℕ → Answer → Regs → Type 0
+FreeBy (Refused refusal) regs reg answer after = IsRefusedSo refusal regs answer after
+FreeBy (Step s) regs reg answer after = IsStepped s (with regs reg Freed) answer after
+FreeBy (Look s) regs reg answer after = IsAnsweredBy looked_free s regs answer after
+
+abbrev pub FreesAreNext : Type 0
+FreesAreNext = (r : Reg) (regs : Regs) (reg : ℕ) (answer : Answer) (after : Regs) →
+    FreeRow r regs reg answer after ↔ FreeBy (free_next r) regs reg answer after
+
+-- a write by the owner is made where no raw_ptr points to the slot
+abbrev pub WriteBy : Next SlotName → Regs → Answer → Regs → Type 0
+WriteBy (Refused refusal) regs answer after = IsRefusedSo refusal regs answer after
+WriteBy (Step s) regs answer after =
+    (seen : Seen) × (seen.slot ≡ s) × Becomes after regs
+    × (((0 < refs_of seen.found.0) × (answer ≡ Shared seen)) ⊎ ((refs_of seen.found.0 ≡ 0) × (answer ≡ Done seen)))
+WriteBy (Look s) regs answer after = IsAnsweredBy looked_write s regs answer after
+
+abbrev pub WritesAreNext : Type 0
+WritesAreNext = (r : Reg) (regs : Regs) (answer : Answer) (after : Regs) →
+    WriteRow r regs answer after ↔ WriteBy (write_next r) regs answer after
+
+-- a read is made of a word inside the usable bytes
+abbrev pub ReadBy : Result SlotName Answer → Facts → Regs → ℕ → Answer → Regs → Type 0
+ReadBy (Err refusal) facts regs place answer after = IsRefusedSo refusal regs answer after
+ReadBy (Ok s) facts regs place answer after =
+    ((facts.usable_at s ≤ 8 * place) × (answer ≡ OutOfRange) × Becomes after regs)
+    ⊎ ((8 * place < facts.usable_at s) × (value : ℕ) × IsAnsweredBy (λ seen. looked_read seen value) s regs answer after)
+
+abbrev pub ReadsAreNext : Type 0
+ReadsAreNext = (r : Reg) (facts : Facts) (regs : Regs) (place : ℕ) (answer : Answer) (after : Regs) →
+    ReadRow r facts regs place answer after ↔ ReadBy (read_next r) facts regs place answer after
+
+-- A register that has a handle gets no other: an allocation into it and a copy to it are refused. Into one that has none an
+-- allocation is a request, and a copy makes it a raw_ptr.
+pub record HandlesStay : Type 0 where
+  pub alloc_filled : (r : Reg) (facts : Facts) (regs : Regs) (reg size : ℕ) (answer : Answer) (after : Regs) → HasSomeHandle r →
+      AllocRow r facts regs reg size answer after ↔ IsRefusedSo Filled regs answer after
+  pub alloc_asks : (r : Reg) (facts : Facts) (regs : Regs) (reg size : ℕ) (answer : Answer) (after : Regs) → ¬ HasSomeHandle r →
+      AllocRow r facts regs reg size answer after ↔ RequestRow facts regs reg size answer after
+  pub copy_filled : (r : Reg) (s : SlotName) (regs : Regs) (to : ℕ) (answer : Answer) (after : Regs) → HasSomeHandle r →
+      CopyToRow r s regs to answer after ↔ IsRefusedSo Filled regs answer after
+  pub copy_points : (r : Reg) (s : SlotName) (regs : Regs) (to : ℕ) (answer : Answer) (after : Regs) → ¬ HasSomeHandle r →
+      CopyToRow r s regs to answer after ↔ IsStepped s (with regs to (Ref s)) answer after

@@ -1,0 +1,56 @@
+use Rattle.std.proofs.Common.{sym, ◌∙◌, subst, arith}
+use Rattle.pa_course.specs.Gathering.{IsMain}
+use Rattle.pa_runner.specs.Phases.{worker_in}
+use Rattle.pa_runner.specs.Reporting.{IsReported}
+use Rattle.pa_runner.proofs.Passing.{passed_stakes, passed, passed_asked, passed_every, passed_few}
+use Rattle.pa_runner.proofs.phases.Playing.pass_phase.Goals as goal
+
+pub tell_all-requires-clause-main : goal.tell_all-requires-clause-main
+tell_all-requires-clause-main g c = subst (λ n. IsMain n c.args.seat.now.view) (sym c.play_phase.ensures.count) c.requires.main
+
+pub tell_all-requires-clause-stakes : goal.tell_all-requires-clause-stakes
+tell_all-requires-clause-stakes g c =
+    passed_stakes c.args.queues.now c.args.workers.now c.play_phase.new.workers c.requires.ready c.play_phase.ensures.count c.play_phase.ensures.played
+    (c.any_stopped.ensures c.if-any_stopped.false)
+
+pub report_phase-requires-clause-every : goal.report_phase-requires-clause-every
+report_phase-requires-clause-every g c =
+    let queues = c.args.queues.now in
+    let before = c.args.workers.now in
+    let first = c.args.seat.now.view in
+    let told = c.tell_all in
+    let went = passed queues before c.play_phase.new.workers c.requires.ready c.play_phase.ensures.count c.play_phase.ensures.played
+    (c.any_stopped.ensures c.if-any_stopped.false) told.new.workers first told.new.seat.view told.ensures.heard told.ensures.told in
+    passed_every queues before told.new.workers first told.new.seat.view went
+
+pub report_phase-requires-clause-few : goal.report_phase-requires-clause-few
+report_phase-requires-clause-few g c k low =
+    let queues = c.args.queues.now in
+    let before = c.args.workers.now in
+    let first = c.args.seat.now.view in
+    let told = c.tell_all in
+    let went = passed queues before c.play_phase.new.workers c.requires.ready c.play_phase.ensures.count c.play_phase.ensures.played
+    (c.any_stopped.ensures c.if-any_stopped.false) told.new.workers first told.new.seat.view told.ensures.heard told.ensures.told in
+    let played = c.play_phase.ensures.count in
+    let count = told.ensures.count in
+    passed_few queues before told.new.workers first told.new.seat.view went c.requires.ready c.requires.few k (omega arith)
+
+pub returns-clause-passed : goal.returns-clause-passed
+returns-clause-passed g c =
+    let queues = c.args.queues.now in
+    let before = c.args.workers.now in
+    let first = c.args.seat.now.view in
+    let told = c.tell_all in
+    let went = passed queues before c.play_phase.new.workers c.requires.ready c.play_phase.ensures.count c.play_phase.ensures.played
+    (c.any_stopped.ensures c.if-any_stopped.false) told.new.workers first told.new.seat.view told.ensures.heard told.ensures.told in
+    passed_asked queues before told.new.workers first told.new.seat.view went c.report_phase.new.seat.view c.in_ok-report_phase.ensures.reported.asked
+
+pub returns-clause-reported : goal.returns-clause-reported
+returns-clause-reported g c =
+    let told = c.tell_all in
+    let asked = c.report_phase in (
+      told.new.seat.view,
+      subst (λ n. IsReported c.args.phase c.args.self.now.trace.now.partitions n (worker_in told.new.workers) told.new.seat.view asked.new.seat.view
+          c.args.report.now.items asked.new.report.items)
+          (told.ensures.count ∙ c.play_phase.ensures.count) c.in_ok-report_phase.ensures.reported,
+    )

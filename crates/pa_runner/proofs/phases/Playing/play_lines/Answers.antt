@@ -1,0 +1,27 @@
+use Rattle.std.proofs.Common.{◌∙◌}
+use Rattle.pa_runner.proofs.PlayedLines.{plays_none, next_ready, next_limits, next_new, next_ok, all_lines, same_thread}
+use Rattle.pa_runner.proofs.phases.Playing.play_lines.Goals as goal
+
+pub loop-due-init : goal.loop-due-init
+loop-due-init g c = record { can = c.requires.ready; played = plays_none c.args.worker.now c.args.lines.now c.requires.ready }
+
+pub play_line-requires-clause-thread : goal.play_line-requires-clause-thread
+play_line-requires-clause-thread g c κs within = same_thread c.loop-due.invariant.played ∙ c.requires.thread
+
+pub play_line-requires-clause-ready : goal.play_line-requires-clause-ready
+play_line-requires-clause-ready g c κs within = next_ready c.args.lines.now c.loop-due.due-index c.loop-due.worker c.loop-due-test.true c.loop-due.invariant.can
+
+pub play_line-requires-clause-limits : goal.play_line-requires-clause-limits
+play_line-requires-clause-limits g c κs within = next_limits c.args.lines.now c.loop-due.due-index _ c.loop-due.worker c.loop-due-test.true c.loop-due.invariant.can
+
+pub play_line-requires-clause-new : goal.play_line-requires-clause-new
+play_line-requires-clause-new g c κs within = next_new c.args.lines.now c.loop-due.due-index _ c.loop-due.worker c.loop-due-test.true c.loop-due.invariant.can
+
+pub loop-due-preserved : goal.loop-due-preserved
+loop-due-preserved g c =
+    let both = next_ok c.args.lines.now c.loop-due.due-index _ c.args.worker.now c.loop-due.worker c.play_line.new.worker c.play_line.result c.in-Ok.field-0 c.in-Ok.is c.play_line.ensures.plays
+    c.loop-due-test.true c.loop-due.invariant.can c.loop-due.invariant.played in
+    record { can = both.0; played = both.1 }
+
+pub returns : goal.returns
+returns g c going = all_lines c.args.lines.now c.loop-due.due-index c.args.worker.now c.loop-due.worker c.loop-due-test.false c.loop-due.invariant.played

@@ -1,0 +1,28 @@
+use Rattle.std.proofs.Common.{IfOk, sym, subst}
+use Rattle.pa_trace.specs.declared.script.Op.{Op}
+use Rattle.pa_plays.specs.Plays.{PlaysOp}
+use Rattle.pa_runner.proofs.thread_lines.play_op.Goals as goal
+
+pub returns-in-Alloc-clause-plays : goal.returns-in-Alloc-clause-plays
+returns-in-Alloc-clause-plays g c = subst (λ (op : Op). IfOk c.alloc.result (λ answer. PlaysOp c.args.due.line op answer c.args.worker.now c.alloc.new.self)) (sym c.in-Alloc.is) c.alloc.ensures.plays
+
+pub returns-in-Copy-clause-plays : goal.returns-in-Copy-clause-plays
+returns-in-Copy-clause-plays g c = subst (λ (op : Op). PlaysOp c.args.due.line op c.copy.result c.args.worker.now c.copy.new.self) (sym c.in-Copy.is) c.copy.ensures.plays
+
+pub returns-in-Reset-clause-plays : goal.returns-in-Reset-clause-plays
+returns-in-Reset-clause-plays g c = subst (λ (op : Op). IfOk c.reset.result (λ answer. PlaysOp c.args.due.line op answer c.args.worker.now c.reset.new.self)) (sym c.in-Reset.is) c.reset.ensures.plays
+
+pub returns-in-Free-clause-plays : goal.returns-in-Free-clause-plays
+returns-in-Free-clause-plays g c = subst (λ (op : Op). IfOk c.free.result (λ answer. PlaysOp c.args.due.line op answer c.args.worker.now c.free.new.self)) (sym c.in-Free.is) c.free.ensures.plays
+
+pub returns-in-Write-clause-plays : goal.returns-in-Write-clause-plays
+returns-in-Write-clause-plays g c = subst (λ (op : Op). PlaysOp c.args.due.line op c.write.result c.args.worker.now c.write.new.self) (sym c.in-Write.is) c.write.ensures.plays
+
+pub returns-in-Read-clause-plays : goal.returns-in-Read-clause-plays
+returns-in-Read-clause-plays g c = subst (λ (op : Op). PlaysOp c.args.due.line op c.deref.result c.args.worker.now c.deref.new.self) (sym c.in-Read.is) c.deref.ensures.plays
+
+pub returns-in-Swap-clause-plays : goal.returns-in-Swap-clause-plays
+returns-in-Swap-clause-plays g c = subst (λ (op : Op). IfOk c.exchange.result (λ answer. PlaysOp c.args.due.line op answer c.args.worker.now c.exchange.new.self)) (sym c.in-Swap.is) c.exchange.ensures.plays
+
+pub returns-in-Purge-clause-plays : goal.returns-in-Purge-clause-plays
+returns-in-Purge-clause-plays g c = subst (λ (op : Op). IfOk c.purge.result (λ answer. PlaysOp c.args.due.line op answer c.args.worker.now c.purge.new.self)) (sym c.in-Purge.is) c.purge.ensures.plays

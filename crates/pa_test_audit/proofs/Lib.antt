@@ -1,0 +1,2 @@
+pub mod Homed
+pub mod Shortness

@@ -1,0 +1,394 @@
+ghost use Rattle.std.specs.Prelude.{◌≡◌, ℕ, ◌<◌, All, Contains, IsTrue, Some, length};
+ghost use Rattle.pa_audit_records.specs.ByKeys.{value_at};
+ghost use Rattle.pa_machine.specs.declared.word.SlotName.{SlotName as Name};
+ghost use Rattle.pa_record.specs.Laws.{leaves_by};
+ghost use Rattle.pa_record.specs.Root.{names};
+ghost use Rattle.pa_rules.specs.Roots.{journal_at};
+ghost use Rattle.pa_audit_records.specs.Keys.{name_key};
+ghost use Rattle.pa_audit_holders.specs.Homes.{AreHomedIn, HasOneHome, home_by};
+ghost use Rattle.pa_audit_holders.specs.Rows.{IsOfThreads};
+
+use pa_audit_holders::{Books, Home, caches_meet, found_home, homes_of};
+use pa_audit_records::{ByKey, Salt};
+use pa_buckets::{Class, slot_size};
+use pa_dense::{Act, DenseEntry, DenseJournal};
+use pa_machine::{OutOfMemory, SlotName, Word};
+use pa_record::{Answer, Batch, Journal, Numbered, RootAct, RootEntry, Seen};
+use pa_rules::Played;
+use pa_trace::Op;
+use std::alloc::Global;
+use std::test::Fail;
+
+// What the checker tells: the first record that doesn't meet its demand.
+#[derive(Clone, Copy, Debug, PartialEq, Eq)]
+enum First {
+    Nowhere,
+    Record(u32),
+    // The lists are none that the checker takes.
+    Unfit,
+}
+
+fn first_of(
+    alloc: Global,
+    records: &[Played],
+    roots: &[DenseJournal],
+) -> Result<First, OutOfMemory> {
+    if records.len() >= 1000 || roots.len() > 4 || !are_short(roots) || !are_within(records) {
+        return Ok(First::Unfit);
+    }
+    let salt = Salt::of(records, roots);
+    let homes = homes_of(alloc, salt, roots)?;
+    if !are_homed(&homes, roots) {
+        return Ok(First::Unfit);
+    }
+    let books = Books::of(alloc, 1, records, roots, &homes)?;
+    let found = caches_meet(alloc, &books, 16, &[])?;
+    match found.misfit {
+        Some(at) => Ok(First::Record(at)),
+        None => Ok(First::Nowhere),
+    }
+}
+
+// Whether the records are of 16 threads and four partitions.
+pub(crate) fn are_within(records: &[Played]) -> bool
+    ensures { IsTrue result → All IsOfThreads records.now }
+{
+    for found in records {
+        if !is_within(*found) {
+            return false;
+        }
+    }
+    true
+}
+
+fn is_within(found: Played) -> bool
+    ensures { IsTrue result → IsOfThreads found }
+{
+    match found.op {
+        Op::Alloc { partition, .. } => found.thread < 16 && partition < 4,
+        _ => found.thread < 16,
+    }
+}
+
+// Whether each journal has less than 1,000 entries.
+pub(crate) fn are_short(roots: &[DenseJournal]) -> bool
+    ensures { IsTrue result → (p : ℕ) → length (journal_at roots.now p) < 4294967296 }
+{
+    for journal in roots {
+        if journal.entries().len() >= 1000 {
+            return false;
+        }
+    }
+    true
+}
+
+// Whether this is the slot's home.
+fn is_homed(homes: &ByKey<Home>, home: Home, slot: SlotName) -> bool
+    ensures { IsTrue result → value_at homes.now (name_key slot) ≡ Some home }
+{
+    match found_home(homes, slot) {
+        Some(found) => {
+            found.partition == home.partition
+                && found.bytes == home.bytes
+                && is_same_class(found.class, home.class)
+        }
+        None => false,
+    }
+}
+
+fn is_same_class(a: Option<u32>, b: Option<u32>) -> bool
+    ensures { IsTrue result → a ≡ b }
+{
+    match (a, b) {
+        (Some(a), Some(b)) => a == b,
+        (None, None) => true,
+        _ => false,
+    }
+}
+
+fn are_slots_homed(homes: &ByKey<Home>, home: Home, slots: &[Numbered]) -> bool
+    ensures { IsTrue result → (s : Name) → Contains (names slots.now) s → value_at homes.now (name_key s) ≡ Some home }
+{
+    for slot in slots {
+        if !is_homed(homes, home, slot.slot) {
+            return false;
+        }
+    }
+    true
+}
+
+// Whether the home of each slot that the entry handed out is the one that the entry gave it.
+fn is_entry_homed(homes: &ByKey<Home>, partition: u32, entry: &DenseEntry) -> bool
+    ensures { IsTrue result → (s : Name) → Contains (leaves_by entry.now.act) s
+        → value_at homes.now (name_key s) ≡ Some (home_by partition entry.now.act) }
+{
+    match entry.act() {
+        Act::Fill { class, slots, .. } => {
+            let home = Home {
+                partition,
+                class: Some(class.number()),
+                bytes: slot_size(class),
+            };
+            are_slots_homed(homes, home, slots.items())
+        }
+        Act::Map { slot, len, .. } => {
+            let home = Home {
+                partition,
+                class: None,
+                bytes: len,
+            };
+            is_homed(homes, home, slot)
+        }
+        _ => true,
+    }
+}
+
+fn is_journal_homed(
+    homes: &ByKey<Home>,
+    roots: &[DenseJournal],
+    partition: u32,
+    journal: &DenseJournal,
+) -> bool
+    requires journal { journal_at roots.now partition ≡ journal.now }
+    ensures { IsTrue result → AreHomedIn (journal_at roots.now) (value_at homes.now) partition }
+{
+    for entry in journal.entries() {
+        if !is_entry_homed(homes, partition, entry) {
+            return false;
+        }
+    }
+    true
+}
+
+// Whether each slot of the journals has one home.
+pub(crate) fn are_homed(homes: &ByKey<Home>, roots: &[DenseJournal]) -> bool
+    requires { length roots.now < 4294967296 }
+    ensures { IsTrue result → (s : Name) → HasOneHome (journal_at roots.now) s }
+{
+    let mut partition: u32 = 0;
+    for journal in roots {
+        if !is_journal_homed(homes, roots, partition, journal) {
+            return false;
+        }
+        partition += 1;
+    }
+    true
+}
+
+fn name(start: u32, born: u32) -> SlotName {
+    SlotName { start, born }
+}
+
+pub(crate) fn numbered(start: u32, born: u32, number: u64) -> Numbered {
+    let slot = name(start, born);
+    Numbered { slot, number }
+}
+
+fn seen(start: u32, born: u32, word: u64) -> Seen {
+    let slot = name(start, born);
+    let found = Word(word);
+    Seen { slot, found }
+}
+
+// A record of thread 0 in phase 1.
+fn record(line: u32, op: Op, answer: Answer) -> Played {
+    Played {
+        line,
+        thread: 0,
+        phase: 1,
+        op,
+        answer,
+    }
+}
+
+pub(crate) fn alloc_of(size: u32) -> Op {
+    let reg = 0;
+    let partition = 0;
+    Op::Alloc {
+        reg,
+        partition,
+        size,
+    }
+}
+
+pub(crate) fn made(start: u32, born: u32, word: u64) -> Answer {
+    let seen = seen(start, born, word);
+    let usable = 8;
+    Answer::Made { seen, usable }
+}
+
+pub(crate) fn done(start: u32, born: u32, word: u64) -> Answer {
+    let seen = seen(start, born, word);
+    Answer::Done { seen }
+}
+
+pub(crate) const FREE: Op = Op::Free { reg: 0 };
+
+pub(crate) fn fill(line: u32, class: Class, pool: Option<u32>, slots: Batch) -> RootEntry {
+    RootEntry {
+        line,
+        act: RootAct::Fill { class, pool, slots },
+    }
+}
+
+pub(crate) fn give(line: u32, slots: Batch) -> RootEntry {
+    RootEntry {
+        line,
+        act: RootAct::Give { slots },
+    }
+}
+
+pub(crate) fn purge(line: u32) -> RootEntry {
+    RootEntry {
+        line,
+        act: RootAct::Purge,
+    }
+}
+
+// The journal of these entries.
+pub(crate) fn dense_of(
+    alloc: Global,
+    entries: Vec<RootEntry>,
+) -> Result<DenseJournal, OutOfMemory> {
+    DenseJournal::of(alloc, &Journal::of(entries))
+}
+
+// Eight slots of 16 bytes, the first at this number, the second starts there.
+pub(crate) fn row(number: u64, second: u32) -> Batch {
+    let mut batch = Batch::new();
+    batch.push(numbered(0x4000, 0, number));
+    batch.push(numbered(second, 0, 0));
+    batch.push(numbered(0x4020, 0, 0));
+    batch.push(numbered(0x4030, 0, 0));
+    batch.push(numbered(0x4040, 0, 0));
+    batch.push(numbered(0x4050, 0, 0));
+    batch.push(numbered(0x4060, 0, 0));
+    batch.push(numbered(0x4070, 0, 0));
+    batch
+}
+
+// A slot of a fill of eight is made, freed and goes back with the others in a purge; the next allocation fills again. The
+// second slot that goes back starts at `second`; an entry more stands on line `more`.
+fn purge_roots(alloc: Global, second: u32, more: u32) -> Result<Vec<DenseJournal>, Fail> {
+    let class = Class::of(0).ok_or("no such class")?;
+    let mut entries = Vec::new(alloc);
+    entries.push(fill(2, class, Some(0), row(0, 0x4010)))?;
+    entries.push(give(4, row(2, second)))?;
+    entries.push(purge(4))?;
+    entries.push(fill(5, class, None, row(2, 0x4010)))?;
+    entries.push(purge(more))?;
+    let mut roots = Vec::new(alloc);
+    roots.push(dense_of(alloc, entries)?)?;
+    Ok(roots)
+}
+
+fn purge_records(slots: u32, thread: u32, start: u32) -> [Played; 4] {
+    let mut records = [
+        record(2, alloc_of(8), made(0x4000, 0, 0)),
+        record(3, FREE, done(0x4000, 0, 0x1000001)),
+        record(4, Op::Purge, Answer::Purged { slots }),
+        record(5, alloc_of(8), made(start, 0, 0x2000000)),
+    ];
+    records[2].thread = thread;
+    records
+}
+
+#[test]
+fn a_purge_gives_all_back(rt: HostRuntime) -> Result<(), Fail> {
+    let alloc = rt.alloc();
+    let roots = purge_roots(alloc, 0x4010, 9)?;
+    let first = first_of(alloc, &purge_records(8, 0, 0x4000), &roots)?;
+    assert!(rt; first == First::Nowhere);
+    Ok(())
+}
+
+// A purge that says one slot less than its lists had.
+#[test]
+fn a_purge_of_seven(rt: HostRuntime) -> Result<(), Fail> {
+    let alloc = rt.alloc();
+    let roots = purge_roots(alloc, 0x4010, 9)?;
+    let first = first_of(alloc, &purge_records(7, 0, 0x4000), &roots)?;
+    assert!(rt; first == First::Record(2));
+    Ok(())
+}
+
+// A slot goes back that isn't the second of its list; and a purge by a thread whose lists are empty.
+#[test]
+fn a_purge_of_other_lists(rt: HostRuntime) -> Result<(), Fail> {
+    let alloc = rt.alloc();
+    let other = purge_roots(alloc, 0x4020, 9)?;
+    let first = first_of(alloc, &purge_records(8, 0, 0x4000), &other)?;
+    assert!(rt; first == First::Record(2));
+    let roots = purge_roots(alloc, 0x4010, 9)?;
+    let first = first_of(alloc, &purge_records(8, 1, 0x4000), &roots)?;
+    assert!(rt; first == First::Record(2));
+    Ok(())
+}
+
+// The slot that was made isn't the front of what was filled.
+#[test]
+fn a_slot_that_is_not_the_front(rt: HostRuntime) -> Result<(), Fail> {
+    let alloc = rt.alloc();
+    let roots = purge_roots(alloc, 0x4010, 9)?;
+    let first = first_of(alloc, &purge_records(8, 0, 0x4010), &roots)?;
+    assert!(rt; first == First::Record(3));
+    Ok(())
+}
+
+// A free whose list keeps its slot has an entry.
+#[test]
+fn an_entry_too_many(rt: HostRuntime) -> Result<(), Fail> {
+    let alloc = rt.alloc();
+    let roots = purge_roots(alloc, 0x4010, 3)?;
+    let first = first_of(alloc, &purge_records(8, 0, 0x4000), &roots)?;
+    assert!(rt; first == First::Record(1));
+    Ok(())
+}
+
+// One slot, at this number.
+pub(crate) fn single(number: u64) -> Batch {
+    let mut batch = Batch::new();
+    batch.push(numbered(0x4000, 0, number));
+    batch
+}
+
+// A slot of class 40, of which a thread keeps none, is made and freed twice; the second time it goes back on line `back`.
+fn large_roots(alloc: Global, back: u32) -> Result<Vec<DenseJournal>, Fail> {
+    let class = Class::of(40).ok_or("no such class")?;
+    let mut entries = Vec::new(alloc);
+    entries.push(fill(2, class, Some(0), single(0)))?;
+    entries.push(give(3, single(2)))?;
+    entries.push(fill(4, class, None, single(2)))?;
+    entries.push(give(back, single(4)))?;
+    let mut roots = Vec::new(alloc);
+    roots.push(dense_of(alloc, entries)?)?;
+    Ok(roots)
+}
+
+fn large_records() -> [Played; 4] {
+    [
+        record(2, alloc_of(40000), made(0x4000, 0, 0)),
+        record(3, FREE, done(0x4000, 0, 0x1000001)),
+        record(4, alloc_of(40000), made(0x4000, 0, 0x2000000)),
+        record(5, FREE, done(0x4000, 0, 0x3000001)),
+    ]
+}
+
+#[test]
+fn a_large_slot_goes_back_at_once(rt: HostRuntime) -> Result<(), Fail> {
+    let alloc = rt.alloc();
+    let roots = large_roots(alloc, 5)?;
+    let first = first_of(alloc, &large_records(), &roots)?;
+    assert!(rt; first == First::Nowhere);
+    Ok(())
+}
+
+// It stays in its list.
+#[test]
+fn a_large_slot_that_stays(rt: HostRuntime) -> Result<(), Fail> {
+    let alloc = rt.alloc();
+    let roots = large_roots(alloc, 9)?;
+    let first = first_of(alloc, &large_records(), &roots)?;
+    assert!(rt; first == First::Record(3));
+    Ok(())
+}

@@ -1,0 +1,6 @@
+use Rattle.std.proofs.Common.{arith}
+use Rattle.pa_io.proofs.Moves.{Takes_more}
+use Rattle.pa_test_base.proofs.sources.write_all.Goals as goal
+
+pub loop-rest-preserved : goal.loop-rest-preserved
+loop-rest-preserved g c = (Takes_more _ _ _ _ _ _ _ c.loop-rest.invariant.0 c.in_ok-n.ensures.takes c.split_at.ensures.back, omega arith)

@@ -1,0 +1,77 @@
+ghost use Rattle.std.specs.Prelude.{◌+◌, ◌^◌, ◌<◌};
+
+use pa_buckets::{Class, SpanShape, cache_limit, class_of, fill_count, raw_of, slot_size, span_of};
+
+// The class of a request of that many bytes.
+fn number_for(size: u32) -> Option<u32>
+    requires { size + 8 < 2 ^ 32 }
+{
+    class_of(raw_of(size)).map(|class| class.number())
+}
+
+#[test]
+fn requests_on_both_sides_of_an_edge(rt: HostRuntime) {
+    assert!(rt; number_for(0) == Some(0));
+    assert!(rt; number_for(8) == Some(0));
+    assert!(rt; number_for(9) == Some(1));
+    assert!(rt; number_for(88) == Some(5));
+    assert!(rt; number_for(89) == Some(6));
+    assert!(rt; number_for(248) == Some(11));
+    assert!(rt; number_for(249) == Some(12));
+    assert!(rt; number_for(376) == Some(13));
+    assert!(rt; number_for(888) == Some(18));
+    assert!(rt; number_for(917496) == Some(58));
+    assert!(rt; number_for(917497) == None);
+    assert!(rt; number_for(33521656) == None);
+}
+
+#[test]
+fn span_shapes(rt: HostRuntime) {
+    let shapes = [
+        (5, 96, 1, 4, 170, 64),
+        (11, 256, 1, 4, 64, 0),
+        (12, 320, 1, 4, 51, 64),
+        (13, 384, 3, 12, 128, 0),
+        (18, 896, 2, 7, 32, 0),
+        (58, 917504, 56, 224, 1, 0),
+    ];
+    for (number, slot, pages, system_pages, slots, waste) in shapes {
+        let shape = SpanShape {
+            pages,
+            system_pages,
+            slots,
+            waste,
+        };
+        match Class::of(number) {
+            Some(class) => {
+                assert_eq!(rt; slot_size(class), slot, "size at {number}");
+                assert!(rt; span_of(class) == shape, "span at {number}");
+            }
+            None => assert!(rt; false, "no class {number}"),
+        }
+    }
+    assert!(rt; Class::of(59) == None);
+}
+
+#[test]
+fn limits_on_both_sides_of_an_edge(rt: HostRuntime) {
+    let edges = [
+        (0, 64, 8),
+        (7, 64, 8),
+        (8, 32, 4),
+        (19, 32, 4),
+        (20, 16, 2),
+        (39, 16, 2),
+        (40, 0, 1),
+        (58, 0, 1),
+    ];
+    for (number, limit, count) in edges {
+        match Class::of(number) {
+            Some(class) => {
+                assert_eq!(rt; cache_limit(class), limit, "limit at {number}");
+                assert_eq!(rt; fill_count(class), count, "count at {number}");
+            }
+            None => assert!(rt; false, "no class {number}"),
+        }
+    }
+}

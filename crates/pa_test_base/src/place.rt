@@ -1,0 +1,374 @@
+ghost use Rattle.std.specs.Prelude.{◌≡◌, ℕ, ◌+◌, ◌*◌, ◌<◌, ◌≤◌, [], OnOk};
+ghost use Rattle.pa_test_base.specs.Placing.{IsYoung, HasOnlyMaps};
+
+use arrayvec::ArrayVec;
+use pa_buckets::Class;
+use pa_machine::SlotName;
+use pa_place::{Out, Placement, PlainRoot, PoolPlan, ask};
+use pa_record::{Census, Tally};
+use std::process::Abort;
+use std::test::Fail;
+
+// What a fill has to do: the entry of the pool that it makes, and where its slots start.
+#[derive(Clone, Copy)]
+struct Expected<'a> {
+    pool: Option<u32>,
+    starts: &'a [u32],
+}
+
+// A fill of `want` slots of the class. At most so many steps were made before.
+fn fill(
+    rt: &impl Abort,
+    placement: &mut Placement,
+    pool: &mut PoolPlan,
+    steps: u32,
+    class: u32,
+    want: u32,
+    expected: Expected<'_>,
+) -> Result<(), Fail>
+    requires young { IsYoung steps pool.old.entries placement.old }
+    requires few { steps < 10000 }
+    requires some { 1 ≤ want }
+    requires most { want ≤ 8 }
+    ensures young { OnOk result (IsYoung (steps + 1) pool.new.entries placement.new) }
+{
+    let class = Class::of(class).ok_or("no such class")?;
+    let placed = placement.fill(pool, class, want)?;
+    assert!(rt; placed.pool == expected.pool);
+    let titles = placed.titles.as_slice();
+    assert_eq!(rt; titles.len(), expected.starts.len());
+    for (title, start) in titles.iter().zip(expected.starts) {
+        assert_eq!(rt; title.start, *start);
+        assert_eq!(rt; title.born, 0);
+    }
+    Ok(())
+}
+
+// The slot that starts there is returned. At most so many steps were made before.
+fn give(rt: &impl Abort, placement: &mut Placement, steps: u32, start: u32) -> Result<(), Fail>
+    requires turn { placement.old.turn ≤ 32 * steps }
+    requires maps { placement.old.maps ≡ [] }
+    requires few { steps < 10000 }
+    ensures young { OnOk result ((n : ℕ) → IsYoung steps n placement.old → IsYoung (steps + 1) n placement.new) }
+{
+    let name = SlotName { start, born: 0 };
+    let Some(Out::Slot(title)) = placement.out(name) else {
+        return Err(Fail::new("the slot isn't out"));
+    };
+    placement.give(&[title]);
+    assert!(rt; placement.out(name) == None);
+    Ok(())
+}
+
+// A direct map of 2,002,944 bytes at the start of the region, by this entry of the pool, or none where there is no room.
+fn map(
+    rt: &impl Abort,
+    placement: &mut Placement,
+    pool: &mut PoolPlan,
+    steps: u32,
+    entry: u32,
+    room: bool,
+) -> Result<(), Fail>
+    requires few { steps < 10000 }
+    requires maps { HasOnlyMaps steps pool.old placement.old }
+    ensures maps { OnOk result (HasOnlyMaps (steps + 1) pool.new placement.new) }
+{
+    let placed = placement.map(pool, 2002944, 1)?;
+    assert!(rt; placed.pool == Some(entry));
+    let titles = placed.titles.as_slice();
+    if room {
+        assert_eq!(rt; titles.len(), 1);
+        assert_eq!(rt; titles[0].start, 16384);
+        assert_eq!(rt; titles[0].len, 2002944);
+        assert_eq!(rt; titles[0].born, entry);
+    } else {
+        assert!(rt; titles.is_empty());
+    }
+    Ok(())
+}
+
+// That direct map goes back, by this entry of the pool.
+fn unmap(
+    rt: &impl Abort,
+    placement: &mut Placement,
+    pool: &mut PoolPlan,
+    steps: u32,
+    born: u32,
+    entry: u32,
+) -> Result<(), Fail>
+    requires few { steps < 10000 }
+    requires maps { HasOnlyMaps steps pool.old placement.old }
+    ensures maps { OnOk result (HasOnlyMaps (steps + 1) pool.new placement.new) }
+{
+    let name = SlotName { start: 16384, born };
+    let Some(Out::Map(title)) = placement.out(name) else {
+        return Err(Fail::new("the map isn't out"));
+    };
+    assert_eq!(rt; title.len, 2002944);
+    assert!(rt; pool.taken(0, 1));
+    let went = placement.unmap(pool, title);
+    assert_eq!(rt; went, entry);
+    assert!(rt; placement.out(name) == None);
+    Ok(())
+}
+
+// The census with these numbers, in the report's order.
+fn census(slots: u64, bytes: u64, committed: u64, states: [u32; 4]) -> Census {
+    Census {
+        root: Tally { slots, bytes },
+        committed,
+        reserved: 2097152,
+        full: states[0],
+        active: states[1],
+        empty: states[2],
+        decommitted: states[3],
+    }
+}
+
+#[test]
+fn a_short_fill(rt: HostRuntime) -> Result<(), Fail> {
+    let mut pool = PoolPlan::new(rt.alloc(), 1)?;
+    let mut placement = Placement::new(rt.alloc())?;
+    let first = Expected {
+        pool: Some(0),
+        starts: &[16384],
+    };
+    fill(&rt, &mut placement, &mut pool, 0, 58, 1, first)?;
+    let second = Expected {
+        pool: None,
+        starts: &[933888],
+    };
+    fill(&rt, &mut placement, &mut pool, 1, 58, 1, second)?;
+    let third = Expected {
+        pool: None,
+        starts: &[1851392],
+    };
+    fill(&rt, &mut placement, &mut pool, 2, 49, 1, third)?;
+    let short = Expected {
+        pool: None,
+        starts: &[2048000],
+    };
+    fill(&rt, &mut placement, &mut pool, 3, 37, 2, short)?;
+    let full = Expected {
+        pool: Some(1),
+        starts: &[],
+    };
+    fill(&rt, &mut placement, &mut pool, 4, 38, 2, full)?;
+    assert!(rt; placement.census() == census(0, 0, 2056192, [4, 0, 0, 0]));
+    assert_eq!(rt; pool.entries(), 2);
+    assert!(rt; pool.taken(0, 1));
+    assert!(rt; !pool.taken(0, 2));
+    Ok(())
+}
+
+#[test]
+fn the_ring_of_empty_spans(rt: HostRuntime) -> Result<(), Fail> {
+    let mut pool = PoolPlan::new(rt.alloc(), 1)?;
+    let mut placement = Placement::new(rt.alloc())?;
+    'fills: for at in 0..17 {
+        let pool_entry = if at == 0 { Some(0) } else { None };
+        let expected = Expected {
+            pool: pool_entry,
+            starts: &[16384 + 65536 * at],
+        };
+        fill(&rt, &mut placement, &mut pool, at, 43, 1, expected)?;
+    }
+    'gives: for at in 0..17 {
+        give(&rt, &mut placement, 17 + at, 16384 + 65536 * at)?;
+    }
+    let last = Expected {
+        pool: None,
+        starts: &[1064960],
+    };
+    fill(&rt, &mut placement, &mut pool, 34, 43, 1, last)?;
+    assert!(rt; placement.census() == census(16, 1048576, 1048576, [1, 0, 15, 1]));
+    Ok(())
+}
+
+#[test]
+fn a_purge(rt: HostRuntime) -> Result<(), Fail> {
+    let mut pool = PoolPlan::new(rt.alloc(), 1)?;
+    let mut placement = Placement::new(rt.alloc())?;
+    let starts = [16384, 16400, 16416, 16432, 16448, 16464, 16480, 16496];
+    let first = Expected {
+        pool: Some(0),
+        starts: &starts,
+    };
+    fill(&rt, &mut placement, &mut pool, 0, 0, 8, first)?;
+    'gives: for at in 0..8 {
+        give(&rt, &mut placement, 1 + at, 16384 + 16 * at)?;
+    }
+    placement.purge();
+    assert!(rt; placement.census() == census(256, 4096, 0, [0, 0, 0, 1]));
+    let second = Expected {
+        pool: None,
+        starts: &starts,
+    };
+    fill(&rt, &mut placement, &mut pool, 10, 0, 8, second)?;
+    assert!(rt; placement.census() == census(248, 3968, 4096, [0, 1, 0, 0]));
+    Ok(())
+}
+
+#[test]
+fn a_direct_map_again(rt: HostRuntime) -> Result<(), Fail> {
+    let mut pool = PoolPlan::new(rt.alloc(), 1)?;
+    let mut placement = Placement::new(rt.alloc())?;
+    map(&rt, &mut placement, &mut pool, 0, 0, true)?;
+    unmap(&rt, &mut placement, &mut pool, 1, 0, 1)?;
+    map(&rt, &mut placement, &mut pool, 2, 2, true)?;
+    map(&rt, &mut placement, &mut pool, 3, 3, false)?;
+    unmap(&rt, &mut placement, &mut pool, 4, 2, 4)?;
+    map(&rt, &mut placement, &mut pool, 5, 5, true)?;
+    assert!(rt; placement.census() == census(0, 0, 2002944, [0, 0, 0, 0]));
+    assert_eq!(rt; pool.entries(), 6);
+    Ok(())
+}
+
+// A fill of seven slots of 16,384 bytes, which has so many to give. At most so many steps were made before.
+fn fill_pages(
+    rt: &impl Abort,
+    placement: &mut Placement,
+    pool: &mut PoolPlan,
+    steps: u32,
+    slots: usize,
+) -> Result<Option<u32>, Fail>
+    requires young { IsYoung steps pool.old.entries placement.old }
+    requires few { steps < 10000 }
+    ensures young { OnOk result (IsYoung (steps + 1) pool.new.entries placement.new) }
+{
+    let class = Class::of(35).ok_or("no such class")?;
+    let placed = placement.fill(pool, class, 7)?;
+    assert_eq!(rt; placed.titles.as_slice().len(), slots);
+    Ok(placed.pool)
+}
+
+// 64 super pages of spans of one page, and no room for one more.
+#[test]
+fn as_many_spans_as_there_are(rt: HostRuntime) -> Result<(), Fail> {
+    let mut pool = PoolPlan::new(rt.alloc(), 64)?;
+    let mut placement = Placement::new(rt.alloc())?;
+    'fills: for at in 0..1152 {
+        fill_pages(&rt, &mut placement, &mut pool, at, 7)?;
+    }
+    let asked = fill_pages(&rt, &mut placement, &mut pool, 1152, 0)?;
+    assert!(rt; asked == Some(64));
+    let census = placement.census();
+    assert_eq!(rt; census.full, 8064);
+    assert_eq!(rt; census.committed, 132120576);
+    assert_eq!(rt; census.reserved, 134217728);
+    Ok(())
+}
+
+// A direct map in a super page of its own, or none where there is no room.
+fn map_one(
+    rt: &impl Abort,
+    placement: &mut Placement,
+    pool: &mut PoolPlan,
+    steps: u32,
+    slots: usize,
+) -> Result<(), Fail>
+    requires few { steps < 10000 }
+    requires maps { HasOnlyMaps steps pool.old placement.old }
+    ensures maps { OnOk result (HasOnlyMaps (steps + 1) pool.new placement.new) }
+{
+    let placed = placement.map(pool, 2002944, 1)?;
+    assert_eq!(rt; placed.titles.as_slice().len(), slots);
+    Ok(())
+}
+
+// 64 direct maps, and no room for one more.
+#[test]
+fn as_many_direct_maps_as_there_are(rt: HostRuntime) -> Result<(), Fail> {
+    let mut pool = PoolPlan::new(rt.alloc(), 64)?;
+    let mut placement = Placement::new(rt.alloc())?;
+    'maps: for at in 0..64 {
+        map_one(&rt, &mut placement, &mut pool, at, 1)?;
+    }
+    map_one(&rt, &mut placement, &mut pool, 64, 0)?;
+    let census = placement.census();
+    assert_eq!(rt; census.committed, 128188416);
+    assert_eq!(rt; census.reserved, 134217728);
+    Ok(())
+}
+
+// A take of `want` slots of the class, all of which there are, with room that is made before. What it makes begins at these
+// bytes, so many slots each. At most so many steps were made before.
+fn take(
+    rt: &impl Abort,
+    root: &mut PlainRoot,
+    pool: &mut PoolPlan,
+    steps: u32,
+    class: u32,
+    want: u32,
+    made: &[(u32, u32)],
+) -> Result<(), Fail>
+    requires young { IsYoung steps pool.old.entries root.old.root }
+    requires few { steps < 10000 }
+    requires some { 1 ≤ want }
+    requires most { want ≤ 8 }
+    ensures young { OnOk result (IsYoung (steps + 1) pool.new.entries root.new.root) }
+{
+    let class = Class::of(class).ok_or("no such class")?;
+    root.ready(class, want)?;
+    ask(root, pool, class);
+    let mut titles = ArrayVec::new();
+    let batches = root.take(class, want, &mut titles);
+    assert_eq!(rt; titles.as_slice().len(), want as usize);
+    assert_eq!(rt; batches.as_slice().len(), made.len());
+    for (batch, told) in batches.as_slice().iter().zip(made) {
+        assert_eq!(rt; batch.first.start, told.0);
+        assert_eq!(rt; batch.count, told.1);
+    }
+    Ok(())
+}
+
+// The slots of a span are found by each of its pages. None is found under the name of another super page's slot.
+#[test]
+fn slots_by_their_pages(rt: HostRuntime) -> Result<(), Fail> {
+    let mut pool = PoolPlan::new(rt.alloc(), 1)?;
+    let mut placement = Placement::new(rt.alloc())?;
+    let first = Expected {
+        pool: Some(0),
+        starts: &[16384],
+    };
+    fill(&rt, &mut placement, &mut pool, 0, 0, 1, first)?;
+    let second = Expected {
+        pool: None,
+        starts: &[32768, 43008, 53248, 63488, 73728, 83968],
+    };
+    fill(&rt, &mut placement, &mut pool, 1, 32, 6, second)?;
+    let later = SlotName {
+        start: 53248,
+        born: 1,
+    };
+    assert!(rt; placement.out(later) == None);
+    let behind = SlotName {
+        start: 2150400,
+        born: 0,
+    };
+    assert!(rt; placement.out(behind) == None);
+    give(&rt, &mut placement, 2, 83968)?;
+    give(&rt, &mut placement, 3, 53248)?;
+    give(&rt, &mut placement, 4, 16384)?;
+    assert!(rt; placement.census() == census(258, 24576, 65536, [0, 1, 1, 0]));
+    Ok(())
+}
+
+// A class of many slots in a page makes those of a page at once, and a class of one slot in a span one with each take.
+#[test]
+fn what_takes_make(rt: HostRuntime) -> Result<(), Fail> {
+    let mut pool = PoolPlan::new(rt.alloc(), 1)?;
+    let mut root = PlainRoot::new(rt.alloc())?;
+    take(&rt, &mut root, &mut pool, 0, 0, 8, &[(16384, 256)])?;
+    take(&rt, &mut root, &mut pool, 1, 0, 8, &[])?;
+    take(
+        &rt,
+        &mut root,
+        &mut pool,
+        2,
+        35,
+        2,
+        &[(32768, 1), (49152, 1)],
+    )?;
+    Ok(())
+}

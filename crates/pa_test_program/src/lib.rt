@@ -1,0 +1,13 @@
+//! The tests of the player on one thread, and of the program's one call.
+#![tactic(auto)]
+
+#[cfg(test)]
+mod cli;
+#[cfg(test)]
+mod cli_audit;
+#[cfg(test)]
+mod cli_gate;
+#[cfg(test)]
+mod cli_replay;
+#[cfg(test)]
+mod model;

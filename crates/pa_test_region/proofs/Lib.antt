@@ -1,0 +1,6 @@
+pub mod CacheRows
+pub mod CellSlots
+pub mod PoolParts
+pub mod RootNotes
+pub mod RootParts
+pub mod Sharing

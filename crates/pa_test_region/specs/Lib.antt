@@ -1,0 +1,4 @@
+pub mod CacheRows
+pub mod CellSlots
+pub mod RootScripts
+pub mod Sharing

@@ -1,0 +1,124 @@
+//! A worker's slot in quarantine: it is freed while a `raw_ptr` points to it, read through that, and returned by the reset.
+ghost use Rattle.std.specs.Prelude.{◌≡◌};
+ghost use Rattle.pa_region.specs.Start.{first_view};
+ghost use Rattle.pa_stock.specs.Starts.{HasAllStakes};
+ghost use Rattle.pa_plays.specs.Stocks.{IsForThread};
+
+use pa_heap::Worker;
+use pa_machine::{SlotName, Word};
+use pa_record::{Answer, Seen, Tally};
+use pa_region::{Mark, Name, Note, Region, Seat};
+use pa_stock::Heap;
+use std::alloc::Global;
+use std::marker::Brand;
+use std::process::Abort;
+use std::sync::Wait;
+use std::test::Fail;
+
+// How many lines are played.
+const LINES: u32 = 7;
+
+// What every word of a freed slot reads.
+const POISON: u64 = 0xefef_efef_efef_efef;
+
+// What the step of an op found at the first slot of the first span.
+fn seen(found: u64) -> Seen {
+    let slot = SlotName {
+        start: 16384,
+        born: 0,
+    };
+    Seen {
+        slot,
+        found: Word(found),
+    }
+}
+
+// The note of thread 0, out of the seat with which a heap's workers begin.
+fn hand_over(region: &Region, seat: &mut Seat) -> Note
+    requires region { seat.old.region ≡ region.now }
+    requires all { HasAllStakes 7 seat.old.view }
+    ensures region { result.region ≡ region.now }
+    ensures note { IsForThread 0 result.view }
+    ensures budget { result.view.budget ≡ 7 }
+{
+    region.hand(seat, &[], LINES, &[Mark::Stake(0)])
+}
+
+// A slot is made, written, pointed to, freed, read through the `raw_ptr` and let go; and the handle of an empty register goes to
+// a cell.
+fn play<N: Name, R: Abort + Wait>(
+    rt: &R,
+    alloc: Global,
+    region: Region,
+    seat: Seat,
+) -> Result<(), Fail>
+    requires regions { (region ≡ N.region) × (seat.region ≡ N.region) }
+    requires first { seat.view ≡ first_view 262144 7 }
+{
+    let (heap, mut seat) = Heap::<N>::open(alloc, 1, region, seat, LINES)?;
+    let note = hand_over(heap.region(), &mut seat);
+    let mut worker = Worker::<N>::open(alloc, note, 0, 1, LINES)?;
+    let made = worker.alloc(rt, &heap, 2, 0, 0, 8)?;
+    let written = worker.write(&heap, 3, 0, 7);
+    let copied = worker.copy(&heap, 4, 0, 1);
+    let freed = worker.free(rt, &heap, 5, 0)?;
+    let read = worker.deref(&heap, 6, 1, 0);
+    let cleared = worker.reset(rt, &heap, 7, 1)?;
+    let swapped = worker.exchange(rt, &heap, 8, 0, 1)?;
+    let seen_first = seen(0);
+    let usable = 8;
+    assert!(rt;
+        made == Answer::Made {
+            seen: seen_first,
+            usable
+        }
+    );
+    assert!(rt;
+        written
+            == Answer::Done {
+                seen: seen(0x100_0001)
+            }
+    );
+    assert!(rt;
+        copied
+            == Answer::Done {
+                seen: seen(0x200_0001)
+            }
+    );
+    assert!(rt;
+        freed
+            == Answer::Done {
+                seen: seen(0x300_0003)
+            }
+    );
+    let dangling = Answer::Dangling {
+        seen: seen(0x400_0002),
+        value: POISON,
+    };
+    assert!(rt; read == dangling);
+    assert!(rt;
+        cleared
+            == Answer::Done {
+                seen: seen(0x400_0002)
+            }
+    );
+    assert!(rt; swapped == Answer::Swapped { entry: 0 });
+    let bytes = 16;
+    assert!(rt; worker.counts()[0].left == Tally { slots: 1, bytes });
+    assert!(rt;
+        worker.cached(0)
+            == Tally {
+                slots: 8,
+                bytes: 128
+            }
+    );
+    assert!(rt; !worker.stopped());
+    assert!(rt; worker.records().len() == 7);
+    Ok(())
+}
+
+#[test]
+fn a_freed_slot_waits_for_its_last_raw_ptr(rt: HostRuntime) -> Result<(), Fail> {
+    let (region, seat) = Region::new(rt.alloc(), 1, LINES)?;
+    play::<Brand, _>(&rt, rt.alloc(), region, seat)
+}

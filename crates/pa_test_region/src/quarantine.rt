@@ -1,0 +1,68 @@
+use pa_count::{Fate, copy, issue};
+use pa_machine::{POISON, Title};
+use pa_quarantine::{free_owned, read, release, write, zero_fill};
+use pa_region::{Region, a_new_region_can_be_cut};
+use std::test::Fail;
+
+#[test]
+fn a_dangling_pointer_reads_poison(rt: HostRuntime) -> Result<(), Fail> {
+    let title = Title {
+        start: 0x4000,
+        len: 32,
+        born: 0,
+    };
+    let (region, mut seat) = Region::new(rt.alloc(), 1, 16)?;
+    a_new_region_can_be_cut();
+    region.cut(&mut seat, title);
+    zero_fill(&region, &mut seat, title);
+    assert_eq!(rt; issue(&region, &mut seat, title).0, 0);
+    assert_eq!(rt; copy(&region, &mut seat, title).0, 0x1000001);
+    let (found, fate) = free_owned(&region, &mut seat, title);
+    assert_eq!(rt; found.0, 0x2000003);
+    assert_eq!(rt; fate, Fate::Kept);
+    let (found, value) = read(&region, &mut seat, title, 0);
+    assert_eq!(rt; found.0, 0x3000002);
+    assert_eq!(rt; value, POISON);
+    assert_eq!(rt; read(&region, &mut seat, title, 1).1, POISON);
+    assert_eq!(rt; read(&region, &mut seat, title, 2).1, POISON);
+    let (found, fate) = release(&region, &mut seat, title);
+    assert_eq!(rt; found.0, 0x3000002);
+    assert_eq!(rt; fate, Fate::Last);
+    let closed = region.close(seat);
+    assert_eq!(rt; closed.word(0x4018), 0x4000000);
+    assert_eq!(rt; closed.word(0x4010), POISON);
+    Ok(())
+}
+
+#[test]
+fn a_written_slot_reads_as_written(rt: HostRuntime) -> Result<(), Fail> {
+    let title = Title {
+        start: 0x4000,
+        len: 16,
+        born: 0,
+    };
+    let (region, mut seat) = Region::new(rt.alloc(), 1, 16)?;
+    a_new_region_can_be_cut();
+    region.cut(&mut seat, title);
+    zero_fill(&region, &mut seat, title);
+    assert_eq!(rt; issue(&region, &mut seat, title).0, 0);
+    assert_eq!(rt; write(&region, &mut seat, title, 7).0, 0x1000001);
+    let (found, value) = read(&region, &mut seat, title, 0);
+    assert_eq!(rt; found.0, 0x2000001);
+    assert_eq!(rt; value, 7);
+    assert_eq!(rt; copy(&region, &mut seat, title).0, 0x2000001);
+    let (found, value) = read(&region, &mut seat, title, 0);
+    assert_eq!(rt; found.0, 0x3000003);
+    assert_eq!(rt; value, 7);
+    let (found, fate) = free_owned(&region, &mut seat, title);
+    assert_eq!(rt; found.0, 0x3000003);
+    assert_eq!(rt; fate, Fate::Kept);
+    assert_eq!(rt; read(&region, &mut seat, title, 0).1, POISON);
+    assert_eq!(rt; release(&region, &mut seat, title).1, Fate::Last);
+    zero_fill(&region, &mut seat, title);
+    assert_eq!(rt; issue(&region, &mut seat, title).0, 0x5000000);
+    let closed = region.close(seat);
+    assert_eq!(rt; closed.word(0x4000), 0);
+    assert_eq!(rt; closed.word(0x4008), 0x6000001);
+    Ok(())
+}

@@ -1,5 +1,0 @@
-use Rattle.pa_told_worked.proofs.Fitting.{direct_map_has_lists}
-use Rattle.pa_told_worked.proofs.laws.direct_map_has_lists.Goals as goal
-
-pub returns : goal.returns
-returns c = direct_map_has_lists

@@ -1,5 +1,0 @@
-use Rattle.pa_told_worked.proofs.Maps.{direct_map_is_played_out}
-use Rattle.pa_told_worked.proofs.laws.direct_map_is_told.Goals as goal
-
-pub returns : goal.returns
-returns c = direct_map_is_played_out

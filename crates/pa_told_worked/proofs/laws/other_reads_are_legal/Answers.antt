@@ -1,5 +1,0 @@
-use Rattle.pa_told_worked.proofs.AllSaid.{other_reads_are_legal}
-use Rattle.pa_told_worked.proofs.laws.other_reads_are_legal.Goals as goal
-
-pub returns : goal.returns
-returns c = other_reads_are_legal

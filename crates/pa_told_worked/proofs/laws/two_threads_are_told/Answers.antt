@@ -1,5 +1,0 @@
-use Rattle.pa_told_worked.proofs.Threads.{two_threads_are_played_out}
-use Rattle.pa_told_worked.proofs.laws.two_threads_are_told.Goals as goal
-
-pub returns : goal.returns
-returns c = two_threads_are_played_out
