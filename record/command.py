@@ -10,9 +10,12 @@ def run(name, usage, lines):
     """Prints the lines that are made of the log that the only word names: the exit status."""
     signal.signal(signal.SIGPIPE, signal.SIG_DFL)
     words = sys.argv[1:]
+    if words in (["-h"], ["--help"]):
+        print(usage)
+        return 0
     if len(words) != 1 or words[0].startswith("-"):
-        print(usage, file=sys.stdout if words == ["--help"] else sys.stderr)
-        return 0 if words == ["--help"] else 1
+        print(usage.splitlines()[0], file=sys.stderr)
+        return 1
     try:
         program = read(words[0])
     except (BadLog, OSError) as why:

@@ -1,7 +1,9 @@
-"""Reads a trace and behind it its run, as docs/FORMATS.md tells the two texts."""
+"""Reads a trace and after it its run, the two texts of docs/FORMATS.md."""
 
 import re
 from collections import namedtuple
+
+from expected import first_fault
 
 Trace = namedtuple("Trace", "region partitions threads lines")
 Op = namedtuple("Op", "thread name fields")
@@ -62,7 +64,7 @@ REPORT = re.compile(
 
 
 class NoRun(Exception):
-    """The text is no trace with its run: which line of the whole text says so, and why."""
+    """The text is no trace with its run: the line of the whole text at which that shows, and why."""
 
     def __init__(self, line, why):
         super().__init__(f"line {line}: {why}" if line else why)
@@ -70,7 +72,18 @@ class NoRun(Exception):
 
 
 def read(text):
-    """The trace, the run, and the line of the text at which the run begins."""
+    """The trace, the run, and the line of the text at which the run begins. If the program refuses the text too, the reason has the
+    first faulty line, the column in it, and what is wrong there."""
+    try:
+        return read_both(text)
+    except NoRun as refused:
+        fault = first_fault(text.encode("ascii", errors="replace")) if text else None
+        if fault is None:
+            raise
+        raise NoRun(refused.line, f"{refused.why} ({fault.answer} {fault.line}, column {fault.column}: {fault.wrong})") from None
+
+
+def read_both(text):
     if not text:
         raise NoRun(0, "there is no text: a trace belongs here, and behind it its run")
     lines = text.split("\n")
