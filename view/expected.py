@@ -119,6 +119,10 @@ def trace_line(fields, line):
         return []
     if fields[0][1].lower() == "phase":
         raise Refused(1, f"{shown(line)} isn't `phase`", "`phase`, in lower case and alone")
+    if fields[0][1] == "trace":
+        raise Refused(1, "a second head", "one trace in a file, and after it its run")
+    if fields[0][1] in KINDS or line.startswith("run ") or line == "end":
+        raise Refused(1, f"{shown(fields[0][1])} begins a line of a run", "`run 1` before the lines of a run, or a line of the trace")
     number("T", fields[0][0], fields[0][1], "T OP ..., or `phase`: a line begins with the number of a thread")
     if len(fields) == 1:
         raise Refused(len(line) + 1, "the op is missing", f"one of {' '.join(OPS)}")
