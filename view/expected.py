@@ -158,7 +158,14 @@ def bounds(name, head):
 
 
 # What a number is, by the letters before it in a form of a trace's line.
-MEANINGS = {("r", "I"): "register", ("r", "J"): "register", ("p", "J"): "partition", ("c", "K"): "cell", ("", "T"): "thread", ("", "K"): "word"}
+MEANINGS = {
+    ("r", "I"): "register",
+    ("r", "J"): "register",
+    ("p", "J"): "partition",
+    ("c", "K"): "cell",
+    ("", "T"): "thread",
+    ("", "K"): "word",
+}
 
 
 # ---- a run
@@ -171,7 +178,8 @@ def run_fault(lines, unended, start, before):
         whole = n <= start + len(lines)
         try:
             if before + len(line) + whole > MOST_AUDITED:
-                raise Refused(MOST_AUDITED - before + 1, f"trace and run have at most {MOST_AUDITED:,} bytes", "the end of the run", LIMIT)
+                wrong = f"trace and run have at most {MOST_AUDITED:,} bytes"
+                raise Refused(MOST_AUDITED - before + 1, wrong, "the end of the run", LIMIT)
             reached = run_line(line, reached) if n > start + 1 else ("", 0, 0)
             ended(line, whole)
         except Refused as fault:
