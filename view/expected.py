@@ -45,11 +45,8 @@ SPANS = " ".join(f"{name} SPANS" for name in ("full", "active", "empty", "decomm
 REPORT = f"s PHASE P {TALLIES} committed BYTES reserved BYTES {SPANS}"
 KINDS = {"e": "records", "r": "entries of the journals", "p": "entries of the pool", "c": "exchanges", "s": "report"}
 
-# The pieces of a form: a name in capitals, or letters that stand there as they are.
-PIECES = re.compile(r"[A-Z]{2,}|[A-Z]|[^A-Z]+")
 WORDS = ("VALUE", "FOUND")
 WIDE = ("SLOTS", "BYTES")
-OR_ELSE = {"GAVE": "-", "FIRST": "none"}
 CUT = 60
 
 
@@ -157,15 +154,8 @@ def bounds(name, head):
     return (0, 4_294_967_295, "") if name in ("SIZE", "word") else (0, None, "")
 
 
-# What a number is, by the letters before it in a form of a trace's line.
-MEANINGS = {
-    ("r", "I"): "register",
-    ("r", "J"): "register",
-    ("p", "J"): "partition",
-    ("c", "K"): "cell",
-    ("", "T"): "thread",
-    ("", "K"): "word",
-}
+# What a number in a line of a trace is, by its place in the form.
+MEANINGS = {"rI": "register", "rJ": "register", "pJ": "partition", "cK": "cell", "T": "thread", "K": "word"}
 
 
 # ---- a run
@@ -336,7 +326,7 @@ def field(due, column, text, form):
     if not text.startswith(before):
         raise Refused(column, f"{shown(text)} has no `{before}` in front", f"{due}, in {form}")
     number(name, column + len(before), text[len(before) :], f"{due}, in {form}")
-    meaning = MEANINGS.get((before, name), name) if form in OPS.values() else name
+    meaning = MEANINGS.get(due, name) if form in OPS.values() else name
     return [(meaning, column + len(before), text[len(before) :])]
 
 
