@@ -8,12 +8,12 @@ use Rattle.pa_trace.specs.Faults.{with_front, lines_of}
 use Rattle.pa_trace.proofs.Cuts.{lf_front, other_front}
 use Rattle.pa_record.specs.declared.run.Run.{Run}
 use Rattle.pa_record.specs.RunText.{IsRunText}
-use Rattle.pa_reader.specs.declared.item.Item.{Item}
-use Rattle.pa_reader.specs.declared.item.Item.TheVariants as items
-use Rattle.pa_reader.specs.Item.{item_text}
-use Rattle.pa_reader.specs.Order.{numbered_items, listed_items, items_of}
-use Rattle.pa_reader.proofs.OneReading.{items_lines}
-use Rattle.pa_reader.proofs.Telling.{items_text}
+use Rattle.pa_run_reader.specs.declared.item.Item.{Item}
+use Rattle.pa_run_reader.specs.declared.item.Item.TheVariants as items
+use Rattle.pa_run_reader.specs.Item.{item_text}
+use Rattle.pa_run_reader.specs.Order.{numbered_items, listed_items, items_of}
+use Rattle.pa_run_reader.proofs.OneReading.{items_lines}
+use Rattle.pa_run_reader.proofs.Telling.{items_text}
 use Rattle.pa_rules.specs.Places.{report_at}
 
 -- ---- a text has no more lines than bytes

@@ -12,8 +12,8 @@ use Rattle.std.proofs.lemmas.Grind.{flat_map-append}
 use Rattle.pa_trace.specs.Cut.{IsOneLine}
 use Rattle.pa_trace.specs.Faults.{lines_of}
 use Rattle.pa_trace.proofs.Cuts.{cut_lines, last_line, no_lines}
-use Rattle.pa_reader.specs.declared.item.Item.TheVariants as items
-use Rattle.pa_reader.proofs.TextLines.{item_lines}
+use Rattle.pa_run_reader.specs.declared.item.Item.TheVariants as items
+use Rattle.pa_run_reader.proofs.TextLines.{item_lines}
 use Rattle.pa_audit_input.specs.Input.{run_line, BeginsRun, IsParted}
 use Rattle.pa_audit_input.specs.Cutting.{joined, IsBehindLine, IsCutAt, IsLastCut}
 use Rattle.pa_audit_input.proofs.Lined.{lines_taken}

@@ -9,9 +9,9 @@ use Rattle.pa_trace.proofs.Cuts.{lf_front, other_front}
 use Rattle.pa_trace.proofs.Early.{first_early}
 use Rattle.pa_trace.proofs.Firsts.{one_fault}
 use Rattle.pa_trace.proofs.Found.{some_fault}
-use Rattle.pa_reader.specs.declared.item.Item.{Item}
-use Rattle.pa_reader.specs.declared.item.Item.TheVariants as items
-use Rattle.pa_reader.proofs.TextLines.{lines_joined, item_lines}
+use Rattle.pa_run_reader.specs.declared.item.Item.{Item}
+use Rattle.pa_run_reader.specs.declared.item.Item.TheVariants as items
+use Rattle.pa_run_reader.proofs.TextLines.{lines_joined, item_lines}
 use Rattle.pa_audit_input.specs.Input.{most_audited, run_line, BeginsRun, IsParted, IsFirstOfRun, IsFirstOfParts, IsFirstAuditFault}
 use Rattle.pa_audit_input.specs.Cutting.{joined}
 use Rattle.pa_audit_input.proofs.Lined.{lines_taken, lines_cut}

@@ -4,7 +4,7 @@ use Rattle.std.proofs.lemmas.Bool.{cases_eq}
 use Rattle.std.proofs.lemmas.List.{length-append}
 use Rattle.pa_trace.specs.Faults.{with_front, lines_of}
 use Rattle.pa_trace.proofs.Cuts.{no_lines, lf_front, other_front}
-use Rattle.pa_reader.proofs.TextLines.{lines_joined}
+use Rattle.pa_run_reader.proofs.TextLines.{lines_joined}
 use Rattle.pa_audit_input.specs.Cutting.{joined}
 
 -- two texts are the same, or they aren't

@@ -10,12 +10,12 @@ use Rattle.pa_trace.specs.Faults.{lines_of}
 use Rattle.pa_trace.proofs.Firsts.{one_fault, no_fault_of_input}
 use Rattle.pa_record.specs.declared.run.Run.{Run}
 use Rattle.pa_record.specs.RunText.{IsRunText}
-use Rattle.pa_reader.specs.declared.item.Item.{Item}
-use Rattle.pa_reader.specs.Item.{item_text}
-use Rattle.pa_reader.specs.Order.{AreInOrder, items_of}
-use Rattle.pa_reader.proofs.OneReading.{same_item, items_lines}
-use Rattle.pa_reader.proofs.Telling.{items_text, items_ordered}
-use Rattle.pa_reader.proofs.TextLines.{lines_joined}
+use Rattle.pa_run_reader.specs.declared.item.Item.{Item}
+use Rattle.pa_run_reader.specs.Item.{item_text}
+use Rattle.pa_run_reader.specs.Order.{AreInOrder, items_of}
+use Rattle.pa_run_reader.proofs.OneReading.{same_item, items_lines}
+use Rattle.pa_run_reader.proofs.Telling.{items_text, items_ordered}
+use Rattle.pa_run_reader.proofs.TextLines.{lines_joined}
 use Rattle.pa_audit_input.specs.Cutting.{joined}
 use Rattle.pa_audit_input.proofs.Lined.{same_or, lines_taken}
 use Rattle.pa_audit_input.specs.Input.{most_audited, run_line, BeginsRun, IsParted, IsAudited, IsFirstOfRun, IsFirstOfParts, IsFirstAuditFault}

@@ -5,12 +5,12 @@ use Rattle.pa_trace.specs.declared.fault.TraceFault.TheVariants.{BadLine, Limit}
 use Rattle.pa_trace.specs.Faults.{lines_of}
 use Rattle.pa_record.specs.declared.run.Run.{Run}
 use Rattle.pa_record.specs.RunText.{IsRunText}
-use Rattle.pa_reader.specs.declared.item.Item.{Item}
-use Rattle.pa_reader.specs.Item.{FitsItem, item_text}
-use Rattle.pa_reader.specs.Order.{Follows, IsFirstBad, AreInOrder, items_of}
-use Rattle.pa_reader.proofs.OneReading.{items_lines}
-use Rattle.pa_reader.proofs.Telling.{items_text, items_ordered}
-use Rattle.pa_reader.proofs.TextLines.{lines_joined}
+use Rattle.pa_run_reader.specs.declared.item.Item.{Item}
+use Rattle.pa_run_reader.specs.Item.{FitsItem, item_text}
+use Rattle.pa_run_reader.specs.Order.{Follows, IsFirstBad, AreInOrder, items_of}
+use Rattle.pa_run_reader.proofs.OneReading.{items_lines}
+use Rattle.pa_run_reader.proofs.Telling.{items_text, items_ordered}
+use Rattle.pa_run_reader.proofs.TextLines.{lines_joined}
 use Rattle.pa_audit_input.specs.Input.{most_audited, IsFirstOfRun}
 use Rattle.pa_audit_input.specs.Cutting.{joined, IsLastCut}
 

@@ -9,10 +9,10 @@ use Rattle.pa_trace.specs.Limits.{IsInput}
 use Rattle.pa_trace.specs.Faults.{lines_of, IsFirstFault}
 use Rattle.pa_record.specs.declared.run.Run.{Run}
 use Rattle.pa_record.specs.RunText.{IsRunText}
-use Rattle.pa_reader.specs.declared.item.Item.{Item}
-use Rattle.pa_reader.specs.declared.item.Item.TheVariants as items
-use Rattle.pa_reader.specs.Item.{FitsItem, item_text}
-use Rattle.pa_reader.specs.Order.{Follows}
+use Rattle.pa_run_reader.specs.declared.item.Item.{Item}
+use Rattle.pa_run_reader.specs.declared.item.Item.TheVariants as items
+use Rattle.pa_run_reader.specs.Item.{FitsItem, item_text}
+use Rattle.pa_run_reader.specs.Order.{Follows}
 
 -- the most bytes of a trace and a run
 abbrev pub most_audited : ℕ

@@ -6,7 +6,7 @@ ghost use Rattle.pa_audit_input.specs.Cutting.{IsRunPartFault};
 
 use crate::parts::last_cut;
 use pa_dense::DenseRun;
-use pa_reader::{RunFault, read_dense_run};
+use pa_run_reader::{RunFault, read_dense_run};
 use pa_trace::TraceFault;
 use std::alloc::Global;
 

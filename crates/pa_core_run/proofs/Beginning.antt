@@ -21,7 +21,7 @@ use Rattle.pa_lists.proofs.Members.{not_in_none}
 use Rattle.pa_rules.specs.Registers.{no_regs}
 use Rattle.pa_rules.specs.Caches.{no_caches}
 use Rattle.pa_rules.proofs.Counted.{listed_none}
-use Rattle.pa_turns.specs.Shown.{owns, points, over}
+use Rattle.pa_slot_effects.specs.Shown.{owns, points, over}
 use Rattle.pa_one_run.proofs.lines.Sorting.{none_below}
 use Rattle.pa_one_run.proofs.Filed.{IsFiled}
 use Rattle.pa_core_run.specs.Standing.{Standing, in_registers, in_lists}
@@ -30,7 +30,7 @@ use Rattle.pa_core_steps.proofs.Pieces.{raw_cases}
 use Rattle.pa_core_steps.proofs.Possible.{single}
 use Rattle.pa_one_run.specs.Parts.{Parts, entry_line, cell_line}
 use Rattle.pa_one_run.specs.Before.{below, root_at, gave_last}
-use Rattle.pa_turns.proofs.Handles.{over_same}
+use Rattle.pa_slot_effects.proofs.Handles.{over_same}
 
 abbrev pub start_of : ℕ → ℕ → State
 start_of bytes actors = record { words = replicate (bytes / 8) 0; holdings = (RawPiece 0 bytes ∷ []) ∷ replicate (actors - 1) [] }

@@ -11,7 +11,7 @@ use Rattle.pa_rules.specs.declared.played.Played.{Played}
 use Rattle.pa_rules.specs.Registers.{Reg}
 use Rattle.pa_rules.specs.Caches.{Cache}
 use Rattle.pa_rules.proofs.Counted.{times_cons}
-use Rattle.pa_turns.specs.Shown.{owns, points}
+use Rattle.pa_slot_effects.specs.Shown.{owns, points}
 use Rattle.pa_core_steps.proofs.Joining.{run_join}
 use Rattle.pa_one_run.specs.Parts.{Parts}
 use Rattle.pa_one_run.specs.Before.{root_at}

@@ -19,7 +19,7 @@ use Rattle.pa_record.proofs.Titles.{made_born, rise_parts}
 use Rattle.pa_record.proofs.Filling.{takes_filled, opened_sound}
 use Rattle.pa_record.proofs.Mapping.{born_more}
 use Rattle.pa_record.proofs.Lawful.{journal_leaves}
-use Rattle.pa_deeds.specs.Deeds.{root_after}
+use Rattle.pa_heap_effects.specs.Deeds.{root_after}
 use Rattle.pa_rules.specs.Caches.{OnlyActs}
 use Rattle.pa_rules.specs.declared.played.Played.{Played}
 use Rattle.pa_one_run.specs.Parts.{Parts, entry_line}
@@ -34,7 +34,7 @@ use Rattle.pa_core_run.specs.Fronts.{IsFrontOf}
 use Rattle.pa_core_run.proofs.NextFronts.{root_line}
 use Rattle.pa_core_run.proofs.FrontPool.{journal_before}
 use Rattle.pa_record.proofs.Leaving.{slot_out, name_cases}
-use Rattle.pa_deeds.proofs.Sharing.{rise_rest}
+use Rattle.pa_heap_effects.proofs.Sharing.{rise_rest}
 
 -- ---- one root
 

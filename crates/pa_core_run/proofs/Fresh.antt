@@ -9,7 +9,7 @@ use Rattle.pa_record.specs.Root.{Root}
 use Rattle.pa_lists.proofs.Members.{not_in_none, first_in, later_in, in_cases}
 use Rattle.pa_lists.proofs.Joined.{map_in, map_cases, flat_in, flat_cases}
 use Rattle.pa_lists.proofs.Different.{numbers_in, numbers_has}
-use Rattle.pa_deeds.specs.Shared.{IsThere}
+use Rattle.pa_heap_effects.specs.Shared.{IsThere}
 use Rattle.pa_core_run.specs.Moves.{StandOnce}
 use Rattle.pa_lists.specs.Numbers.{numbers}
 

@@ -15,10 +15,10 @@ use Rattle.pa_record.specs.Pool.{PoolActFits, PoolReplays, IsPool, act_at}
 use Rattle.pa_record.specs.Root.{Root, new_root, takes, opened, super_of, names, root_next, RootActFits, RootReplays, asked_by}
 use Rattle.pa_lists.proofs.Members.{first_in, later_in}
 use Rattle.pa_record.proofs.PoolSteps.{pool_grows}
-use Rattle.pa_deeds.specs.Deeds.{root_at as root_of}
-use Rattle.pa_deeds.specs.Pooled.{pool_at as pool_of}
-use Rattle.pa_deeds.specs.Shared.{SharePool, IsThere, AreOneOrApart}
-use Rattle.pa_deeds.proofs.Sharing.{titles_share_no_byte}
+use Rattle.pa_heap_effects.specs.Deeds.{root_at as root_of}
+use Rattle.pa_heap_effects.specs.Pooled.{pool_at as pool_of}
+use Rattle.pa_heap_effects.specs.Shared.{SharePool, IsThere, AreOneOrApart}
+use Rattle.pa_heap_effects.proofs.Sharing.{titles_share_no_byte}
 use Rattle.pa_one_run.specs.Parts.{Parts, entry_line, pool_line}
 use Rattle.pa_one_run.specs.Before.{below, on, past, root_at}
 use Rattle.pa_one_run.proofs.lines.Sorting.{in_below, below_on_past, get_below, below_get}
@@ -26,7 +26,7 @@ use Rattle.pa_lists.proofs.Elements.{both_have}
 use Rattle.pa_one_run.proofs.Filed.{IsFiled}
 use Rattle.pa_one_run.proofs.roots.Replays.{front_journal, named_of, next_same, replayed_same}
 use Rattle.pa_lists.proofs.Indexed.{at_in}
-use Rattle.pa_deeds.proofs.Runs.{fits_before}
+use Rattle.pa_heap_effects.proofs.Runs.{fits_before}
 
 -- ---- the first entries of the pool
 

@@ -26,9 +26,9 @@ use Rattle.pa_rules.specs.Contents.{IsContent}
 use Rattle.pa_rules.specs.Flow.{listed_times}
 use Rattle.pa_rules.proofs.Flowing.{class_real}
 use Rattle.pa_legal.proofs.Words.{leaves_free}
-use Rattle.pa_turns.specs.Shown.{over, with_slot}
-use Rattle.pa_turns.specs.Turns.{HoldsNone}
-use Rattle.pa_turns.proofs.Balance.{at_slot, at_other_slot}
+use Rattle.pa_slot_effects.specs.Shown.{over, with_slot}
+use Rattle.pa_slot_effects.specs.Turns.{HoldsNone}
+use Rattle.pa_slot_effects.proofs.Balance.{at_slot, at_other_slot}
 use Rattle.pa_one_run.proofs.Filed.{IsFiled}
 use Rattle.pa_one_run.proofs.roots.Classes.{made_class}
 use Rattle.pa_core_steps.specs.Turns.{left_by, stores}
@@ -45,7 +45,7 @@ use Rattle.pa_core_run.proofs.Listing.{free_piece, lists_grow, lists_fall}
 use Rattle.pa_core_run.proofs.NextFronts.{among, regs_left, cache_left, found_word, can_step, set_by, right_after}
 use Rattle.pa_core_run.proofs.Records.{Outcome}
 use Rattle.pa_core_run.proofs.Stepped.{next_st, GetsBack, names_here, bytes_here, below, turned_plays, set_named, stores_beside}
-use Rattle.pa_turns.proofs.Handles.{over_same}
+use Rattle.pa_slot_effects.proofs.Handles.{over_same}
 use Rattle.pa_machine.proofs.Holding.{free_title}
 
 module _ (a : Parts) (before rest : List Played) (x : Played) (h : IsFiled a) (parts : a.ps ≡ before ++ x ∷ rest) (st : Standing) (f : IsFrontOf a x.line before (x ∷ rest) st) (s : State)

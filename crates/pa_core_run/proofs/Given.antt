@@ -17,8 +17,8 @@ use Rattle.pa_record.specs.Laws.{IsNameOut}
 use Rattle.pa_record.proofs.Lawful.{journal_leaves}
 use Rattle.pa_record.proofs.MakingNone.{all_returned_make_none, times_make_none}
 use Rattle.pa_record.proofs.Returning.{all_returned_is, times_is}
-use Rattle.pa_deeds.specs.Deeds.{root_after}
-use Rattle.pa_deeds.specs.Shared.{IsThere}
+use Rattle.pa_heap_effects.specs.Deeds.{root_after}
+use Rattle.pa_heap_effects.specs.Shared.{IsThere}
 use Rattle.pa_rules.specs.declared.played.Played.{Played}
 use Rattle.pa_rules.specs.Caches.{acts_of, batches, gives, purge_acts}
 use Rattle.pa_rules.specs.Flow.{back_in}

@@ -20,8 +20,8 @@ use Rattle.pa_one_run.proofs.Filed.{IsFiled}
 use Rattle.pa_one_run.proofs.roots.Replays.{front_journal}
 use Rattle.pa_core_run.proofs.FrontPool.{journal_before}
 use Rattle.pa_record.proofs.Replaying.{replays_rest}
-use Rattle.pa_deeds.proofs.Sharing.{rise_rest, root_parts}
-use Rattle.pa_deeds.proofs.Unmapping.{least_rises}
+use Rattle.pa_heap_effects.proofs.Sharing.{rise_rest, root_parts}
+use Rattle.pa_heap_effects.proofs.Unmapping.{least_rises}
 
 -- ---- entries after entries
 

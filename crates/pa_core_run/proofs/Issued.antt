@@ -24,9 +24,9 @@ use Rattle.pa_rules.specs.Registers.{Becomes, with}
 use Rattle.pa_rules.specs.Caches.{Cache, with_cache}
 use Rattle.pa_rules.specs.Contents.{IsContent}
 use Rattle.pa_rules.specs.Flow.{listed_times}
-use Rattle.pa_turns.specs.Shown.{over, with_slot}
-use Rattle.pa_turns.specs.Turns.{HoldsNone}
-use Rattle.pa_turns.proofs.Balance.{at_slot, at_other_slot}
+use Rattle.pa_slot_effects.specs.Shown.{over, with_slot}
+use Rattle.pa_slot_effects.specs.Turns.{HoldsNone}
+use Rattle.pa_slot_effects.proofs.Balance.{at_slot, at_other_slot}
 use Rattle.pa_one_run.proofs.Filed.{IsFiled}
 use Rattle.pa_one_run.proofs.roots.Classes.{made_class}
 use Rattle.pa_core_steps.specs.Turns.{IsDone, stores}
@@ -47,7 +47,7 @@ use Rattle.pa_core_run.proofs.NextFronts.{among, lists_beside, regs_left, cache_
 use Rattle.pa_core_run.proofs.Records.{Outcome}
 use Rattle.pa_core_run.proofs.Stepped.{next_st, below, set_named, stores_beside}
 use Rattle.pa_core_run.proofs.Fronted.{lists_here}
-use Rattle.pa_turns.proofs.Handles.{over_same}
+use Rattle.pa_slot_effects.proofs.Handles.{over_same}
 use Rattle.pa_machine.proofs.Holding.{free_title}
 
 module _ (a : Parts) (before rest : List Played) (x : Played) (h : IsFiled a) (parts : a.ps ≡ before ++ x ∷ rest) (st : Standing) (f : IsFrontOf a x.line before (x ∷ rest) st) (s : State)

@@ -20,9 +20,9 @@ use Rattle.pa_rules.specs.Caches.{Cache, SameLists, NoActs, OnlyActs, with_list,
 use Rattle.pa_rules.specs.Flow.{listed_times}
 use Rattle.pa_rules.specs.Once.{once}
 use Rattle.pa_rules.proofs.Counted.{stands, times_cons, stands_kept, listed_agree, listed_changed, list_of_another}
-use Rattle.pa_turns.specs.Shown.{over}
+use Rattle.pa_slot_effects.specs.Shown.{over}
 use Rattle.pa_core_run.specs.Moves.{HaveNames}
-use Rattle.pa_turns.proofs.Handles.{over_one}
+use Rattle.pa_slot_effects.proofs.Handles.{over_one}
 
 -- a free title by its name
 pub free_piece : (Made : Title → Type 0) (t u : Title) → HaveNames Made → Made t → Made u → held_in (FreePiece t ∷ []) (FreeTitle u) ≡ once (name_of u) (name_of t)

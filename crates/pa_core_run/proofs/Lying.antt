@@ -9,7 +9,7 @@ use Rattle.pa_record.specs.Spans.{Span, title_at}
 use Rattle.pa_record.specs.Sound.{IsMade, IsMadeBy}
 use Rattle.pa_record.proofs.PoolSteps.{pool_is_sound}
 use Rattle.pa_record.proofs.Lawful.{journal_leaves}
-use Rattle.pa_deeds.proofs.Runs.{run_of, taken_or_given}
+use Rattle.pa_heap_effects.proofs.Runs.{run_of, taken_or_given}
 use Rattle.pa_one_run.specs.Parts.{Parts}
 use Rattle.pa_one_run.specs.Before.{root_at}
 use Rattle.pa_one_run.proofs.Filed.{IsFiled}

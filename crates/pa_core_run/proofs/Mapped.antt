@@ -15,7 +15,7 @@ use Rattle.pa_record.specs.Laws.{IsNameOut}
 use Rattle.pa_lists.proofs.Members.{not_in_none, first_in}
 use Rattle.pa_record.proofs.Titles.{made_born}
 use Rattle.pa_record.proofs.Lawful.{journal_leaves}
-use Rattle.pa_deeds.specs.Shared.{IsThere}
+use Rattle.pa_heap_effects.specs.Shared.{IsThere}
 use Rattle.pa_rules.specs.declared.played.Played.{Played}
 use Rattle.pa_rules.specs.Caches.{Cache, OnlyActs, with_list}
 use Rattle.pa_rules.specs.Once.{once}

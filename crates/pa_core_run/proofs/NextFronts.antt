@@ -13,7 +13,7 @@ use Rattle.pa_record.specs.declared.root.RootEntry.{RootEntry}
 use Rattle.pa_record.specs.declared.pool.PoolEntry.{PoolEntry}
 use Rattle.pa_record.specs.declared.root.RootAct.TheVariants.{Full}
 use Rattle.pa_record.specs.Root.{Root, new_root, root_next, root_replayed}
-use Rattle.pa_deeds.specs.Deeds.{root_after}
+use Rattle.pa_heap_effects.specs.Deeds.{root_after}
 use Rattle.pa_lists.proofs.Members.{not_in_none}
 use Rattle.pa_lists.proofs.Joined.{map_in}
 use Rattle.pa_rules.specs.declared.played.Played.{Played}
@@ -24,7 +24,7 @@ use Rattle.pa_rules.specs.Caches.{Cache, CacheRow, SameLists, NoActs, OnlyActs, 
 use Rattle.pa_rules.specs.Contents.{IsContent}
 use Rattle.pa_rules.specs.Flow.{listed_times}
 use Rattle.pa_rules.proofs.CachesAfter.{caches_snoc}
-use Rattle.pa_turns.specs.Shown.{over}
+use Rattle.pa_slot_effects.specs.Shown.{over}
 use Rattle.pa_one_run.specs.Parts.{Parts, entry_line, cell_line}
 use Rattle.pa_one_run.specs.Before.{stepped_by, word_after, below, on, root_at, facts_of, gave_last}
 use Rattle.pa_one_run.proofs.lines.Sorting.{on_in, below_gap, below_next}
@@ -35,8 +35,8 @@ use Rattle.pa_one_run.proofs.rows.Exchanges.{exchange_op}
 use Rattle.pa_core_run.specs.Standing.{Standing, in_lists}
 use Rattle.pa_core_run.specs.Fronts.{IsFrontOf}
 use Rattle.pa_core_run.proofs.Paying.{IsSet}
-use Rattle.pa_deeds.proofs.Sharing.{root_parts}
-use Rattle.pa_turns.proofs.Handles.{over_same}
+use Rattle.pa_heap_effects.proofs.Sharing.{root_parts}
+use Rattle.pa_slot_effects.proofs.Handles.{over_same}
 
 -- one record more
 rows_snoc : (facts : Facts) (first all : AllRegs) (before : List Played) (x : Played) (next : Regs) → RowsTo facts first before all → Row facts x.op (all x.thread) x.answer next →

@@ -14,11 +14,11 @@ use Rattle.pa_machine.proofs.Totals.{of_actor_here, of_actor_apart}
 use Rattle.pa_record.specs.Spans.{name_of}
 use Rattle.pa_rules.specs.declared.register.Register.TheVariants.{Own, Ref}
 use Rattle.pa_rules.specs.Registers.{Reg, Regs, with, reg_of}
-use Rattle.pa_turns.specs.Shown.{owns, points}
+use Rattle.pa_slot_effects.specs.Shown.{owns, points}
 use Rattle.pa_core_run.specs.Ledger.{IsPaid}
 use Rattle.pa_core_run.specs.Standing.{Standing, in_registers, in_lists, ledger_of}
 use Rattle.pa_core_run.specs.Moves.{HaveNames}
-use Rattle.pa_turns.proofs.Handles.{over_same, over_one}
+use Rattle.pa_slot_effects.proofs.Handles.{over_same, over_one}
 
 -- ---- sums
 

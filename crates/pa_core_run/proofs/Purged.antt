@@ -34,7 +34,7 @@ use Rattle.pa_core_run.proofs.Bringing.{titles_go}
 use Rattle.pa_core_run.proofs.Issued.{names_next}
 use Rattle.pa_core_run.proofs.Given.{there_given}
 use Rattle.pa_core_run.proofs.Purging.{purged_row, purge_in, giving, purged_titled, purged_titles, kept_next, lists_fall}
-use Rattle.pa_turns.proofs.Handles.{over_same}
+use Rattle.pa_slot_effects.proofs.Handles.{over_same}
 
 module _ (a : Parts) (before rest : List Played) (x : Played) (h : IsFiled a) (some : 1 ≤ a.partitions) (parts : a.ps ≡ before ++ x ∷ rest) (st : Standing) (f : IsFrontOf a x.line before (x ∷ rest) st) (s : State)
     (shown : IsShown (titles_in a (root_at a x.line)) (a.threads + 1) (2097152 * a.supers) (ledger_of a.partitions st) s) (slots : ℕ) (answer : x.answer ≡ answers.Purged slots) where

@@ -16,8 +16,8 @@ use Rattle.pa_rules.specs.declared.played.Played.{Played}
 use Rattle.pa_rules.specs.Caches.{Cache, CacheRow, PurgedRow, acts_of, gives, purge_acts}
 use Rattle.pa_rules.specs.Flow.{listed_times, back_in}
 use Rattle.pa_rules.proofs.Counted.{stands, stands_append, back_purge, listed_none}
-use Rattle.pa_turns.specs.Shown.{over}
-use Rattle.pa_turns.proofs.Handles.{over_part}
+use Rattle.pa_slot_effects.specs.Shown.{over}
+use Rattle.pa_slot_effects.proofs.Handles.{over_part}
 use Rattle.pa_one_run.specs.Parts.{Parts}
 use Rattle.pa_one_run.specs.Before.{root_at}
 use Rattle.pa_one_run.proofs.Filed.{IsFiled}

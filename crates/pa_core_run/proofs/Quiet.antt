@@ -27,7 +27,7 @@ use Rattle.pa_rules.specs.Registers.{Reg, Regs, Row, usable_in, Becomes, with, A
 use Rattle.pa_rules.specs.Caches.{Cache, CacheRow, SameLists, NoActs, acts_of, DoneRow, purge_acts, gives}
 use Rattle.pa_rules.specs.Contents.{IsContent, IsReadExact}
 use Rattle.pa_rules.specs.Sizes.{usable_of}
-use Rattle.pa_turns.specs.Turns.{HoldsNone}
+use Rattle.pa_slot_effects.specs.Turns.{HoldsNone}
 use Rattle.pa_one_run.proofs.Filed.{IsFiled}
 use Rattle.pa_rules.specs.Told.{told_by}
 use Rattle.pa_rules.proofs.Leading.{slot_in}

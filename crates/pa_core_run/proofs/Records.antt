@@ -15,7 +15,7 @@ use Rattle.pa_rules.specs.Played.{mark_of}
 use Rattle.pa_rules.specs.Registers.{Reg, Becomes, reg_of}
 use Rattle.pa_rules.specs.Caches.{SameLists}
 use Rattle.pa_rules.specs.Contents.{IsContent}
-use Rattle.pa_turns.specs.Shown.{owns, points}
+use Rattle.pa_slot_effects.specs.Shown.{owns, points}
 use Rattle.pa_one_run.proofs.Filed.{IsFiled}
 use Rattle.std.proofs.lemmas.List.Elements.{All-contains}
 use Rattle.pa_rules.proofs.Leading.{slot_in}
@@ -30,7 +30,7 @@ use Rattle.pa_core_run.proofs.Acting.{play_none, play_look, HasHandle, handle_he
 use Rattle.pa_core_run.proofs.Stepping.{has_handle}
 use Rattle.pa_core_run.proofs.Named.{made_unique, HasTitle, made_title}
 use Rattle.pa_core_run.proofs.NextFronts.{after_record, among, regs_left, cache_left, front_next, cells_left, found_word, regs_same, lists_same, words_same, right_same}
-use Rattle.pa_turns.proofs.Handles.{over_same}
+use Rattle.pa_slot_effects.proofs.Handles.{over_same}
 
 -- a ledger that asks no more, of the same words and contents
 shown_alike : (names : Titles) (actors bytes : ℕ) (b next : Ledger) (s : State) → IsShown names actors bytes b s → ((k : ℕ) (x : SlotName) → next.own k x ≡ b.own k x) → ((k : ℕ) (x : SlotName) → next.ref k x ≡ b.ref k x) →

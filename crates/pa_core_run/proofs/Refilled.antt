@@ -13,7 +13,7 @@ use Rattle.pa_record.specs.Sound.{IsSound, IsMade, TitlesApart}
 use Rattle.pa_record.specs.Laws.{IsNameOut, times}
 use Rattle.pa_lists.proofs.Members.{first_in, later_in}
 use Rattle.pa_record.proofs.Lawful.{journal_leaves}
-use Rattle.pa_deeds.specs.Shared.{IsThere}
+use Rattle.pa_heap_effects.specs.Shared.{IsThere}
 use Rattle.pa_rules.specs.declared.played.Played.{Played}
 use Rattle.pa_rules.specs.Caches.{Cache, OnlyActs, with_list}
 use Rattle.pa_rules.proofs.Counted.{stands}

@@ -18,8 +18,8 @@ use Rattle.pa_rules.specs.Roots.{AsksForClass, AsksForMap}
 use Rattle.pa_rules.specs.Caches.{Cache, CacheRow, SameLists, MadeRow, FilledFirst, FrontIs, OnlyActs, with_list}
 use Rattle.pa_rules.specs.Flow.{listed_times}
 use Rattle.pa_rules.proofs.Counted.{stands, times_cons, list_changed}
-use Rattle.pa_turns.specs.Shown.{over}
-use Rattle.pa_turns.specs.Turns.{HoldsNone}
+use Rattle.pa_slot_effects.specs.Shown.{over}
+use Rattle.pa_slot_effects.specs.Turns.{HoldsNone}
 use Rattle.pa_rules.specs.Told.{told_by}
 use Rattle.pa_rules.specs.Once.{once}
 use Rattle.pa_one_run.specs.Parts.{Parts, parts_of}

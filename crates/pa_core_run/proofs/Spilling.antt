@@ -12,7 +12,7 @@ use Rattle.pa_rules.specs.Caches.{Cache, SameLists, OnlyActs, IsOfClass, acts_of
 use Rattle.pa_rules.specs.Flow.{listed_times, back_in}
 use Rattle.pa_rules.proofs.Counted.{stands, stands_kept, list_changed, back_gives}
 use Rattle.pa_rules.proofs.Flowing.{class_real}
-use Rattle.pa_turns.specs.Shown.{over}
+use Rattle.pa_slot_effects.specs.Shown.{over}
 use Rattle.pa_one_run.specs.Parts.{Parts}
 use Rattle.pa_one_run.specs.Before.{root_at}
 use Rattle.pa_one_run.proofs.Filed.{IsFiled}

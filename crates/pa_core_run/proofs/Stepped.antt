@@ -24,10 +24,10 @@ use Rattle.pa_rules.specs.Played.{mark_of, mark_at}
 use Rattle.pa_rules.specs.Registers.{Reg, Becomes, with}
 use Rattle.pa_rules.specs.Caches.{Cache, SameLists, NoActs}
 use Rattle.pa_rules.specs.Contents.{IsContent}
-use Rattle.pa_turns.specs.Shown.{with_slot}
-use Rattle.pa_turns.specs.Turns.{HoldsNone}
-use Rattle.pa_turns.proofs.Contents.{held_before}
-use Rattle.pa_turns.proofs.Balance.{at_slot, at_other_slot}
+use Rattle.pa_slot_effects.specs.Shown.{with_slot}
+use Rattle.pa_slot_effects.specs.Turns.{HoldsNone}
+use Rattle.pa_slot_effects.proofs.Contents.{held_before}
+use Rattle.pa_slot_effects.proofs.Balance.{at_slot, at_other_slot}
 use Rattle.pa_one_run.proofs.Filed.{IsFiled}
 use Rattle.pa_core_steps.specs.Turns.{IsDone, left_by, poisons, stores}
 use Rattle.pa_core_run.specs.Playing.{read_by, AreBeside, Plays}

@@ -21,11 +21,11 @@ use Rattle.pa_machine.proofs.Happening.{in_total, few_owns}
 use Rattle.pa_machine.proofs.Keeps.{own_of_state}
 use Rattle.pa_record.specs.Spans.{name_of}
 use Rattle.pa_rules.specs.declared.register.Register.TheVariants.{Own, Ref, Freed, Cleared}
-use Rattle.pa_turns.specs.Shown.{owns, points}
-use Rattle.pa_turns.specs.Turns.{HoldsNone}
-use Rattle.pa_turns.proofs.Handles.{over_part}
-use Rattle.pa_turns.proofs.Words.{owns_one, points_one}
-use Rattle.pa_turns.proofs.Balance.{none_owns}
+use Rattle.pa_slot_effects.specs.Shown.{owns, points}
+use Rattle.pa_slot_effects.specs.Turns.{HoldsNone}
+use Rattle.pa_slot_effects.proofs.Handles.{over_part}
+use Rattle.pa_slot_effects.proofs.Words.{owns_one, points_one}
+use Rattle.pa_slot_effects.proofs.Balance.{none_owns}
 use Rattle.pa_core_steps.specs.Turns.{IsTurn, IsDone, left_by, poisons, stores}
 use Rattle.pa_core_steps.proofs.Freeing.{frees_can_happen}
 use Rattle.pa_core_steps.proofs.Handling.{copies_can_happen, resets_can_happen}

@@ -18,9 +18,9 @@ use Rattle.pa_machine.proofs.Lasting.{run_start}
 use Rattle.pa_record.specs.Spans.{name_of}
 use Rattle.pa_rules.specs.Registers.{Reg, with, handle_of, reg_of}
 use Rattle.pa_rules.specs.declared.register.Register.TheVariants.{Empty, Own, Ref, Freed, Cleared}
-use Rattle.pa_turns.specs.Shown.{owns, points, over}
-use Rattle.pa_turns.proofs.Handles.{over_part, over_same, over_one}
-use Rattle.pa_turns.proofs.Words.{owns_one, points_one}
+use Rattle.pa_slot_effects.specs.Shown.{owns, points, over}
+use Rattle.pa_slot_effects.proofs.Handles.{over_part, over_same, over_one}
+use Rattle.pa_slot_effects.proofs.Words.{owns_one, points_one}
 use Rattle.pa_core_steps.proofs.Joining.{run_join}
 use Rattle.pa_core_run.specs.Playing.{AreBeside}
 use Rattle.pa_core_run.specs.Ledger.{Ledger, Titles, IsShown, IsPaid}

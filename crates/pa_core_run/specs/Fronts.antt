@@ -13,7 +13,7 @@ use Rattle.pa_rules.specs.declared.played.Played.{Played}
 use Rattle.pa_rules.specs.Caches.{Caches, CachesTo, no_caches}
 use Rattle.pa_rules.specs.Registers.{AllRegs, RowsTo}
 use Rattle.pa_rules.specs.Contents.{IsContent}
-use Rattle.pa_deeds.specs.Shared.{IsThere}
+use Rattle.pa_heap_effects.specs.Shared.{IsThere}
 use Rattle.pa_one_run.specs.Parts.{Parts, cell_line}
 use Rattle.pa_one_run.specs.Before.{word_after, below, root_at, HasRegisters, facts_of, gave_last}
 use Rattle.pa_core_run.specs.Playing.{Plays}

@@ -7,7 +7,7 @@ use Rattle.pa_trace.specs.Limits.{register_count, cell_count}
 use Rattle.pa_rules.specs.Registers.{Reg, AllRegs, reg_of}
 use Rattle.pa_rules.specs.Caches.{Caches}
 use Rattle.pa_rules.specs.Flow.{listed_times}
-use Rattle.pa_turns.specs.Shown.{owns, points, over}
+use Rattle.pa_slot_effects.specs.Shown.{owns, points, over}
 use Rattle.pa_core_run.specs.Ledger.{Ledger}
 
 -- the registers of all threads, what each cell holds, the threads' lists, and each slot's word and content

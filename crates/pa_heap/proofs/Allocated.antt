@@ -17,14 +17,14 @@ use Rattle.pa_region.specs.Hands.{united}
 use Rattle.pa_region.specs.Aware.{IsAware}
 use Rattle.pa_region.specs.Leaves.{CountLeaves}
 use Rattle.pa_cells.specs.declared.handle.Handle.{Handle}
-use Rattle.pa_plays.specs.Stocks.{StockValue, IsStock, HasNoHandle, register_in, listed_slot}
-use Rattle.pa_plays.specs.Workers.{HasItsStake}
-use Rattle.pa_stock.specs.Changes.{IsBack}
-use Rattle.pa_stock.specs.Allocating.{TakesFront, FillsList, MapsTitle, Issues, with_listed}
-use Rattle.pa_plays.specs.Plays.{DoesOp}
+use Rattle.pa_op_specs.specs.Stocks.{StockValue, IsStock, HasNoHandle, register_in, listed_slot}
+use Rattle.pa_op_specs.specs.Workers.{HasItsStake}
+use Rattle.pa_thread_state.specs.Changes.{IsBack}
+use Rattle.pa_thread_state.specs.Allocating.{TakesFront, FillsList, MapsTitle, Issues, with_listed}
+use Rattle.pa_op_specs.specs.Plays.{DoesOp}
 use Rattle.pa_heap.proofs.Issuing.{issued_does}
 use Rattle.pa_heap.proofs.Taking.{front_back, front_brings}
-use Rattle.pa_stock.proofs.Fetching.{fill_asking, mapped_slot, map_asking, map_back}
+use Rattle.pa_thread_state.proofs.Fetching.{fill_asking, mapped_slot, map_asking, map_back}
 use Rattle.pa_heap.proofs.Fetching.{fill_back, fill_brings, map_brings}
 
 -- What is known of a stock to which a title came, as it was before and is then.

@@ -27,19 +27,19 @@ use Rattle.pa_rules.specs.Caches.{SameLists, OnlyActs, NoActs, IsOfClass, Return
 use Rattle.pa_cells.specs.declared.handle.Handle.{Handle}
 use Rattle.pa_root.specs.Handing.{at_number_seen}
 use Rattle.pa_rules.specs.declared.register.Register.TheVariants.{Own, Ref, Freed, Cleared}
-use Rattle.pa_plays.specs.Stocks.{StockRegister, StockValue, IsStock, register_in, regs_of, titles_in, listed_in}
-use Rattle.pa_plays.specs.Workers.{HasItsStake}
-use Rattle.pa_stock.specs.Changes.{LetsGo, IsPut, put_in_front}
-use Rattle.pa_plays.specs.Plays.{DoesOp}
-use Rattle.pa_plays.proofs.Registers.{regs_set}
-use Rattle.pa_plays.proofs.Seeing.{made_kept, slot_in_run, home_of}
-use Rattle.pa_stock.proofs.Leaving.{least_is, user_not_free, touched_count}
-use Rattle.pa_plays.proofs.Stocks.{register_has}
-use Rattle.pa_stock.proofs.Looking.{seen_at}
-use Rattle.pa_plays.proofs.Quiet.{quiet_record, touched_does}
-use Rattle.pa_stock.proofs.Resetting.{can_reset, cleared}
+use Rattle.pa_op_specs.specs.Stocks.{StockRegister, StockValue, IsStock, register_in, regs_of, titles_in, listed_in}
+use Rattle.pa_op_specs.specs.Workers.{HasItsStake}
+use Rattle.pa_thread_state.specs.Changes.{LetsGo, IsPut, put_in_front}
+use Rattle.pa_op_specs.specs.Plays.{DoesOp}
+use Rattle.pa_op_specs.proofs.Registers.{regs_set}
+use Rattle.pa_op_specs.proofs.Seeing.{made_kept, slot_in_run, home_of}
+use Rattle.pa_thread_state.proofs.Leaving.{least_is, user_not_free, touched_count}
+use Rattle.pa_op_specs.proofs.Stocks.{register_has}
+use Rattle.pa_thread_state.proofs.Looking.{seen_at}
+use Rattle.pa_op_specs.proofs.Quiet.{quiet_record, touched_does}
+use Rattle.pa_thread_state.proofs.Resetting.{can_reset, cleared}
 use Rattle.pa_heap.proofs.Resetting.{reset_row}
-use Rattle.pa_stock.proofs.Freeing.{can_step, freed, freed_view}
+use Rattle.pa_thread_state.proofs.Freeing.{can_step, freed, freed_view}
 use Rattle.pa_heap.proofs.Freeing.{free_row, touched_free}
 use Rattle.pa_heap.proofs.Returning.{stays_whole, front_lists}
 use Rattle.pa_lists.proofs.Elements.{length_map}

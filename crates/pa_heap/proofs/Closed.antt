@@ -25,11 +25,11 @@ use Rattle.pa_region.specs.Ends.{IsEnd}
 use Rattle.pa_region.specs.Lists.{list_of}
 use Rattle.pa_rules.specs.Cells.{IsChain}
 use Rattle.pa_legal.specs.Numbers.{moves_of, IsNumbered}
-use Rattle.pa_told.specs.Listed.{IsJournalOf, IsPoolList}
+use Rattle.pa_logs.specs.Listed.{IsJournalOf, IsPoolList}
 use Rattle.pa_root.specs.Laws.{JournalsFitPool}
 use Rattle.pa_cells.specs.Cells.{Exchange, AreExchanges, cell_history}
 use Rattle.pa_heap.specs.declared.left.Left.{Left}
-use Rattle.pa_plays.specs.Workers.{WorkerValue}
+use Rattle.pa_op_specs.specs.Workers.{WorkerValue}
 use Rattle.pa_heap.specs.Closing.{TakesOthersIn, LeavesPool, LeavesRoot, LeavesCells, LeavesWorker, LeavesLists, IsClosedBy, journal_left, root_left}
 use Rattle.pa_heap.proofs.TakingIn.{takes_on, pool_on, root_on, worker_on}
 

@@ -18,17 +18,17 @@ use Rattle.pa_rules.specs.Nexts.{HasSomeHandle}
 use Rattle.pa_rules.proofs.Nexts.{copy_filled}
 use Rattle.pa_cells.specs.declared.handle.Handle.{Handle}
 use Rattle.pa_rules.specs.declared.register.Register.TheVariants.{Empty, Own, Ref, Freed, Cleared}
-use Rattle.pa_plays.specs.Stocks.{StockRegister, StockValue, IsStock, HasHandleTo, HasNoHandle, register_in, as_reg, regs_of}
-use Rattle.pa_plays.specs.Workers.{HasItsStake}
-use Rattle.pa_plays.specs.Plays.{DoesOp}
-use Rattle.pa_stock.specs.Changes.{PointsTo}
-use Rattle.pa_plays.proofs.Registers.{regs_set}
-use Rattle.pa_plays.proofs.Seeing.{made_kept, slot_in_run, home_of}
-use Rattle.pa_stock.proofs.Leaving.{least_is, user_not_free, touched_count}
-use Rattle.pa_plays.proofs.Stocks.{register_has}
-use Rattle.pa_plays.proofs.Quiet.{quiet_does}
-use Rattle.pa_plays.proofs.Refusing.{plain_does}
-use Rattle.pa_stock.proofs.Copying.{can_copy, copied}
+use Rattle.pa_op_specs.specs.Stocks.{StockRegister, StockValue, IsStock, HasHandleTo, HasNoHandle, register_in, as_reg, regs_of}
+use Rattle.pa_op_specs.specs.Workers.{HasItsStake}
+use Rattle.pa_op_specs.specs.Plays.{DoesOp}
+use Rattle.pa_thread_state.specs.Changes.{PointsTo}
+use Rattle.pa_op_specs.proofs.Registers.{regs_set}
+use Rattle.pa_op_specs.proofs.Seeing.{made_kept, slot_in_run, home_of}
+use Rattle.pa_thread_state.proofs.Leaving.{least_is, user_not_free, touched_count}
+use Rattle.pa_op_specs.proofs.Stocks.{register_has}
+use Rattle.pa_op_specs.proofs.Quiet.{quiet_does}
+use Rattle.pa_op_specs.proofs.Refusing.{plain_does}
+use Rattle.pa_thread_state.proofs.Copying.{can_copy, copied}
 
 -- the rows: of the first register, by its handle; of the second, which has none
 copy_row : (r : StockRegister) (h : Handle) (regs : Regs) (to : ℕ) (answer : Answer) (after : Regs) → HasHandleTo h r →

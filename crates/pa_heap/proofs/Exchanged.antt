@@ -25,23 +25,23 @@ use Rattle.pa_region.specs.Aware.{IsAware}
 use Rattle.pa_region.proofs.LendBack.{begins_on, kept_number}
 use Rattle.pa_rules.specs.Registers.{handle_of, reg_of}
 use Rattle.pa_rules.specs.Caches.{NoActs, SameLists, acts_of}
-use Rattle.pa_told.specs.Told.{ToldRecord}
-use Rattle.pa_told.specs.Listed.{line_of, first_of}
-use Rattle.pa_told.specs.Indices.{Enters}
+use Rattle.pa_logs.specs.Told.{ToldRecord}
+use Rattle.pa_logs.specs.Listed.{line_of, first_of}
+use Rattle.pa_logs.specs.Indices.{Enters}
 use Rattle.pa_cache.specs.Caches.{CacheList}
 use Rattle.pa_root.specs.Handing.{numbered_by}
 use Rattle.pa_cells.specs.Handles.{ParkedHandle, GiversLackHandles, held_as}
 use Rattle.pa_cells.specs.Cells.{exchange_entry}
 use Rattle.pa_rules.specs.declared.register.Register.TheVariants.{Empty, Own, Ref, Freed, Cleared}
-use Rattle.pa_plays.specs.Stocks.{StockRegister, StockValue, IsStock, HasNoHandle, register_in, as_reg, regs_of, titles_in, listed_in}
-use Rattle.pa_plays.specs.Workers.{HasItsStake}
-use Rattle.pa_plays.specs.Outcomes.{Outcome, IsOutcome, ActsAreOf}
-use Rattle.pa_stock.specs.Exchanging.{Parks, SwapsHandles, TakesIn, handle_register, register_of, found_register, handle_parcel}
-use Rattle.pa_plays.specs.Plays.{DoesOp}
-use Rattle.pa_plays.proofs.Registers.{set_at}
-use Rattle.pa_plays.proofs.Quiet.{same_titles}
-use Rattle.pa_plays.proofs.Entered.{Rests}
-use Rattle.pa_stock.proofs.Parking.{rests_none, parked_rests, taken_rests, holds_given}
+use Rattle.pa_op_specs.specs.Stocks.{StockRegister, StockValue, IsStock, HasNoHandle, register_in, as_reg, regs_of, titles_in, listed_in}
+use Rattle.pa_op_specs.specs.Workers.{HasItsStake}
+use Rattle.pa_op_specs.specs.Outcomes.{Outcome, IsOutcome, ActsAreOf}
+use Rattle.pa_thread_state.specs.Exchanging.{Parks, SwapsHandles, TakesIn, handle_register, register_of, found_register, handle_parcel}
+use Rattle.pa_op_specs.specs.Plays.{DoesOp}
+use Rattle.pa_op_specs.proofs.Registers.{set_at}
+use Rattle.pa_op_specs.proofs.Quiet.{same_titles}
+use Rattle.pa_op_specs.proofs.Entered.{Rests}
+use Rattle.pa_thread_state.proofs.Parking.{rests_none, parked_rests, taken_rests, holds_given}
 use Rattle.pa_root.proofs.Seeing.{free_kept}
 
 -- what was given is what the register had, as histories name it

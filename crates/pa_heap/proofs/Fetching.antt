@@ -18,15 +18,15 @@ use Rattle.pa_rules.specs.Roots.{MakesEntry}
 use Rattle.pa_rules.proofs.Sizes.{sizes_fit}
 use Rattle.pa_trace.specs.declared.script.Op.TheVariants as ops
 use Rattle.pa_root.specs.Handing.{FillGives, MapGives, numbered_by}
-use Rattle.pa_plays.specs.Stocks.{StockValue, IsStock, titles_in, listed_slot}
-use Rattle.pa_stock.specs.Changes.{IsBack}
-use Rattle.pa_stock.specs.Allocating.{with_listed}
-use Rattle.pa_plays.proofs.Quiet.{same_titles}
-use Rattle.pa_stock.proofs.Relisting.{listed_cases, listed_from, relisted}
+use Rattle.pa_op_specs.specs.Stocks.{StockValue, IsStock, titles_in, listed_slot}
+use Rattle.pa_thread_state.specs.Changes.{IsBack}
+use Rattle.pa_thread_state.specs.Allocating.{with_listed}
+use Rattle.pa_op_specs.proofs.Quiet.{same_titles}
+use Rattle.pa_thread_state.proofs.Relisting.{listed_cases, listed_from, relisted}
 use Rattle.pa_heap.proofs.Issuing.{Bringing}
 use Rattle.pa_heap.proofs.Taking.{first_alone, front_is}
-use Rattle.pa_stock.proofs.Taking.{took_free, took_new, took_same, took_number, took_enters}
-use Rattle.pa_stock.proofs.Fetching.{fill_act, fill_asking, fill_made, fill_took, map_asking, map_took, mapped_slot}
+use Rattle.pa_thread_state.proofs.Taking.{took_free, took_new, took_same, took_number, took_enters}
+use Rattle.pa_thread_state.proofs.Fetching.{fill_act, fill_asking, fill_made, fill_took, map_asking, map_took, mapped_slot}
 use Rattle.pa_root.proofs.CallGives.{same_numbers}
 
 -- the first can be issued

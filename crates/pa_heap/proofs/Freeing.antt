@@ -19,18 +19,18 @@ use Rattle.pa_rules.specs.Played.{mark_at}
 use Rattle.pa_rules.specs.Registers.{Regs, with, Becomes, FreeRow}
 use Rattle.pa_cells.specs.declared.handle.Handle.{Handle}
 use Rattle.pa_rules.specs.declared.register.Register.TheVariants.{Own, Freed}
-use Rattle.pa_plays.specs.Stocks.{StockRegister, StockValue, IsStock, register_in, as_reg, regs_of}
-use Rattle.pa_plays.specs.Workers.{HasItsStake}
-use Rattle.pa_stock.specs.Changes.{LetsGo}
-use Rattle.pa_plays.specs.Plays.{DoesOp}
-use Rattle.pa_plays.proofs.Registers.{regs_set}
-use Rattle.pa_plays.proofs.Seeing.{made_kept, slot_in_run, home_of, now_seen}
-use Rattle.pa_plays.proofs.Touching.{Touched, touched_entry}
-use Rattle.pa_stock.proofs.Leaving.{least_is, user_not_free}
-use Rattle.pa_plays.proofs.Stocks.{register_has}
-use Rattle.pa_stock.proofs.Looking.{seen_at}
-use Rattle.pa_plays.proofs.Quiet.{quiet_does}
-use Rattle.pa_stock.proofs.Freeing.{can_step, freed, freed_view}
+use Rattle.pa_op_specs.specs.Stocks.{StockRegister, StockValue, IsStock, register_in, as_reg, regs_of}
+use Rattle.pa_op_specs.specs.Workers.{HasItsStake}
+use Rattle.pa_thread_state.specs.Changes.{LetsGo}
+use Rattle.pa_op_specs.specs.Plays.{DoesOp}
+use Rattle.pa_op_specs.proofs.Registers.{regs_set}
+use Rattle.pa_op_specs.proofs.Seeing.{made_kept, slot_in_run, home_of, now_seen}
+use Rattle.pa_op_specs.proofs.Touching.{Touched, touched_entry}
+use Rattle.pa_thread_state.proofs.Leaving.{least_is, user_not_free}
+use Rattle.pa_op_specs.proofs.Stocks.{register_has}
+use Rattle.pa_thread_state.proofs.Looking.{seen_at}
+use Rattle.pa_op_specs.proofs.Quiet.{quiet_does}
+use Rattle.pa_thread_state.proofs.Freeing.{can_step, freed, freed_view}
 
 -- what the step leaves, of the view before the poisoning
 pub touched_free : CountLeaves → OwnsChange → StatesAreOwns → (s : StockValue) (r word : ℕ) (h : Handle) → IsStock s → HasItsStake s → 0 < s.view.budget → r < 64 →

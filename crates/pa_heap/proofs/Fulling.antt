@@ -27,21 +27,21 @@ use Rattle.pa_rules.proofs.Nexts.{alloc_filled}
 use Rattle.pa_cells.specs.declared.handle.Handle.{Handle}
 use Rattle.pa_rules.specs.Caches.{Cache, SameLists, OnlyActs, FullRow}
 use Rattle.pa_rules.specs.Roots.{Journals, MakesEntry}
-use Rattle.pa_told.specs.Indices.{IsFullAt}
+use Rattle.pa_logs.specs.Indices.{IsFullAt}
 use Rattle.pa_pool.specs.Calls.{take_entry}
 use Rattle.pa_root.specs.declared.fault.FillFault.TheVariants.{Full}
 use Rattle.pa_root.specs.Handing.{IsFullFor, numbered_by, root_entry}
 use Rattle.pa_root.specs.Making.{EntersTwo}
-use Rattle.pa_plays.specs.Stocks.{StockValue, IsStock, HasNoHandle, register_in, as_reg, regs_of, titles_in, listed_in}
-use Rattle.pa_plays.specs.Outcomes.{Outcome, IsSeenOf, row_facts}
-use Rattle.pa_stock.specs.Allocating.{FindsNone}
-use Rattle.pa_plays.specs.Plays.{DoesOp}
-use Rattle.pa_plays.proofs.Quiet.{quiet_record, same_titles}
-use Rattle.pa_plays.proofs.Refusing.{IsPlain, plain_does}
-use Rattle.pa_plays.proofs.Entered.{entered_does, makes_each, two_enters}
-use Rattle.pa_plays.proofs.AskedFor.{Asks, asks_two, it_asks, only_acts, act_at, root_elsewhere}
+use Rattle.pa_op_specs.specs.Stocks.{StockValue, IsStock, HasNoHandle, register_in, as_reg, regs_of, titles_in, listed_in}
+use Rattle.pa_op_specs.specs.Outcomes.{Outcome, IsSeenOf, row_facts}
+use Rattle.pa_thread_state.specs.Allocating.{FindsNone}
+use Rattle.pa_op_specs.specs.Plays.{DoesOp}
+use Rattle.pa_op_specs.proofs.Quiet.{quiet_record, same_titles}
+use Rattle.pa_op_specs.proofs.Refusing.{IsPlain, plain_does}
+use Rattle.pa_op_specs.proofs.Entered.{entered_does, makes_each, two_enters}
+use Rattle.pa_op_specs.proofs.AskedFor.{Asks, asks_two, it_asks, only_acts, act_at, root_elsewhere}
 use Rattle.pa_heap.proofs.Issuing.{alloc_row}
-use Rattle.pa_stock.proofs.Taking.{two_uncut}
+use Rattle.pa_thread_state.proofs.Taking.{two_uncut}
 
 -- an allocation that is refused by its register or its size alone
 alloc_refuses : (s : StockValue) (i p size : ℕ) (answer : Answer) → IsStock s → IsPlain answer →

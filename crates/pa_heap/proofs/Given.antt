@@ -26,23 +26,23 @@ use Rattle.pa_rules.specs.Played.{mark_of_answer, mark_at}
 use Rattle.pa_rules.specs.Registers.{Row}
 use Rattle.pa_rules.specs.Caches.{Cache, CacheRow, ReturnRow, SameLists, acts_of, gives, kept, spilled, with_list}
 use Rattle.pa_rules.specs.Roots.{Journals, IsFreeing, MakesEntry}
-use Rattle.pa_told.specs.Told.{ToldRecord}
-use Rattle.pa_told.specs.Touches.{IsStepTold, IsToldBy, is_touch, title_of}
-use Rattle.pa_told.specs.Indices.{Enters, asks}
-use Rattle.pa_told.specs.Said.{ReadsIts}
+use Rattle.pa_logs.specs.Told.{ToldRecord}
+use Rattle.pa_logs.specs.Touches.{IsStepTold, IsToldBy, is_touch, title_of}
+use Rattle.pa_logs.specs.Indices.{Enters, asks}
+use Rattle.pa_logs.specs.Said.{ReadsIts}
 use Rattle.pa_root.specs.Handing.{root_entry}
 use Rattle.pa_cells.specs.declared.handle.Handle.{Handle}
 use Rattle.pa_cells.specs.Handles.{HasSeenMade, SlotsStaySeen}
-use Rattle.pa_plays.specs.Stocks.{StockRegister, StockValue, regs_of, listed_in}
-use Rattle.pa_plays.specs.Outcomes.{Outcome, IsOutcome, IsSeenOf, row_facts}
-use Rattle.pa_plays.specs.Entering.{EntersCells, HasSeenSome}
-use Rattle.pa_plays.specs.Plays.{DoesOp, AnswersIn}
-use Rattle.pa_plays.proofs.Seeing.{slot_in_run, home_of}
-use Rattle.pa_stock.proofs.Looking.{seen_at}
-use Rattle.pa_plays.proofs.Touching.{Touched}
-use Rattle.pa_plays.proofs.Quiet.{quiet_record}
-use Rattle.pa_plays.proofs.Batches.{in_gives, gives_ask_none, acts_back, act_among}
-use Rattle.pa_plays.proofs.Entered.{Entering, LineActs, acts_in, entered_does, entered_here, entered_elsewhere, entering_both, makes_each, none_here, touched_enters, unmaps_next}
+use Rattle.pa_op_specs.specs.Stocks.{StockRegister, StockValue, regs_of, listed_in}
+use Rattle.pa_op_specs.specs.Outcomes.{Outcome, IsOutcome, IsSeenOf, row_facts}
+use Rattle.pa_op_specs.specs.Entering.{EntersCells, HasSeenSome}
+use Rattle.pa_op_specs.specs.Plays.{DoesOp, AnswersIn}
+use Rattle.pa_op_specs.proofs.Seeing.{slot_in_run, home_of}
+use Rattle.pa_thread_state.proofs.Looking.{seen_at}
+use Rattle.pa_op_specs.proofs.Touching.{Touched}
+use Rattle.pa_op_specs.proofs.Quiet.{quiet_record}
+use Rattle.pa_op_specs.proofs.Batches.{in_gives, gives_ask_none, acts_back, act_among}
+use Rattle.pa_op_specs.proofs.Entered.{Entering, LineActs, acts_in, entered_does, entered_here, entered_elsewhere, entering_both, makes_each, none_here, touched_enters, unmaps_next}
 
 -- the slot of a handle, at the number that its step left
 abbrev pub left_at : Handle → ℕ → Numbered

@@ -31,26 +31,26 @@ use Rattle.pa_rules.specs.Registers.{Facts, Regs, with, Becomes, AllocRow, Reque
 use Rattle.pa_rules.specs.Caches.{Cache, SameLists, OnlyActs, MadeRow}
 use Rattle.pa_rules.specs.Roots.{Journals, MakesEntry}
 use Rattle.pa_rules.specs.Sizes.{usable_of}
-use Rattle.pa_told.specs.Touches.{is_touch, touches}
+use Rattle.pa_logs.specs.Touches.{is_touch, touches}
 use Rattle.pa_cells.specs.declared.handle.Handle.{Handle}
 use Rattle.pa_cache.specs.Caches.{CacheList}
 use Rattle.pa_rules.specs.declared.register.Register.TheVariants.{Empty, Own, Ref, Freed, Cleared}
-use Rattle.pa_plays.specs.Stocks.{StockRegister, StockValue, IsStock, HasNoHandle, register_in, as_reg, regs_of, titles_in, listed_in}
-use Rattle.pa_plays.specs.Workers.{HasItsStake}
-use Rattle.pa_plays.specs.Outcomes.{row_facts}
-use Rattle.pa_stock.specs.Changes.{IsBack}
-use Rattle.pa_stock.specs.Allocating.{Issues}
-use Rattle.pa_plays.specs.Plays.{DoesOp}
-use Rattle.pa_plays.proofs.Registers.{regs_set}
-use Rattle.pa_plays.proofs.Seeing.{made_kept, slot_in_run, home_of, more_seen, same_seen, now_seen}
-use Rattle.pa_plays.proofs.Touching.{entry_logs}
-use Rattle.pa_stock.proofs.Leaving.{least_is}
-use Rattle.pa_stock.proofs.Looking.{seen_at}
-use Rattle.pa_plays.proofs.Quiet.{quiet_record, same_titles}
-use Rattle.pa_plays.proofs.Entered.{Entering, TellsOf, entering_both, entered_does, makes_each}
-use Rattle.pa_plays.proofs.AskedFor.{Asks, it_asks, only_acts, act_at, root_elsewhere}
-use Rattle.pa_stock.proofs.Issuing.{issued, issued_view, not_listed}
-use Rattle.pa_told.proofs.Listing.{entered_append}
+use Rattle.pa_op_specs.specs.Stocks.{StockRegister, StockValue, IsStock, HasNoHandle, register_in, as_reg, regs_of, titles_in, listed_in}
+use Rattle.pa_op_specs.specs.Workers.{HasItsStake}
+use Rattle.pa_op_specs.specs.Outcomes.{row_facts}
+use Rattle.pa_thread_state.specs.Changes.{IsBack}
+use Rattle.pa_thread_state.specs.Allocating.{Issues}
+use Rattle.pa_op_specs.specs.Plays.{DoesOp}
+use Rattle.pa_op_specs.proofs.Registers.{regs_set}
+use Rattle.pa_op_specs.proofs.Seeing.{made_kept, slot_in_run, home_of, more_seen, same_seen, now_seen}
+use Rattle.pa_op_specs.proofs.Touching.{entry_logs}
+use Rattle.pa_thread_state.proofs.Leaving.{least_is}
+use Rattle.pa_thread_state.proofs.Looking.{seen_at}
+use Rattle.pa_op_specs.proofs.Quiet.{quiet_record, same_titles}
+use Rattle.pa_op_specs.proofs.Entered.{Entering, TellsOf, entering_both, entered_does, makes_each}
+use Rattle.pa_op_specs.proofs.AskedFor.{Asks, it_asks, only_acts, act_at, root_elsewhere}
+use Rattle.pa_thread_state.proofs.Issuing.{issued, issued_view, not_listed}
+use Rattle.pa_logs.proofs.Listing.{entered_append}
 
 -- what the step leaves of the view before the zeros
 pub issued_enters : CountLeaves → (s : StockValue) (line word : ℕ) (t : Title) → IsStock s → HasItsStake s → CanCount steps.Issue t (zeroed t s.view) → IsFound t word (zeroed t s.view) →

@@ -19,19 +19,19 @@ use Rattle.pa_rules.specs.Played.{mark_at, mark_of_answer}
 use Rattle.pa_rules.specs.Registers.{Row}
 use Rattle.pa_rules.specs.Caches.{Cache, CacheRow, NoActs, SameLists}
 use Rattle.pa_rules.specs.Roots.{Journals}
-use Rattle.pa_told.specs.Touches.{title_of, IsToldBy, IsLookTold}
+use Rattle.pa_logs.specs.Touches.{title_of, IsToldBy, IsLookTold}
 use Rattle.pa_cells.specs.declared.handle.Handle.{Handle}
-use Rattle.pa_told.specs.Said.{ReadsIts}
-use Rattle.pa_plays.specs.Stocks.{StockValue, IsStock, HasHandleTo, register_in, regs_of}
-use Rattle.pa_plays.specs.Workers.{HasItsStake}
-use Rattle.pa_plays.specs.Outcomes.{Outcome, row_facts}
-use Rattle.pa_plays.specs.Plays.{DoesOp}
-use Rattle.pa_plays.proofs.Seeing.{made_kept, slot_in_run, home_of}
-use Rattle.pa_stock.proofs.Leaving.{least_is, user_not_free, touched_look}
-use Rattle.pa_plays.proofs.Stocks.{register_has}
-use Rattle.pa_plays.proofs.Quiet.{quiet_record, quiet_does}
-use Rattle.pa_plays.proofs.Refusing.{IsNoSwap, enters_no_cells}
-use Rattle.pa_stock.proofs.Looking.{looked, seen_at}
+use Rattle.pa_logs.specs.Said.{ReadsIts}
+use Rattle.pa_op_specs.specs.Stocks.{StockValue, IsStock, HasHandleTo, register_in, regs_of}
+use Rattle.pa_op_specs.specs.Workers.{HasItsStake}
+use Rattle.pa_op_specs.specs.Outcomes.{Outcome, row_facts}
+use Rattle.pa_op_specs.specs.Plays.{DoesOp}
+use Rattle.pa_op_specs.proofs.Seeing.{made_kept, slot_in_run, home_of}
+use Rattle.pa_thread_state.proofs.Leaving.{least_is, user_not_free, touched_look}
+use Rattle.pa_op_specs.proofs.Stocks.{register_has}
+use Rattle.pa_op_specs.proofs.Quiet.{quiet_record, quiet_does}
+use Rattle.pa_op_specs.proofs.Refusing.{IsNoSwap, enters_no_cells}
+use Rattle.pa_thread_state.proofs.Looking.{looked, seen_at}
 
 -- the word is one in use
 pub in_use : (t : Title) (word : ℕ) (v : View) → IsUser t v → IsFound t word v → 0 < held_of word + refs_of word

@@ -19,21 +19,21 @@ use Rattle.pa_quarantine.specs.Filling.{poisoned}
 use Rattle.pa_cells.specs.declared.handle.Handle.{Handle}
 use Rattle.pa_cells.specs.Handles.{HasSeenMade, SlotsStaySeen}
 use Rattle.pa_rules.specs.declared.register.Register.TheVariants.{Own, Ref, Freed, Cleared}
-use Rattle.pa_plays.specs.Stocks.{StockRegister, StockValue, IsStock, register_in, regs_of}
-use Rattle.pa_plays.specs.Workers.{HasItsStake}
-use Rattle.pa_stock.specs.Changes.{LetsGo, NeedsRoot}
-use Rattle.pa_stock.specs.Homing.{IsSettled}
-use Rattle.pa_stock.specs.Releasing.{Releases}
-use Rattle.pa_plays.specs.Entering.{HasSeenSome}
-use Rattle.pa_plays.specs.Plays.{DoesOp}
-use Rattle.pa_plays.proofs.Registers.{regs_set}
-use Rattle.pa_plays.proofs.Seeing.{made_kept}
-use Rattle.pa_stock.proofs.Leaving.{least_is, user_not_free, touched_count}
-use Rattle.pa_plays.proofs.Stocks.{register_has}
-use Rattle.pa_stock.proofs.Looking.{seen_at}
-use Rattle.pa_stock.proofs.Resetting.{can_reset}
+use Rattle.pa_op_specs.specs.Stocks.{StockRegister, StockValue, IsStock, register_in, regs_of}
+use Rattle.pa_op_specs.specs.Workers.{HasItsStake}
+use Rattle.pa_thread_state.specs.Changes.{LetsGo, NeedsRoot}
+use Rattle.pa_thread_state.specs.Homing.{IsSettled}
+use Rattle.pa_thread_state.specs.Releasing.{Releases}
+use Rattle.pa_op_specs.specs.Entering.{HasSeenSome}
+use Rattle.pa_op_specs.specs.Plays.{DoesOp}
+use Rattle.pa_op_specs.proofs.Registers.{regs_set}
+use Rattle.pa_op_specs.proofs.Seeing.{made_kept}
+use Rattle.pa_thread_state.proofs.Leaving.{least_is, user_not_free, touched_count}
+use Rattle.pa_op_specs.proofs.Stocks.{register_has}
+use Rattle.pa_thread_state.proofs.Looking.{seen_at}
+use Rattle.pa_thread_state.proofs.Resetting.{can_reset}
 use Rattle.pa_heap.proofs.Resetting.{reset_row, reset_kept}
-use Rattle.pa_stock.proofs.Freeing.{can_step, freed_view}
+use Rattle.pa_thread_state.proofs.Freeing.{can_step, freed_view}
 use Rattle.pa_heap.proofs.Freeing.{free_row, free_kept, touched_free}
 use Rattle.pa_heap.proofs.Answering.{seen_left, reset_put, free_put}
 use Rattle.pa_heap.proofs.Given.{HasReturned}

@@ -24,20 +24,20 @@ use Rattle.pa_region.specs.Views.{free_of, seen_of, stake_of}
 use Rattle.pa_region.specs.Lists.{entered_in}
 use Rattle.pa_rules.specs.Caches.{gives, purge_acts, listed_slots, all_listed}
 use Rattle.pa_rules.specs.Roots.{MakesEntry}
-use Rattle.pa_told.specs.Touches.{is_touch, touches}
-use Rattle.pa_told.specs.Indices.{Enters, asks}
+use Rattle.pa_logs.specs.Touches.{is_touch, touches}
+use Rattle.pa_logs.specs.Indices.{Enters, asks}
 use Rattle.pa_root.specs.Handing.{root_entry, numbered_by}
-use Rattle.pa_plays.specs.Stocks.{StockRegister, StockValue, IsStock, titles_in, listed_in, listed_slot, regs_of}
-use Rattle.pa_plays.specs.Workers.{HasItsStake}
-use Rattle.pa_plays.specs.Outcomes.{Outcome, IsOutcome, IsSeenOf}
-use Rattle.pa_plays.specs.Plays.{DoesOp}
-use Rattle.pa_stock.specs.Purging.{PurgesRoot, without_lists}
-use Rattle.pa_plays.proofs.Seeing.{slot_in_run}
-use Rattle.pa_plays.proofs.Quiet.{same_titles, quiet_record}
-use Rattle.pa_plays.proofs.Entered.{Entering, acts_in, entering_none, entering_both, entered_here, entered_elsewhere, makes_each, entered_does}
-use Rattle.pa_plays.proofs.Batches.{in_gives, gives_ask_none, acts_back, act_among}
-use Rattle.pa_stock.proofs.HandedBack.{gives_enters}
-use Rattle.pa_told.proofs.Listing.{entered_append}
+use Rattle.pa_op_specs.specs.Stocks.{StockRegister, StockValue, IsStock, titles_in, listed_in, listed_slot, regs_of}
+use Rattle.pa_op_specs.specs.Workers.{HasItsStake}
+use Rattle.pa_op_specs.specs.Outcomes.{Outcome, IsOutcome, IsSeenOf}
+use Rattle.pa_op_specs.specs.Plays.{DoesOp}
+use Rattle.pa_thread_state.specs.Purging.{PurgesRoot, without_lists}
+use Rattle.pa_op_specs.proofs.Seeing.{slot_in_run}
+use Rattle.pa_op_specs.proofs.Quiet.{same_titles, quiet_record}
+use Rattle.pa_op_specs.proofs.Entered.{Entering, acts_in, entering_none, entering_both, entered_here, entered_elsewhere, makes_each, entered_does}
+use Rattle.pa_op_specs.proofs.Batches.{in_gives, gives_ask_none, acts_back, act_among}
+use Rattle.pa_thread_state.proofs.HandedBack.{gives_enters}
+use Rattle.pa_logs.proofs.Listing.{entered_append}
 
 -- ---- entries of lists are no touches
 

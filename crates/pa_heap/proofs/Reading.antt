@@ -24,28 +24,28 @@ use Rattle.pa_region.specs.Aware.{IsAware}
 use Rattle.pa_rules.specs.declared.register.Register.TheVariants as reg
 use Rattle.pa_rules.specs.Played.{mark_at}
 use Rattle.pa_rules.specs.Registers.{Facts, Regs, ReadRow, ReadFromRow}
-use Rattle.pa_told.specs.Told.{ToldRecord}
-use Rattle.pa_told.specs.Touches.{title_of, IsReadTold}
+use Rattle.pa_logs.specs.Told.{ToldRecord}
+use Rattle.pa_logs.specs.Touches.{title_of, IsReadTold}
 use Rattle.pa_rules.specs.Nexts.{looked_read}
 use Rattle.pa_rules.proofs.Nexts.{by_held}
 use Rattle.pa_cells.specs.declared.handle.Handle.{Handle}
-use Rattle.pa_told.specs.Said.{HoldsHandle, IsReadThrough}
+use Rattle.pa_logs.specs.Said.{HoldsHandle, IsReadThrough}
 use Rattle.pa_rules.specs.declared.register.Register.TheVariants.{Own}
-use Rattle.pa_plays.specs.Stocks.{StockRegister, StockValue, IsStock, HasHandleTo, register_in, as_reg, regs_of}
-use Rattle.pa_plays.specs.Workers.{HasItsStake}
-use Rattle.pa_stock.specs.Changes.{ReadsAt}
-use Rattle.pa_plays.specs.Outcomes.{row_facts}
-use Rattle.pa_plays.specs.Plays.{DoesOp}
-use Rattle.pa_plays.proofs.Seeing.{made_kept, slot_in_run, home_of}
-use Rattle.pa_plays.proofs.Touching.{Touches, Touched, entry_logs, touched_both}
-use Rattle.pa_stock.proofs.Leaving.{least_is, user_not_free, touched_look}
-use Rattle.pa_plays.proofs.Stocks.{register_has, register_owns}
-use Rattle.pa_stock.proofs.Looking.{seen_at, looked_stock, looked_stake}
+use Rattle.pa_op_specs.specs.Stocks.{StockRegister, StockValue, IsStock, HasHandleTo, register_in, as_reg, regs_of}
+use Rattle.pa_op_specs.specs.Workers.{HasItsStake}
+use Rattle.pa_thread_state.specs.Changes.{ReadsAt}
+use Rattle.pa_op_specs.specs.Outcomes.{row_facts}
+use Rattle.pa_op_specs.specs.Plays.{DoesOp}
+use Rattle.pa_op_specs.proofs.Seeing.{made_kept, slot_in_run, home_of}
+use Rattle.pa_op_specs.proofs.Touching.{Touches, Touched, entry_logs, touched_both}
+use Rattle.pa_thread_state.proofs.Leaving.{least_is, user_not_free, touched_look}
+use Rattle.pa_op_specs.proofs.Stocks.{register_has, register_owns}
+use Rattle.pa_thread_state.proofs.Looking.{seen_at, looked_stock, looked_stake}
 use Rattle.pa_heap.proofs.Looking.{in_use}
-use Rattle.pa_plays.proofs.Quiet.{quiet_record, quiet_does}
-use Rattle.pa_plays.proofs.Refusing.{plain_does}
-use Rattle.pa_stock.proofs.Reading.{read_stock, read_view}
-use Rattle.pa_told.proofs.Closing.{none_unclean}
+use Rattle.pa_op_specs.proofs.Quiet.{quiet_record, quiet_does}
+use Rattle.pa_op_specs.proofs.Refusing.{plain_does}
+use Rattle.pa_thread_state.proofs.Reading.{read_stock, read_view}
+use Rattle.pa_logs.proofs.Closing.{none_unclean}
 
 -- a read leaves an entry, and nothing is seen by it
 touched_load : EntryLeaves → (stake : ℕ) (t : Title) (place value : ℕ) (u : View) → HasStake u → least_stake u.stakes ≡ stake →

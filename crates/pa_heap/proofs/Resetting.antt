@@ -16,17 +16,17 @@ use Rattle.pa_rules.specs.Played.{mark_at}
 use Rattle.pa_rules.specs.Registers.{Regs, with, Becomes, ResetRow}
 use Rattle.pa_cells.specs.declared.handle.Handle.{Handle}
 use Rattle.pa_rules.specs.declared.register.Register.TheVariants.{Ref, Cleared}
-use Rattle.pa_plays.specs.Stocks.{StockRegister, StockValue, IsStock, register_in, as_reg, regs_of}
-use Rattle.pa_plays.specs.Workers.{HasItsStake}
-use Rattle.pa_stock.specs.Changes.{LetsGo}
-use Rattle.pa_plays.specs.Plays.{DoesOp}
-use Rattle.pa_plays.proofs.Registers.{regs_set}
-use Rattle.pa_plays.proofs.Seeing.{made_kept, slot_in_run, home_of}
-use Rattle.pa_stock.proofs.Leaving.{least_is, user_not_free, touched_count}
-use Rattle.pa_plays.proofs.Stocks.{register_has}
-use Rattle.pa_stock.proofs.Looking.{seen_at}
-use Rattle.pa_plays.proofs.Quiet.{quiet_does}
-use Rattle.pa_stock.proofs.Resetting.{can_reset, cleared}
+use Rattle.pa_op_specs.specs.Stocks.{StockRegister, StockValue, IsStock, register_in, as_reg, regs_of}
+use Rattle.pa_op_specs.specs.Workers.{HasItsStake}
+use Rattle.pa_thread_state.specs.Changes.{LetsGo}
+use Rattle.pa_op_specs.specs.Plays.{DoesOp}
+use Rattle.pa_op_specs.proofs.Registers.{regs_set}
+use Rattle.pa_op_specs.proofs.Seeing.{made_kept, slot_in_run, home_of}
+use Rattle.pa_thread_state.proofs.Leaving.{least_is, user_not_free, touched_count}
+use Rattle.pa_op_specs.proofs.Stocks.{register_has}
+use Rattle.pa_thread_state.proofs.Looking.{seen_at}
+use Rattle.pa_op_specs.proofs.Quiet.{quiet_does}
+use Rattle.pa_thread_state.proofs.Resetting.{can_reset, cleared}
 
 pub reset_row : (q : StockRegister) (h : Handle) (seen : Seen) (regs : Regs) (r : ℕ) (after : Regs) → q ≡ Ref h → seen.slot ≡ name_of h.title → Becomes after (with regs r reg.Cleared) →
     ResetRow (as_reg q) regs r (answers.Done seen) after

@@ -10,11 +10,11 @@ use Rattle.pa_region.specs.declared.view.View.{View}
 use Rattle.pa_region.specs.Views.{free_of, seen_of}
 use Rattle.pa_rules.specs.Caches.{SameLists, with_list, kept, spilled}
 use Rattle.pa_root.specs.Handing.{numbered_by}
-use Rattle.pa_plays.specs.Stocks.{StockRegister, StockValue, IsStock, titles_in, listed_in}
-use Rattle.pa_stock.specs.Changes.{put_in_front}
-use Rattle.pa_stock.proofs.Fronting.{front_cases}
-use Rattle.pa_plays.proofs.Quiet.{same_titles}
-use Rattle.pa_stock.proofs.Fronts.{front_list}
+use Rattle.pa_op_specs.specs.Stocks.{StockRegister, StockValue, IsStock, titles_in, listed_in}
+use Rattle.pa_thread_state.specs.Changes.{put_in_front}
+use Rattle.pa_thread_state.proofs.Fronting.{front_cases}
+use Rattle.pa_op_specs.proofs.Quiet.{same_titles}
+use Rattle.pa_thread_state.proofs.Fronts.{front_list}
 
 -- within the limit a list stays whole
 pub stays_whole : (c : ℕ) (xs : List Numbered) → length xs ≤ limit_of c → (kept c xs ≡ xs) × (spilled c xs ≡ [])

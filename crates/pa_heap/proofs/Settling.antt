@@ -25,22 +25,22 @@ use Rattle.pa_region.specs.Takes.{log_of}
 use Rattle.pa_rules.specs.Caches.{SameLists, gives, kept, spilled, with_list}
 use Rattle.pa_layout.specs.Pages.{supers_for}
 use Rattle.pa_pool.specs.Calls.{give_entry}
-use Rattle.pa_told.specs.Listed.{first_of}
+use Rattle.pa_logs.specs.Listed.{first_of}
 use Rattle.pa_cache.specs.Caches.{CacheList}
 use Rattle.pa_root.specs.Handing.{at_number_seen, numbered_by, root_entry}
 use Rattle.pa_cells.specs.declared.handle.Handle.{Handle}
 use Rattle.pa_cells.specs.Handles.{SlotsStaySeen}
-use Rattle.pa_plays.specs.Stocks.{StockRegister, StockValue, IsStock, cache_place, titles_in, listed_in}
-use Rattle.pa_stock.specs.Changes.{put_in_front}
-use Rattle.pa_stock.specs.Giving.{GivesTail}
-use Rattle.pa_stock.specs.Homing.{ComesHome, GoesHome, Spills, without_title, note_of_title}
-use Rattle.pa_plays.specs.Plays.{DoesOp}
-use Rattle.pa_stock.proofs.Looking.{seen_at}
-use Rattle.pa_plays.proofs.Quiet.{same_titles}
-use Rattle.pa_stock.proofs.Fronting.{front_cases}
-use Rattle.pa_stock.proofs.Fronts.{front_list, list_there, list_elsewhere}
-use Rattle.pa_plays.proofs.Entered.{TellsOf, entering_both, one_enters, two_enters}
-use Rattle.pa_stock.proofs.Homing.{left_enters}
+use Rattle.pa_op_specs.specs.Stocks.{StockRegister, StockValue, IsStock, cache_place, titles_in, listed_in}
+use Rattle.pa_thread_state.specs.Changes.{put_in_front}
+use Rattle.pa_thread_state.specs.Giving.{GivesTail}
+use Rattle.pa_thread_state.specs.Homing.{ComesHome, GoesHome, Spills, without_title, note_of_title}
+use Rattle.pa_op_specs.specs.Plays.{DoesOp}
+use Rattle.pa_thread_state.proofs.Looking.{seen_at}
+use Rattle.pa_op_specs.proofs.Quiet.{same_titles}
+use Rattle.pa_thread_state.proofs.Fronting.{front_cases}
+use Rattle.pa_thread_state.proofs.Fronts.{front_list, list_there, list_elsewhere}
+use Rattle.pa_op_specs.proofs.Entered.{TellsOf, entering_both, one_enters, two_enters}
+use Rattle.pa_thread_state.proofs.Homing.{left_enters}
 use Rattle.pa_heap.proofs.Given.{HasReturned, left_at, gives_does}
 use Rattle.pa_heap.proofs.Unmapping.{behind, unmap_does}
 

@@ -16,13 +16,13 @@ use Rattle.pa_rules.specs.Caches.{NoActs, OnlyActs, FrontIs, FilledFirst, acts_o
 use Rattle.pa_rules.specs.Roots.{Journals}
 use Rattle.pa_rules.proofs.Sizes.{sizes_fit}
 use Rattle.pa_root.specs.Handing.{at_number_seen, numbered_by}
-use Rattle.pa_plays.specs.Stocks.{StockValue, IsStock, titles_in, listed_slot, cache_place}
-use Rattle.pa_stock.specs.Changes.{IsBack}
-use Rattle.pa_stock.specs.Allocating.{with_listed, TakesFront}
-use Rattle.pa_stock.proofs.Fronting.{titles_at}
-use Rattle.pa_stock.proofs.Relisting.{listed_cases, relisted}
-use Rattle.pa_plays.proofs.Entered.{entering_none}
-use Rattle.pa_plays.proofs.AskedFor.{asks_none}
+use Rattle.pa_op_specs.specs.Stocks.{StockValue, IsStock, titles_in, listed_slot, cache_place}
+use Rattle.pa_thread_state.specs.Changes.{IsBack}
+use Rattle.pa_thread_state.specs.Allocating.{with_listed, TakesFront}
+use Rattle.pa_thread_state.proofs.Fronting.{titles_at}
+use Rattle.pa_thread_state.proofs.Relisting.{listed_cases, relisted}
+use Rattle.pa_op_specs.proofs.Entered.{entering_none}
+use Rattle.pa_op_specs.proofs.AskedFor.{asks_none}
 use Rattle.pa_heap.proofs.Issuing.{Bringing}
 
 -- the first of titles that differ isn't among the others

@@ -19,7 +19,7 @@ use Rattle.pa_region.proofs.LendBack.{begins_on}
 use Rattle.pa_region.proofs.SeenJoin.{seen_left, seen_right}
 use Rattle.pa_region.proofs.TakeLaws.{left_begins, right_begins, left_whole, right_whole}
 use Rattle.pa_heap.specs.Closing.{IsWithin, TakesOthersIn, LeavesPool, LeavesRoot, LeavesWorker}
-use Rattle.pa_stock.proofs.Parking.{no_stakes}
+use Rattle.pa_thread_state.proofs.Parking.{no_stakes}
 
 -- what a view has, it has; and what has that which has it
 pub within_same : (v : View) → IsWithin v v

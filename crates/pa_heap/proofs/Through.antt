@@ -11,12 +11,12 @@ use Rattle.pa_region.specs.Aware.{IsAware}
 use Rattle.pa_rules.specs.Registers.{FreeRow, WriteRow}
 use Rattle.pa_cells.specs.declared.handle.Handle.{Handle}
 use Rattle.pa_rules.specs.declared.register.Register.TheVariants.{Ref}
-use Rattle.pa_plays.specs.Stocks.{StockValue, IsStock, register_in, as_reg, regs_of}
-use Rattle.pa_plays.specs.Workers.{HasItsStake}
-use Rattle.pa_stock.specs.Changes.{LooksAtSlot}
-use Rattle.pa_plays.specs.Plays.{DoesOp}
+use Rattle.pa_op_specs.specs.Stocks.{StockValue, IsStock, register_in, as_reg, regs_of}
+use Rattle.pa_op_specs.specs.Workers.{HasItsStake}
+use Rattle.pa_thread_state.specs.Changes.{LooksAtSlot}
+use Rattle.pa_op_specs.specs.Plays.{DoesOp}
 use Rattle.pa_heap.proofs.Looking.{IsOfLook, looked_does}
-use Rattle.pa_stock.proofs.Looking.{seen_at}
+use Rattle.pa_thread_state.proofs.Looking.{seen_at}
 
 -- what was seen is what a look at the handle's slot answers
 seen_is : (h : Handle) (seen : Seen) → seen.slot ≡ name_of h.title → seen ≡ seen_at h seen.found.0

@@ -9,9 +9,9 @@ use Rattle.pa_region.specs.Hands.{left_after, given_after, united}
 use Rattle.pa_region.specs.Aware.{IsAware}
 use Rattle.pa_cells.specs.Handles.{ParkedHandle, GiversLackHandles, TakersHaveHandles}
 use Rattle.pa_rules.specs.declared.register.Register.TheVariants.{Empty}
-use Rattle.pa_plays.specs.Stocks.{StockRegister, StockValue, IsStock, register_in}
-use Rattle.pa_stock.specs.Exchanging.{Parks, TakesIn, TakesHandleIn, IsUndone, register_of, handle_parcel}
-use Rattle.pa_stock.proofs.Parking.{parked_rests, taken_rests, holds_given}
+use Rattle.pa_op_specs.specs.Stocks.{StockRegister, StockValue, IsStock, register_in}
+use Rattle.pa_thread_state.specs.Exchanging.{Parks, TakesIn, TakesHandleIn, IsUndone, register_of, handle_parcel}
+use Rattle.pa_thread_state.proofs.Parking.{parked_rests, taken_rests, holds_given}
 
 pub undone_none : (s : StockValue) → IsUndone s s
 undone_none s = record {

@@ -27,22 +27,22 @@ use Rattle.pa_rules.specs.Registers.{Row}
 use Rattle.pa_rules.specs.Caches.{IsDirect, SameLists, acts_of}
 use Rattle.pa_rules.specs.Roots.{MakesEntry}
 use Rattle.pa_lists.proofs.Parts.{parts_at}
-use Rattle.pa_told.proofs.Filters.{get_in}
-use Rattle.pa_told.specs.Told.{ToldRecord}
-use Rattle.pa_told.specs.Indices.{Enters, AskedOnce, asks}
-use Rattle.pa_told.specs.Standing.{Unmaps}
+use Rattle.pa_logs.proofs.Filters.{get_in}
+use Rattle.pa_logs.specs.Told.{ToldRecord}
+use Rattle.pa_logs.specs.Indices.{Enters, AskedOnce, asks}
+use Rattle.pa_logs.specs.Standing.{Unmaps}
 use Rattle.pa_pool.specs.Calls.{give_entry}
 use Rattle.pa_root.specs.Handing.{UnmapTakes, at_number_seen, root_entry}
 use Rattle.pa_cells.specs.declared.handle.Handle.{Handle}
 use Rattle.pa_cells.specs.Handles.{HandsOut, HasSeenMade, SlotsStaySeen}
-use Rattle.pa_plays.specs.Stocks.{StockRegister, StockValue, regs_of, listed_in}
-use Rattle.pa_plays.specs.Outcomes.{Outcome, IsOutcome, IsSeenOf, row_facts}
-use Rattle.pa_plays.specs.Entering.{HasSeenSome}
-use Rattle.pa_plays.specs.Plays.{DoesOp, AnswersIn}
-use Rattle.pa_plays.proofs.Seeing.{slot_in_run, home_of}
-use Rattle.pa_stock.proofs.Looking.{seen_at}
-use Rattle.pa_plays.proofs.Quiet.{quiet_record}
-use Rattle.pa_plays.proofs.Entered.{Entering, LineActs, acts_in, entered_does, entering_both, makes_each, none_here, touched_enters, unmaps_next}
+use Rattle.pa_op_specs.specs.Stocks.{StockRegister, StockValue, regs_of, listed_in}
+use Rattle.pa_op_specs.specs.Outcomes.{Outcome, IsOutcome, IsSeenOf, row_facts}
+use Rattle.pa_op_specs.specs.Entering.{HasSeenSome}
+use Rattle.pa_op_specs.specs.Plays.{DoesOp, AnswersIn}
+use Rattle.pa_op_specs.proofs.Seeing.{slot_in_run, home_of}
+use Rattle.pa_thread_state.proofs.Looking.{seen_at}
+use Rattle.pa_op_specs.proofs.Quiet.{quiet_record}
+use Rattle.pa_op_specs.proofs.Entered.{Entering, LineActs, acts_in, entered_does, entering_both, makes_each, none_here, touched_enters, unmaps_next}
 use Rattle.pa_heap.proofs.Given.{HasReturned, not_full, same_found, step_no_uncut}
 
 -- the slot of a handle without a class is a direct map in any run that fits

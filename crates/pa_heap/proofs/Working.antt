@@ -6,11 +6,11 @@ use Rattle.pa_record.specs.declared.entry.Answer.{Answer}
 use Rattle.pa_record.specs.declared.entry.Entry.{Entry}
 use Rattle.pa_region.specs.Views.{stake_of}
 use Rattle.pa_rules.specs.Played.{entry_of}
-use Rattle.pa_plays.specs.declared.counts.Count.{Count}
-use Rattle.pa_plays.specs.Stocks.{StockValue}
-use Rattle.pa_plays.specs.Workers.{WorkerValue, CanPlayOp, KeepsOn}
-use Rattle.pa_plays.specs.Plays.{DoesOp, PlaysOp}
-use Rattle.pa_plays.proofs.Weighing.{CountsOp}
+use Rattle.pa_op_specs.specs.declared.counts.Count.{Count}
+use Rattle.pa_op_specs.specs.Stocks.{StockValue}
+use Rattle.pa_op_specs.specs.Workers.{WorkerValue, CanPlayOp, KeepsOn}
+use Rattle.pa_op_specs.specs.Plays.{DoesOp, PlaysOp}
+use Rattle.pa_op_specs.proofs.Weighing.{CountsOp}
 
 pub plays_op : (line : ℕ) (op : Op) (answer : Answer) (before after : WorkerValue) →
     after.records ≡ before.records ++ record { line = line; thread = before.stock.thread; answer = answer } ∷ [] →

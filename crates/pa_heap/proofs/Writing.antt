@@ -19,22 +19,22 @@ use Rattle.pa_region.specs.Leaves.{CountLeaves, LookLeaves, OwnsChange, StatesAr
 use Rattle.pa_region.specs.Aware.{IsAware}
 use Rattle.pa_rules.specs.Played.{mark_at}
 use Rattle.pa_rules.specs.Registers.{Regs, WriteRow}
-use Rattle.pa_told.specs.Touches.{title_of}
+use Rattle.pa_logs.specs.Touches.{title_of}
 use Rattle.pa_quarantine.specs.Filling.{filled}
 use Rattle.pa_cells.specs.declared.handle.Handle.{Handle}
 use Rattle.pa_rules.specs.declared.register.Register.TheVariants.{Own}
-use Rattle.pa_plays.specs.Stocks.{StockRegister, StockValue, IsStock, register_in, as_reg, regs_of}
-use Rattle.pa_plays.specs.Workers.{HasItsStake}
-use Rattle.pa_stock.specs.Changes.{CanFill, LooksAtSlot, WritesTo}
-use Rattle.pa_plays.specs.Plays.{DoesOp}
-use Rattle.pa_plays.proofs.Seeing.{made_kept, slot_in_run, home_of, now_seen}
-use Rattle.pa_plays.proofs.Touching.{Touched, touched_entry, touched_both}
-use Rattle.pa_stock.proofs.Leaving.{least_is, clean_own, user_not_free, touched_look}
-use Rattle.pa_plays.proofs.Stocks.{register_has, register_owns}
-use Rattle.pa_stock.proofs.Looking.{seen_at, looked_stock, looked_stake}
+use Rattle.pa_op_specs.specs.Stocks.{StockRegister, StockValue, IsStock, register_in, as_reg, regs_of}
+use Rattle.pa_op_specs.specs.Workers.{HasItsStake}
+use Rattle.pa_thread_state.specs.Changes.{CanFill, LooksAtSlot, WritesTo}
+use Rattle.pa_op_specs.specs.Plays.{DoesOp}
+use Rattle.pa_op_specs.proofs.Seeing.{made_kept, slot_in_run, home_of, now_seen}
+use Rattle.pa_op_specs.proofs.Touching.{Touched, touched_entry, touched_both}
+use Rattle.pa_thread_state.proofs.Leaving.{least_is, clean_own, user_not_free, touched_look}
+use Rattle.pa_op_specs.proofs.Stocks.{register_has, register_owns}
+use Rattle.pa_thread_state.proofs.Looking.{seen_at, looked_stock, looked_stake}
 use Rattle.pa_heap.proofs.Looking.{looked_does}
-use Rattle.pa_plays.proofs.Quiet.{quiet_does}
-use Rattle.pa_stock.proofs.Writing.{can_tell, filled_stock, filled_view}
+use Rattle.pa_op_specs.proofs.Quiet.{quiet_does}
+use Rattle.pa_thread_state.proofs.Writing.{can_tell, filled_stock, filled_view}
 
 -- an owner may write where a look found no raw_ptr
 pub can_fill : LookLeaves → OwnsChange → (s : StockValue) (reg word : ℕ) (h : Handle) → IsStock s → HasItsStake s → reg < 64 →

@@ -20,13 +20,13 @@ use Rattle.pa_region.specs.Aware.{IsAware}
 use Rattle.pa_region.specs.Ends.{IsEnd}
 use Rattle.pa_rules.specs.Cells.{IsChain}
 use Rattle.pa_legal.specs.Numbers.{AreNumbered}
-use Rattle.pa_told.specs.Listed.{IsJournalOf, IsPoolList}
+use Rattle.pa_logs.specs.Listed.{IsJournalOf, IsPoolList}
 use Rattle.pa_pool.specs.Pools.{PoolValue, IsPoolKept}
 use Rattle.pa_root.specs.Keeping.{RootState, IsRootSound}
 use Rattle.pa_cells.specs.Cells.{CellsHeld, Exchange, IsCells, AreExchanges}
 use Rattle.pa_heap.specs.declared.left.Left.{Left}
-use Rattle.pa_plays.specs.Stocks.{IsStock}
-use Rattle.pa_plays.specs.Workers.{WorkerValue}
+use Rattle.pa_op_specs.specs.Stocks.{IsStock}
+use Rattle.pa_op_specs.specs.Workers.{WorkerValue}
 
 -- The view `whole` has each free title and each keeper that `part` has; and it has seen all that this has, of the lists of those
 -- keepers no more.

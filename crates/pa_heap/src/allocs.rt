@@ -4,10 +4,10 @@ ghost use Rattle.pa_buckets.specs.Classes.{IsClassOf};
 ghost use Rattle.pa_direct.specs.Shapes.{greatest_size, IsDirectSize};
 ghost use Rattle.pa_trace.specs.declared.script.Op.TheVariants as ops;
 ghost use Rattle.pa_trace.specs.Limits.{register_count};
-ghost use Rattle.pa_plays.specs.Stocks.{HasNoHandle, register_in, titles_in};
-ghost use Rattle.pa_plays.specs.Workers.{HasItsStake, CanPlayOp, KeepsOn};
-ghost use Rattle.pa_plays.specs.Plays.{DoesOp, PlaysOp};
-ghost use Rattle.pa_stock.specs.Exchanging.{IsUndone};
+ghost use Rattle.pa_op_specs.specs.Stocks.{HasNoHandle, register_in, titles_in};
+ghost use Rattle.pa_op_specs.specs.Workers.{HasItsStake, CanPlayOp, KeepsOn};
+ghost use Rattle.pa_op_specs.specs.Plays.{DoesOp, PlaysOp};
+ghost use Rattle.pa_thread_state.specs.Exchanging.{IsUndone};
 
 use crate::counts::{count_step, made, owned};
 use crate::worker::{Worker, enter};
@@ -18,7 +18,7 @@ use pa_machine::{OutOfMemory, Step};
 use pa_record::Answer;
 use pa_region::{Name, counted_steps_leave};
 use pa_root::FillFault;
-use pa_stock::{Heap, Stock};
+use pa_thread_state::{Heap, Stock};
 use std::sync::Wait;
 
 impl<N: Name> Worker<N> {

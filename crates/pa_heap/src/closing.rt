@@ -13,7 +13,7 @@ use pa_pool::Pool;
 use pa_record::{History, Journal, PoolEntry};
 use pa_region::{Name, Note, Region, Seat};
 use pa_root::{Root, journals_fit_the_pool};
-use pa_stock::Heap;
+use pa_thread_state::Heap;
 use std::sync::Mutex;
 
 /// Takes all that the heap and its workers have into the seat, which has every stake, and closes the region. Each worker has

@@ -1,11 +1,11 @@
 //! What a worker counts of its steps, for the lines of the report.
 ghost use Rattle.std.specs.Prelude.{◌≡◌, ℕ, ◌+◌, ◌<◌, IfSome, true};
 ghost use Rattle.pa_trace.specs.Limits.{most_partitions};
-ghost use Rattle.pa_plays.specs.Counts.{AreOfSteps, IsOfSteps, after_step, counts_after, done_seen, made_seen, owned_in, pointed_in, one_slot_more};
+ghost use Rattle.pa_op_specs.specs.Counts.{AreOfSteps, IsOfSteps, after_step, counts_after, done_seen, made_seen, owned_in, pointed_in, one_slot_more};
 
 use pa_cells::Handle;
 use pa_machine::{Step, Word, refs, returns};
-use pa_plays::Count;
+use pa_op_specs::Count;
 use pa_record::{Answer, Seen, Tally};
 use pa_rules::Register;
 use pa_trace::MOST_PARTITIONS;

@@ -2,9 +2,9 @@
 ghost use Rattle.std.specs.Prelude.{◌≡◌, ◌<◌, ◌≤◌, IfOk, OnOk, OnErr, true};
 ghost use Rattle.pa_trace.specs.declared.script.Op.TheVariants as ops;
 ghost use Rattle.pa_trace.specs.Limits.{register_count, cell_count};
-ghost use Rattle.pa_plays.specs.Workers.{HasItsStake, CanPlayOp, KeepsOn};
-ghost use Rattle.pa_stock.specs.Exchanging.{IsUndone};
-ghost use Rattle.pa_plays.specs.Plays.{DoesOp, PlaysOp};
+ghost use Rattle.pa_op_specs.specs.Workers.{HasItsStake, CanPlayOp, KeepsOn};
+ghost use Rattle.pa_thread_state.specs.Exchanging.{IsUndone};
+ghost use Rattle.pa_op_specs.specs.Plays.{DoesOp, PlaysOp};
 
 use crate::worker::{Worker, enter};
 use pa_cells::{givers_lack_handles, takers_have_handles};
@@ -13,7 +13,7 @@ use pa_record::Answer;
 use pa_region::{
     Name, beginnings_join, free_numbers_stay, kept_numbers_stay, seen_lists_join, seen_numbers_join,
 };
-use pa_stock::{Heap, Stock};
+use pa_thread_state::{Heap, Stock};
 use std::sync::Wait;
 
 impl<N: Name> Worker<N> {

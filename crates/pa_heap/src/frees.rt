@@ -2,8 +2,8 @@
 ghost use Rattle.std.specs.Prelude.{◌≡◌, ◌+◌, ◌<◌, ◌≤◌, IfOk, OnOk, OnErr, true};
 ghost use Rattle.pa_trace.specs.declared.script.Op.TheVariants as ops;
 ghost use Rattle.pa_trace.specs.Limits.{register_count};
-ghost use Rattle.pa_plays.specs.Workers.{HasItsStake, CanPlayOp, KeepsOn};
-ghost use Rattle.pa_plays.specs.Plays.{DoesOp, PlaysOp};
+ghost use Rattle.pa_op_specs.specs.Workers.{HasItsStake, CanPlayOp, KeepsOn};
+ghost use Rattle.pa_op_specs.specs.Plays.{DoesOp, PlaysOp};
 
 use crate::counts::{count_step, done, owned};
 use crate::worker::{Worker, enter};
@@ -12,7 +12,7 @@ use pa_machine::{OutOfMemory, Step};
 use pa_record::Answer;
 use pa_region::{Name, counted_steps_leave, looks_leave, owns_change, states_are_owns};
 use pa_rules::{Next, looked_free};
-use pa_stock::{Heap, Stock};
+use pa_thread_state::{Heap, Stock};
 use std::sync::Wait;
 
 impl<N: Name> Worker<N> {

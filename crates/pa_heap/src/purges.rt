@@ -1,14 +1,14 @@
 //! A worker's purge: all its lists go back, and each root decommits its empty spans.
 ghost use Rattle.std.specs.Prelude.{◌≡◌, ◌<◌, IfOk, OnOk, OnErr, true};
 ghost use Rattle.pa_trace.specs.declared.script.Op.TheVariants as ops;
-ghost use Rattle.pa_plays.specs.Workers.{HasItsStake, CanPlayOp, KeepsOn};
-ghost use Rattle.pa_plays.specs.Plays.{DoesOp, PlaysOp};
+ghost use Rattle.pa_op_specs.specs.Workers.{HasItsStake, CanPlayOp, KeepsOn};
+ghost use Rattle.pa_op_specs.specs.Plays.{DoesOp, PlaysOp};
 
 use crate::worker::{Worker, enter};
 use pa_machine::OutOfMemory;
 use pa_record::Answer;
 use pa_region::Name;
-use pa_stock::{Heap, Stock};
+use pa_thread_state::{Heap, Stock};
 use std::sync::Wait;
 
 impl<N: Name> Worker<N> {

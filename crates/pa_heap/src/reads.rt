@@ -2,16 +2,16 @@
 ghost use Rattle.std.specs.Prelude.{◌≡◌, ℕ, ◌<◌};
 ghost use Rattle.pa_trace.specs.declared.script.Op.TheVariants as ops;
 ghost use Rattle.pa_trace.specs.Limits.{register_count};
-ghost use Rattle.pa_plays.specs.Stocks.{HasHandleTo, register_in};
-ghost use Rattle.pa_plays.specs.Workers.{HasItsStake, CanPlayOp, KeepsOn};
-ghost use Rattle.pa_plays.specs.Plays.{DoesOp, PlaysOp};
+ghost use Rattle.pa_op_specs.specs.Stocks.{HasHandleTo, register_in};
+ghost use Rattle.pa_op_specs.specs.Workers.{HasItsStake, CanPlayOp, KeepsOn};
+ghost use Rattle.pa_op_specs.specs.Plays.{DoesOp, PlaysOp};
 
 use crate::worker::{Worker, enter};
 use pa_cells::Handle;
 use pa_record::Answer;
 use pa_region::{Name, Region, entries_stand_in_logs, looks_leave, owns_change};
 use pa_rules::looked_read;
-use pa_stock::{Heap, Stock};
+use pa_thread_state::{Heap, Stock};
 
 impl<N: Name> Worker<N> {
     /// A read of a word, by its number from 0, of the slot of which the register has a handle, on this line. It waits for

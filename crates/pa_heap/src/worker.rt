@@ -6,16 +6,16 @@ ghost use Rattle.pa_region.specs.Hands.{left_after, given_after, united};
 ghost use Rattle.pa_region.specs.Lending.{CanHost, stake_parcel};
 ghost use Rattle.pa_rules.specs.Caches.{SameLists, listed_slots};
 ghost use Rattle.pa_rules.specs.Report.{listed_bytes};
-ghost use Rattle.pa_plays.specs.Stocks.{IsForThread, listed_in};
-ghost use Rattle.pa_plays.specs.Workers.{IsWorker, IsNewWorker, HasItsStake, worker_with_view};
+ghost use Rattle.pa_op_specs.specs.Stocks.{IsForThread, listed_in};
+ghost use Rattle.pa_op_specs.specs.Workers.{IsWorker, IsNewWorker, HasItsStake, worker_with_view};
 ghost use Rattle.pa_heap.specs.Closing.{HasTold};
 
 use crate::counts::START;
 use pa_machine::OutOfMemory;
-use pa_plays::Count;
+use pa_op_specs::Count;
 use pa_record::{Answer, Entry, Tally};
 use pa_region::{Name, Note};
-use pa_stock::{Heap, Stock};
+use pa_thread_state::{Heap, Stock};
 use pa_trace::MOST_PARTITIONS;
 use std::alloc::Global;
 use std::marker::Model;
@@ -33,8 +33,8 @@ pub struct Worker<N: Name> {
 
 impl<N: Name> Model for Worker<N> {
     ghost use Rattle.std.specs.Prelude.{◌+◌, ◌≤◌, length, vec_capacity};
-    ghost use Rattle.pa_plays.specs.Counts.{AreOfSteps};
-    ghost use Rattle.pa_plays.specs.Workers.{WorkerValue};
+    ghost use Rattle.pa_op_specs.specs.Counts.{AreOfSteps};
+    ghost use Rattle.pa_op_specs.specs.Workers.{WorkerValue};
 
     ghost Value = { WorkerValue };
 

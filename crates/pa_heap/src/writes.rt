@@ -3,9 +3,9 @@ ghost use Rattle.std.specs.Prelude.{◌≡◌, ℕ, ◌+◌, ◌<◌, ◌≤◌}
 ghost use Rattle.pa_trace.specs.declared.script.Op.TheVariants as ops;
 ghost use Rattle.pa_trace.specs.Limits.{register_count};
 ghost use Rattle.pa_rules.specs.declared.register.Register.TheVariants.{Own};
-ghost use Rattle.pa_plays.specs.Stocks.{register_in};
-ghost use Rattle.pa_plays.specs.Workers.{HasItsStake, CanPlayOp, KeepsOn};
-ghost use Rattle.pa_plays.specs.Plays.{DoesOp, PlaysOp};
+ghost use Rattle.pa_op_specs.specs.Stocks.{register_in};
+ghost use Rattle.pa_op_specs.specs.Workers.{HasItsStake, CanPlayOp, KeepsOn};
+ghost use Rattle.pa_op_specs.specs.Plays.{DoesOp, PlaysOp};
 
 use crate::worker::{Worker, enter};
 use pa_cells::Handle;
@@ -16,7 +16,7 @@ use pa_region::{
     states_are_owns,
 };
 use pa_rules::{Next, looked_write};
-use pa_stock::{Heap, Stock};
+use pa_thread_state::{Heap, Stock};
 
 impl<N: Name> Worker<N> {
     /// A write of a value to each word of the slot that the register owns, on this line. It waits for nobody.

@@ -23,10 +23,10 @@ use Rattle.pa_rules.proofs.FourPlaces.{HasLeft, IsOnce}
 use Rattle.pa_rules.proofs.Totals.{some_cached, some_times}
 use Rattle.pa_legal.specs.Numbers.{moves_of, at_end}
 use Rattle.pa_legal.proofs.Standing.{out_none}
-use Rattle.pa_deeds.specs.Deeds.{root_at}
-use Rattle.pa_deeds.specs.Pooled.{IsSoFar}
-use Rattle.pa_deeds.proofs.Listed.{threads_of, listed_least, cached_least, stands_once}
-use Rattle.pa_turns.proofs.Ending.{ends_right}
+use Rattle.pa_heap_effects.specs.Deeds.{root_at}
+use Rattle.pa_heap_effects.specs.Pooled.{IsSoFar}
+use Rattle.pa_heap_effects.proofs.Listed.{threads_of, listed_least, cached_least, stands_once}
+use Rattle.pa_slot_effects.proofs.Ending.{ends_right}
 use Rattle.pa_model.specs.Player.{Player}
 use Rattle.pa_model.specs.declared.table.Slot.{Slot}
 use Rattle.pa_model.specs.Tables.{slot_at, named_at}

@@ -4,7 +4,7 @@ use Rattle.pa_machine.specs.declared.word.SlotName.{SlotName}
 use Rattle.pa_trace.specs.declared.script.Op.TheVariants as ops
 use Rattle.pa_record.specs.declared.entry.Answer.TheVariants as answers
 use Rattle.pa_rules.specs.Registers.{Regs, Facts, AllocRow, CopyRow, CopyToRow, ResetRow, FreeRow, WriteRow, ReadRow}
-use Rattle.pa_turns.specs.Known.{facts_of}
+use Rattle.pa_slot_effects.specs.Known.{facts_of}
 use Rattle.pa_model.specs.declared.handle.Handle.{Handle}
 use Rattle.pa_model.specs.declared.handle.Handle.TheVariants.{Empty, Own, Ref, Freed, Cleared}
 use Rattle.pa_model.specs.declared.table.Slot.{Slot}

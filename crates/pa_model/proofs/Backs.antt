@@ -19,8 +19,8 @@ use Rattle.pa_rules.specs.Caches.{batches, gives}
 use Rattle.pa_rules.specs.Holders.{Back, Move, move_of, moves_by}
 use Rattle.pa_legal.specs.Numbers.{all_moves, is_of, moves_of, at_end, at_after}
 use Rattle.pa_legal.proofs.Growing.{numbers_grow}
-use Rattle.pa_deeds.specs.Deeds.{Acts, entries_at, grown}
-use Rattle.pa_deeds.proofs.Growing.{entry_at, grown_old}
+use Rattle.pa_heap_effects.specs.Deeds.{Acts, entries_at, grown}
+use Rattle.pa_heap_effects.proofs.Growing.{entry_at, grown_old}
 use Rattle.pa_model.specs.declared.table.Slot.{Slot}
 use Rattle.pa_model.specs.Tables.{slot_at, named_at, NoneNamed}
 use Rattle.pa_model.specs.Playing.{numbered_at, IsLetOut, IsMappedAs, AreAllSlots}

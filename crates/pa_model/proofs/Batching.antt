@@ -11,7 +11,7 @@ use Rattle.pa_record.specs.declared.root.RootAct.TheVariants.{Give}
 use Rattle.pa_record.specs.Root.{Root, names, all_returned}
 use Rattle.pa_record.specs.Spans.{name_of}
 use Rattle.pa_rules.specs.Caches.{gives}
-use Rattle.pa_deeds.specs.Deeds.{entries_at}
+use Rattle.pa_heap_effects.specs.Deeds.{entries_at}
 use Rattle.pa_model.specs.Player.{Player}
 use Rattle.pa_model.specs.declared.table.Slot.{Slot}
 use Rattle.pa_model.specs.declared.tallies.Tallies.{Tallies}

@@ -17,9 +17,9 @@ use Rattle.pa_rules.specs.Roots.{journal_at}
 use Rattle.pa_rules.specs.Caches.{Cache, Caches, with_list, with_cache}
 use Rattle.pa_rules.specs.Report.{cached_slots, cached_bytes}
 use Rattle.pa_rules.proofs.Counted.{list_changed}
-use Rattle.pa_deeds.specs.Deeds.{entries_at, grown, root_at}
-use Rattle.pa_deeds.specs.Ops.{only_in, IsCalled}
-use Rattle.pa_deeds.proofs.Acting.{by_place}
+use Rattle.pa_heap_effects.specs.Deeds.{entries_at, grown, root_at}
+use Rattle.pa_heap_effects.specs.Ops.{only_in, IsCalled}
+use Rattle.pa_heap_effects.proofs.Acting.{by_place}
 use Rattle.pa_model.specs.Player.{Player}
 use Rattle.pa_record.specs.declared.report.Tally.{Tally}
 use Rattle.pa_model.specs.Tallies.{no_tally, tally_at}

@@ -9,9 +9,9 @@ use Rattle.pa_trace.specs.declared.script.Op.TheVariants as ops
 use Rattle.pa_record.specs.declared.entry.Answer.TheVariants as answers
 use Rattle.pa_record.specs.declared.entry.Seen.{Seen}
 use Rattle.pa_rules.specs.Played.{step_of, mark_at}
-use Rattle.pa_deeds.specs.Ops.{KeepsLists}
-use Rattle.pa_turns.specs.Turns.{after_copy, after_reset}
-use Rattle.pa_turns.proofs.Ops.{copy_goes_on, reset_goes_on}
+use Rattle.pa_heap_effects.specs.Ops.{KeepsLists}
+use Rattle.pa_slot_effects.specs.Turns.{after_copy, after_reset}
+use Rattle.pa_slot_effects.proofs.Ops.{copy_goes_on, reset_goes_on}
 use Rattle.pa_model.specs.declared.handle.Handle.TheVariants.{Ref, Cleared}
 use Rattle.pa_model.specs.declared.table.Slot.{Slot}
 use Rattle.pa_model.specs.Player.{Player}

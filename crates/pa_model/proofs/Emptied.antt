@@ -9,10 +9,10 @@ use Rattle.pa_record.specs.Root.{names, all_returned, purged}
 use Rattle.pa_rules.specs.Roots.{Journals}
 use Rattle.pa_rules.specs.Caches.{with_list, gives, purge_acts}
 use Rattle.pa_rules.proofs.Counted.{list_changed, list_of_another_class}
-use Rattle.pa_deeds.specs.Deeds.{entries_at, grown}
-use Rattle.pa_deeds.specs.Ops.{only_in, all_of}
-use Rattle.pa_deeds.proofs.Acting.{only_here, only_else}
-use Rattle.pa_deeds.proofs.Lists.{names_append, parts_are_out}
+use Rattle.pa_heap_effects.specs.Deeds.{entries_at, grown}
+use Rattle.pa_heap_effects.specs.Ops.{only_in, all_of}
+use Rattle.pa_heap_effects.proofs.Acting.{only_here, only_else}
+use Rattle.pa_heap_effects.proofs.Lists.{names_append, parts_are_out}
 use Rattle.pa_model.specs.Player.{Player}
 use Rattle.pa_model.specs.Playing.{journals, caches, list_place, root_of, AreShaped}
 use Rattle.pa_model.specs.Changes.{given, given_from, purged_with}

@@ -29,12 +29,12 @@ use Rattle.pa_legal.specs.Known.{IsKnown}
 use Rattle.pa_legal.specs.Tallies.{AreHomes, IsTallied}
 use Rattle.pa_legal.proofs.Whole.{legal_follows}
 use Rattle.pa_legal.proofs.tallies.Adding.{tallies_follow}
-use Rattle.pa_deeds.specs.Deeds.{IsPlacedTo}
-use Rattle.pa_deeds.specs.Onward.{IsPhaseEnd}
-use Rattle.pa_deeds.proofs.Filing.{placed_are_roots}
-use Rattle.pa_deeds.proofs.Onwards.{phase_ends}
-use Rattle.pa_turns.specs.Laws.{IsToldRight}
-use Rattle.pa_turns.proofs.Ending.{ends_right}
+use Rattle.pa_heap_effects.specs.Deeds.{IsPlacedTo}
+use Rattle.pa_heap_effects.specs.Onward.{IsPhaseEnd}
+use Rattle.pa_heap_effects.proofs.Filing.{placed_are_roots}
+use Rattle.pa_heap_effects.proofs.Onwards.{phase_ends}
+use Rattle.pa_slot_effects.specs.Laws.{IsToldRight}
+use Rattle.pa_slot_effects.proofs.Ending.{ends_right}
 use Rattle.pa_model.specs.Player.{Player}
 use Rattle.pa_model.specs.Playing.{shown, journals, caches, IsToldLine, IsPlaying}
 use Rattle.pa_model.specs.Told.{Lists, IsToldRun}

@@ -20,7 +20,7 @@ use Rattle.pa_lists.proofs.Pairs.{pairs_none}
 use Rattle.pa_record.proofs.Filling.{takes_filled, opened_sound}
 use Rattle.pa_rules.specs.Holders.{Out, Move, move_of}
 use Rattle.pa_place.specs.Placed.{Fills}
-use Rattle.pa_deeds.specs.Ops.{asked_for}
+use Rattle.pa_heap_effects.specs.Ops.{asked_for}
 use Rattle.pa_model.specs.Player.{Player}
 use Rattle.pa_model.specs.Changes.{asked_in}
 use Rattle.pa_model.proofs.Leaving.{LetsOut}

@@ -31,13 +31,13 @@ use Rattle.pa_rules.specs.Caches.{with_list, with_cache}
 use Rattle.pa_rules.specs.Sizes.{usable_of}
 use Rattle.pa_rules.proofs.Sizes.{sizes_fit}
 use Rattle.pa_legal.specs.Numbers.{moves_of, at_end}
-use Rattle.pa_deeds.specs.Deeds.{grown}
-use Rattle.pa_deeds.specs.Ops.{only_in, IsCalled, asked_for}
-use Rattle.pa_deeds.proofs.Acting.{only_here}
-use Rattle.pa_deeds.proofs.Growing.{grown_new}
-use Rattle.pa_deeds.proofs.Extending.{line_extends}
-use Rattle.pa_deeds.proofs.Single.{left_born}
-use Rattle.pa_turns.specs.Turns.{played_at}
+use Rattle.pa_heap_effects.specs.Deeds.{grown}
+use Rattle.pa_heap_effects.specs.Ops.{only_in, IsCalled, asked_for}
+use Rattle.pa_heap_effects.proofs.Acting.{only_here}
+use Rattle.pa_heap_effects.proofs.Growing.{grown_new}
+use Rattle.pa_heap_effects.proofs.Extending.{line_extends}
+use Rattle.pa_heap_effects.proofs.Single.{left_born}
+use Rattle.pa_slot_effects.specs.Turns.{played_at}
 use Rattle.pa_model.specs.declared.table.Slot.{Slot}
 use Rattle.pa_model.specs.declared.tallies.Tallies.{Tallies}
 use Rattle.pa_model.specs.Player.{Player}

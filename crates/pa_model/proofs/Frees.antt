@@ -9,8 +9,8 @@ use Rattle.pa_trace.specs.declared.script.Line.TheVariants.{Do}
 use Rattle.pa_record.specs.declared.entry.Answer.TheVariants as answers
 use Rattle.pa_rules.specs.Played.{mark_at}
 use Rattle.pa_legal.specs.Tallies.{issues, frees, enters, leaves}
-use Rattle.pa_turns.specs.Turns.{after_free, after_write}
-use Rattle.pa_turns.proofs.Ops.{free_goes_on, write_goes_on}
+use Rattle.pa_slot_effects.specs.Turns.{after_free, after_write}
+use Rattle.pa_slot_effects.proofs.Ops.{free_goes_on, write_goes_on}
 use Rattle.pa_model.specs.declared.handle.Handle.TheVariants.{Own, Freed}
 use Rattle.pa_model.specs.declared.table.Slot.{Slot}
 use Rattle.pa_model.specs.Player.{Player}

@@ -37,17 +37,17 @@ use Rattle.pa_legal.specs.Kinds.{HasOneKind}
 use Rattle.pa_legal.proofs.Titling.{one_kind}
 use Rattle.pa_place.specs.declared.placed.Placed.{Placed}
 use Rattle.pa_place.specs.Placed.{Fills, FillDid}
-use Rattle.pa_deeds.specs.Deeds.{Acts, grown, root_at}
-use Rattle.pa_deeds.specs.Pooled.{pool_at}
-use Rattle.pa_deeds.specs.Ops.{only_in, asked_for, IsCalled, HasNumbers}
-use Rattle.pa_deeds.proofs.Calls.{fill_is_done}
-use Rattle.pa_deeds.proofs.Extending.{line_extends}
-use Rattle.pa_deeds.proofs.Pooling.{pool_extends}
-use Rattle.pa_deeds.proofs.Filing.{placed_are_roots}
-use Rattle.pa_deeds.proofs.Growing.{grown_new}
-use Rattle.pa_deeds.proofs.Listed.{stands_once, class_out}
-use Rattle.pa_turns.specs.Turns.{played_at}
-use Rattle.pa_turns.proofs.Lines.{lines_more}
+use Rattle.pa_heap_effects.specs.Deeds.{Acts, grown, root_at}
+use Rattle.pa_heap_effects.specs.Pooled.{pool_at}
+use Rattle.pa_heap_effects.specs.Ops.{only_in, asked_for, IsCalled, HasNumbers}
+use Rattle.pa_heap_effects.proofs.Calls.{fill_is_done}
+use Rattle.pa_heap_effects.proofs.Extending.{line_extends}
+use Rattle.pa_heap_effects.proofs.Pooling.{pool_extends}
+use Rattle.pa_heap_effects.proofs.Filing.{placed_are_roots}
+use Rattle.pa_heap_effects.proofs.Growing.{grown_new}
+use Rattle.pa_heap_effects.proofs.Listed.{stands_once, class_out}
+use Rattle.pa_slot_effects.specs.Turns.{played_at}
+use Rattle.pa_slot_effects.proofs.Lines.{lines_more}
 use Rattle.pa_model.specs.Player.{Player}
 use Rattle.pa_model.specs.Tables.{slot_at, named_at}
 use Rattle.pa_model.specs.Playing.{journals, caches, root_of, list_at, numbered_at, IsLetOut, IsPlaying}

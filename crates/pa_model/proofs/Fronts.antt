@@ -26,10 +26,10 @@ use Rattle.pa_rules.specs.Report.{cached_slots, cached_bytes}
 use Rattle.pa_rules.specs.Sizes.{usable_of}
 use Rattle.pa_rules.proofs.Sizes.{sizes_fit}
 use Rattle.pa_legal.specs.Tallies.{issues, frees, enters, leaves}
-use Rattle.pa_deeds.proofs.Acting.{front_leaves}
-use Rattle.pa_turns.specs.Turns.{LeadsTo, played_at, after_made}
-use Rattle.pa_turns.proofs.Ops.{made_goes_on}
-use Rattle.pa_turns.proofs.Marking.{some_mark}
+use Rattle.pa_heap_effects.proofs.Acting.{front_leaves}
+use Rattle.pa_slot_effects.specs.Turns.{LeadsTo, played_at, after_made}
+use Rattle.pa_slot_effects.proofs.Ops.{made_goes_on}
+use Rattle.pa_slot_effects.proofs.Marking.{some_mark}
 use Rattle.pa_model.specs.declared.handle.Handle.TheVariants.{Own}
 use Rattle.pa_model.specs.declared.table.Slot.{Slot}
 use Rattle.pa_model.specs.Player.{Player}

@@ -15,9 +15,9 @@ use Rattle.pa_record.specs.Root.{Root, new_root, names, all_returned}
 use Rattle.pa_record.specs.Sound.{IsSound}
 use Rattle.pa_record.proofs.Lawful.{return_keeps}
 use Rattle.pa_rules.specs.Caches.{batches, gives}
-use Rattle.pa_deeds.specs.Deeds.{entries_at}
-use Rattle.pa_deeds.specs.Ops.{AreOut}
-use Rattle.pa_deeds.proofs.Lists.{names_append, parts_are_out, returned_sound}
+use Rattle.pa_heap_effects.specs.Deeds.{entries_at}
+use Rattle.pa_heap_effects.specs.Ops.{AreOut}
+use Rattle.pa_heap_effects.proofs.Lists.{names_append, parts_are_out, returned_sound}
 use Rattle.pa_model.specs.Player.{Player}
 use Rattle.pa_model.specs.declared.table.Slot.{Slot}
 use Rattle.pa_model.specs.Asks.{CanGive}

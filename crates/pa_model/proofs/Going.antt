@@ -24,10 +24,10 @@ use Rattle.pa_rules.specs.Flow.{at_step}
 use Rattle.pa_rules.specs.Report.{HasSize}
 use Rattle.pa_legal.specs.Numbers.{all_moves, is_of, moves_of}
 use Rattle.pa_legal.specs.Tallies.{weight_of, one_of, bytes_of, IsLeft}
-use Rattle.pa_deeds.specs.Deeds.{Acts, grown}
-use Rattle.pa_deeds.specs.Pooled.{Asks}
-use Rattle.pa_deeds.proofs.Growing.{grown_old}
-use Rattle.pa_turns.proofs.Marking.{with_mark}
+use Rattle.pa_heap_effects.specs.Deeds.{Acts, grown}
+use Rattle.pa_heap_effects.specs.Pooled.{Asks}
+use Rattle.pa_heap_effects.proofs.Growing.{grown_old}
+use Rattle.pa_slot_effects.proofs.Marking.{with_mark}
 use Rattle.pa_model.specs.declared.table.Slot.{Slot}
 use Rattle.pa_model.specs.Playing.{home_in, len_in, IsLetOut, AreAllSlots}
 use Rattle.pa_model.proofs.Slots.{IsPlaceOf, slot_cases}

@@ -24,10 +24,10 @@ use Rattle.pa_record.proofs.Lawful.{journal_leaves}
 use Rattle.pa_lists.proofs.Members.{first_in, later_in, in_cases}
 use Rattle.pa_record.proofs.PoolSteps.{pool_is_sound}
 use Rattle.pa_rules.specs.Played.{step_of}
-use Rattle.pa_deeds.specs.Ops.{AreOut, Returns, returned_by}
-use Rattle.pa_deeds.proofs.Returned.{return_is_done}
-use Rattle.pa_deeds.proofs.Unmapping.{maps_are_taken}
-use Rattle.pa_turns.specs.Turns.{played_at}
+use Rattle.pa_heap_effects.specs.Ops.{AreOut, Returns, returned_by}
+use Rattle.pa_heap_effects.proofs.Returned.{return_is_done}
+use Rattle.pa_heap_effects.proofs.Unmapping.{maps_are_taken}
+use Rattle.pa_slot_effects.specs.Turns.{played_at}
 use Rattle.pa_model.specs.declared.handle.Handle.{Handle}
 use Rattle.pa_model.specs.declared.table.Slot.{Slot}
 use Rattle.pa_model.specs.declared.tallies.Tallies.{Tallies}

@@ -5,9 +5,9 @@ use Rattle.pa_machine.specs.Count.{CanStep, held_of, refs_of}
 use Rattle.pa_trace.specs.declared.script.Op.{Op}
 use Rattle.pa_trace.specs.declared.script.Line.{Line}
 use Rattle.pa_trace.specs.declared.script.Line.TheVariants.{Do}
-use Rattle.pa_turns.specs.Turns.{CanPlay}
-use Rattle.pa_turns.specs.Laws.{LetsStep}
-use Rattle.pa_turns.proofs.Words.{handle_lets}
+use Rattle.pa_slot_effects.specs.Turns.{CanPlay}
+use Rattle.pa_slot_effects.specs.Laws.{LetsStep}
+use Rattle.pa_slot_effects.proofs.Words.{handle_lets}
 use Rattle.pa_model.specs.declared.handle.Handle.TheVariants.{Own, Ref}
 use Rattle.pa_model.specs.declared.table.Slot.{Slot}
 use Rattle.pa_model.specs.Player.{Player}

@@ -35,15 +35,15 @@ use Rattle.pa_rules.specs.Sizes.{usable_of}
 use Rattle.pa_legal.specs.Numbers.{all_moves, is_of, moves_of, at_end}
 use Rattle.pa_legal.specs.Tallies.{issues, frees, enters, leaves}
 use Rattle.pa_legal.proofs.Growing.{numbers_grow}
-use Rattle.pa_deeds.specs.Deeds.{entries_at, grown, root_at, IsPlacedTo}
-use Rattle.pa_deeds.specs.Ops.{only_in, IsCalled}
-use Rattle.pa_deeds.proofs.Acting.{only_here, only_else}
-use Rattle.pa_deeds.proofs.Extending.{line_extends}
-use Rattle.pa_deeds.proofs.Single.{next_low}
-use Rattle.pa_turns.specs.Turns.{CanPlay, LeadsTo, played_at, after_made}
-use Rattle.pa_turns.proofs.Ops.{made_goes_on}
-use Rattle.pa_turns.proofs.Starting.{like_is_told}
-use Rattle.pa_turns.proofs.Marking.{some_mark}
+use Rattle.pa_heap_effects.specs.Deeds.{entries_at, grown, root_at, IsPlacedTo}
+use Rattle.pa_heap_effects.specs.Ops.{only_in, IsCalled}
+use Rattle.pa_heap_effects.proofs.Acting.{only_here, only_else}
+use Rattle.pa_heap_effects.proofs.Extending.{line_extends}
+use Rattle.pa_heap_effects.proofs.Single.{next_low}
+use Rattle.pa_slot_effects.specs.Turns.{CanPlay, LeadsTo, played_at, after_made}
+use Rattle.pa_slot_effects.proofs.Ops.{made_goes_on}
+use Rattle.pa_slot_effects.proofs.Starting.{like_is_told}
+use Rattle.pa_slot_effects.proofs.Marking.{some_mark}
 use Rattle.pa_model.specs.declared.handle.Handle.TheVariants.{Own}
 use Rattle.pa_model.specs.declared.heap.Heap.{Heap}
 use Rattle.pa_model.specs.declared.table.Slot.{Slot}
@@ -54,7 +54,7 @@ use Rattle.pa_model.specs.Tallies.{tally_at}
 use Rattle.pa_model.specs.Told.{Lists}
 use Rattle.pa_model.specs.Playing.{shown, journals, caches, root_of, reg_of, register_at, cell_at, IsLetOut, IsMappedAs, AreAllSlots, AreShaped, IsPlaying}
 use Rattle.pa_model.specs.Changes.{registered, seen_at, tallied_more}
-use Rattle.pa_turns.specs.Shown.{IsLike}
+use Rattle.pa_slot_effects.specs.Shown.{IsLike}
 use Rattle.pa_model.specs.Plays.{CanGoOn}
 use Rattle.pa_model.proofs.Slots.{KeepsSlots, IsSame, IsPlaceOf, keeps_set, keeps_named, keeps_then}
 use Rattle.pa_model.proofs.Shaping.{in_longer, shaped_table, shaped_registered, shaped_live, shaped_told, shaped_heap}

@@ -7,7 +7,7 @@ use Rattle.pa_record.specs.declared.root.RootAct.{RootAct}
 use Rattle.pa_lists.proofs.Members.{not_in_none, first_in, later_in}
 use Rattle.pa_rules.specs.Holders.{Way, Out, Back, Move, moves_by}
 use Rattle.pa_legal.specs.Numbers.{at_end, at_after, IsNumbered, HasAt}
-use Rattle.pa_deeds.specs.Deeds.{entries_at}
+use Rattle.pa_heap_effects.specs.Deeds.{entries_at}
 use Rattle.pa_model.specs.Player.{Player}
 use Rattle.pa_model.specs.Told.{Lists, journal_in}
 

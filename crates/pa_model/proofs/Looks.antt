@@ -8,9 +8,9 @@ use Rattle.pa_trace.specs.declared.script.Line.{Line}
 use Rattle.pa_record.specs.declared.entry.Answer.{Answer}
 use Rattle.pa_record.specs.declared.entry.Answer.TheVariants as answers
 use Rattle.pa_rules.specs.Registers.{Regs, Facts, FreeRow, WriteRow, ReadRow, ReadFromRow}
-use Rattle.pa_deeds.specs.Ops.{KeepsLists}
-use Rattle.pa_turns.specs.Known.{facts_of}
-use Rattle.pa_turns.specs.Turns.{Looks}
+use Rattle.pa_heap_effects.specs.Ops.{KeepsLists}
+use Rattle.pa_slot_effects.specs.Known.{facts_of}
+use Rattle.pa_slot_effects.specs.Turns.{Looks}
 use Rattle.pa_model.specs.declared.handle.Handle.{Handle}
 use Rattle.pa_model.specs.declared.handle.Handle.TheVariants.{Empty, Own, Ref, Freed, Cleared}
 use Rattle.pa_model.specs.declared.table.Slot.{Slot}

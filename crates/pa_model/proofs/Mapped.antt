@@ -26,13 +26,13 @@ use Rattle.pa_rules.specs.Roots.{AsksForMap}
 use Rattle.pa_rules.specs.Holders.{Out, Move}
 use Rattle.pa_rules.specs.Sizes.{usable_of}
 use Rattle.pa_rules.proofs.Sizes.{sizes_fit}
-use Rattle.pa_deeds.specs.Deeds.{grown, root_at}
-use Rattle.pa_deeds.specs.Pooled.{pool_at}
-use Rattle.pa_deeds.specs.Ops.{only_in, IsCalled, asked_for, found_by}
-use Rattle.pa_deeds.proofs.Acting.{only_here}
-use Rattle.pa_deeds.proofs.Growing.{grown_new}
-use Rattle.pa_deeds.proofs.Maps.{map_is_done}
-use Rattle.pa_turns.specs.Turns.{played_at}
+use Rattle.pa_heap_effects.specs.Deeds.{grown, root_at}
+use Rattle.pa_heap_effects.specs.Pooled.{pool_at}
+use Rattle.pa_heap_effects.specs.Ops.{only_in, IsCalled, asked_for, found_by}
+use Rattle.pa_heap_effects.proofs.Acting.{only_here}
+use Rattle.pa_heap_effects.proofs.Growing.{grown_new}
+use Rattle.pa_heap_effects.proofs.Maps.{map_is_done}
+use Rattle.pa_slot_effects.specs.Turns.{played_at}
 use Rattle.pa_place.specs.Placed.{Maps, MapDid, map_in}
 use Rattle.pa_model.specs.declared.table.Slot.{Slot}
 use Rattle.pa_model.specs.Player.{Player}

@@ -22,17 +22,17 @@ use Rattle.pa_rules.specs.Caches.{with_cache}
 use Rattle.pa_rules.specs.Legal.{phases_in}
 use Rattle.pa_rules.specs.Report.{HasSize, phases_of}
 use Rattle.pa_legal.specs.Tallies.{AreHomes}
-use Rattle.pa_deeds.specs.Deeds.{entries_at, grown, root_at, IsPlacedTo}
-use Rattle.pa_deeds.specs.Pooled.{pool_at, IsPooledTo}
-use Rattle.pa_deeds.specs.Onward.{GoesOn}
-use Rattle.pa_deeds.proofs.Growing.{grown_cases}
-use Rattle.pa_deeds.proofs.Extending.{line_extends}
-use Rattle.pa_deeds.proofs.Pooling.{pool_extends}
-use Rattle.pa_deeds.proofs.Filing.{same_is_placed}
-use Rattle.pa_deeds.proofs.Onwards.{run_goes_on}
-use Rattle.pa_turns.specs.Turns.{played_at}
-use Rattle.pa_turns.proofs.Marking.{with_mark, marks_push}
-use Rattle.pa_turns.proofs.Starting.{like_is_told}
+use Rattle.pa_heap_effects.specs.Deeds.{entries_at, grown, root_at, IsPlacedTo}
+use Rattle.pa_heap_effects.specs.Pooled.{pool_at, IsPooledTo}
+use Rattle.pa_heap_effects.specs.Onward.{GoesOn}
+use Rattle.pa_heap_effects.proofs.Growing.{grown_cases}
+use Rattle.pa_heap_effects.proofs.Extending.{line_extends}
+use Rattle.pa_heap_effects.proofs.Pooling.{pool_extends}
+use Rattle.pa_heap_effects.proofs.Filing.{same_is_placed}
+use Rattle.pa_heap_effects.proofs.Onwards.{run_goes_on}
+use Rattle.pa_slot_effects.specs.Turns.{played_at}
+use Rattle.pa_slot_effects.proofs.Marking.{with_mark, marks_push}
+use Rattle.pa_slot_effects.proofs.Starting.{like_is_told}
 use Rattle.pa_model.specs.Player.{Player}
 use Rattle.pa_model.specs.Tables.{slot_at}
 use Rattle.pa_model.specs.Tallies.{tally_at}

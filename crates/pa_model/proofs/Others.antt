@@ -5,7 +5,7 @@ use Rattle.std.proofs.lemmas.List.{get_or-set_other}
 use Rattle.pa_record.specs.declared.report.Tally.{Tally}
 use Rattle.pa_record.specs.Root.{Root, new_root}
 use Rattle.pa_record.specs.Sound.{IsSound}
-use Rattle.pa_deeds.specs.Ops.{AreOut}
+use Rattle.pa_heap_effects.specs.Ops.{AreOut}
 use Rattle.pa_model.specs.Player.{Player}
 use Rattle.pa_model.specs.declared.table.Slot.{Slot}
 use Rattle.pa_model.specs.Asks.{CanGive, CanPurgeOne, places_from}

@@ -10,7 +10,7 @@ use Rattle.pa_record.specs.Root.{Root, Filled, new_root}
 use Rattle.pa_record.specs.Spans.{name_of}
 use Rattle.pa_place.specs.declared.placed.Placed.{Placed}
 use Rattle.pa_place.specs.Placed.{FillDid, MapDid, Maps, with_slots}
-use Rattle.pa_deeds.specs.Ops.{found_by}
+use Rattle.pa_heap_effects.specs.Ops.{found_by}
 use Rattle.pa_model.specs.Player.{Player}
 use Rattle.pa_model.specs.declared.table.Slot.{Slot}
 use Rattle.pa_model.specs.Calls.{IsFillTold, IsMapTaken}

@@ -25,16 +25,16 @@ use Rattle.pa_record.proofs.Mapping.{born_same}
 use Rattle.pa_record.proofs.Lawful.{journal_leaves}
 use Rattle.pa_rules.specs.Played.{mark_of}
 use Rattle.pa_rules.specs.Caches.{with_cache, gives, purge_acts, all_listed}
-use Rattle.pa_deeds.specs.Deeds.{Acts, entries_at, grown, root_at}
-use Rattle.pa_deeds.specs.Pooled.{pool_at, IsDone}
-use Rattle.pa_deeds.specs.Ops.{AreOut, all_of, purge_in}
-use Rattle.pa_deeds.proofs.Acting.{only_here, only_else}
-use Rattle.pa_deeds.proofs.Listed.{lists_are_out}
-use Rattle.pa_deeds.proofs.Returned.{purge_is_done}
+use Rattle.pa_heap_effects.specs.Deeds.{Acts, entries_at, grown, root_at}
+use Rattle.pa_heap_effects.specs.Pooled.{pool_at, IsDone}
+use Rattle.pa_heap_effects.specs.Ops.{AreOut, all_of, purge_in}
+use Rattle.pa_heap_effects.proofs.Acting.{only_here, only_else}
+use Rattle.pa_heap_effects.proofs.Listed.{lists_are_out}
+use Rattle.pa_heap_effects.proofs.Returned.{purge_is_done}
 use Rattle.pa_legal.specs.Tallies.{issues, frees, enters, leaves}
-use Rattle.pa_turns.specs.Shown.{IsLike}
-use Rattle.pa_turns.specs.Turns.{played_at}
-use Rattle.pa_turns.proofs.Looking.{none_goes_on, none_mark}
+use Rattle.pa_slot_effects.specs.Shown.{IsLike}
+use Rattle.pa_slot_effects.specs.Turns.{played_at}
+use Rattle.pa_slot_effects.proofs.Looking.{none_goes_on, none_mark}
 use Rattle.pa_model.specs.Player.{Player}
 use Rattle.pa_model.specs.Tables.{slot_at}
 use Rattle.pa_model.specs.Tallies.{tally_at}

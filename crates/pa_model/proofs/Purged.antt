@@ -9,8 +9,8 @@ use Rattle.pa_trace.specs.declared.script.Line.{Line}
 use Rattle.pa_lists.proofs.Members.{not_in_none}
 use Rattle.pa_rules.specs.Caches.{Caches, listed_slots}
 use Rattle.pa_rules.specs.Report.{listed_bytes, cached_slots, cached_bytes}
-use Rattle.pa_deeds.specs.Ops.{AreOut, all_of}
-use Rattle.pa_deeds.proofs.Listed.{lists_are_out}
+use Rattle.pa_heap_effects.specs.Ops.{AreOut, all_of}
+use Rattle.pa_heap_effects.proofs.Listed.{lists_are_out}
 use Rattle.pa_model.specs.Player.{Player}
 use Rattle.pa_model.specs.Playing.{journals, caches, root_of, list_at, numbered_at, IsPlaying}
 use Rattle.pa_model.specs.Changes.{bytes_at}

@@ -24,15 +24,15 @@ use Rattle.pa_rules.specs.Roots.{Journals, journal_at}
 use Rattle.pa_rules.specs.Registers.{Row}
 use Rattle.pa_rules.specs.Caches.{Cache, Caches, with_cache}
 use Rattle.pa_legal.specs.Tallies.{issues, frees, enters, leaves, one_of, bytes_of}
-use Rattle.pa_deeds.specs.Deeds.{grown, root_at}
-use Rattle.pa_deeds.specs.Pooled.{pool_at, IsDone}
-use Rattle.pa_deeds.specs.Ops.{no_acts, KeepsLists}
-use Rattle.pa_deeds.proofs.Acting.{nothing_moves}
-use Rattle.pa_turns.specs.Shown.{Shown, IsLike}
-use Rattle.pa_turns.specs.Known.{facts_of}
-use Rattle.pa_turns.specs.Turns.{CanPlay, LeadsTo, TellsNone, Looks, played_at}
-use Rattle.pa_turns.proofs.Looking.{none_goes_on, look_goes_on, none_mark, look_mark}
-use Rattle.pa_turns.proofs.Marking.{some_mark}
+use Rattle.pa_heap_effects.specs.Deeds.{grown, root_at}
+use Rattle.pa_heap_effects.specs.Pooled.{pool_at, IsDone}
+use Rattle.pa_heap_effects.specs.Ops.{no_acts, KeepsLists}
+use Rattle.pa_heap_effects.proofs.Acting.{nothing_moves}
+use Rattle.pa_slot_effects.specs.Shown.{Shown, IsLike}
+use Rattle.pa_slot_effects.specs.Known.{facts_of}
+use Rattle.pa_slot_effects.specs.Turns.{CanPlay, LeadsTo, TellsNone, Looks, played_at}
+use Rattle.pa_slot_effects.proofs.Looking.{none_goes_on, look_goes_on, none_mark, look_mark}
+use Rattle.pa_slot_effects.proofs.Marking.{some_mark}
 use Rattle.pa_model.specs.declared.table.Slot.{Slot}
 use Rattle.pa_model.specs.Player.{Player}
 use Rattle.pa_model.specs.Tables.{Points}

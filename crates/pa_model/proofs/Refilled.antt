@@ -24,11 +24,11 @@ use Rattle.pa_record.proofs.Lawful.{journal_leaves}
 use Rattle.pa_rules.specs.Caches.{with_list}
 use Rattle.pa_rules.specs.Sizes.{usable_of}
 use Rattle.pa_legal.specs.Numbers.{moves_of, at_end}
-use Rattle.pa_deeds.specs.Deeds.{root_at}
-use Rattle.pa_deeds.specs.Pooled.{pool_at}
-use Rattle.pa_deeds.specs.Ops.{IsCalled, asked_for, HasNumbers}
-use Rattle.pa_deeds.proofs.Calls.{fill_is_done}
-use Rattle.pa_turns.specs.Turns.{played_at}
+use Rattle.pa_heap_effects.specs.Deeds.{root_at}
+use Rattle.pa_heap_effects.specs.Pooled.{pool_at}
+use Rattle.pa_heap_effects.specs.Ops.{IsCalled, asked_for, HasNumbers}
+use Rattle.pa_heap_effects.proofs.Calls.{fill_is_done}
+use Rattle.pa_slot_effects.specs.Turns.{played_at}
 use Rattle.pa_place.specs.Placed.{FillDid}
 use Rattle.pa_model.specs.declared.table.Slot.{Slot}
 use Rattle.pa_model.specs.Player.{Player}

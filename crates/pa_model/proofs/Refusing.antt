@@ -24,16 +24,16 @@ use Rattle.pa_rules.specs.Registers.{Regs, Facts, AllocRow}
 use Rattle.pa_rules.specs.Roots.{AsksForClass, AsksForMap}
 use Rattle.pa_rules.specs.Holders.{moves_by}
 use Rattle.pa_rules.specs.Played.{mark_of}
-use Rattle.pa_deeds.specs.Deeds.{grown, root_at, root_after}
-use Rattle.pa_deeds.specs.Pooled.{pool_at}
-use Rattle.pa_deeds.specs.Ops.{only_in, IsCalled, asked_for}
-use Rattle.pa_deeds.proofs.Acting.{only_here}
-use Rattle.pa_deeds.proofs.Extending.{line_replays}
-use Rattle.pa_deeds.proofs.Calls.{full_is_done}
-use Rattle.pa_deeds.proofs.Maps.{full_map_is_done}
-use Rattle.pa_turns.specs.Known.{facts_of}
-use Rattle.pa_turns.specs.Turns.{played_at}
-use Rattle.pa_turns.proofs.Looking.{none_goes_on, none_mark}
+use Rattle.pa_heap_effects.specs.Deeds.{grown, root_at, root_after}
+use Rattle.pa_heap_effects.specs.Pooled.{pool_at}
+use Rattle.pa_heap_effects.specs.Ops.{only_in, IsCalled, asked_for}
+use Rattle.pa_heap_effects.proofs.Acting.{only_here}
+use Rattle.pa_heap_effects.proofs.Extending.{line_replays}
+use Rattle.pa_heap_effects.proofs.Calls.{full_is_done}
+use Rattle.pa_heap_effects.proofs.Maps.{full_map_is_done}
+use Rattle.pa_slot_effects.specs.Known.{facts_of}
+use Rattle.pa_slot_effects.specs.Turns.{played_at}
+use Rattle.pa_slot_effects.proofs.Looking.{none_goes_on, none_mark}
 use Rattle.pa_place.specs.Placed.{FillDid, MapDid}
 use Rattle.pa_model.specs.declared.handle.Handle.{Handle}
 use Rattle.pa_model.specs.declared.handle.Handle.TheVariants.{Empty, Own, Ref, Freed, Cleared}

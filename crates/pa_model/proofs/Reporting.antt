@@ -14,13 +14,13 @@ use Rattle.pa_rules.specs.Played.{OpLine, AreLines, op_lines, op_line_of}
 use Rattle.pa_rules.specs.Legal.{is_phase, phases_in}
 use Rattle.pa_rules.specs.Roots.{Journals}
 use Rattle.pa_rules.specs.Report.{partitions_of, phases_of}
-use Rattle.pa_deeds.specs.Deeds.{IsPlacedTo}
-use Rattle.pa_deeds.specs.Pooled.{IsPooledTo}
-use Rattle.pa_deeds.proofs.Filing.{line_passes}
-use Rattle.pa_deeds.proofs.Onwards.{run_goes_on}
-use Rattle.pa_turns.proofs.Ending.{ends_right}
-use Rattle.pa_turns.proofs.Lines.{phase_after, phases_are}
-use Rattle.pa_turns.proofs.Starting.{phase_goes_on}
+use Rattle.pa_heap_effects.specs.Deeds.{IsPlacedTo}
+use Rattle.pa_heap_effects.specs.Pooled.{IsPooledTo}
+use Rattle.pa_heap_effects.proofs.Filing.{line_passes}
+use Rattle.pa_heap_effects.proofs.Onwards.{run_goes_on}
+use Rattle.pa_slot_effects.proofs.Ending.{ends_right}
+use Rattle.pa_slot_effects.proofs.Lines.{phase_after, phases_are}
+use Rattle.pa_slot_effects.proofs.Starting.{phase_goes_on}
 use Rattle.pa_model.specs.Player.{Player}
 use Rattle.pa_model.specs.Playing.{shown, journals, caches, home_in, len_in, AreShaped, AreBounded, IsToldLine, IsPlaying}
 use Rattle.pa_model.specs.Changes.{report_line, report_lines, phase_ended, phase_begun}

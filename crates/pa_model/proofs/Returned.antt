@@ -11,8 +11,8 @@ use Rattle.pa_record.specs.declared.entry.Answer.TheVariants.{Done}
 use Rattle.pa_rules.specs.Played.{mark_at}
 use Rattle.pa_legal.specs.Tallies.{issues, frees, enters, leaves}
 use Rattle.pa_legal.proofs.Words.{leaves_free}
-use Rattle.pa_turns.specs.Turns.{after_free, after_reset}
-use Rattle.pa_turns.proofs.Ops.{free_goes_on, reset_goes_on}
+use Rattle.pa_slot_effects.specs.Turns.{after_free, after_reset}
+use Rattle.pa_slot_effects.proofs.Ops.{free_goes_on, reset_goes_on}
 use Rattle.pa_model.specs.declared.handle.Handle.TheVariants.{Own, Ref, Freed, Cleared}
 use Rattle.pa_model.specs.declared.table.Slot.{Slot}
 use Rattle.pa_model.specs.Player.{Player}

@@ -30,13 +30,13 @@ use Rattle.pa_rules.specs.declared.played.Played.{Played}
 use Rattle.pa_rules.specs.Played.{step_of, mark_at, mark_of}
 use Rattle.pa_rules.specs.Caches.{with_list, with_cache, gives, kept, spilled}
 use Rattle.pa_legal.specs.Tallies.{issues, frees, enters, leaves}
-use Rattle.pa_deeds.specs.Deeds.{grown, root_at}
-use Rattle.pa_deeds.specs.Pooled.{pool_at}
-use Rattle.pa_deeds.specs.Ops.{only_in, IsCalled, returned_by, Returns, AreOut}
-use Rattle.pa_deeds.proofs.Returned.{return_is_done, spilled_out}
-use Rattle.pa_turns.specs.Shown.{Shown, IsLike}
-use Rattle.pa_turns.specs.Turns.{LeadsTo, played_at}
-use Rattle.pa_turns.proofs.Marking.{some_mark}
+use Rattle.pa_heap_effects.specs.Deeds.{grown, root_at}
+use Rattle.pa_heap_effects.specs.Pooled.{pool_at}
+use Rattle.pa_heap_effects.specs.Ops.{only_in, IsCalled, returned_by, Returns, AreOut}
+use Rattle.pa_heap_effects.proofs.Returned.{return_is_done, spilled_out}
+use Rattle.pa_slot_effects.specs.Shown.{Shown, IsLike}
+use Rattle.pa_slot_effects.specs.Turns.{LeadsTo, played_at}
+use Rattle.pa_slot_effects.proofs.Marking.{some_mark}
 use Rattle.pa_model.specs.declared.handle.Handle.{Handle}
 use Rattle.pa_model.specs.declared.heap.Heap.{Heap}
 use Rattle.pa_model.specs.declared.table.Slot.{Slot}

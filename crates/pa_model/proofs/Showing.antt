@@ -10,8 +10,8 @@ use Rattle.pa_machine.proofs.Runs.{same_slot_yes, same_slot_no, same_slot_cases}
 use Rattle.pa_record.specs.declared.history.Held.TheVariants as held
 use Rattle.pa_rules.specs.declared.register.Register.TheVariants as regs
 use Rattle.pa_rules.specs.Registers.{Reg, AllRegs}
-use Rattle.pa_turns.specs.Shown.{with_reg, with_slot}
-use Rattle.pa_turns.specs.Turns.{Names, HoldsNone}
+use Rattle.pa_slot_effects.specs.Shown.{with_reg, with_slot}
+use Rattle.pa_slot_effects.specs.Turns.{Names, HoldsNone}
 use Rattle.pa_model.specs.declared.handle.Handle.{Handle}
 use Rattle.pa_model.specs.declared.handle.Handle.TheVariants.{Empty, Own, Ref, Freed, Cleared}
 use Rattle.pa_model.specs.declared.table.Slot.{Slot}

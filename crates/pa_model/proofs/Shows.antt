@@ -17,10 +17,10 @@ use Rattle.pa_rules.specs.Caches.{Cache, with_cache}
 use Rattle.pa_rules.specs.Flow.{at_step}
 use Rattle.pa_rules.specs.Report.{cached_slots, cached_bytes}
 use Rattle.pa_legal.specs.Tallies.{issues, frees, enters, leaves, one_of, bytes_of}
-use Rattle.pa_deeds.specs.Deeds.{Acts, grown, root_at}
-use Rattle.pa_deeds.specs.Pooled.{pool_at, IsDone}
-use Rattle.pa_turns.specs.Shown.{Shown, IsLike}
-use Rattle.pa_turns.specs.Turns.{LeadsTo, played_at}
+use Rattle.pa_heap_effects.specs.Deeds.{Acts, grown, root_at}
+use Rattle.pa_heap_effects.specs.Pooled.{pool_at, IsDone}
+use Rattle.pa_slot_effects.specs.Shown.{Shown, IsLike}
+use Rattle.pa_slot_effects.specs.Turns.{LeadsTo, played_at}
 use Rattle.pa_model.specs.declared.table.Slot.{Slot}
 use Rattle.pa_model.specs.Player.{Player}
 use Rattle.pa_model.specs.Tallies.{tally_at}

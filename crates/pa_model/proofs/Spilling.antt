@@ -14,8 +14,8 @@ use Rattle.pa_record.specs.declared.entry.Answer.TheVariants.{Done}
 use Rattle.pa_record.specs.declared.report.Tally.{Tally}
 use Rattle.pa_lists.proofs.Members.{not_in_none, first_in, later_in}
 use Rattle.pa_rules.specs.Caches.{gives}
-use Rattle.pa_deeds.specs.Deeds.{grown}
-use Rattle.pa_deeds.specs.Ops.{only_in}
+use Rattle.pa_heap_effects.specs.Deeds.{grown}
+use Rattle.pa_heap_effects.specs.Ops.{only_in}
 use Rattle.pa_model.specs.declared.handle.Handle.{Handle}
 use Rattle.pa_model.specs.declared.table.Slot.{Slot}
 use Rattle.pa_model.specs.declared.tallies.Tallies.{Tallies}

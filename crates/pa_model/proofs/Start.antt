@@ -17,12 +17,12 @@ use Rattle.pa_rules.specs.Caches.{Caches, no_caches}
 use Rattle.pa_rules.specs.Report.{cached_slots, cached_bytes, phases_of}
 use Rattle.pa_legal.specs.Numbers.{moves_of}
 use Rattle.pa_legal.specs.Tallies.{IsLeft}
-use Rattle.pa_deeds.specs.Deeds.{IsPlacedTo}
-use Rattle.pa_deeds.specs.Pooled.{pool_at, IsPooledTo}
-use Rattle.pa_deeds.proofs.Filing.{starts_empty, same_is_placed}
-use Rattle.pa_turns.specs.Shown.{IsLike}
-use Rattle.pa_turns.specs.Laws.{nothing_shown}
-use Rattle.pa_turns.proofs.Starting.{starts_told, like_is_told}
+use Rattle.pa_heap_effects.specs.Deeds.{IsPlacedTo}
+use Rattle.pa_heap_effects.specs.Pooled.{pool_at, IsPooledTo}
+use Rattle.pa_heap_effects.proofs.Filing.{starts_empty, same_is_placed}
+use Rattle.pa_slot_effects.specs.Shown.{IsLike}
+use Rattle.pa_slot_effects.specs.Laws.{nothing_shown}
+use Rattle.pa_slot_effects.proofs.Starting.{starts_told, like_is_told}
 use Rattle.pa_model.specs.Player.{Player}
 use Rattle.pa_model.specs.Begun.{IsBegun}
 use Rattle.pa_model.specs.Tables.{held_of, IsIn, handle_in}

@@ -16,13 +16,13 @@ use Rattle.pa_record.specs.declared.numbered.Numbered.{Numbered}
 use Rattle.pa_record.specs.Spans.{name_of}
 use Rattle.pa_lists.proofs.Members.{first_in, later_in}
 use Rattle.pa_rules.specs.Played.{mark_at, mark_of}
-use Rattle.pa_deeds.specs.Ops.{KeepsLists}
-use Rattle.pa_deeds.proofs.Acting.{nothing_moves}
-use Rattle.pa_turns.specs.Shown.{Shown, IsLike, with_reg, with_slot}
-use Rattle.pa_turns.specs.Turns.{LeadsTo, played_at}
-use Rattle.pa_turns.specs.Laws.{LetsStep}
-use Rattle.pa_turns.proofs.Marking.{some_mark}
-use Rattle.pa_turns.proofs.Words.{handle_lets}
+use Rattle.pa_heap_effects.specs.Ops.{KeepsLists}
+use Rattle.pa_heap_effects.proofs.Acting.{nothing_moves}
+use Rattle.pa_slot_effects.specs.Shown.{Shown, IsLike, with_reg, with_slot}
+use Rattle.pa_slot_effects.specs.Turns.{LeadsTo, played_at}
+use Rattle.pa_slot_effects.specs.Laws.{LetsStep}
+use Rattle.pa_slot_effects.proofs.Marking.{some_mark}
+use Rattle.pa_slot_effects.proofs.Words.{handle_lets}
 use Rattle.pa_model.specs.declared.handle.Handle.{Handle}
 use Rattle.pa_model.specs.declared.table.Slot.{Slot}
 use Rattle.pa_model.specs.Player.{Player}

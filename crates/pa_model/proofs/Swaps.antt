@@ -10,10 +10,10 @@ use Rattle.pa_record.specs.declared.entry.Answer.TheVariants as answers
 use Rattle.pa_record.specs.declared.history.CellEntry.{CellEntry}
 use Rattle.pa_record.specs.declared.history.Held.{Held}
 use Rattle.pa_rules.specs.Registers.{handle_of, reg_of as reg_of_held}
-use Rattle.pa_deeds.proofs.Acting.{nothing_moves}
-use Rattle.pa_turns.specs.Shown.{IsLike, with_held, with_entry}
-use Rattle.pa_turns.specs.Turns.{played_at, after_swap, exchange_of}
-use Rattle.pa_turns.proofs.Swapping.{swap_goes_on}
+use Rattle.pa_heap_effects.proofs.Acting.{nothing_moves}
+use Rattle.pa_slot_effects.specs.Shown.{IsLike, with_held, with_entry}
+use Rattle.pa_slot_effects.specs.Turns.{played_at, after_swap, exchange_of}
+use Rattle.pa_slot_effects.proofs.Swapping.{swap_goes_on}
 use Rattle.pa_model.specs.declared.handle.Handle.{Handle}
 use Rattle.pa_model.specs.declared.handle.Handle.TheVariants.{Empty, Own, Ref, Freed, Cleared}
 use Rattle.pa_model.specs.declared.table.Slot.{Slot}

@@ -13,8 +13,8 @@ use Rattle.pa_rules.proofs.Numbering.{rising_differ}
 use Rattle.pa_legal.specs.Tallies.{IsTallied}
 use Rattle.pa_legal.proofs.Titling.{one_kind}
 use Rattle.pa_legal.proofs.tallies.Adding.{tallies_follow}
-use Rattle.pa_deeds.proofs.Filing.{placed_are_roots}
-use Rattle.pa_turns.proofs.Ending.{ends_right}
+use Rattle.pa_heap_effects.proofs.Filing.{placed_are_roots}
+use Rattle.pa_slot_effects.proofs.Ending.{ends_right}
 use Rattle.pa_model.specs.Player.{Player}
 use Rattle.pa_model.specs.Tables.{slot_at, named_at}
 use Rattle.pa_model.specs.Tallies.{tally_at}

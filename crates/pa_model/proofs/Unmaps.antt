@@ -21,11 +21,11 @@ use Rattle.pa_lists.proofs.Members.{not_in_none, in_cases}
 use Rattle.pa_record.proofs.Mapping.{unmapped_born}
 use Rattle.pa_rules.specs.Caches.{unmap_at}
 use Rattle.pa_rules.specs.Holders.{Back, Move, move_of, moves_by}
-use Rattle.pa_deeds.specs.Deeds.{grown, root_at}
-use Rattle.pa_deeds.specs.Ops.{only_in, IsCalled, unmap_made}
-use Rattle.pa_deeds.proofs.Single.{entries_are}
-use Rattle.pa_deeds.proofs.Unmapped.{unmap_is_done}
-use Rattle.pa_turns.specs.Turns.{played_at}
+use Rattle.pa_heap_effects.specs.Deeds.{grown, root_at}
+use Rattle.pa_heap_effects.specs.Ops.{only_in, IsCalled, unmap_made}
+use Rattle.pa_heap_effects.proofs.Single.{entries_are}
+use Rattle.pa_heap_effects.proofs.Unmapped.{unmap_is_done}
+use Rattle.pa_slot_effects.specs.Turns.{played_at}
 use Rattle.pa_model.specs.declared.handle.Handle.{Handle}
 use Rattle.pa_model.specs.declared.table.Slot.{Slot}
 use Rattle.pa_model.specs.declared.tallies.Tallies.{Tallies}

@@ -12,7 +12,7 @@ use Rattle.pa_record.specs.declared.taken.Taken.{Taken}
 use Rattle.pa_record.specs.Pool.{IsOneTake}
 use Rattle.pa_record.specs.Sound.{IsSound, IsBornBelow}
 use Rattle.pa_trace.specs.Limits.{register_count, cell_count, most_partitions, most_threads}
-use Rattle.pa_deeds.specs.Ops.{AreOut}
+use Rattle.pa_heap_effects.specs.Ops.{AreOut}
 use Rattle.pa_model.specs.Player.{Player}
 use Rattle.pa_model.specs.Playing.{numbered_at, list_place, root_of, register_at, cell_at}
 use Rattle.pa_model.specs.Tallies.{tally_at}

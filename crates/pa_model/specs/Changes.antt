@@ -27,8 +27,8 @@ use Rattle.pa_rules.specs.Caches.{gives, unmap_at}
 use Rattle.pa_record.specs.Census.{census}
 use Rattle.pa_place.specs.declared.placed.Placed.{Placed}
 use Rattle.pa_place.specs.Placed.{FillDid, MapDid}
-use Rattle.pa_deeds.specs.Deeds.{entries_at}
-use Rattle.pa_deeds.specs.Ops.{found_by}
+use Rattle.pa_heap_effects.specs.Deeds.{entries_at}
+use Rattle.pa_heap_effects.specs.Ops.{found_by}
 use Rattle.pa_model.specs.declared.handle.Handle.{Handle}
 use Rattle.pa_model.specs.declared.handle.Handle.TheVariants.{Empty, Own, Ref, Freed, Cleared}
 use Rattle.pa_model.specs.declared.table.Slot.{Slot}

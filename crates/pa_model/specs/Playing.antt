@@ -29,11 +29,11 @@ use Rattle.pa_rules.specs.Report.{cached_slots, cached_bytes, census_of, phases_
 use Rattle.pa_rules.specs.Legal.{phases_in}
 use Rattle.pa_legal.specs.Numbers.{moves_of, at_end}
 use Rattle.pa_legal.specs.Tallies.{issues, frees, enters, leaves, AreHomes, IsLeft}
-use Rattle.pa_deeds.specs.Deeds.{root_at, IsPlacedTo}
-use Rattle.pa_deeds.specs.Pooled.{pool_at, IsPooledTo}
-use Rattle.pa_deeds.specs.Onward.{GoesOn}
-use Rattle.pa_turns.specs.Shown.{Shown}
-use Rattle.pa_turns.specs.Known.{IsToldTo}
+use Rattle.pa_heap_effects.specs.Deeds.{root_at, IsPlacedTo}
+use Rattle.pa_heap_effects.specs.Pooled.{pool_at, IsPooledTo}
+use Rattle.pa_heap_effects.specs.Onward.{GoesOn}
+use Rattle.pa_slot_effects.specs.Shown.{Shown}
+use Rattle.pa_slot_effects.specs.Known.{IsToldTo}
 use Rattle.pa_model.specs.declared.handle.Handle.{Handle}
 use Rattle.pa_model.specs.declared.handle.Handle.TheVariants.{Empty, Own, Ref, Freed, Cleared}
 use Rattle.pa_model.specs.declared.table.Slot.{Slot}

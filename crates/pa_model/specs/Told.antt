@@ -6,7 +6,7 @@ use Rattle.pa_record.specs.declared.pool.PoolEntry.{PoolEntry}
 use Rattle.pa_record.specs.declared.report.ReportLine.{ReportLine}
 use Rattle.pa_record.specs.declared.root.RootEntry.{RootEntry}
 use Rattle.pa_record.specs.declared.run.Run.{Run}
-use Rattle.pa_printed.specs.Whole.{HasLists, IsTextOfLists}
+use Rattle.pa_run_writer.specs.Whole.{HasLists, IsTextOfLists}
 
 -- The records, the journals by their partitions, the entries of the pool, the histories by their cells, the lines of the
 -- report; and the number of the line that is played.

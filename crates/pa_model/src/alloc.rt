@@ -2,7 +2,7 @@ ghost use Rattle.std.specs.Prelude.{◌≡◌, ◌≢◌, ◌%◌, ◌<◌, ◌�
 ghost use Rattle.pa_layout.specs.Limits.{most_supers};
 ghost use Rattle.pa_trace.specs.declared.script.Op.TheVariants as ops;
 ghost use Rattle.pa_trace.specs.declared.script.Line.TheVariants.{Do};
-ghost use Rattle.pa_deeds.specs.Ops.{found_by};
+ghost use Rattle.pa_heap_effects.specs.Ops.{found_by};
 ghost use Rattle.pa_model.specs.Asks.{CanAllocateMap, CanAllocateSlot, CanIssue, CanIssueFront, CanPlace, CanPut};
 ghost use Rattle.pa_layout.specs.Pages.{supers_for};
 ghost use Rattle.pa_model.specs.Calls.{IsFillTold, IsMapTaken};

@@ -4,8 +4,8 @@ ghost use Rattle.pa_model.specs.Books.{Books, kept_acts, with_kept_act, with_kep
 
 use pa_dense::{DenseJournal, journals_of};
 use pa_machine::OutOfMemory;
-use pa_printed::{Journals, Records};
 use pa_record::{Entry, Journal, LentEntry};
+use pa_run_writer::{Journals, Records};
 use std::alloc::Global;
 
 // What a player tells its records and its journals to. `books` is what it was told.

@@ -9,10 +9,10 @@ ghost use Rattle.pa_model.specs.Begun.{IsUntold};
 use crate::output::{ListOutput, Output, TextOutput};
 use pa_buckets::Class;
 use pa_machine::OutOfMemory;
-use pa_printed::run_text;
 use pa_record::{
     Act, Answer, CellEntry, Entry, Held, History, LentEntry, PoolAct, PoolEntry, ReportLine, Run,
 };
+use pa_run_writer::run_text;
 use std::alloc::Global;
 use std::marker::Model;
 

@@ -23,29 +23,29 @@ use Rattle.pa_rules.specs.Told.{Told}
 use Rattle.pa_rules.specs.Legal.{phases_in, IsLegalTold}
 use Rattle.pa_rules.specs.Held.{IsHeldIn}
 use Rattle.pa_rules.proofs.Recorded.{records_are_lines}
-use Rattle.pa_told.specs.Told.{ToldRecord, played_in, is_of_thread}
-use Rattle.pa_told.specs.Touches.{title_of}
-use Rattle.pa_told.specs.Said.{sizes_in, IsLineSaid, LayersSay, CloseSays}
-use Rattle.pa_told.proofs.Due.{place_is}
-use Rattle.pa_told.proofs.Said.{layers_tell_all}
+use Rattle.pa_logs.specs.Told.{ToldRecord, played_in, is_of_thread}
+use Rattle.pa_logs.specs.Touches.{title_of}
+use Rattle.pa_logs.specs.Said.{sizes_in, IsLineSaid, LayersSay, CloseSays}
+use Rattle.pa_logs.proofs.Due.{place_is}
+use Rattle.pa_logs.proofs.Said.{layers_tell_all}
 use Rattle.pa_cells.specs.Cells.{Exchange}
 use Rattle.pa_cells.specs.Handles.{SlotsStaySeen}
 use Rattle.pa_root.specs.Handing.{at_number_seen}
 use Rattle.pa_heap.specs.declared.left.Left.{Left}
 use Rattle.pa_heap.specs.Closing.{LeavesWorker, HasTold, IsClosedBy, journal_left, history_left}
-use Rattle.pa_plays.specs.Stocks.{titles_in, listed_in, listed_slot}
-use Rattle.pa_plays.specs.Workers.{WorkerValue}
-use Rattle.pa_plays.proofs.Seeing.{slot_in_run}
-use Rattle.pa_course.specs.Courses.{Course, HasSeenAll}
-use Rattle.pa_course.specs.Merged.{told_in, lists_at, outcome_of}
-use Rattle.pa_course.specs.Telling.{IsWholeRun}
-use Rattle.pa_course.specs.Lines.{IsLineBy}
-use Rattle.pa_course.proofs.Chaining.{sees_last}
-use Rattle.pa_course.proofs.Fitting.{is_outcome, seen_of_it}
-use Rattle.pa_course.proofs.Grouping.{are_lines, all_until}
-use Rattle.pa_course.proofs.Keepers.{courses_tell_all, lists_told}
-use Rattle.pa_course.proofs.Lining.{courses_tell_lines}
-use Rattle.pa_course.proofs.Recording.{workers_have_theirs}
+use Rattle.pa_op_specs.specs.Stocks.{titles_in, listed_in, listed_slot}
+use Rattle.pa_op_specs.specs.Workers.{WorkerValue}
+use Rattle.pa_op_specs.proofs.Seeing.{slot_in_run}
+use Rattle.pa_execution.specs.Courses.{Course, HasSeenAll}
+use Rattle.pa_execution.specs.Merged.{told_in, lists_at, outcome_of}
+use Rattle.pa_execution.specs.Telling.{IsWholeRun}
+use Rattle.pa_execution.specs.Lines.{IsLineBy}
+use Rattle.pa_execution.proofs.Chaining.{sees_last}
+use Rattle.pa_execution.proofs.Fitting.{is_outcome, seen_of_it}
+use Rattle.pa_execution.proofs.Grouping.{are_lines, all_until}
+use Rattle.pa_execution.proofs.Keepers.{courses_tell_all, lists_told}
+use Rattle.pa_execution.proofs.Lining.{courses_tell_lines}
+use Rattle.pa_execution.proofs.Recording.{workers_have_theirs}
 use Rattle.pa_runner.specs.Merging.{is_entry_of, IsMergeOf}
 use Rattle.pa_runner.specs.Phases.{no_worker, worker_in}
 use Rattle.pa_runner.specs.Whole.{HasPlayed}

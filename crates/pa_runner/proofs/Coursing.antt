@@ -4,13 +4,13 @@ use Rattle.pa_region.specs.declared.view.View.{View}
 use Rattle.pa_region.specs.Views.{stake_of}
 use Rattle.pa_region.specs.Aware.{IsAware}
 use Rattle.pa_trace.specs.declared.script.Trace.{Trace}
-use Rattle.pa_plays.specs.Workers.{WorkerValue}
-use Rattle.pa_course.specs.Courses.{Course, HasSeenAll, HasHeardAll, Hears, lines_in}
-use Rattle.pa_course.specs.Growing.{Agree, HasBegun, HasEnded}
-use Rattle.pa_course.specs.Gathering.{told_worker}
-use Rattle.pa_course.proofs.Growing.{courses_grow}
-use Rattle.pa_course.proofs.Gathering.{workers_tell, workers_hear}
-use Rattle.pa_course.proofs.Playing.{sees_then}
+use Rattle.pa_op_specs.specs.Workers.{WorkerValue}
+use Rattle.pa_execution.specs.Courses.{Course, HasSeenAll, HasHeardAll, Hears, lines_in}
+use Rattle.pa_execution.specs.Growing.{Agree, HasBegun, HasEnded}
+use Rattle.pa_execution.specs.Gathering.{told_worker}
+use Rattle.pa_execution.proofs.Growing.{courses_grow}
+use Rattle.pa_execution.proofs.Gathering.{workers_tell, workers_hear}
+use Rattle.pa_execution.proofs.Playing.{sees_then}
 use Rattle.pa_runner.specs.declared.thread_lines.LineOp.{LineOp}
 use Rattle.pa_runner.specs.Playing.{in_phase}
 use Rattle.pa_runner.specs.Phases.{AreReady, HaveHeard, HeardFrom, HasPassed, queue_in, worker_in}

@@ -9,10 +9,10 @@ use Rattle.pa_region.specs.Lending.{stake_parcel}
 use Rattle.pa_region.specs.Aware.{IsAware}
 use Rattle.pa_rules.specs.Caches.{SameLists}
 use Rattle.pa_region.proofs.LendBack.{given_stake, given_beside}
-use Rattle.pa_plays.specs.Stocks.{IsForThread, listed_in}
-use Rattle.pa_plays.specs.Workers.{WorkerValue, worker_with_view}
-use Rattle.pa_course.specs.Gathering.{IsMain, HasHeardSome, HasAnswered, told_worker}
-use Rattle.pa_course.proofs.Gathering.{workers_tell, workers_hear}
+use Rattle.pa_op_specs.specs.Stocks.{IsForThread, listed_in}
+use Rattle.pa_op_specs.specs.Workers.{WorkerValue, worker_with_view}
+use Rattle.pa_execution.specs.Gathering.{IsMain, HasHeardSome, HasAnswered, told_worker}
+use Rattle.pa_execution.proofs.Gathering.{workers_tell, workers_hear}
 use Rattle.pa_runner.specs.Phases.{HaveStakes, HaveTold, HaveNone, HeardFrom, HaveHeard, no_worker, worker_in}
 
 -- ---- one worker among them is changed

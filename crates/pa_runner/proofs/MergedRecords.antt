@@ -13,7 +13,7 @@ use Rattle.std.proofs.Common.{replicate}
 use Rattle.std.proofs.lemmas.List.{get_or_default, get_or-set_same, get_or-set_other}
 use Rattle.std.proofs.lemmas.List.Elements.{All-from_recursion, All-get_or}
 use Rattle.pa_trace.specs.Limits.{IsLineWithin}
-use Rattle.pa_plays.specs.Workers.{WorkerValue}
+use Rattle.pa_op_specs.specs.Workers.{WorkerValue}
 use Rattle.pa_runner.specs.Phases.{no_worker}
 use Rattle.pa_runner.specs.Merging.{is_entry_of, IsMergeOf}
 

@@ -16,11 +16,11 @@ use Rattle.pa_region.proofs.LendBack.{given_stake, given_beside, log_filter, mar
 use Rattle.pa_trace.specs.declared.script.Line.{Line}
 use Rattle.pa_trace.specs.declared.script.Line.TheVariants.{Phase, Do}
 use Rattle.pa_trace.specs.declared.script.Trace.{Trace}
-use Rattle.pa_stock.specs.Starts.{HasAllStakes}
-use Rattle.pa_plays.specs.Stocks.{IsForThread}
-use Rattle.pa_plays.specs.Workers.{WorkerValue, IsNewWorker}
-use Rattle.pa_course.specs.Gathering.{HasAnswered}
-use Rattle.pa_course.proofs.Gathering.{workers_hear}
+use Rattle.pa_thread_state.specs.Starts.{HasAllStakes}
+use Rattle.pa_op_specs.specs.Stocks.{IsForThread}
+use Rattle.pa_op_specs.specs.Workers.{WorkerValue, IsNewWorker}
+use Rattle.pa_execution.specs.Gathering.{HasAnswered}
+use Rattle.pa_execution.proofs.Gathering.{workers_hear}
 use Rattle.pa_runner.specs.Phases.{worker_in}
 use Rattle.pa_runner.specs.Tracing.{is_by, lines_by}
 use Rattle.pa_runner.specs.Opening.{IsNewFor}

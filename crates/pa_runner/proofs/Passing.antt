@@ -5,10 +5,10 @@ use Rattle.std.proofs.lemmas.List.{get_or_default, length-append, length-map}
 use Rattle.pa_record.specs.declared.entry.Entry.{Entry}
 use Rattle.pa_region.specs.declared.view.View.{View}
 use Rattle.pa_region.specs.Views.{HasEveryStake}
-use Rattle.pa_plays.specs.Workers.{WorkerValue}
-use Rattle.pa_course.specs.Courses.{HasSeenAll}
-use Rattle.pa_course.specs.Gathering.{HasHeardSome}
-use Rattle.pa_course.proofs.Playing.{sees_then}
+use Rattle.pa_op_specs.specs.Workers.{WorkerValue}
+use Rattle.pa_execution.specs.Courses.{HasSeenAll}
+use Rattle.pa_execution.specs.Gathering.{HasHeardSome}
+use Rattle.pa_execution.proofs.Playing.{sees_then}
 use Rattle.pa_runner.specs.declared.thread_lines.LineOp.{LineOp}
 use Rattle.pa_runner.specs.Phases.{AreReady, ArePlayed, AreGoing, HaveStakes, HaveTold, HasPassed, no_worker, queue_in, worker_in}
 use Rattle.pa_runner.specs.Reporting.{HasAsked}

@@ -19,12 +19,12 @@ use Rattle.pa_trace.specs.declared.script.Line.TheVariants.{Phase, Do}
 use Rattle.pa_trace.specs.declared.script.Op.{Op}
 use Rattle.pa_trace.specs.declared.script.Trace.{Trace}
 use Rattle.pa_trace.specs.Limits.{IsLineWithin, IsWithinLimits}
-use Rattle.pa_plays.specs.Workers.{WorkerValue, worker_with_view}
-use Rattle.pa_course.specs.Courses.{Course, HasSeenAll, lines_in}
-use Rattle.pa_course.specs.Growing.{HasBegun, HasEnded}
-use Rattle.pa_course.specs.Gathering.{IsMain, HasAnswered}
-use Rattle.pa_course.proofs.Gathering.{workers_hear}
-use Rattle.pa_course.proofs.Growing.{courses_grow}
+use Rattle.pa_op_specs.specs.Workers.{WorkerValue, worker_with_view}
+use Rattle.pa_execution.specs.Courses.{Course, HasSeenAll, lines_in}
+use Rattle.pa_execution.specs.Growing.{HasBegun, HasEnded}
+use Rattle.pa_execution.specs.Gathering.{IsMain, HasAnswered}
+use Rattle.pa_execution.proofs.Gathering.{workers_hear}
+use Rattle.pa_execution.proofs.Growing.{courses_grow}
 use Rattle.pa_runner.specs.declared.thread_lines.LineOp.{LineOp}
 use Rattle.pa_runner.specs.Phases.{AreReady, HasPassed, HaveHeard, HaveNone, HaveTold, queue_in, worker_in}
 use Rattle.pa_runner.specs.Playing.{in_phase}

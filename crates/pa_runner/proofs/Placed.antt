@@ -14,9 +14,9 @@ use Rattle.pa_lists.proofs.Members.{in_cases, not_in_none}
 use Rattle.pa_region.specs.declared.view.View.{View}
 use Rattle.pa_region.specs.Views.{stake_of}
 use Rattle.pa_rules.specs.Played.{OpLine}
-use Rattle.pa_plays.specs.Workers.{WorkerValue, worker_with_view}
-use Rattle.pa_course.specs.Courses.{lines_in}
-use Rattle.pa_course.proofs.Playing.{stays}
+use Rattle.pa_op_specs.specs.Workers.{WorkerValue, worker_with_view}
+use Rattle.pa_execution.specs.Courses.{lines_in}
+use Rattle.pa_execution.proofs.Playing.{stays}
 use Rattle.pa_runner.specs.declared.thread_lines.LineOp.{LineOp}
 use Rattle.pa_runner.specs.Playing.{in_phase, AreBefore, RiseFrom, CanPlay, PlaysLines}
 use Rattle.pa_runner.specs.Opening.{IsNewFor}

@@ -15,11 +15,11 @@ use Rattle.pa_record.specs.declared.entry.Entry.{Entry}
 use Rattle.pa_lists.proofs.Members.{in_cases, not_in_none}
 use Rattle.pa_rules.specs.declared.played.Played.{Played}
 use Rattle.pa_rules.specs.Played.{op_line_of, entry_of}
-use Rattle.pa_told.specs.Told.{ToldRecord, played_in}
-use Rattle.pa_plays.specs.Workers.{WorkerValue, CanPlayOp, KeepsOn}
-use Rattle.pa_plays.specs.Plays.{PlaysOp}
-use Rattle.pa_plays.proofs.Following.{composes}
-use Rattle.pa_course.proofs.Playing.{stays}
+use Rattle.pa_logs.specs.Told.{ToldRecord, played_in}
+use Rattle.pa_op_specs.specs.Workers.{WorkerValue, CanPlayOp, KeepsOn}
+use Rattle.pa_op_specs.specs.Plays.{PlaysOp}
+use Rattle.pa_op_specs.proofs.Following.{composes}
+use Rattle.pa_execution.proofs.Playing.{stays}
 use Rattle.pa_runner.specs.declared.thread_lines.LineOp.{LineOp}
 use Rattle.pa_runner.specs.Playing.{in_phase, AreBefore, EndsWith, CanPlay, PlaysLines}
 

@@ -23,7 +23,7 @@ use Rattle.pa_rules.specs.Caches.{Cache, acts_of, OnlyActs, FilledFirst, MadeRow
 use Rattle.pa_rules.specs.Told.{Told, records_of}
 use Rattle.pa_rules.specs.Legal.{IsLegalTold}
 use Rattle.pa_legal.proofs.holders.Records.{row_of}
-use Rattle.pa_told.proofs.Filters.{place_at}
+use Rattle.pa_logs.proofs.Filters.{place_at}
 
 -- ---- the acts of gives and of purges
 

@@ -10,14 +10,14 @@ use Rattle.pa_region.specs.declared.view.View.{View}
 use Rattle.pa_rules.specs.Caches.{listed_slots}
 use Rattle.pa_rules.specs.Report.{listed_bytes, partitions_of, phases_of}
 use Rattle.pa_trace.specs.declared.script.Trace.{Trace}
-use Rattle.pa_plays.specs.declared.counts.Count.{Count}
-use Rattle.pa_plays.specs.Counts.{counted_in}
-use Rattle.pa_plays.specs.Stocks.{listed_in}
-use Rattle.pa_plays.specs.Workers.{WorkerValue}
-use Rattle.pa_course.specs.Courses.{Course}
-use Rattle.pa_course.specs.Growing.{Agree, HasEnded}
-use Rattle.pa_course.specs.Gathering.{told_worker}
-use Rattle.pa_course.specs.Lines.{sum_over, IsLeftOf, IsCachedBy}
+use Rattle.pa_op_specs.specs.declared.counts.Count.{Count}
+use Rattle.pa_op_specs.specs.Counts.{counted_in}
+use Rattle.pa_op_specs.specs.Stocks.{listed_in}
+use Rattle.pa_op_specs.specs.Workers.{WorkerValue}
+use Rattle.pa_execution.specs.Courses.{Course}
+use Rattle.pa_execution.specs.Growing.{Agree, HasEnded}
+use Rattle.pa_execution.specs.Gathering.{told_worker}
+use Rattle.pa_execution.specs.Lines.{sum_over, IsLeftOf, IsCachedBy}
 use Rattle.pa_runner.specs.Phases.{HaveTold, worker_in}
 use Rattle.pa_runner.specs.Reporting.{IsLineFor, IsReported}
 use Rattle.pa_runner.specs.UnderWay.{IsReportOf}

@@ -14,11 +14,11 @@ use Rattle.pa_region.specs.Takes.{log_of}
 use Rattle.pa_region.specs.Lending.{Keeps, Lends}
 use Rattle.pa_region.proofs.LendBack.{keeps_on}
 use Rattle.pa_rules.specs.Report.{partitions_of, census_of}
-use Rattle.pa_told.specs.Said.{IsCensusBy}
-use Rattle.pa_plays.specs.declared.counts.Count.{Count}
-use Rattle.pa_stock.specs.Censuses.{TellsCensus, HasSameLists}
-use Rattle.pa_plays.specs.Workers.{WorkerValue}
-use Rattle.pa_course.specs.Lines.{IsLeftOf}
+use Rattle.pa_logs.specs.Said.{IsCensusBy}
+use Rattle.pa_op_specs.specs.declared.counts.Count.{Count}
+use Rattle.pa_thread_state.specs.Censuses.{TellsCensus, HasSameLists}
+use Rattle.pa_op_specs.specs.Workers.{WorkerValue}
+use Rattle.pa_execution.specs.Lines.{IsLeftOf}
 use Rattle.pa_runner.specs.Reporting.{IsCountedBy, IsLineFor, HasAsked, IsReported}
 
 -- ---- what went in less what went out

@@ -8,11 +8,11 @@ use Rattle.pa_record.specs.declared.numbered.Numbered.{Numbered}
 use Rattle.pa_record.specs.declared.report.Tally.{Tally}
 use Rattle.pa_rules.specs.Caches.{listed_slots}
 use Rattle.pa_rules.specs.Report.{listed_bytes}
-use Rattle.pa_plays.specs.declared.counts.Count.{Count}
-use Rattle.pa_plays.specs.Counts.{IsOfSteps, AreOfSteps, counted_in, no_count}
-use Rattle.pa_plays.specs.Stocks.{StockValue, IsStock, listed_in, titles_in}
-use Rattle.pa_plays.specs.Workers.{WorkerValue, IsWorker}
-use Rattle.pa_course.specs.Lines.{sum_over, IsCachedBy}
+use Rattle.pa_op_specs.specs.declared.counts.Count.{Count}
+use Rattle.pa_op_specs.specs.Counts.{IsOfSteps, AreOfSteps, counted_in, no_count}
+use Rattle.pa_op_specs.specs.Stocks.{StockValue, IsStock, listed_in, titles_in}
+use Rattle.pa_op_specs.specs.Workers.{WorkerValue, IsWorker}
+use Rattle.pa_execution.specs.Lines.{sum_over, IsCachedBy}
 use Rattle.pa_runner.specs.Phases.{no_worker, worker_in}
 use Rattle.pa_runner.specs.Reporting.{IsCountedBy}
 use Rattle.pa_heap.proofs.Settling.{length_numbered}

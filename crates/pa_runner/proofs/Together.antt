@@ -15,7 +15,7 @@ use Rattle.pa_rules.specs.Held.{IsHeldIn}
 use Rattle.pa_cells.specs.Handles.{SlotsStaySeen}
 use Rattle.pa_heap.specs.declared.left.Left.{Left}
 use Rattle.pa_heap.specs.Closing.{IsClosedBy, journal_left, history_left}
-use Rattle.pa_plays.specs.Workers.{WorkerValue}
+use Rattle.pa_op_specs.specs.Workers.{WorkerValue}
 use Rattle.pa_runner.specs.Whole.{HasPlayed, IsHeldRun}
 use Rattle.pa_runner.proofs.Closing.{entries_of, told_of, is_legal, is_held}
 use Rattle.pa_runner.proofs.Printing.{journals_named}

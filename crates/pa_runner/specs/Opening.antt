@@ -4,7 +4,7 @@ use Rattle.pa_region.specs.declared.view.View.{View}
 use Rattle.pa_region.specs.Views.{stake_of}
 use Rattle.pa_region.specs.Takes.{log_of}
 use Rattle.pa_trace.specs.declared.script.Trace.{Trace}
-use Rattle.pa_plays.specs.Workers.{WorkerValue, IsNewWorker}
+use Rattle.pa_op_specs.specs.Workers.{WorkerValue, IsNewWorker}
 use Rattle.pa_runner.specs.Phases.{worker_in}
 use Rattle.pa_runner.specs.Tracing.{lines_by}
 

@@ -6,9 +6,9 @@ use Rattle.pa_region.specs.Views.{stake_of}
 use Rattle.pa_region.specs.Hands.{given_after, united}
 use Rattle.pa_region.specs.Lending.{stake_parcel}
 use Rattle.pa_rules.specs.Caches.{SameLists}
-use Rattle.pa_plays.specs.Stocks.{listed_in}
-use Rattle.pa_plays.specs.Workers.{WorkerValue, HasItsStake, worker_with_view}
-use Rattle.pa_course.specs.Gathering.{HasHeardSome, HasAnswered, told_worker}
+use Rattle.pa_op_specs.specs.Stocks.{listed_in}
+use Rattle.pa_op_specs.specs.Workers.{WorkerValue, HasItsStake, worker_with_view}
+use Rattle.pa_execution.specs.Gathering.{HasHeardSome, HasAnswered, told_worker}
 use Rattle.pa_runner.specs.declared.thread_lines.LineOp.{LineOp}
 use Rattle.pa_runner.specs.Playing.{CanPlay, PlaysLines}
 

@@ -4,9 +4,9 @@ use Rattle.std.specs.List.{AllByRecursion}
 use Rattle.pa_trace.specs.Limits.{IsOpWithin}
 use Rattle.pa_record.specs.declared.entry.Entry.{Entry}
 use Rattle.pa_rules.specs.Played.{OpLine, op_line_of}
-use Rattle.pa_told.specs.Told.{ToldRecord, played_in}
-use Rattle.pa_plays.specs.Workers.{WorkerValue, HasItsStake}
-use Rattle.pa_plays.specs.Plays.{PlaysAll}
+use Rattle.pa_logs.specs.Told.{ToldRecord, played_in}
+use Rattle.pa_op_specs.specs.Workers.{WorkerValue, HasItsStake}
+use Rattle.pa_op_specs.specs.Plays.{PlaysAll}
 use Rattle.pa_runner.specs.declared.thread_lines.LineOp.{LineOp}
 
 -- the op line that this is, of a thread in a phase

@@ -6,11 +6,11 @@ use Rattle.pa_region.specs.declared.view.View.{View}
 use Rattle.pa_region.specs.Lending.{Keeps}
 use Rattle.pa_region.specs.Takes.{log_of}
 use Rattle.pa_rules.specs.Report.{partitions_of, census_of}
-use Rattle.pa_plays.specs.declared.counts.Count.{Count}
-use Rattle.pa_plays.specs.Counts.{counted_in}
-use Rattle.pa_stock.specs.Censuses.{TellsCensus, HasSameLists}
-use Rattle.pa_plays.specs.Workers.{WorkerValue}
-use Rattle.pa_course.specs.Lines.{sum_over, IsLeftOf, IsCachedBy}
+use Rattle.pa_op_specs.specs.declared.counts.Count.{Count}
+use Rattle.pa_op_specs.specs.Counts.{counted_in}
+use Rattle.pa_thread_state.specs.Censuses.{TellsCensus, HasSameLists}
+use Rattle.pa_op_specs.specs.Workers.{WorkerValue}
+use Rattle.pa_execution.specs.Lines.{sum_over, IsLeftOf, IsCachedBy}
 
 -- The tally is what the first so many workers counted of partition p.
 pub record IsCountedBy (part : Count → Tally) (p threads : ℕ) (workers : ℕ → WorkerValue) (tally : Tally) : Type 0 where

@@ -10,10 +10,10 @@ use Rattle.pa_record.specs.declared.report.ReportLine.{ReportLine}
 use Rattle.pa_region.specs.declared.view.View.{View}
 use Rattle.pa_rules.specs.Legal.{phases_in}
 use Rattle.pa_rules.specs.Report.{phases_of}
-use Rattle.pa_plays.specs.Workers.{WorkerValue, HasItsStake}
-use Rattle.pa_course.specs.Courses.{Course, HasSeenAll, lines_in}
-use Rattle.pa_course.specs.Growing.{HasBegun}
-use Rattle.pa_course.specs.Gathering.{IsMain}
+use Rattle.pa_op_specs.specs.Workers.{WorkerValue, HasItsStake}
+use Rattle.pa_execution.specs.Courses.{Course, HasSeenAll, lines_in}
+use Rattle.pa_execution.specs.Growing.{HasBegun}
+use Rattle.pa_execution.specs.Gathering.{IsMain}
 use Rattle.pa_runner.specs.declared.thread_lines.LineOp.{LineOp}
 use Rattle.pa_runner.specs.Playing.{in_phase, AreBefore}
 use Rattle.pa_runner.specs.Phases.{queue_in, worker_in}

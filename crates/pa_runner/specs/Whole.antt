@@ -9,10 +9,10 @@ use Rattle.pa_rules.specs.Report.{phases_of}
 use Rattle.pa_rules.specs.Told.{told_by}
 use Rattle.pa_rules.specs.Legal.{phases_in, IsLegal}
 use Rattle.pa_rules.specs.Held.{IsHeldIn}
-use Rattle.pa_plays.specs.Workers.{WorkerValue}
-use Rattle.pa_course.specs.Courses.{Course}
-use Rattle.pa_course.specs.Growing.{HasEnded}
-use Rattle.pa_course.specs.Gathering.{IsMain}
+use Rattle.pa_op_specs.specs.Workers.{WorkerValue}
+use Rattle.pa_execution.specs.Courses.{Course}
+use Rattle.pa_execution.specs.Growing.{HasEnded}
+use Rattle.pa_execution.specs.Gathering.{IsMain}
 use Rattle.pa_runner.specs.Phases.{HaveTold, worker_in}
 use Rattle.pa_runner.specs.Reporting.{IsLineFor}
 

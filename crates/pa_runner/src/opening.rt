@@ -7,15 +7,15 @@ ghost use Rattle.pa_region.specs.Takes.{log_of};
 ghost use Rattle.pa_region.specs.Hands.{left_after};
 ghost use Rattle.pa_region.specs.Marks.{parcel_of};
 ghost use Rattle.pa_trace.specs.Limits.{IsWithinLimits, most_partitions, most_threads};
-ghost use Rattle.pa_stock.specs.Starts.{HasAllStakes};
-ghost use Rattle.pa_course.specs.Gathering.{IsMain};
+ghost use Rattle.pa_thread_state.specs.Starts.{HasAllStakes};
+ghost use Rattle.pa_execution.specs.Gathering.{IsMain};
 ghost use Rattle.pa_runner.specs.Opening.{IsNewFor, AreNew};
 
 use crate::counting::count_lines;
 use pa_heap::Worker;
 use pa_machine::OutOfMemory;
 use pa_region::{Mark, Name, Seat};
-use pa_stock::Heap;
+use pa_thread_state::Heap;
 use pa_trace::Trace;
 use std::alloc::Global;
 

@@ -3,7 +3,7 @@ ghost use Rattle.std.specs.Prelude.{◌≡◌, ℕ, ◌<◌, ◌≤◌, OnOk, fa
 ghost use Rattle.pa_trace.specs.Limits.{most_partitions, most_threads};
 ghost use Rattle.pa_region.specs.declared.view.View.{View};
 ghost use Rattle.pa_region.specs.Aware.{IsAware};
-ghost use Rattle.pa_course.specs.Gathering.{IsMain};
+ghost use Rattle.pa_execution.specs.Gathering.{IsMain};
 ghost use Rattle.pa_runner.specs.Phases.{AreGoing, AreReady, HasPassed, worker_in};
 ghost use Rattle.pa_runner.specs.Reporting.{IsReported};
 

@@ -1,7 +1,7 @@
 //! All phases of a trace, one after the other.
 ghost use Rattle.std.specs.Prelude.{◌≡◌, ℕ, ◌+◌, IfOk, OnOk, [], length, replicate};
 ghost use Rattle.pa_trace.specs.Limits.{IsWithinLimits};
-ghost use Rattle.pa_course.specs.Gathering.{IsMain};
+ghost use Rattle.pa_execution.specs.Gathering.{IsMain};
 ghost use Rattle.pa_runner.specs.Opening.{AreNew};
 ghost use Rattle.pa_runner.specs.UnderWay.{BeginsPhase, IsUnderWay};
 ghost use Rattle.pa_runner.specs.Whole.{HasPlayed};
@@ -14,7 +14,7 @@ use pa_heap::Worker;
 use pa_machine::OutOfMemory;
 use pa_record::ReportLine;
 use pa_region::{Name, Seat};
-use pa_stock::Heap;
+use pa_thread_state::Heap;
 use pa_trace::{Line, Trace};
 use std::alloc::Global;
 use std::marker::{Send, Sync};

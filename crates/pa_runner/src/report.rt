@@ -4,15 +4,15 @@ ghost use Rattle.pa_trace.specs.Limits.{most_partitions, most_threads};
 ghost use Rattle.pa_region.specs.declared.view.View.{View};
 ghost use Rattle.pa_region.specs.Views.{HasEveryStake};
 ghost use Rattle.pa_rules.specs.Report.{census_of};
-ghost use Rattle.pa_stock.specs.Censuses.{TellsCensus};
-ghost use Rattle.pa_course.specs.Lines.{IsCachedBy};
+ghost use Rattle.pa_thread_state.specs.Censuses.{TellsCensus};
+ghost use Rattle.pa_execution.specs.Lines.{IsCachedBy};
 ghost use Rattle.pa_runner.specs.Phases.{worker_in};
 ghost use Rattle.pa_runner.specs.Reporting.{AreCountedBy, IsLineFor, IsReported};
 
 use crate::phases::Playing;
 use pa_heap::Worker;
 use pa_machine::OutOfMemory;
-use pa_plays::Count;
+use pa_op_specs::Count;
 use pa_record::{Census, ReportLine, Tally};
 use pa_region::{Name, Seat};
 use std::sync::Wait;

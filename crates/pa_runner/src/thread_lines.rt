@@ -1,8 +1,8 @@
 //! The lines of one thread in one phase, one after the other.
 ghost use Rattle.std.specs.Prelude.{◌≡◌, ◌∷◌, [], IfOk, OnOk, OnErr, true, false};
 ghost use Rattle.pa_trace.specs.Limits.{IsOpWithin};
-ghost use Rattle.pa_plays.specs.Workers.{CanPlayOp, KeepsOn};
-ghost use Rattle.pa_plays.specs.Plays.{PlaysOp};
+ghost use Rattle.pa_op_specs.specs.Workers.{CanPlayOp, KeepsOn};
+ghost use Rattle.pa_op_specs.specs.Plays.{PlaysOp};
 ghost use Rattle.pa_runner.specs.Playing.{AreBefore, CanPlay, PlaysLines};
 
 use crate::gate::Gate;
@@ -11,7 +11,7 @@ use pa_heap::Worker;
 use pa_machine::OutOfMemory;
 use pa_record::Answer;
 use pa_region::Name;
-use pa_stock::Heap;
+use pa_thread_state::Heap;
 use pa_trace::Op;
 use std::sync::Wait;
 use std::thread::Threads;

@@ -14,7 +14,7 @@ use pa_heap::{Left, Worker, close};
 use pa_machine::OutOfMemory;
 use pa_record::{ReportLine, Run};
 use pa_region::{Closed, Name, Region, Seat};
-use pa_stock::Heap;
+use pa_thread_state::Heap;
 use pa_trace::Trace;
 use std::alloc::Global;
 use std::marker::{Brand, Send, Sync};

@@ -3,9 +3,9 @@ ghost use Rattle.pa_audit.specs.Lined.{HasLines32};
 
 use pa_audit::audit;
 use pa_machine::OutOfMemory;
-use pa_reader::read_run;
 use pa_record::{History, Journal, Run};
 use pa_rules::{Clause, Verdict};
+use pa_run_reader::read_run;
 use pa_trace::read_trace;
 use std::alloc::Global;
 

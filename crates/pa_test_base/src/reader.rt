@@ -1,5 +1,5 @@
-use pa_reader::{Item, line_at};
 use pa_record::{Answer, Entry, PoolAct, PoolEntry};
+use pa_run_reader::{Item, line_at};
 
 // The item of a line is told, and the bytes behind its LF are left.
 #[test]

@@ -4,8 +4,8 @@ use crate::run_texts::{
     DIRECT_MAP_AGAIN, GAPS, HEAD_ALONE, PURGE_LISTS, QUARANTINE, REGISTERS, SECOND_FREE,
     SHORT_FILL, SMALLEST, STALE_RESET, TWO_THREADS, WRITES,
 };
-use pa_reader::{RunFault, read_run};
 use pa_record::write_run;
+use pa_run_reader::{RunFault, read_run};
 use std::alloc::Global;
 use std::test::Fail;
 

@@ -28,7 +28,7 @@ use Rattle.pa_root.specs.Uncutting.{IsShown}
 use Rattle.pa_root.specs.Telling.{FillTells, MapTells}
 use Rattle.pa_test_region.specs.RootScripts.{CanGoBack, CanMapGoBack}
 use Rattle.pa_root.proofs.Seeing.{free_kept, handles_kept}
-use Rattle.pa_stock.proofs.Taking.{for_made}
+use Rattle.pa_thread_state.proofs.Taking.{for_made}
 
 -- who keeps what it has still has these titles alone
 only_kept : (v x : View) (titles : List Title) → Keeps v x → HasOnly titles v → HasOnly titles x

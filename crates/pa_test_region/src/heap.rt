@@ -1,14 +1,14 @@
 //! A worker without handles: its registers are empty, and it hands its stake over and takes it back.
 ghost use Rattle.std.specs.Prelude.{◌≡◌};
 ghost use Rattle.pa_region.specs.Start.{first_view};
-ghost use Rattle.pa_stock.specs.Starts.{HasAllStakes};
-ghost use Rattle.pa_plays.specs.Stocks.{IsForThread};
+ghost use Rattle.pa_thread_state.specs.Starts.{HasAllStakes};
+ghost use Rattle.pa_op_specs.specs.Stocks.{IsForThread};
 
 use pa_heap::Worker;
 use pa_record::{Answer, Entry, RootAct, RootEntry, Tally};
 use pa_region::{Mark, Name, Note, Region, Seat};
 use pa_root::Root;
-use pa_stock::Heap;
+use pa_thread_state::Heap;
 use std::alloc::Global;
 use std::marker::Brand;
 use std::process::Abort;

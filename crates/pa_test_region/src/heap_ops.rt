@@ -1,14 +1,14 @@
 //! A worker's slot in quarantine: it is freed while a `raw_ptr` points to it, read through that, and returned by the reset.
 ghost use Rattle.std.specs.Prelude.{◌≡◌};
 ghost use Rattle.pa_region.specs.Start.{first_view};
-ghost use Rattle.pa_stock.specs.Starts.{HasAllStakes};
-ghost use Rattle.pa_plays.specs.Stocks.{IsForThread};
+ghost use Rattle.pa_thread_state.specs.Starts.{HasAllStakes};
+ghost use Rattle.pa_op_specs.specs.Stocks.{IsForThread};
 
 use pa_heap::Worker;
 use pa_machine::{SlotName, Word};
 use pa_record::{Answer, Seen, Tally};
 use pa_region::{Mark, Name, Note, Region, Seat};
-use pa_stock::Heap;
+use pa_thread_state::Heap;
 use std::alloc::Global;
 use std::marker::Brand;
 use std::process::Abort;

@@ -26,14 +26,14 @@ use Rattle.pa_examples.proofs.worked.Lists.{each}
 use Rattle.pa_examples.proofs.worked.OneFill.{the_slot}
 use Rattle.pa_examples.proofs.worked.OneJournal.{none_on}
 use Rattle.pa_examples.proofs.worked.ThreadsRead.{after_take}
-use Rattle.pa_told.specs.Told.{ToldRecord, played_in}
-use Rattle.pa_told.specs.Touches.{IsTold, AreTold}
-use Rattle.pa_told.specs.Reported.{IsLeftBy}
-use Rattle.pa_told.specs.Seats.{AreOfLines}
-use Rattle.pa_told.specs.Viewed.{AreViewed}
-use Rattle.pa_told.specs.Said.{sizes_in, homes_in, EndsPhase, RunnerSays, HeapTells, IsLineSaid}
-use Rattle.pa_told.proofs.Through.{by_length}
-use Rattle.pa_told.proofs.Said.{layers_tell_all}
+use Rattle.pa_logs.specs.Told.{ToldRecord, played_in}
+use Rattle.pa_logs.specs.Touches.{IsTold, AreTold}
+use Rattle.pa_logs.specs.Reported.{IsLeftBy}
+use Rattle.pa_logs.specs.Seats.{AreOfLines}
+use Rattle.pa_logs.specs.Viewed.{AreViewed}
+use Rattle.pa_logs.specs.Said.{sizes_in, homes_in, EndsPhase, RunnerSays, HeapTells, IsLineSaid}
+use Rattle.pa_logs.proofs.Through.{by_length}
+use Rattle.pa_logs.proofs.Said.{layers_tell_all}
 use Rattle.pa_examples.specs.told.Worked.{Worked, told_record, told_records}
 use Rattle.pa_examples.specs.told.Threads.{seen_number, the_read, threads_worked, threads_told}
 use Rattle.pa_examples.specs.told.Entered.{threads_swaps, threads_cells}

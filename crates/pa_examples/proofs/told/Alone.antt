@@ -17,9 +17,9 @@ use Rattle.pa_rules.specs.declared.played.Played.{Played}
 use Rattle.pa_rules.specs.Cells.{history_at}
 use Rattle.pa_rules.specs.Seen.{HandsTo}
 use Rattle.pa_rules.specs.Told.{told_by}
-use Rattle.pa_told.specs.Told.{ToldRecord, log_of}
-use Rattle.pa_told.specs.Reads.{HaveReaders}
-use Rattle.pa_told.specs.Worked.{view_of}
+use Rattle.pa_logs.specs.Told.{ToldRecord, log_of}
+use Rattle.pa_logs.specs.Reads.{HaveReaders}
+use Rattle.pa_logs.specs.Worked.{view_of}
 use Rattle.pa_examples.proofs.told.Knowing.{of_thread}
 
 -- no cell has an exchange

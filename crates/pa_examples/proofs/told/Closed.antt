@@ -22,14 +22,14 @@ use Rattle.pa_machine.specs.Titles.{poison}
 use Rattle.pa_examples.specs.Worked.{seen_at, two_threads_trace, two_threads_records, two_threads_journal, two_threads_pool}
 use Rattle.pa_examples.proofs.worked.OneFill.{roots}
 use Rattle.pa_examples.proofs.worked.ThreadsHeld.{rooted, pooled, after_3, cached_3}
-use Rattle.pa_told.specs.Told.{ToldRecord}
-use Rattle.pa_told.specs.Touches.{title_of}
-use Rattle.pa_told.specs.Said.{sizes_in, CloseSays}
-use Rattle.pa_told.specs.Standing.{OnlyUnmapsUncut}
-use Rattle.pa_told.proofs.Filters.{only_one}
-use Rattle.pa_told.proofs.Homing.{has_title}
-use Rattle.pa_told.proofs.Said.{layers_tell_all}
-use Rattle.pa_told.proofs.Sizing.{lengths_follow}
+use Rattle.pa_logs.specs.Told.{ToldRecord}
+use Rattle.pa_logs.specs.Touches.{title_of}
+use Rattle.pa_logs.specs.Said.{sizes_in, CloseSays}
+use Rattle.pa_logs.specs.Standing.{OnlyUnmapsUncut}
+use Rattle.pa_logs.proofs.Filters.{only_one}
+use Rattle.pa_logs.proofs.Homing.{has_title}
+use Rattle.pa_logs.proofs.Said.{layers_tell_all}
+use Rattle.pa_logs.proofs.Sizing.{lengths_follow}
 use Rattle.pa_examples.specs.told.Worked.{Worked}
 use Rattle.pa_examples.specs.told.Threads.{the_fill}
 use Rattle.pa_examples.specs.told.OtherReads.{reading_so}

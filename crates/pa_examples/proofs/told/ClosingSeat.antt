@@ -10,10 +10,10 @@ use Rattle.pa_region.specs.AllReads.{HasAllLogs}
 use Rattle.pa_region.specs.Ends.{IsEnd, EndsWith}
 use Rattle.pa_region.specs.History.{reached}
 use Rattle.pa_record.specs.declared.entry.Answer.{Answer}
-use Rattle.pa_told.specs.Told.{ToldRecord, told_of, told_until}
-use Rattle.pa_told.specs.Reads.{KnowsAll}
-use Rattle.pa_told.specs.Said.{HasLogs}
-use Rattle.pa_told.specs.Worked.{its_title, view_of}
+use Rattle.pa_logs.specs.Told.{ToldRecord, told_of, told_until}
+use Rattle.pa_logs.specs.Reads.{KnowsAll}
+use Rattle.pa_logs.specs.Said.{HasLogs}
+use Rattle.pa_logs.specs.Worked.{its_title, view_of}
 use Rattle.pa_examples.specs.told.Worked.{Worked}
 use Rattle.pa_examples.specs.told.Threads.{seen_number}
 use Rattle.pa_examples.specs.told.OtherReads.{reading_so}

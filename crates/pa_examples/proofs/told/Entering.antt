@@ -11,10 +11,10 @@ use Rattle.pa_region.specs.declared.view.Made.{Made}
 use Rattle.pa_region.specs.Lists.{made_with, entered_in}
 use Rattle.pa_rules.specs.Roots.{journal_at}
 use Rattle.pa_examples.proofs.worked.Lists.{all_pairs, pairs_pass}
-use Rattle.pa_told.specs.Told.{ToldRecord, log_of, told_until}
-use Rattle.pa_told.specs.Listed.{line_of, IsListOf, AreRising}
-use Rattle.pa_told.specs.Seats.{AreOfLines}
-use Rattle.pa_told.specs.Indices.{StandsAt, Enters, asks, AskedNone, AskedOnce}
+use Rattle.pa_logs.specs.Told.{ToldRecord, log_of, told_until}
+use Rattle.pa_logs.specs.Listed.{line_of, IsListOf, AreRising}
+use Rattle.pa_logs.specs.Seats.{AreOfLines}
+use Rattle.pa_logs.specs.Indices.{StandsAt, Enters, asks, AskedNone, AskedOnce}
 use Rattle.pa_lists.proofs.Elements.{passes}
 
 -- what holds of each number below 4, 5 and 6

@@ -7,7 +7,7 @@ use Rattle.pa_record.specs.declared.entry.Answer.TheVariants as answers
 use Rattle.pa_record.specs.declared.history.CellEntry.{CellEntry}
 use Rattle.pa_record.specs.declared.history.Held.TheVariants as held
 use Rattle.pa_machine.specs.declared.title.Title.{Title}
-use Rattle.pa_told.proofs.Filters.{only_one}
+use Rattle.pa_logs.proofs.Filters.{only_one}
 use Rattle.pa_record.specs.Worked.{full, map_made, map_gone, pool_take, pool_give, purge_journal, purge_pool, direct_map_again_pool, direct_map_again_journal}
 use Rattle.pa_lists.proofs.Members.{not_in_none, first_in, later_in}
 use Rattle.pa_region.specs.declared.view.Made.{Made}
@@ -17,11 +17,11 @@ use Rattle.pa_rules.specs.Cells.{IsChain, IsExchange}
 use Rattle.pa_rules.specs.Roots.{journal_at}
 use Rattle.pa_examples.specs.Worked.{two_threads_journal, two_threads_pool}
 use Rattle.pa_examples.proofs.worked.Lists.{each}
-use Rattle.pa_told.specs.Told.{ToldRecord, told_until}
-use Rattle.pa_told.specs.Listed.{line_of, IsListOf, IsJournalOf, HasCuts}
-use Rattle.pa_told.specs.Swaps.{SwapMade, is_of_cell, AreSwaps, AreSwapped, AreAnswered}
-use Rattle.pa_told.specs.Viewed.{IsExchanged}
-use Rattle.pa_told.specs.Indices.{AreAsked}
+use Rattle.pa_logs.specs.Told.{ToldRecord, told_until}
+use Rattle.pa_logs.specs.Listed.{line_of, IsListOf, IsJournalOf, HasCuts}
+use Rattle.pa_logs.specs.Swaps.{SwapMade, is_of_cell, AreSwaps, AreSwapped, AreAnswered}
+use Rattle.pa_logs.specs.Viewed.{IsExchanged}
+use Rattle.pa_logs.specs.Indices.{AreAsked}
 use Rattle.pa_examples.specs.told.Threads.{the_take, the_fill, the_gift, the_taking, threads_told}
 use Rattle.pa_examples.specs.told.Purge.{purge_told}
 use Rattle.pa_examples.specs.told.Maps.{maps_told}

@@ -20,9 +20,9 @@ use Rattle.pa_record.specs.Spans.{Span, title_at}
 use Rattle.pa_lists.proofs.Different.{numbers_in, numbers_has}
 use Rattle.pa_lists.proofs.Joined.{map_cases, map_in}
 use Rattle.pa_lists.proofs.Members.{not_in_none, in_cases}
-use Rattle.pa_told.proofs.Filters.{only_one}
-use Rattle.pa_told.proofs.Sums.{sum_some}
-use Rattle.pa_told.specs.Worked.{its_title}
+use Rattle.pa_logs.proofs.Filters.{only_one}
+use Rattle.pa_logs.proofs.Sums.{sum_some}
+use Rattle.pa_logs.specs.Worked.{its_title}
 use Rattle.pa_examples.specs.told.AllSaid.{title_number, span_slots, one_word}
 use Rattle.pa_lists.specs.Numbers.{numbers}
 use Rattle.pa_buckets.proofs.Facts.{sixteen_bytes}

@@ -20,11 +20,11 @@ use Rattle.pa_region.specs.Waiting.{gave_no_poison, quiet_read, IsFreedElsewhere
 use Rattle.pa_region.specs.AllReads.{HasReads}
 use Rattle.pa_region.proofs.Adding.{one_lt, one_eq}
 use Rattle.pa_region.proofs.Opens.{blank_long}
-use Rattle.pa_told.specs.Told.{ToldRecord, told_of, log_of}
-use Rattle.pa_told.specs.Reads.{KnowsAll}
-use Rattle.pa_told.specs.Worked.{its_title, with_log, view_of}
-use Rattle.pa_told.proofs.Logs.{logs_are_told}
-use Rattle.pa_told.proofs.Worked.{are_logs}
+use Rattle.pa_logs.specs.Told.{ToldRecord, told_of, log_of}
+use Rattle.pa_logs.specs.Reads.{KnowsAll}
+use Rattle.pa_logs.specs.Worked.{its_title, with_log, view_of}
+use Rattle.pa_logs.proofs.Logs.{logs_are_told}
+use Rattle.pa_logs.proofs.Worked.{are_logs}
 
 -- how many numbers below n are k
 abbrev pub numbers_below : ℕ → ℕ → ℕ

@@ -25,15 +25,15 @@ use Rattle.pa_examples.proofs.worked.Threads as threads
 use Rattle.pa_examples.proofs.worked.ThreadsHeld as used
 use Rattle.pa_examples.proofs.worked.ThreadsRead as read
 use Rattle.pa_examples.proofs.worked.ThreadsReport as report
-use Rattle.pa_told.specs.Told.{ToldRecord}
-use Rattle.pa_told.specs.Indices.{IsSwapAt}
-use Rattle.pa_told.specs.Listed.{IsJournalOf}
-use Rattle.pa_told.specs.Swaps.{is_of_cell}
-use Rattle.pa_told.specs.Viewed.{IsExchanged}
-use Rattle.pa_told.specs.Said.{sizes_in, homes_in, PoolTells, RootsTell, CellsTell, IsCensusBy}
-use Rattle.pa_told.proofs.Filters.{only_one}
-use Rattle.pa_told.proofs.Homing.{homes_follow}
-use Rattle.pa_told.proofs.Sizing.{lengths_follow}
+use Rattle.pa_logs.specs.Told.{ToldRecord}
+use Rattle.pa_logs.specs.Indices.{IsSwapAt}
+use Rattle.pa_logs.specs.Listed.{IsJournalOf}
+use Rattle.pa_logs.specs.Swaps.{is_of_cell}
+use Rattle.pa_logs.specs.Viewed.{IsExchanged}
+use Rattle.pa_logs.specs.Said.{sizes_in, homes_in, PoolTells, RootsTell, CellsTell, IsCensusBy}
+use Rattle.pa_logs.proofs.Filters.{only_one}
+use Rattle.pa_logs.proofs.Homing.{homes_follow}
+use Rattle.pa_logs.proofs.Sizing.{lengths_follow}
 use Rattle.pa_examples.specs.told.Worked.{Worked}
 use Rattle.pa_examples.specs.told.Threads.{the_take, the_fill, the_read}
 use Rattle.pa_examples.specs.told.Entered.{in_pool, gift_made, taking_made, threads_swaps, threads_cells}

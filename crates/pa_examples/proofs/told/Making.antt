@@ -12,7 +12,7 @@ use Rattle.pa_lists.proofs.Members.{not_in_none}
 use Rattle.pa_record.proofs.OneEntry.{one_root}
 use Rattle.pa_rules.specs.Roots.{MakesEntry}
 use Rattle.pa_examples.proofs.worked.Lists.{each}
-use Rattle.pa_told.specs.Told.{ToldRecord}
+use Rattle.pa_logs.specs.Told.{ToldRecord}
 use Rattle.pa_examples.specs.told.Entered.{in_root}
 
 pub record Makes (pools : List PoolEntry) (p : ℕ) (x : ToldRecord) : Type 0 where

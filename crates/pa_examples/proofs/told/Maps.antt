@@ -21,12 +21,12 @@ use Rattle.pa_examples.specs.Worked.{IsRunOf, direct_map_trace, direct_map_recor
 use Rattle.pa_examples.proofs.worked.Lists.{each}
 use Rattle.pa_examples.proofs.worked.Knowing.{direct_map_is_known}
 use Rattle.pa_examples.proofs.worked.Maps.{lines}
-use Rattle.pa_told.specs.Told.{ToldRecord, told_of, told_until}
-use Rattle.pa_told.specs.Touches.{IsTold, AreTold}
-use Rattle.pa_told.specs.Reads.{KnowsAll, HaveEnds}
-use Rattle.pa_told.specs.Viewed.{AreViewed}
-use Rattle.pa_told.specs.Whole.{IsPlayedOut}
-use Rattle.pa_told.specs.Worked.{view_of}
+use Rattle.pa_logs.specs.Told.{ToldRecord, told_of, told_until}
+use Rattle.pa_logs.specs.Touches.{IsTold, AreTold}
+use Rattle.pa_logs.specs.Reads.{KnowsAll, HaveEnds}
+use Rattle.pa_logs.specs.Viewed.{AreViewed}
+use Rattle.pa_logs.specs.Whole.{IsPlayedOut}
+use Rattle.pa_logs.specs.Worked.{view_of}
 use Rattle.pa_examples.specs.told.Maps.{map_long, map_title, maps_worked, maps_told, DirectMapIsPlayedOut}
 use Rattle.pa_examples.proofs.told.Alone.{NoValue, no_hands, no_reads, no_readers, of_run}
 use Rattle.pa_examples.proofs.told.Knowing.{below, chain_there, AreKnown, IsOther, knows, history_known}

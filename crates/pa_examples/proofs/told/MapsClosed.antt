@@ -20,11 +20,11 @@ use Rattle.pa_rules.specs.Caches.{Caches}
 use Rattle.pa_examples.specs.Worked.{direct_map_trace}
 use Rattle.pa_examples.proofs.worked.MapsHeld.{at_end}
 use Rattle.pa_examples.proofs.worked.MapsPlaced.{roots}
-use Rattle.pa_told.specs.Told.{told_of}
-use Rattle.pa_told.specs.Reads.{KnowsAll}
-use Rattle.pa_told.specs.Said.{CloseSays, HasLogs}
-use Rattle.pa_told.specs.Worked.{view_of}
-use Rattle.pa_told.proofs.Said.{layers_tell_all}
+use Rattle.pa_logs.specs.Told.{told_of}
+use Rattle.pa_logs.specs.Reads.{KnowsAll}
+use Rattle.pa_logs.specs.Said.{CloseSays, HasLogs}
+use Rattle.pa_logs.specs.Worked.{view_of}
+use Rattle.pa_logs.proofs.Said.{layers_tell_all}
 use Rattle.pa_examples.specs.told.Entered.{in_root}
 use Rattle.pa_examples.specs.told.Maps.{map_title, maps_told}
 use Rattle.pa_examples.specs.told.OneThread.{told_maps, maps_lists, maps_words, maps_holding, seat_maps, DirectMapIsClosed}

@@ -34,16 +34,16 @@ use Rattle.pa_examples.proofs.worked.Maps as worked
 use Rattle.pa_examples.proofs.worked.Maps.{slot_by}
 use Rattle.pa_examples.proofs.worked.MapsPlaced.{roots, direct, rooted, pooled, titled}
 use Rattle.pa_examples.proofs.worked.MapsHeld.{held, at_end, cached_to, cached, reported}
-use Rattle.pa_told.specs.Told.{ToldRecord, told_of, is_of_thread}
-use Rattle.pa_told.specs.Touches.{IsTold, AreTold}
-use Rattle.pa_told.specs.Indices.{IsFullAt}
-use Rattle.pa_told.specs.Listed.{IsJournalOf}
-use Rattle.pa_told.specs.Reported.{IsLeftBy, CacheLeadsTo}
-use Rattle.pa_told.specs.Rows.{records_by}
-use Rattle.pa_told.specs.Seats.{AreOfLines}
-use Rattle.pa_told.specs.Said.{sizes_in, homes_in, facts_in, HasToldRows, EndsPhase, RunnerSays, PoolTells, RootsTell, CellsTell, HeapTells, IsLineSaid, LayersSay, HasLogs}
-use Rattle.pa_told.proofs.Homing.{homes_follow}
-use Rattle.pa_told.proofs.Sizing.{lengths_follow}
+use Rattle.pa_logs.specs.Told.{ToldRecord, told_of, is_of_thread}
+use Rattle.pa_logs.specs.Touches.{IsTold, AreTold}
+use Rattle.pa_logs.specs.Indices.{IsFullAt}
+use Rattle.pa_logs.specs.Listed.{IsJournalOf}
+use Rattle.pa_logs.specs.Reported.{IsLeftBy, CacheLeadsTo}
+use Rattle.pa_logs.specs.Rows.{records_by}
+use Rattle.pa_logs.specs.Seats.{AreOfLines}
+use Rattle.pa_logs.specs.Said.{sizes_in, homes_in, facts_in, HasToldRows, EndsPhase, RunnerSays, PoolTells, RootsTell, CellsTell, HeapTells, IsLineSaid, LayersSay, HasLogs}
+use Rattle.pa_logs.proofs.Homing.{homes_follow}
+use Rattle.pa_logs.proofs.Sizing.{lengths_follow}
 use Rattle.pa_examples.specs.told.Entered.{in_root}
 use Rattle.pa_examples.specs.told.Maps.{map_title, seen_map, maps_worked, maps_told}
 use Rattle.pa_examples.specs.told.OneThread.{told_maps, seat_maps}

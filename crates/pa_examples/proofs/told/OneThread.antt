@@ -20,13 +20,13 @@ use Rattle.pa_rules.specs.Caches.{Caches, with_cache, CacheRow, CachesTo}
 use Rattle.pa_rules.specs.Told.{Told}
 use Rattle.pa_examples.proofs.worked.Alone.{is_swap, no_swap}
 use Rattle.pa_examples.proofs.worked.Lists.{each}
-use Rattle.pa_told.specs.Told.{ToldRecord, played_in, told_of, log_of}
-use Rattle.pa_told.specs.Reads.{KnowsAll}
-use Rattle.pa_told.specs.Reported.{CacheLeadsTo}
-use Rattle.pa_told.specs.Rows.{records_by}
-use Rattle.pa_told.specs.Said.{CellsTell}
-use Rattle.pa_told.specs.Worked.{view_of}
-use Rattle.pa_told.proofs.Merging.{own_first, other_first}
+use Rattle.pa_logs.specs.Told.{ToldRecord, played_in, told_of, log_of}
+use Rattle.pa_logs.specs.Reads.{KnowsAll}
+use Rattle.pa_logs.specs.Reported.{CacheLeadsTo}
+use Rattle.pa_logs.specs.Rows.{records_by}
+use Rattle.pa_logs.specs.Said.{CellsTell}
+use Rattle.pa_logs.specs.Worked.{view_of}
+use Rattle.pa_logs.proofs.Merging.{own_first, other_first}
 use Rattle.pa_examples.specs.told.AllSaid.{seat_of}
 use Rattle.pa_examples.specs.told.Entered.{in_root, in_pool, lists_of}
 use Rattle.pa_examples.proofs.told.Seats.{list_cases, FitsSeat}

@@ -15,10 +15,10 @@ use Rattle.pa_region.specs.Waiting.{quiet_read}
 use Rattle.pa_region.proofs.OneRead.{one_true, quiet_tells}
 use Rattle.pa_examples.proofs.worked.Lists.{each}
 use Rattle.pa_examples.proofs.worked.Threads.{cells}
-use Rattle.pa_told.specs.Told.{ToldRecord, told_of, told_until}
-use Rattle.pa_told.specs.Touches.{IsTold, AreTold}
-use Rattle.pa_told.specs.Reads.{KnowsAll, HaveEnds}
-use Rattle.pa_told.specs.Worked.{sixteen, its_title, view_of}
+use Rattle.pa_logs.specs.Told.{ToldRecord, told_of, told_until}
+use Rattle.pa_logs.specs.Touches.{IsTold, AreTold}
+use Rattle.pa_logs.specs.Reads.{KnowsAll, HaveEnds}
+use Rattle.pa_logs.specs.Worked.{sixteen, its_title, view_of}
 use Rattle.pa_examples.specs.told.Threads.{threads_worked}
 use Rattle.pa_examples.specs.told.Worked.{Worked}
 use Rattle.pa_examples.specs.told.OtherReads.{content_read, freed_read, reading_so, OtherReadsFit}

@@ -8,10 +8,10 @@ use Rattle.pa_region.specs.declared.view.SeenNumber.{SeenNumber}
 use Rattle.pa_region.specs.Views.{seen_among, unseen_by, counted_on}
 use Rattle.pa_region.specs.Lists.{list_of, made_with, entered_in, IsBeginning, IsKnownTo, Rises}
 use Rattle.pa_record.specs.declared.entry.Answer.{Answer}
-use Rattle.pa_told.specs.Told.{ToldRecord, told_of, told_until, log_of}
-use Rattle.pa_told.specs.Reads.{KnowsAll}
-use Rattle.pa_told.specs.Said.{HasLogs, EndsPhase}
-use Rattle.pa_told.specs.Worked.{its_title, view_of}
+use Rattle.pa_logs.specs.Told.{ToldRecord, told_of, told_until, log_of}
+use Rattle.pa_logs.specs.Reads.{KnowsAll}
+use Rattle.pa_logs.specs.Said.{HasLogs, EndsPhase}
+use Rattle.pa_logs.specs.Worked.{its_title, view_of}
 use Rattle.pa_examples.specs.told.Threads.{seen_number}
 use Rattle.pa_examples.specs.told.Entered.{taking_made}
 use Rattle.pa_examples.specs.told.OtherReads.{reading_so}

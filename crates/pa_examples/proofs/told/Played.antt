@@ -24,13 +24,13 @@ use Rattle.pa_examples.specs.Worked.{seen_at, two_threads_journal}
 use Rattle.pa_examples.proofs.worked.OneFill.{roots, the_slot, kept, made_row, of_class}
 use Rattle.pa_examples.proofs.worked.OneJournal.{no_other, none_on}
 use Rattle.pa_examples.proofs.worked.ThreadsRead.{after_take}
-use Rattle.pa_told.specs.Told.{ToldRecord, played_in, is_of_thread}
-use Rattle.pa_told.specs.Touches.{title_of}
-use Rattle.pa_told.specs.Reported.{CacheLeadsTo}
-use Rattle.pa_told.specs.Rows.{records_by}
-use Rattle.pa_told.specs.Said.{IsReadThrough, HasToldRows}
-use Rattle.pa_told.specs.Worked.{its_title}
-use Rattle.pa_told.proofs.Through.{by_length}
+use Rattle.pa_logs.specs.Told.{ToldRecord, played_in, is_of_thread}
+use Rattle.pa_logs.specs.Touches.{title_of}
+use Rattle.pa_logs.specs.Reported.{CacheLeadsTo}
+use Rattle.pa_logs.specs.Rows.{records_by}
+use Rattle.pa_logs.specs.Said.{IsReadThrough, HasToldRows}
+use Rattle.pa_logs.specs.Worked.{its_title}
+use Rattle.pa_logs.proofs.Through.{by_length}
 use Rattle.pa_examples.specs.told.Entered.{threads_cells}
 use Rattle.pa_examples.specs.told.OtherReads.{read_with, reading_so}
 use Rattle.pa_examples.specs.told.Worked.{Worked}

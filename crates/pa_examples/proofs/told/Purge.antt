@@ -24,12 +24,12 @@ use Rattle.pa_examples.proofs.worked.Lists.{each}
 use Rattle.pa_examples.proofs.worked.Knowing.{known_of, all_used}
 use Rattle.pa_examples.proofs.worked.Purge.{lines}
 use Rattle.pa_examples.proofs.worked.PurgeFiled.{purge_is_filed}
-use Rattle.pa_told.specs.Told.{ToldRecord, told_of, told_until}
-use Rattle.pa_told.specs.Touches.{IsTold, AreTold}
-use Rattle.pa_told.specs.Reads.{KnowsAll, HaveEnds}
-use Rattle.pa_told.specs.Viewed.{AreViewed}
-use Rattle.pa_told.specs.Whole.{IsPlayedOut}
-use Rattle.pa_told.specs.Worked.{sixteen, its_title, view_of}
+use Rattle.pa_logs.specs.Told.{ToldRecord, told_of, told_until}
+use Rattle.pa_logs.specs.Touches.{IsTold, AreTold}
+use Rattle.pa_logs.specs.Reads.{KnowsAll, HaveEnds}
+use Rattle.pa_logs.specs.Viewed.{AreViewed}
+use Rattle.pa_logs.specs.Whole.{IsPlayedOut}
+use Rattle.pa_logs.specs.Worked.{sixteen, its_title, view_of}
 use Rattle.pa_examples.specs.told.Purge.{purge_worked, purge_told, PurgeIsPlayedOut}
 use Rattle.pa_examples.proofs.told.Alone.{NoValue, no_hands, no_pair, no_readers, of_run}
 use Rattle.pa_examples.proofs.told.Knowing.{below, of_thread, IsOfOne, knows_one, history_here, history_there}

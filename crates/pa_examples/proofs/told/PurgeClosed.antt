@@ -28,12 +28,12 @@ use Rattle.pa_examples.specs.WorkedPurge.{purge_trace}
 use Rattle.pa_examples.proofs.worked.Lists.{each}
 use Rattle.pa_examples.proofs.worked.OneFill.{filled, rest}
 use Rattle.pa_examples.proofs.worked.Purge as worked
-use Rattle.pa_told.specs.Told.{told_of}
-use Rattle.pa_told.specs.Reads.{KnowsAll}
-use Rattle.pa_told.specs.Touches.{title_of}
-use Rattle.pa_told.specs.Said.{CloseSays, HasLogs}
-use Rattle.pa_told.specs.Worked.{its_title, view_of}
-use Rattle.pa_told.proofs.Said.{layers_tell_all}
+use Rattle.pa_logs.specs.Told.{told_of}
+use Rattle.pa_logs.specs.Reads.{KnowsAll}
+use Rattle.pa_logs.specs.Touches.{title_of}
+use Rattle.pa_logs.specs.Said.{CloseSays, HasLogs}
+use Rattle.pa_logs.specs.Worked.{its_title, view_of}
+use Rattle.pa_logs.proofs.Said.{layers_tell_all}
 use Rattle.pa_examples.specs.told.AllSaid.{title_number, span_slots}
 use Rattle.pa_examples.specs.told.OneThread.{told_purge, purge_lists, later_slots, purge_words, purge_holding, seat_purge, PurgeIsClosed}
 use Rattle.pa_examples.specs.told.Purge.{purge_told}

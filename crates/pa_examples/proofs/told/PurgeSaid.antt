@@ -33,16 +33,16 @@ use Rattle.pa_examples.proofs.worked.Lists.{each}
 use Rattle.pa_examples.proofs.worked.Knowing.{all_used}
 use Rattle.pa_examples.proofs.worked.OneFill.{the_slot, filled}
 use Rattle.pa_examples.proofs.worked.Purge as worked
-use Rattle.pa_told.specs.Told.{ToldRecord, told_of, is_of_thread}
-use Rattle.pa_told.specs.Touches.{IsTold, AreTold}
-use Rattle.pa_told.specs.Listed.{IsJournalOf}
-use Rattle.pa_told.specs.Reported.{IsLeftBy, CacheLeadsTo}
-use Rattle.pa_told.specs.Rows.{records_by}
-use Rattle.pa_told.specs.Seats.{AreOfLines}
-use Rattle.pa_told.specs.Said.{sizes_in, homes_in, facts_in, HasToldRows, EndsPhase, RunnerSays, PoolTells, RootsTell, CellsTell, HeapTells, IsLineSaid, LayersSay, HasLogs}
-use Rattle.pa_told.specs.Worked.{its_title}
-use Rattle.pa_told.proofs.Homing.{homes_follow}
-use Rattle.pa_told.proofs.Sizing.{lengths_follow}
+use Rattle.pa_logs.specs.Told.{ToldRecord, told_of, is_of_thread}
+use Rattle.pa_logs.specs.Touches.{IsTold, AreTold}
+use Rattle.pa_logs.specs.Listed.{IsJournalOf}
+use Rattle.pa_logs.specs.Reported.{IsLeftBy, CacheLeadsTo}
+use Rattle.pa_logs.specs.Rows.{records_by}
+use Rattle.pa_logs.specs.Seats.{AreOfLines}
+use Rattle.pa_logs.specs.Said.{sizes_in, homes_in, facts_in, HasToldRows, EndsPhase, RunnerSays, PoolTells, RootsTell, CellsTell, HeapTells, IsLineSaid, LayersSay, HasLogs}
+use Rattle.pa_logs.specs.Worked.{its_title}
+use Rattle.pa_logs.proofs.Homing.{homes_follow}
+use Rattle.pa_logs.proofs.Sizing.{lengths_follow}
 use Rattle.pa_examples.specs.told.OneThread.{told_purge, seat_purge}
 use Rattle.pa_examples.specs.told.Purge.{purge_worked, purge_told}
 use Rattle.pa_examples.specs.told.Threads.{seen_number}

@@ -19,11 +19,11 @@ use Rattle.pa_region.specs.Start.{stakes_from}
 use Rattle.pa_region.proofs.FirstLists.{stake_count}
 use Rattle.pa_region.proofs.Adding.{sum_map}
 use Rattle.pa_region.proofs.Opens.{blank_long}
-use Rattle.pa_told.specs.Told.{ToldRecord, told_of, log_of}
-use Rattle.pa_told.specs.Reads.{KnowsAll}
-use Rattle.pa_told.specs.Said.{HasLogs}
-use Rattle.pa_told.specs.Worked.{with_log, view_of}
-use Rattle.pa_told.proofs.Logs.{logs_are_told}
+use Rattle.pa_logs.specs.Told.{ToldRecord, told_of, log_of}
+use Rattle.pa_logs.specs.Reads.{KnowsAll}
+use Rattle.pa_logs.specs.Said.{HasLogs}
+use Rattle.pa_logs.specs.Worked.{with_log, view_of}
+use Rattle.pa_logs.proofs.Logs.{logs_are_told}
 use Rattle.pa_examples.specs.told.AllSaid.{Holding, seat_with, seat_of}
 
 -- a list that is no shorter than an empty one

@@ -20,10 +20,10 @@ use Rattle.pa_rules.specs.declared.played.Played.{Played}
 use Rattle.pa_rules.specs.Order.{StandsBefore}
 use Rattle.pa_rules.specs.Seen.{HandsTo}
 use Rattle.pa_examples.proofs.worked.Lists.{all_both, both_pass, implies, implied, stands, stands-from}
-use Rattle.pa_told.specs.Told.{ToldRecord}
-use Rattle.pa_told.specs.Said.{HaveSeen}
-use Rattle.pa_told.specs.Viewed.{AreViewed}
-use Rattle.pa_told.proofs.Sums.{sum_some}
+use Rattle.pa_logs.specs.Told.{ToldRecord}
+use Rattle.pa_logs.specs.Said.{HaveSeen}
+use Rattle.pa_logs.specs.Viewed.{AreViewed}
+use Rattle.pa_logs.proofs.Sums.{sum_some}
 use Rattle.pa_examples.specs.told.Worked.{Worked, told_record, told_records}
 use Rattle.pa_lists.proofs.Elements.{passes}
 

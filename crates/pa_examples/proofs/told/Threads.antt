@@ -35,12 +35,12 @@ use Rattle.pa_examples.proofs.worked.Lists.{each}
 use Rattle.pa_examples.proofs.worked.Knowing.{two_threads_are_known}
 use Rattle.pa_examples.proofs.worked.Threads.{cells, lines}
 use Rattle.pa_examples.proofs.worked.ThreadsRead.{after_take, has_regs}
-use Rattle.pa_told.specs.Told.{ToldRecord, told_of, told_until, log_of}
-use Rattle.pa_told.specs.Touches.{IsTold, AreTold, title_of, IsReadTold}
-use Rattle.pa_told.specs.Reads.{KnowsAll, HaveEnds, HaveReaders, ReadsThrough}
-use Rattle.pa_told.specs.Viewed.{AreViewed}
-use Rattle.pa_told.specs.Whole.{IsPlayedOut}
-use Rattle.pa_told.specs.Worked.{sixteen, its_title, view_of}
+use Rattle.pa_logs.specs.Told.{ToldRecord, told_of, told_until, log_of}
+use Rattle.pa_logs.specs.Touches.{IsTold, AreTold, title_of, IsReadTold}
+use Rattle.pa_logs.specs.Reads.{KnowsAll, HaveEnds, HaveReaders, ReadsThrough}
+use Rattle.pa_logs.specs.Viewed.{AreViewed}
+use Rattle.pa_logs.specs.Whole.{IsPlayedOut}
+use Rattle.pa_logs.specs.Worked.{sixteen, its_title, view_of}
 use Rattle.pa_examples.specs.told.Threads.{read_poison, the_read, threads_worked, threads_told, TwoThreadsArePlayedOut}
 use Rattle.pa_examples.specs.told.Worked.{told_record}
 use Rattle.pa_examples.proofs.told.Alone.{of_run}

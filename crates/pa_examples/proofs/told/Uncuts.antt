@@ -7,9 +7,9 @@ use Rattle.pa_lists.proofs.Members.{first_in, later_in, not_in_none, in_cases}
 use Rattle.pa_region.specs.declared.view.Entry.{Entry}
 use Rattle.pa_region.specs.declared.view.Entry.TheVariants.{Counted, Looked, Read, Added, Entered, Uncut}
 use Rattle.pa_examples.proofs.worked.Lists.{each}
-use Rattle.pa_told.specs.Told.{ToldRecord}
-use Rattle.pa_told.specs.Standing.{Unmaps, OnlyUnmapsUncut}
-use Rattle.pa_told.proofs.Filters.{only_one}
+use Rattle.pa_logs.specs.Told.{ToldRecord}
+use Rattle.pa_logs.specs.Standing.{Unmaps, OnlyUnmapsUncut}
+use Rattle.pa_logs.proofs.Filters.{only_one}
 
 -- the titles that an entry says were made raw again, before others
 abbrev with_uncut : Entry → List Title → List Title

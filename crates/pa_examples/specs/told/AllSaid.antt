@@ -15,11 +15,11 @@ use Rattle.pa_rules.specs.Roots.{journal_at}
 use Rattle.pa_rules.specs.Legal.{phases_in, IsLegalTold}
 use Rattle.pa_rules.specs.Told.{Told}
 use Rattle.pa_examples.specs.Worked.{two_threads_trace, two_threads_journal, two_threads_pool, two_threads_report}
-use Rattle.pa_told.specs.Told.{ToldRecord, told_until}
-use Rattle.pa_told.specs.Swaps.{SwapMade, place_of}
-use Rattle.pa_told.specs.Whole.{IsPlayedOut}
-use Rattle.pa_told.specs.Said.{sizes_in, LayersSay, CloseSays}
-use Rattle.pa_told.specs.Worked.{with_log}
+use Rattle.pa_logs.specs.Told.{ToldRecord, told_until}
+use Rattle.pa_logs.specs.Swaps.{SwapMade, place_of}
+use Rattle.pa_logs.specs.Whole.{IsPlayedOut}
+use Rattle.pa_logs.specs.Said.{sizes_in, LayersSay, CloseSays}
+use Rattle.pa_logs.specs.Worked.{with_log}
 use Rattle.pa_examples.specs.told.Worked.{Worked}
 use Rattle.pa_examples.specs.told.Threads.{seen_number, the_read, threads_worked}
 use Rattle.pa_examples.specs.told.Entered.{lists_of, gift_made, taking_made, threads_cells}

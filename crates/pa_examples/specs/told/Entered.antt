@@ -9,10 +9,10 @@ use Rattle.pa_region.specs.declared.view.Made.{Made}
 use Rattle.pa_rules.specs.Cells.{history_at}
 use Rattle.pa_rules.specs.Roots.{Journals, journal_at}
 use Rattle.pa_examples.specs.Worked.{two_threads_journal, two_threads_pool, two_threads_history}
-use Rattle.pa_told.specs.Told.{ToldRecord}
-use Rattle.pa_told.specs.Listed.{HasCuts}
-use Rattle.pa_told.specs.Swaps.{SwapMade, AreSwapped, AreAnswered}
-use Rattle.pa_told.specs.Indices.{AreLists, AreAsked}
+use Rattle.pa_logs.specs.Told.{ToldRecord}
+use Rattle.pa_logs.specs.Listed.{HasCuts}
+use Rattle.pa_logs.specs.Swaps.{SwapMade, AreSwapped, AreAnswered}
+use Rattle.pa_logs.specs.Indices.{AreLists, AreAsked}
 use Rattle.pa_examples.specs.told.Maps.{maps_told}
 use Rattle.pa_examples.specs.told.Purge.{purge_told}
 use Rattle.pa_examples.specs.told.Threads.{seen_number, the_gift, the_taking, threads_told}

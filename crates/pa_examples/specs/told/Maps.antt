@@ -15,9 +15,9 @@ use Rattle.pa_rules.specs.Played.{entry_of}
 use Rattle.pa_rules.specs.Told.{told_by}
 use Rattle.pa_rules.specs.Worked.{of_first_thread}
 use Rattle.pa_examples.specs.Worked.{IsRunOf, seen_at, direct_map_trace, direct_map_records, direct_map_report}
-use Rattle.pa_told.specs.Told.{ToldRecord}
-use Rattle.pa_told.specs.Whole.{IsPlayedOut}
-use Rattle.pa_told.specs.Worked.{view_of}
+use Rattle.pa_logs.specs.Told.{ToldRecord}
+use Rattle.pa_logs.specs.Whole.{IsPlayedOut}
+use Rattle.pa_logs.specs.Worked.{view_of}
 use Rattle.pa_examples.specs.told.Worked.{Worked, told_records}
 use Rattle.pa_examples.specs.told.Threads.{took, filled}
 

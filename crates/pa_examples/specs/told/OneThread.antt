@@ -14,7 +14,7 @@ use Rattle.pa_rules.specs.Told.{Told}
 use Rattle.pa_rules.specs.Worked.{purge_records}
 use Rattle.pa_examples.specs.Worked.{direct_map_trace, direct_map_records, direct_map_report}
 use Rattle.pa_examples.specs.WorkedPurge.{purge_trace, purge_report}
-use Rattle.pa_told.specs.Worked.{its_title}
+use Rattle.pa_logs.specs.Worked.{its_title}
 use Rattle.pa_examples.specs.told.AllSaid.{Holding, title_number, one_word, seat_with, IsClosed}
 use Rattle.pa_examples.specs.told.Entered.{lists_of}
 use Rattle.pa_examples.specs.told.Maps.{map_title, seen_map, maps_told}

@@ -10,11 +10,11 @@ use Rattle.pa_record.specs.declared.entry.Answer.{Answer}
 use Rattle.pa_record.specs.declared.entry.Answer.TheVariants as answers
 use Rattle.pa_rules.specs.Cells.{history_at}
 use Rattle.pa_examples.specs.Worked.{seen_at, two_threads_history}
-use Rattle.pa_told.specs.Told.{ToldRecord}
-use Rattle.pa_told.specs.Touches.{AreTold}
-use Rattle.pa_told.specs.Reads.{KnowsAll, HaveEnds}
-use Rattle.pa_told.specs.Viewed.{AreViewed}
-use Rattle.pa_told.specs.Worked.{sixteen, its_title, view_of}
+use Rattle.pa_logs.specs.Told.{ToldRecord}
+use Rattle.pa_logs.specs.Touches.{AreTold}
+use Rattle.pa_logs.specs.Reads.{KnowsAll, HaveEnds}
+use Rattle.pa_logs.specs.Viewed.{AreViewed}
+use Rattle.pa_logs.specs.Worked.{sixteen, its_title, view_of}
 use Rattle.pa_examples.specs.told.Threads.{seen_number, read_poison, threads_worked}
 use Rattle.pa_examples.specs.told.Worked.{Worked, told_records}
 

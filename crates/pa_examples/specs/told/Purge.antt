@@ -12,9 +12,9 @@ use Rattle.pa_rules.specs.Told.{told_by}
 use Rattle.pa_rules.specs.Worked.{first_slot, of_first_thread, purge_records}
 use Rattle.pa_examples.specs.Worked.{IsRunOf}
 use Rattle.pa_examples.specs.WorkedPurge.{purge_trace, purge_report}
-use Rattle.pa_told.specs.Told.{ToldRecord}
-use Rattle.pa_told.specs.Whole.{IsPlayedOut}
-use Rattle.pa_told.specs.Worked.{sixteen, its_title, view_of}
+use Rattle.pa_logs.specs.Told.{ToldRecord}
+use Rattle.pa_logs.specs.Whole.{IsPlayedOut}
+use Rattle.pa_logs.specs.Worked.{sixteen, its_title, view_of}
 use Rattle.pa_examples.specs.told.Worked.{Worked, told_records}
 use Rattle.pa_examples.specs.told.Threads.{seen_number, took, filled}
 

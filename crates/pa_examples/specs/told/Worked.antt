@@ -4,7 +4,7 @@ use Rattle.pa_region.specs.declared.view.Entry.{Entry}
 use Rattle.pa_region.specs.declared.view.SeenNumber.{SeenNumber}
 use Rattle.pa_region.specs.Views.{seen_among}
 use Rattle.pa_rules.specs.declared.played.Played.{Played}
-use Rattle.pa_told.specs.Told.{ToldRecord}
+use Rattle.pa_logs.specs.Told.{ToldRecord}
 
 -- a record, its stretch of its thread's log, and notes of the numbers that its seat had seen before it and hands on
 pub record Worked : Type 0 where

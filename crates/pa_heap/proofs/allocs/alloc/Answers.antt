@@ -1,8 +1,8 @@
 use Rattle.std.proofs.Common.{subst}
 use Rattle.std.specs.Prelude.{IsTrue}
 use Rattle.pa_rules.specs.Nexts.{HasSomeHandle}
-use Rattle.pa_plays.specs.Stocks.{StockRegister}
-use Rattle.pa_plays.proofs.Registers.{bare_register}
+use Rattle.pa_op_specs.specs.Stocks.{StockRegister}
+use Rattle.pa_op_specs.proofs.Registers.{bare_register}
 use Rattle.pa_heap.proofs.Fulling.{alloc_fills}
 use Rattle.pa_heap.proofs.allocs.alloc.Goals as goal
 

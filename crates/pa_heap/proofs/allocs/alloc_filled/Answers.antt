@@ -1,8 +1,8 @@
 use Rattle.std.proofs.Common.{◌+◌, ◌<◌, arith, ℕ, Some, sym, subst}
 use Rattle.pa_trace.specs.declared.script.Op.TheVariants as ops
-use Rattle.pa_plays.specs.Stocks.{listed_slot}
-use Rattle.pa_stock.specs.Allocating.{FindsNone}
-use Rattle.pa_plays.specs.Plays.{DoesOp}
+use Rattle.pa_op_specs.specs.Stocks.{listed_slot}
+use Rattle.pa_thread_state.specs.Allocating.{FindsNone}
+use Rattle.pa_op_specs.specs.Plays.{DoesOp}
 use Rattle.pa_record.specs.declared.entry.Answer.TheVariants as answers
 use Rattle.pa_root.specs.declared.fault.FillFault.{FillFault}
 use Rattle.pa_region.specs.Views.{free_of, own_of, ref_of}

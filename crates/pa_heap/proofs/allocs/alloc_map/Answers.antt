@@ -1,11 +1,11 @@
 use Rattle.std.proofs.Common.{◌<◌, arith, ℕ, None, ap, subst}
 use Rattle.pa_direct.specs.declared.maps.Shape.{Shape}
-use Rattle.pa_stock.specs.Allocating.{FindsNone}
+use Rattle.pa_thread_state.specs.Allocating.{FindsNone}
 use Rattle.pa_root.specs.declared.fault.FillFault.{FillFault}
 use Rattle.pa_root.specs.declared.fault.FillFault.TheVariants.{Full}
 use Rattle.pa_heap.proofs.Issuing.{issued_budget}
 use Rattle.pa_heap.proofs.Allocated.{map_issues, map_does}
-use Rattle.pa_stock.proofs.Fetching.{mapped_slot}
+use Rattle.pa_thread_state.proofs.Fetching.{mapped_slot}
 use Rattle.pa_heap.proofs.Fulling.{full_map_does}
 use Rattle.pa_heap.proofs.allocs.alloc_map.Goals as goal
 

@@ -1,9 +1,9 @@
 use Rattle.std.proofs.Common.{◌≡◌, ◌+◌, ◌<◌, ◌≤◌, arith, sym, subst, []}
 use Rattle.std.specs.Prelude.{IfOk, OnErr}
 use Rattle.pa_trace.specs.declared.script.Op.TheVariants as ops
-use Rattle.pa_plays.specs.Stocks.{StockValue, HasNoHandle, register_in, titles_in, listed_slot}
-use Rattle.pa_plays.specs.Workers.{HasItsStake}
-use Rattle.pa_plays.specs.Plays.{DoesOp}
+use Rattle.pa_op_specs.specs.Stocks.{StockValue, HasNoHandle, register_in, titles_in, listed_slot}
+use Rattle.pa_op_specs.specs.Workers.{HasItsStake}
+use Rattle.pa_op_specs.specs.Plays.{DoesOp}
 use Rattle.pa_heap.proofs.Issuing.{issued_budget}
 use Rattle.pa_heap.proofs.Allocated.{front_issues, front_does}
 use Rattle.pa_heap.proofs.allocs.alloc_slot.Goals as goal

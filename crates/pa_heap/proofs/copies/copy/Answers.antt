@@ -1,8 +1,8 @@
 use Rattle.std.proofs.Common.{◌∙◌, sym, ap}
 use Rattle.pa_rules.specs.Nexts.{copy_next}
 use Rattle.pa_rules.proofs.Nexts.{copy_steps}
-use Rattle.pa_plays.specs.Stocks.{StockRegister}
-use Rattle.pa_plays.proofs.Refusing.{copy_refuses}
+use Rattle.pa_op_specs.specs.Stocks.{StockRegister}
+use Rattle.pa_op_specs.proofs.Refusing.{copy_refuses}
 use Rattle.pa_heap.proofs.copies.copy.Goals as goal
 
 pub returns-in-Err-clause-does : goal.returns-in-Err-clause-does

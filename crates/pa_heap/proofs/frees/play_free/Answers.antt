@@ -5,9 +5,9 @@ use Rattle.pa_record.specs.declared.entry.Answer.{Answer}
 use Rattle.pa_record.specs.declared.entry.Answer.TheVariants.{NotOwner, SecondFree}
 use Rattle.pa_rules.specs.Nexts.{free_next}
 use Rattle.pa_rules.proofs.Nexts.{free_steps, free_looks, by_held}
-use Rattle.pa_plays.specs.Stocks.{StockRegister}
-use Rattle.pa_plays.specs.Plays.{DoesOp}
-use Rattle.pa_plays.proofs.Refusing.{free_refuses}
+use Rattle.pa_op_specs.specs.Stocks.{StockRegister}
+use Rattle.pa_op_specs.specs.Plays.{DoesOp}
+use Rattle.pa_op_specs.proofs.Refusing.{free_refuses}
 use Rattle.pa_heap.proofs.Through.{free_looked}
 use Rattle.pa_heap.proofs.Playing.{free_released}
 use Rattle.pa_heap.proofs.frees.play_free.Goals as goal

@@ -1,8 +1,8 @@
 use Rattle.std.proofs.Common.{◌∙◌, sym, ap}
 use Rattle.pa_rules.specs.Nexts.{read_next}
 use Rattle.pa_rules.proofs.Nexts.{read_looks}
-use Rattle.pa_plays.specs.Stocks.{StockRegister}
-use Rattle.pa_plays.proofs.Refusing.{read_refuses}
+use Rattle.pa_op_specs.specs.Stocks.{StockRegister}
+use Rattle.pa_op_specs.proofs.Refusing.{read_refuses}
 use Rattle.pa_heap.proofs.reads.deref.Goals as goal
 
 pub returns-in-Err-clause-does : goal.returns-in-Err-clause-does

@@ -1,8 +1,8 @@
 use Rattle.std.proofs.Common.{◌∙◌, sym, ap}
 use Rattle.pa_rules.specs.Nexts.{reset_next}
 use Rattle.pa_rules.proofs.Nexts.{reset_steps}
-use Rattle.pa_plays.specs.Stocks.{StockRegister}
-use Rattle.pa_plays.proofs.Refusing.{reset_refuses}
+use Rattle.pa_op_specs.specs.Stocks.{StockRegister}
+use Rattle.pa_op_specs.proofs.Refusing.{reset_refuses}
 use Rattle.pa_heap.proofs.Playing.{reset_released}
 use Rattle.pa_heap.proofs.resets.play_reset.Goals as goal
 

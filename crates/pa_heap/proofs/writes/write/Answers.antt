@@ -5,9 +5,9 @@ use Rattle.pa_record.specs.declared.entry.Answer.{Answer}
 use Rattle.pa_record.specs.declared.entry.Answer.TheVariants.{NotOwner, StaleUse}
 use Rattle.pa_rules.specs.Nexts.{write_next}
 use Rattle.pa_rules.proofs.Nexts.{write_steps, write_looks, by_held}
-use Rattle.pa_plays.specs.Stocks.{StockRegister}
-use Rattle.pa_plays.specs.Plays.{DoesOp}
-use Rattle.pa_plays.proofs.Refusing.{write_refuses}
+use Rattle.pa_op_specs.specs.Stocks.{StockRegister}
+use Rattle.pa_op_specs.specs.Plays.{DoesOp}
+use Rattle.pa_op_specs.proofs.Refusing.{write_refuses}
 use Rattle.pa_heap.proofs.Through.{write_looked}
 use Rattle.pa_heap.proofs.writes.write.Goals as goal
 

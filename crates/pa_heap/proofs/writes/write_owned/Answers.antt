@@ -1,8 +1,8 @@
 use Rattle.std.proofs.Common.{◌<◌, sym, subst, arith}
-use Rattle.pa_plays.specs.Stocks.{StockValue}
-use Rattle.pa_plays.specs.Workers.{HasItsStake}
-use Rattle.pa_stock.specs.Changes.{CanFill}
-use Rattle.pa_stock.proofs.Looking.{looked_stake}
+use Rattle.pa_op_specs.specs.Stocks.{StockValue}
+use Rattle.pa_op_specs.specs.Workers.{HasItsStake}
+use Rattle.pa_thread_state.specs.Changes.{CanFill}
+use Rattle.pa_thread_state.proofs.Looking.{looked_stake}
 use Rattle.pa_heap.proofs.Writing.{can_fill, shared_does, written_does}
 use Rattle.pa_heap.proofs.writes.write_owned.Goals as goal
 

@@ -5,7 +5,7 @@ use Rattle.pa_trace.specs.Limits.{IsLineWithin}
 use Rattle.pa_region.specs.declared.marks.Mark.TheVariants.{Stake}
 use Rattle.pa_region.specs.Hands.{left_after}
 use Rattle.pa_region.specs.Marks.{parcel_of}
-use Rattle.pa_plays.specs.Workers.{WorkerValue}
+use Rattle.pa_op_specs.specs.Workers.{WorkerValue}
 use Rattle.pa_runner.specs.Opening.{IsNewFor}
 use Rattle.pa_runner.specs.Tracing.{lines_by}
 use Rattle.pa_runner.proofs.Opened.{IsOpening, open_start, open_budget, open_next}

@@ -1,5 +1,5 @@
 use Rattle.std.proofs.Common.{ap, ◌∙◌, arith}
-use Rattle.pa_plays.specs.Workers.{WorkerValue}
+use Rattle.pa_op_specs.specs.Workers.{WorkerValue}
 use Rattle.pa_runner.proofs.Passing.{going_more}
 use Rattle.pa_runner.proofs.passed.any_stopped.Goals as goal
 

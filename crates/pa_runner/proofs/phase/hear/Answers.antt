@@ -1,6 +1,6 @@
 use Rattle.std.proofs.Common.{sym, subst}
 use Rattle.pa_region.specs.declared.view.View.{View}
-use Rattle.pa_plays.specs.Stocks.{IsForThread}
+use Rattle.pa_op_specs.specs.Stocks.{IsForThread}
 use Rattle.pa_runner.proofs.Gathered.{for_note}
 use Rattle.pa_runner.proofs.phase.hear.Goals as goal
 

@@ -1,5 +1,5 @@
 use Rattle.std.proofs.Common.{◌≡◌, ◌<◌, length, refl, sym, ◌∙◌, subst, arith}
-use Rattle.pa_course.specs.Gathering.{HasAnswered}
+use Rattle.pa_execution.specs.Gathering.{HasAnswered}
 use Rattle.pa_runner.specs.Phases.{HaveHeard}
 use Rattle.pa_runner.proofs.Gathered.{hear_start, hear_more, hear_ready}
 use Rattle.pa_runner.proofs.phase.hear_all.Goals as goal

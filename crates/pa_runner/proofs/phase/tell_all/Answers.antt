@@ -1,5 +1,5 @@
 use Rattle.std.proofs.Common.{◌≡◌, ◌<◌, length, refl, sym, ◌∙◌, subst, arith}
-use Rattle.pa_course.specs.Gathering.{HasHeardSome}
+use Rattle.pa_execution.specs.Gathering.{HasHeardSome}
 use Rattle.pa_runner.specs.Phases.{HaveTold, worker_in}
 use Rattle.pa_runner.proofs.Gathered.{tell_start, tell_more, tell_ready}
 use Rattle.pa_runner.proofs.phase.tell_all.Goals as goal

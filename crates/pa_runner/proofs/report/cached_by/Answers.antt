@@ -1,8 +1,8 @@
 use Rattle.std.proofs.Common.{◌+◌, length, sym, ◌∙◌, ap, subst, arith}
 use Rattle.pa_rules.specs.Caches.{listed_slots}
 use Rattle.pa_rules.specs.Report.{listed_bytes}
-use Rattle.pa_plays.specs.Stocks.{listed_in}
-use Rattle.pa_plays.specs.Workers.{WorkerValue}
+use Rattle.pa_op_specs.specs.Stocks.{listed_in}
+use Rattle.pa_op_specs.specs.Workers.{WorkerValue}
 use Rattle.pa_runner.proofs.Summed.{IsCaching, item_in, worker_at, cache_fits, cache_more}
 use Rattle.pa_runner.proofs.report.cached_by.Goals as goal
 

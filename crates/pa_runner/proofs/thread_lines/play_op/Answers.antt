@@ -1,6 +1,6 @@
 use Rattle.std.proofs.Common.{IfOk, sym, subst}
 use Rattle.pa_trace.specs.declared.script.Op.{Op}
-use Rattle.pa_plays.specs.Plays.{PlaysOp}
+use Rattle.pa_op_specs.specs.Plays.{PlaysOp}
 use Rattle.pa_runner.proofs.thread_lines.play_op.Goals as goal
 
 pub returns-in-Alloc-clause-plays : goal.returns-in-Alloc-clause-plays

@@ -10,8 +10,8 @@ use Rattle.pa_region.specs.Views.{stake_of}
 use Rattle.pa_region.specs.Hands.{Parcel, CanHand, given_after}
 use Rattle.pa_region.specs.Marks.{parcel_of}
 use Rattle.pa_region.proofs.Adding.{one_eq}
-use Rattle.pa_stock.specs.Starts.{HasAllStakes}
-use Rattle.pa_plays.specs.Stocks.{IsForThread}
+use Rattle.pa_thread_state.specs.Starts.{HasAllStakes}
+use Rattle.pa_op_specs.specs.Stocks.{IsForThread}
 use Rattle.pa_test_region.proofs.heap_ops.hand_over.Goals as goal
 
 -- stake 0 and seven counted steps

@@ -2,12 +2,12 @@ use Rattle.std.proofs.Common.{◌≡◌, ◌+◌, List, [], ◌∷◌, length, �
 use Rattle.std.proofs.lemmas.List.{length-append}
 use Rattle.pa_machine.specs.declared.word.Step.TheVariants as steps
 use Rattle.pa_trace.specs.declared.script.Op.TheVariants as ops
-use Rattle.pa_plays.specs.declared.counts.Count.{Count}
-use Rattle.pa_plays.specs.Counts.{AreOfSteps, counts_after, owned_in, done_seen}
-use Rattle.pa_plays.specs.Stocks.{register_in}
-use Rattle.pa_plays.specs.Workers.{WorkerValue, CanPlayOp, KeepsOn}
-use Rattle.pa_plays.specs.Plays.{PlaysOp}
-use Rattle.pa_plays.proofs.Weighing.{CountsOp, free_counts}
+use Rattle.pa_op_specs.specs.declared.counts.Count.{Count}
+use Rattle.pa_op_specs.specs.Counts.{AreOfSteps, counts_after, owned_in, done_seen}
+use Rattle.pa_op_specs.specs.Stocks.{register_in}
+use Rattle.pa_op_specs.specs.Workers.{WorkerValue, CanPlayOp, KeepsOn}
+use Rattle.pa_op_specs.specs.Plays.{PlaysOp}
+use Rattle.pa_op_specs.proofs.Weighing.{CountsOp, free_counts}
 use Rattle.pa_heap.proofs.Working.{worker_plays, worker_goes_on}
 use Rattle.pa_heap.proofs.worker.Worker.free.Goals as goal
 

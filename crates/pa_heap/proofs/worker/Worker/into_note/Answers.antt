@@ -1,5 +1,5 @@
 use Rattle.std.proofs.Common.{sym, subst}
-use Rattle.pa_plays.specs.Workers.{WorkerValue}
+use Rattle.pa_op_specs.specs.Workers.{WorkerValue}
 use Rattle.pa_heap.specs.Closing.{HasTold}
 use Rattle.pa_heap.proofs.worker.Worker.into_note.Goals as goal
 

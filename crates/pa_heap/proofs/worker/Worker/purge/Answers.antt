@@ -1,8 +1,8 @@
 use Rattle.std.proofs.Common.{sym, subst}
 use Rattle.pa_trace.specs.declared.script.Op.TheVariants as ops
-use Rattle.pa_plays.specs.Workers.{WorkerValue, CanPlayOp, KeepsOn}
-use Rattle.pa_plays.specs.Plays.{PlaysOp}
-use Rattle.pa_plays.proofs.Weighing.{purge_counts}
+use Rattle.pa_op_specs.specs.Workers.{WorkerValue, CanPlayOp, KeepsOn}
+use Rattle.pa_op_specs.specs.Plays.{PlaysOp}
+use Rattle.pa_op_specs.proofs.Weighing.{purge_counts}
 use Rattle.pa_heap.proofs.Working.{worker_plays, worker_goes_on}
 use Rattle.pa_heap.proofs.worker.Worker.purge.Goals as goal
 

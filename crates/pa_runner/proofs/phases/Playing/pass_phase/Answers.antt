@@ -1,5 +1,5 @@
 use Rattle.std.proofs.Common.{sym, ◌∙◌, subst, arith}
-use Rattle.pa_course.specs.Gathering.{IsMain}
+use Rattle.pa_execution.specs.Gathering.{IsMain}
 use Rattle.pa_runner.specs.Phases.{worker_in}
 use Rattle.pa_runner.specs.Reporting.{IsReported}
 use Rattle.pa_runner.proofs.Passing.{passed_stakes, passed, passed_asked, passed_every, passed_few}

@@ -1,6 +1,6 @@
 use Rattle.std.proofs.Common.{rules, ◌≡◌, sym, ◌∙◌, ap, subst, arith}
 use Rattle.std.proofs.lemmas.List.{get_or_default}
-use Rattle.pa_plays.specs.Workers.{WorkerValue}
+use Rattle.pa_op_specs.specs.Workers.{WorkerValue}
 use Rattle.pa_runner.specs.Playing.{CanPlay}
 use Rattle.pa_runner.specs.Phases.{queue_in, worker_in, no_worker}
 use Rattle.pa_runner.proofs.phases.Playing.play_phase.Goals as goal

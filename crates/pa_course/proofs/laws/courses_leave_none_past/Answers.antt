@@ -1,5 +1,0 @@
-use Rattle.pa_course.proofs.Bounding.{courses_leave_none_past}
-use Rattle.pa_course.proofs.laws.courses_leave_none_past.Goals as goal
-
-pub returns : goal.returns
-returns c = courses_leave_none_past

@@ -1,5 +1,0 @@
-use Rattle.pa_course.proofs.Keepers.{courses_tell_all}
-use Rattle.pa_course.proofs.laws.courses_tell_all.Goals as goal
-
-pub returns : goal.returns
-returns c = courses_tell_all

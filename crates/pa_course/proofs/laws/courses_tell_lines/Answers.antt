@@ -1,5 +1,0 @@
-use Rattle.pa_course.proofs.Lining.{courses_tell_lines}
-use Rattle.pa_course.proofs.laws.courses_tell_lines.Goals as goal
-
-pub returns : goal.returns
-returns c = courses_tell_lines

@@ -1,5 +1,0 @@
-use Rattle.pa_course.proofs.Heaping.{courses_tell_runner}
-use Rattle.pa_course.proofs.laws.courses_tell_runner.Goals as goal
-
-pub returns : goal.returns
-returns c = courses_tell_runner

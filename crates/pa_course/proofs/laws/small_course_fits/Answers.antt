@@ -1,5 +1,0 @@
-use Rattle.pa_course.proofs.Example.{small_course_fits}
-use Rattle.pa_course.proofs.laws.small_course_fits.Goals as goal
-
-pub returns : goal.returns
-returns c = small_course_fits

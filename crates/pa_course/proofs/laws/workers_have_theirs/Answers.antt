@@ -1,5 +1,0 @@
-use Rattle.pa_course.proofs.Recording.{workers_have_theirs}
-use Rattle.pa_course.proofs.laws.workers_have_theirs.Goals as goal
-
-pub returns : goal.returns
-returns c = workers_have_theirs

@@ -1,5 +1,0 @@
-use Rattle.pa_course.proofs.Gathering.{workers_tell}
-use Rattle.pa_course.proofs.laws.workers_tell.Goals as goal
-
-pub returns : goal.returns
-returns c = workers_tell

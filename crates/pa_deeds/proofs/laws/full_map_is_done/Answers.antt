@@ -1,5 +1,0 @@
-use Rattle.pa_deeds.proofs.Maps.{full_map_is_done}
-use Rattle.pa_deeds.proofs.laws.full_map_is_done.Goals as goal
-
-pub returns : goal.returns
-returns c = full_map_is_done

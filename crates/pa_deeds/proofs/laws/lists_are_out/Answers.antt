@@ -1,5 +1,0 @@
-use Rattle.pa_deeds.proofs.Listed.{lists_are_out}
-use Rattle.pa_deeds.proofs.laws.lists_are_out.Goals as goal
-
-pub returns : goal.returns
-returns c = lists_are_out

@@ -1,5 +1,0 @@
-use Rattle.pa_deeds.proofs.Maps.{map_is_done}
-use Rattle.pa_deeds.proofs.laws.map_is_done.Goals as goal
-
-pub returns : goal.returns
-returns c = map_is_done

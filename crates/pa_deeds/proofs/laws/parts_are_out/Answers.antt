@@ -1,5 +1,0 @@
-use Rattle.pa_deeds.proofs.Lists.{parts_are_out}
-use Rattle.pa_deeds.proofs.laws.parts_are_out.Goals as goal
-
-pub returns : goal.returns
-returns c = parts_are_out

@@ -1,5 +1,0 @@
-use Rattle.pa_deeds.proofs.Filing.{placed_are_roots}
-use Rattle.pa_deeds.proofs.laws.placed_are_roots.Goals as goal
-
-pub returns : goal.returns
-returns c = placed_are_roots

@@ -1,5 +1,0 @@
-use Rattle.pa_deeds.proofs.Returned.{purge_is_done}
-use Rattle.pa_deeds.proofs.laws.purge_is_done.Goals as goal
-
-pub returns : goal.returns
-returns c = purge_is_done

@@ -1,5 +1,0 @@
-use Rattle.pa_deeds.proofs.Returned.{return_is_done}
-use Rattle.pa_deeds.proofs.laws.return_is_done.Goals as goal
-
-pub returns : goal.returns
-returns c = return_is_done

@@ -1,5 +1,0 @@
-use Rattle.pa_deeds.proofs.Onwards.{run_goes_on}
-use Rattle.pa_deeds.proofs.laws.run_goes_on.Goals as goal
-
-pub returns : goal.returns
-returns c = run_goes_on

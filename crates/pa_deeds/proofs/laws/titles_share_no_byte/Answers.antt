@@ -1,5 +1,0 @@
-use Rattle.pa_deeds.proofs.Sharing.{titles_share_no_byte}
-use Rattle.pa_deeds.proofs.laws.titles_share_no_byte.Goals as goal
-
-pub returns : goal.returns
-returns c = titles_share_no_byte

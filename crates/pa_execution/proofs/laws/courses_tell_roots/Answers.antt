@@ -1,0 +1,5 @@
+use Rattle.pa_execution.proofs.Keepers.{courses_tell_roots}
+use Rattle.pa_execution.proofs.laws.courses_tell_roots.Goals as goal
+
+pub returns : goal.returns
+returns c = courses_tell_roots

@@ -1,0 +1,51 @@
+-- A line of the report, from what the workers counted and have cached at the end of its phase, and from the census of its root.
+use Rattle.std.specs.Prelude.{◌≡◌, ℕ, zero, suc, ◌+◌, ◌-◌, List, length, Contains}
+use Rattle.pa_buckets.specs.Limits.{class_count}
+use Rattle.pa_trace.specs.declared.script.Trace.{Trace}
+use Rattle.pa_record.specs.declared.report.ReportLine.{ReportLine}
+use Rattle.pa_record.specs.declared.report.Tally.{Tally}
+use Rattle.pa_region.specs.declared.view.View.{View}
+use Rattle.pa_region.specs.Lists.{list_of}
+use Rattle.pa_rules.specs.Caches.{listed_slots}
+use Rattle.pa_rules.specs.Report.{listed_bytes, census_of}
+use Rattle.pa_rules.specs.Told.{Told}
+use Rattle.pa_logs.specs.Said.{IsCensusBy, IsLineSaid}
+use Rattle.pa_cells.specs.Cells.{Exchange}
+use Rattle.pa_op_specs.specs.declared.counts.Count.{Count}
+use Rattle.pa_op_specs.specs.Counts.{counted_in}
+use Rattle.pa_op_specs.specs.Stocks.{listed_in}
+use Rattle.pa_op_specs.specs.Workers.{WorkerValue}
+use Rattle.pa_execution.specs.Courses.{Course}
+use Rattle.pa_execution.specs.Merged.{told_in, lists_at}
+use Rattle.pa_execution.specs.Telling.{IsWholeRun}
+
+-- the sum over the first so many threads
+abbrev pub sum_over : (ℕ → ℕ) → ℕ → ℕ
+sum_over f zero = 0
+sum_over f (suc k) = f k + sum_over f k
+
+-- The tally is what went into partition p less what went out of it, as these workers counted it.
+pub record IsLeftOf (into out : Count → Tally) (p threads : ℕ) (workers : ℕ → WorkerValue) (tally : Tally) : Type 0 where
+  pub slots : tally.slots ≡ sum_over (λ k. (into (counted_in (workers k).counts p)).slots) threads
+      - sum_over (λ k. (out (counted_in (workers k).counts p)).slots) threads
+  pub bytes : tally.bytes ≡ sum_over (λ k. (into (counted_in (workers k).counts p)).bytes) threads
+      - sum_over (λ k. (out (counted_in (workers k).counts p)).bytes) threads
+
+-- The tally is what the lists of these workers have of partition p.
+pub record IsCachedBy (p threads : ℕ) (workers : ℕ → WorkerValue) (tally : Tally) : Type 0 where
+  pub slots : tally.slots ≡ sum_over (λ k. listed_slots (listed_in (workers k).stock p) 0 class_count) threads
+  pub bytes : tally.bytes ≡ sum_over (λ k. listed_bytes (λ class. length (listed_in (workers k).stock p class)) 0 class_count) threads
+
+-- The line says what the workers, as they were at the end of its phase, and the root of its partition tell.
+pub record IsLineBy (t : Trace) (c : Course) (v : View) (l : ReportLine) : Type 0 where
+  pub live : IsLeftOf (λ (n : Count). n.issued) (λ (n : Count). n.freed) l.partition t.threads (c.ends l.phase) l.live
+  pub quarantined : IsLeftOf (λ (n : Count). n.entered) (λ (n : Count). n.left) l.partition t.threads (c.ends l.phase) l.quarantined
+  pub cached : IsCachedBy l.partition t.threads (c.ends l.phase) l.cached
+  pub root : IsCensusBy (list_of l.partition (c.seats l.phase)) (list_of 4 v) (census_of l)
+
+-- Then the line is said, as all layers are asked.
+abbrev pub CoursesTellLines : Type 0
+CoursesTellLines =
+    (t : Trace) (r : Told) (c : Course) (v : View) (xs : List Exchange) → IsWholeRun t r c v xs →
+    (l : ReportLine) → Contains r.report l → IsLineBy t c v l →
+    IsLineSaid t r v (told_in t c) (lists_at t c l.phase) (c.seats l.phase) l

@@ -1,0 +1,166 @@
+-- Each slot that a record stepped on or looked at is one that a journal made and handed out.
+use Rattle.std.proofs.Common.{◌≡◌, ℕ, zero, suc, ◌<◌, true, List, [], ◌∷◌, Some, None, Option, refl, sym, ◌∙◌, ap, subst, arith, inl, inr}
+use Rattle.std.specs.Prelude.{Contains}
+use Rattle.std.specs.List.{list_any}
+use Rattle.std.proofs.lemmas.Bool.{true≢false, cases_Bool, cases_eq, or_cases, both_ways}
+use Rattle.pa_machine.specs.declared.title.Title.{Title}
+use Rattle.pa_machine.specs.declared.word.SlotName.{SlotName}
+use Rattle.pa_machine.specs.declared.word.Step.{Step}
+use Rattle.pa_machine.specs.declared.word.Step.TheVariants as steps
+use Rattle.pa_machine.specs.Count.{CanStep, number_of, held_of, refs_of}
+use Rattle.pa_machine.specs.Run.{Mark, IsFirstAt, IsRunFrom, IsOneRun, same_slot}
+use Rattle.pa_machine.proofs.Runs.{same_slot_eq, same_slot_yes, issue_first}
+use Rattle.pa_buckets.specs.Table.{slot_of}
+use Rattle.pa_record.specs.declared.entry.Seen.{Seen}
+use Rattle.pa_record.specs.declared.entry.Answer.TheVariants as answers
+use Rattle.pa_record.specs.declared.numbered.Numbered.{Numbered}
+use Rattle.pa_record.specs.declared.pool.PoolEntry.{PoolEntry}
+use Rattle.pa_record.specs.declared.root.RootAct.TheVariants.{Map}
+use Rattle.pa_record.specs.Spans.{name_of}
+use Rattle.pa_record.specs.Sound.{IsMadeBy}
+use Rattle.pa_record.specs.Laws.{leaves_by}
+use Rattle.pa_lists.proofs.Members.{not_in_none, first_in, later_in, in_cases}
+use Rattle.pa_rules.specs.declared.played.Played.{Played}
+use Rattle.pa_rules.specs.Played.{marks_of}
+use Rattle.pa_rules.specs.Roots.{Journals, AreRoots, IsPoolOf}
+use Rattle.pa_rules.specs.Caches.{Cache, Caches, MadeRow, CacheRow, CachesTo, no_caches, with_cache}
+use Rattle.pa_rules.specs.Report.{HasSize}
+use Rattle.pa_rules.proofs.Following.{titles_follow}
+use Rattle.pa_rules.proofs.Known.{IsKnown, entry_of_act, first_keeps, known_with, row_known}
+use Rattle.pa_rules.proofs.Owned.{title_of}
+use Rattle.pa_rules.proofs.Running.{mark_from}
+use Rattle.pa_legal.specs.Tallies.{AreHomes}
+use Rattle.pa_logs.specs.Lengths.{titles_by, lengths_by}
+use Rattle.pa_logs.specs.Homes.{homes_by, HaveSlots, HomesFollow}
+use Rattle.pa_logs.proofs.Sizing.{made_listed, listed_made, is_partition, lengths_follow}
+use Rattle.pa_logs.proofs.StepMarks.{mark_step, issue_is}
+
+-- ---- the partition of a name
+
+-- a list has a title of that name, or none
+pub named_there : (ts : List Title) (s : SlotName) → list_any (λ (t : Title). same_slot (name_of t) s) ts ≡ true → (t : Title) × Contains ts t × (name_of t ≡ s)
+named_there [] s h = absurd (true≢false (sym h))
+named_there (u ∷ us) s h = elim (or_cases (same_slot (name_of u) s) (list_any (λ (t : Title). same_slot (name_of t) s) us) h) [
+  | inl here ↦ (u, first_in u us, same_slot_eq (name_of u) s here)
+  | inr rest ↦ let (t, among, is) = named_there us s rest in (t, later_in u t us among, is)
+]
+
+pub there_named : (ts : List Title) (s : SlotName) (t : Title) → Contains ts t → name_of t ≡ s → list_any (λ (t : Title). same_slot (name_of t) s) ts ≡ true
+there_named [] s t among is = absurd (not_in_none t among)
+there_named (u ∷ us) s t among is = elim (cases_Bool (same_slot (name_of u) s)) [
+  | inl y ↦ rw y refl
+  | inr n ↦ rw n (elim (in_cases u t us among) [
+    | inl e ↦ absurd (both_ways _ n (same_slot_yes (name_of u) s (ap name_of e ∙ is)))
+    | inr later ↦ there_named us s t later is
+  ])
+]
+
+module _ (pools : List PoolEntry) (roots : Journals) where
+  -- where no other partition makes a title of the name
+  home_is : (n p : ℕ) (s : SlotName) (t : Title) → p < n → IsMadeBy pools (roots p) t → name_of t ≡ s →
+      ((q : ℕ) (u : Title) → IsMadeBy pools (roots q) u → name_of u ≡ s → q ≡ p) → homes_by n pools roots s ≡ p
+  home_is zero p s t below made is only = absurd (omega arith)
+  home_is (suc n) p s t below made is only = elim (cases_Bool (list_any (λ (t : Title). same_slot (name_of t) s) (titles_by pools (roots n)))) [
+    | inl y ↦ let (u, among, named) = named_there (titles_by pools (roots n)) s y in rw y (only n u (listed_made pools (roots n) u among) named)
+    | inr none ↦ rw none (elim (cases_eq p n) [
+      | inl same ↦ absurd (both_ways _ none (there_named (titles_by pools (roots n)) s t (subst (λ q. Contains (titles_by pools (roots q)) t) same (made_listed pools (roots p) t made)) is))
+      | inr other ↦ home_is n p s t (omega arith) made is only
+    ])
+  ]
+
+module _ (supers partitions : ℕ) (ps : List Played) (pools : List PoolEntry) (roots : Journals) (r : AreRoots partitions ps pools roots) (h : IsPoolOf supers ps pools roots) where
+  pub has_title : (p len : ℕ) (s : SlotName) → HasSize roots p s len → (t : Title) × IsMadeBy pools (roots p) t × (name_of t ≡ s)
+  has_title p len s (inl (class, (e, asked, slots, among, is, member), size)) =
+      let (t, by, name, sized) = title_of pools (roots p) e s (r.journals p) among (subst (λ act. Contains (leaves_by act) s) (sym is) member) in
+      (t, by, name)
+  has_title p len s (inr (e, asked, among, is)) =
+      let (t, by, name, sized) = title_of pools (roots p) e s (r.journals p) among (subst (λ act. Contains (leaves_by act) s) (sym is) (first_in s [])) in
+      (t, by, name)
+
+  pub home_named : (p len : ℕ) (s : SlotName) → HasSize roots p s len → homes_by partitions pools roots s ≡ p
+  home_named p len s has =
+      let (t, by, name) = has_title p len s has in
+      let all = titles_follow.titles supers partitions ps pools roots r h in
+      home_is pools roots partitions p s t (is_partition supers partitions ps pools roots r h p t by) by name
+      (λ q u made named. all.owned q p u t made by (ap (λ (z : SlotName). z.born) (named ∙ sym name)))
+
+-- ---- the slot of a record
+
+-- the slot of an answer that made one has a partition and a length
+abbrev HasSome : Journals → SlotName → Type 0
+HasSome roots s = (p len : ℕ) × HasSize roots p s len
+
+made_row : (roots : Journals) (x : Played) (seen : Seen) (cache after : Cache) → IsKnown roots cache → MadeRow roots x seen cache after → HasSome roots seen.slot
+made_row roots x seen cache after known (inl (p, class, xs, rest, asks, filled, front, becomes)) =
+    let first = first_keeps seen.slot roots x.line p class (cache p class) xs (λ n. known p class n) filled in
+    let head : Numbered = record { slot = seen.slot; number = number_of seen.found.0 } in
+    (p, slot_of class, inl (class, first.known head (subst (λ zs. Contains zs head) (sym front) (first_in head rest)), refl))
+made_row roots x seen cache after known (inr (p, size, asked, len, asks, only, becomes)) =
+    let (e, among, act) = entry_of_act roots x.line p (Map asked seen.slot len) only.0 in
+    (p, len, inr (e, asked, among, act))
+
+made_in : (partitions : ℕ) (roots : Journals) (xs : List Played) (all after : Caches) (x : Played) (seen : Seen) (usable : ℕ) → ((t : ℕ) → IsKnown roots (all t)) →
+    CachesTo partitions roots all xs after → Contains xs x → x.answer ≡ answers.Made seen usable → HasSome roots seen.slot
+made_in partitions roots [] all after x seen usable known to among made = absurd (not_in_none x among)
+made_in partitions roots (y ∷ ys) all after x seen usable known (next, row, rest) among made = elim (in_cases y x ys among) [
+  | inl e ↦
+      let answer : y.answer ≡ answers.Made seen usable = ap (λ (z : Played). z.answer) e ∙ made in
+      made_row roots y seen (all y.thread) next (known y.thread) (subst (λ a. CacheRow partitions roots y a (all y.thread) next) answer row)
+  | inr later ↦
+      made_in partitions roots ys (with_cache all y.thread next) after x seen usable
+      (known_with roots all y.thread next known (row_known partitions roots y y.answer (all y.thread) next (known y.thread) row)) rest later made
+]
+
+module _ (supers partitions : ℕ) (ps : List Played) (pools : List PoolEntry) (roots : Journals) (h : HaveSlots supers partitions ps pools roots) where
+  -- the step at the word 0 is the issue of a slot that was made
+  first_step : (s : SlotName) (m : Mark) (p : Step) → IsFirstAt (marks_of ps) s 0 m p → CanStep p 0 → HasSome roots s
+  first_step s m p first can =
+      let (x, among, marked) = mark_from ps m first.among in
+      let (d, stepped, is) = mark_step x.line x.op x.answer m p marked first.step in
+      let issue : p ≡ steps.Issue = issue_first p 0 can refl in
+      let step : d.step ≡ steps.Issue = some_is d.step steps.Issue (sym (ap (λ (z : Mark). z.step) is) ∙ (first.step ∙ ap Some issue)) in
+      let issued = issue_is x.op x.answer d stepped step in
+      let (after, to) = h.caches in
+      subst (λ n. HasSome roots n) (issued.slot ∙ (sym (ap (λ (z : Mark). z.slot) is) ∙ first.slot))
+      (made_in partitions roots ps no_caches after x issued.seen issued.usable (λ t q c n none. absurd (not_in_none n none)) to among issued.answer)
+    where
+      some_is : (a b : Step) → Some a ≡ Some b → a ≡ b
+      some_is a b e = cc
+
+  -- nothing finds the word 0 where no step is made there
+  no_step : (m : Mark) (o : Option Step) → m.step ≡ o → Contains (marks_of ps) m → IsRunFrom (marks_of ps) m.slot 0 [] → IsOneRun (marks_of ps) m.slot (0 ∷ []) → ⊥
+  no_step m None none among run one =
+      let (x, member, marked) = mark_from ps m among in
+      let some = h.used x member m marked none in
+      let zero_word : m.found ≡ 0 = zero_is (one.found m among refl) in
+      let held : held_of m.found ≡ 0 = ap held_of zero_word in
+      let refs : refs_of m.found ≡ 0 = ap refs_of zero_word in
+      absurd (omega arith)
+    where
+      zero_is : Contains (0 ∷ []) m.found → m.found ≡ 0
+      zero_is there = elim (in_cases 0 m.found [] there) [ inl e ↦ sym e | inr none ↦ absurd (not_in_none m.found none) ]
+  no_step m (Some p) step among run one =
+      let (first, can) = one.used m p among refl step in
+      let zero_word : m.found ≡ 0 = zero_is (one.found m among refl) in
+      run m p (subst (λ w. IsFirstAt (marks_of ps) m.slot w m p) zero_word first) (subst (λ w. CanStep p w) zero_word can)
+    where
+      zero_is : Contains (0 ∷ []) m.found → m.found ≡ 0
+      zero_is there = elim (in_cases 0 m.found [] there) [ inl e ↦ sym e | inr none ↦ absurd (not_in_none m.found none) ]
+
+  of_run : (m : Mark) (vs : List ℕ) → Contains (marks_of ps) m → IsRunFrom (marks_of ps) m.slot 0 vs → IsOneRun (marks_of ps) m.slot (0 ∷ vs) → HasSome roots m.slot
+  of_run m [] among run one = absurd (no_step m m.step refl among run one)
+  of_run m (v ∷ vs) among (n, p, first, can, word, rest) one = first_step m.slot n p first can
+
+  are_homes : AreHomes roots (homes_by partitions pools roots) (lengths_by partitions pools roots) (marks_of ps)
+  are_homes m among =
+      let (vs, run, one) = h.slots m.slot in
+      let (p, len, has) = of_run m vs among run one in
+      let home = home_named supers partitions ps pools roots h.journals h.pool p len m.slot has in
+      let size = lengths_follow.named supers partitions p len ps pools roots m.slot h.journals h.pool has in
+      subst (λ q. HasSize roots q m.slot (lengths_by partitions pools roots m.slot)) (sym home) (subst (λ n. HasSize roots p m.slot n) (sym size) has)
+
+pub homes_follow : HomesFollow
+homes_follow = record {
+  named = λ supers partitions p len ps pools roots s r h has. home_named supers partitions ps pools roots r h p len s has;
+  homes = are_homes;
+}

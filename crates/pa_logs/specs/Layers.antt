@@ -1,0 +1,69 @@
+-- The clauses of the pool and of the roots, and what is asked of the closing seat, put together from what each layer says.
+use Rattle.std.specs.Prelude.{◌≡◌, ℕ, ◌<◌, ◌≤◌, List, [], Contains}
+use Rattle.pa_machine.specs.declared.word.SlotName.{SlotName}
+use Rattle.pa_trace.specs.declared.script.Op.TheVariants.{Alloc}
+use Rattle.pa_record.specs.declared.entry.Answer.TheVariants.{Full}
+use Rattle.pa_record.specs.declared.pool.PoolEntry.{PoolEntry}
+use Rattle.pa_record.specs.declared.root.RootEntry.{RootEntry}
+use Rattle.pa_record.specs.Numbers.{root_numbers}
+use Rattle.pa_record.specs.Pool.{IsPool}
+use Rattle.pa_record.specs.Root.{IsJournal}
+use Rattle.pa_trace.specs.Limits.{most_partitions}
+use Rattle.pa_region.specs.declared.view.Made.{Made}
+use Rattle.pa_region.specs.declared.view.View.{View}
+use Rattle.pa_region.specs.Lists.{entered_in}
+use Rattle.pa_region.specs.Waiting.{unclean_of}
+use Rattle.pa_rules.specs.Caches.{Caches}
+use Rattle.pa_rules.specs.Roots.{Journals, MakesEntry, AreRoots, IsPoolOf}
+use Rattle.pa_rules.specs.Told.{Told}
+use Rattle.pa_logs.specs.Told.{ToldRecord, played_in}
+use Rattle.pa_logs.specs.Listed.{HasCuts}
+use Rattle.pa_logs.specs.Indices.{IsFullAt, AreAsked, AreLists}
+use Rattle.pa_logs.specs.Lengths.{lengths_by}
+use Rattle.pa_logs.specs.Standing.{OnlyUnmapsUncut, HasFree}
+use Rattle.pa_logs.specs.Ending.{IsClosing}
+
+-- What the pool's type keeps, and its calls and the runner say.
+--   lists, asked: the lists are the journals and the pool's entries; each record asked at most once
+--   fits: each take and give fits the pool after those before it
+--   cuts: at each phase's end the list was a beginning, and that of the records so far
+pub record PoolSays (supers : ℕ) (lists : ℕ → List Made) (pools : List PoolEntry) (roots : Journals) (ts : List ToldRecord) : Type 0 where
+  pub lists_are : AreLists lists pools roots ts
+  pub asked : AreAsked (lists 4) ts
+  pub fits : IsPool supers pools
+  pub cuts : HasCuts 4 (lists 4) ts
+
+-- What the roots' types keep, and their calls and the runner say.
+--   journals: each journal is one of a root, replayed with the pool's entries
+--   makes: what a record entered in a journal is an entry that its op makes
+--   none_past: a partition past the trace's has no journal
+--   refused: a record that is full names its entry by the index
+pub record RootsSay (partitions : ℕ) (lists : ℕ → List Made) (pools : List PoolEntry) (roots : Journals) (ts : List ToldRecord) :
+    Type 0 where
+  pub lists_are : AreLists lists pools roots ts
+  pub journals : (p : ℕ) → IsJournal pools (roots p)
+  pub makes : (x : ToldRecord) (p : ℕ) (m : Made) (e : RootEntry) → p < most_partitions → Contains ts x →
+      Contains (entered_in p x.stretch) m →
+      m.numbers ≡ root_numbers e → MakesEntry pools p e.act x.played.op
+  pub cuts : (p : ℕ) → p < most_partitions → HasCuts p (lists p) ts
+  pub none_past : (p : ℕ) → partitions ≤ p → roots p ≡ []
+  pub refused : (x : ToldRecord) (j reg p size : ℕ) → Contains ts x → x.played.answer ≡ Full j → x.played.op ≡ Alloc reg p size →
+      (p < most_partitions) × IsFullAt (lists p) x j
+
+-- What the closing seat is asked, from the journals, the logs and what it has.
+pub record SeatSays (supers partitions threads : ℕ) (sizes : SlotName → ℕ) (lists : ℕ → List Made) (r : Told) (ts : List ToldRecord)
+    (all : Caches) (v : View) : Type 0 where
+  pub lists_are : AreLists lists r.pools r.roots ts
+  pub lengths : (s : SlotName) → sizes s ≡ lengths_by partitions r.pools r.roots s
+  pub unmaps : OnlyUnmapsUncut ts
+  pub has : HasFree supers partitions threads sizes r.pools r.roots ts all v
+  pub clean : unclean_of v ≡ 0
+
+-- Then the clauses hold, and the closing seat is what it is asked to be.
+pub record LayersFollow : Type 0 where
+  pub pool : (supers : ℕ) (lists : ℕ → List Made) (pools : List PoolEntry) (roots : Journals) (ts : List ToldRecord) →
+      PoolSays supers lists pools roots ts → IsPoolOf supers (played_in ts) pools roots
+  pub roots : (partitions : ℕ) (lists : ℕ → List Made) (pools : List PoolEntry) (roots : Journals) (ts : List ToldRecord) →
+      RootsSay partitions lists pools roots ts → AreRoots partitions (played_in ts) pools roots
+  pub closing : (supers partitions threads : ℕ) (sizes : SlotName → ℕ) (lists : ℕ → List Made) (r : Told) (ts : List ToldRecord)
+      (all : Caches) (v : View) → SeatSays supers partitions threads sizes lists r ts all v → IsClosing sizes r v

@@ -1,0 +1,171 @@
+ghost use Rattle.pa_logs.specs.Ending.{ClosesHolding, HeldFollows};
+ghost use Rattle.pa_logs.specs.Homes.{HomesFollow};
+ghost use Rattle.pa_logs.specs.Indices.{IndicesFollow};
+ghost use Rattle.pa_logs.specs.Layers.{LayersFollow};
+ghost use Rattle.pa_logs.specs.Lengths.{LengthsFollow};
+ghost use Rattle.pa_logs.specs.Listed.{ActsAreTheirs, EntriesInOrder, LinesHaveTheirs, OrdersFollow};
+ghost use Rattle.pa_logs.specs.Reads.{ContentsFollow, ReadsFollow};
+ghost use Rattle.pa_logs.specs.Reported.{ReportFollows};
+ghost use Rattle.pa_logs.specs.Rows.{ThreadsMerge, UsableFollows};
+ghost use Rattle.pa_logs.specs.Said.{LayersTellAll};
+ghost use Rattle.pa_logs.specs.Seats.{SeatsKnow};
+ghost use Rattle.pa_logs.specs.Standing.{StandsHeld, StandsUncut};
+ghost use Rattle.pa_logs.specs.Steps.{ContentFollows, HistoriesFollow, SlotsFollow};
+ghost use Rattle.pa_logs.specs.Swaps.{CellsFollow, SwapsFollow};
+ghost use Rattle.pa_logs.specs.Told.{LogsAreTold};
+ghost use Rattle.pa_logs.specs.Touches.{TellsItsMark};
+ghost use Rattle.pa_logs.specs.Viewed.{SeenFollows};
+ghost use Rattle.pa_logs.specs.Whole.{LegalIsTold};
+ghost use Rattle.pa_logs.specs.Worked.{WorkedIsReadOff, WorkedIsSeen};
+
+/// The law that what is weighed over the logs of a view with every stake is weighed over the records.
+pub fn logs_are_told()
+    ensures { LogsAreTold }
+{}
+
+/// The law that a stretch of a log has the step or the look that its record tells, and no other step.
+pub fn tells_its_mark()
+    ensures { TellsItsMark }
+{}
+
+/// The law that each title's history is that of its slot's steps, where a view's logs are those of the records.
+pub fn histories_follow()
+    ensures { HistoriesFollow }
+{}
+
+/// The law that each slot has one run, where each has a history by the records.
+pub fn slots_follow()
+    ensures { SlotsFollow }
+{}
+
+/// The law that the content of a slot at a number is that of its history.
+pub fn content_follows()
+    ensures { ContentFollows }
+{}
+
+/// The law that each read gave its slot's content, or poison: where it was freed, or where its next free was under way.
+pub fn reads_follow()
+    ensures { ReadsFollow }
+{}
+
+/// The law that the contents are those of a legal run, from what each read gave.
+pub fn contents_follow()
+    ensures { ContentsFollow }
+{}
+
+/// The law that no record is before itself, and that none finds a lower number of a slot than one before it left.
+pub fn seen_follows()
+    ensures { SeenFollows }
+{}
+
+/// The law that each entry of a keeper's list is one of a record, and that those of a line are what its record entered.
+pub fn lines_have_theirs()
+    ensures { LinesHaveTheirs }
+{}
+
+/// The law that the entries of a list stand in the order of a thread's lines, and in that of the phases.
+pub fn entries_in_order()
+    ensures { EntriesInOrder }
+{}
+
+/// The law that the acts of a line in a journal are those that its record entered.
+pub fn acts_are_theirs()
+    ensures { ActsAreTheirs }
+{}
+
+/// The law that a run is legal of whose records, logs and lists all this is known.
+pub fn legal_is_told()
+    ensures { LegalIsTold }
+{}
+
+/// Four records of two threads, with a read in between, meet what the laws of steps and reads ask.
+pub fn worked_is_read_off()
+    ensures { WorkedIsReadOff }
+{}
+
+/// The law that the words of a closed region hold a run, where they end with each standing title's history.
+pub fn held_follows()
+    ensures { HeldFollows }
+{}
+
+/// The law that the entries of journals and of the pool stand in the order of their threads' lines and of the phases.
+pub fn orders_follow()
+    ensures { OrdersFollow }
+{}
+
+/// The law that exchanges have one order, that of the cells' list, in which what was seen rises.
+pub fn swaps_follow()
+    ensures { SwapsFollow }
+{}
+
+/// The law that registers and caches are those of a run, where each thread's are those of its records.
+pub fn threads_merge()
+    ensures { ThreadsMerge }
+{}
+
+/// The law that the usable bytes of a slot that was stepped on are all but its count word.
+pub fn usable_follows()
+    ensures { UsableFollows }
+{}
+
+/// The law that a seat with every stake knows all logs of the records, and that what it has seen of a list is theirs.
+pub fn seats_know()
+    ensures { SeatsKnow }
+{}
+
+/// What the seats of those records had seen meets what the law of it asks.
+pub fn worked_is_seen()
+    ensures { WorkedIsSeen }
+{}
+
+/// The law that the cells are those of a legal run, from the cells' list and the answers.
+pub fn cells_follow()
+    ensures { CellsFollow }
+{}
+
+/// The law that the words of a closed region end with each standing title's history, and hold the run, by what the close
+/// tells its seat.
+pub fn closes_holding()
+    ensures { ClosesHolding }
+{}
+
+/// The law that an entry's index is the length of its list before it, and that each entry of the pool is named once.
+pub fn indices_follow()
+    ensures { IndicesFollow }
+{}
+
+/// The law that the journals give each slot one length, and each title that was made that of its slot.
+pub fn lengths_follow()
+    ensures { LengthsFollow }
+{}
+
+/// The law that the report is right, from what threads, roots and lists say at the end of each phase.
+pub fn report_follows()
+    ensures { ReportFollows }
+{}
+
+/// The law that no log says of a title that stands that it was made raw again.
+pub fn stands_uncut()
+    ensures { StandsUncut }
+{}
+
+/// The law that the closing seat holds each title that stands and that no log names: it is with its root, or on a thread's list.
+pub fn stands_held()
+    ensures { StandsHeld }
+{}
+
+/// The law that the clauses of the pool and of the roots hold, and that the closing seat is what it is asked to be, from what
+/// each layer says.
+pub fn layers_follow()
+    ensures { LayersFollow }
+{}
+
+/// The law that each slot which a record stepped on or looked at has a partition and a length, by the journals.
+pub fn homes_follow()
+    ensures { HomesFollow }
+{}
+
+/// The law that a run is legal, and held by the closed region, of which each layer says what it is asked.
+pub fn layers_tell_all()
+    ensures { LayersTellAll }
+{}

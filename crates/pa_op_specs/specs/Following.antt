@@ -1,0 +1,31 @@
+-- What follows of ops that a worker played one after the other: in every run that fits, the rows of its registers and of its
+-- lists, that each stretch is what its answer asks for, and what it counted.
+use Rattle.std.specs.Prelude.{◌≡◌, ℕ, List, ◌++◌, Contains}
+use Rattle.pa_region.specs.declared.view.View.{View}
+use Rattle.pa_logs.specs.Told.{ToldRecord, played_in}
+use Rattle.pa_logs.specs.Touches.{AreTold}
+use Rattle.pa_logs.specs.Rows.{HasRows}
+use Rattle.pa_logs.specs.Reported.{CacheLeadsTo}
+use Rattle.pa_op_specs.specs.Stocks.{regs_of, listed_in}
+use Rattle.pa_op_specs.specs.Counts.{CountsBy}
+use Rattle.pa_op_specs.specs.Workers.{WorkerValue}
+use Rattle.pa_op_specs.specs.Outcomes.{Outcome, IsOutcome, IsSeenOf, ActsAreOf, row_facts}
+use Rattle.pa_op_specs.specs.Plays.{PlaysAll}
+
+-- A run of so many partitions became this, in which these records were made by a seat that had this view after them.
+pub record FitsAll (o : Outcome) (partitions : ℕ) (v : View) (xs : List ToldRecord) : Type 0 where
+  pub many : o.partitions ≡ partitions
+  pub run : IsOutcome o
+  pub seen : IsSeenOf o v
+  pub acts : (x : ToldRecord) → Contains xs x → ActsAreOf o x
+
+pub record PlaysFollow : Type 0 where
+  pub composes : (w u v : WorkerValue) (xs ys : List ToldRecord) → PlaysAll w xs u → PlaysAll u ys v → PlaysAll w (xs ++ ys) v
+  pub rows : (o : Outcome) (w v : WorkerValue) (xs : List ToldRecord) → PlaysAll w xs v → FitsAll o w.stock.partitions v.stock.view xs →
+      HasRows (row_facts o) (regs_of w.stock.registers) (played_in xs)
+  pub lists : (o : Outcome) (w v : WorkerValue) (xs : List ToldRecord) → PlaysAll w xs v → FitsAll o w.stock.partitions v.stock.view xs →
+      CacheLeadsTo o.partitions o.roots (listed_in w.stock) (played_in xs) (listed_in v.stock)
+  pub told : (o : Outcome) (w v : WorkerValue) (xs : List ToldRecord) → PlaysAll w xs v → FitsAll o w.stock.partitions v.stock.view xs →
+      AreTold o.sizes xs
+  pub counts : (o : Outcome) (w v : WorkerValue) (xs : List ToldRecord) → PlaysAll w xs v →
+      FitsAll o w.stock.partitions v.stock.view xs → CountsBy o.homes o.sizes (played_in xs) w.counts v.counts

@@ -1,0 +1,104 @@
+-- What an op of a worker says of its own seat: its record, the stretch of its thread's log, and what these are in any run.
+use Rattle.std.specs.Prelude.{◌≡◌, ℕ, ◌+◌, ◌<◌, ◌≤◌, ◌==◌, List, [], ◌∷◌, ◌++◌, if◌then◌else◌, Some, Contains}
+use Rattle.pa_machine.specs.declared.title.Title.{Title}
+use Rattle.pa_machine.specs.declared.word.Step.{Step}
+use Rattle.pa_machine.specs.Count.{number_of}
+use Rattle.pa_machine.specs.Run.{Mark}
+use Rattle.pa_trace.specs.declared.script.Op.{Op}
+use Rattle.pa_record.specs.declared.entry.Answer.{Answer}
+use Rattle.pa_record.specs.declared.root.RootEntry.{RootEntry}
+use Rattle.pa_record.specs.Numbers.{root_numbers}
+use Rattle.pa_trace.specs.Limits.{most_partitions}
+use Rattle.pa_region.specs.declared.view.Entry.TheVariants.{Counted, Looked}
+use Rattle.pa_region.specs.declared.view.Made.{Made}
+use Rattle.pa_region.specs.declared.view.View.{View}
+use Rattle.pa_region.specs.Views.{seen_among, seen_of, stake_of}
+use Rattle.pa_region.specs.Lists.{list_of, entered_in, IsBeginning}
+use Rattle.pa_region.specs.Takes.{log_of}
+use Rattle.pa_rules.specs.Played.{entry_of, mark_of}
+use Rattle.pa_rules.specs.Registers.{Row}
+use Rattle.pa_rules.specs.Caches.{CacheRow}
+use Rattle.pa_rules.specs.Roots.{MakesEntry}
+use Rattle.pa_rules.specs.Report.{HasSize}
+use Rattle.pa_legal.specs.Known.{UnmapsNext}
+use Rattle.pa_logs.specs.Told.{ToldRecord}
+use Rattle.pa_logs.specs.Touches.{IsTold}
+use Rattle.pa_logs.specs.Said.{ReadsIts}
+use Rattle.pa_op_specs.specs.Stocks.{StockValue, regs_of, listed_in}
+use Rattle.pa_op_specs.specs.Counts.{CountsBy}
+use Rattle.pa_op_specs.specs.Workers.{WorkerValue}
+use Rattle.pa_op_specs.specs.Outcomes.{Outcome, FitsRun, row_facts}
+use Rattle.pa_op_specs.specs.Entering.{EntersOwn, EntersAtHome}
+
+-- What the seat had seen before the op, and after it. What the record hands on isn't more than it has seen then, and for an
+-- exchange it is what its entry carries.
+--   steps, looks: none found less than was seen before, and what it left is handed on
+--   grows: what was seen is handed on
+pub record HasSeenFor (v after : View) (x : ToldRecord) : Type 0 where
+  pub saw : (t : Title) → x.saw t ≡ seen_of v t
+  pub knows : (t : Title) → x.gives t ≤ seen_of after t
+  pub carries : (m : Made) (t : Title) → Contains (entered_in 5 x.stretch) m → x.gives t ≡ seen_among t m.seen
+  pub steps : (t : Title) (step : Step) (found value : ℕ) → Contains x.stretch (Counted t step found value) →
+      (x.saw t ≤ number_of found) × (number_of found + 1 ≤ x.gives t)
+  pub looks : (t : Title) (found : ℕ) → Contains x.stretch (Looked t found) → (x.saw t ≤ number_of found) × (number_of found ≤ x.gives t)
+  pub grows : (t : Title) → x.saw t ≤ x.gives t
+
+-- What the record is in a run that became this.
+--   told: its stretch is what its answer asks for
+--   row, lists: its answer and what it entered are those that its thread's registers and lists ask for, and lead to the next
+--   reader: a read was made through its register
+--   unmaps: a direct map that it gives back is named at the number that its step left
+--   makes: what it entered in a journal its op makes
+--   home: a slot that it stepped on or looked at is of some partition, and has its length
+pub record AnswersIn (o : Outcome) (before after : StockValue) (x : ToldRecord) : Type 0 where
+  pub told : IsTold o.sizes x
+  pub row : Row (row_facts o) x.played.op (regs_of before.registers) x.played.answer (regs_of after.registers)
+  pub lists : CacheRow o.partitions o.roots x.played x.played.answer (listed_in before) (listed_in after)
+  pub reader : ReadsIts o.sizes (regs_of before.registers) x.played.op x
+  pub unmaps : UnmapsNext o.roots x.played
+  pub makes : (p : ℕ) (m : Made) (e : RootEntry) → p < most_partitions → Contains (entered_in p x.stretch) m → m.numbers ≡ root_numbers e →
+      MakesEntry o.pools p e.act x.played.op
+  pub home : (m : Mark) → mark_of x.played ≡ Some m → (p : ℕ) × HasSize o.roots p m.slot (o.sizes m.slot)
+
+-- What an op did with the worker's stock, and the told record that it is.
+--   thread, same: the record is of the worker's thread
+--   stakes: which stays
+--   logs: the log of its stake has the stretch more, and no other log
+--   lists: it forgets nothing of any list
+--   seen, enters: what its seat had seen, and what it entered
+--   homes: in the list of a partition past the run's nothing, or its seat had seen an entry there before
+--   answers: in every run that fits, all is as the rules ask
+pub record Does (before after : StockValue) (x : ToldRecord) : Type 0 where
+  pub thread : x.played.thread ≡ before.thread
+  pub same : (after.thread ≡ before.thread) × (after.partitions ≡ before.partitions)
+  pub stakes : (k : ℕ) → stake_of after.view k ≡ stake_of before.view k
+  pub logs : (k : ℕ) → log_of k after.view ≡ log_of k before.view ++ (if k == before.thread then x.stretch else [])
+  pub lists : (k : ℕ) → IsBeginning (list_of k before.view) (list_of k after.view)
+  pub seen : HasSeenFor before.view after.view x
+  pub enters : EntersOwn (λ k. list_of k after.view) x
+  pub homes : EntersAtHome before x
+  pub answers : (o : Outcome) → FitsRun o before.partitions after.view x → AnswersIn o before after x
+
+-- so an op on this line does, with this answer, in whatever phase the line stands
+abbrev pub DoesOp : (line : ℕ) → Op → Answer → (before after : StockValue) → Type 0
+DoesOp line op answer before after =
+    (phase : ℕ) → (x : ToldRecord)
+    × (x.played ≡ record { line = line; thread = before.thread; phase = phase; op = op; answer = answer }) × Does before after x
+
+-- An op was played: the worker has its record besides; its counts grew by the record's step, in every run that fits; and all else is
+-- what the op did with its stock.
+pub record PlaysOne (before after : WorkerValue) (x : ToldRecord) : Type 0 where
+  pub records : after.records ≡ before.records ++ entry_of x.played ∷ []
+  pub does : Does before.stock after.stock x
+  pub counts : (o : Outcome) → FitsRun o before.stock.partitions after.stock.view x →
+      CountsBy o.homes o.sizes (x.played ∷ []) before.counts after.counts
+
+abbrev pub PlaysOp : (line : ℕ) → Op → Answer → (before after : WorkerValue) → Type 0
+PlaysOp line op answer before after =
+    (phase : ℕ) → (x : ToldRecord)
+    × (x.played ≡ record { line = line; thread = before.stock.thread; phase = phase; op = op; answer = answer }) × PlaysOne before after x
+
+-- these ops were played, one after the other
+abbrev pub PlaysAll : WorkerValue → List ToldRecord → WorkerValue → Type 0
+PlaysAll w [] after = after ≡ w
+PlaysAll w (x ∷ xs) after = (next : WorkerValue) × PlaysOne w next x × PlaysAll next xs after

@@ -1,0 +1,54 @@
+-- A worker, as contracts see it, and what is always true of it.
+use Rattle.std.specs.Prelude.{◌≡◌, ℕ, ◌+◌, ◌<◌, ◌≤◌, List, [], Bool, false, length}
+use Rattle.pa_record.specs.declared.entry.Entry.{Entry}
+use Rattle.pa_region.specs.declared.view.View.{View}
+use Rattle.pa_region.specs.Views.{stake_of}
+use Rattle.pa_op_specs.specs.declared.counts.Count.{Count}
+use Rattle.pa_op_specs.specs.Counts.{AreOfSteps, counted_in, no_count}
+use Rattle.pa_op_specs.specs.Stocks.{StockValue, IsStock, IsNewStock}
+
+-- A worker: its stock; its records so far, and for how many in all there is room; whether an op answered want of memory; and what
+-- it counted of its steps, for each of 4 partitions.
+pub record WorkerValue : Type 0 where
+  pub stock : StockValue
+  pub records : List Entry
+  pub room : ℕ
+  pub stopped : Bool
+  pub counts : List Count
+
+-- What is always true of it. There is a counted step in its budget for each record to come, and it counted at most one step for each
+-- record.
+pub record IsWorker (w : WorkerValue) : Type 0 where
+  pub stock : IsStock w.stock
+  pub budget : w.room ≤ length w.records + w.stock.view.budget
+  pub counts : AreOfSteps (length w.records) w.counts
+
+-- it has its stake
+abbrev pub HasItsStake : StockValue → Type 0
+HasItsStake s = 0 < stake_of s.view s.thread
+
+-- it can play an op: it isn't stopped, it has its stake, and there is room for one record more
+pub record CanPlayOp (w : WorkerValue) : Type 0 where
+  pub going : w.stopped ≡ false
+  pub stake : HasItsStake w.stock
+  pub room : length w.records < w.room
+
+-- After an op that didn't want for memory it isn't stopped, has its stake and one record more, and room for as many in all as
+-- before.
+pub record KeepsOn (before after : WorkerValue) : Type 0 where
+  pub going : after.stopped ≡ false
+  pub stake : HasItsStake after.stock
+  pub count : length after.records ≡ length before.records + 1
+  pub room : after.room ≡ before.room
+
+-- the worker with another view of its seat
+abbrev pub worker_with_view : View → WorkerValue → WorkerValue
+worker_with_view v w = record w { stock = record w.stock { view = v } }
+
+-- a worker that has played nothing
+pub record IsNewWorker (thread partitions lines : ℕ) (v : View) (w : WorkerValue) : Type 0 where
+  pub stock : IsNewStock thread partitions v w.stock
+  pub records : w.records ≡ []
+  pub room : w.room ≡ lines
+  pub going : w.stopped ≡ false
+  pub counts : (p : ℕ) → counted_in w.counts p ≡ no_count

@@ -1,8 +1,0 @@
-//! What follows of a worker's ops, as laws: calls that do nothing, and whose clauses are proved.
-ghost use Rattle.pa_plays.specs.Following.{PlaysFollow};
-
-/// The law that ops which were played one after the other give the rows of registers and of lists in every run that fits, and
-/// that each stretch is then what its answer asks for.
-pub fn plays_follow()
-    ensures { PlaysFollow }
-{}

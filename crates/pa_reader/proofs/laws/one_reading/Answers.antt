@@ -1,5 +1,0 @@
-use Rattle.pa_reader.proofs.OneReading.{one_reading}
-use Rattle.pa_reader.proofs.laws.one_reading.Goals as goal
-
-pub returns : goal.returns
-returns c = one_reading

@@ -1,0 +1,5 @@
+use Rattle.pa_run_reader.proofs.OneReading.{one_reading}
+use Rattle.pa_run_reader.proofs.laws.one_reading.Goals as goal
+
+pub returns : goal.returns
+returns c = one_reading

@@ -1,5 +1,0 @@
-use Rattle.pa_plays.specs.Stocks.{AreNoLists}
-use Rattle.pa_stock.proofs.opening.no_lists.Given as goal
-
-abbrev pub invariant-loop-place : goal.invariant-loop-place
-invariant-loop-place l = AreNoLists l.place l.caches.items

@@ -1,0 +1,124 @@
+-- An issue of a free title to a register: that it can be made, and the stock after it.
+use Rattle.std.proofs.Common.{◌≡◌, ℕ, ◌-◌, ◌<◌, ◌≤◌, true, List, ◌∷◌, length, refl, sym, ◌∙◌, ap, subst, arith, inl, inr}
+use Rattle.std.specs.Prelude.{Contains, slice_set}
+use Rattle.std.specs.List.{sum_by}
+use Rattle.std.proofs.lemmas.List.{length-set}
+use Rattle.std.proofs.lemmas.List.Sums.{sum_by-cons}
+use Rattle.pa_machine.specs.declared.title.Title.{Title}
+use Rattle.pa_machine.specs.declared.title.OwnState.TheVariants.{Clean}
+use Rattle.pa_machine.specs.declared.word.Step.TheVariants as steps
+use Rattle.pa_machine.specs.Count.{number_of}
+use Rattle.pa_machine.specs.Titles.{same_title, HasContentFrom}
+use Rattle.pa_machine.specs.Holdings.{one}
+use Rattle.pa_machine.proofs.Same.{title_tells}
+use Rattle.pa_record.specs.declared.entry.Answer.TheVariants as answers
+use Rattle.pa_region.specs.declared.view.OwnTitle.{OwnTitle}
+use Rattle.pa_region.specs.declared.view.View.{View}
+use Rattle.pa_region.specs.Views.{HasStake, free_of, seen_of}
+use Rattle.pa_region.specs.Waiting.{is_unclean}
+use Rattle.pa_region.specs.Aware.{IsAware}
+use Rattle.pa_region.specs.Moves.{CanCount, IsFound, after_count}
+use Rattle.pa_region.specs.Leaves.{CountLeaves, LeavesCount}
+use Rattle.pa_quarantine.specs.Filling.{zeroed}
+use Rattle.pa_cells.specs.declared.handle.Handle.{Handle}
+use Rattle.pa_rules.specs.declared.register.Register.TheVariants.{Empty, Own}
+use Rattle.pa_op_specs.specs.Stocks.{StockRegister, StockValue, IsStock, HasNoHandle, register_in, owns_one, refs_one, titles_in, listed_slot}
+use Rattle.pa_op_specs.specs.Workers.{HasItsStake}
+use Rattle.pa_thread_state.specs.Changes.{IsBack}
+use Rattle.pa_thread_state.specs.Allocating.{Issues}
+use Rattle.pa_op_specs.proofs.Registers.{sum_set, made_set}
+use Rattle.pa_op_specs.proofs.Seeing.{made_kept, made_for_kept}
+use Rattle.pa_thread_state.proofs.Leaving.{least_is}
+use Rattle.pa_thread_state.proofs.Looking.{seen_at}
+use Rattle.pa_thread_state.proofs.Parking.{none_owned, none_pointed}
+
+-- the view after the content was zeroed and an issue found this word
+abbrev pub issued_view : View → Title → ℕ → View
+issued_view v t word = after_count steps.Issue t word (zeroed t v)
+
+abbrev pub issued : StockValue → Handle → ℕ → ℕ → StockValue
+issued s h r word = record s { view = issued_view s.view h.title word; registers = slice_set s.registers r (Own h) }
+
+-- it can be made
+pub can_issue : (s : StockValue) (t : Title) (z : View) → z ≡ zeroed t s.view → IsStock s → HasItsStake s → 0 < s.view.budget → 0 < free_of s.view t →
+    HasContentFrom z.words t 0 0 → CanCount steps.Issue t z
+can_issue s t z e is stake budget free content = (
+  subst (λ (v : View). 0 < free_of v t) (sym e) free,
+  subst (λ (v : View). HasStake v) (sym e) (least_is s.thread s.view is.stake stake).1,
+  subst (λ (v : View). 0 < v.budget) (sym e) budget,
+  content,
+)
+
+-- a title that is on no list isn't one that is
+pub not_listed : (s : StockValue) (h : Handle) → IsBack h s → (p c : ℕ) (u : Title) → Contains (titles_in s.caches p c) u → h.title ≡ u → ⊥
+not_listed s h back p c u among same = back.new p c (subst (λ x. Contains (titles_in s.caches p c) x) (sym same) among)
+
+-- an Own that is new is clean
+own_clean : (t : Title) (os : List OwnTitle) → sum_by (λ (o : OwnTitle). one (is_unclean o.state)) os ≡ 0 →
+    sum_by (λ (o : OwnTitle). one (is_unclean o.state)) (record { title = t; state = Clean; idle = true } ∷ os) ≡ 0
+own_clean t os none = let e = sum_by-cons (λ (o : OwnTitle). one (is_unclean o.state)) (record { title = t; state = Clean; idle = true }) os in omega arith
+
+-- the stock stays sound
+pub issued_stock : CountLeaves → (s : StockValue) (r word : ℕ) (h : Handle) → IsStock s → CanCount steps.Issue h.title (zeroed h.title s.view) → r < 64 →
+    HasNoHandle (register_in s.registers r) → IsBack h s → IsStock (issued s h r word)
+issued_stock counts s r word h is can below bare back = record {
+  partitions = is.partitions;
+  handles = record {
+    count = length-set rs r (Own h) ∙ is.handles.count;
+    owns = λ u. let a = leaves.owns u in let b = is.handles.owns u in let c = sum_set (owns_one u) rs r (Own h) Empty inside in
+        let d = none_owned u (register_in rs r) bare in omega arith;
+    refs = λ u. let a = leaves.refs u in let b = is.handles.refs u in let c = sum_set (refs_one u) rs r (Own h) Empty inside in
+        let d = none_pointed u (register_in rs r) bare in omega arith;
+    clean = own_clean t s.view.owns is.handles.clean;
+    made = made_set w rs r (Own h) inside (made_kept h s.view w refl back.made) (λ k. made_for_kept s.view w refl (register_in rs k) (is.handles.made k));
+  };
+  lists = record {
+    count = is.lists.count;
+    sound = is.lists.sound;
+    classes = is.lists.classes;
+    few = is.lists.few;
+    free = λ p c u among. still u (not_listed s h back p c u among) (is.lists.free p c u among);
+    apart = is.lists.apart;
+    made = λ p c u among. made_kept (listed_slot p c u) s.view w refl (is.lists.made p c u among);
+    well = is.lists.well;
+  };
+  stake = record { small = is.stake.small; only = λ k other. leaves.entry.stakes k ∙ is.stake.only k other };
+}
+  where
+    t : Title
+    t = h.title
+
+    w : View
+    w = issued_view s.view t word
+
+    leaves : LeavesCount steps.Issue h.title word (zeroed h.title s.view) (issued_view s.view h.title word)
+    leaves = counts steps.Issue t word (zeroed t s.view) can
+
+    rs : List StockRegister
+    rs = s.registers
+
+    inside : r < length rs
+    inside = let n = is.handles.count in omega arith
+
+    still : (u : Title) → (t ≡ u → ⊥) → 0 < free_of s.view u → 0 < free_of w u
+    still u other free = elim (title_tells t u) [
+      | inl y ↦ absurd (other y.1)
+      | inr n ↦ (let e = leaves.frees u in let f : one (same_title t u) ≡ 0 = ap one n.0 in omega arith)
+    ]
+
+-- ---- by what the calls say
+
+-- what an issue is, by what the calls of the seat say of its view
+pub issues : (s : StockValue) (r word : ℕ) (h : Handle) (z w : View) → z ≡ zeroed h.title s.view → w ≡ after_count steps.Issue h.title word z →
+    CanCount steps.Issue h.title z → IsFound h.title word z → IsAware z → 16 ≤ h.title.len →
+    Issues h r (answers.Made (seen_at h word) (h.title.len - 8)) s (record s { view = w; registers = slice_set s.registers r (Own h) })
+issues s r word h z w zeros is can found aware long = record {
+  seen = seen_at h word;
+  answer_is = refl;
+  long = long;
+  slot = refl;
+  after_is = ap (λ v. record s { view = v; registers = slice_set s.registers r (Own h) }) (is ∙ ap (after_count steps.Issue h.title word) zeros);
+  able = subst (CanCount steps.Issue h.title) zeros can;
+  found = subst (IsFound h.title word) zeros found;
+  number = ap number_of (found.known can.0) ∙ (aware.free_seen h.title can.0 ∙ ap (λ v. seen_of v h.title) zeros);
+}

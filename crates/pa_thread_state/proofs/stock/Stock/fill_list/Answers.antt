@@ -1,0 +1,23 @@
+use Rattle.std.proofs.Common.{sym, subst, ap, ◌∙◌}
+use Rattle.std.specs.Prelude.{List}
+use Rattle.pa_machine.specs.declared.title.Title.{Title}
+use Rattle.pa_thread_state.specs.Allocating.{CanLoad, with_listed}
+use Rattle.pa_thread_state.proofs.Allocated.{fill_can_load, fills_list}
+use Rattle.pa_thread_state.proofs.stock.Stock.fill_list.Goals as goal
+
+pub receive-requires-clause-only : goal.receive-requires-clause-only
+receive-requires-clause-only g c = (c.in-Ok.titles.items, c.in-Ok.ensures.gave.has)
+
+pub load-requires : goal.load-requires
+load-requires g c =
+    subst (λ (ts : List Title). CanLoad c.args.partition c.args.class ts c.receive.new.self) (sym c.as_slice.ensures.value)
+    (fill_can_load c.args.line c.args.partition c.args.class c.args.self.now c.ask_fill.new.self c.receive.new.self c.in-Ok.note.view c.in-Ok.titles.items
+    c.remove-title.result c.remove-title.new.self.items c.ask_fill.ensures.same c.in-Ok.ensures.gave c.remove-title.ensures.value c.remove-title.ensures.items
+    c.receive.ensures c.kept.ensures.stock c.kept.ensures.aware c.kept-in-Ok.ensures.aware c.kept-in-Ok-2.ensures.aware c.requires.partition c.number.ensures.bound c.requires.empty)
+
+pub returns-in-Ok-clause-filled : goal.returns-in-Ok-clause-filled
+returns-in-Ok-clause-filled g c =
+    fills_list c.args.line c.args.partition c.args.class c.args.self.now c.ask_fill.new.self c.receive.new.self c.load.new.self c.in-Ok.note.view c.in-Ok.titles.items
+    c.remove-title.result c.remove-title.new.self.items c.ask_fill.ensures.same c.in-Ok.ensures.gave c.remove-title.ensures.value c.remove-title.ensures.items
+    c.receive.ensures c.kept-in-Ok.ensures.aware c.number.ensures.bound c.requires.empty
+    (c.load.ensures.loaded ∙ ap (λ (ts : List Title). record c.receive.new.self { caches = with_listed c.args.partition c.args.class ts c.receive.new.self.caches }) c.as_slice.ensures.value)

@@ -1,0 +1,31 @@
+use Rattle.std.proofs.Common.{refl, inl, inr}
+use Rattle.pa_thread_state.proofs.Released.{not_last, free_back, free_stake}
+use Rattle.pa_thread_state.proofs.stock.Stock.free.Goals as goal
+
+pub bring_back-requires-clause-stake : goal.bring_back-requires-clause-stake
+bring_back-requires-clause-stake g c =
+    free_stake c.counted_steps_leave.ensures c.owns_change.ensures c.states_are_owns.ensures c.args.self.now c.give_up-fate.new.self
+    c.args.reg c.args.handle c.give_up-fate.result.0 c.kept.ensures.stock
+    c.requires.stake c.requires.budget c.requires.reg c.requires.handle c.give_up-fate.ensures.gone
+
+pub bring_back-requires-clause-back : goal.bring_back-requires-clause-back
+bring_back-requires-clause-back g c =
+    free_back c.args.self.now c.give_up-fate.new.self c.args.reg c.args.handle c.give_up-fate.result.0 c.kept.ensures.stock
+    c.kept.ensures.aware
+    c.requires.reg c.requires.handle c.give_up-fate.ensures.gone (c.give_up-fate.ensures.last c.in-Last.is)
+
+pub returns-in-Kept-clause-releases : goal.returns-in-Kept-clause-releases
+returns-in-Kept-clause-releases g c =
+    record {
+      between = c.give_up-fate.new.self;
+      gone = c.give_up-fate.ensures.gone;
+      back = inr ((λ back. not_last c.give_up-fate.result.1 (c.give_up-fate.ensures.fate.1 back) c.in-Kept.is), refl);
+    }
+
+pub returns-in_ok-bring_back-in-Last-clause-releases : goal.returns-in_ok-bring_back-in-Last-clause-releases
+returns-in_ok-bring_back-in-Last-clause-releases g c =
+    record {
+      between = c.give_up-fate.new.self;
+      gone = c.give_up-fate.ensures.gone;
+      back = inl (c.give_up-fate.ensures.fate.0 c.in-Last.is, c.in_ok-bring_back-in-Last.ensures.back);
+    }

@@ -1,0 +1,29 @@
+use Rattle.std.proofs.Common.{◌*◌, ◌+◌, ◌≤◌, length, refl, ◌∙◌, arith}
+use Rattle.pa_op_specs.specs.Stocks.{titles_in}
+use Rattle.pa_thread_state.proofs.Tails.{some_none, some_left, some_stake, some_more, some_all}
+use Rattle.pa_thread_state.proofs.stock.Stock.give_tail.Goals as goal
+
+pub loop-done-init : goal.loop-done-init
+loop-done-init g c = record { some = some_none c.args.line c.args.partition c.args.class c.args.keep c.args.self.now; budget = refl }
+
+pub give_batch-requires-clause-stake : goal.give_batch-requires-clause-stake
+give_batch-requires-clause-stake g c =
+    some_stake c.args.line c.args.partition c.args.class c.args.keep c.loop-done.done c.args.self.now c.loop-done.self c.loop-done.invariant.some c.requires.stake
+
+pub give_batch-requires-clause-some : goal.give_batch-requires-clause-some
+give_batch-requires-clause-some g c =
+    some_left c.args.line c.args.partition c.args.class c.args.keep c.loop-done.done c.args.self.now c.loop-done.self c.loop-done.invariant.some
+    (c.batches_behind-batches.ensures.no_more c.loop-done.done c.loop-done-test.true)
+
+pub loop-done-preserved : goal.loop-done-preserved
+loop-done-preserved g c = record {
+  some = some_more c.args.line c.args.partition c.args.class c.args.keep c.loop-done.done c.args.self.now c.loop-done.self c.give_batch.new.self c.kept-in-loop-done.ensures.stock
+      c.loop-done.invariant.some c.in_ok-give_batch.ensures.gives (c.batches_behind-batches.ensures.no_more c.loop-done.done c.loop-done-test.true);
+  budget = c.give_batch.ensures.budget ∙ c.loop-done.invariant.budget;
+}
+
+pub returns-clause-gives : goal.returns-clause-gives
+returns-clause-gives g c =
+    let few : length (titles_in c.args.self.now.caches c.args.partition c.args.class) ≤ c.args.keep + 16 * c.loop-done.done =
+    let a = c.batches_behind-batches.ensures.all in let b = c.loop-done-test.false in omega arith in
+    some_all c.args.line c.args.partition c.args.class c.args.keep c.loop-done.done c.args.self.now c.loop-done.self c.loop-done.invariant.some few

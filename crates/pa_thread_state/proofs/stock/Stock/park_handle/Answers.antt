@@ -1,0 +1,49 @@
+use Rattle.std.proofs.Common.{◌≡◌, [], ◌∷◌, Some, ◌∙◌, sym, subst, ap}
+use Rattle.std.specs.Prelude.{slice_set}
+use Rattle.pa_machine.specs.declared.event.Item.{Item}
+use Rattle.pa_region.specs.declared.view.View.{View}
+use Rattle.pa_region.specs.Hands.{CanHand, left_after, given_after}
+use Rattle.pa_region.specs.Marks.{parcel_of}
+use Rattle.pa_cells.specs.Handles.{IsParked}
+use Rattle.pa_rules.specs.declared.register.Register.TheVariants.{Empty}
+use Rattle.pa_op_specs.specs.Stocks.{StockValue, IsStock, register_in}
+use Rattle.pa_op_specs.specs.Workers.{HasItsStake}
+use Rattle.pa_thread_state.specs.Exchanging.{Parks, handle_register}
+use Rattle.pa_thread_state.proofs.Parking.{can_park, parked_stock, handle_made}
+use Rattle.pa_thread_state.proofs.stock.Stock.park_handle.Goals as goal
+
+pub hand-note-requires-clause-able : goal.hand-note-requires-clause-able
+hand-note-requires-clause-able g c =
+    let i : StockValue = record { thread = c.self.inside.thread; partitions = c.self.inside.partitions; view = c.self.inside.seat.view; registers = c.self.inside.registers; caches = c.self.inside.caches.items } in
+    let has = subst (λ (z : StockValue). register_in z.registers c.args.reg ≡ handle_register c.args.own c.args.handle) (sym c.self.view_is) c.requires.handle in
+    subst (λ (x : Item). CanHand (parcel_of (x ∷ []) 0 []) i.view) (sym c.own_or_ref-item.ensures)
+    (can_park i c.args.reg c.args.own c.args.handle c.self.invariant.1 c.requires.reg has)
+
+pub invariant_of-self : goal.invariant_of-self
+invariant_of-self g c =
+    let i : StockValue = record { thread = c.self.inside.thread; partitions = c.self.inside.partitions; view = c.self.inside.seat.view; registers = c.self.inside.registers; caches = c.self.inside.caches.items } in
+    let has = subst (λ (z : StockValue). register_in z.registers c.args.reg ≡ handle_register c.args.own c.args.handle) (sym c.self.view_is) c.requires.handle in
+    let left = c.hand-note.ensures.left ∙ ap (λ (x : Item). left_after (parcel_of (x ∷ []) 0 []) i.view) c.own_or_ref-item.ensures in
+    let stake = subst (λ (z : StockValue). HasItsStake z) (sym c.self.view_is) c.requires.stake in (
+      c.hand-note.ensures.regions.0 ∙ c.self.invariant.0,
+      subst (λ (v : View). IsStock (record i { view = v; registers = slice_set i.registers c.args.reg Empty })) (sym left)
+          (parked_stock c.givers_lack_handles.ensures i c.args.reg c.args.own c.args.handle c.self.invariant.1 stake c.requires.reg has),
+    )
+
+pub returns-clause-parks : goal.returns-clause-parks
+returns-clause-parks g c =
+    let i : StockValue = record { thread = c.self.inside.thread; partitions = c.self.inside.partitions; view = c.self.inside.seat.view; registers = c.self.inside.registers; caches = c.self.inside.caches.items } in
+    let has = subst (λ (z : StockValue). register_in z.registers c.args.reg ≡ handle_register c.args.own c.args.handle) (sym c.self.view_is) c.requires.handle in
+    let left = c.hand-note.ensures.left ∙ ap (λ (x : Item). left_after (parcel_of (x ∷ []) 0 []) i.view) c.own_or_ref-item.ensures in
+    let given = c.hand-note.ensures.given ∙ ap (λ (x : Item). given_after (parcel_of (x ∷ []) 0 []) i.view) c.own_or_ref-item.ensures in
+    subst (λ (z : StockValue). Parks c.args.reg (Some (record { handle = c.args.handle; own = c.args.own; note = c.hand-note.result })) z
+    (record i { view = c.hand-note.new.seat.view; registers = slice_set i.registers c.args.reg Empty })) c.self.view_is
+    (has, given, ap (λ (v : View). record i { view = v; registers = slice_set i.registers c.args.reg Empty }) left)
+
+pub invariant_of-result : goal.invariant_of-result
+invariant_of-result g c =
+    let i : StockValue = record { thread = c.self.inside.thread; partitions = c.self.inside.partitions; view = c.self.inside.seat.view; registers = c.self.inside.registers; caches = c.self.inside.caches.items } in
+    let has = subst (λ (z : StockValue). register_in z.registers c.args.reg ≡ handle_register c.args.own c.args.handle) (sym c.self.view_is) c.requires.handle in
+    let given = c.hand-note.ensures.given ∙ ap (λ (x : Item). given_after (parcel_of (x ∷ []) 0 []) i.view) c.own_or_ref-item.ensures in
+    subst (λ (v : View). IsParked (record { handle = c.args.handle; own = c.args.own; note = record { region = c.hand-note.result.region; view = v } })) (sym given)
+    (c.what_was_handed_can_wait.ensures c.args.handle c.args.own c.hand-note.result.region 0 i.view (handle_made i c.args.reg c.args.own c.args.handle c.self.invariant.1 has))

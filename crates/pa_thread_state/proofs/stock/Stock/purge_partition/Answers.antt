@@ -1,0 +1,62 @@
+use Rattle.std.proofs.Common.{◌≡◌, ◌+◌, ◌-◌, ◌<◌, length, refl, ◌∙◌, sym, subst, ap, arith}
+use Rattle.pa_root.specs.Handing.{PurgeEnters}
+use Rattle.pa_rules.specs.Caches.{listed_slots}
+use Rattle.pa_op_specs.specs.Stocks.{StockValue, titles_in, listed_in}
+use Rattle.pa_op_specs.specs.Workers.{HasItsStake}
+use Rattle.pa_thread_state.specs.Giving.{GivesTail}
+use Rattle.pa_thread_state.specs.Purging.{PurgesRoot}
+use Rattle.pa_thread_state.proofs.Leaving.{least_is}
+use Rattle.pa_thread_state.proofs.Parking.{kept_stock}
+use Rattle.pa_thread_state.proofs.Purging.{GivesLists, lists_none, lists_stake, lists_more, slots_none, slots_more, purges_root}
+use Rattle.pa_thread_state.proofs.stock.Stock.purge_partition.Goals as goal
+
+pub loop-number-init : goal.loop-number-init
+loop-number-init g c = record { some = lists_none c.args.line c.args.partition c.args.self.now; count = slots_none c.args.self.now c.args.partition; few = omega arith; budget = refl }
+
+pub give_tail-requires-clause-stake : goal.give_tail-requires-clause-stake
+give_tail-requires-clause-stake g c =
+    lists_stake c.args.line c.args.partition c.loop-number.number c.args.self.now c.loop-number.self c.loop-number.invariant.some c.requires.stake
+
+pub loop-number-preserved : goal.loop-number-preserved
+loop-number-preserved g c =
+    let p = c.args.partition in let n = c.loop-number.number in let line = c.args.line in
+    let s = c.args.self.now in let now = c.loop-number.self in let next = c.give_tail.new.self in
+    let is = c.kept-in-loop-number.ensures.stock in
+    let below : n < 59 = c.loop-number-test.true in
+    let at = c.class_numbered-class.ensures in
+    let tail = subst (λ k. GivesTail line p k 0 now next) at c.in_ok-give_tail.ensures.gives in
+    let counted = c.count_listed-count.ensures.count ∙ ap (λ k. length (titles_in now.caches p k)) at in
+    record {
+      some = lists_more line p n s now next is c.loop-number.invariant.some tail below;
+      count = subst (λ k. (c.loop-number.slots + k) + listed_slots (listed_in s p) (n + 1) (59 - (n + 1)) ≡ listed_slots (listed_in s p) 0 59) (sym counted)
+          (slots_more line p n c.loop-number.slots s now is c.loop-number.invariant.some below c.loop-number.invariant.count);
+      few = let a = c.loop-number.invariant.few in let b = c.count_listed-count.ensures.few in omega arith;
+      budget = c.give_tail.ensures.budget ∙ c.loop-number.invariant.budget;
+    }
+
+pub purge_root-requires-clause-lender : goal.purge_root-requires-clause-lender
+purge_root-requires-clause-lender g c =
+    let i : StockValue = record { thread = c.self.inside.thread; partitions = c.self.inside.partitions; view = c.self.inside.seat.view; registers = c.self.inside.registers; caches = c.self.inside.caches.items } in
+    let has = lists_stake c.args.line c.args.partition c.loop-number.number c.args.self.now c.loop-number.self c.loop-number.invariant.some c.requires.stake in
+    let stake = subst (λ (z : StockValue). HasItsStake z) (sym c.self.view_is) has in
+    ((least_is i.thread i.view c.self.invariant.1.stake stake).1, c.self.invariant.1.handles.clean)
+
+pub invariant_of-self-2 : goal.invariant_of-self-2
+invariant_of-self-2 g c =
+    let i : StockValue = record { thread = c.self.inside.thread; partitions = c.self.inside.partitions; view = c.self.inside.seat.view; registers = c.self.inside.registers; caches = c.self.inside.caches.items } in
+    (c.purge_root.ensures.region, kept_stock c.slots_stay_seen.ensures i c.purge_root.new.seat.view c.self.invariant.1 c.in_ok-purge_root.ensures.entered.1.lends.keeps)
+
+pub returns-clause-purges : goal.returns-clause-purges
+returns-clause-purges g c =
+    let i : StockValue = record { thread = c.self.inside.thread; partitions = c.self.inside.partitions; view = c.self.inside.seat.view; registers = c.self.inside.registers; caches = c.self.inside.caches.items } in
+    let p = c.args.partition in let line = c.args.line in let s = c.args.self.now in let now = c.loop-number.self in let w = c.purge_root.new.seat.view in
+    let has = lists_stake line p c.loop-number.number s now c.loop-number.invariant.some c.requires.stake in
+    let stake = subst (λ (z : StockValue). HasItsStake z) (sym c.self.view_is) has in
+    let least = (least_is i.thread i.view c.self.invariant.1.stake stake).0 in
+    let end : c.loop-number.number ≡ 59 = let a = c.loop-number-test.false in let b = c.loop-number.auto.number-end in omega arith in
+    let some = subst (λ k. GivesLists line p k s now) end c.loop-number.invariant.some in
+    let count = subst (λ k. c.loop-number.slots + listed_slots (listed_in s p) k (59 - k) ≡ listed_slots (listed_in s p) 0 59) end c.loop-number.invariant.count in
+    let entered = subst (λ r. PurgeEnters r p line i.view w) least c.in_ok-purge_root.ensures.entered in
+    let enters = subst (λ (z : StockValue). PurgeEnters z.thread p line z.view w) c.self.view_is entered in
+    subst (λ (z : StockValue). PurgesRoot line p c.loop-number.slots s (record z { view = w })) (sym c.self.view_is)
+    (purges_root c.kept_numbers_stay.ensures s now w line p c.loop-number.slots c.kept-2.ensures.aware c.aware.ensures.aware c.requires.partition some enters count)

@@ -1,0 +1,31 @@
+use Rattle.std.proofs.Common.{refl, inl, inr}
+use Rattle.pa_thread_state.proofs.Released.{not_last, reset_back, reset_stake}
+use Rattle.pa_thread_state.proofs.stock.Stock.reset.Goals as goal
+
+pub bring_back-requires-clause-stake : goal.bring_back-requires-clause-stake
+bring_back-requires-clause-stake g c =
+    reset_stake c.counted_steps_leave.ensures c.args.self.now c.let_go-fate.new.self c.args.reg c.args.handle c.let_go-fate.result.0
+    c.kept.ensures.stock
+    c.requires.stake c.requires.budget c.requires.reg c.requires.handle c.let_go-fate.ensures.gone
+
+pub bring_back-requires-clause-back : goal.bring_back-requires-clause-back
+bring_back-requires-clause-back g c =
+    reset_back c.args.self.now c.let_go-fate.new.self c.args.reg c.args.handle c.let_go-fate.result.0 c.kept.ensures.stock
+    c.kept.ensures.aware
+    c.requires.reg c.requires.handle c.let_go-fate.ensures.gone (c.let_go-fate.ensures.last c.in-Last.is)
+
+pub returns-in-Kept-clause-releases : goal.returns-in-Kept-clause-releases
+returns-in-Kept-clause-releases g c =
+    record {
+      between = c.let_go-fate.new.self;
+      gone = c.let_go-fate.ensures.gone;
+      back = inr ((λ back. not_last c.let_go-fate.result.1 (c.let_go-fate.ensures.fate.1 back) c.in-Kept.is), refl);
+    }
+
+pub returns-in_ok-bring_back-in-Last-clause-releases : goal.returns-in_ok-bring_back-in-Last-clause-releases
+returns-in_ok-bring_back-in-Last-clause-releases g c =
+    record {
+      between = c.let_go-fate.new.self;
+      gone = c.let_go-fate.ensures.gone;
+      back = inl (c.let_go-fate.ensures.fate.0 c.in-Last.is, c.in_ok-bring_back-in-Last.ensures.back);
+    }

@@ -1,0 +1,32 @@
+use Rattle.std.proofs.Common.{◌≡◌, ◌∙◌, sym, subst}
+use Rattle.pa_region.specs.declared.view.View.{View}
+use Rattle.pa_region.specs.Views.{stake_of}
+use Rattle.pa_region.specs.Hands.{left_after, IsParted}
+use Rattle.pa_region.specs.Lending.{stake_parcel}
+use Rattle.pa_op_specs.specs.Stocks.{StockValue, IsStock, IsForThread}
+use Rattle.pa_op_specs.specs.Workers.{HasItsStake}
+use Rattle.pa_thread_state.proofs.Handing.{told_stock, told_again, told_none}
+use Rattle.pa_thread_state.proofs.stock.Stock.tell.Goals as goal
+
+pub invariant_of-self : goal.invariant_of-self
+invariant_of-self g c =
+    let i : StockValue = record { thread = c.self.inside.thread; partitions = c.self.inside.partitions; view = c.self.inside.seat.view; registers = c.self.inside.registers; caches = c.self.inside.caches.items } in (
+      c.hand.ensures.regions.0 ∙ c.self.invariant.0,
+      subst (λ (v : View). IsStock (record i { view = v })) (sym c.hand.ensures.left)
+          (told_stock i c.self.invariant.1),
+    )
+
+pub returns-clause-again : goal.returns-clause-again
+returns-clause-again g c =
+    let i : StockValue = record { thread = c.self.inside.thread; partitions = c.self.inside.partitions; view = c.self.inside.seat.view; registers = c.self.inside.registers; caches = c.self.inside.caches.items } in
+    subst (λ (z : StockValue). IsForThread z.thread c.hand.result.view) c.self.view_is
+    (subst (λ (v : View). IsForThread i.thread v) (sym c.hand.ensures.given)
+    (told_again i.thread i.view c.self.invariant.1.stake (subst HasItsStake (sym c.self.view_is) c.requires.stake)))
+
+pub returns-clause-none : goal.returns-clause-none
+returns-clause-none g c k =
+    let i : StockValue = record { thread = c.self.inside.thread; partitions = c.self.inside.partitions; view = c.self.inside.seat.view; registers = c.self.inside.registers; caches = c.self.inside.caches.items } in
+    subst (λ (v : View). stake_of v k ≡ 0) (sym c.hand.ensures.left)
+    (told_none i.thread i.view c.self.invariant.1.stake
+    (subst (λ (v : View). IsParted i.view (left_after (stake_parcel i.thread) i.view) v) c.hand.ensures.given
+    (subst (λ (v : View). IsParted i.view v c.hand.result.view) c.hand.ensures.left c.hand.ensures.parted)) k)

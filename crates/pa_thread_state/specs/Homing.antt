@@ -1,0 +1,47 @@
+-- Where a slot goes that a step returned and that its list has no room for: home to its root alone, or to the front of its list, whose
+-- tail goes home.
+use Rattle.std.specs.Prelude.{◌≡◌, ℕ, ◌-◌, ◌/◌, ◌<◌, ◌⊎◌, [], ◌∷◌, Option, Some, None}
+use Rattle.pa_machine.specs.declared.title.Title.{Title}
+use Rattle.pa_buckets.specs.Limits.{class_count}
+use Rattle.pa_buckets.specs.Bands.{limit_of}
+use Rattle.pa_region.specs.declared.view.View.{View}
+use Rattle.pa_region.specs.Hands.{left_after, given_after}
+use Rattle.pa_rules.specs.Caches.{SameLists}
+use Rattle.pa_root.specs.Filling.{frees_parcel}
+use Rattle.pa_root.specs.Handing.{GiveTakes, UnmapTakes}
+use Rattle.pa_cells.specs.declared.handle.Handle.{Handle}
+use Rattle.pa_op_specs.specs.Stocks.{StockValue, listed_in}
+use Rattle.pa_thread_state.specs.Changes.{put_in_front}
+use Rattle.pa_thread_state.specs.Giving.{GivesTail}
+
+-- What was entered for a title that came home alone in a note: a slot of a class is given, a direct map unmapped.
+abbrev pub ComesHome : Option ℕ → (r p line : ℕ) → (v after note : View) → Title → Type 0
+ComesHome None r p line v after note t = UnmapTakes r p line v after note t
+ComesHome (Some class) r p line v after note t = GiveTakes r p line v after note (t ∷ [])
+
+-- the seat without a free title, and the note that has it
+abbrev pub without_title : Title → View → View
+without_title t v = left_after (frees_parcel (t ∷ [])) v
+
+abbrev pub note_of_title : Title → View → View
+note_of_title t v = given_after (frees_parcel (t ∷ [])) v
+
+-- The seat handed the slot's title over and lent its stake for what was entered. The lists are as they were, each title at its number.
+pub record GoesHome (line : ℕ) (h : Handle) (before after : StockValue) : Type 0 where
+  pub comes : ComesHome h.class before.thread h.partition line (without_title h.title before.view) after.view
+      (note_of_title h.title before.view) h.title
+  pub same : after ≡ record before { view = after.view }
+  pub lists : SameLists (listed_in after) (listed_in before)
+
+-- All but so many titles of the slot's list went home, and then it became the front of the list: as many are left as half the limit
+-- of its class.
+pub record Spills (line : ℕ) (h : Handle) (class : ℕ) (before after : StockValue) : Type 0 where
+  pub between : StockValue
+  pub gives : GivesTail line h.partition class (limit_of class / 2 - 1) before between
+  pub front : after ≡ record between { caches = put_in_front h.partition class h.title between.caches }
+
+-- The slot is where it belongs: a direct map, or a slot of a class that keeps no list, went home; else its list spilled.
+abbrev pub IsSettled : ℕ → Handle → (before after : StockValue) → Type 0
+IsSettled line h before after =
+    (((class : ℕ) → h.class ≡ Some class → (class < class_count) × (limit_of class ≡ 0)) × GoesHome line h before after)
+    ⊎ ((class : ℕ) × (h.class ≡ Some class) × (class < class_count) × (0 < limit_of class) × Spills line h class before after)

@@ -1,0 +1,17 @@
+-- A purge of one partition: its lists go back whole, and then its root is purged.
+use Rattle.std.specs.Prelude.{◌≡◌, ℕ, ◌==◌, List, [], if◌then◌else◌}
+use Rattle.pa_machine.specs.declared.title.Title.{Title}
+use Rattle.pa_buckets.specs.Limits.{class_count}
+use Rattle.pa_rules.specs.Caches.{purge_acts, listed_slots}
+use Rattle.pa_op_specs.specs.Stocks.{StockValue, titles_in, listed_in}
+use Rattle.pa_thread_state.specs.Giving.{Gives}
+
+-- the lists without those of partition p
+abbrev pub without_lists : ℕ → (ℕ → ℕ → List Title) → ℕ → ℕ → List Title
+without_lists p lists q c = if q == p then [] else lists q c
+
+-- All lists of partition p went back, this many slots in all, and its root was purged.
+abbrev pub PurgesRoot : (line p slots : ℕ) (before after : StockValue) → Type 0
+PurgesRoot line p slots before after =
+    (slots ≡ listed_slots (listed_in before p) 0 class_count)
+    × Gives line p (purge_acts (listed_in before p) 0 class_count) (without_lists p (titles_in before.caches)) before after

@@ -1,0 +1,162 @@
+//! Single calls on the slot of a register's handle.
+ghost use Rattle.std.specs.Prelude.{◌≡◌, ℕ, ◌+◌, ◌<◌, ◌≤◌, ◌↔◌};
+ghost use Rattle.pa_trace.specs.Limits.{register_count};
+ghost use Rattle.pa_op_specs.specs.Stocks.{HasHandleTo, HasNoHandle, register_in};
+ghost use Rattle.pa_op_specs.specs.Workers.{HasItsStake};
+ghost use Rattle.pa_rules.specs.declared.register.Register.TheVariants.{Ref, Own};
+ghost use Rattle.pa_thread_state.specs.Changes.{LooksAtSlot, ReadsAt, CanFill, WritesTo, PointsTo, LetsGo};
+ghost use Rattle.pa_machine.specs.Titles.{content_count};
+ghost use Rattle.pa_machine.specs.declared.word.Step.TheVariants as steps;
+ghost use Rattle.pa_machine.specs.Run.{IsReturning};
+ghost use Rattle.pa_count.specs.declared.steps.Fate.TheVariants as fates;
+ghost use Rattle.pa_region.specs.Views.{free_of};
+ghost use Rattle.pa_quarantine.specs.Filling.{poisoned};
+ghost use Rattle.pa_rules.specs.declared.register.Register.TheVariants as registers;
+
+use crate::stock::{Stock, slot_name};
+use pa_cells::Handle;
+use pa_count::Fate;
+use pa_record::Seen;
+use pa_region::{
+    Name, Region, counted_steps_leave, entries_stand_in_logs, filled_words_have_the_value,
+    looks_leave, owns_change, states_are_owns,
+};
+use pa_rules::Register;
+
+impl<N: Name> Stock<N> {
+    /// Looks at the slot of a register's handle.
+    pub fn look(&mut self, region: &Region, handle: &Handle, reg: u32) -> Seen
+        requires region { region.now ≡ N.region }
+        requires stake { HasItsStake self.old }
+        requires reg { reg < register_count }
+        requires handle { HasHandleTo handle.now (register_in self.old.registers reg) }
+        ensures { LooksAtSlot handle.now result self.old self.new }
+    {
+        looks_leave();
+        owns_change();
+        let found = pa_count::look(region, &mut self.seat, handle.title);
+        Seen {
+            slot: slot_name(handle),
+            found,
+        }
+    }
+
+    /// Reads a word of the slot, by its number from 0, right after a look at it.
+    pub fn read_word(
+        &mut self,
+        region: &Region,
+        handle: &Handle,
+        reg: u32,
+        place: u32,
+    ) -> (Seen, u64)
+        requires region { region.now ≡ N.region }
+        requires stake { HasItsStake self.old }
+        requires reg { reg < register_count }
+        requires handle { HasHandleTo handle.now (register_in self.old.registers reg) }
+        requires place { place < content_count handle.now.title }
+        ensures { ReadsAt handle.now place result.0 result.1 self.old self.new }
+    {
+        looks_leave();
+        entries_stand_in_logs();
+        owns_change();
+        let (found, value) = pa_quarantine::read(region, &mut self.seat, handle.title, place);
+        let seen = Seen {
+            slot: slot_name(handle),
+            found,
+        };
+        (seen, value)
+    }
+
+    /// Writes the value to each word of the slot of an Own, and tells so with a step.
+    pub fn fill(&mut self, region: &Region, handle: &Handle, reg: u32, value: u64) -> Seen
+        requires region { region.now ≡ N.region }
+        requires stake { HasItsStake self.old }
+        requires budget { 0 < self.old.view.budget }
+        requires reg { reg < register_count }
+        requires handle { register_in self.old.registers reg ≡ Own handle.now }
+        requires can { CanFill handle.now self.old }
+        ensures { WritesTo handle.now value result self.old self.new }
+    {
+        owns_change();
+        counted_steps_leave();
+        states_are_owns();
+        filled_words_have_the_value();
+        self.placed(handle, reg);
+        let found = pa_quarantine::write(region, &mut self.seat, handle.title, value);
+        Seen {
+            slot: slot_name(handle),
+            found,
+        }
+    }
+
+    /// Makes the second register a `raw_ptr` to the slot of which the first has a handle.
+    pub fn point(&mut self, region: &Region, handle: Handle, from: u32, to: u32) -> Seen
+        requires region { region.now ≡ N.region }
+        requires stake { HasItsStake self.old }
+        requires budget { 0 < self.old.view.budget }
+        requires registers { (from < register_count) × (to < register_count) }
+        requires handle { HasHandleTo handle (register_in self.old.registers from) }
+        requires none { HasNoHandle (register_in self.old.registers to) }
+        ensures points { PointsTo handle to result self.old self.new }
+        ensures budget { self.old.view.budget ≤ self.new.view.budget + 1 }
+    {
+        counted_steps_leave();
+        owns_change();
+        self.kept();
+        let found = pa_count::copy(region, &mut self.seat, handle.title);
+        self.registers[to as usize] = Register::Ref(handle);
+        Seen {
+            slot: slot_name(&handle),
+            found,
+        }
+    }
+
+    // The step of a reset: the register is cleared, and `Last` says that the step returned the slot.
+    pub(crate) fn let_go(&mut self, region: &Region, handle: &Handle, reg: u32) -> (Seen, Fate)
+        requires region { region.now ≡ N.region }
+        requires stake { HasItsStake self.old }
+        requires budget { 0 < self.old.view.budget }
+        requires reg { reg < register_count }
+        requires handle { register_in self.old.registers reg ≡ registers.Ref handle.now }
+        ensures gone { LetsGo steps.Reset handle.now reg registers.Cleared self.old.view result.0 self.old self.new }
+        ensures fate { (result.1 ≡ fates.Last) ↔ IsReturning steps.Reset result.0.found.0 }
+        ensures last { result.1 ≡ fates.Last → free_of self.new.view handle.now.title ≡ 1 }
+        ensures budget { self.old.view.budget ≤ self.new.view.budget + 1 }
+    {
+        counted_steps_leave();
+        owns_change();
+        self.kept();
+        let (found, fate) = pa_quarantine::release(region, &mut self.seat, handle.title);
+        self.registers[reg as usize] = Register::Cleared;
+        let seen = Seen {
+            slot: slot_name(handle),
+            found,
+        };
+        (seen, fate)
+    }
+
+    // Poisons the content of an Own, and frees it in one step. `Last` says that this returned the slot.
+    pub(crate) fn give_up(&mut self, region: &Region, handle: &Handle, reg: u32) -> (Seen, Fate)
+        requires region { region.now ≡ N.region }
+        requires stake { HasItsStake self.old }
+        requires budget { 0 < self.old.view.budget }
+        requires reg { reg < register_count }
+        requires handle { register_in self.old.registers reg ≡ registers.Own handle.now }
+        ensures gone { LetsGo steps.Free handle.now reg registers.Freed (poisoned handle.now.title self.old.view) result.0 self.old self.new }
+        ensures fate { (result.1 ≡ fates.Last) ↔ IsReturning steps.Free result.0.found.0 }
+        ensures last { result.1 ≡ fates.Last → free_of self.new.view handle.now.title ≡ 1 }
+        ensures budget { self.old.view.budget ≤ self.new.view.budget + 1 }
+    {
+        counted_steps_leave();
+        owns_change();
+        states_are_owns();
+        self.kept();
+        let (found, fate) = pa_quarantine::free_owned(region, &mut self.seat, handle.title);
+        self.registers[reg as usize] = Register::Freed;
+        let seen = Seen {
+            slot: slot_name(handle),
+            found,
+        };
+        (seen, fate)
+    }
+}

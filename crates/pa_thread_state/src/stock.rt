@@ -1,0 +1,124 @@
+ghost use Rattle.std.specs.Prelude.{◌≡◌, ℕ, ◌<◌, ◌≤◌, length};
+ghost use Rattle.pa_machine.specs.Titles.{IsWellFormed};
+ghost use Rattle.pa_layout.specs.Limits.{most_words};
+ghost use Rattle.pa_record.specs.Spans.{name_of};
+ghost use Rattle.pa_trace.specs.Limits.{register_count};
+ghost use Rattle.pa_region.specs.Aware.{IsAware};
+ghost use Rattle.pa_region.specs.Lending.{CanHost};
+ghost use Rattle.pa_region.specs.Views.{HasTitle, stake_of};
+ghost use Rattle.pa_region.specs.Shares.{byte_word_count};
+ghost use Rattle.pa_op_specs.specs.Stocks.{IsStock, HasHandleTo, register_in};
+
+use pa_cache::Cache;
+use pa_cells::Handle;
+use pa_machine::{SlotName, Title};
+use pa_region::{Name, Note, Seat};
+use pa_rules::Register;
+use std::marker::{Model, PhantomData};
+
+/// A worker's stock: its seat, its registers and its lists of free slots, with the number of its thread and of the run's
+/// partitions. `N` names the region.
+#[derive(Drop)]
+pub struct Stock<N: Name> {
+    pub(crate) thread: u32,
+    pub(crate) partitions: u32,
+    pub(crate) seat: Seat,
+    pub(crate) registers: [Register<Handle>; 64],
+    pub(crate) caches: Vec<Cache>,
+    pub(crate) of: PhantomData<N>,
+}
+
+impl<N: Name> Model for Stock<N> {
+    ghost use Rattle.std.specs.Prelude.{◌≡◌};
+    ghost use Rattle.pa_op_specs.specs.Stocks.{StockValue, IsStock};
+
+    ghost Value = { StockValue };
+
+    ghost view = { λ s.
+        record { thread = s.thread; partitions = s.partitions; view = s.seat.view; registers = s.registers; caches = s.caches.items } };
+
+    ghost invariant = { λ s. (s.seat.region ≡ N.region)
+        × IsStock (record { thread = s.thread; partitions = s.partitions; view = s.seat.view; registers = s.registers; caches = s.caches.items }) };
+}
+
+impl<N: Name> Stock<N> {
+    /// What the type keeps, and the type of its seat. It costs nothing.
+    pub fn kept(&self)
+        ensures stock { IsStock self.now }
+        ensures aware { IsAware self.now.view }
+        ensures long { length self.now.view.words ≡ byte_word_count N.region }
+    {
+        self.seat.aware();
+    }
+
+    /// The number of its thread.
+    pub fn thread(&self) -> u32
+        ensures { result ≡ self.now.thread }
+    {
+        self.thread
+    }
+
+    /// How many partitions the run has.
+    pub fn partitions(&self) -> u32
+        ensures { result ≡ self.now.partitions }
+    {
+        self.partitions
+    }
+
+    /// The title of which a register has a handle is well formed, and the seat's list of words is as long as its region's. It
+    /// costs nothing.
+    pub fn placed(&self, handle: &Handle, reg: u32)
+        requires reg { reg < register_count }
+        requires handle { HasHandleTo handle.now (register_in self.now.registers reg) }
+        ensures small { byte_word_count N.region ≤ most_words }
+        ensures well { IsWellFormed (byte_word_count N.region) handle.now.title }
+        ensures long { length self.now.view.words ≡ byte_word_count N.region }
+    {
+        let _ = reg;
+        self.seat.placed(handle.title);
+    }
+
+    /// A title that the seat has is well formed. It costs nothing.
+    pub fn lies(&self, title: Title)
+        requires { HasTitle self.now.view title }
+        ensures { IsWellFormed (byte_word_count N.region) title }
+    {
+        self.seat.placed(title);
+    }
+
+    /// What a register has, by its number, 0 to 63.
+    pub fn register(&self, reg: u32) -> Register<Handle>
+        requires reg { reg < register_count }
+        ensures { result ≡ register_in self.now.registers reg }
+    {
+        self.registers[reg as usize]
+    }
+
+    /// Its seat, once its stake is handed over.
+    pub fn into_note(self) -> Note
+        requires { (k : ℕ) → stake_of self.view k ≡ 0 }
+        ensures region { result.region ≡ N.region }
+        ensures same { result.view ≡ self.view }
+        ensures host { CanHost result.view }
+    {
+        let Stock {
+            thread: _,
+            partitions: _,
+            seat,
+            registers: _,
+            caches: _,
+            of: _,
+        } = self;
+        seat.note()
+    }
+}
+
+// The name of a handle's slot.
+pub(crate) fn slot_name(handle: &Handle) -> SlotName
+    ensures { result ≡ name_of handle.now.title }
+{
+    SlotName {
+        start: handle.title.start,
+        born: handle.title.born,
+    }
+}

@@ -1,0 +1,56 @@
+ghost use Rattle.std.specs.Prelude.{◌≡◌, ◌<◌};
+ghost use Rattle.pa_trace.specs.Limits.{register_count, most_partitions};
+ghost use Rattle.pa_op_specs.specs.Stocks.{HasNoHandle, register_in};
+ghost use Rattle.pa_op_specs.specs.Workers.{HasItsStake};
+ghost use Rattle.pa_thread_state.specs.Changes.{IsBack};
+ghost use Rattle.pa_thread_state.specs.Allocating.{Pops, Issues};
+
+use crate::listing::place_of;
+use crate::stock::{Stock, slot_name};
+use pa_buckets::Class;
+use pa_cells::Handle;
+use pa_machine::Title;
+use pa_record::{Answer, Seen};
+use pa_region::{Name, Region, counted_steps_leave, filled_words_have_the_value};
+use pa_rules::Register;
+
+impl<N: Name> Stock<N> {
+    /// Takes the front of the list of a partition and a class off it. `None` exactly where it is empty.
+    pub fn pop(&mut self, region: &Region, partition: u32, class: Class) -> Option<Title>
+        requires region { region.now ≡ N.region }
+        requires partition { partition < most_partitions }
+        ensures { Pops partition class result self.old self.new }
+    {
+        self.kept();
+        let place = place_of(partition, class);
+        let cache = &mut self.caches[place];
+        cache.kept();
+        let front = cache.pop(region, &mut self.seat);
+        cache.kept();
+        front
+    }
+
+    /// Issues the free title of a slot, and the register owns it: its content is zeroed before.
+    pub fn issue(&mut self, region: &Region, handle: Handle, reg: u32) -> Answer
+        requires region { region.now ≡ N.region }
+        requires stake { HasItsStake self.old }
+        requires budget { 0 < self.old.view.budget }
+        requires reg { reg < register_count }
+        requires none { HasNoHandle (register_in self.old.registers reg) }
+        requires back { IsBack handle self.old }
+        ensures { Issues handle reg result self.old self.new }
+    {
+        counted_steps_leave();
+        filled_words_have_the_value();
+        self.kept();
+        self.seat.placed(handle.title);
+        pa_quarantine::zero_fill(region, &mut self.seat, handle.title);
+        self.seat.aware();
+        let found = pa_count::issue(region, &mut self.seat, handle.title);
+        self.registers[reg as usize] = Register::Own(handle);
+        let slot = slot_name(&handle);
+        let seen = Seen { slot, found };
+        let usable = handle.title.len - 8;
+        Answer::Made { seen, usable }
+    }
+}

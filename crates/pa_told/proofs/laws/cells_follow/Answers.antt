@@ -1,5 +1,0 @@
-use Rattle.pa_told.proofs.Celling.{cells_follow}
-use Rattle.pa_told.proofs.laws.cells_follow.Goals as goal
-
-pub returns : goal.returns
-returns c = cells_follow

@@ -1,5 +1,0 @@
-use Rattle.pa_told.proofs.Closing.{closes_holding}
-use Rattle.pa_told.proofs.laws.closes_holding.Goals as goal
-
-pub returns : goal.returns
-returns c = closes_holding

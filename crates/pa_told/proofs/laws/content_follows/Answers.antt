@@ -1,5 +1,0 @@
-use Rattle.pa_told.proofs.Contents.{content_follows}
-use Rattle.pa_told.proofs.laws.content_follows.Goals as goal
-
-pub returns : goal.returns
-returns c = content_follows

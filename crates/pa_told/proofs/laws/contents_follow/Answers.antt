@@ -1,5 +1,0 @@
-use Rattle.pa_told.proofs.Readers.{contents_follow}
-use Rattle.pa_told.proofs.laws.contents_follow.Goals as goal
-
-pub returns : goal.returns
-returns c = contents_follow

@@ -1,5 +1,0 @@
-use Rattle.pa_told.proofs.Listing.{entries_in_order}
-use Rattle.pa_told.proofs.laws.entries_in_order.Goals as goal
-
-pub returns : goal.returns
-returns c = entries_in_order

@@ -1,5 +1,0 @@
-use Rattle.pa_told.proofs.Histories.{histories_follow}
-use Rattle.pa_told.proofs.laws.histories_follow.Goals as goal
-
-pub returns : goal.returns
-returns c = histories_follow

@@ -1,5 +1,0 @@
-use Rattle.pa_told.proofs.Homing.{homes_follow}
-use Rattle.pa_told.proofs.laws.homes_follow.Goals as goal
-
-pub returns : goal.returns
-returns c = homes_follow

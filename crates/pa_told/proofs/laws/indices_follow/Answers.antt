@@ -1,5 +1,0 @@
-use Rattle.pa_told.proofs.Indexing.{indices_follow}
-use Rattle.pa_told.proofs.laws.indices_follow.Goals as goal
-
-pub returns : goal.returns
-returns c = indices_follow

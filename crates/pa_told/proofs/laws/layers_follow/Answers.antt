@@ -1,5 +1,0 @@
-use Rattle.pa_told.proofs.Layering.{layers_follow}
-use Rattle.pa_told.proofs.laws.layers_follow.Goals as goal
-
-pub returns : goal.returns
-returns c = layers_follow

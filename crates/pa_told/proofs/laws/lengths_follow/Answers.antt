@@ -1,5 +1,0 @@
-use Rattle.pa_told.proofs.Sizing.{lengths_follow}
-use Rattle.pa_told.proofs.laws.lengths_follow.Goals as goal
-
-pub returns : goal.returns
-returns c = lengths_follow

@@ -1,5 +1,0 @@
-use Rattle.pa_told.proofs.Logs.{logs_are_told}
-use Rattle.pa_told.proofs.laws.logs_are_told.Goals as goal
-
-pub returns : goal.returns
-returns c = logs_are_told

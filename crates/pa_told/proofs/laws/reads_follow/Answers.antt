@@ -1,5 +1,0 @@
-use Rattle.pa_told.proofs.Reading.{reads_follow}
-use Rattle.pa_told.proofs.laws.reads_follow.Goals as goal
-
-pub returns : goal.returns
-returns c = reads_follow

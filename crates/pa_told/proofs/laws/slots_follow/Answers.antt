@@ -1,5 +1,0 @@
-use Rattle.pa_told.proofs.Slots.{slots_follow}
-use Rattle.pa_told.proofs.laws.slots_follow.Goals as goal
-
-pub returns : goal.returns
-returns c = slots_follow

@@ -1,5 +1,0 @@
-use Rattle.pa_told.proofs.Keeping.{stands_held}
-use Rattle.pa_told.proofs.laws.stands_held.Goals as goal
-
-pub returns : goal.returns
-returns c = stands_held

@@ -1,5 +1,0 @@
-use Rattle.pa_told.proofs.Uncutting.{stands_uncut}
-use Rattle.pa_told.proofs.laws.stands_uncut.Goals as goal
-
-pub returns : goal.returns
-returns c = stands_uncut

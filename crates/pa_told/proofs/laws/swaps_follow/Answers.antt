@@ -1,5 +1,0 @@
-use Rattle.pa_told.proofs.Swapping.{swaps_follow}
-use Rattle.pa_told.proofs.laws.swaps_follow.Goals as goal
-
-pub returns : goal.returns
-returns c = swaps_follow

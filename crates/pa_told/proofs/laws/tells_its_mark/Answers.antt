@@ -1,5 +1,0 @@
-use Rattle.pa_told.proofs.Marks.{tells_its_mark}
-use Rattle.pa_told.proofs.laws.tells_its_mark.Goals as goal
-
-pub returns : goal.returns
-returns c = tells_its_mark

@@ -1,5 +1,0 @@
-use Rattle.pa_told.proofs.Worked.{worked_is_read_off}
-use Rattle.pa_told.proofs.laws.worked_is_read_off.Goals as goal
-
-pub returns : goal.returns
-returns c = worked_is_read_off

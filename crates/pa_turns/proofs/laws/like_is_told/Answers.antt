@@ -1,5 +1,0 @@
-use Rattle.pa_turns.proofs.Starting.{like_is_told}
-use Rattle.pa_turns.proofs.laws.like_is_told.Goals as goal
-
-pub returns : goal.returns
-returns c = like_is_told

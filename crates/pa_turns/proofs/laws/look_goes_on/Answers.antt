@@ -1,5 +1,0 @@
-use Rattle.pa_turns.proofs.Looking.{look_goes_on}
-use Rattle.pa_turns.proofs.laws.look_goes_on.Goals as goal
-
-pub returns : goal.returns
-returns c = look_goes_on

@@ -1,5 +1,0 @@
-use Rattle.pa_turns.proofs.Ops.{made_goes_on}
-use Rattle.pa_turns.proofs.laws.made_goes_on.Goals as goal
-
-pub returns : goal.returns
-returns c = made_goes_on

@@ -1,5 +1,0 @@
-use Rattle.pa_turns.proofs.Ops.{reset_goes_on}
-use Rattle.pa_turns.proofs.laws.reset_goes_on.Goals as goal
-
-pub returns : goal.returns
-returns c = reset_goes_on

@@ -1,5 +1,0 @@
-use Rattle.pa_turns.proofs.Ops.{write_goes_on}
-use Rattle.pa_turns.proofs.laws.write_goes_on.Goals as goal
-
-pub returns : goal.returns
-returns c = write_goes_on
