@@ -4,12 +4,12 @@ use Rattle.pa_trace.specs.Limits.{IsWithinLimits}
 use Rattle.pa_record.specs.declared.run.Run.{Run}
 use Rattle.pa_rules.specs.Legal.{IsFileRun}
 use Rattle.pa_core_run.proofs.Whole.{files_are_played}
-use Rattle.pa_model.specs.Player.{Player}
-use Rattle.pa_model.specs.Changes.{phase_ended}
+use Rattle.pa_player.specs.Player.{Player}
+use Rattle.pa_player.specs.Changes.{phase_ended}
 use Rattle.pa_model.specs.Played.{IsAllTold}
-use Rattle.pa_model.specs.Playing.{IsPlaying}
-use Rattle.pa_model.specs.Told.{IsToldRun}
-use Rattle.pa_model.proofs.Ended.{ends_filed, ends_printed}
+use Rattle.pa_player.specs.Playing.{IsPlaying}
+use Rattle.pa_player.specs.Told.{IsToldRun}
+use Rattle.pa_player.proofs.Ended.{ends_filed, ends_printed}
 
 -- what is told at the end is what a run of the trace tells
 pub all_told : (t : Trace) (p : Player) → IsWithinLimits t → IsPlaying t.region t.partitions t.threads t.lines p → IsAllTold t (phase_ended p).told

@@ -6,17 +6,17 @@ use Rattle.pa_trace.specs.declared.line.Head.{Head}
 use Rattle.pa_trace.specs.declared.script.Line.{Line}
 use Rattle.pa_trace.specs.Limits.{IsLineWithin}
 use Rattle.pa_trace.specs.Unread.{Unread, trace_with, IsReadUpTo, IsLineRead, IsEndRead}
-use Rattle.pa_model.specs.Player.{Player}
-use Rattle.pa_model.specs.Asks.{CanEnd}
-use Rattle.pa_model.specs.Begun.{IsBegun}
-use Rattle.pa_model.specs.Changes.{phase_ended}
+use Rattle.pa_player.specs.Player.{Player}
+use Rattle.pa_player.specs.Asks.{CanEnd}
+use Rattle.pa_player.specs.Begun.{IsBegun}
+use Rattle.pa_player.specs.Changes.{phase_ended}
 use Rattle.pa_model.specs.Played.{IsAllTold, IsInputPlayed}
-use Rattle.pa_model.specs.Playing.{IsPlaying}
-use Rattle.pa_model.specs.Plays.{CanGoOn, IsReady, GoesTo, IsPlayedUpTo}
-use Rattle.pa_model.specs.Told.{IsToldText}
+use Rattle.pa_player.specs.Playing.{IsPlaying}
+use Rattle.pa_player.specs.Plays.{CanGoOn, IsReady, GoesTo, IsPlayedUpTo}
+use Rattle.pa_player.specs.Told.{IsToldText}
 use Rattle.pa_model.proofs.AllTold.{all_told}
-use Rattle.pa_model.proofs.Reporting.{end_ready}
-use Rattle.pa_model.proofs.Start.{begins_playing}
+use Rattle.pa_player.proofs.Reporting.{end_ready}
+use Rattle.pa_player.proofs.Start.{begins_playing}
 
 -- what holds of a list holds of its last member
 last_of : (P : Line → Type 0) (ls : List Line) (l : Line) → AllByRecursion P (ls ++ l ∷ []) → P l

@@ -1,13 +1,1 @@
-pub mod Asks
-pub mod Begun
-pub mod Books
-pub mod Calls
-pub mod Changes
-pub mod Lists
 pub mod Played
-pub mod Player
-pub mod Playing
-pub mod Plays
-pub mod Tables
-pub mod Tallies
-pub mod Told

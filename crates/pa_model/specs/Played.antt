@@ -6,7 +6,7 @@ use Rattle.pa_record.specs.declared.run.Run.{Run}
 use Rattle.pa_record.specs.RunText.{IsPrintable, IsRunText}
 use Rattle.pa_rules.specs.Legal.{IsFileRun}
 use Rattle.pa_core_run.specs.Playing.{HasCoreRun}
-use Rattle.pa_model.specs.Told.{Lists, IsToldRun}
+use Rattle.pa_player.specs.Told.{Lists, IsToldRun}
 
 -- a run that tells these lists is the trace's run in the order of its lines, has a run of the core, and can be written as a text
 pub record IsAllTold (t : Trace) (told : Lists) : Type 0 where

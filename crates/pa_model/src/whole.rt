@@ -4,13 +4,11 @@ ghost use Rattle.pa_trace.specs.Faults.{IsFault};
 ghost use Rattle.pa_record.specs.RunText.{IsPrintable};
 ghost use Rattle.pa_rules.specs.Legal.{IsFileRun};
 ghost use Rattle.pa_core_run.specs.Playing.{HasCoreRun};
-ghost use Rattle.pa_model.specs.Begun.{IsUntold};
+ghost use Rattle.pa_player.specs.Begun.{IsUntold};
 ghost use Rattle.pa_model.specs.Played.{IsAllTold, IsInputPlayed};
 
-use crate::output::{ListOutput, TextOutput};
-use crate::player::Player;
-use crate::told::Told;
 use pa_machine::OutOfMemory;
+use pa_player::{ListOutput, Player, TextOutput, Told};
 use pa_record::Run;
 use pa_trace::{Head, LineReader, MOST_LINES, Trace, TraceFault};
 use std::alloc::Global;

@@ -2,7 +2,7 @@ use Rattle.std.proofs.Common.{subst}
 use Rattle.std.proofs.lemmas.Result.{err_from_is_err_and}
 use Rattle.std.specs.Prelude.{MatchOption}
 use Rattle.pa_trace.specs.Unread.{Unread, IsLineRead, IsEndRead}
-use Rattle.pa_model.specs.Told.{Lists, IsToldRun, IsToldText}
+use Rattle.pa_player.specs.Told.{Lists, IsToldRun, IsToldText}
 use Rattle.pa_model.proofs.Input.{input_begins, input_ready, input_goes_on, input_ends, input_told, input_played}
 use Rattle.pa_model.proofs.whole.play_input.Goals as goal
 

@@ -1,5 +1,5 @@
 use Rattle.std.proofs.Common.{length}
-use Rattle.pa_model.specs.Plays.{IsPlayedUpTo}
+use Rattle.pa_player.specs.Plays.{IsPlayedUpTo}
 use Rattle.pa_model.proofs.whole.play_input.Given as goal
 
 -- some lines are read, and these were played

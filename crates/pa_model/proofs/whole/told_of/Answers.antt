@@ -1,13 +1,13 @@
 use Rattle.std.proofs.Common.{◌≡◌, ◌<◌, ◌≤◌, List, length, get_or, ap, sym, subst, arith}
 use Rattle.pa_trace.specs.declared.script.Line.{Line}
 use Rattle.pa_trace.specs.declared.script.Line.TheVariants.{Phase}
-use Rattle.pa_model.specs.Changes.{phase_ended}
+use Rattle.pa_player.specs.Changes.{phase_ended}
 use Rattle.pa_model.specs.Played.{IsAllTold}
 use Rattle.pa_model.proofs.AllTold.{all_told}
-use Rattle.pa_model.proofs.Outcome.{if_ok}
-use Rattle.pa_model.proofs.Reporting.{end_ready}
-use Rattle.pa_model.proofs.Start.{begins_playing}
-use Rattle.pa_model.proofs.Trace.{line_ready, line_more, all_played}
+use Rattle.pa_player.proofs.Outcome.{if_ok}
+use Rattle.pa_player.proofs.Reporting.{end_ready}
+use Rattle.pa_player.proofs.Start.{begins_playing}
+use Rattle.pa_player.proofs.Trace.{line_ready, line_more, all_played}
 use Rattle.pa_model.proofs.whole.told_of.Goals as goal
 
 pub loop-line-init : goal.loop-line-init

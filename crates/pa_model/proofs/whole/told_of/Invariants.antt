@@ -1,5 +1,5 @@
 use Rattle.std.proofs.Common.{take}
-use Rattle.pa_model.specs.Playing.{IsPlaying}
+use Rattle.pa_player.specs.Playing.{IsPlaying}
 use Rattle.pa_model.proofs.whole.told_of.Given as goal
 
 -- the first lines were played

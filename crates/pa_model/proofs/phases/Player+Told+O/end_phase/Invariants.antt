@@ -1,6 +1,0 @@
-use Rattle.pa_model.proofs.Phasing.{IsToldFor}
-use Rattle.pa_model.proofs.phases.Player+Told+O.end_phase.Given as goal
-
--- the lines of the first partitions were told
-abbrev pub invariant-loop-partition : goal.invariant-loop-partition
-invariant-loop-partition g l = IsToldFor l.partition l.fn.self l.self

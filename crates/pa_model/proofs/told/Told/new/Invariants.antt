@@ -1,7 +1,0 @@
-use Rattle.std.proofs.Common.{◌≡◌, [], length}
-use Rattle.std.specs.List.{All}
-use Rattle.pa_model.proofs.told.Told.new.Given as goal
-
--- so many histories are empty
-abbrev pub invariant-loop : goal.invariant-loop
-invariant-loop g l = (length l.histories.items ≡ l.counter) × All (λ h. h ≡ []) l.histories.items

@@ -1,6 +1,0 @@
--- A player, whose output is seen as lists.
-use Rattle.pa_model.specs.declared.player.Player.{Player as PlayerTo}
-use Rattle.pa_model.specs.Told.{Lists}
-
-abbrev pub Player : Type 0
-Player = PlayerTo Lists

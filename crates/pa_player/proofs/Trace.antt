@@ -1,0 +1,50 @@
+-- The lines of a trace are played one after the other.
+use Rattle.std.proofs.Common.{◌≡◌, ℕ, ◌+◌, ◌<◌, ◌≤◌, [], ◌∷◌, ◌++◌, length, take, get_or, sym, ap, ◌∙◌, subst, arith}
+use Rattle.std.proofs.Math.Seq.{take_all}
+use Rattle.std.proofs.lemmas.List.{length-take, take_more, length_push}
+use Rattle.std.proofs.lemmas.List.Elements.{All-from_recursion, All-get_or}
+use Rattle.pa_trace.specs.declared.script.Line.{Line}
+use Rattle.pa_trace.specs.declared.script.Line.TheVariants.{Do}
+use Rattle.pa_trace.specs.declared.script.Op.{Op}
+use Rattle.pa_trace.specs.Limits.{IsLineWithin, IsWithinLimits}
+use Rattle.pa_trace.specs.declared.script.Trace.{Trace}
+use Rattle.pa_record.specs.declared.entry.Answer.{Answer}
+use Rattle.pa_player.specs.Player.{Player}
+use Rattle.pa_player.specs.Playing.{IsPlaying}
+use Rattle.pa_player.specs.Plays.{CanGoOn, IsReady, GoesTo, Plays}
+
+-- the next line can be played
+line_can : (t : Trace) (i : ℕ) (p : Player) (line d : Line) → IsWithinLimits t → i < length t.lines → line ≡ get_or t.lines i d
+    → IsPlaying t.region t.partitions t.threads (take i t.lines) p → CanGoOn t.region t.partitions t.threads (take i t.lines) line p
+line_can t i p line d within lt is playing = record {
+  playing = playing;
+  short = let few = within.few in omega (arith, length-take i t.lines, lt, few);
+  within = subst (IsLineWithin t.partitions t.threads) (sym is)
+      (All-get_or (IsLineWithin t.partitions t.threads) t.lines i d lt (All-from_recursion (IsLineWithin t.partitions t.threads) t.lines within.lines));
+  head = within.head;
+}
+
+pub line_ready : (t : Trace) (i : ℕ) (p : Player) (line d : Line) → IsWithinLimits t → i < length t.lines → line ≡ get_or t.lines i d
+    → IsPlaying t.region t.partitions t.threads (take i t.lines) p → IsReady line p
+line_ready t i p line d within lt is playing =
+    record { region = t.region; partitions = t.partitions; threads = t.threads; ls = take i t.lines; can = line_can t i p line d within lt is playing }
+
+-- and then one line more was played
+pub line_more : (t : Trace) (i : ℕ) (p q : Player) (line d : Line) → IsWithinLimits t → i < length t.lines → line ≡ get_or t.lines i d
+    → IsPlaying t.region t.partitions t.threads (take i t.lines) p → GoesTo p line q → IsPlaying t.region t.partitions t.threads (take (i + 1) t.lines) q
+line_more t i p q line d within lt is playing goes =
+    let whole : take (i + 1) t.lines ≡ take i t.lines ++ line ∷ [] = take_more t.lines i d lt ∙ ap (λ z. take i t.lines ++ z ∷ []) (sym is) in
+    subst (λ z. IsPlaying t.region t.partitions t.threads z q) (sym whole) (goes t.region t.partitions t.threads (take i t.lines) (line_can t i p line d within lt is playing))
+
+-- all were
+pub all_played : (t : Trace) (i : ℕ) (p : Player) → length t.lines ≤ i → IsPlaying t.region t.partitions t.threads (take i t.lines) p → IsPlaying t.region t.partitions t.threads t.lines p
+all_played t i p past playing = subst (λ z. IsPlaying t.region t.partitions t.threads z p) (take_all i t.lines past) playing
+
+-- the line that was played has a number that fits
+pub line_few : (p : Player) (thread : ℕ) (op : Op) (q : Player) (answer : Answer) → IsReady (Do thread op) p → Plays p thread op q answer → q.told.line ≤ 65537
+line_few p thread op q answer ready played =
+    let next = played ready.region ready.partitions ready.threads ready.ls ready.can in
+    let line = next.line in
+    let short = ready.can.short in
+    let more = length_push ready.ls (Do thread op) in
+    omega arith

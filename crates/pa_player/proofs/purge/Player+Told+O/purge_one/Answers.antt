@@ -1,0 +1,24 @@
+use Rattle.std.proofs.Common.{[], sym, subst, arith}
+use Rattle.pa_player.specs.Asks.{CanGive}
+use Rattle.pa_player.proofs.Purging.{given_can}
+use Rattle.pa_player.proofs.purge.Player+Told+O.purge_one.Goals as goal
+
+pub purge-requires-clause-among : goal.purge-requires-clause-among
+purge-requires-clause-among g c =
+    (subst (CanGive c.args.partition []) (sym c.in_ok-slots.ensures.given) (given_can c.args.thread c.args.partition 0 59 c.args.self.now (grind (arith, c.requires.gives.four)) (omega arith) c.requires.gives)).root
+
+pub purge-requires-clause-turn : goal.purge-requires-clause-turn
+purge-requires-clause-turn g c =
+    let can = subst (CanGive c.args.partition []) (sym c.in_ok-slots.ensures.given) (given_can c.args.thread c.args.partition 0 59 c.args.self.now (grind (arith, c.requires.gives.four)) (omega arith) c.requires.gives) in
+    let turn = can.turn in
+    omega arith
+
+pub root-requires-clause-partition : goal.root-requires-clause-partition
+root-requires-clause-partition g c =
+    (subst (CanGive c.args.partition []) (sym c.in_ok-slots.ensures.given) (given_can c.args.thread c.args.partition 0 59 c.args.self.now (grind (arith, c.requires.gives.four)) (omega arith) c.requires.gives)).journal
+
+pub root-requires-clause-few : goal.root-requires-clause-few
+root-requires-clause-few g c =
+    let can = subst (CanGive c.args.partition []) (sym c.in_ok-slots.ensures.given) (given_can c.args.thread c.args.partition 0 59 c.args.self.now (grind (arith, c.requires.gives.four)) (omega arith) c.requires.gives) in
+    let few = can.few in
+    omega arith

@@ -1,0 +1,53 @@
+-- A player before the first line.
+use Rattle.std.specs.Prelude.{◌≡◌, ℕ, ◌*◌, ◌<◌, List, [], length, slice_index_or}
+use Rattle.pa_buckets.specs.Limits.{class_count}
+use Rattle.pa_record.specs.Pool.{new_pool}
+use Rattle.pa_record.specs.Root.{Root, new_root}
+use Rattle.pa_trace.specs.Limits.{register_count, cell_count}
+use Rattle.pa_player.specs.declared.handle.Handle.{Handle}
+use Rattle.pa_player.specs.declared.handle.Handle.TheVariants.{Empty}
+use Rattle.pa_player.specs.Player.{Player}
+use Rattle.pa_player.specs.Playing.{cell_at}
+use Rattle.pa_player.specs.Tallies.{IsNone}
+use Rattle.pa_player.specs.Told.{Lists}
+
+-- so many empty lists
+pub record AreEmpty {X : Type 0} (n : ℕ) (xs : List (List X)) : Type 0 where
+  pub count : length xs ≡ n
+  pub empty : (i : ℕ) → slice_index_or xs i [] ≡ []
+
+-- the registers of so many threads, 64 each, are empty
+pub record AreClear (threads : ℕ) (xs : List (List Handle)) : Type 0 where
+  pub count : length xs ≡ threads
+  pub sixty_four : (t : ℕ) → t < threads → length (slice_index_or xs t []) ≡ register_count
+  pub clear : (t r : ℕ) → slice_index_or (slice_index_or xs t []) r Empty ≡ Empty
+
+-- so many roots without a span
+pub record AreNew (partitions : ℕ) (xs : List Root) : Type 0 where
+  pub count : length xs ≡ partitions
+  pub new : (q : ℕ) → slice_index_or xs q new_root ≡ new_root
+
+-- nothing is told, and the line after the head comes next
+pub record IsUntold (partitions : ℕ) (t : Lists) : Type 0 where
+  pub entries : t.entries ≡ []
+  pub journals : AreEmpty partitions t.journals
+  pub pools : t.pools ≡ []
+  pub histories : AreEmpty cell_count t.histories
+  pub report : t.report ≡ []
+  pub line : t.line ≡ 2
+
+-- no line was played
+pub record IsBegun (region partitions threads : ℕ) (p : Player) : Type 0 where
+  pub pool : p.heap.pool ≡ new_pool region
+  pub roots : AreNew partitions p.heap.roots
+  pub table : p.table ≡ []
+  pub registers : AreClear threads p.registers
+  pub cells : length p.cells ≡ cell_count
+  pub cell : (k : ℕ) → cell_at p k ≡ Empty
+  pub caches : AreEmpty (threads * partitions * class_count) p.caches
+  pub live : IsNone p.live.of
+  pub quarantined : IsNone p.quarantined.of
+  pub cached : IsNone p.cached.of
+  pub told : IsUntold partitions p.told
+  pub many : p.partitions ≡ partitions
+  pub phase : p.phase ≡ 1

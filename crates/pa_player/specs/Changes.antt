@@ -1,0 +1,388 @@
+-- What the parts of an op change in a player, each as a function of the player before it.
+use Rattle.std.specs.Prelude.{◌≡◌, ℕ, zero, suc, ◌+◌, ◌-◌, ◌/◌, ◌<◌, ◌≤◌, ◌⊎◌, nat_lt, if◌then◌else◌, List, [], ◌∷◌}
+use Rattle.std.specs.Prelude.{◌++◌, map, length, take, drop, slice_index_or, slice_set, sum, Option, Some, None}
+use Rattle.pa_machine.specs.declared.title.Title.{Title}
+use Rattle.pa_machine.specs.declared.word.Step.{Step}
+use Rattle.pa_machine.specs.declared.word.Step.TheVariants as steps
+use Rattle.pa_machine.specs.Count.{number_of, stepped, refs_of, held_of}
+use Rattle.pa_machine.specs.Run.{IsReturning}
+use Rattle.pa_machine.specs.Titles.{poison}
+use Rattle.pa_layout.specs.Pages.{super_page_at, supers_for}
+use Rattle.pa_buckets.specs.Limits.{class_count}
+use Rattle.pa_buckets.specs.Bands.{limit_of, fill_of}
+use Rattle.pa_record.specs.declared.entry.Answer.{Answer}
+use Rattle.pa_record.specs.declared.entry.Answer.TheVariants as answers
+use Rattle.pa_record.specs.declared.entry.Seen.{Seen}
+use Rattle.pa_record.specs.declared.report.ReportLine.{ReportLine}
+use Rattle.pa_record.specs.declared.numbered.Numbered.{Numbered}
+use Rattle.pa_record.specs.declared.pool.PoolAct.{PoolAct}
+use Rattle.pa_record.specs.declared.pool.PoolAct.TheVariants as pool
+use Rattle.pa_record.specs.declared.report.Tally.{Tally}
+use Rattle.pa_record.specs.declared.root.RootAct.{RootAct}
+use Rattle.pa_record.specs.declared.root.RootAct.TheVariants.{Fill, Map, Full, Purge}
+use Rattle.pa_record.specs.Pool.{PoolState, gave}
+use Rattle.pa_record.specs.Spans.{name_of}
+use Rattle.pa_record.specs.Root.{Root, names, all_returned, purged, unmapped}
+use Rattle.pa_rules.specs.Caches.{gives, unmap_at}
+use Rattle.pa_record.specs.Census.{census}
+use Rattle.pa_place.specs.declared.placed.Placed.{Placed}
+use Rattle.pa_place.specs.Placed.{FillDid, MapDid}
+use Rattle.pa_heap_effects.specs.Deeds.{entries_at}
+use Rattle.pa_heap_effects.specs.Ops.{found_by}
+use Rattle.pa_player.specs.declared.handle.Handle.{Handle}
+use Rattle.pa_player.specs.declared.handle.Handle.TheVariants.{Empty, Own, Ref, Freed, Cleared}
+use Rattle.pa_player.specs.declared.table.Slot.{Slot}
+use Rattle.pa_player.specs.Player.{Player}
+use Rattle.pa_player.specs.Tables.{slot_at, named_at, new_slot, IsHome, held_of as told_of, handle_in}
+use Rattle.pa_player.specs.Tallies.{tally_at}
+use Rattle.pa_player.specs.Told.{Lists, journal_in, with_exchange}
+use Rattle.pa_player.specs.Playing.{numbered_at, list_place, root_of, register_at, cell_at}
+
+-- ---- one table
+
+-- a step on the word of the slot in a place; its content
+abbrev pub stepped_at : Step → ℕ → Player → Player
+stepped_at step i p =
+    record p { table = slice_set p.table i (record (slot_at p.table i) { word = record { 0 = stepped step (slot_at p.table i).word.0 } }) }
+
+abbrev pub filled_at : ℕ → ℕ → Player → Player
+filled_at value i p = record p { table = slice_set p.table i (record (slot_at p.table i) { content = value }) }
+
+-- a register of a thread; a list of the caches
+abbrev pub registered : ℕ → ℕ → Handle → Player → Player
+registered t r h p = record p { registers = slice_set p.registers t (slice_set (slice_index_or p.registers t []) r h) }
+
+abbrev pub listed : ℕ → List ℕ → Player → Player
+listed at xs p = record p { caches = slice_set p.caches at xs }
+
+-- so many slots and bytes more in a partition, and less
+abbrev pub tallied_more : ℕ → ℕ → ℕ → List Tally → List Tally
+tallied_more q slots bytes ts = slice_set ts q (record { slots = (tally_at ts q).slots + slots; bytes = (tally_at ts q).bytes + bytes })
+
+abbrev pub tallied_less : ℕ → ℕ → ℕ → List Tally → List Tally
+tallied_less q slots bytes ts = slice_set ts q (record { slots = (tally_at ts q).slots - slots; bytes = (tally_at ts q).bytes - bytes })
+
+abbrev pub live_more : ℕ → ℕ → Player → Player
+live_more q len p = record p { live = record { of = tallied_more q 1 len p.live.of } }
+
+abbrev pub live_less : ℕ → ℕ → Player → Player
+live_less q len p = record p { live = record { of = tallied_less q 1 len p.live.of } }
+
+abbrev pub quarantined_more : ℕ → ℕ → Player → Player
+quarantined_more q len p = record p { quarantined = record { of = tallied_more q 1 len p.quarantined.of } }
+
+abbrev pub quarantined_less : ℕ → ℕ → Player → Player
+quarantined_less q len p = record p { quarantined = record { of = tallied_less q 1 len p.quarantined.of } }
+
+abbrev pub cached_more : ℕ → ℕ → Player → Player
+cached_more q len p = record p { cached = record { of = tallied_more q 1 len p.cached.of } }
+
+abbrev pub cached_less : ℕ → ℕ → ℕ → Player → Player
+cached_less q slots bytes p = record p { cached = record { of = tallied_less q slots bytes p.cached.of } }
+
+-- the root of a partition, and the pool
+abbrev pub with_root : ℕ → Root → Player → Player
+with_root q r p = record p { heap = record p.heap { roots = slice_set p.heap.roots q r } }
+
+abbrev pub with_pool : PoolState → Player → Player
+with_pool plan p = record p { heap = record p.heap { pool = plan } }
+
+-- acts of a partition on this line, and an entry of the pool
+abbrev pub with_acts : ℕ → List RootAct → Lists → Lists
+with_acts q acts t = record t { journals = slice_set t.journals q (journal_in t q ++ entries_at t.line acts) }
+
+abbrev pub acted : ℕ → List RootAct → Player → Player
+acted q acts p = record p { told = with_acts q acts p.told }
+
+abbrev pub pooled : ℕ → PoolAct → Player → Player
+pooled q act p = record p { told = record p.told { pools = p.told.pools ++ record { line = p.told.line; partition = q; act = act } ∷ [] } }
+
+-- the answer of this line, after which the next is played
+abbrev pub answered : ℕ → Answer → Player → Player
+answered thread answer p =
+    record p {
+      told = record p.told { entries = p.told.entries ++ record { line = p.told.line; thread = thread; answer = answer } ∷ []; line = p.told.line + 1 };
+    }
+
+-- a cell; an exchange with it on this line, of these handles
+abbrev pub celled : ℕ → Handle → Player → Player
+celled k h p = record p { cells = slice_set p.cells k h }
+
+abbrev pub exchanged : ℕ → Handle → Handle → Player → Player
+exchanged k gave found p =
+    record p { told = with_exchange k (record { line = p.told.line; gave = told_of p.table gave; found = told_of p.table found }) p.told }
+
+abbrev pub swapped : ℕ → ℕ → ℕ → Player → Player
+swapped thread k reg p =
+    registered thread reg (cell_at p k)
+    (celled k (handle_in (register_at p thread reg)) (exchanged k (handle_in (register_at p thread reg)) (cell_at p k) p))
+
+-- ---- parts of ops
+
+-- the list of a thread in a place of the caches; how many bytes the slots of some places have together
+abbrev pub list_in : Player → ℕ → List ℕ
+list_in p at = slice_index_or p.caches at []
+
+abbrev pub bytes_at : List Slot → List ℕ → ℕ
+bytes_at slots xs = sum (map (λ (i : ℕ). (slot_at slots i).title.len) xs)
+
+-- a free slot is issued to a register
+abbrev pub issued : ℕ → ℕ → ℕ → Player → Player
+issued thread reg i p =
+    live_more (slot_at p.table i).partition (slot_at p.table i).title.len
+    (registered thread reg (Own i) (filled_at 0 i (stepped_at steps.Issue i p)))
+
+-- the slots in some places go back to the root; those of a list after the first ones do
+abbrev pub gave_back : ℕ → List ℕ → Player → Player
+gave_back q xs p =
+    cached_less q (length xs) (bytes_at p.table xs)
+    (acted q (gives (map (numbered_at p.table) xs)) (with_root q (all_returned (names (map (numbered_at p.table) xs)) (root_of p q)) p))
+
+abbrev pub given : ℕ → ℕ → ℕ → Player → Player
+given q at keep p = listed at (take keep (list_in p at)) (gave_back q (drop keep (list_in p at)) p)
+
+-- a slot of the class becomes the front of its list, of which half the limit stays where that is too long then
+abbrev pub put_front : ℕ → ℕ → ℕ → Player → Player
+put_front q at i p = cached_more q (slot_at p.table i).title.len (listed at (i ∷ list_in p at) p)
+
+abbrev pub spilled_if : ℕ → ℕ → ℕ → Player → Player
+spilled_if class q at p = if nat_lt (limit_of class) (length (list_in p at)) then given q at (limit_of class / 2) p else p
+
+-- a direct map goes back, and its super pages to the pool
+abbrev pub unmapped_at : ℕ → ℕ → Player → Player
+unmapped_at q i p =
+    acted q (unmap_at p.heap.pool.entries (named_at p.table i) (number_of (slot_at p.table i).word.0) ∷ [])
+    (pooled q (pool.Give (supers_for (slot_at p.table i).title.len) (super_page_at (slot_at p.table i).title.start))
+    (with_pool (gave (super_page_at (slot_at p.table i).title.start) p.heap.pool)
+    (with_root q (unmapped (named_at p.table i) (root_of p q)) p)))
+
+-- a slot that a step of the thread returned goes to its cache, or back to the pool
+abbrev pub taken_back : ℕ → ℕ → Option ℕ → ℕ → Player → Player
+taken_back thread q (Some class) i p =
+    spilled_if class q (list_place p.partitions thread q class) (put_front q (list_place p.partitions thread q class) i p)
+taken_back thread q None i p = unmapped_at q i p
+
+-- the lists of so many classes from one on go back whole; a purge of one partition, and of so many from one on
+unfoldable pub given_from : ℕ → ℕ → ℕ → ℕ → Player → Player
+given_from thread q class zero p = p
+given_from thread q class (suc n) p = given_from thread q (class + 1) n (given q (list_place p.partitions thread q class) 0 p)
+
+abbrev pub purged_with : ℕ → Player → Player
+purged_with q p = acted q (Purge ∷ []) (with_root q (purged (root_of p q)) p)
+
+unfoldable pub purged_from : ℕ → ℕ → ℕ → Player → Player
+purged_from thread q zero p = p
+purged_from thread q (suc n) p = purged_from thread (q + 1) n (purged_with q (given_from thread q 0 class_count p))
+
+-- The slots that left a root go behind the others of a list, in their order: `xs` are their numbers.
+abbrev pub ArePut : ℕ → ℕ → ℕ → List Title → Player → Player → List Numbered → Type 0
+ArePut q at class [] p r xs = (r ≡ p) × (xs ≡ [])
+ArePut q at class (t ∷ ts) p r xs =
+    (after : List Slot) × (place : ℕ) × (rest : List Numbered) × IsHome p.table after (new_slot t q (Some class)) place
+    × (xs ≡ numbered_at after place ∷ rest)
+    × ArePut q at class ts (cached_more q t.len (listed at (list_in p at ++ place ∷ []) (record p { table = after }))) r rest
+
+-- ---- an allocation
+
+-- what is seen of the slot in a place
+abbrev pub seen_at : List Slot → ℕ → Seen
+seen_at slots i = record { slot = named_at slots i; found = (slot_at slots i).word }
+
+-- the answer of an allocation that got the slot in a place
+abbrev pub made_at : Player → ℕ → Answer
+made_at p i = answers.Made (seen_at p.table i) ((slot_at p.table i).title.len - 8)
+
+-- the front of a list is issued
+pub record IsFrontIssued (thread reg q at : ℕ) (p r : Player) (answer : Answer) : Type 0 where
+  pub place : ℕ
+  pub rest : List ℕ
+  pub front : list_in p at ≡ place ∷ rest
+  pub issued : r ≡ issued thread reg place (cached_less q 1 (slot_at p.table place).title.len (listed at rest p))
+  pub says : answer ≡ made_at p place
+
+-- a root and the pool after a call, and the entry of the pool where the call asked for so many super pages
+abbrev pub placed_in : ℕ → Root → PoolState → Player → Player
+placed_in q after plan p = with_root q after (with_pool plan p)
+
+abbrev pub asked_in : ℕ → ℕ → List Title → Option ℕ → Player → Player
+asked_in q count titles None p = p
+asked_in q count titles (Some entry) p = pooled q (pool.Take count (found_by titles)) p
+
+-- a list of a class was filled
+pub record IsFilled (q at class : ℕ) (p r : Player) : Type 0 where
+  pub plan : PoolState
+  pub after : Root
+  pub placed : Placed
+  pub put : Player
+  pub slots : List Numbered
+  pub did : FillDid class (fill_of class) p.heap.pool plan (root_of p q) after placed
+  pub some : placed.titles.items ≡ [] → ⊥
+  pub puts : ArePut q at class placed.titles.items (asked_in q 1 placed.titles.items placed.pool (placed_in q after plan p)) put slots
+  pub acted : r ≡ acted q (Fill class placed.pool slots ∷ []) put
+
+-- there was no room for a slot of the class
+pub record IsUnfilled (q class : ℕ) (p r : Player) (entry : ℕ) : Type 0 where
+  pub plan : PoolState
+  pub after : Root
+  pub placed : Placed
+  pub asked : ℕ
+  pub did : FillDid class (fill_of class) p.heap.pool plan (root_of p q) after placed
+  pub asks : placed.pool ≡ Some asked
+  pub none : placed.titles.items ≡ []
+  pub acted : r ≡ acted q (Full (Some class) asked ∷ []) (pooled q (pool.Take 1 None) (placed_in q after plan p))
+  pub told : entry ≡ length (journal_in p.told q)
+
+-- what a fill answers: the entry that says that there was no room, or none
+abbrev pub Fills : ℕ → ℕ → ℕ → Player → Player → Option ℕ → Type 0
+Fills q at class p r None = IsFilled q at class p r
+Fills q at class p r (Some entry) = IsUnfilled q class p r entry
+
+-- A direct map of so many bytes, in so many super pages, was made: its slot is in this place.
+pub record IsMapPlaced (q len supers : ℕ) (p r : Player) (place : ℕ) : Type 0 where
+  pub plan : PoolState
+  pub after : Root
+  pub placed : Placed
+  pub asked : ℕ
+  pub title : Title
+  pub table : List Slot
+  pub did : MapDid len p.heap.pool plan (root_of p q) after placed
+  pub asks : placed.pool ≡ Some asked
+  pub some : placed.titles.items ≡ title ∷ []
+  pub home : IsHome p.table table (new_slot title q None) place
+  pub acted : r ≡ record (acted q (Map asked (name_of title) title.len ∷ [])
+      (pooled q (pool.Take supers (found_by (title ∷ []))) (placed_in q after plan p))) { table = table }
+
+-- there was no room for one
+pub record IsMapRefused (q len supers : ℕ) (p r : Player) (entry : ℕ) : Type 0 where
+  pub plan : PoolState
+  pub after : Root
+  pub placed : Placed
+  pub asked : ℕ
+  pub did : MapDid len p.heap.pool plan (root_of p q) after placed
+  pub asks : placed.pool ≡ Some asked
+  pub none : placed.titles.items ≡ []
+  pub acted : r ≡ acted q (Full None asked ∷ []) (pooled q (pool.Take supers None) (placed_in q after plan p))
+  pub told : entry ≡ length (journal_in p.told q)
+
+-- What an allocation of a slot of a class answers: the front of the list, of a list that is filled first, or no room.
+pub record IsFilledFirst (thread reg q at class : ℕ) (p r : Player) (answer : Answer) : Type 0 where
+  pub filled : Player
+  pub empty : list_in p at ≡ []
+  pub fills : IsFilled q at class p filled
+  pub front : IsFrontIssued thread reg q at filled r answer
+
+pub record IsRefused (q at class : ℕ) (p r : Player) (answer : Answer) : Type 0 where
+  pub entry : ℕ
+  pub empty : list_in p at ≡ []
+  pub unfilled : IsUnfilled q class p r entry
+  pub says : answer ≡ answers.Full entry
+
+abbrev pub Refills : ℕ → ℕ → ℕ → ℕ → ℕ → Player → Player → Answer → Type 0
+Refills thread reg q at class p r answer = IsFilledFirst thread reg q at class p r answer ⊎ IsRefused q at class p r answer
+
+abbrev pub AllocatesSlot : ℕ → ℕ → ℕ → ℕ → ℕ → Player → Player → Answer → Type 0
+AllocatesSlot thread reg q at class p r answer =
+    IsFrontIssued thread reg q at p r answer ⊎ Refills thread reg q at class p r answer
+
+-- and of a direct map: its slot, or no room
+pub record IsMapIssued (thread reg q len supers : ℕ) (p r : Player) (answer : Answer) : Type 0 where
+  pub mapped : Player
+  pub place : ℕ
+  pub placed : IsMapPlaced q len supers p mapped place
+  pub issued : r ≡ issued thread reg place mapped
+  pub says : answer ≡ made_at mapped place
+
+abbrev pub AllocatesMap : ℕ → ℕ → ℕ → ℕ → ℕ → Player → Player → Answer → Type 0
+AllocatesMap thread reg q len supers p r answer =
+    IsMapIssued thread reg q len supers p r answer ⊎ ((entry : ℕ) × IsMapRefused q len supers p r entry × (answer ≡ answers.Full entry))
+
+-- ---- steps
+
+-- a copy to a register, by what it holds
+abbrev pub Copies : ℕ → ℕ → ℕ → Handle → Player → Player → Answer → Type 0
+Copies thread to i (Own place) p r answer = (r ≡ p) × (answer ≡ answers.Filled)
+Copies thread to i (Ref place) p r answer = (r ≡ p) × (answer ≡ answers.Filled)
+Copies thread to i Empty p r answer =
+    (r ≡ registered thread to (Ref i) (stepped_at steps.Copy i p)) × (answer ≡ answers.Done (seen_at p.table i))
+Copies thread to i Freed p r answer =
+    (r ≡ registered thread to (Ref i) (stepped_at steps.Copy i p)) × (answer ≡ answers.Done (seen_at p.table i))
+Copies thread to i Cleared p r answer =
+    (r ≡ registered thread to (Ref i) (stepped_at steps.Copy i p)) × (answer ≡ answers.Done (seen_at p.table i))
+
+-- a reset and a free of the slot in a place, before it goes back or where it stays
+abbrev pub reset_at : ℕ → ℕ → ℕ → Player → Player
+reset_at thread reg i p = registered thread reg Cleared (stepped_at steps.Reset i p)
+
+abbrev pub reset_last : ℕ → ℕ → ℕ → Player → Player
+reset_last thread reg i p = quarantined_less (slot_at p.table i).partition (slot_at p.table i).title.len (reset_at thread reg i p)
+
+abbrev pub freed_at : ℕ → ℕ → ℕ → Player → Player
+freed_at thread reg i p =
+    live_less (slot_at p.table i).partition (slot_at p.table i).title.len (registered thread reg Freed (stepped_at steps.Free i p))
+
+abbrev pub returned_at : ℕ → ℕ → Player → Player → Player
+returned_at thread i p q = taken_back thread (slot_at p.table i).partition (slot_at p.table i).class i q
+
+abbrev pub Resets : ℕ → ℕ → ℕ → Player → Player → Type 0
+Resets thread reg i p r =
+    (IsReturning steps.Reset (slot_at p.table i).word.0 × (r ≡ returned_at thread i p (reset_last thread reg i p)))
+    ⊎ ((IsReturning steps.Reset (slot_at p.table i).word.0 → ⊥) × (r ≡ reset_at thread reg i p))
+
+abbrev pub Frees : ℕ → ℕ → ℕ → Player → Player → Type 0
+Frees thread reg i p r =
+    ((refs_of (slot_at p.table i).word.0 ≡ 0) × (r ≡ returned_at thread i p (freed_at thread reg i p)))
+    ⊎ ((0 < refs_of (slot_at p.table i).word.0)
+    × (r ≡ quarantined_more (slot_at p.table i).partition (slot_at p.table i).title.len (freed_at thread reg i p)))
+
+-- a write by the owner, which only looks where a `raw_ptr` points to the slot
+abbrev pub Writes : ℕ → ℕ → Player → Player → Answer → Type 0
+Writes i value p r answer =
+    ((refs_of (slot_at p.table i).word.0 ≡ 0) × (r ≡ filled_at value i (stepped_at steps.Write i p))
+    × (answer ≡ answers.Done (seen_at p.table i)))
+    ⊎ ((0 < refs_of (slot_at p.table i).word.0) × (r ≡ p) × (answer ≡ answers.Shared (seen_at p.table i)))
+
+-- a look through a `raw_ptr` by who doesn't own: this where the slot was freed before, else `not owner`
+abbrev pub LooksAt : ℕ → Answer → Player → Answer → Type 0
+LooksAt i freed p answer =
+    ((held_of (slot_at p.table i).word.0 ≡ 1) × (answer ≡ answers.NotOwner (seen_at p.table i)))
+    ⊎ ((held_of (slot_at p.table i).word.0 ≡ 1 → ⊥) × (answer ≡ freed))
+
+-- a read of a word
+abbrev pub Reads : ℕ → ℕ → Player → Answer → Type 0
+Reads i place p answer =
+    (((slot_at p.table i).title.len - 8) / 8 ≤ place) × (answer ≡ answers.OutOfRange)
+    ⊎ (place < ((slot_at p.table i).title.len - 8) / 8) × (held_of (slot_at p.table i).word.0 ≡ 1)
+    × (answer ≡ answers.Value (seen_at p.table i) (slot_at p.table i).content)
+    ⊎ (place < ((slot_at p.table i).title.len - 8) / 8) × (held_of (slot_at p.table i).word.0 ≡ 1 → ⊥)
+    × (answer ≡ answers.Dangling (seen_at p.table i) poison)
+
+-- ---- the end of a phase
+
+-- the line of the report for a partition; those of so many from one on
+abbrev pub report_line : Player → ℕ → ReportLine
+report_line p q =
+    record {
+      phase = p.phase;
+      partition = q;
+      live = tally_at p.live.of q;
+      quarantined = tally_at p.quarantined.of q;
+      cached = tally_at p.cached.of q;
+      root = (census (root_of p q)).root;
+      committed = (census (root_of p q)).committed;
+      reserved = (census (root_of p q)).reserved;
+      full = (census (root_of p q)).full;
+      active = (census (root_of p q)).active;
+      empty = (census (root_of p q)).empty;
+      decommitted = (census (root_of p q)).decommitted;
+    }
+
+abbrev pub report_lines : Player → ℕ → ℕ → List ReportLine
+report_lines p q zero = []
+report_lines p q (suc n) = report_line p q ∷ report_lines p (q + 1) n
+
+-- a phase ends; with the line that begins the next
+abbrev pub phase_ended : Player → Player
+phase_ended p = record p { told = record p.told { report = p.told.report ++ report_lines p 0 p.partitions }; phase = p.phase + 1 }
+
+abbrev pub phase_begun : Player → Player
+phase_begun p = record (phase_ended p) { told = record (phase_ended p).told { line = p.told.line + 1 } }

@@ -1,0 +1,157 @@
+ghost use Rattle.std.specs.Prelude.{◌≡◌, ◌<◌, ◌≤◌, [], IfOk, OnOk, length};
+ghost use Rattle.pa_trace.specs.Limits.{IsHeadWithin, register_count, most_partitions, most_threads};
+ghost use Rattle.pa_trace.specs.declared.script.Line.TheVariants.{Do, Phase};
+ghost use Rattle.pa_player.specs.Asks.{CanEnd};
+ghost use Rattle.pa_player.specs.Begun.{IsBegun, IsUntold};
+ghost use Rattle.pa_player.specs.Changes.{phase_begun, phase_ended, registered};
+ghost use Rattle.pa_player.specs.Playing.{register_at, list_place};
+ghost use Rattle.pa_player.specs.Plays.{GoesTo, IsReady, Plays};
+
+use crate::caches::Caches;
+use crate::handle::Handle;
+use crate::heap::Heap;
+use crate::output::Output;
+use crate::registers::Registers;
+use crate::table::Table;
+use crate::tallies::Tallies;
+use crate::told::Told;
+use pa_buckets::{CLASSES, Class};
+use pa_machine::OutOfMemory;
+use pa_record::Answer;
+use pa_trace::{CELLS, Line, Op};
+use std::alloc::Global;
+
+/// What the lines of a trace so far left, and the output to which they are told.
+#[derive(Drop)]
+pub struct Player<T> {
+    pub(crate) heap: Heap,
+    pub(crate) table: Table,
+    pub(crate) registers: Registers,
+    pub(crate) cells: [Handle; CELLS as usize],
+    pub(crate) caches: Caches,
+    pub(crate) live: Tallies,
+    pub(crate) quarantined: Tallies,
+    pub(crate) cached: Tallies,
+    pub(crate) told: T,
+    pub(crate) partitions: u32,
+    pub(crate) phase: u32,
+}
+
+impl<O: Output> Player<Told<O>> {
+    /// Before the first line, where nothing is told: `region` super pages, 1 to 16, `partitions`, 1 to 4, and `threads`, 1 to
+    /// 16, as in the head of a trace. Out of memory is the only error.
+    pub fn new(
+        alloc: Global,
+        region: u32,
+        partitions: u32,
+        threads: u32,
+        told: Told<O>,
+    ) -> Result<Player<Told<O>>, OutOfMemory>
+        requires head { IsHeadWithin region partitions threads }
+        requires told { IsUntold partitions told }
+        ensures { IfOk result (IsBegun region partitions threads) }
+    {
+        Ok(Player {
+            heap: Heap::new(alloc, region, partitions)?,
+            table: Table::new(alloc),
+            registers: Registers::new(alloc, threads)?,
+            cells: [Handle::Empty; CELLS as usize],
+            caches: Caches::new(alloc, threads * partitions * CLASSES)?,
+            live: Tallies::new(),
+            quarantined: Tallies::new(),
+            cached: Tallies::new(),
+            told,
+            partitions,
+            phase: 1,
+        })
+    }
+
+    /// Plays a line, and records its op. Out of memory is the only error; after it the player is of no more use.
+    pub fn line(&mut self, line: Line) -> Result<(), OutOfMemory>
+        requires { IsReady line self.old }
+        ensures { OnOk result (GoesTo self.old line self.new) }
+    {
+        match line {
+            Line::Phase => self.begin_phase(),
+            Line::Do { thread, op } => self.record(thread, op),
+        }
+    }
+
+    // Plays a line that begins a phase.
+    fn begin_phase(&mut self) -> Result<(), OutOfMemory>
+        requires { CanEnd self.old }
+        ensures { OnOk result (self.new ≡ phase_begun self.old) }
+    {
+        self.end_phase()?;
+        self.told.next();
+        Ok(())
+    }
+
+    // Plays an op, and records its answer.
+    fn record(&mut self, thread: u32, op: Op) -> Result<(), OutOfMemory>
+        requires { IsReady (Do thread op) self.old }
+        ensures { OnOk result (GoesTo self.old (Do thread op) self.new) }
+    {
+        let answer = self.answer(thread, op)?;
+        self.told.answer(thread, answer)?;
+        Ok(())
+    }
+
+    /// Ends the last phase, and returns what all lines told. Out of memory is the only error.
+    pub fn finish(mut self) -> Result<Told<O>, OutOfMemory>
+        requires { CanEnd self }
+        ensures { IfOk result (λ told. told ≡ (phase_ended self).told) }
+    {
+        self.end_phase()?;
+        Ok(self.told)
+    }
+
+    // Plays one op, and answers it.
+    fn answer(&mut self, thread: u32, op: Op) -> Result<Answer, OutOfMemory>
+        requires { IsReady (Do thread op) self.old }
+        ensures { IfOk result (Plays self.old thread op self.new) }
+    {
+        match op {
+            Op::Alloc {
+                reg,
+                partition,
+                size,
+            } => self.allocate(thread, reg, partition, size),
+            Op::Copy { from, to } => Ok(self.copy(thread, from, to)),
+            Op::Reset { reg } => self.reset(thread, reg),
+            Op::Free { reg } => self.free(thread, reg),
+            Op::Write { reg, value } => Ok(self.write(thread, reg, value)),
+            Op::Read { reg, place } => Ok(self.read(thread, reg, place)),
+            Op::Swap { cell, reg } => self.swap(thread, cell, reg),
+            Op::Purge => self.purge(thread),
+        }
+    }
+
+    // What a register of a thread holds.
+    pub(crate) fn register(&self, thread: u32, reg: u32) -> Handle
+        requires thread { thread < length self.now.registers }
+        requires reg { reg < register_count }
+        ensures { result ≡ register_at self.now thread reg }
+    {
+        self.registers.get(thread, reg)
+    }
+
+    // Sets a register of a thread.
+    pub(crate) fn set_register(&mut self, thread: u32, reg: u32, holds: Handle)
+        requires thread { thread < length self.old.registers }
+        requires reg { reg < register_count }
+        ensures { self.new ≡ registered thread reg holds self.old }
+    {
+        self.registers.set(thread, reg, holds);
+    }
+
+    // Where the list of a thread's cache stands, by its partition and class.
+    pub(crate) fn list_of(&self, thread: u32, partition: u32, class: Class) -> usize
+        requires thread { thread < most_threads }
+        requires partitions { self.now.partitions ≤ most_partitions }
+        requires partition { partition < self.now.partitions }
+        ensures { result ≡ list_place self.now.partitions thread partition class }
+    {
+        ((thread * self.partitions + partition) * CLASSES + class.number()) as usize
+    }
+}

@@ -1,0 +1,58 @@
+ghost use Rattle.std.specs.Prelude.{◌≡◌, ◌<◌, IfOk, OnOk};
+ghost use Rattle.pa_buckets.specs.Limits.{class_count};
+ghost use Rattle.pa_trace.specs.declared.script.Op.TheVariants as ops;
+ghost use Rattle.pa_trace.specs.declared.script.Line.TheVariants.{Do};
+ghost use Rattle.pa_rules.specs.Caches.{listed_slots};
+ghost use Rattle.pa_player.specs.Asks.{CanPurgeOne};
+ghost use Rattle.pa_player.specs.Changes.{given_from, purged_with};
+ghost use Rattle.pa_player.specs.Playing.{caches};
+ghost use Rattle.pa_player.specs.Plays.{IsReady, Plays};
+
+use crate::output::Output;
+use crate::player::Player;
+use crate::told::Told;
+use pa_buckets::{CLASSES, Class};
+use pa_machine::OutOfMemory;
+use pa_record::{Act, Answer};
+
+impl<O: Output> Player<Told<O>> {
+    // Gives back all that the thread's caches have, and decommits the empty spans.
+    pub(crate) fn purge(&mut self, thread: u32) -> Result<Answer, OutOfMemory>
+        requires { IsReady (Do thread ops.Purge) self.old }
+        ensures { IfOk result (Plays self.old thread ops.Purge self.new) }
+    {
+        let mut slots = 0;
+        for partition in 0..self.partitions {
+            slots += self.purge_one(thread, partition)?;
+        }
+        Ok(Answer::Purged { slots })
+    }
+
+    // The same in one partition. Tells how many slots were given back.
+    fn purge_one(&mut self, thread: u32, partition: u32) -> Result<u32, OutOfMemory>
+        requires { CanPurgeOne thread partition self.old }
+        ensures slots { IfOk result (λ n. n ≡ listed_slots (caches self.old thread partition) 0 class_count) }
+        ensures purged { OnOk result (self.new ≡ purged_with partition (given_from thread partition 0 class_count self.old)) }
+    {
+        let slots = self.give_all(thread, partition)?;
+        self.heap.roots.purge(partition);
+        self.told.root(partition, Act::Purge)?;
+        Ok(slots)
+    }
+
+    // Gives back all that the thread's lists of one partition have. Tells how many slots.
+    fn give_all(&mut self, thread: u32, partition: u32) -> Result<u32, OutOfMemory>
+        requires { CanPurgeOne thread partition self.old }
+        ensures slots { IfOk result (λ n. n ≡ listed_slots (caches self.old thread partition) 0 class_count) }
+        ensures given { OnOk result (self.new ≡ given_from thread partition 0 class_count self.old) }
+    {
+        let mut slots = 0;
+        for number in 0..CLASSES {
+            let class = Class::of(number).unwrap();
+            let at = self.list_of(thread, partition, class);
+            slots += self.caches.places(at).len() as u32;
+            self.give(at, partition, 0)?;
+        }
+        Ok(slots)
+    }
+}

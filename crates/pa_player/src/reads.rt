@@ -1,0 +1,52 @@
+ghost use Rattle.std.specs.Prelude.{◌≡◌, ◌<◌, length};
+ghost use Rattle.pa_trace.specs.declared.script.Op.TheVariants as ops;
+ghost use Rattle.pa_trace.specs.declared.script.Line.TheVariants.{Do};
+ghost use Rattle.pa_player.specs.Asks.{CanRead};
+ghost use Rattle.pa_player.specs.Changes.{Reads};
+ghost use Rattle.pa_player.specs.Plays.{IsReady, Plays};
+
+use crate::alloc::COUNT_WORD;
+use crate::handle::Handle;
+use crate::output::Output;
+use crate::player::Player;
+use crate::told::Told;
+use pa_machine::{POISON, held};
+use pa_record::Answer;
+
+// The bytes of a word of the content.
+const WORD_BYTES: u32 = 8;
+
+impl<O: Output> Player<Told<O>> {
+    // A read of a word, by its number from 0.
+    pub(crate) fn read(&self, thread: u32, reg: u32, word: u32) -> Answer
+        requires { IsReady (Do thread (ops.Read reg word)) self.now }
+        ensures { Plays self.now thread (ops.Read reg word) self.now result }
+    {
+        match self.register(thread, reg) {
+            Handle::Empty => Answer::Nothing,
+            Handle::Own(place) => self.read_from(place, word),
+            Handle::Ref(place) => self.read_from(place, word),
+            Handle::Freed => Answer::StaleUse { seen: None },
+            Handle::Cleared => Answer::StaleUse { seen: None },
+        }
+    }
+
+    // A read of this slot: out of range past its words, and dangling where it was freed.
+    fn read_from(&self, place: u32, word: u32) -> Answer
+        requires { CanRead place self.now }
+        ensures { Reads place word self.now result }
+    {
+        let slot = self.table.slot(place);
+        if word >= (slot.title.len - COUNT_WORD) / WORD_BYTES {
+            return Answer::OutOfRange;
+        }
+        let seen = self.table.seen(place);
+        if held(seen.found) {
+            let value = slot.content;
+            Answer::Value { seen, value }
+        } else {
+            let value = POISON;
+            Answer::Dangling { seen, value }
+        }
+    }
+}

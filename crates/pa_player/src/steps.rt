@@ -1,0 +1,179 @@
+ghost use Rattle.std.specs.Prelude.{◌≡◌, ◌<◌, IfOk, OnOk, length};
+ghost use Rattle.pa_machine.specs.Count.{CanStep};
+ghost use Rattle.pa_machine.specs.declared.word.Step.TheVariants as steps;
+ghost use Rattle.pa_record.specs.declared.entry.Answer.TheVariants as answers;
+ghost use Rattle.pa_trace.specs.declared.script.Op.TheVariants as ops;
+ghost use Rattle.pa_trace.specs.declared.script.Line.TheVariants.{Do};
+ghost use Rattle.pa_player.specs.Asks.{CanCopy, CanFree, CanReset, CanWrite};
+ghost use Rattle.pa_player.specs.Changes.{Copies, Frees, LooksAt, Resets, Writes, registered, seen_at, stepped_at};
+ghost use Rattle.pa_player.specs.Playing.{register_at};
+ghost use Rattle.pa_player.specs.Plays.{IsReady, Plays};
+ghost use Rattle.pa_player.specs.Tables.{slot_at};
+ghost use Rattle.pa_player.specs.declared.handle.Handle.TheVariants.{Ref};
+
+use crate::handle::Handle;
+use crate::output::Output;
+use crate::player::Player;
+use crate::told::Told;
+use pa_machine::{OutOfMemory, Step, held, refs};
+use pa_record::Answer;
+
+impl<O: Output> Player<Told<O>> {
+    // A copy of a handle.
+    pub(crate) fn copy(&mut self, thread: u32, from: u32, to: u32) -> Answer
+        requires { IsReady (Do thread (ops.Copy from to)) self.old }
+        ensures { Plays self.old thread (ops.Copy from to) self.new result }
+    {
+        match self.register(thread, from) {
+            Handle::Empty => Answer::Nothing,
+            Handle::Own(place) => self.copy_to(thread, place, to),
+            Handle::Ref(place) => self.copy_to(thread, place, to),
+            Handle::Freed => Answer::StaleUse { seen: None },
+            Handle::Cleared => Answer::StaleUse { seen: None },
+        }
+    }
+
+    // A copy of a handle of this slot, where the second register has none.
+    fn copy_to(&mut self, thread: u32, place: u32, to: u32) -> Answer
+        requires { CanCopy thread to place self.old }
+        ensures { Copies thread to place (register_at self.old thread to) self.old self.new result }
+    {
+        match self.register(thread, to) {
+            Handle::Own(_) => Answer::Filled,
+            Handle::Ref(_) => Answer::Filled,
+            Handle::Empty => self.point(thread, place, to),
+            Handle::Freed => self.point(thread, place, to),
+            Handle::Cleared => self.point(thread, place, to),
+        }
+    }
+
+    // Makes a register that has no handle a `raw_ptr` to this slot.
+    fn point(&mut self, thread: u32, place: u32, to: u32) -> Answer
+        requires can { CanCopy thread to place self.old }
+        requires step { CanStep steps.Copy (slot_at self.old.table place).word.0 }
+        ensures answer { result ≡ answers.Done (seen_at self.old.table place) }
+        ensures pointed { self.new ≡ registered thread to (Ref place) (stepped_at steps.Copy place self.old) }
+    {
+        let seen = self.table.step(place, Step::Copy);
+        self.set_register(thread, to, Handle::Ref(place));
+        Answer::Done { seen }
+    }
+
+    // A reset of a `raw_ptr`.
+    pub(crate) fn reset(&mut self, thread: u32, reg: u32) -> Result<Answer, OutOfMemory>
+        requires { IsReady (Do thread (ops.Reset reg)) self.old }
+        ensures { IfOk result (Plays self.old thread (ops.Reset reg) self.new) }
+    {
+        match self.register(thread, reg) {
+            Handle::Empty => Ok(Answer::Nothing),
+            Handle::Own(_) => Ok(Answer::NotRef),
+            Handle::Ref(place) => self.clear(thread, reg, place),
+            Handle::Freed => Ok(Answer::NotRef),
+            Handle::Cleared => Ok(Answer::StaleReset),
+        }
+    }
+
+    // Resets the `raw_ptr` of a register to this slot. The last one returns a slot that was freed.
+    fn clear(&mut self, thread: u32, reg: u32, place: u32) -> Result<Answer, OutOfMemory>
+        requires { CanReset thread reg place self.old }
+        ensures answer { IfOk result (λ a. a ≡ answers.Done (seen_at self.old.table place)) }
+        ensures resets { OnOk result (Resets thread reg place self.old self.new) }
+    {
+        let seen = self.table.step(place, Step::Reset);
+        self.set_register(thread, reg, Handle::Cleared);
+        if !held(seen.found) && refs(seen.found) == 1 {
+            let slot = self.table.slot(place);
+            let len = u64::from(slot.title.len);
+            self.quarantined.remove(slot.partition, 1, len);
+            self.take_back(thread, place)?;
+        }
+        Ok(Answer::Done { seen })
+    }
+
+    // A free, which through a `raw_ptr` only looks.
+    pub(crate) fn free(&mut self, thread: u32, reg: u32) -> Result<Answer, OutOfMemory>
+        requires { IsReady (Do thread (ops.Free reg)) self.old }
+        ensures { IfOk result (Plays self.old thread (ops.Free reg) self.new) }
+    {
+        match self.register(thread, reg) {
+            Handle::Empty => Ok(Answer::Nothing),
+            Handle::Own(place) => self.free_owned(thread, reg, place),
+            Handle::Ref(place) => Ok(self.free_through(place)),
+            Handle::Freed => Ok(Answer::SecondFree { seen: None }),
+            Handle::Cleared => Ok(Answer::StaleUse { seen: None }),
+        }
+    }
+
+    // Frees the slot that a register owns. It is returned where no `raw_ptr` points to it.
+    fn free_owned(&mut self, thread: u32, reg: u32, place: u32) -> Result<Answer, OutOfMemory>
+        requires { CanFree thread reg place self.old }
+        ensures answer { IfOk result (λ a. a ≡ answers.Done (seen_at self.old.table place)) }
+        ensures frees { OnOk result (Frees thread reg place self.old self.new) }
+    {
+        let seen = self.table.step(place, Step::Free);
+        self.set_register(thread, reg, Handle::Freed);
+        let slot = self.table.slot(place);
+        let len = slot.title.len;
+        self.live.remove(slot.partition, 1, u64::from(len));
+        if refs(seen.found) == 0 {
+            self.take_back(thread, place)?;
+        } else {
+            self.quarantined.add(slot.partition, len);
+        }
+        Ok(Answer::Done { seen })
+    }
+
+    // A free through a `raw_ptr`: a second free where the slot was freed before, else by one who isn't the owner.
+    fn free_through(&self, place: u32) -> Answer
+        requires { place < length self.now.table }
+        ensures { LooksAt place (answers.SecondFree (Some (seen_at self.now.table place))) self.now result }
+    {
+        let seen = self.table.seen(place);
+        if held(seen.found) {
+            Answer::NotOwner { seen }
+        } else {
+            Answer::SecondFree { seen: Some(seen) }
+        }
+    }
+
+    // A write, which through a `raw_ptr` only looks.
+    pub(crate) fn write(&mut self, thread: u32, reg: u32, value: u64) -> Answer
+        requires { IsReady (Do thread (ops.Write reg value)) self.old }
+        ensures { Plays self.old thread (ops.Write reg value) self.new result }
+    {
+        match self.register(thread, reg) {
+            Handle::Empty => Answer::Nothing,
+            Handle::Own(place) => self.write_owned(place, value),
+            Handle::Ref(place) => self.write_through(place),
+            Handle::Freed => Answer::StaleUse { seen: None },
+            Handle::Cleared => Answer::StaleUse { seen: None },
+        }
+    }
+
+    // Writes the slot that a register owns, where no `raw_ptr` points to it.
+    fn write_owned(&mut self, place: u32, value: u64) -> Answer
+        requires { CanWrite place self.old }
+        ensures { Writes place value self.old self.new result }
+    {
+        let seen = self.table.seen(place);
+        if refs(seen.found) > 0 {
+            return Answer::Shared { seen };
+        }
+        self.table.step(place, Step::Write);
+        self.table.fill(place, value);
+        Answer::Done { seen }
+    }
+
+    // A write through a `raw_ptr`: a stale use where the slot was freed, else by one who isn't the owner.
+    fn write_through(&self, place: u32) -> Answer
+        requires { place < length self.now.table }
+        ensures { LooksAt place (answers.StaleUse (Some (seen_at self.now.table place))) self.now result }
+    {
+        let seen = self.table.seen(place);
+        if held(seen.found) {
+            Answer::NotOwner { seen }
+        } else {
+            Answer::StaleUse { seen: Some(seen) }
+        }
+    }
+}
