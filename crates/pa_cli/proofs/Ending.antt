@@ -1,4 +1,4 @@
--- What a status with its cause says where the input is good, where it is faulty, and where nothing is read.
+-- What a status and its cause imply if the input is good, if it is faulty, and if nothing is read.
 use Rattle.std.proofs.Common.{◌≡◌, ◌∙◌, ℕ, List, Option, Some, None, IfSome, inl, inr, refl, sym, ap, subst}
 use Rattle.pa_io.specs.Moves.{IsAllOf}
 use Rattle.pa_trace.specs.declared.fault.TraceFault.{TraceFault}
@@ -24,12 +24,12 @@ use Rattle.pa_cli.specs.StatusText.{status_of_trace, status_of_verdict}
 use Rattle.pa_cli.proofs.Commands.{one_reader}
 use Rattle.pa_cli.proofs.Judging.{one_judgement}
 
--- what is said of all that the source told, where it told these bytes
+-- what holds of all bytes that the source exposes, if they are these
 told_these : (P : List ℕ → Type 0) (told : Option (List ℕ)) (bytes : List ℕ) → told ≡ Some bytes → IfSome told P → P bytes
 told_these P None bytes e h = absurd cc
 told_these P (Some left) bytes e h = let same : left ≡ bytes = cc in subst P same h
 
--- what was read is what the source told, where it told these bytes and all of them were read
+-- if the source exposed these bytes and all of them were read, what was read is these bytes
 read_these : (told : Option (List ℕ)) (bytes read : List ℕ) → told ≡ Some bytes → IsAllOf told read → read ≡ bytes
 read_these None bytes read e h = absurd cc
 read_these (Some left) bytes read e h = let same : left ≡ bytes = cc in sym h ∙ same
@@ -79,14 +79,14 @@ fault_of : (command other : Command) (words : List (List ℕ)) (fault : TraceFau
 fault_of command other words fault before after reads asked also h =
     subst (λ (x : Command). HasFault x fault before after) (one_reader command other words reads asked also) h
 
--- an input has no fault of a call
+-- if the bytes are an input, no call has a fault of the input
 no_fault : (bytes : List ℕ) (command other : Command) (words : List (List ℕ)) (fault : TraceFault) (before after : Stream) → AsksFor command words
     → AsksFor other words → before.told ≡ Some bytes → IsInputFor command bytes → HasFault other fault before after → ⊥
 no_fault bytes command other words fault before after asked also told input h =
     let same = fault_of command other words fault before after (input_read command bytes input) asked also h in
     clean command bytes fault input (told_these (IsFaulty command fault) before.told bytes told same.told)
 
--- a good input leads to Done, or for `audit` to NotLegal, or memory is wanting
+-- a good input leads to Done, or for `audit` to NotLegal, or to OutOfMemory
 pub caused_completes : (status : Status) (c : Call) → Caused status c → Completes status c
 caused_completes Done c h = λ bytes command words told input calm quiet. inl refl
 caused_completes BadCommand c h = λ bytes command words told input calm quiet. absurd (h.0 (command, words))
@@ -101,7 +101,7 @@ caused_completes (NotLegal clause n) c h = λ bytes command words told input cal
     let same = one_reader command h.0.0 c.words (input_read command bytes input) words h.0.1 in
     inr (inr (sym same ∙ h.0.2.0, clause, n, refl))
 
--- a command that reads nothing leads to Done, or memory is wanting
+-- a command that reads nothing leads to Done or OutOfMemory
 pub caused_answers : (status : Status) (c : Call) → Caused status c → Answers status c
 caused_answers Done c h = λ asked other quiet. inl refl
 caused_answers BadCommand c h = λ asked other quiet. absurd (h.0 asked)
@@ -152,7 +152,7 @@ refuted_input bytes clause n before after told h =
     let input = h.refuted in
     (input.trace, input.run, input.lines, subst (IsAudited input.trace input.run input.lines) (read_these before.told bytes h.bytes told h.read.all) input.input)
 
--- a faulty input leads to the status of its fault, or memory is wanting
+-- a faulty input leads to the status of its fault or to OutOfMemory
 pub caused_refuses : (status : Status) (c : Call) → Caused status c → Refuses status c
 caused_refuses Done c h = λ bytes fault command words told first calm. absurd (no_output bytes command fault c h.0 words told first h.1)
 caused_refuses BadCommand c h = λ bytes fault command words told first calm. absurd (h.0 (command, words))
@@ -180,7 +180,7 @@ legal_output bytes c text asked told h =
     subst (λ (x : Command). IsOutputOf x c.source c.source_after (output_with text c.run c.region)) (one_reader Audit h.0 c.words tt asked h.1) h.2 in
     subst IsLegalInput (read_these c.source.told bytes output.0.bytes told output.0.read.all) output.0.legal
 
--- a verdict leads to its status, or memory is wanting
+-- a verdict leads to its status or to OutOfMemory
 pub caused_judges : (status : Status) (c : Call) → Caused status c → Judges status c
 caused_judges Done c h = λ bytes verdict asked told right calm quiet.
     inl (ap status_of_verdict (one_judgement bytes Legal verdict (legal_output bytes c h.0 asked told h.1) right))

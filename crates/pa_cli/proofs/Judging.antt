@@ -32,7 +32,7 @@ same_told : (a b : Run) → IsSameRun a b → told_by a ≡ told_by b
 same_told a b h = same_lists (told_by a) (told_by b) h.entries (fun_ext h.roots) h.pool (fun_ext h.cells) h.report
 
 module _ {A : Type 0} where
-  -- lists of which each is as long as that at its place, and one that isn't there as an empty one, are as long together
+  -- two lists of lists have equal total length if at each place their lists have equal length, a missing one counting as empty
   none_there : (xs : List (List A)) → ((p : ℕ) → slice_index_or xs p [] ≡ []) → sum_by length xs ≡ 0
   none_there [] h = refl
   none_there (x ∷ xs) h =
@@ -114,7 +114,7 @@ same_trace s t h =
     let fourth : List Line → Trace = λ x. record t { lines = x } in
     ap first h.region ∙ (ap second h.partitions ∙ (ap third h.threads ∙ ap fourth h.lines))
 
--- the verdict on a run behind so many lines
+-- the verdict on a run after a number of other lines
 abbrev behind : ℕ → Verdict → Verdict
 behind lines Legal = Legal
 behind lines (Broken c n) = Broken c (lines + n)
@@ -141,7 +141,7 @@ judged bytes (Broken c n) h = record {
   same = ap (λ (m : ℕ). Broken c m) h.at;
 }
 
--- bytes are one trace and one run behind so many lines
+-- bytes are one trace, and one run after one number of lines
 module _ (bytes : List ℕ) (t u : Trace) (a b : Run) (m n : ℕ) (h : IsAudited t a m bytes) (k : IsAudited u b n bytes) where
   parts : (h.front ≡ k.front) × (h.back ≡ k.back)
   parts = one_parting h.front h.back k.front k.back bytes h.parted k.parted

@@ -1,4 +1,4 @@
--- What std parses of a numeral.
+-- What std parses from a numeral.
 use Rattle.std.proofs.Common.{◌≡◌, ◌∙◌, ℕ, ◌+◌, ◌-◌, ◌*◌, ◌<◌, ◌≤◌, List, [], ◌∷◌, ◌++◌, Result, Ok, Err, IfSome, IfNone, refl, sym, ap, subst, arith}
 use Rattle.std.specs.List.{AllByRecursion}
 use Rattle.std.specs.Char.{digit_value}
@@ -25,11 +25,11 @@ value_is n (d ∷ ds) h =
     let same : n * 10 + digit_value d ≡ 10 * n + (d - 48) = omega (arith, digit_is d h.0) in
     ap (λ (m : ℕ). digits_value_after 10 m ds) same ∙ value_is (10 * n + (d - 48)) ds h.1
 
--- no sign stands before a digit
+-- a digit isn't preceded by a sign
 no_plus : (d : ℕ) (ds : List ℕ) → IsDigit d → without_leading_plus (d ∷ ds) ≡ d ∷ ds
 no_plus d ds h = rw (ne_eqb d 43 (λ same. omega (arith, h.0, same))) refl
 
--- of a numeral std parses the number, where it has 64 bits
+-- std parses a numeral to its number, if that has 64 bits
 pub numeral_parsed : {E : Type 0} (text : List ℕ) (n : ℕ) (r : Result ℕ E) → IsNumeral n text → ParsesUnsigned 64 10 text r
     → OkIff r (n < 18446744073709551616) n
 numeral_parsed [] n r h parsed = absurd (h.written refl)
@@ -42,12 +42,12 @@ numeral_parsed (d ∷ ds) n (Err e) h parsed = λ small.
     let value : digits_value 10 (without_leading_plus (d ∷ ds)) ≡ n = ap (digits_value 10) whole ∙ value_is 0 (d ∷ ds) h.digits ∙ h.value in
     parsed (subst (λ (ds : List ℕ). Parses 10 ds) (sym whole) (omega arith, all_digits (d ∷ ds) h.digits), omega (arith, value, small))
 
--- a number with nothing behind it is the whole text
+-- a number with nothing after it is the whole text
 whole_numeral : (bytes rest : List ℕ) (n : ℕ) → BeginsWith bytes n rest → rest ≡ [] → IsNumeral n bytes
 whole_numeral bytes rest n h none =
     subst (IsNumeral n) (sym (h.parts ∙ ap (λ (x : List ℕ). h.digits ++ x) none ∙ append-nil h.digits)) h.numeral
 
--- what is parsed of a whole text
+-- what is parsed from a whole text
 parsed_some : {E : Type 0} (text : List ℕ) (n : ℕ) (r : Result ℕ E) → IsNumeral n text → OkIff r (n < 18446744073709551616) n
     → IfSome (result_ok r) (λ k. IsNumeral k text)
 parsed_some text n (Ok x) h parsed = subst (λ (k : ℕ). IsNumeral k text) (sym parsed.1) h

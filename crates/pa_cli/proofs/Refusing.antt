@@ -1,4 +1,4 @@
--- Why bytes that are no trace are refused.
+-- Why bytes that aren't a trace are refused.
 use Rattle.std.proofs.Common.{rules, arith, ◌≡◌, ◌+◌, ◌≤◌, ℕ, List, ◌++◌, Option, Some, None, IfSome, inl, inr, length, refl, sym, subst}
 use Rattle.std.specs.Io.KnownBytes.{Consumes}
 use Rattle.pa_io.specs.Moves.{IsAllOf}
@@ -22,7 +22,7 @@ use Rattle.pa_cli.specs.Output.{IsTraceRead, IsAuditOutput, legal_text}
 use Rattle.pa_cli.specs.Cause.{IsFaulty, HasFault, IsRefusal, IsStopped}
 use Rattle.pa_cli.specs.StatusText.{status_of_trace}
 
--- what was read, where it isn't too long, was read to its end
+-- what was read was read to its end, if it isn't too long
 pub read_whole : (most : ℕ) (bytes : List ℕ) (before after : Stream) → IsRead most before after bytes → length bytes ≤ most → IsReadWhole most before after bytes
 read_whole most bytes before after (inl whole) short = whole
 read_whole most bytes before after (inr past) short = absurd (let p = past.past in omega (arith, p, short))
@@ -32,8 +32,8 @@ pub read_stopped : (most : ℕ) (bytes : List ℕ) (before after : Stream) → I
 read_stopped most bytes before after (inl whole) = search rules
 read_stopped most bytes before after (inr past) = search rules
 
--- all that the source told has the fault of what was read, where that is all of it, and where it is one byte more than an
--- input may have
+-- All bytes that the source exposes have the fault of what was read, both if that is all of them and if it is one byte more than
+-- an input may have.
 told_whole : (P : List ℕ → Type 0) (told : Option (List ℕ)) (bytes : List ℕ) → IsAllOf told bytes → P bytes → IfSome told P
 told_whole P None bytes all h = tt
 told_whole P (Some left) bytes all h = subst P (sym all) h
@@ -49,7 +49,7 @@ told_all : (most : ℕ) (P : List ℕ → Type 0) (bytes : List ℕ) (before aft
 told_all most P bytes before after (inl whole) h early = told_whole P before.told bytes whole.all h
 told_all most P bytes before after (inr past) h early = told_past P before.told after.told bytes past.given (early past.past)
 
--- what was read has the fault, and so has all that the source told
+-- what was read has the fault, and so have all bytes that the source exposes
 has_fault : (command : Command) (fault : TraceFault) (bytes : List ℕ) (before after : Stream) → IsRead (most_read command) before after bytes
     → IsFaulty command fault bytes → (length bytes ≡ most_read command + 1 → (more : List ℕ) → IsFaulty command fault (bytes ++ more))
     → HasFault command fault before after
@@ -60,7 +60,7 @@ has_fault command fault bytes before after read first early = record {
   told = told_all (most_read command) (IsFaulty command fault) bytes before after read first early;
 }
 
--- a source out of which a trace was read gave what it should, without a fault
+-- a source from which a trace was read gave what it should, without a fault
 pub trace_stopped : (t : Trace) (before after : Stream) → IsTraceRead t before after → IsStopped most_bytes before after
 trace_stopped t before after h = read_stopped most_bytes h.bytes before after (inl h.read)
 
@@ -96,7 +96,7 @@ trace_refused OutOfMemory bytes before after read first command plays = trace_wa
 
 -- ---- the input of `audit`
 
--- a legal run behind its trace is what `audit` prints `legal` for
+-- a legal run after its trace is what `audit` prints `legal` for
 pub input_legal : (bytes text : List ℕ) (before after : Stream) → IsRead most_audited before after bytes → IsLegalInput bytes
     → text ≡ legal_text → IsAuditOutput before after text
 input_legal bytes text before after read h printed = record {

@@ -1,4 +1,4 @@
--- Where a call tells a run and a region.
+-- When a call returns a run and a region.
 use Rattle.std.proofs.Common.{◌≡◌, ◌↔◌, List, ℕ, Option, Some, None, IsSome, inl, inr, refl, arith}
 use Rattle.pa_cli.specs.declared.command.Command.{Command}
 use Rattle.pa_cli.specs.declared.command.Command.TheVariants.{Replay, Model, Audit, Layout, Help, Version}
@@ -11,14 +11,14 @@ use Rattle.pa_cli.specs.Output.{output_with, HasNoRun, IsOutputOf, IsOutput}
 use Rattle.pa_cli.proofs.Commands.{one_letter}
 use Rattle.pa_cli.specs.Cause.{Caused, IsWritten, TellsNoRun, TellsRun}
 
--- what is there, where it is due; what isn't there, where it isn't
+-- they are there if they are due, and not there if they aren't
 is_there : {A P : Type 0} (o : Option A) (x : A) → o ≡ Some x → P → IsSome o ↔ P
 is_there o x e p = (λ h. p, λ h. rw e refl)
 
 is_away : {A P : Type 0} (o : Option A) → o ≡ None → (P → ⊥) → IsSome o ↔ P
 is_away o e never = (λ h. absurd cc, λ p. absurd (never p))
 
--- a call that has neither, and wasn't due to
+-- a call that has neither, and isn't due to have them
 tells_none : (status : Status) (c : Call) → HasNoRun c.run c.region → ((IsReplay c.words × IsWritten status) → ⊥) → TellsRun status c
 tells_none status c none never = record { run = is_away c.run none.0 never; region = is_away c.region none.1 never }
 
@@ -53,7 +53,7 @@ unwritten status done fault (inr e) = fault e
 tells_nothing : (status : Status) (c : Call) → TellsNoRun status c → (IsWritten status → ⊥) → TellsRun status c
 tells_nothing status c none never = tells_none status c (none never) (λ due. never due.1)
 
--- a call that has its cause tells its run
+-- a call that has its cause returns its run as it should
 pub caused_tells : (status : Status) (c : Call) → Caused status c → TellsNoRun status c → TellsRun status c
 caused_tells Done c h none = tells Done c h.0 (inl refl) h.1
 caused_tells BadCommand c h none = tells_nothing BadCommand c none (unwritten BadCommand (λ e. absurd cc) (λ e. absurd cc))

@@ -1,21 +1,21 @@
--- A call of the program: its words, what its source and its sink tell before it and after it, and what it answers of a run.
+-- A call of the program: its words, what its source and its sink show before and after it, and what it returns of a run.
 use Rattle.std.specs.Prelude.{◌≡◌, ℕ, ◌+◌, ◌≤◌, ◌⊎◌, List, Option, length}
 use Rattle.std.specs.Io.KnownBytes.{Consumes}
 use Rattle.pa_io.specs.Moves.{IsAllOf, IsReadOut}
 use Rattle.pa_record.specs.declared.run.Run.{Run}
 
--- What a source or a sink tells at one moment: its bytes where it tells them, which are those left to read or those
--- written so far, and how many faults it had so far.
+-- What a source or a sink shows at one moment: its bytes, if it exposes them, which are those left to read or those written
+-- so far, and how many faults it has had so far.
 pub record Stream : Type 0 where
   pub told : Option (List ℕ)
   pub faults : ℕ
 
--- a source or a sink that tells this, after so many faults
+-- a source or a sink with these bytes, if it exposes them, and this number of faults
 abbrev pub stream_of : Option (List ℕ) → ℕ → Stream
 stream_of told faults = record { told = told; faults = faults }
 
--- the words, what source and sink tell before the call and after it, and what the call answers besides its status: a run, and
--- the words of the region that was closed
+-- The words, what source and sink show before and after the call, and what the call returns besides its status: a run, and the
+-- words of the closed region.
 pub record Call : Type 0 where
   pub words : List (List ℕ)
   pub source : Stream
@@ -25,7 +25,7 @@ pub record Call : Type 0 where
   pub run : Option Run
   pub region : Option (List ℕ)
 
--- the call with these words, this source and this sink, each as it was before and as it is after, and this run and this region
+-- the call with these words, with source and sink before and after it, and with this run and this region
 abbrev pub call_of : List (List ℕ) → Stream → Stream → Stream → Stream → Option Run → Option (List ℕ) → Call
 call_of words source source_after sink sink_after run region = record {
   words = words;
@@ -45,13 +45,13 @@ KeepsSource c = c.source_after ≡ c.source
 abbrev pub KeepsSink : Call → Type 0
 KeepsSink c = c.sink_after ≡ c.sink
 
--- the source gave these bytes, and no byte further than one past the most bytes that an input may have
+-- the source gave these bytes, and at most one byte more than an input may have
 pub record HasGiven (most : ℕ) (before after : Stream) (bytes : List ℕ) : Type 0 where
   pub given : Consumes before.told after.told bytes
   pub within : length bytes ≤ most + 1
 
--- the source was read to its end without a fault, and gave at most so many bytes as an input may have: where it told what
--- was left, that was these bytes, and nothing is left now
+-- The source was read to its end without a fault and gave no more bytes than an input may have. If it exposes its bytes, those
+-- left before were exactly these, and none is left now.
 pub record IsReadWhole (most : ℕ) (before after : Stream) (bytes : List ℕ) : Type 0 where
   pub all : IsAllOf before.told bytes
   pub end : IsReadOut before.told after.told

@@ -1,4 +1,4 @@
--- The causes of the statuses, and what each leaves behind.
+-- The cause of each status, and the state in which it leaves source and sink.
 use Rattle.std.specs.Prelude.{◌≡◌, ◌↔◌, ℕ, ◌⊎◌, List, Some, IfSome, IsSome}
 use Rattle.std.specs.Io.KnownBytes.{Appends}
 use Rattle.pa_io.specs.Moves.{HasRisen, HasWrittenPart}
@@ -22,7 +22,7 @@ use Rattle.pa_cli.specs.Command.{AsksFor, ReadsInput, AsksToRead, IsReplay, IsAu
 use Rattle.pa_cli.specs.Output.{HasNoRun, IsOutput}
 use Rattle.pa_cli.specs.StatusText.{status_of_trace, status_of_verdict}
 
--- the bytes have this fault as an input of the command: it is that of the first faulty line
+-- the bytes have this fault as an input of the command: the first faulty line has it
 abbrev pub IsFaulty : Command → TraceFault → List ℕ → Type 0
 IsFaulty Replay fault bytes = IsFirstFault fault bytes
 IsFaulty Model fault bytes = IsFirstFault fault bytes
@@ -32,34 +32,34 @@ IsFaulty (commands.Trace rounds key) fault bytes = ⊥
 IsFaulty Help fault bytes = ⊥
 IsFaulty Version fault bytes = ⊥
 
--- The command's input has this fault: it was read without a fault of the source, and the first faulty line of what was read has
--- it, and so has that of all that the source told.
+-- The command's input has this fault. It was read without a fault of the source; the first faulty line of what was read has the
+-- fault, and if the source exposes its bytes, so has the first faulty line of all of them.
 pub record HasFault (command : Command) (fault : TraceFault) (before after : Stream) : Type 0 where
   pub bytes : List ℕ
   pub read : IsRead (most_read command) before after bytes
   pub first : IsFaulty command fault bytes
   pub told : IfSome before.told (IsFaulty command fault)
 
--- a fault of the source came in this call
+-- the source had a fault in this call
 pub record IsReadFault (most : ℕ) (before after : Stream) : Type 0 where
   pub risen : HasRisen before.faults after.faults
   pub bytes : List ℕ
   pub given : HasGiven most before after bytes
 
--- the call stopped without a fault of the source
+-- the call stopped, and the source had no fault in it
 pub record IsStopped (most : ℕ) (before after : Stream) : Type 0 where
   pub calm : after.faults ≡ before.faults
   pub bytes : List ℕ
   pub given : HasGiven most before after bytes
 
--- the source's bytes, all of which were read, are the text of a trace and behind it that of a run of which this clause is the first
--- that fails, first at line n of these bytes
+-- The source's bytes, all of which were read, are a trace followed by a run, and this clause is the first that the run breaks,
+-- first at line n of these bytes.
 pub record IsRefuted (clause : Clause) (n : ℕ) (before after : Stream) : Type 0 where
   pub bytes : List ℕ
   pub read : IsReadWhole most_audited before after bytes
   pub refuted : IsRefutedInput clause n bytes
 
--- why a command has no output, by what the source tells before it and after it; the other statuses are no reason
+-- why a command has no output, by the source before and after the call; no other status is such a reason
 abbrev pub IsRefusal : Status → Command → Stream → Stream → Type 0
 IsRefusal Done command before after = ⊥
 IsRefusal BadCommand command before after = ⊥
@@ -74,9 +74,9 @@ IsRefusal (NotLegal clause n) command before after = (command ≡ Audit) × IsRe
 abbrev pub HasNoOutput : Status → Call → Type 0
 HasNoOutput status c = (command : Command) × AsksFor command c.words × IsRefusal status command c.source c.source_after
 
--- each status comes where
+-- when each status is returned:
 --   Done: the output was written whole
---   BadCommand: the words are those of no command; nothing was read or written
+--   BadCommand: the words are no command; nothing was read or written
 --   BadLine: line n of the input is the first faulty one, and it is outside the grammar; nothing was written
 --   Limit: line n of the input is the first faulty one, and it passes a limit; nothing was written
 --   ReadFault: the source had a fault in this call; nothing was written
@@ -95,15 +95,15 @@ Caused WriteFault c =
 Caused OutOfMemory c = HasNoOutput OutOfMemory c × KeepsSink c
 Caused (NotLegal clause n) c = HasNoOutput (NotLegal clause n) c × KeepsSink c
 
--- no fault of the source came in this call
+-- the source had no fault in this call
 abbrev pub HasNoReadFault : Call → Type 0
 HasNoReadFault c = HasRisen c.source.faults c.source_after.faults → ⊥
 
--- no fault of the sink came in this call
+-- the sink had no fault in this call
 abbrev pub HasNoWriteFault : Call → Type 0
 HasNoWriteFault c = HasRisen c.sink.faults c.sink_after.faults → ⊥
 
--- the bytes are an input for the command, in its grammar and its limits
+-- the bytes are an input that the command accepts: within its grammar and its limits
 abbrev pub IsInputFor : Command → List ℕ → Type 0
 IsInputFor Replay bytes = (trace : Trace) × IsInput trace bytes
 IsInputFor Model bytes = (trace : Trace) × IsInput trace bytes
@@ -113,33 +113,33 @@ IsInputFor (commands.Trace rounds key) bytes = ⊥
 IsInputFor Help bytes = ⊥
 IsInputFor Version bytes = ⊥
 
--- the command is `audit`, and the status tells a clause and a line
+-- the command is `audit`, and the status names a clause and a line
 abbrev pub RefutesBy : Command → Status → Type 0
 RefutesBy command status = (command ≡ Audit) × (clause : Clause) × (n : ℕ) × (status ≡ NotLegal clause n)
 
--- an input for a command that reads, without a fault of source or sink, leads to Done, or for `audit` to NotLegal, unless memory is
--- wanting
+-- If a command that reads gets an input it accepts, and neither source nor sink has a fault, the status is Done, or NotLegal for
+-- `audit`, or OutOfMemory.
 abbrev pub Completes : Status → Call → Type 0
 Completes status c =
     (bytes : List ℕ) (command : Command) → AsksFor command c.words → c.source.told ≡ Some bytes → IsInputFor command bytes
     → HasNoReadFault c → HasNoWriteFault c → (status ≡ Done) ⊎ ((status ≡ OutOfMemory) ⊎ RefutesBy command status)
 
--- for `audit`, bytes with a verdict, without a fault of source or sink, lead to the status that tells it, unless memory is wanting
+-- if `audit` gets bytes with a verdict, and neither source nor sink has a fault, the status is that verdict's or OutOfMemory
 abbrev pub Judges : Status → Call → Type 0
 Judges status c =
     (bytes : List ℕ) (verdict : Verdict) → IsAudit c.words → c.source.told ≡ Some bytes → IsVerdictOn verdict bytes
     → HasNoReadFault c → HasNoWriteFault c → (status ≡ status_of_verdict verdict) ⊎ (status ≡ OutOfMemory)
 
--- a command that reads nothing leads to Done where the sink has no fault, unless memory is wanting
+-- if the sink has no fault, a command that reads nothing ends with Done or OutOfMemory
 abbrev pub Answers : Status → Call → Type 0
 Answers status c = IsCommand c.words → (AsksToRead c.words → ⊥) → HasNoWriteFault c → (status ≡ Done) ⊎ (status ≡ OutOfMemory)
 
--- nothing is read but for a command that reads
+-- only a command that reads an input reads from the source
 abbrev pub ReadsForInput : Call → Type 0
 ReadsForInput c = (AsksToRead c.words → ⊥) → KeepsSource c
 
--- for a command that reads, bytes with a first faulty line, without a fault of the source, lead to that fault's status, unless
--- memory is wanting
+-- if a command that reads gets bytes with a faulty line, and the source has no fault, the status is that of the first faulty line
+-- or OutOfMemory
 abbrev pub Refuses : Status → Call → Type 0
 Refuses status c =
     (bytes : List ℕ) (fault : TraceFault) (command : Command) → AsksFor command c.words → c.source.told ≡ Some bytes
@@ -149,17 +149,17 @@ Refuses status c =
 abbrev pub IsWritten : Status → Type 0
 IsWritten status = (status ≡ Done) ⊎ (status ≡ WriteFault)
 
--- where nothing was written there is no run and no region
+-- if nothing was written, no run and no region are returned
 abbrev pub TellsNoRun : Status → Call → Type 0
 TellsNoRun status c = (IsWritten status → ⊥) → HasNoRun c.run c.region
 
--- the call tells a run and a region exactly where the words are those of `replay` and the output was written
+-- a run and a region are returned if and only if the words are those of `replay` and the output was written
 pub record TellsRun (status : Status) (c : Call) : Type 0 where
   pub run : IsSome c.run ↔ (IsReplay c.words × IsWritten status)
   pub region : IsSome c.region ↔ (IsReplay c.words × IsWritten status)
 
--- the call is right: its status has its cause, nothing is read but for a command that reads, the others answer, a good input
--- completes, a run is judged, a faulty input is refused, and a replay tells its run
+-- The call is right: its status has its cause, only a command that reads does read, the others answer, an input that is accepted
+-- is played or judged, a faulty one is refused, and `replay` returns its run.
 pub record IsRightCall (status : Status) (c : Call) : Type 0 where
   pub cause : Caused status c
   pub reads : ReadsForInput c

@@ -77,7 +77,7 @@ ReadsInput Version = ⊥
 abbrev pub AsksToRead : List (List ℕ) → Type 0
 AsksToRead words = (command : Command) × AsksFor command words × ReadsInput command
 
--- the most bytes that a command's input may have; the last four have none
+-- the most bytes that a command's input may have; the last four commands read none
 abbrev pub most_read : Command → ℕ
 most_read Replay = most_bytes
 most_read Model = most_bytes

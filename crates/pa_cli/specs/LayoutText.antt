@@ -1,4 +1,4 @@
--- The output of the command `layout`: where a request of so many bytes is placed.
+-- The output of the command `layout`: where a request of a given size is placed.
 use Rattle.std.specs.Prelude.{◌≡◌, ℕ, ◌+◌, ◌<◌, ◌⊎◌, List, [], ◌∷◌, ◌++◌, codes, max}
 use Rattle.std.specs.Fmt.{decimal}
 use Rattle.pa_buckets.specs.Classes.{IsClassOf}
@@ -17,8 +17,8 @@ class_line c =
 abbrev pub direct_line : Shape → List ℕ
 direct_line shape = codes "direct slot " ++ decimal shape.slot ++ codes " super " ++ decimal shape.supers ++ 10 ∷ []
 
--- a request is placed in the class of its raw size, which is 8 bytes more than what is asked, and at least 9; where it is
--- too large for every class, in a direct map; or it is too large for that too
+-- A request goes to the size class of its raw size, which is 8 bytes more than was asked, and at least 9. If that is too large
+-- for every class, it is a direct map; or it is too large for that too.
 abbrev pub IsLayoutText : ℕ → List ℕ → Type 0
 IsLayoutText size text =
     ((c : ℕ) × IsClassOf (max size 1 + 8) c × (text ≡ class_line c))

@@ -19,13 +19,13 @@ use Rattle.pa_cli.specs.Command.{AsksFor}
 use Rattle.pa_cli.specs.LayoutText.{IsLayoutText}
 use Rattle.pa_cli.specs.HelpText.{help_text, version_text}
 
--- what comes of a command: the text that is written, and where it played on threads the run and the words of the closed region
+-- What a command produces: the text to be written, and if it played on threads, the run and the words of the closed region.
 pub record Output : Type 0 where
   pub text : List ℕ
   pub run : Option Run
   pub region : Option (List ℕ)
 
--- this text, with what is told of a run
+-- this text, with this run and these words of a region, if there are any
 abbrev pub output_with : List ℕ → Option Run → Option (List ℕ) → Output
 output_with text run region = record { text = text; run = run; region = region }
 
@@ -39,8 +39,8 @@ pub record IsTraceRead (trace : Trace) (before after : Stream) : Type 0 where
   pub read : IsReadWhole most_bytes before after bytes
   pub input : IsInput trace bytes
 
--- The run is a legal run of the trace, and the closed region, whose words are those of so many super pages, holds it. The text is that
--- of this run. Of a trace of one thread it is the run in the order of the lines.
+-- The run is a legal run of the trace, and the closed region holds it, whose words are those of its super pages. The text is that
+-- of this run. If the trace has one thread, it is the sequential run, in the order of the lines.
 pub record IsReplayText (trace : Trace) (run : Run) (words text : List ℕ) : Type 0 where
   pub legal : IsLegal trace run
   pub held : IsHeldIn trace (told_by run) words
@@ -62,7 +62,7 @@ pub record IsReplayOutput (before after : Stream) (out : Output) : Type 0 where
   pub read : IsTraceRead trace before after
   pub played : IsReplayedAs trace out
 
--- the text is that of the trace's run in the order of its lines, which is a legal run of the trace
+-- the text is that of the trace's sequential run, in the order of its lines, which is a legal run of the trace
 pub record IsModelText (trace : Trace) (text : List ℕ) : Type 0 where
   pub run : Run
   pub filed : IsFileRun trace run
@@ -78,20 +78,20 @@ pub record IsModelOutput (before after : Stream) (text : List ℕ) : Type 0 wher
 abbrev pub legal_text : List ℕ
 legal_text = codes "legal\n"
 
--- the output of `audit`: the source's bytes, all of which were read, are the text of a trace and behind it that of a legal run of it
+-- the output of `audit`: the source's bytes, all of which were read, are a trace followed by a legal run of it
 pub record IsAuditOutput (before after : Stream) (text : List ℕ) : Type 0 where
   pub bytes : List ℕ
   pub read : IsReadWhole most_audited before after bytes
   pub legal : IsLegalInput bytes
   pub printed : text ≡ legal_text
 
--- the text is that of the generated trace of so many rounds and this key
+-- the text is the trace generated from this number of rounds and this key
 pub record IsGeneratedText (rounds key : ℕ) (text : List ℕ) : Type 0 where
   pub trace : Trace
   pub generated : IsGenerated rounds key trace
   pub printed : IsTraceText trace text
 
--- the output of each command, by what the source tells before it and after it
+-- the output of each command, by the source before and after the call
 abbrev pub IsOutputOf : Command → Stream → Stream → Output → Type 0
 IsOutputOf Replay before after out = IsReplayOutput before after out
 IsOutputOf Model before after out = IsModelOutput before after out.text × HasNoRun out.run out.region
@@ -101,7 +101,7 @@ IsOutputOf (commands.Trace rounds key) before after out = IsGeneratedText rounds
 IsOutputOf Help before after out = (out.text ≡ help_text) × HasNoRun out.run out.region
 IsOutputOf Version before after out = (out.text ≡ version_text) × HasNoRun out.run out.region
 
--- the output of the call has this text: it is that of the command for which the words ask
+-- the output of the call has this text: it is that of the command that the words ask for
 abbrev pub IsOutput : Call → List ℕ → Type 0
 IsOutput c text =
     (command : Command) × AsksFor command c.words × IsOutputOf command c.source c.source_after (output_with text c.run c.region)

@@ -1,4 +1,4 @@
--- How a status is told: its number, with which the program ends, and its text.
+-- How a status is shown: the number with which the program exits, and its text.
 use Rattle.std.specs.Prelude.{ℕ, List, [], ◌++◌, codes}
 use Rattle.std.specs.Fmt.{decimal}
 use Rattle.pa_trace.specs.declared.fault.TraceFault.{TraceFault}
@@ -27,7 +27,7 @@ clause_name clauses.Caches = codes "caches"
 clause_name clauses.Seen = codes "seen"
 clause_name clauses.Report = codes "report"
 
--- the number with which the program ends
+-- the exit code of the program
 abbrev pub status_number : Status → ℕ
 status_number Done = 0
 status_number BadCommand = 1
@@ -49,7 +49,7 @@ status_text WriteFault = codes "write fault"
 status_text OutOfMemory = codes "out of memory"
 status_text (NotLegal clause n) = codes "not legal: " ++ clause_name clause ++ codes " at line " ++ decimal n
 
--- the status that tells a verdict
+-- the status that reports a verdict
 abbrev pub status_of_verdict : Verdict → Status
 status_of_verdict Legal = Done
 status_of_verdict (Broken clause n) = NotLegal clause n

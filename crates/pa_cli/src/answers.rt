@@ -10,7 +10,7 @@ use pa_text::{Text, push_byte, push_bytes, push_number};
 use pa_trace::{generate, write_trace};
 use std::alloc::Global;
 
-// The most bytes of a line of `layout`, for the room that is made ahead.
+// The most bytes of a line of `layout`, for the room that is allocated first.
 const LINE_BYTES: usize = 80;
 
 // What `--help` prints.
@@ -60,7 +60,7 @@ pub fn write_version(alloc: Global) -> Result<Vec<u8>, OutOfMemory>
     Ok(out.into_vec())
 }
 
-// The text of `audit` where the run is legal.
+// The text of `audit` if the run is legal.
 pub fn write_legal(alloc: Global) -> Result<Vec<u8>, OutOfMemory>
     ensures { IfOk result (λ text. text.items ≡ legal_text) }
 {
@@ -69,7 +69,7 @@ pub fn write_legal(alloc: Global) -> Result<Vec<u8>, OutOfMemory>
     Ok(out.into_vec())
 }
 
-// The text of `layout` for a request of so many bytes.
+// The text of `layout` for a request of this size.
 pub fn write_layout(alloc: Global, size: u32) -> Result<Vec<u8>, OutOfMemory>
     ensures { IfOk result (λ text. IsLayoutText size text.items) }
 {
@@ -84,7 +84,7 @@ pub fn write_layout(alloc: Global, size: u32) -> Result<Vec<u8>, OutOfMemory>
     Ok(out.into_vec())
 }
 
-// The text of the generated trace of so many rounds and this key.
+// The text of the trace generated from this number of rounds and this key.
 pub fn write_generated(alloc: Global, rounds: u32, key: u64) -> Result<Vec<u8>, OutOfMemory>
     requires some { 1 ≤ rounds }
     requires few { rounds ≤ 800 }

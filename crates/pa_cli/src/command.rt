@@ -14,20 +14,20 @@ pub enum Command {
     Replay,
     /// Reads a trace, plays its lines in their order on one thread, and prints the run.
     Model,
-    /// Reads a trace and behind it a run, and prints whether that is a legal run of the trace.
+    /// Reads a trace and then a run, and prints whether that is a legal run of the trace.
     Audit,
-    /// Prints where a request of so many bytes is placed: its size class or its direct map.
+    /// Prints where a request of this many bytes is placed: its size class or its direct map.
     Layout(u32),
-    /// Prints the generated trace of so many rounds, 1 to 800, by the random numbers of this key.
+    /// Prints the trace generated in this number of rounds, 1 to 800, with random numbers from this key.
     Trace { rounds: u32, key: u64 },
-    /// Prints the commands and what they answer.
+    /// Prints the commands and what they print.
     Help,
     /// Prints the program's name and version.
     Version,
 }
 
 impl Command {
-    /// The command that the words ask for. `None` exactly where there is none.
+    /// The command that the words ask for, or `None` if and only if there is none.
     pub fn of(words: &[String]) -> Option<Command>
         ensures asked { IfSome result (λ command. AsksFor command (map string_bytes words.now)) }
         ensures none { IfNone result (IsCommand (map string_bytes words.now) → ⊥) }
@@ -83,7 +83,7 @@ impl Command {
     }
 }
 
-// The rounds that the word spells. `None` exactly where it spells no number from 1 to 800.
+// The rounds that the word spells, or `None` if and only if it spells no number from 1 to 800.
 fn rounds_in(word: &String) -> Option<u32>
     ensures found { IfSome result (λ n. IsNumeral n (string_bytes word.now) × (1 ≤ n) × (n ≤ 800)) }
     ensures none { IfNone result ((n : ℕ) → IsNumeral n (string_bytes word.now) → 1 ≤ n → n ≤ 800 → ⊥) }
@@ -94,7 +94,7 @@ fn rounds_in(word: &String) -> Option<u32>
     }
 }
 
-// The number that the word spells. `None` exactly where it spells none of 64 bits.
+// The number that the word spells, or `None` if and only if it spells no number of 64 bits.
 fn whole_key(word: &String) -> Option<u64>
     ensures found { IfSome result (λ n. IsNumeral n (string_bytes word.now)) }
     ensures none { IfNone result ((n : ℕ) → IsNumeral n (string_bytes word.now) → n ≤ 18446744073709551615 → ⊥) }
@@ -105,7 +105,7 @@ fn whole_key(word: &String) -> Option<u64>
     }
 }
 
-// The number that the word spells. `None` exactly where it spells none of 32 bits.
+// The number that the word spells, or `None` if and only if it spells no number of 32 bits.
 fn whole_number(word: &String) -> Option<u32>
     ensures found { IfSome result (λ n. IsNumeral n (string_bytes word.now)) }
     ensures none { IfNone result ((n : ℕ) → IsNumeral n (string_bytes word.now) → n ≤ 4294967295 → ⊥) }

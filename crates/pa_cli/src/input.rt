@@ -7,7 +7,7 @@ ghost use Rattle.pa_cli.specs.declared.input.InputFault.TheVariants.{ReadFault, 
 use pa_io::{Failed, Source};
 use std::alloc::{AllocError, AllocFailed, Global};
 
-// The most bytes that are asked of the source at once.
+// The most bytes that one read asks of the source.
 const PIECE: usize = 65_536;
 
 // Why the input wasn't read.
@@ -67,7 +67,7 @@ pub fn read_input<S: Source>(
     Ok(input)
 }
 
-// Reads once and appends what the source gave, which is nothing at its end alone. Answers how many bytes it was.
+// Reads once and appends what the source gave, which is nothing only at its end. Returns the number of bytes.
 fn read_piece<S: Source>(
     source: &mut S,
     piece: &mut [u8],

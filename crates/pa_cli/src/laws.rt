@@ -3,7 +3,7 @@ ghost use Rattle.pa_cli.specs.Laws.{OneThreadPrintsAsModel};
 use pa_one_run::one_file_run;
 use pa_record::one_run_for_a_text;
 
-/// The law that of a trace of one thread `replay` prints what `model` prints, byte by byte.
+/// For a trace of one thread `replay` prints what `model` prints, byte for byte.
 pub fn one_thread_prints_as_model()
     ensures { OneThreadPrintsAsModel }
 {

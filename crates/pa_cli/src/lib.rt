@@ -1,8 +1,8 @@
-//! The program's one call: it takes the words of a command, a source and a sink, and answers a status, and of a replay its run and
-//! the region that was closed.
+//! The program's one call: it takes the words of a command, a source and a sink, and returns a status, and for a replay its run
+//! and the closed region.
 //!
-//! The order of refusals is: the words, a fault of the source, the first faulty line, memory, a run that isn't legal, a fault of the sink.
-//! The output is made whole before its first byte is written, so want of memory never follows one.
+//! Refusals come in this order: the words, a fault of the source, the first faulty line, memory, a run that isn't legal, a fault of
+//! the sink. The output is made whole before its first byte is written, so running out of memory never follows a written byte.
 #![tactic(auto)]
 
 mod answers;

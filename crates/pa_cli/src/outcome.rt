@@ -5,14 +5,14 @@ use crate::status::Status;
 use pa_record::Run;
 use pa_region::Closed;
 
-/// What a call of the program answers.
+/// What a call of the program returns.
 #[derive(Drop)]
 pub struct Outcome {
     /// How the call ended.
     pub status: Status,
-    /// The run whose text the output is. It is there for `replay` alone, where the output was written, whole or a first part of it.
+    /// The run whose text is the output. Only `replay` has one, and only if its output was written, whole or a first part of it.
     pub run: Option<Run>,
-    /// The words of the region in which that run was played, when it was closed. It is there where the run is.
+    /// The words of the region in which that run was played, as they were when it was closed. Present if and only if the run is.
     pub region: Option<Closed>,
 }
 
@@ -30,7 +30,7 @@ impl Outcome {
     }
 }
 
-// What comes of a command: the text that is to be written, and where it played on threads the run and the closed region.
+// What a command produces: the text to be written, and if it played on threads, the run and the closed region.
 #[derive(Drop)]
 pub struct Output {
     pub text: Vec<u8>,

@@ -4,7 +4,7 @@ ghost use Rattle.pa_io.specs.Moves.{HasWrittenPart, HasRisen};
 
 use pa_io::{Failed, Sink};
 
-// Writes all of these bytes. After a fault a first part of them was written.
+// Writes all of these bytes. If the sink has a fault, a first part of them was written.
 pub fn write_output<K: Sink>(sink: &mut K, text: &[u8]) -> Result<(), Failed>
     ensures whole { OnOk result (Appends (K.written sink.old) (K.written sink.new) text.now) }
     ensures calm { OnOk result (K.faults sink.new ≡ K.faults sink.old) }

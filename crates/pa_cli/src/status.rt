@@ -8,12 +8,12 @@ use pa_rules::Clause;
 use pa_trace::TraceFault;
 use std::fmt;
 
-/// How a call of the program ended. Its text is what the program prints on standard error where it isn't done.
+/// How a call of the program ended. Its text is what the program prints on standard error unless the status is `Done`.
 #[derive(Clone, Copy, Debug, PartialEq, Eq)]
 pub enum Status {
     /// The output was written whole.
     Done,
-    /// The words are those of no command.
+    /// The words are no command.
     BadCommand,
     /// This line of the input is the first faulty one, and it is outside the grammar. Lines count from 1.
     BadLine(u32),
@@ -23,15 +23,15 @@ pub enum Status {
     ReadFault,
     /// The sink had a fault.
     WriteFault,
-    /// Memory was wanting. Nothing was written.
+    /// Out of memory. Nothing was written.
     OutOfMemory,
-    /// The run that was read is no legal run of the trace before it: the first clause that fails, and the first line of the whole
-    /// input at which it does.
+    /// The run that was read isn't a legal run of the trace before it: the first clause that fails, and the first line of the
+    /// whole input at which it does.
     NotLegal(Clause, u32),
 }
 
 impl Status {
-    /// The number with which the program ends, 0 to 7.
+    /// The program's exit code, 0 to 7.
     pub fn number(&self) -> u8
         ensures { result ≡ status_number self.now }
     {

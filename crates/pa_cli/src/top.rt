@@ -30,10 +30,10 @@ use std::thread::Threads;
 const MOST_AUDITED: usize = 134_217_728;
 
 /// Does what the words ask for. `replay` and `model` read a trace from the source, play it, and write the text of that run to the sink:
-/// `replay` each thread's lines on a thread of its own where one can be had, with the gate called around each line, and `model` all
+/// `replay` plays each thread's lines on a thread of its own if it gets one, with the gate called around each line, and `model` all
 /// lines in their order on one thread. The input is read to its end, or to one byte past the 4,194,304 bytes that it may have.
-/// `audit` reads a trace and behind it a run, to one byte past 134,217,728, and writes `legal` where that is a legal run of the trace.
-/// `layout SIZE` writes where a request of so many bytes is placed, `trace ROUNDS KEY` writes a generated trace, and `--help`
+/// `audit` reads a trace and then a run, to one byte past 134,217,728, and writes `legal` if that is a legal run of the trace.
+/// `layout SIZE` writes where a request of that size is placed, `trace ROUNDS KEY` writes a generated trace, and `--help`
 /// and `--version` write their texts; these four read nothing.
 pub fn run<R: Threads + Wait + Sync, S: Source, K: Sink, G: Gate>(
     rt: &R,
@@ -43,14 +43,14 @@ pub fn run<R: Threads + Wait + Sync, S: Source, K: Sink, G: Gate>(
     sink: &mut K,
     gate: &G,
 ) -> Outcome
-    // The words alone decide on the command.
+    // Only the words decide whether there is a command.
     ensures command { result.status ≡ Status.BadCommand ↔ ¬ IsCommand (map string_bytes words.now) }
 
-    // The status has its cause, and leaves source and sink as that cause says. Of `replay` it says that the run whose text is written
-    // is a legal run of the trace, and that the closed region holds it; of `model` that what is written is the text of the trace's
-    // run in the order of its lines, which is legal; of `audit` that the run that was read is a legal one of the trace before it, or by
-    // which clause and at which line it isn't. Only these three read. A good input is played or judged, and a faulty one refused; the
-    // other commands answer. A run and a region are told exactly where `replay` wrote.
+    // The status has its cause, and source and sink are as that cause says. For `replay` this says that the run whose text is written
+    // is a legal run of the trace, and that the closed region holds it; for `model` that what is written is the text of the
+    // trace's sequential run, which is legal; for `audit` that the run that was read is a legal run of the trace before it, or
+    // which clause fails first and at which line. Only these three read. A good input is played or judged, and a faulty one is
+    // refused; the others answer. A run and a region are returned if and only if `replay` wrote its output.
     ensures call { IsRightCall result.status (call_of (map string_bytes words.now)
         (stream_of (S.left source.old) (S.faults source.old)) (stream_of (S.left source.new) (S.faults source.new))
         (stream_of (K.written sink.old) (K.faults sink.old)) (stream_of (K.written sink.new) (K.faults sink.new))
@@ -101,7 +101,7 @@ fn answer<R: Threads + Wait + Sync, S: Source, K: Sink, G: Gate>(
     }
 }
 
-// The output of a command for which some words ask.
+// The output of a command that some words ask for.
 fn output_of<R: Threads + Wait + Sync, S: Source, G: Gate>(
     rt: &R,
     alloc: Global,
@@ -194,7 +194,7 @@ fn trace_of<S: Source>(alloc: Global, source: &mut S) -> Result<Trace, Status>
     Ok(read_trace(alloc, input.as_slice())?)
 }
 
-// A run of the trace, whose threads ran beside each other, with its text and the region that was closed.
+// A run of the trace with its threads running concurrently, with its text and the closed region.
 fn replayed<R: Threads + Wait + Sync, G: Gate>(
     rt: &R,
     alloc: Global,

@@ -1,4 +1,4 @@
--- Allocations by what the calls of a stock say: that the op does what it should.
+-- Allocations, by what the contracts of the thread state say: the op does what it should.
 use Rattle.std.proofs.Common.{◌≡◌, ℕ, ◌+◌, ◌<◌, ◌≤◌, [], ◌∷◌, max, sym, ap, subst, arith}
 use Rattle.std.specs.Prelude.{◌==◌}
 use Rattle.std.proofs.lemmas.List.Sums.{sum_by-append}
@@ -27,7 +27,7 @@ use Rattle.pa_heap.proofs.Taking.{front_back, front_brings}
 use Rattle.pa_thread_state.proofs.Fetching.{fill_asking, mapped_slot, map_asking, map_back}
 use Rattle.pa_heap.proofs.Fetching.{fill_back, fill_brings, map_brings}
 
--- What is known of a stock to which a title came, as it was before and is then.
+-- What is known of a thread's state to which a title came, before and after.
 pub record Came (s mid : StockValue) (r : ℕ) : Type 0 where
   pub stock : IsStock s
   pub aware : IsAware s.view
@@ -37,7 +37,7 @@ pub record Came (s mid : StockValue) (r : ℕ) : Type 0 where
   pub now : IsStock mid
   pub now_aware : IsAware mid.view
 
--- so it can issue it to the register
+-- so its seat can issue the title to the register
 pub record CanIssueTo (h : Handle) (s mid : StockValue) (r : ℕ) : Type 0 where
   pub back : IsBack h mid
   pub stake : HasItsStake mid

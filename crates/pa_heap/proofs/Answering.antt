@@ -1,4 +1,4 @@
--- What a reset or a free says whose slot went to the front of its list.
+-- What a reset or a free says if its slot went to the front of its list.
 use Rattle.std.proofs.Common.{◌≡◌, ℕ, ◌+◌, ◌<◌, ◌≤◌, true, List, [], ◌∷◌, length, Some, refl, sym, ◌∙◌, ap, subst, arith, inl, inr}
 use Rattle.std.specs.Prelude.{max, slice_set, if◌then◌else◌}
 use Rattle.pa_machine.specs.declared.title.Title.{Title}
@@ -64,7 +64,7 @@ returned_row s w rs roots x h c n is low small numbers seen of none room =
           (front_lists s w rs h.partition c n h.title is low small numbers seen),
     )
 
--- the number of the title that a step left, where what was seen of it before wasn't newer than what the step found
+-- the step number that a step left, if the number that was seen of the title before wasn't newer than what the step found
 pub seen_left : (t : Title) (n m k : ℕ) → k ≤ n → m ≡ (if same_title t t then max (n + 1) k else k) → m ≡ n + 1
 seen_left t n m k older e = elim (title_tells t t) [
   | inl y ↦ (let f : m ≡ max (n + 1) k = rw y.0 at e in omega arith)

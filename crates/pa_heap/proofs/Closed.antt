@@ -136,7 +136,7 @@ slots_left words l v p u law pool roots made stays = elim (cases_lt p 4) [
     no_slot : IsMade new_root u → 0 < free_of v u
     no_slot made = let below : made.1.0 < 0 = made.1.1 in absurd (omega arith)
 
--- who has every stake has it when more is taken in; and all takes together
+-- a seat that has every stake still has it after it takes in more; and what it took in, all together
 pub every_on : (v w : View) → TakesOthersIn v w → HasEveryStake v → HasEveryStake w
 every_on v w takes every k below = let has = every k below in let same = takes.stakes k in omega arith
 

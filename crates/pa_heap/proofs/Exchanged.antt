@@ -68,8 +68,8 @@ found_is (Some p) = go p.own
     go true = refl
     go false = refl
 
--- What an exchange was: of the stock `s`, which handed a handle over and was `a` then; `b` after the cell's exchange; and `d` with what
--- was found.
+-- What an exchange was: the thread's state was `s`, `a` after it handed a handle over, `b` after the cell's exchange, and `d` with
+-- what was found.
 pub record Swapping (line cell reg index : ℕ) (given found : Option ParkedHandle) (s a b d : StockValue) : Type 0 where
   stock : IsStock s
   first : Rests s.view a.view
@@ -97,7 +97,7 @@ entered_is q m n among = go (5 == q) among
     go true among = elim (in_cases m n [] among) [ inl same ↦ sym same | inr none ↦ absurd (not_in_none n none) ]
     go false among = absurd (not_in_none n among)
 
--- it is no step, no look and no title that is made raw again; and its answer is no other
+-- it is no step, no look and no uncut of a title; and its answer is no other
 no_step : (m : Made) (t : Title) (step : Step) (found value : ℕ) → Entered 5 m ≡ Counted t step found value → ⊥
 no_step m t step found value e = cc
 
@@ -247,7 +247,7 @@ gave_is : (s a : StockValue) (reg : ℕ) (given : Option ParkedHandle) → Parks
 gave_is s a reg None parks = none_given (register_in s.registers reg) parks.1
 gave_is s a reg (Some p) parks = given_is p ∙ ap (λ (r : StockRegister). handle_of (as_reg r)) (sym parks.0)
 
--- what else stays of the stock: its parts but the view and the registers, of which there are as many
+-- what else stays of the thread's state: its parts but the view and the registers, whose number stays too
 record Frames (reg : ℕ) (s a : StockValue) : Type 0 where
   thread : a.thread ≡ s.thread
   partitions : a.partitions ≡ s.partitions
@@ -336,7 +336,7 @@ exchanged_none line cell reg index given found s a b is below parks swap =
     let within : reg < length s.registers = let n = is.handles.count in omega arith in
     subst (λ (z : StockValue). HasNoHandle (register_in z.registers reg)) (sym swap.same) (parks_none s a reg given within parks)
 
--- counted steps in the budget are no fewer
+-- the budget has no fewer counted steps
 pub exchanged_budget : GiversLackHandles → BeginningsJoin → SeenJoins → FreeNumbersStay → (line cell reg index : ℕ) (given found : Option ParkedHandle)
     (s a b d : StockValue) → IsStock s → reg < 64 → IsAware b.view → IsAware d.view → Parks reg given s a →
     SwapsHandles line cell given found index a b → TakesIn reg found b d → s.view.budget ≤ d.view.budget

@@ -1,4 +1,4 @@
--- A free by the owner: what it says where its step doesn't return the slot.
+-- A free by the owner: what it says if its step doesn't return the slot.
 use Rattle.std.proofs.Common.{◌≡◌, ℕ, ◌+◌, ◌<◌, [], ◌∷◌, length, Some, refl, sym, ap, subst, arith, inl, inr}
 use Rattle.std.specs.Prelude.{slice_set}
 use Rattle.pa_machine.specs.declared.word.Step.TheVariants as steps
@@ -50,7 +50,7 @@ pub free_row : (q : StockRegister) (h : Handle) (seen : Seen) (regs : Regs) (r :
     FreeRow (as_reg q) regs r (answers.Done seen) after
 free_row q h seen regs r after own slot becomes = subst (λ x. FreeRow (as_reg x) regs r (answers.Done seen) after) (sym own) (seen, slot, refl, becomes)
 
--- The op does what it should where the step doesn't return the slot.
+-- The op does what it should if the step doesn't return the slot.
 pub freed_does : CountLeaves → OwnsChange → StatesAreOwns → (s : StockValue) (r word : ℕ) (h : Handle) → IsStock s → IsAware s.view → HasItsStake s → 0 < s.view.budget → r < 64 →
     register_in s.registers r ≡ Own h → IsFound h.title word (poisoned h.title s.view) → (IsReturning steps.Free word → ⊥) → (line : ℕ) →
     DoesOp line (ops.Free r) (answers.Done (seen_at h word)) s (freed s h r word)

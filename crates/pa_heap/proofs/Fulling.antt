@@ -75,7 +75,7 @@ one_index i j e = cc
 one_partition : (r p n s q m : ℕ) → ops.Alloc r p n ≡ ops.Alloc s q m → p ≡ q
 one_partition r p n s q m e = cc
 
--- The op that found no room, for a class or a direct map, where the entry says so and the row is that.
+-- The op that found no room, for a class or a direct map, if the entry says so and the row is that.
 pub full_does : (line size r p j count : ℕ) (class : Option ℕ) (s : StockValue) (w : View) (full : IsFullFor j s.thread p line count class s.view w) → IsStock s → IsAware s.view →
     IsAware w → p < s.partitions → HasNoHandle (register_in s.registers r) → size ≤ greatest_size →
     ((o : Outcome) → slice_get o.pools full.asked ≡ Some (take_entry line p count None) → MakesEntry o.pools p (act.Full class full.asked) (ops.Alloc r p size)) →
@@ -143,14 +143,14 @@ full_does line size r p j count class s w full is aware now inner bare few makes
     asks : Asks line p (act.Full class full.asked ∷ []) (Entered 4 full.enters.pool ∷ Entered p full.enters.made ∷ []) w
     asks = asks_two full.asked j s.thread p line (take_entry line p count None) (act.Full class full.asked) s.view w w full.enters low refl refl ([], sym (append-nil (list_of 4 w)))
 
-    -- the pool's entry stands in any run that the seat has seen a part of
+    -- if a seat has seen a part of a run, the pool's entry is in that run
     stands : (o : Outcome) → IsSeenOf o w → slice_get o.pools full.asked ≡ Some (take_entry line p count None)
     stands o sees =
         let at = full.enters.is_pool in
         subst (λ n. slice_get o.pools n ≡ Some (take_entry line p count None)) at.index
         (sees.pools at.earlier at.stands.0 full.enters.pool (take_entry line p count None) (at.stands.1 ∙ append_assoc at.earlier (full.enters.pool ∷ []) at.stands.0) at.says)
 
--- so for a class, whose list is empty
+-- so for a class with an empty list
 pub full_class_does : (line size r p j c : ℕ) (s after : StockValue) → FindsNone line p 1 (Some c) s after (Full j) → IsStock s → IsAware s.view → IsAware after.view →
     p < s.partitions → HasNoHandle (register_in s.registers r) → size ≤ greatest_size → IsClassOf (max size 1 + 8) c → titles_in s.caches p c ≡ [] →
     DoesOp line (ops.Alloc r p size) (answers.Full j) s after

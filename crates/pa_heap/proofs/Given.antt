@@ -1,4 +1,4 @@
--- A reset or a free after whose step slots were given back does what it should.
+-- A reset or a free does what it should if its step was followed by giving slots back.
 use Rattle.std.proofs.Common.{◌≡◌, ℕ, ◌+◌, ◌<◌, Bool, true, false, List, [], ◌∷◌, map, Some, refl, sym, ◌∙◌, ap, subst, arith, inl, inr}
 use Rattle.std.specs.Prelude.{◌==◌, Contains, filter, nat_lt, if◌then◌else◌}
 use Rattle.std.proofs.lemmas.Bool.Decides.{nat_tests, eqb_tells}
@@ -48,7 +48,7 @@ use Rattle.pa_op_specs.proofs.Entered.{Entering, LineActs, acts_in, entered_does
 abbrev pub left_at : Handle → ℕ → Numbered
 left_at h word = record { slot = name_of h.title; number = number_of word + 1 }
 
--- What a reset or a free knows whose step returned its slot: its seat had the view w then, and these registers.
+-- What is known of a reset or a free that returned its slot: its seat had the view w then, and these registers.
 pub record HasReturned (op : Op) (step : Step) (h : Handle) (word : ℕ) (s : StockValue) (w : View) (rs : List StockRegister) : Type 0 where
   pub freeing : IsFreeing op
   pub cells : (list : List Made) (x : ToldRecord) → entered_in 5 x.stretch ≡ [] → EntersCells op list x
@@ -74,7 +74,7 @@ not_full seen j e = cc
 pub same_found : (h : Handle) (word : ℕ) (seen : Seen) → answers.Done (seen_at h word) ≡ answers.Done seen → word ≡ seen.found.0
 same_found h word seen e = let same : seen_at h word ≡ seen = cc in ap (λ (z : Seen). z.found.0) same
 
--- entries of lists touch nothing, and none says that a title was made raw again
+-- entries of lists touch nothing, and none says that a title was uncut
 none_touches : (p : ℕ) (ms : List Made) → filter is_touch (map (Entered p) ms) ≡ []
 none_touches p [] = refl
 none_touches p (m ∷ ms) = none_touches p ms
@@ -90,7 +90,7 @@ step_no_uncut t u step word value e = cc
 
 -- ---- slots are given
 
--- Where slots were given, and the lists are as the row asks.
+-- If slots were given back, and the lists are as the row asks.
 pub gives_does : SlotsStaySeen → (op : Op) (step : Step) (h : Handle) (class word line : ℕ) (s after : StockValue) (w : View) (rs : List StockRegister)
     (ms : List Made) → HasReturned op step h word s w rs → h.class ≡ Some class →
     after.thread ≡ s.thread → after.partitions ≡ s.partitions → after.registers ≡ rs →

@@ -1,4 +1,4 @@
--- An issue of a free title to a register: what the op says whatever came before.
+-- An issue of a free title to a register: what the op says, whatever came before.
 use Rattle.std.proofs.Common.{◌≡◌, ℕ, ◌+◌, ◌-◌, ◌<◌, ◌≤◌, List, [], ◌∷◌, ◌++◌, length, Some, refl, sym, ◌∙◌, ap, subst, arith, inl, inr}
 use Rattle.std.specs.Prelude.{Contains, slice_set}
 use Rattle.std.proofs.lemmas.List.{append-nil}
@@ -95,7 +95,7 @@ alloc_row Cleared facts regs r size answer after bare row = row
 
 -- ---- the op
 
--- What came before the issue: of the stock `s` the view and the lists changed to `v` and `cs`, and `es` are the entries of it, which did
+-- What came before the issue: the view and the lists of the thread's state `s` changed to `v` and `cs`, with the entries `es`, which did
 -- these acts in the journal of the handle's partition.
 pub record Bringing (line size : ℕ) (h : Handle) (acts : List RootAct) (es : List Entry) (s : StockValue) (v : View) (cs : List CacheList) : Type 0 where
   pub entering : Entering s.thread line es s.view v

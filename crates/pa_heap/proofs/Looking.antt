@@ -33,7 +33,7 @@ use Rattle.pa_op_specs.proofs.Quiet.{quiet_record, quiet_does}
 use Rattle.pa_op_specs.proofs.Refusing.{IsNoSwap, enters_no_cells}
 use Rattle.pa_thread_state.proofs.Looking.{looked, seen_at}
 
--- the word is one in use
+-- the word is that of a slot in use
 pub in_use : (t : Title) (word : ℕ) (v : View) → IsUser t v → IsFound t word v → 0 < held_of word + refs_of word
 in_use t word v user found = let a = found.owns in let b = found.refs in omega arith
 
@@ -73,7 +73,7 @@ lookingly op (answers.Full entry) seen is = absurd is
 lookingly op (answers.Swapped entry) seen is = absurd is
 lookingly op (answers.Purged slots) seen is = absurd is
 
--- the op does what it should, where its row says so
+-- the op does what it should, if its row says so
 pub looked_does : LookLeaves → (s : StockValue) (op : Op) (answer : Answer) (reg word : ℕ) (h : Handle) → IsStock s → IsAware s.view → HasItsStake s →
     reg < 64 → HasHandleTo h (register_in s.registers reg) → IsFound h.title word s.view → IsNoSwap op → IsOfLook answer (seen_at h word) →
     ((o : Outcome) → Row (row_facts o) op (regs_of s.registers) answer (regs_of s.registers)) →

@@ -1,4 +1,4 @@
--- A reset or a free whose step returned the slot, once that is settled.
+-- A reset or a free that returned its slot, once that slot is settled.
 use Rattle.std.proofs.Common.{◌≡◌, ℕ, ◌<◌, List, length, refl, sym, ap, subst, arith, inl, inr}
 use Rattle.std.specs.Prelude.{slice_set}
 use Rattle.pa_machine.specs.declared.word.Step.{Step}

@@ -66,7 +66,7 @@ slots_same xs ys i (suc n) same = ap (λ (ms : List Numbered). length ms + liste
 
 -- ---- partition after partition
 
--- So many partitions were purged, and their lists had so many slots.
+-- This many partitions were purged, and their lists had this many slots.
 pub record Purging (line n slots : ℕ) (s now : StockValue) : Type 0 where
   stretch : List Entry
   enters : Entering s.thread line stretch s.view now.view

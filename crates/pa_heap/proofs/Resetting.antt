@@ -1,4 +1,4 @@
--- A reset of a raw_ptr: what it says where its step doesn't return the slot.
+-- A reset of a raw_ptr: what it says if its step doesn't return the slot.
 use Rattle.std.proofs.Common.{◌≡◌, ℕ, ◌<◌, [], ◌∷◌, length, Some, refl, sym, ap, subst, arith, inr}
 use Rattle.std.specs.Prelude.{slice_set}
 use Rattle.pa_machine.specs.declared.word.Step.TheVariants as steps
@@ -32,7 +32,7 @@ pub reset_row : (q : StockRegister) (h : Handle) (seen : Seen) (regs : Regs) (r 
     ResetRow (as_reg q) regs r (answers.Done seen) after
 reset_row q h seen regs r after ref slot becomes = subst (λ x. ResetRow (as_reg x) regs r (answers.Done seen) after) (sym ref) (seen, slot, refl, becomes)
 
--- The op does what it should where the step doesn't return the slot.
+-- The op does what it should if the step doesn't return the slot.
 pub cleared_does : CountLeaves → (s : StockValue) (r word : ℕ) (h : Handle) → IsStock s → IsAware s.view → HasItsStake s → 0 < s.view.budget → r < 64 →
     register_in s.registers r ≡ Ref h → IsFound h.title word s.view → (IsReturning steps.Reset word → ⊥) → (line : ℕ) →
     DoesOp line (ops.Reset r) (answers.Done (seen_at h word)) s (cleared s h r word)

@@ -1,4 +1,4 @@
--- A slot that a reset's or a free's step returned, in front of its list: what the op says then.
+-- A slot that a reset or a free returned to the front of its list: what the op says then.
 use Rattle.std.proofs.Common.{◌≡◌, ℕ, ◌<◌, ◌≤◌, Bool, true, false, List, [], ◌∷◌, length, refl, sym, ◌∙◌, ap, arith, inl, inr}
 use Rattle.std.specs.Prelude.{nat_lt}
 use Rattle.std.proofs.lemmas.Bool.Decides.{nat_tests}
@@ -24,7 +24,7 @@ stays_whole c xs few = go (nat_lt (limit_of c) (length xs)) refl
     go true is = absurd (let over : limit_of c < length xs = grind (arith, nat_tests) in omega arith)
     go false is = (rw is refl, rw is refl)
 
--- The lists afterwards, where the seat has seen this number of the title and no other of those that were listed.
+-- The lists afterwards, if the seat has seen this number of the title and no other number of the titles that were listed.
 pub front_lists : (s : StockValue) (w : View) (rs : List StockRegister) (p c n : ℕ) (t : Title) → IsStock s → p < 4 → c < 59 →
     ((u : Title) → 0 < free_of s.view u → seen_of w u ≡ seen_of s.view u) → seen_of w t ≡ n →
     SameLists (listed_in (record s { view = w; registers = rs; caches = put_in_front p c t s.caches }))

@@ -1,4 +1,4 @@
--- A slot that a step returned goes home, or its list spills: what the op says then.
+-- A slot that a step returned goes back to its root, or its list spills: what the op says then.
 use Rattle.std.proofs.Common.{◌≡◌, ℕ, zero, suc, ◌-◌, ◌/◌, ◌<◌, ◌≤◌, Bool, true, false, List, [], ◌∷◌, length, map, take, drop, Option, Some, None, refl, sym, ◌∙◌, ap, subst, arith, inl, inr}
 use Rattle.std.specs.Prelude.{Contains, nat_lt}
 use Rattle.std.proofs.lemmas.List.{length-set}
@@ -100,7 +100,7 @@ same_list s p class none q d = elim (front_list (listed_in s) p class q d []) [
   | inr h ↦ sym h.1
 ]
 
--- ---- it goes home
+-- ---- it goes back to its root
 
 -- what is done first with a direct map is no entry
 uncut_tells : (line : ℕ) (t : Title) (v w : View) (e : Entry) → Contains (Uncut t ∷ []) e → TellsOf line v w e

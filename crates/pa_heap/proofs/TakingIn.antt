@@ -21,7 +21,7 @@ use Rattle.pa_region.proofs.TakeLaws.{left_begins, right_begins, left_whole, rig
 use Rattle.pa_heap.specs.Closing.{IsWithin, TakesOthersIn, LeavesPool, LeavesRoot, LeavesWorker}
 use Rattle.pa_thread_state.proofs.Parking.{no_stakes}
 
--- what a view has, it has; and what has that which has it
+-- a view has what it has; and what a view has, a view that contains it has
 pub within_same : (v : View) → IsWithin v v
 within_same v = record {
   frees = λ t. omega arith;

@@ -84,7 +84,7 @@ undone_back gives takes joins seen longest stay s a d reg p is below aware both 
     (back gives takes joins seen longest stay s reg p is below parks.0 parks.1 (subst (λ (z : StockValue). IsAware z.view) parks.2 aware)
     (subst (λ (z : StockValue). IsAware z.view) t.after_is both) d t)
 
--- By what the calls say: what was handed over came back, as the exchange found no memory, and was taken in again.
+-- By what the calls say: what was handed over came back, since the exchange found no memory, and was taken in again.
 pub undone : GiversLackHandles → TakersHaveHandles → BeginningsJoin → SeenJoins → ListsJoin → FreeNumbersStay → (s a b d : StockValue) (reg : ℕ) (given back : Option ParkedHandle) →
     IsStock s → reg < 64 → IsAware a.view → IsAware d.view → Parks reg given s a → back ≡ given → b ≡ a → IfSome back (λ p. TakesIn reg (Some p) b d) →
     IfNone back (d ≡ b) → IsUndone s d

@@ -1,4 +1,4 @@
--- A reset or a free whose direct map went back does what it should.
+-- A reset or a free does what it should if its direct map went back.
 use Rattle.std.proofs.Common.{◌≡◌, ℕ, ◌+◌, ◌<◌, Bool, true, false, List, [], ◌∷◌, ◌++◌, length, map, Some, None, refl, sym, ◌∙◌, ap, subst, arith, inl, inr}
 use Rattle.std.specs.Prelude.{◌==◌, Contains, filter, nat_lt, if◌then◌else◌}
 use Rattle.std.proofs.lemmas.Bool.Decides.{nat_tests, eqb_tells}
@@ -54,7 +54,7 @@ direct_in_run o v h seen made direct =
     let by : HandsOut None h.title e.act = subst (λ k. HandsOut k h.title e.act) direct out in
     (e, by.0, h.title.len, there, by.1)
 
--- what the stretch has behind its step
+-- what the log segment has after its step
 abbrev pub behind : Title → Made → ℕ → Made → List Entry
 behind t pool p made = Uncut t ∷ Entered 4 pool ∷ Entered p made ∷ []
 

@@ -28,8 +28,8 @@ use Rattle.pa_heap.specs.declared.left.Left.{Left}
 use Rattle.pa_op_specs.specs.Stocks.{IsStock}
 use Rattle.pa_op_specs.specs.Workers.{WorkerValue}
 
--- The view `whole` has each free title and each keeper that `part` has; and it has seen all that this has, of the lists of those
--- keepers no more.
+-- The view `whole` has each free title and each keeper that `part` has. It has seen all that `part` has seen, and of the lists of
+-- those keepers no more.
 pub record IsWithin (part whole : View) : Type 0 where
   pub frees : (t : Title) → free_of part t ≤ free_of whole t
   pub keepers : (k : ℕ) → keeper_of part k ≤ keeper_of whole k
@@ -37,14 +37,14 @@ pub record IsWithin (part whole : View) : Type 0 where
   pub own_lists : (k : ℕ) → 0 < keeper_of part k → list_of k whole ≡ list_of k part
   pub seen : (t : Title) → seen_of part t ≤ seen_of whole t
 
--- A seat took others in that had no stake and no unclean Own: its stakes are the same, each with its log.
+-- A seat took in others that had no stake and no unclean Own: it has the same stakes, each with the same log.
 pub record TakesOthersIn (before after : View) : Type 0 where
   pub within : IsWithin before after
   pub stakes : (k : ℕ) → stake_of after k ≡ stake_of before k
   pub logs : (k : ℕ) → log_of k after ≡ log_of k before
   pub clean : unclean_of after ≡ unclean_of before
 
--- These are the entries of a pool of so many words, whose seat was taken in.
+-- These are the entries of the pool of a region of this many words, and the pool's seat was taken in.
 pub record LeavesPool (words : ℕ) (entries : List PoolEntry) (after : View) : Type 0 where
   pub pool : PoolValue
   pub entries_are : pool.entries ≡ entries
@@ -52,26 +52,26 @@ pub record LeavesPool (words : ℕ) (entries : List PoolEntry) (after : View) : 
   pub kept : IsPoolKept pool
   pub within : IsWithin pool.view after
 
--- This is the journal of the root of partition p, whose seat was taken in.
+-- This is the journal of the root of partition p, and the root's seat was taken in.
 pub record LeavesRoot (p : ℕ) (journal : List RootEntry) (after : View) : Type 0 where
   pub root : RootState
   pub journal_is : root.journal ≡ journal
   pub kept : IsRootSound p root
   pub within : IsWithin root.view after
 
--- These are the histories of the cells, whose seat was taken in.
+-- These are the histories of the cells, and the cells' seat was taken in.
 pub record LeavesCells (histories : List (List CellEntry)) (after : View) : Type 0 where
   pub cells : CellsHeld
   pub histories_are : cells.histories ≡ histories
   pub kept : IsCells cells
   pub within : IsWithin cells.view after
 
--- a worker that told, whose seat was taken in
+-- a worker that handed its stake over, and its seat was taken in
 pub record LeavesWorker (after : View) (w : WorkerValue) : Type 0 where
   pub stock : IsStock w.stock
   pub within : IsWithin w.stock.view after
 
--- a worker that told has no stake
+-- a worker that handed its stake over has none
 abbrev pub HasTold : WorkerValue → Type 0
 HasTold w = (k : ℕ) → stake_of w.stock.view k ≡ 0
 
@@ -86,13 +86,13 @@ history_left l k = slice_index_or l.cells.items k []
 abbrev pub root_left : Left → ℕ → Root
 root_left l p = root_replayed l.pool.items (journal_left l p) new_root
 
--- What is left says what the seat has seen that all were taken into.
+-- What is left agrees with what the closing seat has seen, which took all others in.
 --   pool, fits: its list of the pool is the pool's entries in numbers, and they are those of the region's super pages
 --   lists, journals: its list of each root is that root's journal in numbers, which replays with the pool's entries
---   numbers: each root hands a slot out at the number at which it has it
+--   numbers: each root gives a slot out at the number at which it has it
 --   count: there is a history for each of the 64 cells
---   exchanges, chain: its list of the cells is all exchanges in numbers, each history is that of its cell, and each exchange found
---     what the one before it gave
+--   exchanges, chain: its list of the cells is all exchanges in numbers, each history is that of its cell, and each exchange
+--     found what the one before it gave
 pub record LeavesLists (words : ℕ) (last : View) (left : Left) : Type 0 where
   pub pool : IsPoolList (list_of 4 last) left.pool.items
   pub fits : (supers : ℕ) → words ≡ 262144 * supers → IsPool supers left.pool.items
@@ -103,13 +103,13 @@ pub record LeavesLists (words : ℕ) (last : View) (left : Left) : Type 0 where
   pub exchanges : (xs : List Exchange) × AreExchanges (list_of 5 last) left.cells.items xs
   pub chain : (k : ℕ) → IsChain Nothing (history_left left k)
 
--- A heap of a region of so many words was closed by a seat that had this view, with these workers; this is left.
+-- A heap of a region of this many words was closed by a seat that had this view, with these workers; this is left.
 --   last: the view of the seat at the end, into which all others were taken
 --   aware, every, logs, within: it has every stake with the log that the seat had, and has seen what the seat had
 --   ends, long: the region's words are what it knows of them
 --   lists: what is left says what it has seen
---   rooted: a slot that was made and is with its root is free in it
---   workers: so is what a worker had
+--   lists: what is left agrees with what it has seen
+--   workers: what each worker had was taken in too
 --   clean: each of its Owns is clean
 pub record IsClosedBy (words : ℕ) (told : List WorkerValue) (seat : View) (left : Left) : Type 0 where
   pub last : View

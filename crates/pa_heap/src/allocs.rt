@@ -22,8 +22,8 @@ use pa_thread_state::{Heap, Stock};
 use std::sync::Wait;
 
 impl<N: Name> Worker<N> {
-    /// An allocation of so many bytes in a partition, on this line: the register owns the slot then. It waits for the lock of the
-    /// partition's root, where it needs that. After want of memory the worker is stopped, and all else is as before.
+    /// An allocation of this size in a partition, on this line: then the register owns the slot. It waits for the lock of the
+    /// partition's root if it needs that. If it runs out of memory the worker is stopped, and all else is as before.
     pub fn alloc<R: Wait>(
         &mut self,
         rt: &R,
@@ -58,7 +58,7 @@ impl<N: Name> Worker<N> {
     }
 }
 
-// An allocation of so many bytes in a partition, on this line: the register owns the slot then. After want of memory
+// An allocation of this size in a partition, on this line: then the register owns the slot. If it runs out of memory,
 // nothing changed.
 fn alloc<N: Name, R: Wait>(
     stock: &mut Stock<N>,
@@ -154,7 +154,7 @@ fn alloc_slot<N: Name, R: Wait>(
     }
 }
 
-// The same where the list is empty: it is filled first.
+// The same if the list is empty: it is filled first.
 fn alloc_filled<N: Name, R: Wait>(
     stock: &mut Stock<N>,
     rt: &R,

@@ -17,7 +17,7 @@ use pa_thread_state::Heap;
 use std::sync::Mutex;
 
 /// Takes all that the heap and its workers have into the seat, which has every stake, and closes the region. Each worker has
-/// told.
+/// handed its stake over before.
 pub fn close<N: Name>(heap: Heap<N>, workers: Vec<Worker<N>>, seat: Seat) -> Left
     requires region { seat.region ≡ N.region }
     requires stakes { HasEveryStake seat.view }
@@ -47,7 +47,7 @@ pub fn close<N: Name>(heap: Heap<N>, workers: Vec<Worker<N>>, seat: Seat) -> Lef
     }
 }
 
-// Takes a note in that has no stake.
+// Takes in a note that has no stake.
 fn take_in(region: &Region, seat: &mut Seat, note: Note)
     requires regions { (seat.old.region ≡ region.now) × (note.region ≡ region.now) }
     requires host { CanHost note.view }
@@ -61,7 +61,7 @@ fn take_in(region: &Region, seat: &mut Seat, note: Note)
     seat.aware();
 }
 
-// Takes the seats of workers in that have told.
+// Takes in the seats of workers that handed their stakes over.
 fn take_workers<N: Name>(region: &Region, seat: &mut Seat, workers: Vec<Worker<N>>)
     requires regions { (seat.old.region ≡ region.now) × (region.now ≡ N.region) }
     requires told { All HasTold workers.items }
@@ -74,7 +74,7 @@ fn take_workers<N: Name>(region: &Region, seat: &mut Seat, workers: Vec<Worker<N
     }
 }
 
-// Takes the seat of one worker in.
+// Takes in the seat of one worker.
 fn take_worker<N: Name>(region: &Region, seat: &mut Seat, worker: Worker<N>)
     requires regions { (seat.old.region ≡ region.now) × (region.now ≡ N.region) }
     requires told { HasTold worker }
@@ -86,7 +86,7 @@ fn take_worker<N: Name>(region: &Region, seat: &mut Seat, worker: Worker<N>)
     take_in(region, seat, worker.into_note());
 }
 
-// Takes the pool's seat in. It answers the pool's entries.
+// Takes in the pool's seat, and returns the pool's entries.
 fn take_pool<N: Name>(region: &Region, seat: &mut Seat, pool: Mutex<Pool<N>>) -> Vec<PoolEntry>
     requires regions { (seat.old.region ≡ region.now) × (region.now ≡ N.region) }
     ensures region { seat.new.region ≡ seat.old.region }
@@ -98,7 +98,7 @@ fn take_pool<N: Name>(region: &Region, seat: &mut Seat, pool: Mutex<Pool<N>>) ->
     entries
 }
 
-// Takes the seat of a partition's root in. It answers the journal.
+// Takes in the seat of a partition's root, and returns its journal.
 fn take_root<N: Name, const P: u32>(
     region: &Region,
     seat: &mut Seat,
@@ -114,7 +114,7 @@ fn take_root<N: Name, const P: u32>(
     Journal::of(journal)
 }
 
-// Takes the cells' seat in, and all that waits in them. It answers their histories.
+// Takes in the cells' seat and the handles that are still in the cells, and returns the cells' histories.
 fn take_cells<N: Name>(region: &Region, seat: &mut Seat, cells: Mutex<Cells<N>>) -> Vec<History>
     requires regions { (seat.old.region ≡ region.now) × (region.now ≡ N.region) }
     ensures region { seat.new.region ≡ seat.old.region }
@@ -129,7 +129,7 @@ fn take_cells<N: Name>(region: &Region, seat: &mut Seat, cells: Mutex<Cells<N>>)
     histories
 }
 
-// Takes in what waits in a cell.
+// Takes in the handle that is still in a cell.
 fn take_parked(region: &Region, seat: &mut Seat, waiting: Option<Parked>)
     requires region { seat.old.region ≡ region.now }
     requires notes { IfSome waiting (λ p. p.note.region ≡ region.now) }

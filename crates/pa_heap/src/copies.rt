@@ -13,7 +13,7 @@ use pa_region::{Name, Region, counted_steps_leave};
 use pa_thread_state::{Heap, Stock};
 
 impl<N: Name> Worker<N> {
-    /// A copy of a handle of register `from` into `to`, on this line. It waits for nobody.
+    /// A copy of the handle in register `from` into `to`, on this line. It waits for nobody.
     pub fn copy(&mut self, heap: &Heap<N>, line: u32, from: u32, to: u32) -> Answer
         requires ready { CanPlayOp self.old }
         requires registers { (from < register_count) × (to < register_count) }
@@ -26,7 +26,7 @@ impl<N: Name> Worker<N> {
     }
 }
 
-// A copy of a handle into another register: a `raw_ptr` more. It waits for nobody.
+// A copy of a handle into another register: one more `raw_ptr`. It waits for nobody.
 fn copy<N: Name>(stock: &mut Stock<N>, region: &Region, from: u32, to: u32) -> Answer
     requires region { region.now ≡ N.region }
     requires stake { HasItsStake stock.old }
@@ -42,7 +42,7 @@ fn copy<N: Name>(stock: &mut Stock<N>, region: &Region, from: u32, to: u32) -> A
     }
 }
 
-// A copy of this handle of the first register, where the second has none: it becomes a `raw_ptr` to the slot.
+// A copy of this handle of the first register, if the second has none: it becomes a `raw_ptr` to the slot.
 fn copy_to<N: Name>(
     stock: &mut Stock<N>,
     region: &Region,

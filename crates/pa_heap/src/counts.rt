@@ -21,7 +21,7 @@ pub(crate) const START: Count = Count {
     left: NONE,
 };
 
-// Counts what an op did, on the slot of a handle, where it made the step and found this.
+// Counts what an op did on the slot of a handle, if it made the step and found this.
 pub(crate) fn count_step(
     counts: &mut [Count; MOST_PARTITIONS as usize],
     step: Step,
@@ -41,7 +41,7 @@ pub(crate) fn count_step(
     }
 }
 
-// A partition's count after a step on a slot of so many bytes.
+// A partition's count after a step on a slot of this many bytes.
 fn stepped(count: Count, step: Step, found: Word, bytes: u32) -> Count
     requires issued { IsOfSteps 4294967295 count.issued }
     requires freed { IsOfSteps 4294967295 count.freed }
@@ -69,7 +69,7 @@ fn stepped(count: Count, step: Step, found: Word, bytes: u32) -> Count
     count
 }
 
-// One slot of so many bytes more.
+// One slot of this many bytes more.
 fn one_more(tally: Tally, bytes: u32) -> Tally
     requires { IsOfSteps 4294967295 tally }
     ensures { result ≡ one_slot_more true bytes tally }
@@ -100,7 +100,7 @@ pub(crate) fn pointed(register: Register<Handle>) -> Option<Handle>
     }
 }
 
-// What the step of an op found that was made.
+// What the step of an op found, if the answer is that it was done.
 pub(crate) fn done(answer: &Answer) -> Option<Seen>
     ensures { result ≡ done_seen answer.now }
 {
@@ -110,7 +110,7 @@ pub(crate) fn done(answer: &Answer) -> Option<Seen>
     }
 }
 
-// What was found of a slot that was made.
+// What was found of a slot, if the answer is that it was made.
 pub(crate) fn made(answer: &Answer) -> Option<Seen>
     ensures { result ≡ made_seen answer.now }
 {

@@ -17,8 +17,8 @@ use pa_thread_state::{Heap, Stock};
 use std::sync::Wait;
 
 impl<N: Name> Worker<N> {
-    /// An exchange of the register with a cell, on this line. It waits for the lock of the cells. After want of memory the worker
-    /// is stopped, and all else is as before.
+    /// An exchange of the register with a cell, on this line. It waits for the lock of the cells. If it runs out of memory the
+    /// worker is stopped, and all else is as before.
     pub fn exchange<R: Wait>(
         &mut self,
         rt: &R,
@@ -48,8 +48,8 @@ impl<N: Name> Worker<N> {
     }
 }
 
-// An exchange with a cell, on this line: the cell gets the handle of the register, or nothing where it has none, and the
-// register what the cell had. After want of memory all is as before.
+// An exchange with a cell, on this line: the cell gets the handle of the register, or nothing if there is none, and the
+// register gets what the cell had. If it runs out of memory all is as before.
 fn exchange<N: Name, R: Wait>(
     stock: &mut Stock<N>,
     rt: &R,

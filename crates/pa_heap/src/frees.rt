@@ -16,7 +16,7 @@ use pa_thread_state::{Heap, Stock};
 use std::sync::Wait;
 
 impl<N: Name> Worker<N> {
-    /// A free of what the register owns, on this line. It waits for locks only where its step returns a slot. After want of
+    /// A free of what the register owns, on this line. It waits for locks only if its step returns a slot. If it runs out of
     /// memory the worker is stopped.
     pub fn free<R: Wait>(
         &mut self,
@@ -49,7 +49,7 @@ impl<N: Name> Worker<N> {
 }
 
 // A free of what the register owns, on this line; through a `raw_ptr` it only looks. A slot that its step returns goes to the
-// front of its list, which may spill, or back to its root. After want of memory the step stands.
+// front of its list, which may spill, or back to its root. If it runs out of memory the step remains made.
 fn play_free<N: Name, R: Wait>(
     stock: &mut Stock<N>,
     rt: &R,

@@ -12,8 +12,8 @@ use pa_thread_state::{Heap, Stock};
 use std::sync::Wait;
 
 impl<N: Name> Worker<N> {
-    /// A purge, on this line: of each partition of the run all lists of the worker go back to the root, which then decommits
-    /// its empty spans. After want of memory it is stopped, and what was given stays given.
+    /// A purge, on this line: in each partition of the run all lists of the worker go back to the root, which then decommits
+    /// its empty spans. If it runs out of memory it is stopped, and what was given back stays so.
     pub fn purge<R: Wait>(
         &mut self,
         rt: &R,
@@ -38,8 +38,8 @@ impl<N: Name> Worker<N> {
     }
 }
 
-// A purge, on this line: of each partition of the run all lists go back whole, and then its root is purged. It answers
-// how many slots went back. After want of memory what was given stays given.
+// A purge, on this line: in each partition of the run all lists go back whole, and then its root is purged. It returns
+// how many slots went back. If it runs out of memory, what was given back stays so.
 fn purge<N: Name, R: Wait>(
     stock: &mut Stock<N>,
     rt: &R,

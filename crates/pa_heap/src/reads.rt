@@ -14,7 +14,7 @@ use pa_rules::looked_read;
 use pa_thread_state::{Heap, Stock};
 
 impl<N: Name> Worker<N> {
-    /// A read of a word, by its number from 0, of the slot of which the register has a handle, on this line. It waits for
+    /// A read of a word, by its index from 0, of the slot that the register has a handle of, on this line. It waits for
     /// nobody.
     pub fn deref(&mut self, heap: &Heap<N>, line: u32, reg: u32, place: u32) -> Answer
         requires ready { CanPlayOp self.old }
@@ -28,7 +28,7 @@ impl<N: Name> Worker<N> {
     }
 }
 
-// A read of a word of the slot of which the register has a handle, by its number from 0. It waits for nobody.
+// A read of a word, by its index from 0, of the slot that the register has a handle of. It waits for nobody.
 fn deref<N: Name>(stock: &mut Stock<N>, region: &Region, reg: u32, place: u32) -> Answer
     requires region { region.now ≡ N.region }
     requires stake { HasItsStake stock.old }
@@ -43,7 +43,7 @@ fn deref<N: Name>(stock: &mut Stock<N>, region: &Region, reg: u32, place: u32) -
     }
 }
 
-// A read of this slot: out of range past its words, and dangling where it was freed.
+// A read of this slot: out of range past its words, and dangling if it was freed.
 fn read_from<N: Name>(
     stock: &mut Stock<N>,
     region: &Region,

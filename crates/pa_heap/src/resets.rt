@@ -15,7 +15,7 @@ use pa_thread_state::{Heap, Stock};
 use std::sync::Wait;
 
 impl<N: Name> Worker<N> {
-    /// A reset of the register's `raw_ptr`, on this line. It waits for locks only where its step returns a slot. After want of
+    /// A reset of the register's `raw_ptr`, on this line. It waits for locks only if its step returns a slot. If it runs out of
     /// memory the worker is stopped.
     pub fn reset<R: Wait>(
         &mut self,
@@ -48,7 +48,7 @@ impl<N: Name> Worker<N> {
 }
 
 // A reset of the register's `raw_ptr`, on this line. A slot that its step returns goes to the front of its list, which may
-// spill, or back to its root. After want of memory the step stands.
+// spill, or back to its root. If it runs out of memory the step remains made.
 fn play_reset<N: Name, R: Wait>(
     stock: &mut Stock<N>,
     rt: &R,

@@ -20,8 +20,8 @@ use pa_trace::MOST_PARTITIONS;
 use std::alloc::Global;
 use std::marker::Model;
 
-/// A worker: what plays the lines of one thread. Contracts see its stock, its records so far, for how many in all there is
-/// room, whether an op of it answered want of memory, and what it counted.
+/// A worker plays the lines of one thread. Contracts see its thread's state, its records so far, how many records it has room
+/// for in all, whether it ran out of memory, and what it counted.
 #[derive(Drop)]
 pub struct Worker<N: Name> {
     pub(crate) stock: Stock<N>,
@@ -47,8 +47,8 @@ impl<N: Name> Model for Worker<N> {
 }
 
 impl<N: Name> Worker<N> {
-    /// A worker that has played nothing: with a note that has the thread's stake, and a counted step in its budget for each of
-    /// so many lines. All room for records is taken here.
+    /// A worker that has played nothing. It takes a note with the thread's stake, and a counted step in its budget for each of
+    /// its lines. All room for records is allocated here.
     pub fn open(
         alloc: Global,
         note: Note,
@@ -96,14 +96,14 @@ impl<N: Name> Worker<N> {
         self.stock.hear(heap.region(), note);
     }
 
-    /// What the type keeps. It costs nothing.
+    /// Recalls what the type keeps. It costs nothing.
     pub fn kept(&self)
         ensures { IsWorker self.now }
     {
         self.stock.kept();
     }
 
-    /// Whether an op answered want of memory: then it plays no more.
+    /// Whether an op ran out of memory: then the worker plays no more.
     pub fn stopped(&self) -> bool
         ensures { result ≡ self.now.stopped }
     {
@@ -117,7 +117,7 @@ impl<N: Name> Worker<N> {
         &self.records
     }
 
-    // Its seat, once it has told.
+    // Its seat, after it handed its stake over.
     pub(crate) fn into_note(self) -> Note
         requires { HasTold self }
         ensures region { result.region ≡ N.region }
@@ -151,7 +151,7 @@ impl<N: Name> Worker<N> {
     }
 }
 
-// Puts a record behind the others, for which there is room.
+// Appends a record, for which there is room.
 pub(crate) fn enter(records: &mut Vec<Entry>, thread: u32, line: u32, answer: Answer)
     requires { length records.old.items < vec_capacity records.old }
     ensures items { records.new.items ≡ records.old.items ++ record { line = line; thread = thread; answer = answer } ∷ [] }

@@ -32,7 +32,7 @@ impl<N: Name> Worker<N> {
     }
 }
 
-// A write of a value to each word of the slot that the register owns, where no `raw_ptr` points to it; through a
+// A write of a value to each word of the slot that the register owns, if no `raw_ptr` points to it; through a
 // `raw_ptr` it only looks. It waits for nobody.
 fn write<N: Name>(stock: &mut Stock<N>, region: &Region, reg: u32, value: u64) -> Answer
     requires region { region.now ≡ N.region }

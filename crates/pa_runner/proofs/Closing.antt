@@ -54,7 +54,7 @@ use Rattle.pa_runner.specs.Whole.{HasPlayed}
 abbrev pub entries_of : Trace → Course → List Entry
 entries_of t c = map entry_of (played_in (told_in t c))
 
--- what is told of a run, by its course, by what the close left, and by its report
+-- the output of a run, from its execution, from what the close left, and from its report
 abbrev pub told_of : Trace → Course → Left → List ReportLine → Told
 told_of t c left report =
     record { entries = entries_of t c; roots = journal_left left; pools = left.pool.items; cells = history_left left; report = report }
@@ -169,9 +169,9 @@ module _ (t : Trace) (workers : List WorkerValue) (seat : View) (report : List R
     pub is_legal : IsLegalTold t run_told
     is_legal = layers_tell_all.legal t run_told closed.last (told_in t went.course) all_say
 
-    -- ---- what is asked of the closing seat
+    -- ---- what the closing seat needs
 
-    -- what a worker has on its lists when it told it had there at the end of the last phase
+    -- what a worker had on its lists when it handed its stake over it had there at the end of the last phase
     same_lists : (k : ℕ) → k < t.threads → (worker_in workers k).stock.caches ≡ (went.course.ends (phases_in t.lines) k).stock.caches
     same_lists k few =
         ap (λ (w : WorkerValue). w.stock.caches) (went.told.told k few) ∙ ap (λ (w : WorkerValue). w.stock.caches) (sym (went.ended.ends k few))

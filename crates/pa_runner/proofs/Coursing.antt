@@ -1,4 +1,4 @@
--- A phase that passed is one more of the course; and when all have heard, the next one begins.
+-- A phase that passed is one more of the execution; and when all workers have their stakes back, the next one begins.
 use Rattle.std.proofs.Common.{◌≡◌, ℕ, ◌+◌, ◌<◌, ◌≤◌, List, length, map, sym, ◌∙◌, ap, subst, arith}
 use Rattle.pa_region.specs.declared.view.View.{View}
 use Rattle.pa_region.specs.Views.{stake_of}
@@ -31,7 +31,7 @@ module _ (t : Trace) (n : ℕ) (c : Course) (queues : List (List LineOp)) (befor
       (xs, all, of ∙ (ap (λ j. map (in_phase (n + 1) j) (queue_in queues k)) (ready.thread k (omega arith)) ∙ lines k few)))
       heard_all (λ some. sees_then (c.seats n) first seat (more some) passed.heard.grows)
 
-  -- a worker that heard from the main seat
+  -- a worker that got its stake back from the main seat
   heard_one : (k : ℕ) → k < t.threads → (w : WorkerValue) → HeardFrom (length before) k seat (worker_in after k) w → Hears k seat (worker_in passed.ends k) w
   heard_one k few w from =
       let ends = worker_in passed.ends in

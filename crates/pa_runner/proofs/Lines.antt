@@ -1,4 +1,4 @@
--- The op lines of a trace with a line more, and that earlier phases have smaller lines.
+-- The op lines of a trace with one line more; and earlier phases have smaller line numbers.
 use Rattle.std.proofs.Common.{◌≡◌, ℕ, ◌+◌, List, [], ◌∷◌, ◌++◌, length, ap, ◌∙◌, arith, count_by, cond}
 use Rattle.std.proofs.lemmas.List.Sums.{sum_by-cons}
 use Rattle.pa_trace.specs.declared.script.Line.{Line}

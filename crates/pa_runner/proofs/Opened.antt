@@ -27,7 +27,7 @@ use Rattle.pa_runner.specs.Opening.{IsNewFor}
 
 -- ---- one worker
 
--- a thread's stake, and so many counted steps
+-- a thread's stake, and this many counted steps
 module _ (k lines : ℕ) (seat : View) where
   pub note_for : 0 < stake_of seat k → k < 16 → IsForThread k (given_after (parcel_of [] lines (Stake k ∷ [])) seat)
   note_for has small = record {

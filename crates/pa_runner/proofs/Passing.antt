@@ -33,7 +33,7 @@ module _ (queues : List (List LineOp)) (before ends : List WorkerValue) (ready :
     each = λ k low. (played k (omega arith) (going k low)).stake;
   }
 
-  -- and when all told, the phase has passed
+  -- and when all have handed their stakes over, the phase has passed
   pub passed : (after : List WorkerValue) (first seat : View) → HasHeardSome (length ends) (length ends) (worker_in ends) first seat → HaveTold (length ends) ends after →
       HasPassed queues before after first seat
   passed after first seat heard told = record {
@@ -44,7 +44,7 @@ module _ (queues : List (List LineOp)) (before ends : List WorkerValue) (ready :
     told = subst (λ n. HaveTold n ends after) count told;
   }
 
--- A main seat that asks roots has heard the same.
+-- A main seat that asked roots gives the stakes back all the same.
 pub heard_asked : (threads count : ℕ) (workers : ℕ → WorkerValue) (first seat next : View) → HasHeardSome threads count workers first seat → HasAsked seat next → HasHeardSome threads count workers first next
 heard_asked threads count workers first seat next heard asked = record {
   main = record {

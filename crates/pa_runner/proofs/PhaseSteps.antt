@@ -70,7 +70,7 @@ going_start t workers queues seat report main begins none empty =
 
 -- ---- the end of a phase
 
--- a phase is over, which these workers ended
+-- a phase is over, and these are its workers at the end
 pub record IsOver (t : Trace) (phase : ℕ) (ends : List WorkerValue) (seat : View) (report : List ReportLine) : Type 0 where
   pub course : Course
   pub ended : HasEnded t phase course (worker_in ends) seat
@@ -144,12 +144,12 @@ module _ (t : Trace) (i phase : ℕ) (workers : List WorkerValue) (queues : List
       let count : lines_by k t.lines ≤ length t.lines = subst (λ (ls : List Line). lines_by k ls ≤ length t.lines) (take_all (length t.lines) t.lines (omega arith)) (count_few k (length t.lines) t.lines) in
       omega arith
 
-  -- the phase passed
+  -- the phase that passed
   module _ (after : List WorkerValue) (next : View) (passed : HasPassed queues workers after seat next) where
     still_told : HaveTold t.threads passed.ends after
     still_told = subst (λ n. HaveTold n passed.ends after) going.many passed.told
 
-    -- what hearing needs
+    -- what giving the stakes back needs
     pub main_then : length after ≡ length workers → IsMain (length after) next
     main_then count = subst (λ n. IsMain n next) (sym count) passed.heard.main
 
@@ -178,7 +178,7 @@ module _ (t : Trace) (i phase : ℕ) (workers : List WorkerValue) (queues : List
                 (report_grows t going.over going.course d passed.ends after told next report now going.reported agree ended still_told reported);
           }
 
-      -- it was the last one
+      -- if it was the last phase
       pub going_ends : length t.lines ≤ i → length after ≡ length workers → HasPlayed t after next now
       going_ends past count =
           let all : phases_in t.lines ≡ phase = ap phases_in (sym (take_all i t.lines past)) ∙ going.here in
@@ -196,7 +196,7 @@ module _ (t : Trace) (i phase : ℕ) (workers : List WorkerValue) (queues : List
             right = over.reported.right;
           }
 
-      -- another one follows
+      -- if another one follows
       module _ (again : List WorkerValue) (cleared : List (List LineOp)) (last : View) (begins : BeginsPhase i t.lines) (same : length after ≡ length workers)
           (heard : HaveHeard (length after) (length after) next after again) where
         heard_one : (k : ℕ) → k < t.threads → IsAtPlace t (i + 1) k [] (worker_in again k)

@@ -32,7 +32,7 @@ in_append e (x ∷ xs) ys among P front back = elim (in_cases x e (xs ++ ys) amo
   | inr later ↦ in_append e xs ys later P (λ z (i, low, is). front z (suc i, omega arith, is)) back
 ]
 
--- ---- one line, none, and some behind others
+-- ---- one line, none, and some after others
 
 pub plays_one : (due : LineOp) (answer : Answer) (w v : WorkerValue) → PlaysOp due.line due.op answer w v → KeepsOn w v → PlaysLines (due ∷ []) w v
 plays_one due answer w v plays keeps = record {
@@ -175,7 +175,7 @@ all_lines ds i u v past played = subst (λ xs. PlaysLines xs u v) (take_all i ds
 pub same_thread : {ds : List LineOp} {w v : WorkerValue} → PlaysLines ds w v → v.stock.thread ≡ w.stock.thread
 same_thread {ds} {w} {v} played = let (xs, all, of) = played.plays 0 in (stays w v xs all).0
 
--- after the next line was played, without want of memory
+-- after the next line was played, without running out of memory
 pub next_ok : {T E : Type 0} (ds : List LineOp) (i : ℕ) (d : LineOp) (u w v : WorkerValue) (r : Result T E) (x : T) → r ≡ Ok x → OnOk r (PlaysLines (get_or ds i d ∷ []) w v) → i < length ds →
     CanPlay (drop i ds) w → PlaysLines (take i ds) u w → CanPlay (drop (i + 1) ds) v × PlaysLines (take (i + 1) ds) u v
 next_ok ds i d u w v r x is on low can before =

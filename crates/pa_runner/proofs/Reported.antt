@@ -21,7 +21,7 @@ use Rattle.pa_op_specs.specs.Workers.{WorkerValue}
 use Rattle.pa_execution.specs.Lines.{IsLeftOf}
 use Rattle.pa_runner.specs.Reporting.{IsCountedBy, IsLineFor, HasAsked, IsReported}
 
--- ---- what went in less what went out
+-- ---- what went in minus what went out
 
 pub left_by : (into out : Count → Tally) (p threads : ℕ) (workers : ℕ → WorkerValue) (a b t : Tally) → IsCountedBy into p threads workers a → IsCountedBy out p threads workers b →
     t ≡ record { slots = a.slots - b.slots; bytes = a.bytes - b.bytes } → IsLeftOf into out p threads workers t

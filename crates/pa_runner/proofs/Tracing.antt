@@ -16,9 +16,9 @@ use Rattle.pa_execution.specs.Courses.{is_line_of, lines_in}
 use Rattle.pa_runner.specs.Tracing.{is_by, lines_by}
 use Rattle.pa_rules.proofs.Lined.{lines_phase}
 
--- ---- the lines behind others
+-- ---- the lines after others
 
--- a list before a place, the element there, and what is behind it
+-- a list before an index, the element there, and what is after it
 pub parts_at : {X : Type 0} (xs : List X) (i : ℕ) (d : X) → i < length xs → xs ≡ take i xs ++ get_or xs i d ∷ drop (suc i) xs
 parts_at [] i d low = absurd (omega arith)
 parts_at (x ∷ xs) zero d low = refl
@@ -39,7 +39,7 @@ lines_over n phase (Do thread op ∷ xs) ys =
 other_phase : (n k : ℕ) (o : OpLine) → (o.phase ≡ n → ⊥) → is_line_of n k o ≡ false
 other_phase n k o ne = rw (ne_eqb o.phase n ne) refl
 
--- none of these is of a phase before their first, nor of one behind their last
+-- none of these is of a phase before their first, nor of one after their last
 none_before : (n phase m k : ℕ) (ls : List Line) → m < phase → filter (is_line_of m k) (op_lines n phase ls) ≡ []
 none_before n phase m k [] low = refl
 none_before n phase m k (Phase ∷ ls) low = none_before (n + 1) (phase + 1) m k ls (omega arith)
@@ -65,7 +65,7 @@ abbrev pub phase_at : ℕ → List Line → ℕ
 phase_at i ls = phases_in (take i ls)
 
 module _ (ls : List Line) (i : ℕ) (low : i < length ls) where
-  -- where a new phase begins, all lines of the phase that ends were seen
+  -- if a new phase begins here, all lines of the phase that ends were seen
   pub phase_whole : (k : ℕ) → get_or ls i Phase ≡ Phase → lines_in ls (phase_at i ls) k ≡ lines_in (take i ls) (phase_at i ls) k
   phase_whole k is =
       let xs = take i ls in
@@ -92,7 +92,7 @@ module _ (ls : List Line) (i : ℕ) (low : i < length ls) where
           after phase (Phase ∷ zs) = after (phase + 1) zs
           after phase (Do thread op ∷ zs) = after phase zs
 
-  -- and of the next one none
+  -- and none of the next one
   pub phase_new : (k : ℕ) → get_or ls i Phase ≡ Phase → lines_in (take (i + 1) ls) (phase_at (i + 1) ls) k ≡ []
   phase_new k is =
       let more : take (i + 1) ls ≡ take i ls ++ Phase ∷ [] = take_more ls i Phase low ∙ ap (λ l. take i ls ++ l ∷ []) is in
@@ -101,7 +101,7 @@ module _ (ls : List Line) (i : ℕ) (low : i < length ls) where
       ap (λ zs. filter (is_line_of (phase_at (i + 1) ls) k) (op_lines 2 1 zs)) more
       ∙ (ap (filter (is_line_of (phase_at (i + 1) ls) k)) (lines_phase 2 1 (take i ls)) ∙ none_behind 2 1 (phase_at (i + 1) ls) k (take i ls) (omega arith))
 
-  -- a line of a thread stands in the same phase, behind those of its thread
+  -- a line of a thread is in the same phase, after those of its thread
   module _ (thread : ℕ) (op : Op) (is : get_or ls i Phase ≡ Do thread op) where
     more_is : take (i + 1) ls ≡ take i ls ++ Do thread op ∷ []
     more_is = take_more ls i Phase low ∙ ap (λ l. take i ls ++ l ∷ []) is

@@ -10,7 +10,7 @@ use Rattle.pa_runner.specs.Phases.{worker_in}
 abbrev pub is_entry_of : ℕ → Entry → Bool
 is_entry_of k e = e.thread == k
 
--- These are the records of the trace's op lines, in order, of which each worker has those of its thread.
+-- These are the records of the trace's op lines, in order, and each worker has those of its thread.
 pub record IsMergeOf (lines : List Line) (workers : List WorkerValue) (es : List Entry) : Type 0 where
   pub due : AreDue lines es
   pub theirs : (k : ℕ) → k < length workers → (worker_in workers k).records ≡ filter (is_entry_of k) es

@@ -1,4 +1,4 @@
--- The workers of all threads in a phase: which can play, which have played, told and heard.
+-- The workers of all threads in a phase: those that can play, have played, have handed their stake over or got it back.
 use Rattle.std.specs.Prelude.{◌≡◌, ℕ, ◌<◌, ◌≤◌, List, [], true, false, length, slice_index_or}
 use Rattle.pa_region.specs.declared.view.View.{View}
 use Rattle.pa_region.specs.Start.{first_view}
@@ -12,7 +12,7 @@ use Rattle.pa_execution.specs.Gathering.{HasHeardSome, HasAnswered, told_worker}
 use Rattle.pa_runner.specs.declared.thread_lines.LineOp.{LineOp}
 use Rattle.pa_runner.specs.Playing.{CanPlay, PlaysLines}
 
--- a worker that isn't there; the worker of a thread, and its lines
+-- the worker to use if there is none; the worker of a thread, and its lines
 abbrev pub no_worker : WorkerValue
 no_worker = record {
   stock = record { thread = 0; partitions = 0; view = first_view 0 0; registers = []; caches = [] };
@@ -28,20 +28,20 @@ worker_in workers k = slice_index_or workers k no_worker
 abbrev pub queue_in : List (List LineOp) → ℕ → List LineOp
 queue_in queues k = slice_index_or queues k []
 
--- each worker is of the thread whose number is its place, and can play its lines
+-- each worker's thread is its index, and it can play its lines
 pub record AreReady (queues : List (List LineOp)) (workers : List WorkerValue) : Type 0 where
   pub count : length queues ≡ length workers
   pub thread : (k : ℕ) → k < length workers → (worker_in workers k).stock.thread ≡ k
   pub each : (k : ℕ) → k < length workers → CanPlay (queue_in queues k) (worker_in workers k)
 
--- a worker played its lines, or wanted for memory
+-- a worker played its lines, or ran out of memory
 abbrev pub IsPlayed : List LineOp → (before after : WorkerValue) → Type 0
 IsPlayed lines before after = after.stopped ≡ false → PlaysLines lines before after
 
 abbrev pub ArePlayed : List (List LineOp) → (before after : List WorkerValue) → Type 0
 ArePlayed queues before after = (k : ℕ) → k < length before → IsPlayed (queue_in queues k) (worker_in before k) (worker_in after k)
 
--- no op of a worker wanted for memory
+-- no worker ran out of memory
 abbrev pub AreGoing : List WorkerValue → Type 0
 AreGoing workers = (k : ℕ) → k < length workers → (worker_in workers k).stopped ≡ false
 
@@ -50,18 +50,18 @@ pub record HaveStakes (workers : List WorkerValue) : Type 0 where
   pub thread : (k : ℕ) → k < length workers → (worker_in workers k).stock.thread ≡ k
   pub each : (k : ℕ) → k < length workers → HasItsStake (worker_in workers k).stock
 
--- each worker has told, and has no stake
+-- each worker has handed its stake over, and has none
 pub record HaveNone (workers : List WorkerValue) : Type 0 where
   pub thread : (k : ℕ) → k < length workers → (worker_in workers k).stock.thread ≡ k
   pub each : (k : ℕ) → k < length workers → (j : ℕ) → stake_of (worker_in workers k).stock.view j ≡ 0
 
--- the first `count` workers told, and the others are as they were
+-- the first `count` workers handed their stakes over, and the others are as they were
 pub record HaveTold (count : ℕ) (before after : List WorkerValue) : Type 0 where
   pub told : (k : ℕ) → k < count → worker_in after k ≡ told_worker k (worker_in before k)
   pub none : (k : ℕ) → k < count → (j : ℕ) → stake_of (worker_in after k).stock.view j ≡ 0
   pub others : (k : ℕ) → count ≤ k → worker_in after k ≡ worker_in before k
 
--- The worker of thread k heard from the main seat, which was `whole` before and had answered those in front of it.
+-- The worker of thread k got its stake back from the main seat, which was `whole` at first and had served the workers before.
 pub record HeardFrom (threads k : ℕ) (whole : View) (before after : WorkerValue) : Type 0 where
   pub seat : View
   pub answered : HasAnswered threads k whole seat
@@ -73,8 +73,8 @@ pub record HaveHeard (threads count : ℕ) (whole : View) (before after : List W
   pub heard : (k : ℕ) → k < count → HeardFrom threads k whole (worker_in before k) (worker_in after k)
   pub others : (k : ℕ) → count ≤ k → worker_in after k ≡ worker_in before k
 
--- A phase passed, in which these lines were played: each worker played its own and was as `ends` then, and all told the main seat,
--- which was `first` before.
+-- A phase with these lines passed: each worker played its own and was as `ends` then, and all handed their stake to the main
+-- seat, which was `first` before.
 pub record HasPassed (queues : List (List LineOp)) (before after : List WorkerValue) (first seat : View) : Type 0 where
   pub ends : List WorkerValue
   pub count : length ends ≡ length before

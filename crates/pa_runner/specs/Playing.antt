@@ -1,4 +1,4 @@
--- The lines of one thread in one phase, and what a worker did that played them.
+-- The lines of one thread in one phase, and what the worker that played them did.
 use Rattle.std.specs.Prelude.{◌≡◌, ℕ, ◌+◌, ◌<◌, ◌≤◌, List, [], ◌∷◌, ◌++◌, false, map, length, Contains}
 use Rattle.std.specs.List.{AllByRecursion}
 use Rattle.pa_trace.specs.Limits.{IsOpWithin}
@@ -13,7 +13,7 @@ use Rattle.pa_runner.specs.declared.thread_lines.LineOp.{LineOp}
 abbrev pub in_phase : (phase thread : ℕ) → LineOp → OpLine
 in_phase phase thread due = record { line = due.line; thread = thread; phase = phase; op = due.op }
 
--- the lines rise, from line n on
+-- the line numbers rise, from line n on
 abbrev pub RiseFrom : ℕ → List LineOp → Type 0
 RiseFrom n [] = Unit {0}
 RiseFrom n (due ∷ rest) = (n ≤ due.line) × RiseFrom (due.line + 1) rest
@@ -26,8 +26,8 @@ AreBefore n es = (e : Entry) → Contains es e → e.line < n
 abbrev pub EndsWith : Entry → List Entry → Type 0
 EndsWith e es = (rest : List Entry) × (es ≡ rest ++ e ∷ [])
 
--- A worker can play these lines: it isn't stopped, has its stake, and room for their records; each is within the limits; and they rise,
--- behind those of its records.
+-- A worker can play these lines: it isn't stopped, has its stake and room for their records; each line is within the limits; and
+-- their numbers rise, after those of its records.
 pub record CanPlay (lines : List LineOp) (w : WorkerValue) : Type 0 where
   pub going : w.stopped ≡ false
   pub stake : HasItsStake w.stock
@@ -35,8 +35,8 @@ pub record CanPlay (lines : List LineOp) (w : WorkerValue) : Type 0 where
   pub limits : AllByRecursion (λ (due : LineOp). IsOpWithin w.stock.partitions due.op) lines
   pub rise : (n : ℕ) × AreBefore n w.records × RiseFrom n lines
 
--- It played them, in order, in whatever phase they stand. It has a record more for each, isn't stopped, has its stake, and room for as
--- many records in all as before.
+-- It played them, in order, in whatever phase they are. It has one more record for each, isn't stopped, has its stake, and room for
+-- as many records in all as before.
 pub record PlaysLines (lines : List LineOp) (before after : WorkerValue) : Type 0 where
   pub plays : (phase : ℕ) → (xs : List ToldRecord) × PlaysAll before xs after
       × (map op_line_of (played_in xs) ≡ map (in_phase phase before.stock.thread) lines)

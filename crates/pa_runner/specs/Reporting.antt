@@ -1,4 +1,4 @@
--- The lines of the report at the end of a phase, of the workers when all have told and of a main seat that has every stake.
+-- The lines of the report at the end of a phase, when all workers have handed over and a main seat has every stake.
 use Rattle.std.specs.Prelude.{◌≡◌, ℕ, List, ◌++◌, map, Contains}
 use Rattle.pa_record.specs.declared.report.ReportLine.{ReportLine}
 use Rattle.pa_record.specs.declared.report.Tally.{Tally}
@@ -12,12 +12,12 @@ use Rattle.pa_thread_state.specs.Censuses.{TellsCensus, HasSameLists}
 use Rattle.pa_op_specs.specs.Workers.{WorkerValue}
 use Rattle.pa_execution.specs.Lines.{sum_over, IsLeftOf, IsCachedBy}
 
--- The tally is what the first so many workers counted of partition p.
+-- The tally is what the first `threads` workers counted of partition p.
 pub record IsCountedBy (part : Count → Tally) (p threads : ℕ) (workers : ℕ → WorkerValue) (tally : Tally) : Type 0 where
   pub slots : tally.slots ≡ sum_over (λ k. (part (counted_in (workers k).counts p)).slots) threads
   pub bytes : tally.bytes ≡ sum_over (λ k. (part (counted_in (workers k).counts p)).bytes) threads
 
--- so is each of four tallies
+-- each of four tallies is
 pub record AreCountedBy (p threads : ℕ) (workers : ℕ → WorkerValue) (count : Count) : Type 0 where
   pub issued : IsCountedBy (λ (n : Count). n.issued) p threads workers count.issued
   pub freed : IsCountedBy (λ (n : Count). n.freed) p threads workers count.freed
@@ -32,13 +32,13 @@ pub record IsLineFor (phase threads : ℕ) (workers : ℕ → WorkerValue) (seat
   pub cached : IsCachedBy l.partition threads workers l.cached
   pub root : TellsCensus l.partition seat (census_of l)
 
--- A seat asked roots: it has what it had, with the same logs, and has seen nothing new of any list.
+-- A seat asked roots for their census: it has what it had, with the same logs, and has seen nothing new of any list.
 pub record HasAsked (before after : View) : Type 0 where
   pub keeps : Keeps before after
   pub logs : (k : ℕ) → log_of k after ≡ log_of k before
   pub lists : HasSameLists before after
 
--- Lines were put behind those of a report: one for each partition in order, each of this phase and right.
+-- Lines were appended to those of a report: one for each partition in order, each of this phase and right.
 pub record IsReported (phase partitions threads : ℕ) (workers : ℕ → WorkerValue) (first seat : View) (before after : List ReportLine) : Type 0 where
   pub asked : HasAsked first seat
   pub lines : List ReportLine

@@ -1,5 +1,5 @@
--- A trace that is played phase after phase, up to a place among its lines: the phases before are over, and the lines of the phase of that
--- place stand in the queues of their threads.
+-- A trace that is played phase after phase, up to one of its lines: the phases before are over, and the lines of the phase of that
+-- line are in the queues of their threads.
 use Rattle.std.specs.Prelude.{◌≡◌, ℕ, ◌+◌, ◌<◌, ◌≤◌, List, [], ◌∷◌, false, map, length, take, slice_index_or, Contains}
 use Rattle.std.specs.List.{AllByRecursion}
 use Rattle.pa_trace.specs.declared.script.Line.{Line}
@@ -20,13 +20,13 @@ use Rattle.pa_runner.specs.Phases.{queue_in, worker_in}
 use Rattle.pa_runner.specs.Reporting.{IsLineFor}
 use Rattle.pa_runner.specs.Tracing.{lines_by}
 
--- the lines rise, from line n on, and are all before line `last`
+-- the line numbers rise, from line n on, and are all below `last`
 abbrev pub RiseTo : ℕ → List LineOp → ℕ → Type 0
 RiseTo n [] last = n ≤ last
 RiseTo n (due ∷ rest) last = (n ≤ due.line) × RiseTo (due.line + 1) rest last
 
--- At place i of the trace's lines the worker of thread k has a record of each of its lines of the phases that are over, and its queue
--- has its lines of this phase, up to that place.
+-- At line index i of the trace the worker of thread k has a record of each of its lines of the phases that are over, and its queue
+-- has its lines of this phase, up to that index.
 pub record IsAtPlace (t : Trace) (i k : ℕ) (queue : List LineOp) (w : WorkerValue) : Type 0 where
   pub thread : w.stock.thread ≡ k
   pub partitions : w.stock.partitions ≡ t.partitions
@@ -38,13 +38,13 @@ pub record IsAtPlace (t : Trace) (i k : ℕ) (queue : List LineOp) (w : WorkerVa
   pub rise : (n : ℕ) × AreBefore n w.records × RiseTo n queue (i + 2)
   pub lines : map (in_phase (phases_in (take i t.lines)) k) queue ≡ lines_in (take i t.lines) (phases_in (take i t.lines)) k
 
--- The report has a line for each partition of the first so many phases, and each is right of the end of its phase.
+-- The report has a line for each partition of each of the first phases, and each is right at the end of its phase.
 pub record IsReportOf (t : Trace) (phases : ℕ) (course : Course) (report : List ReportLine) : Type 0 where
   pub places : map (λ (l : ReportLine). (l.phase, l.partition)) report ≡ phases_of t.partitions 1 phases
   pub within : (l : ReportLine) → Contains report l → (1 ≤ l.phase) × (l.phase ≤ phases)
   pub right : (l : ReportLine) → Contains report l → IsLineFor l.phase t.threads (course.ends l.phase) (course.seats l.phase) l
 
--- At place i of the trace's lines this is the phase; those before are over, and all workers have heard since.
+-- At line index i of the trace this is the phase; those before are over, and all workers have their stakes back since.
 pub record IsUnderWay (t : Trace) (i phase : ℕ) (workers : List WorkerValue) (queues : List (List LineOp)) (seat : View)
     (report : List ReportLine) : Type 0 where
   pub over : ℕ
@@ -59,7 +59,7 @@ pub record IsUnderWay (t : Trace) (i phase : ℕ) (workers : List WorkerValue) (
   pub each : (k : ℕ) → k < t.threads → IsAtPlace t i k (queue_in queues k) (worker_in workers k)
   pub reported : IsReportOf t over course report
 
--- a new phase begins at place i
+-- a new phase begins at index i
 pub record BeginsPhase (i : ℕ) (lines : List Line) : Type 0 where
   pub low : i < length lines
   pub is : slice_index_or lines i Phase ≡ Phase

@@ -16,10 +16,10 @@ use Rattle.pa_execution.specs.Gathering.{IsMain}
 use Rattle.pa_runner.specs.Phases.{HaveTold, worker_in}
 use Rattle.pa_runner.specs.Reporting.{IsLineFor}
 
--- All phases of a trace were played by workers that began new: so they went.
---   ends, ended, told: the workers were as `ends` when the last phase was over; then each told the main seat, which has heard all
---   main: that seat has every other stake besides, and no unclean Own
---   places, right: the report has one line for each phase and partition in order, and each is right of the end of its phase
+-- All phases of a trace were played by new workers, and this is how:
+--   ends, ended, told: the workers were as `ends` when the last phase was over; then each handed its stake to the main seat
+--   main: the main seat has every other stake besides, and no unclean Own
+--   places, right: the report has one line for each phase and partition in order, and each is right at the end of its phase
 pub record HasPlayed (t : Trace) (workers : List WorkerValue) (seat : View) (report : List ReportLine) : Type 0 where
   pub course : Course
   pub ends : List WorkerValue
@@ -31,7 +31,7 @@ pub record HasPlayed (t : Trace) (workers : List WorkerValue) (seat : View) (rep
   pub places : map (λ (l : ReportLine). (l.phase, l.partition)) report ≡ phases_of t.partitions 1 (phases_in t.lines)
   pub right : (l : ReportLine) → Contains report l → IsLineFor l.phase t.threads (course.ends l.phase) (course.seats l.phase) l
 
--- The run is a legal run of the trace, the words of the closed region hold it, they are those of so many super pages, and it can be
+-- The run is a legal run of the trace, the words of the closed region, all those of its super pages, hold it, and it can be
 -- printed.
 pub record IsHeldRun (t : Trace) (run : Run) (words : List ℕ) : Type 0 where
   pub legal : IsLegal t run

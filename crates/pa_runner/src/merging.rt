@@ -12,8 +12,8 @@ use pa_region::Name;
 use pa_trace::{Line, MOST_THREADS};
 use std::alloc::Global;
 
-/// The records of all workers in the order of the trace's lines. Each thread's stand in the order of its lines, so the next line's
-/// is the next one of its thread.
+/// The records of all workers in the order of the trace's lines. Each thread's are in the order of its lines, so the next line's
+/// record is the next one of its thread.
 pub fn merge_records<N: Name>(
     alloc: Global,
     lines: &[Line],

@@ -19,7 +19,7 @@ use pa_thread_state::Heap;
 use pa_trace::Trace;
 use std::alloc::Global;
 
-/// The workers of all threads of a trace, of a seat that has every stake: each gets its thread's, and a counted step for each
+/// The workers of all threads of a trace, from a seat that has every stake: each gets its thread's, and a counted step for each
 /// line of its thread.
 pub fn open_workers<N: Name>(
     alloc: Global,
@@ -43,7 +43,7 @@ pub fn open_workers<N: Name>(
     Ok(workers)
 }
 
-// The worker of one thread gets its stake, and so many counted steps.
+// The worker of one thread gets its stake, and this many counted steps.
 fn open_worker<N: Name>(
     alloc: Global,
     heap: &Heap<N>,

@@ -20,8 +20,8 @@ use std::sync::Wait;
 use std::thread::Threads;
 
 impl<R: Threads + Wait + Sync, N: Name + Send + Sync, G: Gate> Playing<'_, R, N, G> {
-    /// Each worker plays its lines of a phase, and when all have, each tells the main seat; then the phase's lines are put behind
-    /// those of the report. Where a worker wanted for memory it ends there.
+    /// Each worker plays its lines of a phase, and when all have, each hands its stake to the main seat; then the phase's lines
+    /// are appended to the report. If a worker ran out of memory, it ends there.
     pub fn pass_phase(
         &self,
         workers: &mut [Worker<N>],
@@ -54,7 +54,7 @@ impl<R: Threads + Wait + Sync, N: Name + Send + Sync, G: Gate> Playing<'_, R, N,
     }
 }
 
-// Whether an op of some worker wanted for memory.
+// Whether an op of some worker ran out of memory.
 fn any_stopped<N: Name>(workers: &[Worker<N>]) -> bool
     ensures { result ≡ false → AreGoing workers.now }
 {

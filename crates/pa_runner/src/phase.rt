@@ -1,4 +1,4 @@
-//! One phase: the workers play their lines, each on a thread of its own; then they tell the main seat, and hear from it.
+//! One phase: the workers play their lines, each on its own thread; then they lend their stakes to the main seat.
 ghost use Rattle.std.specs.Prelude.{◌≡◌, ℕ, ◌<◌, ◌≤◌, length};
 ghost use Rattle.pa_trace.specs.Limits.{most_threads};
 ghost use Rattle.pa_region.specs.Views.{HasEveryStake, stake_of};
@@ -25,7 +25,7 @@ use std::thread;
 use std::thread::Threads;
 
 impl<R: Threads + Wait + Sync, N: Name + Send + Sync, G: Gate> Playing<'_, R, N, G> {
-    /// Each worker plays its lines, on a thread of its own where one can be had, and else on this one. It returns when all have.
+    /// Each worker plays its lines, on a thread of its own if it gets one, and else on this one. It returns when all have played.
     pub fn play_phase(&self, workers: &mut [Worker<N>], queues: &[Queue])
         requires many { (0 < length workers.old) × (length workers.old ≤ most_threads) }
         requires ready { AreReady queues.now workers.old }
@@ -42,7 +42,7 @@ impl<R: Threads + Wait + Sync, N: Name + Send + Sync, G: Gate> Playing<'_, R, N,
     }
 }
 
-/// Each worker tells the main seat, which has every stake then, each with its log, and has seen what they have.
+/// Each worker hands its stake to the main seat, which then has every stake, each with its log, and has seen what they have seen.
 pub fn tell_all<N: Name>(heap: &Heap<N>, workers: &mut [Worker<N>], seat: &mut Seat)
     requires region { seat.old.region ≡ N.region }
     requires main { IsMain (length workers.old) seat.old.view }
@@ -57,7 +57,7 @@ pub fn tell_all<N: Name>(heap: &Heap<N>, workers: &mut [Worker<N>], seat: &mut S
     }
 }
 
-// A worker tells the main seat.
+// A worker hands its stake to the main seat.
 fn tell<N: Name>(heap: &Heap<N>, worker: &mut Worker<N>, seat: &mut Seat)
     requires region { seat.old.region ≡ N.region }
     requires clean { unclean_of seat.old.view ≡ 0 }
@@ -73,7 +73,7 @@ fn tell<N: Name>(heap: &Heap<N>, worker: &mut Worker<N>, seat: &mut Seat)
     seat.aware();
 }
 
-/// Each worker hears from the main seat: it gets its stake back, and has seen what the main seat has.
+/// Each worker gets its stake back from the main seat, and has then seen what the main seat has.
 pub fn hear_all<N: Name>(heap: &Heap<N>, workers: &mut [Worker<N>], seat: &mut Seat)
     requires region { seat.old.region ≡ N.region }
     requires few { length workers.old ≤ most_threads }
@@ -90,7 +90,7 @@ pub fn hear_all<N: Name>(heap: &Heap<N>, workers: &mut [Worker<N>], seat: &mut S
     }
 }
 
-// A worker hears from the main seat.
+// A worker gets its stake back from the main seat.
 fn hear<N: Name>(heap: &Heap<N>, worker: &mut Worker<N>, seat: &mut Seat, thread: u32)
     requires region { seat.old.region ≡ N.region }
     requires thread { (worker.old.stock.thread ≡ thread) × (thread < most_threads) }

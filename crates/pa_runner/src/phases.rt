@@ -21,7 +21,7 @@ use std::marker::{Send, Sync};
 use std::sync::Wait;
 use std::thread::Threads;
 
-/// A trace that is played: the runtime, whose threads play it, the heap in which it is played, and the gate around each line.
+/// What it takes to play a trace: the runtime for its threads, the heap in which it is played, and the gate around each line.
 #[derive(Drop)]
 pub struct Playing<'a, R, N: Name, G> {
     /// The runtime.
@@ -35,8 +35,8 @@ pub struct Playing<'a, R, N: Name, G> {
 }
 
 impl<R: Threads + Wait + Sync, N: Name + Send + Sync, G: Gate> Playing<'_, R, N, G> {
-    /// Plays the lines of the trace phase after phase, and answers the report. In each phase each worker plays its own lines; then
-    /// all tell the main seat, and where a phase follows they hear from it.
+    /// Plays the lines of the trace phase after phase, and returns the report. In each phase each worker plays its own lines; then
+    /// all hand their stakes to the main seat, and if another phase follows they get them back from it.
     pub fn play_phases(
         &self,
         alloc: Global,
@@ -71,7 +71,7 @@ impl<R: Threads + Wait + Sync, N: Name + Send + Sync, G: Gate> Playing<'_, R, N,
         Ok(report)
     }
 
-    // The lines of a phase are played, and the next phase begins: all workers have heard, and their queues are empty.
+    // The lines of a phase are played, and the next phase begins: all workers have their stakes back, and their queues are empty.
     fn next_phase(
         &self,
         workers: &mut [Worker<N>],
@@ -106,7 +106,7 @@ fn open_queues(alloc: Global, threads: u32) -> Result<Vec<Queue>, OutOfMemory>
     Ok(queues)
 }
 
-// No queue has lines.
+// Empties all queues.
 fn clear_queues(queues: &mut [Queue])
     ensures { queues.new ≡ replicate (length queues.old) [] }
 {

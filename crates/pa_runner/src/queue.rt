@@ -3,7 +3,7 @@ use pa_machine::OutOfMemory;
 use std::alloc::Global;
 use std::marker::Model;
 
-/// The lines of one thread in a phase, which its worker is still to play.
+/// The lines of one thread in a phase that its worker has still to play.
 #[derive(Drop)]
 pub struct Queue {
     lines: Vec<LineOp>,
@@ -30,7 +30,7 @@ impl Queue {
         }
     }
 
-    /// Puts a line behind the others.
+    /// Appends a line.
     pub fn push(&mut self, due: LineOp) -> Result<(), OutOfMemory>
         ensures { OnOk result (self.new ≡ self.old ++ due ∷ []) }
     {

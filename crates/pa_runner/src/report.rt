@@ -18,8 +18,8 @@ use pa_region::{Name, Seat};
 use std::sync::Wait;
 
 impl<R: Wait, N: Name, G> Playing<'_, R, N, G> {
-    /// Puts the lines of a phase behind those of a report: for each partition what the workers counted and have cached, and the
-    /// census of its root.
+    /// Appends the lines of a phase to a report: for each partition what the workers counted and have cached, and the census of
+    /// its root.
     pub fn report_phase(
         &self,
         workers: &[Worker<N>],
@@ -46,7 +46,7 @@ impl<R: Wait, N: Name, G> Playing<'_, R, N, G> {
     }
 }
 
-// The line of a partition, whose root has this.
+// The line of a partition, from this census of its root.
 fn line_of<N: Name>(
     workers: &[Worker<N>],
     phase: u32,
@@ -77,7 +77,7 @@ fn line_of<N: Name>(
     }
 }
 
-// What went in less what went out. No more goes out than in: a law of the run says so (`WentIn` of pa_legal), and nothing here.
+// What went in minus what went out. No more goes out than in: a law of the run says so (`WentIn` of pa_legal), and nothing here.
 fn left_of(into: Tally, out: Tally) -> Tally
     ensures { result ≡ record { slots = into.slots - out.slots; bytes = into.bytes - out.bytes } }
 {

@@ -16,7 +16,7 @@ use pa_trace::Op;
 use std::sync::Wait;
 use std::thread::Threads;
 
-/// An op of a thread, and the number of its line in the trace, whose head is line 1.
+/// An op of a thread, and the number of its line in the trace; the trace's head is line 1.
 #[derive(Clone, Copy, Debug, PartialEq, Eq)]
 pub struct LineOp {
     pub line: u32,
@@ -24,7 +24,7 @@ pub struct LineOp {
 }
 
 impl<R: Threads + Wait + Sync, N: Name, G: Gate> Playing<'_, R, N, G> {
-    /// Plays a thread's lines in their order. Where an op wants for memory the worker is stopped, and plays no more.
+    /// Plays a thread's lines in their order. If an op runs out of memory the worker is stopped, and plays no more.
     pub fn play_lines(&self, worker: &mut Worker<N>, thread: u32, lines: &[LineOp])
         requires thread { worker.old.stock.thread ≡ thread }
         requires ready { CanPlay lines.now worker.old }

@@ -21,9 +21,9 @@ use std::marker::{Brand, Send, Sync};
 use std::sync::Wait;
 use std::thread::Threads;
 
-/// Plays a trace within the limits, each thread's lines of a phase on a thread of its own where one can be had, and answers the run
+/// Plays a trace within the limits, each thread's lines of a phase on a thread of its own if it gets one, and returns the run
 /// and the region's words at the end. The run is a legal run of the trace, and those words hold it. Which of the legal runs it is
-/// depends on how the threads met; with one thread there is one. Want of memory is the only error; all threads are joined then too.
+/// depends on how the threads interleaved; with one thread there is one. The only error is out of memory, with all threads joined.
 pub fn run_trace<R: Threads + Wait + Sync, G: Gate>(
     rt: &R,
     alloc: Global,
@@ -65,7 +65,7 @@ fn run_in<N: Name + Send + Sync, R: Threads + Wait + Sync, G: Gate>(
     close_run(alloc, trace, heap, workers, seat, report)
 }
 
-/// Closes the heap in which all phases of a trace were played, and puts the run together from what is left.
+/// Closes the heap in which all phases of a trace were played, and makes the run from what is left.
 pub fn close_run<N: Name>(
     alloc: Global,
     trace: &Trace,

@@ -2,7 +2,7 @@ use Rattle.std.proofs.Common.{◌≡◌, ◌*◌, ◌≤◌}
 use Rattle.pa_heap.proofs.Purged.{Purging}
 use Rattle.pa_heap.proofs.purges.purge.Given as goal
 
--- so many partitions were purged
+-- this many partitions were purged
 abbrev pub invariant-loop-partition : goal.invariant-loop-partition
 invariant-loop-partition g l = record {
   some : Purging l.line l.partition l.slots l.initial.stock l.stock;

@@ -3,7 +3,7 @@ use Rattle.pa_runner.specs.Phases.{worker_in}
 use Rattle.pa_runner.specs.Reporting.{IsReported}
 use Rattle.pa_runner.proofs.phases.Playing.report_phase.Given as goal
 
--- the lines of the partitions before stand behind the report
+-- the lines of the partitions before are at the end of the report
 abbrev pub invariant-loop-partition : goal.invariant-loop-partition
 invariant-loop-partition g l = record {
   region : l.seat.region ≡ l.fn.seat.region;
