@@ -16,9 +16,9 @@ use Rattle.pa_region.specs.Contents.{content_at_number}
 use Rattle.pa_region.specs.Pairs.{paired_of, paired_of_by, logged_of_by}
 use Rattle.pa_region.specs.Waiting.{is_quiet, gave_no_poison, quiet_read, IsFreedElsewhere}
 
--- Each read right after a look in the view's logs gave what it should: where the look found the bit 0, poison; where it
--- found the bit set, a quiet read through a clean Own gave the content at the look's number, and one through a Ref gave
--- that, or poison where another log has the title's next Free.
+-- Each read right after a look in the view's logs gave what it should: if the look found the bit 0, poison; if it found the
+-- bit set, a quiet read through a clean Own gave the content at the look's number, and one through a Ref gave that content,
+-- or poison if another log has the title's next Free.
 pub record HasReads (history : Title → List Done) (v : View) : Type 0 where
   pub freed : paired_of v gave_no_poison ≡ 0
   pub own : (t : Title) (found value : ℕ) → held_of found ≡ 1 → 0 < paired_of v (quiet_read true t found value) →
@@ -28,7 +28,7 @@ pub record HasReads (history : Title → List Done) (v : View) : Type 0 where
       ⊎ ((value ≡ poison) × IsFreedElsewhere (logged_of_by v) (history t) t r (number_of found))
 
 -- What a view with every stake knows of all logs: each title has a history that its logs chain, and each read in them gave
--- what it should. Titles that they name are well formed, and two of one start and one `born` are one.
+-- it should. Titles that they name are well formed, and two titles with one start and one `born` are the same.
 pub record HasAllLogs (v : View) : Type 0 where
   pub history : Title → List Done
   pub chain : (t : Title) → IsChained (logged_of v) t (history t)
@@ -36,7 +36,7 @@ pub record HasAllLogs (v : View) : Type 0 where
   pub one_name : (t u : Title) → 0 < logged_of v (names t) → 0 < logged_of v (names u) → t.start ≡ u.start → t.born ≡ u.born → t ≡ u
   pub reads : HasReads history v
 
--- what one read gave, with stake r, of a title with this history
+-- what a read with stake r should give, of a title with this history
 pub record IsReadRight (history : List Done) (v : View) (r : ℕ) (t : Title) (found value : ℕ) (since : Deeds) (owned unclean : Bool)
     : Type 0 where
   pub freed : held_of found ≡ 0 → since.handed ≡ false → value ≡ poison
@@ -45,7 +45,7 @@ pub record IsReadRight (history : List Done) (v : View) (r : ℕ) (t : Title) (f
       (value ≡ content_at_number (number_of found) history)
       ⊎ ((value ≡ poison) × IsFreedElsewhere (logged_of_by v) history t r (number_of found))
 
--- it holds of each read that stands right after a look at its title, in each log of the view
+-- this holds for each read right after a look at its title, in each log of the view
 abbrev pub AreReadsRight : (Title → List Done) → View → Type 0
 AreReadsRight history v =
     (i : ℕ) (s : Stake) (before later : List Entry) (t : Title) (found place value : ℕ) (since : Deeds) (owned unclean : Bool) →

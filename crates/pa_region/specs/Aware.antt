@@ -10,12 +10,12 @@ use Rattle.pa_region.specs.Views.{held_of_view, free_of, own_of, ref_of, uncut_o
 use Rattle.pa_region.specs.Lists.{keeper_of, lease_of, list_of, made_with, entered_in, IsBeginning, IsKnownTo, Rises, HasSeenHandles}
 use Rattle.pa_region.specs.AllReads.{HasAllLogs}
 
--- Each thing, stake, keeper and lease is there at most once. A free title isn't used besides, its titles share no byte, and
--- none is raw or was made raw again, by what its logs say or by its own list. It has seen what its own logs say, the number of each title that it holds free, and
--- the issue of each title of which it has a handle.
--- Each note of a keeper's list is a beginning of what it has seen of the list, and its own keepers' lists are that. What
--- its stakes made there is what their logs entered; makers had stakes, what they had seen rises, and it has seen it too.
--- And with every stake its logs are all logs, and it has seen no more than they say.
+-- The view has each thing, stake, keeper and lease at most once. A free title isn't used besides, its titles share no byte, and
+-- none is raw or was uncut, by its logs or its own list. It has seen what its own logs say, the number of each title it holds
+-- free, and the issue of each title that it has a handle of.
+-- Each note of a keeper's list is a beginning of what it has seen of the list, and its own keepers' lists are all of it. What
+-- its stakes made there is what their logs entered; makers had stakes; what they had seen rises, and the view has seen it too.
+-- And if it has every stake, its logs are all logs, and it has seen no more than they say.
 pub record IsAware (v : View) : Type 0 where
   pub raw_once : (b : ℕ) → held_of_view v (RawByte b) ≤ 1
   pub free_once : (t : Title) → free_of v t ≤ 1

@@ -2,7 +2,7 @@
 use Rattle.std.specs.Prelude.{ℕ, List, [], ◌∷◌, length, nat_lt, if◌then◌else◌}
 use Rattle.pa_region.specs.History.{Done, reached, content_of}
 
--- the first k steps of a history, and all of it where it has no more
+-- the first k steps of a history, or all of it if it has no more
 abbrev pub up_to : ℕ → List Done → List Done
 up_to k [] = []
 up_to k (d ∷ older) = if nat_lt (length older) k then d ∷ older else up_to k older

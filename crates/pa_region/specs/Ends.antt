@@ -11,16 +11,16 @@ use Rattle.pa_region.specs.AllReads.{HasAllLogs}
 use Rattle.pa_region.specs.Aware.{IsAware}
 use Rattle.pa_region.specs.Loads.{has_unclean}
 
--- What the words say of a title with this history: its count word is the last one of the history; while it is quarantined
+-- What the words say of a title with this history: its count word is the last word of the history; while it is quarantined
 -- its content is poison; and while it is owned, but not by an unclean Own of the view, its content is the history's.
 pub record EndsWith (words : List ℕ) (v : View) (t : Title) (history : List Done) : Type 0 where
   pub last : count_word words t ≡ reached history
   pub poison : IsQuarantined (count_word words t) → IsPoisonedTo words t (content_count t)
   pub content : held_of (count_word words t) ≡ 1 → has_unclean v t ≡ false → HasContentFrom words t 0 (content_of history)
 
--- At the end a view with every stake knows what the rule says of one view, and so what its stakes and no others entered in
--- each keeper's list. It knows all logs, and what reads gave. Of each title that a log names and none says was made raw
--- again, and of each that it holds, it knows what the words say. And the words that it knows are those of the end.
+-- At the end a view with every stake satisfies what the rule says of one view, which includes what its stakes entered in each
+-- keeper's list. It knows all logs, and what reads gave. It knows what the words say of each title that a log names and none
+-- says was uncut, and of each title that it holds. And the words that it knows are those of the end.
 pub record IsEnd (words : List ℕ) (v : View) : Type 0 where
   pub aware : IsAware v
   pub logs : HasAllLogs v

@@ -18,7 +18,7 @@ abbrev pub frees_from : ℕ → List Done → ℕ
 frees_from k [] = 0
 frees_from k (d ∷ older) = one (is_free d.step && nat_le k (length older)) + frees_from k older
 
--- The history's first Free that found a number of at least k found the number n: a Free found n, and none found a
+-- The history's first Free that found a number of at least k found the number n: a Free found n, and no Free found a
 -- number from k on that is below n.
 pub record IsFirstFree (history : List Done) (k n : ℕ) : Type 0 where
   pub behind : k ≤ n

@@ -21,7 +21,7 @@ use Rattle.pa_region.specs.Lists.{keeper_of, lease_of}
 use Rattle.pa_region.specs.Pairs.{paired_of, paired_of_by, logged_of_by}
 use Rattle.pa_region.specs.Waiting.{poisoned_of, unclean_of}
 
--- the parts of a raw range that lie below byte a, from byte e on, and between the two
+-- the parts of a raw range below byte a, from byte e on, and between the two
 abbrev pub below_part : ℕ → RawRange → RawRange
 below_part a r = record { start = r.start; len = min r.len (a - r.start); floor = r.floor }
 
@@ -66,7 +66,7 @@ HoldsGiven (Free t) v = 0 < free_of v t
 HoldsGiven (Own t) v = 0 < own_as v t Clean
 HoldsGiven (Ref t) v = 0 < ref_of v t
 
--- it holds them all at once
+-- it holds all these items at once
 abbrev pub CanGive : List Item → View → Type 0
 CanGive [] v = Unit {0}
 CanGive (x ∷ xs) v = HoldsGiven x v × CanGive xs (without_item x v)
@@ -85,7 +85,7 @@ abbrev pub numbers_from : ℕ → ℕ → List ℕ
 numbers_from from zero = []
 numbers_from from (suc count) = from ∷ numbers_from (suc from) count
 
--- the leases without n, where it is one of those from some number on: the ones below it become single
+-- the leases without n, if it is one of those from some number on: the ones below it become single
 abbrev pub out_of : ℕ → List ℕ → List ℕ → Leases
 out_of n single [] = record { single = single; from = [] }
 out_of n single (f ∷ fs) =
@@ -104,17 +104,17 @@ lease_out n l =
     then record { single = without (λ x. x == n) l.single; from = l.from }
     else out_of n l.single l.from
 
--- without these
+-- the leases without these
 abbrev pub leases_out : List ℕ → Leases → Leases
 leases_out [] l = l
 leases_out (n ∷ ns) l = leases_out ns (lease_out n l)
 
--- they are all there
+-- the leases have all of these
 abbrev pub HasLeases : List ℕ → Leases → Type 0
 HasLeases [] l = Unit {0}
 HasLeases (n ∷ ns) l = (0 < lease_in l n) × HasLeases ns (lease_out n l)
 
--- what is handed over: items, so many counted steps, the stakes and the keepers with these numbers, and leases
+-- what is handed over: items, a number of counted steps, the stakes and the keepers with these numbers, and leases
 pub record Parcel : Type 0 where
   pub items : List Item
   pub budget : ℕ
@@ -155,8 +155,8 @@ empty_of v = record v {
   since = handed v.since;
 }
 
--- The view of who gets the parcel: a stake goes with its log and a keeper with its list, and what was seen is copied. What
--- was made raw again stays in the list of who gave.
+-- The view that receives the parcel: a stake goes with its log and a keeper with its list, and what was seen is copied. What
+-- was uncut stays in the giver's list.
 abbrev pub given_after : Parcel → View → View
 given_after p v = record v {
   raws = (given_of p.items v (empty_of v)).raws;
@@ -171,15 +171,15 @@ given_after p v = record v {
   since = handed v.since;
 }
 
--- a seat with this view may hand over the parcel: where a stake is in it, each of the seat's Owns is clean
+-- a seat with this view may hand over the parcel: if a stake is in it, each of the seat's Owns is clean
 pub record CanHand (p : Parcel) (v : View) : Type 0 where
   pub items : CanGive p.items v
   pub budget : p.budget ≤ v.budget
   pub leases : HasLeases p.leases v.leases
   pub clean : (k : ℕ) → p.stakes k ≡ true → unclean_of v ≡ 0
 
--- What v has is what l and r have together: each thing, floors, the budget, the entries of the logs of any weight,
--- stakes, keepers, leases, Owns that aren't clean, and what was made raw again. That no Ref of a title is left may be
+-- What v has is what l and r have together: each thing, floors, the budget, the entries of the logs by any weight,
+-- stakes, keepers, leases, Owns that aren't clean, and what was uncut. The knowledge that no Ref of a title is left may be
 -- forgotten.
 pub record IsParted (v l r : View) : Type 0 where
   pub things : (x : Thing) → held_of_view l x + held_of_view r x ≡ held_of_view v x
@@ -197,20 +197,20 @@ pub record IsParted (v l r : View) : Type 0 where
   pub unclean : unclean_of l + unclean_of r ≡ unclean_of v
   pub undone : (t : Title) → undone_of l t + undone_of r t ≡ undone_of v t
 
--- how often a view knows the word with this number: as raw, in a title that it holds free, or as content of an Own
+-- how many times a view knows the word with this number: as raw, in a title that it holds free, or as content of an Own
 abbrev pub knowing : View → ℕ → ℕ
 knowing v q =
     held_of_view v (RawByte (8 * q))
     + (sum_by (λ t. one (nat_le t.start (8 * q) && nat_lt (8 * q) (t.start + t.len))) v.frees
     + sum_by (λ (o : OwnTitle). one (nat_le o.title.start (8 * q) && nat_lt (8 * q + 8) (o.title.start + o.title.len))) v.owns)
 
--- of two lists of words, from word q on, the words that v knows of the first, and else those of the second
+-- two lists of words combined, from word q on: from the first the words that v knows, and from the second the others
 unfoldable pub merged : View → ℕ → List ℕ → List ℕ → List ℕ
 merged v q [] others = others
 merged v q (x ∷ xs) [] = x ∷ xs
 merged v q (x ∷ xs) (y ∷ ys) = (if nat_lt 0 (knowing v q) then x else y) ∷ merged v (suc q) xs ys
 
--- what was done by two since the last entry
+-- what two views together did since the last entry
 abbrev pub done_by_both : Deeds → Deeds → Deeds
 done_by_both d e = record { handed = true; stored = d.stored || e.stored; poisoned = d.poisoned || e.poisoned }
 
@@ -236,7 +236,7 @@ united v w = record {
 abbrev pub spent_of : View → View
 spent_of w = record (empty_of w) { seen = []; seen_lists = [] }
 
--- a view may take in another: the other has only clean Owns, and where it has a stake, none of the view's is poisoned
+-- a view may take in another: the other has only clean Owns, and if it has a stake, none of the view's Owns is poisoned
 pub record CanTake (v w : View) : Type 0 where
   pub clean : unclean_of w ≡ 0
   pub apart : (k : ℕ) (t : Title) → 0 < stake_of w k → poisoned_of v t ≡ 0

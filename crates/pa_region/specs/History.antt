@@ -8,7 +8,7 @@ use Rattle.pa_machine.specs.Holdings.{one}
 use Rattle.pa_region.specs.declared.view.Entry.{Entry}
 use Rattle.pa_region.specs.Views.{counted_on, counted_at, counted_as, looked_at}
 
--- one step that was made, and the value that a write wrote
+-- one step that was made, and the value that it wrote if it was a write
 pub record Done : Type 0 where
   pub step : Step
   pub value : ℕ
@@ -18,7 +18,7 @@ abbrev pub reached : List Done → ℕ
 reached [] = 0
 reached (d ∷ older) = stepped d.step (reached older)
 
--- the content after a step that wrote this value, where it was `before` until then: an issue makes it 0, a write its value
+-- the content after a step with this value, if it was `before` until then: an issue makes it 0, a write its value
 abbrev pub content_by : Step → ℕ → ℕ → ℕ
 content_by Issue value before = 0
 content_by Copy value before = before
@@ -41,7 +41,7 @@ abbrev pub IsWordIn : ℕ → List Done → Type 0
 IsWordIn word [] = word ≡ 0
 IsWordIn word (d ∷ older) = (word ≡ reached (d ∷ older)) ⊎ IsWordIn word older
 
--- each step of the history stands in exactly one log, once, with the word that it found and its value
+-- each step of the history is in exactly one log, once, with the word that it found and its value
 abbrev pub IsLogged : ((Entry → ℕ) → ℕ) → Title → List Done → Type 0
 IsLogged logs t [] = Unit {0}
 IsLogged logs t (d ∷ older) = (logs (counted_as t d.step (reached older) d.value) ≡ 1) × IsLogged logs t older

@@ -1,4 +1,4 @@
--- What each step leaves of its view, for callers: laws over any view.
+-- How each step changes its view, for callers: laws over any view.
 use Rattle.std.specs.Prelude.{◌≡◌, ℕ, ◌+◌, ◌-◌, ◌/◌, ◌<◌, ◌≤◌, ◌⊎◌, List, [], ◌∷◌, ◌++◌, Bool, true, false, ◌&&◌, length, max, Some, slice_index, if◌then◌else◌}
 use Rattle.std.specs.List.{sum_by}
 use Rattle.pa_machine.specs.declared.title.Title.{Title}
@@ -23,7 +23,7 @@ use Rattle.pa_region.specs.Shares.{Share, IsStepMade}
 use Rattle.pa_region.specs.Start.{blank}
 use Rattle.pa_region.specs.Takes.{log_of}
 
--- What an entry leaves of logs: the least stake's log has it at its end, the others are as before, and so are the stakes.
+-- How an entry changes logs: the least stake's log has it at its end, the others are as before, and so are the stakes.
 pub record LeavesEntry (e : Entry) (v w : View) : Type 0 where
   pub logs : (weight : Entry → ℕ) → logged_of w weight ≡ logged_of v weight + weight e
   pub least : least_stake w.stakes ≡ least_stake v.stakes
@@ -32,7 +32,7 @@ pub record LeavesEntry (e : Entry) (v w : View) : Type 0 where
   pub last : last_entry (least_log w.stakes) ≡ Some e
   pub stakes : (k : ℕ) → stake_of w k ≡ stake_of v k
 
--- so of a view that has a stake, after which the stakes are those with the entry
+-- this holds for a view that has a stake, and its stakes then are those with the entry
 abbrev pub EntryLeaves : Type 0
 EntryLeaves = (e : Entry) (v w : View) → HasStake v → w.stakes ≡ noted e v.stakes → LeavesEntry e v w
 
@@ -73,9 +73,9 @@ gives_back Reset left = is_back left
 gives_back Free left = is_back left
 gives_back Write left = false
 
--- What a counted step that found this word leaves: how often each title is held free, as Own and as Ref; one entry in
--- logs; one step less in the budget; the number that it leaves is seen; no word beside the title's changes in what is
--- known, and none where the title isn't given back, whose count word is then known.
+-- How a counted step that found this word changes the view: how many times each title is held free, as Own and as Ref; one
+-- more entry in logs; one step less in the budget; the number that it leaves is seen; no known word outside the title changes,
+-- and none at all if the title isn't given back; if it is, its count word is then known.
 pub record LeavesCount (step : Step) (t : Title) (word : ℕ) (v w : View) : Type 0 where
   pub raws : w.raws ≡ v.raws
   pub frees : (u : Title) →
@@ -96,35 +96,35 @@ pub record LeavesCount (step : Step) (t : Title) (word : ℕ) (v w : View) : Typ
 abbrev pub CountLeaves : Type 0
 CountLeaves = (step : Step) (t : Title) (word : ℕ) (v : View) → CanCount step t v → LeavesCount step t word v (after_count step t word v)
 
--- after a reset or a free the seat holds the title free, once, exactly where the step returned it
+-- after a reset or a free the seat holds the title free, once, if and only if the step returned it
 abbrev pub ReleaseLeaves : Type 0
 ReleaseLeaves =
     (step : Step) (t : Title) (word : ℕ) (before after : Share) → (step ≡ Reset) ⊎ (step ≡ Free) → HasHandle step t before.view →
     IsStepMade step t word before after →
     (IsReturning step word → free_of after.view t ≡ 1) × ((IsReturning step word → ⊥) → free_of after.view t ≡ 0)
 
--- w holds each title as often as v does, also each Own in its state
+-- w holds each title as many times as v does, each Own in its state too
 pub record HoldsSame (v w : View) : Type 0 where
   pub frees : (u : Title) → free_of w u ≡ free_of v u
   pub owns : (u : Title) → own_of w u ≡ own_of v u
   pub states : (u : Title) (a : OwnState) → own_as w u a ≡ own_as v u a
   pub refs : (u : Title) → ref_of w u ≡ ref_of v u
 
--- a look leaves what is held, and of logs one entry more
+-- a look changes nothing that is held, and adds one entry to the logs
 abbrev pub LookLeaves : Type 0
 LookLeaves =
     (t : Title) (word : ℕ) (v : View) → HasStake v →
     HoldsSame v (after_look t word v) × LeavesEntry (Looked t word) v (after_look t word v)
 
--- a store and a poisoning leave how often each title is held, in whatever state
+-- a store and a poisoning don't change how many times each title is held, in whatever state
 abbrev pub StoreLeaves : Type 0
 StoreLeaves =
     ((at_byte value : ℕ) (v : View) (u : Title) → own_of (after_store at_byte value v) u ≡ own_of v u) ×
     ((at_byte value : ℕ) (v : View) (u : Title) → idle_of (after_store at_byte value v) u ≡ idle_of v u) ×
     ((t : Title) (j : ℕ) (v : View) (u : Title) → own_of (after_poison t j v) u ≡ own_of v u)
 
--- An entry in a keeper's list leaves the list with the entry at its end, and so the log of the least stake; other lists and
--- logs, and keepers, are as before.
+-- After an entry in a keeper's list, the list and the log of the least stake have it at their end; other lists and
+-- logs, and the keepers, are as before.
 pub record LeavesEnter (k : ℕ) (numbers : List ℕ) (v w : View) : Type 0 where
   pub list : list_of k w ≡ list_of k v ++ new_entry numbers v ∷ []
   pub other_lists : (q : ℕ) → (q ≡ k → ⊥) → list_of q w ≡ list_of q v
@@ -138,7 +138,7 @@ EnterLeaves = (k : ℕ) (numbers : List ℕ) (v : View) → CanEnter k v → Lea
 abbrev pub StatesAreOwns : Type 0
 StatesAreOwns = (v : View) (t : Title) (a : OwnState) → own_as v t a ≤ own_of v t
 
--- where Owns of a title are there, the change of the first one puts its amount in place of that of one of them
+-- if there are Owns of a title, changing the first one replaces the amount of one of them in each sum
 pub record OneOwnChanged (t : Title) (change : OwnTitle → OwnTitle) (os : List OwnTitle) (o : OwnTitle) : Type 0 where
   pub is_own : same_title o.title t ≡ true
   pub within : (f : OwnTitle → ℕ) → f o ≤ sum_by f os
@@ -151,7 +151,7 @@ OwnsChange =
     ((t : Title) (change : OwnTitle → OwnTitle) (f : OwnTitle → ℕ) (os : List OwnTitle) → ((o : OwnTitle) → f (change o) ≡ f o) →
     sum_by f (changed (is_own_of t) change os) ≡ sum_by f os)
 
--- content words that were set have the value, and others are as before
+-- content words that were set have the value, and the others are as before
 abbrev pub FilledWords : Type 0
 FilledWords =
     (value : ℕ) (t : Title) (n : ℕ) (words : List ℕ) →

@@ -1,4 +1,4 @@
--- Lending a stake: what a seat keeps that hands its stake over and gets it back, and what the one keeps that had it.
+-- Lending a stake: what a seat that lends its stake and gets it back keeps, and what the seat that borrowed it keeps.
 use Rattle.std.specs.Prelude.{◌≡◌, ℕ, ◌<◌, ◌≤◌, List, [], ◌∷◌, ◌++◌, ◌==◌, length, map, slice_index, if◌then◌else◌}
 use Rattle.pa_machine.specs.declared.title.Title.{Title}
 use Rattle.pa_machine.specs.Titles.{IsWellFormed}
@@ -18,24 +18,24 @@ use Rattle.pa_region.specs.Aware.{IsAware}
 use Rattle.pa_region.specs.Shares.{Share}
 use Rattle.pa_region.specs.Takes.{log_of}
 
--- the stake with this number and nothing else
+-- a parcel of the stake with this number and nothing else
 abbrev pub stake_parcel : ℕ → Parcel
 stake_parcel r = parcel_of [] 0 (Stake r ∷ [])
 
--- a view that may hand its stake over has it, and only clean Owns
+-- a view that may lend its stake has one, and only clean Owns
 abbrev pub CanLend : View → Type 0
 CanLend v = HasStake v × (unclean_of v ≡ 0)
 
--- and one that may get it has none, and only clean Owns
+-- and a view that may borrow one has none, and only clean Owns
 abbrev pub CanHost : View → Type 0
 CanHost v = ((k : ℕ) → stake_of v k ≡ 0) × (unclean_of v ≡ 0)
 
--- a seat that has this keeper may get a stake
+-- a seat that has this keeper may borrow a stake
 abbrev pub HostsKeeper : ℕ → View → Type 0
 HostsKeeper k v = CanHost v × (0 < keeper_of v k)
 
 -- The view `after` has what v has: each thing, floors, what it knows of Refs that are left, the budget, stakes, keepers
--- and leases; it knows the words that v knows; it has seen all that v has seen; and what v made raw again stands in its list.
+-- and leases; it knows the words that v knows; it has seen all that v has seen; and what v uncut is in its list.
 pub record Keeps (v after : View) : Type 0 where
   pub things : (x : Thing) → held_of_view after x ≡ held_of_view v x
   pub floors : (b n : ℕ) → low_of after b n ≡ low_of v b n
@@ -51,14 +51,14 @@ pub record Keeps (v after : View) : Type 0 where
   pub lists : (k : ℕ) → IsBeginning (list_of k v) (list_of k after)
   pub undone : (t : Title) → undone_of v t ≤ undone_of after t
 
--- Who lent the stake r and got it back keeps what it has. The stake's log has these entries more, other logs none; and the
--- lists of its own keepers are as they were, since nobody else can make an entry there.
+-- The lender of stake r that got it back keeps what it has. The stake's log has these entries more, other logs none; and the
+-- lists of its own keepers are as they were, since no other seat can make an entry there.
 pub record Lends (r : ℕ) (more : List Entry) (v after : View) : Type 0 where
   pub keeps : Keeps v after
   pub own_lists : (k : ℕ) → 0 < keeper_of v k → list_of k after ≡ list_of k v
   pub logs : (k : ℕ) → log_of k after ≡ log_of k v ++ (if k == r then more else [])
 
--- A stake that comes back: `done` is the view of who had it, whatever was done in between.
+-- A stake that comes back: `done` is the borrower's view, whatever was done in between.
 abbrev pub LendsBack : Type 0
 LendsBack =
     (lender done : View) (r : ℕ) (more : List Entry) → IsAware lender → CanHand (stake_parcel r) lender → CanHand (stake_parcel r) done →
@@ -66,7 +66,7 @@ LendsBack =
     stake_of done r ≡ stake_of lender r → log_of r done ≡ log_of r lender ++ more →
     Lends r more lender (united (left_after (stake_parcel r) lender) (given_after (stake_parcel r) done))
 
--- Who had it, and had no stake of this number before, keeps what it has.
+-- The borrower, which had no stake of this number before, keeps what it has.
 abbrev pub HostsKeep : Type 0
 HostsKeep =
     (host lender done : View) (r : ℕ) → CanHand (stake_parcel r) lender → CanHand (stake_parcel r) done →
@@ -74,24 +74,24 @@ HostsKeep =
     Keeps (united host (given_after (stake_parcel r) lender)) done →
     Keeps host (left_after (stake_parcel r) done)
 
--- who makes an entry in a keeper's list keeps what it has; and one fact goes on to the next
+-- a seat that makes an entry in a keeper's list keeps what it has; and keeping is transitive
 abbrev pub EnteringKeeps : Type 0
 EnteringKeeps = (k : ℕ) (numbers : List ℕ) (v : View) → CanEnter k v → Keeps v (after_enter k numbers v)
 
 abbrev pub KeepingGoesOn : Type 0
 KeepingGoesOn = (u v w : View) → Keeps u v → Keeps v w → Keeps u w
 
--- who keeps what could lend its stake can lend it again, the same one; and who could get one can get one again
+-- a view that keeps what a lender has can lend the same stake again; and one that keeps what a borrower has can borrow again
 abbrev pub LendsAgain : Type 0
 LendsAgain =
     (v w : View) → Keeps v w → (CanLend v → CanLend w × (least_stake w.stakes ≡ least_stake v.stakes)) × (CanHost v → CanHost w)
 
--- of a title that it holds free it has seen the same number
+-- it has seen the same number of a title that it holds free
 abbrev pub KeptNumbersStay : Type 0
 KeptNumbersStay =
     (v w : View) (n : ℕ) (t : Title) → IsAware v → IsAware w → Keeps v w → IsWellFormed n t → 0 < free_of v t → seen_of w t ≡ seen_of v t
 
--- The entry m was made with the lent stake r in the list of keeper k, which the host has: it has these numbers and stands
+-- The entry m was made with the lent stake r in the list of keeper k, which the host has: it has these numbers and is
 -- at the end of the list, which both have seen then; the lender's log has it; and it carries all that the lender had seen.
 pub record IsNoted (r k : ℕ) (numbers : List ℕ) (lender lender_now host host_now : View) (m : Made) : Type 0 where
   pub stake : m.stake ≡ r
@@ -103,8 +103,8 @@ pub record IsNoted (r k : ℕ) (numbers : List ℕ) (lender lender_now host host
   pub before : (t : Title) → seen_of lender t ≤ seen_among t m.seen
   pub known : (t : Title) → seen_among t m.seen ≤ seen_of lender_now t
 
--- Two entries were made with the stake r of the lender, one after the other. It was lent to `middle`, which lent it to
--- `host`: there m was made in the list of keeper `inner`, and then n by `middle` in that of keeper `outer`. The middle one
+-- Two entries were made with the lender's stake r, one after the other. It was lent to `middle`, which lent it to
+-- `host`: there m was made in the list of keeper `inner`, and then `middle` made n in that of keeper `outer`. The middle one
 -- has seen the inner list with its entry, and n carries that.
 pub record AreNoted (r inner outer : ℕ) (first second : List ℕ)
     (lender lender_now middle middle_now host host_now : View) (m n : Made) : Type 0 where
@@ -120,7 +120,7 @@ pub record AreNoted (r inner outer : ℕ) (first second : List ℕ)
   pub known : (t : Title) → seen_among t n.seen ≤ seen_of lender_now t
   pub seen_list : IsBeginning (list_of inner host_now) (list_of inner middle_now)
 
--- the same of seats before and after: one entry was made so with the lender's least stake, or two
+-- the same for seats before and after: one entry was made so with the lender's least stake, or two
 abbrev pub MakesEntry : ℕ → List ℕ → (lender lender_now host host_now : Share) → Type 0
 MakesEntry k numbers a b h i = (m : Made) × IsNoted (least_stake a.view.stakes) k numbers a.view b.view h.view i.view m
 
@@ -128,7 +128,7 @@ abbrev pub MakesBoth : (inner : ℕ) → List ℕ → (outer : ℕ) → List ℕ
 MakesBoth inner first outer second a b c d h i =
     (m n : Made) × AreNoted (least_stake a.view.stakes) inner outer first second a.view b.view c.view d.view h.view i.view m n
 
--- Entries with these numbers were made with the lender's least stake: they stand at the end of the list and of the log.
+-- Entries with these numbers were made with the lender's least stake: they are at the end of the list and of the log.
 abbrev pub MakesAll : ℕ → List (List ℕ) → (lender lender_now host host_now : Share) → Type 0
 MakesAll k numbers a b h i =
     (ms : List Made) × (map (λ m. m.numbers) ms ≡ numbers) × (list_of k i.view ≡ list_of k h.view ++ ms) ×

@@ -17,23 +17,23 @@ use Rattle.pa_region.specs.declared.view.SeenList.{SeenList}
 use Rattle.pa_region.specs.declared.view.View.{View}
 use Rattle.pa_region.specs.Views.{seen_among, seen_of, free_of, own_of, ref_of}
 
--- how often a view has keeper k
+-- how many times a view has keeper k
 abbrev pub keeper_of : View → ℕ → ℕ
 keeper_of v k = sum_by (λ (q : Keeper). one (q.number == k)) v.keepers
 
--- how often any view has it
+-- how many times all views together have it
 abbrev pub keepers_in : List View → ℕ → ℕ
 keepers_in views k = sum_by (λ v. keeper_of v k) views
 
--- how often a view has lease n: among its single ones, and among those from some number on
+-- how many times a view has lease n: among its single ones, and among those from some number on
 abbrev pub lease_of : View → ℕ → ℕ
 lease_of v n = sum_by (λ l. one (l == n)) v.leases.single + sum_by (λ f. one (nat_le f n)) v.leases.from
 
--- how often any view has it
+-- how many times all views together have it
 abbrev pub leases_in : List View → ℕ → ℕ
 leases_in views n = sum_by (λ v. lease_of v n) views
 
--- of two lists the longer one, the first where they are as long
+-- the longer of two lists, or the first if they are equally long
 abbrev pub longer : List Made → List Made → List Made
 longer a b = if nat_lt (length a) (length b) then b else a
 
@@ -61,27 +61,27 @@ abbrev pub entered_in : ℕ → List Entry → List Made
 entered_in k [] = []
 entered_in k (e ∷ log) = entry_in k e ++ entered_in k log
 
--- the list begins with the other
+-- the first list is a beginning of the second
 abbrev pub IsBeginning : List Made → List Made → Type 0
 IsBeginning begun list = (rest : List Made) × (list ≡ begun ++ rest)
 
--- all that the entry's maker had seen is seen by these notes
+-- these notes have seen all that the entry's maker had seen
 abbrev pub IsKnownTo : List SeenNumber → Made → Type 0
 IsKnownTo notes m = (t : Title) → seen_among t m.seen ≤ seen_among t notes
 
--- what the makers had seen rises along the list
+-- what the makers had seen grows along the list
 abbrev pub Rises : List Made → Type 0
 Rises [] = Unit {0}
 Rises (m ∷ ms) = Each (λ later. IsKnownTo later.seen m) ms × Rises ms
 
--- who has a handle of a title has seen a number of at least 1: that of its issue
+-- a view with a handle of a title has seen a number of at least 1: that of its issue
 abbrev pub HasSeenHandles : View → Type 0
 HasSeenHandles v = (t : Title) → 0 < own_of v t + ref_of v t → 1 ≤ seen_of v t
 
--- Of one view and the lists of the keepers. What it has seen of a list is a beginning of it, and the whole list where
--- it has the keeper, with which the list goes. What a stake of the view made is, in order, what its log entered: in
--- the whole list, and in what the view has seen of it. And all that the makers of what it has seen had seen, it has
--- seen, and the issue of each title of which it has a handle.
+-- Of one view and the lists of the keepers. What it has seen of a list is a beginning of it, and the whole list if
+-- it has the keeper, since the list goes with the keeper. What a stake of the view made is, in order, what its log entered: in
+-- the whole list, and in what the view has seen of it. The view has seen all that the makers of what it has seen had seen,
+-- and the issue of each title that it has a handle of.
 pub record IsListed (list : ℕ → List Made) (v : View) : Type 0 where
   pub beginnings : Each (λ n. IsBeginning n.entries (list n.keeper)) v.seen_lists
   pub whole : (k : ℕ) → 0 < keeper_of v k → list_of k v ≡ list k
@@ -91,11 +91,11 @@ pub record IsListed (list : ℕ → List Made) (v : View) : Type 0 where
   pub follows : (k : ℕ) → Each (λ m. IsKnownTo v.seen m) (list_of k v)
   pub handles : HasSeenHandles v
 
--- who holds a title free has seen its number
+-- a view that holds a title free has seen its number
 abbrev pub HasSeenFree : View → Type 0
 HasSeenFree v = (t : Title) → 0 < free_of v t → number_of (count_word v.words t) ≤ seen_of v t
 
--- The fifth part: each of the 6 keepers is in exactly one view, and so is each lease. What makers had seen rises along
+-- The fifth part: each of the 6 keepers is in exactly one view, and so is each lease. What makers had seen grows along
 -- each list, and each entry was made with a stake. Each view is as above, and has seen the number of each title that
 -- it holds free.
 pub record Lists (list : ℕ → List Made) (views : List View) : Type 0 where

@@ -1,4 +1,4 @@
--- What a load makes of the stepping seat's view, what it asks of it, and what it tells.
+-- How a load changes the stepping seat's view, what it requires of it, and what its value is.
 use Rattle.std.specs.Prelude.{◌≡◌, ℕ, ◌*◌, ◌/◌, ◌%◌, ◌<◌, ◌⊎◌, Bool, false, ◌&&◌, nat_lt, Some, slice_index}
 use Rattle.std.specs.List.{sum_by}
 use Rattle.pa_machine.specs.declared.title.Title.{Title}
@@ -38,19 +38,19 @@ content_offset t place = 8 * content_place t place
 abbrev pub IsPlain : View → ℕ → Type 0
 IsPlain v at_byte = HasRawWord v at_byte ⊎ ((t : Title) × (0 < free_of v t) × Covers t at_byte)
 
--- a seat with this view may load the word at the offset: a plain one; or, with a stake, one of a title of which it has a
+-- a seat with this view may load the word at the offset: a plain word, or with a stake a word of a title that it has a
 -- handle
 abbrev pub CanLoad : ℕ → View → Type 0
 CanLoad at_byte v = (at_byte % 8 ≡ 0) × (IsPlain v at_byte ⊎ ((t : Title) × Covers t at_byte × IsUser t v × HasStake v))
 
--- What a read's value is: through an Own the word that the view knows. And poison, where a look right before it found the
+-- What a read returns: through an Own the word that the view knows. And poison, if a look right before it found the
 -- bit 0 and nothing was handed over since.
 abbrev pub ReadTells : Title → ℕ → View → ℕ → Type 0
 ReadTells t place v value =
     (0 < own_of v t → value ≡ content_at v.words t place) ×
     ((found : ℕ) → last_entry (least_log v.stakes) ≡ Some (Looked t found) → held_of found ≡ 0 → v.since.handed ≡ false → value ≡ poison)
 
--- What a load tells. A plain word is the one that the view knows, and the view stays; the count word of a title that it
+-- What a load returns. A plain word is the one that the view knows, and the view stays; the count word of a title that it
 -- holds free is a free one. The load of a count word of a handle is a look, and of a content word a read.
 pub record LoadTells (at_byte : ℕ) (v : View) (word : ℕ) (after : View) : Type 0 where
   pub plain : IsPlain v at_byte → (after ≡ v) × (word ≡ slice_index v.words (at_byte / 8))

@@ -1,4 +1,4 @@
--- What marks and items make a parcel, and which stakes a seat has.
+-- How marks and items make a parcel, and which stakes a seat has.
 use Rattle.std.specs.Prelude.{◌≡◌, ℕ, ◌<◌, List, [], ◌∷◌, ◌++◌, Bool, false, ◌==◌, nat_lt, slice_index_or}
 use Rattle.std.specs.List.{list_any}
 use Rattle.pa_machine.specs.declared.event.Item.{Item}
@@ -36,7 +36,7 @@ abbrev pub marked_leases : List Mark → List ℕ
 marked_leases [] = []
 marked_leases (m ∷ ms) = lease_of_mark m ++ marked_leases ms
 
--- these items, so many counted steps, and what is marked
+-- a parcel of these items, this many counted steps, and what is marked
 abbrev pub parcel_of : List Item → ℕ → List Mark → Parcel
 parcel_of items budget marks = record {
   items = items;
@@ -46,6 +46,6 @@ parcel_of items budget marks = record {
   leases = marked_leases marks;
 }
 
--- of each of the 16 numbers, whether the view has that stake
+-- for each of the 16 numbers, whether the view has that stake
 abbrev pub AreStakes : List Bool → View → Type 0
 AreStakes has v = (k : ℕ) → k < 16 → slice_index_or has k false ≡ nat_lt 0 (stake_of v k)

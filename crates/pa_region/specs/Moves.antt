@@ -1,4 +1,4 @@
--- What each kind of step makes of the stepping seat's view.
+-- How each kind of step changes the stepping seat's view.
 use Rattle.std.specs.Prelude.{◌≡◌, ℕ, zero, suc, ◌+◌, ◌-◌, ◌<◌, ◌≤◌, List, [], ◌∷◌, ◌++◌, Bool, true, false, ◌==◌, ◌&&◌, slice_set, if◌then◌else◌}
 use Rattle.pa_machine.specs.declared.title.Title.{Title}
 use Rattle.pa_machine.specs.declared.title.OwnState.TheVariants.{Clean, Dirty, Poisoned}
@@ -42,7 +42,7 @@ busy o = record o { idle = false }
 abbrev pub written : OwnTitle → OwnTitle
 written o = record o { state = Clean; idle = true }
 
--- an Own after a look that found this word: where the count in it is 0, that is known
+-- an Own after a look that found this word: if the count in it is 0, that is known
 abbrev pub idle_if : ℕ → OwnTitle → OwnTitle
 idle_if word o = if refs_of word == 0 then record o { idle = true } else o
 
@@ -55,8 +55,8 @@ filled_with value t (suc n) words = slice_set (filled_with value t n words) (con
 abbrev pub is_back : ℕ → Bool
 is_back left = (held_of left == 0) && (refs_of left == 0)
 
--- what the view holds and knows after a counted step on the title that found this word. Who gets the title back knows
--- its count word; and after a reset its content, which is poison, since the slot was quarantined.
+-- What the view holds and knows after a counted step on the title that found this word. If the step gave the title back, the
+-- view knows its count word; and after a reset its content, which is poison, since the slot was quarantined.
 abbrev pub moved : Step → Title → ℕ → View → View
 moved Issue t word v = record v {
   frees = without (is_title_of t) v.frees;
@@ -95,7 +95,7 @@ noted e stakes =
 abbrev pub no_deeds : Deeds
 no_deeds = record { handed = false; stored = false; poisoned = false }
 
--- the view after an entry in its log, with a number of the title that is now seen
+-- the view after an entry in its log, with a step number of the title that is now seen
 abbrev pub entered : Entry → Title → ℕ → View → View
 entered e t number v = record v {
   stakes = noted e v.stakes;
@@ -115,8 +115,8 @@ abbrev pub after_look : Title → ℕ → View → View
 after_look t word v =
     entered (Looked t word) t (number_of word) (record v { owns = changed (is_own_of t) (idle_if word) v.owns })
 
--- The view has the handle that the step needs: of a copy a clean Own or a Ref, of a free the Own with poison in all its
--- content words, of a write a clean or dirty Own of which no Ref is known to be left.
+-- The view has the handle that the step needs: for a copy a clean Own or a Ref, for a free the Own with poison in all its
+-- content words, for a write a clean or dirty Own of a title that is known to have no Ref left.
 abbrev pub HasHandle : Step → Title → View → Type 0
 HasHandle Issue t v = 0 < free_of v t
 HasHandle Copy t v = 0 < own_as v t Clean + ref_of v t
@@ -124,7 +124,7 @@ HasHandle Reset t v = 0 < ref_of v t
 HasHandle Free t v = 0 < own_as v t (Poisoned (content_count t))
 HasHandle Write t v = (0 < idle_of v t) × (0 < own_as v t Clean + own_as v t Dirty)
 
--- the content that the step needs is known to be there: of an issue 0, of a write one value in all words
+-- the view knows the content that the step needs: for an issue 0, for a write one value in all words
 abbrev pub HasContent : Step → Title → View → Type 0
 HasContent Issue t v = HasContentFrom v.words t 0 0
 HasContent Copy t v = Unit {0}
@@ -136,8 +136,8 @@ HasContent Write t v = IsUniform v.words t
 abbrev pub CanCount : Step → Title → View → Type 0
 CanCount step t v = HasHandle step t v × HasStake v × (0 < v.budget) × HasContent step t v
 
--- What a word that was found on a title tells: its number isn't below one that was seen before; the view's handles are
--- among those that it counts; a title that isn't free is nobody's free title; of a free title it is the word that the
+-- What a word found on a title implies: its number isn't below one that was seen before; the view's handles are
+-- among those that it counts; a title that isn't free is free in no view; of a free title it is the word that the
 -- view knows; and its number and count are small.
 pub record IsFound (t : Title) (word : ℕ) (v : View) : Type 0 where
   pub not_older : seen_of v t ≤ number_of word

@@ -1,4 +1,4 @@
--- Entries of which one stands right after the other in a log, and sums over the logs of one stake number.
+-- Consecutive entries of a log, and sums over the logs of one stake number.
 use Rattle.std.specs.Prelude.{ℕ, ◌+◌, List, [], ◌∷◌, ◌==◌, Option, Some, None, if◌then◌else◌}
 use Rattle.std.specs.List.{sum_by}
 use Rattle.pa_region.specs.declared.view.Entry.{Entry}
@@ -6,7 +6,7 @@ use Rattle.pa_region.specs.declared.view.Stake.{Stake}
 use Rattle.pa_region.specs.declared.view.View.{View}
 use Rattle.pa_region.specs.Views.{least_stake}
 
--- each two entries of a log of which one stands right after the other have a weight; all added up
+-- the sum of a weight over all pairs of consecutive entries of a log
 abbrev pub pairs : (Entry → Entry → ℕ) → List Entry → ℕ
 pairs weight [] = 0
 pairs weight (a ∷ []) = 0
@@ -18,19 +18,19 @@ last_entry [] = None
 last_entry (a ∷ []) = Some a
 last_entry (a ∷ b ∷ log) = last_entry (b ∷ log)
 
--- the weight of an entry with the one that it stands after, if there is one
+-- the weight of an entry with the one right before it, if there is one
 abbrev pub weight_after : (Entry → Entry → ℕ) → Option Entry → Entry → ℕ
 weight_after weight None e = 0
 weight_after weight (Some a) e = weight a e
 
--- the pairs in the logs of a view's stakes, and of all views
+-- the sum over the pairs in the logs of a view's stakes, and of all views
 abbrev pub paired_of : View → (Entry → Entry → ℕ) → ℕ
 paired_of v weight = sum_by (λ (s : Stake). pairs weight s.log) v.stakes
 
 abbrev pub paired_in : List View → (Entry → Entry → ℕ) → ℕ
 paired_in views weight = sum_by (λ v. paired_of v weight) views
 
--- an amount of the log of a stake whose number is r, and 0 of another
+-- an amount of a stake's log if the stake's number is r, and 0 otherwise
 abbrev pub amount_by : ℕ → (List Entry → ℕ) → Stake → ℕ
 amount_by r amount s = if s.number == r then amount s.log else 0
 

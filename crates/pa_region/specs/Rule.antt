@@ -18,8 +18,8 @@ use Rattle.pa_region.specs.History.{Done, reached, content_of, IsChained}
 use Rattle.pa_region.specs.Waiting.{Reads}
 use Rattle.pa_region.specs.Lists.{Lists}
 
--- The first part: the core that is shown is good. Where a view knows of a title that no Ref of it
--- is left, the count is 0. The steps that may still be made and those that were made are at most 65,536, also with
+-- The first part: the core that is shown is good. If a view knows that a title has no Ref
+-- left, its count is 0. The steps that may still be made and those that were made are at most 65,536, also with
 -- the number of any one held title; and a count isn't above its number.
 pub record Holders (words : List ℕ) (total : Thing → ℕ) (idle : Title → ℕ) (budget steps : ℕ) : Type 0 where
   pub good : IsGood words total
@@ -35,14 +35,14 @@ pub record Values (words : List ℕ) (views : List View) : Type 0 where
   pub known : (i word : ℕ) (v : View) → get_elem? views i ≡ some v → Knows v word → slice_index v.words word ≡ slice_index words word
 
 -- The second part, of each title that some log names: the raw bytes that it covers have floors above its `born`, and each
--- other held title that shares a byte with it has a greater `born`. What was made raw again isn't held.
+-- other held title that shares a byte with it has a greater `born`. A title that was uncut isn't held.
 pub record Reservations (total : Thing → ℕ) (low : ℕ → ℕ → ℕ) (named uncut : Title → ℕ) : Type 0 where
   pub floors : (t : Title) (b : ℕ) → 0 < named t → Covers t b → low b t.born ≡ 0
   pub later : (t u : Title) (b : ℕ) → 0 < named t → IsTitleHeld total u → (t ≡ u → ⊥) → Covers t b → Covers u b → t.born < u.born
   pub gone : (t : Title) → 0 < uncut t → IsTitleHeld total t → ⊥
 
--- The second part also says that titles which logs name are well formed, in a region of so many words; that two of them
--- with one start and one `born` are one; and that such a title, where no log says that it was made raw again, is held.
+-- The second part also says that titles which logs name are well formed, in a region of this many words; that two of them
+-- with one start and one `born` are the same; and that such a title is held unless a log says that it was uncut.
 pub record Named (words : ℕ) (total : Thing → ℕ) (named uncut : Title → ℕ) : Type 0 where
   pub well : (t : Title) → 0 < named t → IsWellFormed words t
   pub one_name : (t u : Title) → 0 < named t → 0 < named u → t.start ≡ u.start → t.born ≡ u.born → t ≡ u
@@ -61,9 +61,9 @@ pub record Seen (logs : (Entry → ℕ) → ℕ) (ahead : Title → ℕ → ℕ)
   pub numbers : (t : Title) → ahead t (logs (counted_on t)) ≡ 0
   pub own_logs : unseen ≡ 0
 
--- The rule, in five parts, each of what it reads. Each title has a history, and each keeper a list. The third part also
+-- The rule, in five parts, each over what it reads. Each title has a history, and each keeper a list. The third part also
 -- says that the content of each clean Own is that of its title's history, and the rest of an Own that is being poisoned
--- while there are Refs; and what reads gave. And what a view's own list says was made raw again, some log says too.
+-- while there are Refs; and what reads gave. And what a view's own list says was uncut, some log says too.
 pub record IsKept (words : List ℕ) (views : List View) : Type 0 where
   pub history : Title → List Done
   pub list : ℕ → List Made

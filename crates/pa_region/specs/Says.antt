@@ -1,4 +1,4 @@
--- What the rule says, of any number of seats.
+-- What the rule says, for any number of seats.
 use Rattle.std.specs.Prelude.{◌≡◌, ℕ, ◌+◌, ◌/◌, ◌%◌, ◌<◌, ◌≤◌, List, [], ◌∷◌, ◌++◌, slice_set, length, replicate}
 use mathlib.Core.Option.{some}
 use lib.ListN.{get_elem?}
@@ -50,7 +50,7 @@ CountIsEvent =
     IsEventOf (Count i t step) words views
     (slice_set words (count_place t) (stepped step (word_shown words t))) (slice_set views i (after_count step t (word_shown words t) v))
 
--- so does a look, which changes this view alone
+-- a look keeps the rule too, and changes this view alone
 abbrev pub LookKeeps : Type 0
 LookKeeps =
     (t : Title) (words : List ℕ) (views : List View) (i : ℕ) (v : View) →
@@ -72,7 +72,7 @@ StoreKeeps =
     IsEventOf (Store i at_byte value) words views (slice_set words (at_byte / 8) value) (slice_set views i (after_store at_byte value v)) ×
     IsKept (slice_set words (at_byte / 8) value) (slice_set views i (after_store at_byte value v))
 
--- so does the poisoning of the next content word
+-- the poisoning of the next content word does so too
 abbrev pub PoisonKeeps : Type 0
 PoisonKeeps =
     (t : Title) (j : ℕ) (words : List ℕ) (views : List View) (i : ℕ) (v : View) →
@@ -96,7 +96,7 @@ ReadKeeps =
     (slice_set views i (after_read t place (content_at (byte_words words) t place) v)) ×
     IsKept words (slice_set views i (after_read t place (content_at (byte_words words) t place) v))
 
--- the rule holds of a new region's words, which are 0, and of the first seat's view
+-- the rule holds for a new region's words, which are 0, and the first seat's view
 abbrev pub StartKeeps : Type 0
 StartKeeps =
     (words budget : ℕ) → budget ≤ 65536 → IsKept (replicate (words + 16) 0) (first_view words budget ∷ [])
@@ -125,7 +125,7 @@ HandKeeps =
     (p : Parcel) (words : List ℕ) (views : List View) (i : ℕ) (v : View) → IsKept words views → get_elem? views i ≡ some v → CanHand p v →
     IsParted v (left_after p v) (given_after p v) × IsKept words (slice_set views i (left_after p v) ++ given_after p v ∷ [])
 
--- a join of any two seats keeps it: the one has all that both had, and the other is left with nothing
+-- a join of any two seats keeps it: one has all that both had, and the other is left with nothing
 abbrev pub JoinKeeps : Type 0
 JoinKeeps =
     (words : List ℕ) (views : List View) (i j : ℕ) (v w : View) →
@@ -139,8 +139,8 @@ EnterKeeps =
     CanEnter k v →
     IsKept words (slice_set views i (after_enter k numbers v))
 
--- a cut by view number i, of a title whose count word it knows to be 0, is a cut by the core's actor i, and keeps the rule;
--- nobody has seen a step on the title
+-- a cut by view number i, of a title with a count word that it knows to be 0, is a cut by the core's actor i, and keeps the
+-- rule; no view has seen a step on the title
 abbrev pub CutKeeps : Type 0
 CutKeeps =
     (t : Title) (words : List ℕ) (views : List View) (i : ℕ) (v : View) →
@@ -148,14 +148,14 @@ CutKeeps =
     IsEventOf (Cut i t) words views words (slice_set views i (titled t v)) ×
     IsKept words (slice_set views i (titled t v)) × (seen_of v t ≡ 0)
 
--- making a free title raw again is an uncut by the core's actor i, and keeps the rule
+-- an uncut of a free title is an uncut by the core's actor i, and keeps the rule
 abbrev pub UncutKeeps : Type 0
 UncutKeeps =
     (t : Title) (words : List ℕ) (views : List View) (i : ℕ) (v : View) → IsKept words views → get_elem? views i ≡ some v → CanUncut t v →
     IsEventOf (Uncut i t) words views words (slice_set views i (after_uncut t v)) × IsKept words (slice_set views i (after_uncut t v))
 
--- Under the rule each title that some log names is well formed; two of them with one start and one `born` are one; and one
--- that no log says was made raw again is held.
+-- Under the rule each title that some log names is well formed; two of them with one start and one `born` are the same; and one
+-- that no log says was uncut is held.
 abbrev pub NamedAreOne : Type 0
 NamedAreOne =
     (words : List ℕ) (views : List View) (t : Title) → IsKept words views → 0 < logged_in views (names t) →

@@ -1,4 +1,4 @@
--- What contracts see of a region and of a seat, and what a step tells its seat.
+-- What contracts see of a region and of a seat, and what a step reports to its seat.
 use Rattle.std.specs.Prelude.{◌≡◌, ℕ, ◌+◌, ◌-◌, ◌*◌, ◌<◌, ◌≤◌, length}
 use Rattle.atomic_table.specs.Table.{Me}
 use Rattle.atomic_table.specs.Seated.{TableId}
@@ -13,7 +13,7 @@ use Rattle.pa_region.specs.declared.view.View.{View}
 use Rattle.pa_region.specs.Views.{held_of_view, own_of, ref_of, HasTitle}
 use Rattle.pa_region.specs.Moves.{IsFound, after_count, after_look}
 
--- a seat: the region that it is of, and its view
+-- a seat: its region and its view
 pub record Share : Type 0 where
   pub region : TableId
   pub view : View
@@ -38,7 +38,7 @@ adds Reset = 16777214
 adds Free = 16777215
 adds Write = 16777216
 
--- what a counted step tells: the view after it, and what was found
+-- what a counted step reports: the view after it, and what was found
 abbrev pub CountTells : {S : Type 0} → Step → Title → Me S View → ℕ → Me S View → Type 0
 CountTells step t me word after =
     (after.0 ≡ after_count step t word me.0) × (after.1 ≡ me.1) × CanStep step word × IsFound t word me.0
@@ -51,7 +51,7 @@ IsUser t v = 0 < own_of v t + ref_of v t
 abbrev pub count_offset : Title → ℕ
 count_offset t = 8 * count_place t
 
--- A counted step was made that found this word: the seat is of the same region, its view is the one after the step,
+-- A counted step was made and found this word: the seat is of the same region, its view is the one after the step,
 -- the step was enabled at the word, and the word is one that the view could find.
 pub record IsStepMade (step : Step) (t : Title) (word : ℕ) (before after : Share) : Type 0 where
   pub region : after.region ≡ before.region
@@ -59,7 +59,7 @@ pub record IsStepMade (step : Step) (t : Title) (word : ℕ) (before after : Sha
   pub enabled : CanStep step word
   pub found : IsFound t word before.view
 
--- a look was made that found this word
+-- a look was made and found this word
 pub record IsLooked (t : Title) (word : ℕ) (before after : Share) : Type 0 where
   pub region : after.region ≡ before.region
   pub view : after.view ≡ after_look t word before.view

@@ -5,7 +5,7 @@ use Rattle.pa_region.specs.declared.view.Keeper.{Keeper}
 use Rattle.pa_region.specs.declared.view.View.{View}
 use Rattle.pa_region.specs.Moves.{no_deeds}
 
--- so many words, all 0
+-- this many words, all 0
 unfoldable pub blank : ℕ → List ℕ
 blank zero = []
 blank (suc count) = 0 ∷ blank count
@@ -20,7 +20,7 @@ abbrev pub keepers_from : ℕ → ℕ → List Keeper
 keepers_from from zero = []
 keepers_from from (suc count) = record { number = from; entries = [] } ∷ keepers_from (suc from) count
 
--- the view of the first seat, in a region of so many words, which are 0: all bytes as raw with the floor 0, the whole
+-- the view of the first seat, in a region of this many words, which are 0: all bytes as raw with the floor 0, the whole
 -- budget, every stake, every keeper and every lease
 abbrev pub first_view : ℕ → ℕ → View
 first_view words budget = record {

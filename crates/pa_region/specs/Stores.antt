@@ -1,4 +1,4 @@
--- What a store and a poisoning make of the stepping seat's view, and what they ask of it.
+-- How a store and a poisoning change the stepping seat's view, and what they require of it.
 use Rattle.std.specs.Prelude.{◌≡◌, ℕ, ◌+◌, ◌/◌, ◌%◌, ◌<◌, ◌≤◌, ◌⊎◌, Bool, ◌==◌, ◌&&◌, nat_lt, nat_le, true, slice_set}
 use Rattle.std.specs.List.{sum_by}
 use Rattle.pa_machine.specs.declared.title.Title.{Title}
@@ -18,7 +18,7 @@ has_content_at at_byte o = nat_le o.title.start at_byte && nat_lt (at_byte + 8) 
 abbrev pub dirty : OwnTitle → OwnTitle
 dirty o = record o { state = Dirty }
 
--- the view after a store of the value at the byte offset: it knows the word, and an Own whose content it is is dirty
+-- the view after a store of the value at the byte offset: it knows the word, and the Own with this content, if any, is dirty
 abbrev pub after_store : ℕ → ℕ → View → View
 after_store at_byte value v = record v {
   words = slice_set v.words (at_byte / 8) value;
@@ -26,8 +26,8 @@ after_store at_byte value v = record v {
   since = record v.since { stored = true };
 }
 
--- the view holds the eight bytes as raw; the word is a content word of a title that it holds free; it is one of its
--- clean or dirty Own of which no Ref is known to be left, and it has a stake
+-- the view holds the eight bytes as raw; the word is a content word of a title that it holds free; it is a content word of its
+-- clean or dirty Own, it is known that no Ref of that title is left, and the view has a stake
 abbrev pub HasRawWord : View → ℕ → Type 0
 HasRawWord v at_byte = (b : ℕ) → at_byte ≤ b → b < at_byte + 8 → 0 < held_of_view v (RawByte b)
 
@@ -41,13 +41,13 @@ HasIdleContent v at_byte = (t : Title) × (0 < idle_of v t) × (0 < own_as v t C
 abbrev pub CanStore : ℕ → View → Type 0
 CanStore at_byte v = (at_byte % 8 ≡ 0) × (HasRawWord v at_byte ⊎ (HasFreeContent v at_byte ⊎ HasIdleContent v at_byte))
 
--- What a store tells of the view's Owns. A raw word, and the content of a free title, are no Own's content; where the word
--- is a content word of an Own, this one is dirty, and no other changes.
+-- How a store changes the view's Owns. A raw word, and the content of a free title, are no Own's content; if the word
+-- is a content word of an Own, this Own is dirty then, and no other changes.
 pub record StoreTells (at_byte : ℕ) (v after : View) : Type 0 where
   pub plain : HasRawWord v at_byte ⊎ HasFreeContent v at_byte → after.owns ≡ v.owns
   pub own : (t : Title) → 0 < own_of v t → IsContentOf t at_byte → after.owns ≡ changed (is_own_of t) dirty v.owns
 
--- an Own with so many words poisoned
+-- an Own with this many words poisoned
 abbrev pub poisoned_to : ℕ → OwnTitle → OwnTitle
 poisoned_to n o = record o { state = Poisoned n }
 
@@ -59,7 +59,7 @@ after_poison t j v = record v {
   since = record v.since { poisoned = true };
 }
 
--- how often a view has the title's Own with so many words poisoned, where a clean or a dirty one has 0
+-- how many times a view has the title's Own with this many words poisoned; a clean or a dirty one has 0
 abbrev pub own_to : View → Title → ℕ → ℕ
 own_to v t j = sum_by (λ (o : OwnTitle). one (same_title o.title t && (progress o.state == j))) v.owns
 

@@ -1,4 +1,4 @@
--- What a take leaves: laws of two views that are put together.
+-- How a take changes a view: laws of two views that are put together.
 use Rattle.std.specs.Prelude.{◌≡◌, ℕ, ◌<◌, ◌≤◌, ◌⊎◌, List, length, max, slice_index}
 use Rattle.pa_machine.specs.declared.title.Title.{Title}
 use Rattle.pa_machine.specs.Titles.{IsWellFormed}
@@ -15,17 +15,17 @@ use Rattle.pa_region.specs.Aware.{IsAware}
 abbrev pub log_of : ℕ → View → List Entry
 log_of r v = log_among r v.stakes
 
--- a list is one of two, and as long as each
+-- a list is one of two, and at least as long as each
 pub record IsLongest (whole a b : List Made) : Type 0 where
   pub either : (whole ≡ a) ⊎ (whole ≡ b)
   pub first : length a ≤ length whole
   pub second : length b ≤ length whole
 
--- two together have seen of each title the greater number
+-- two views together have seen the greater number of each title
 abbrev pub SeenJoins : Type 0
 SeenJoins = (v w : View) (t : Title) → seen_of (united v w) t ≡ max (seen_of v t) (seen_of w t)
 
--- and of each keeper's list the longer one
+-- and the longer beginning of each keeper's list
 abbrev pub ListsJoin : Type 0
 ListsJoin = (v w : View) (k : ℕ) → IsLongest (list_of k (united v w)) (list_of k v) (list_of k w)
 
@@ -41,25 +41,25 @@ BeginningsAreOrdered =
     ((a b l : List Made) → IsBeginning a l → IsBeginning b l → length a ≤ length b → IsBeginning a b) ×
     ((a l : List Made) → IsBeginning a l → length l ≤ length a → a ≡ l)
 
--- who has a keeper has its whole list, so a take brings no entry of it
+-- a view that has a keeper has its whole list, so a take adds no entry to it
 abbrev pub KeepersHaveAll : Type 0
 KeepersHaveAll =
     (v w : View) (k : ℕ) → IsAware v → IsAware w → IsAware (united v w) →
     (0 < keeper_of v k → list_of k (united v w) ≡ list_of k v) × (0 < keeper_of w k → list_of k (united v w) ≡ list_of k w)
 
--- each word that one of two knows, both know; their lists of words are as long
+-- each word that one of two views knows, both together know; their lists of words are equally long
 abbrev pub KnownWordsJoin : Type 0
 KnownWordsJoin =
     (v w : View) (q : ℕ) → IsAware (united v w) → length v.words ≡ length w.words →
     (Knows v q → slice_index (united v w).words q ≡ slice_index v.words q) ×
     (Knows w q → slice_index (united v w).words q ≡ slice_index w.words q)
 
--- who holds a title free has seen its number, so a take brings no greater one
+-- a view that holds a title free has seen its number, so a take brings no greater one
 abbrev pub FreeNumbersStay : Type 0
 FreeNumbersStay =
     (v w : View) (n : ℕ) (t : Title) → IsAware v → IsAware w → IsAware (united v w) → length v.words ≡ length w.words → IsWellFormed n t →
     (0 < free_of v t → seen_of (united v w) t ≡ seen_of v t) × (0 < free_of w t → seen_of (united v w) t ≡ seen_of w t)
 
--- what a view's stake made of a list that the view has seen is, in order, what its log entered there
+-- what a view's stake made, of a list that the view has seen, is in order what its log entered there
 abbrev pub StakesMadeTheirs : Type 0
 StakesMadeTheirs = (v : View) (r k : ℕ) → IsAware v → 0 < stake_of v r → made_with r (list_of k v) ≡ entered_in k (log_of r v)

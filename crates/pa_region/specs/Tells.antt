@@ -1,4 +1,4 @@
--- What histories and logs say to callers, as laws: of a word that a look found, of a step in a log, of a longer history,
+-- What histories and logs imply for callers, as laws: of a word that a look found, of a step in a log, of a longer history,
 -- and of reads.
 use Rattle.std.specs.Prelude.{◌≡◌, ℕ, ◌+◌, ◌<◌, ◌≤◌, List, ◌∷◌, ◌++◌, length}
 use Rattle.std.specs.List.{sum_by}
@@ -26,7 +26,7 @@ LookFindsItsWord =
     (logs : (Entry → ℕ) → ℕ) (t : Title) (history : List Done) (word : ℕ) → IsChained logs t history → 0 < logs (looked_at t word) →
     (number_of word ≤ length history) × (word_at_number (number_of word) history ≡ word)
 
--- these logs add up: where two weights of each entry are together within a third, so are they of all entries
+-- these logs add up: if two weights of each entry are together within a third, so are their sums over all entries
 abbrev pub AddsUp : ((Entry → ℕ) → ℕ) → Type 0
 AddsUp logs = (f g h : Entry → ℕ) → ((e : Entry) → f e + g e ≤ h e) → logs f + logs g ≤ logs h
 
@@ -34,7 +34,7 @@ AddsUp logs = (f g h : Entry → ℕ) → ((e : Entry) → f e + g e ≤ h e) �
 abbrev pub LogsAddUp : Type 0
 LogsAddUp = (v : View) → AddsUp (logged_of v)
 
--- a counted step that such logs have stands in the history at the number that it found, and found the word there
+-- a counted step that such logs have is in the history at the number that it found, and found the word there
 abbrev pub StepStandsAtItsNumber : Type 0
 StepStandsAtItsNumber =
     (logs : (Entry → ℕ) → ℕ) (t : Title) (history : List Done) (step : Step) (word value : ℕ) → AddsUp logs → IsChained logs t history →
@@ -42,14 +42,14 @@ StepStandsAtItsNumber =
     (number_of word < length history) × (word_at_number (number_of word) history ≡ word) ×
     (up_to (number_of word + 1) history ≡ record { step = step; value = value } ∷ up_to (number_of word) history)
 
--- where logs grew, the history goes on from what it was; so logs have one history
+-- if logs grew, the history goes on from what it was; so logs have one history
 abbrev pub HistoryGoesOn : Type 0
 HistoryGoesOn =
     (logs after : (Entry → ℕ) → ℕ) (t : Title) (older newer : List Done) → AddsUp after →
     ((weight : Entry → ℕ) → logs weight ≤ after weight) → IsChained logs t older → IsChained after t newer → (later : List Done)
     × (newer ≡ later ++ older)
 
--- up to a number that it had passed, a longer history is what it was
+-- up to a number that it had already reached, a longer history is what it was
 abbrev pub LongerIsTheSame : Type 0
 LongerIsTheSame = (later history : List Done) (k : ℕ) → k ≤ length history → up_to k (later ++ history) ≡ up_to k history
 
@@ -65,18 +65,18 @@ AllLogsAreKnown =
     (words : List ℕ) (views : List View) (i : ℕ) (v : View) → IsKept words views → get_elem? views i ≡ some v → HasEveryStake v →
     HasAllLogs v
 
--- it knows the reads by their places
+-- it knows the reads by their places in the logs
 abbrev pub ReadsHavePlaces : Type 0
 ReadsHavePlaces = (history : Title → List Done) (v : View) → HasReads history v → AreReadsRight history v
 
--- of the Frees of a title in a view's logs that found a number of at least k, one that found this word is the first, and
--- stands in the log of s
+-- Of the Frees of a title in a view's logs that found a number of at least k, the one that found this word is the first, and
+-- is in the log of s.
 pub record IsNextFree (v : View) (t : Title) (k : ℕ) (s : Stake) (word : ℕ) : Type 0 where
   pub behind : k ≤ number_of word
   pub logged : (value : ℕ) × (0 < sum_by (counted_as t Free word value) s.log)
   pub first : (other value : ℕ) → 0 < logged_of v (counted_as t Free other value) → k ≤ number_of other → number_of word ≤ number_of other
 
--- where a read gave poison since its slot was freed elsewhere, the log of another stake has the next Free
+-- if a read gave poison because its slot was freed elsewhere, the log of another stake has the next Free
 abbrev pub OthersHaveTheFree : Type 0
 OthersHaveTheFree =
     (v : View) (t : Title) (history : List Done) (r k : ℕ) → IsChained (logged_of v) t history →

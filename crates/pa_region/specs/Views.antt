@@ -29,11 +29,11 @@ own_piece o = OwnPiece o.title o.state
 abbrev pub pieces_of : View → List Piece
 pieces_of v = map raw_piece v.raws ++ (map FreePiece v.frees ++ (map own_piece v.owns ++ map RefPiece v.refs))
 
--- how often a view holds a thing
+-- how many times a view holds a thing
 abbrev pub held_of_view : View → Thing → ℕ
 held_of_view v x = held_in (pieces_of v) x
 
--- how often a title stands among a view's free titles, its Owns and its Refs
+-- how many times a title is among a view's free titles, its Owns and its Refs
 abbrev pub free_of : View → Title → ℕ
 free_of v t = sum_by (λ u. one (same_title u t)) v.frees
 
@@ -68,11 +68,11 @@ Knows v word =
     (0 < held_of_view v (RawByte (8 * word)))
     ⊎ (((t : Title) × (0 < free_of v t) × Covers t (8 * word)) ⊎ ((t : Title) × (0 < own_of v t) × IsContentOf t (8 * word)))
 
--- how often a view has the title's Own with the knowledge that no Ref of it is left
+-- how many times a view has the title's Own with the knowledge that no Ref of it is left
 abbrev pub idle_of : View → Title → ℕ
 idle_of v t = sum_by (λ (o : OwnTitle). one (same_title o.title t && o.idle)) v.owns
 
--- how often any view has it so
+-- how many times all views together have it so
 abbrev pub idle_in : List View → Title → ℕ
 idle_in views t = sum_by (λ v. idle_of v t) views
 
@@ -88,11 +88,11 @@ low_of v b n = sum_by (λ (r : RawRange). one ((nat_le r.start b && nat_lt b (r.
 abbrev pub low_in : List View → ℕ → ℕ → ℕ
 low_in views b n = sum_by (λ v. low_of v b n) views
 
--- how often a view has stake number k
+-- how many times a view has stake number k
 abbrev pub stake_of : View → ℕ → ℕ
 stake_of v k = sum_by (λ (s : Stake). one (s.number == k)) v.stakes
 
--- how often any view has it
+-- how many times all views together have it
 abbrev pub stakes_in : List View → ℕ → ℕ
 stakes_in views k = sum_by (λ v. stake_of v k) views
 
@@ -104,7 +104,7 @@ logged_of v weight = sum_by (λ (s : Stake). sum_by weight s.log) v.stakes
 abbrev pub logged_in : List View → (Entry → ℕ) → ℕ
 logged_in views weight = sum_by (λ v. logged_of v weight) views
 
--- the number of a step, by which steps are compared
+-- a number for each kind of step, by which kinds are compared
 abbrev pub step_number : Step → ℕ
 step_number Issue = 0
 step_number Copy = 1
@@ -146,28 +146,28 @@ names t (Read u place value since owned unclean) = one (same_title u t)
 names t (Uncut u) = one (same_title u t)
 names t other = 0
 
--- it says that this title was made raw again
+-- it says that this title was uncut
 abbrev pub uncuts : Title → Entry → ℕ
 uncuts t (Uncut u) = one (same_title u t)
 uncuts t other = 0
 
--- how often a view's logs say so
+-- how many times a view's logs say so
 abbrev pub uncut_of : View → Title → ℕ
 uncut_of v t = logged_of v (uncuts t)
 
--- how often all logs say so
+-- how many times all logs say so
 abbrev pub uncut_in : List View → Title → ℕ
 uncut_in views t = logged_in views (uncuts t)
 
--- how often a title stands in a view's own list of those that it made raw again
+-- how many times a title is in a view's own list of those that it uncut
 abbrev pub undone_of : View → Title → ℕ
 undone_of v t = sum_by (λ u. one (same_title u t)) v.uncut
 
--- how often in the lists of all views
+-- how many times it is in the lists of all views
 abbrev pub undone_in : List View → Title → ℕ
 undone_in views t = sum_by (λ v. undone_of v t) views
 
--- the greatest number of the title that these notes say was seen, 0 where they say none
+-- the greatest number of the title that these notes say was seen, or 0 if none says so
 abbrev pub seen_among : Title → List SeenNumber → ℕ
 seen_among t [] = 0
 seen_among t (s ∷ ss) = if same_title s.title t then max s.number (seen_among t ss) else seen_among t ss
@@ -195,11 +195,11 @@ unseen_by notes other = 0
 abbrev pub unseen_of : View → ℕ
 unseen_of v = logged_of v (unseen_by v.seen)
 
--- how many entries no view has seen that has them in its own logs
+-- how many entries are in some view's own logs and unseen by that view
 abbrev pub unseen_in : List View → ℕ
 unseen_in views = sum_by unseen_of views
 
--- the least number of these stakes, and 16 where there are none
+-- the least number of these stakes, or 16 if there are none
 abbrev pub least_stake : List Stake → ℕ
 least_stake [] = 16
 least_stake (s ∷ ss) = min s.number (least_stake ss)

@@ -1,4 +1,4 @@
--- What reads gave, and what a look tells the read that may follow it.
+-- What reads gave, and what a look ensures for the read that may follow it.
 use Rattle.std.specs.Prelude.{◌≡◌, ℕ, ◌<◌, ◌≤◌, ◌⊎◌, List, Bool, true, false, not, ◌==◌, ◌&&◌, nat_lt, Some, if◌then◌else◌}
 use Rattle.std.specs.List.{sum_by}
 use mathlib.Core.Option.{some}
@@ -25,14 +25,14 @@ abbrev pub is_quiet : Deeds → Bool
 is_quiet d = not d.handed && (not d.stored && not d.poisoned)
 
 -- Weights of an entry with the one right before it, each 1 or 0. A look found the bit 0, and a read of the same title
--- right after it, with nothing handed over between the two, gave another value than poison.
+-- right after it, with nothing handed over between the two, gave a value other than poison.
 abbrev pub gave_no_poison : Entry → Entry → ℕ
 gave_no_poison (Looked t found) (Read u place value since owned unclean) =
     one (same_title t u && ((held_of found == 0) && (not since.handed && not (value == poison))))
 gave_no_poison before e = 0
 
 -- A look at this title found this word, and a read of it right after that gave this value, quietly: nothing was handed
--- over, stored or poisoned between the two, and the reader had the title's Own clean, or, where `own` is false, not at
+-- over, stored or poisoned between the two, and the reader had the title's Own clean, or, if `own` is false, not at
 -- all.
 abbrev pub quiet_read : Bool → Title → ℕ → ℕ → Entry → Entry → ℕ
 quiet_read own t found value (Looked u word) (Read x place given since owned unclean) =
@@ -54,7 +54,7 @@ is_unclean Clean = false
 is_unclean Dirty = true
 is_unclean (Poisoned j) = true
 
--- how often a view has the title's Own poisoned
+-- how many times a view has the title's Own poisoned
 abbrev pub poisoned_of : View → Title → ℕ
 poisoned_of v t = sum_by (λ (o : OwnTitle). one (same_title o.title t && is_poisoned o.state)) v.owns
 
@@ -62,7 +62,7 @@ poisoned_of v t = sum_by (λ (o : OwnTitle). one (same_title o.title t && is_poi
 abbrev pub unclean_of : View → ℕ
 unclean_of v = sum_by (λ (o : OwnTitle). one (is_unclean o.state)) v.owns
 
--- how often the views that don't have stake r have the title's Own poisoned
+-- how many times the views that don't have stake r have the title's Own poisoned
 abbrev pub poisoned_apart : List View → Title → ℕ → ℕ
 poisoned_apart views t r = sum_by (λ v. if nat_lt 0 (stake_of v r) then 0 else poisoned_of v t) views
 
@@ -70,14 +70,14 @@ poisoned_apart views t r = sum_by (λ v. if nat_lt 0 (stake_of v r) then 0 else 
 abbrev pub IsFreedElsewhere : (ℕ → (Entry → ℕ) → ℕ) → List Done → Title → ℕ → ℕ → Type 0
 IsFreedElsewhere logs_by history t r k = (n : ℕ) × IsFirstFree history k n × (logs_by r (counted_at t n) ≡ 0)
 
--- Why a read with stake r gave poison whose look found the bit set at number k: another log has the title's first Free
--- from there on; or no such Free came yet, and a view without stake r has the Own poisoned.
+-- Why a read with stake r, after a look that found the bit set at number k, may give poison: another log has the title's first
+-- Free from there on; or no such Free came yet, and a view without stake r has the Own poisoned.
 abbrev pub IsFreeing : (ℕ → (Entry → ℕ) → ℕ) → (Title → ℕ → ℕ) → List Done → Title → ℕ → ℕ → Type 0
 IsFreeing logs_by poisoned history t r k = IsFreedElsewhere logs_by history t r k ⊎ ((frees_from k history ≡ 0) × (0 < poisoned t r))
 
--- Each read right after a look gave what it should. Where the look found the bit 0, it gave poison. Where it found the
+-- Each read right after a look gave what it should. If the look found the bit 0, it gave poison. If it found the
 -- bit set, a quiet read through a clean Own gave the content at the look's number; and one through a Ref gave that, or
--- poison while somebody else freed.
+-- poison while another thread freed.
 pub record AreRight (history : Title → List Done) (pairs : (Entry → Entry → ℕ) → ℕ) (pairs_by : ℕ → (Entry → Entry → ℕ) → ℕ)
     (logs_by : ℕ → (Entry → ℕ) → ℕ) (poisoned : Title → ℕ → ℕ) : Type 0 where
   pub freed : pairs gave_no_poison ≡ 0
@@ -87,8 +87,8 @@ pub record AreRight (history : Title → List Done) (pairs : (Entry → Entry �
       (value ≡ content_at_number (number_of found) (history t))
       ⊎ ((value ≡ poison) × IsFreeing logs_by poisoned (history t) t r (number_of found))
 
--- A view's last entry is a look at a title of which it found this word, and it handed nothing over since. It still has
--- the title; the content is that at the look's number; its log has no step from there on; and where the bit was 0, it
+-- A view's last entry is a look at a title, which found this word, and it handed nothing over since. It still has
+-- the title; the content is that at the look's number; its log has no step from there on; and if the bit was 0, it
 -- is 0.
 pub record Waits (history : Title → List Done) (words : List ℕ) (v : View) (t : Title) (found : ℕ) : Type 0 where
   pub has : HasTitle v t
@@ -96,13 +96,13 @@ pub record Waits (history : Title → List Done) (words : List ℕ) (v : View) (
   pub none_later : (n : ℕ) → number_of found ≤ n → sum_by (counted_at t n) (least_log v.stakes) ≡ 0
   pub bit : held_of found ≡ 0 → held_of (count_word words t) ≡ 0
 
--- what holds of each view: a look waits with what the next read needs, and only with a stake has it an unclean Own
+-- for each view: a look waits with what the next read needs, and the view has an unclean Own only if it has a stake
 pub record IsReader (history : Title → List Done) (words : List ℕ) (v : View) : Type 0 where
   pub waits : (t : Title) (found : ℕ) → last_entry (least_log v.stakes) ≡ Some (Looked t found) → v.since.handed ≡ false →
       Waits history words v t found
   pub stake : 0 < unclean_of v → HasStake v
 
--- of reads, by what all views' logs say and what each view waits with
+-- what holds of reads, by what all views' logs say and what each view waits with
 pub record Reads (history : Title → List Done) (words : List ℕ) (views : List View) : Type 0 where
   pub right : AreRight history (paired_in views) (paired_by views) (logged_by views) (poisoned_apart views)
   pub each_view : (i : ℕ) (v : View) → get_elem? views i ≡ some v → IsReader history words v

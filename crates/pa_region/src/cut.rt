@@ -11,7 +11,7 @@ use pa_machine::Title;
 use std::marker::Brand;
 
 impl Region {
-    /// Cuts a title out of raw bytes: stores 0 in its count word, and makes the range a free title. Nobody has seen a
+    /// Cuts a title out of raw bytes: stores 0 in its count word, and makes the range a free title. No seat has seen a
     /// step on it.
     pub fn cut(&self, seat: &mut Seat, title: Title)
         requires region { seat.old.region ≡ self.now }
@@ -27,8 +27,8 @@ impl Region {
         title_as::<Brand>(&self.table, &mut seat.seat, (at / 8) as usize, title)
     }
 
-    /// Makes a free title raw again: only titles that are born later are cut out of its bytes. The log of the seat's least
-    /// stake says so.
+    /// Uncuts a free title: its bytes are raw again, and only titles that are born later can be cut out of them. The log of the
+    /// seat's least stake says so.
     pub fn uncut(&self, seat: &mut Seat, title: Title)
         requires region { seat.old.region ≡ self.now }
         requires able { CanUncut title seat.old.view }

@@ -1,7 +1,7 @@
 //! What callers may cut, as laws: calls that do nothing, and whose clauses are proved.
 ghost use Rattle.pa_region.specs.CutTells.{FirstCanCut, CutLeavesOthers, UncutGivesBack, CutsLeaveZero};
 
-/// Of a new region each title inside can be cut.
+/// In a new region each title inside can be cut.
 pub fn a_new_region_can_be_cut()
     ensures { FirstCanCut }
 {}
@@ -11,12 +11,12 @@ pub fn a_cut_leaves_other_bytes()
     ensures { CutLeavesOthers }
 {}
 
-/// Of the bytes of a title that was made raw again, titles that are born later can be cut, and of other bytes as before.
+/// From the bytes of a title that was uncut, titles that are born later can be cut, and from other bytes as before.
 pub fn an_uncut_gives_bytes_back()
     ensures { UncutGivesBack }
 {}
 
-/// A word that is 0 stays 0 where a cut sets a count word to 0.
+/// A word that is 0 stays 0 if a cut sets a count word to 0.
 pub fn a_cut_leaves_zeros()
     ensures { CutsLeaveZero }
 {}

@@ -1,4 +1,4 @@
-//! What the region's rule says of any number of seats, as laws: calls that do nothing, and whose clauses are proved.
+//! What the region's rule says for any number of seats, as laws: calls that do nothing, but have proved clauses.
 ghost use Rattle.pa_region.specs.Ends.{UnnamedEndsNew};
 ghost use Rattle.pa_region.specs.Says.{CountKeeps, CountIsEvent, LookKeeps, LookIsLoad, StoreKeeps, PoisonKeeps, PlainIsLoad, ReadKeeps, HandKeeps, JoinKeeps, EnterKeeps, CutKeeps, UncutKeeps, StartKeeps, ShowsGood, FindsEachNumberOnce, UnnamedIsNew, NamedAreOne};
 
@@ -62,7 +62,7 @@ pub fn cuts_keep_the_rule()
     ensures { CutKeeps }
 {}
 
-/// Each title that is made raw again is so by an enabled event of the core that is shown, and the rule is kept.
+/// Each uncut is an enabled event of the core that is shown, and keeps the rule.
 pub fn uncuts_keep_the_rule()
     ensures { UncutKeeps }
 {}
@@ -87,7 +87,7 @@ pub fn an_unnamed_title_is_new()
     ensures { UnnamedIsNew }
 {}
 
-/// Under the rule two titles of one slot that logs name are one, which is well formed, and held unless it was made raw again.
+/// Under the rule two titles that logs name for one slot are the same, which is well formed, and held unless it was uncut.
 pub fn a_named_title_is_held()
     ensures { NamedAreOne }
 {}

@@ -1,6 +1,6 @@
 //! The region: its words, and the seats through which threads step on them.
 //!
-//! A seat has no bytes. Its view, which exists in proofs alone, says what its holder has of the region and knows of it:
+//! A seat has no bytes. Its view, which exists only in proofs, says what its holder has of the region and knows of it:
 //! raw bytes, free titles, handles, a budget of counted steps, stakes with their logs, and what it has seen. A rule over
 //! the words and the views of all seats holds between any two steps, and each call is one atomic step that keeps it.
 #![tactic(auto)]

@@ -67,7 +67,7 @@ pub(crate) fn both(stakes: &Stakes, others: &Stakes) -> Stakes
     has
 }
 
-// The least number of a stake, and 16 where there is none.
+// The least number of a stake, or 16 if there is none.
 pub(crate) fn least(stakes: &Stakes) -> u32
     ensures few { result ≤ 16 }
     ensures none { (k : ℕ) → k < result → slice_index_or stakes.now k false ≡ false }

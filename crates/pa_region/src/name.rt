@@ -2,8 +2,8 @@ ghost use Rattle.std.specs.Prelude.{[]};
 
 use std::marker::Brand;
 
-/// Which region a value is of that stands behind a lock, where its type alone says what is known of it. It has no calls. One
-/// call of a program picks the region: it gives `Brand` for the name.
+/// Which region a value belongs to that is kept behind a lock, so that only its type can say what is known of it. It has no
+/// calls. One call of a program picks the region: it gives `Brand` for the name.
 pub trait Name {
     ghost use Rattle.atomic_table.specs.Seated.{TableId};
 

@@ -60,7 +60,7 @@ impl Seat {
 }
 
 impl Region {
-    /// Hands over these items, so many counted steps, and what is marked: a stake goes with its log and a keeper with
+    /// Hands over these items, this many counted steps, and what is marked: a stake goes with its log and a keeper with
     /// its list. The note has seen what the seat has seen.
     pub fn hand(&self, seat: &mut Seat, items: &[Item], budget: u32, marks: &[Mark]) -> Note
         requires region { seat.old.region ≡ self.now }
@@ -82,8 +82,8 @@ impl Region {
         }
     }
 
-    /// Takes in a note: the seat has then all that both had, and has seen what either has seen. Where the note has a
-    /// stake, the seat has no poisoned Own. A second load changes nothing, and tells what the rule says of the view.
+    /// Takes in a note: the seat has then all that both had, and has seen what either has seen. If the note has a
+    /// stake, the seat has no poisoned Own. A second load changes nothing, and returns what the rule says of the view.
     pub fn take(&self, seat: &mut Seat, note: Note)
         requires region { (seat.old.region ≡ self.now) × (note.region ≡ self.now) }
         requires able { (k : ℕ) (t : Title) → 0 < stake_of note.view k → poisoned_of seat.old.view t ≡ 0 }
@@ -103,7 +103,7 @@ impl Region {
     }
 
     /// Makes an entry in the list of this keeper, which the seat has, with its least stake: the numbers, and in proofs
-    /// alone what the seat has seen. The list, the stake's log and what the seat has seen get it at once.
+    /// only, what the seat has seen. The list, the stake's log and what the seat has seen get it at once.
     pub fn enter(&self, seat: &mut Seat, keeper: u32, entry: &[u64])
         requires region { seat.old.region ≡ self.now }
         requires able { CanEnter keeper seat.old.view }

@@ -1,4 +1,4 @@
-//! What histories and logs say to callers, as laws: calls that do nothing, and whose clauses are proved.
+//! What histories and logs imply for callers, as laws: calls that do nothing, but have proved clauses.
 ghost use Rattle.pa_region.specs.Tells.{LookFindsItsWord, LogsAddUp, StepStandsAtItsNumber, HistoryGoesOn, LongerIsTheSame, FirstFreeStays, AllLogsAreKnown, ReadsHavePlaces, OthersHaveTheFree};
 
 /// A look that some log has found the word of the title's history with its number.
@@ -11,17 +11,17 @@ pub fn logs_add_up()
     ensures { LogsAddUp }
 {}
 
-/// Where logs grew, a title's history goes on from what it was.
+/// If logs grew, a title's history goes on from what it was.
 pub fn a_history_goes_on()
     ensures { HistoryGoesOn }
 {}
 
-/// A counted step that logs have stands in the title's history at the number that it found.
+/// A counted step that logs have is in the title's history at the number that it found.
 pub fn a_step_stands_at_its_number()
     ensures { StepStandsAtItsNumber }
 {}
 
-/// Up to a number that it had passed, a longer history is what it was.
+/// Up to a number that it had already reached, a longer history is what it was.
 pub fn a_longer_history_is_the_same()
     ensures { LongerIsTheSame }
 {}
@@ -41,7 +41,7 @@ pub fn reads_have_places()
     ensures { ReadsHavePlaces }
 {}
 
-/// Where a read gave poison since its slot was freed elsewhere, the log of another stake has the next Free.
+/// If a read gave poison because its slot was freed elsewhere, the log of another stake has the next Free.
 pub fn others_have_the_free()
     ensures { OthersHaveTheFree }
 {}

@@ -21,7 +21,7 @@ use pa_machine::{OutOfMemory, Step, Title, Word};
 use std::alloc::Global;
 use std::marker::{Brand, Model};
 
-/// The words of one reserved region: its bytes, and behind them 16 totals words. Threads share it by `&`; each
+/// The words of one reserved region: its bytes, and after them 16 totals words. Threads share it by `&`; each
 /// changes it by single atomic steps with a seat of its own. Contracts see which region it is.
 #[derive(Drop)]
 pub struct Region {
@@ -63,7 +63,7 @@ impl Seat {
         least(&self.stakes)
     }
 
-    /// A title that the seat holds free, or has a handle of, lies in the seat's region, which has at most 16 super
+    /// A title that the seat holds free, or has a handle of, is in the seat's region, which has at most 16 super
     /// pages; and the seat's list of words is as long. It costs nothing: it hands on what the seat's type keeps.
     pub fn placed(&self, title: Title)
         requires { HasTitle self.now.view title }
@@ -71,7 +71,7 @@ impl Seat {
         ensures well { IsWellFormed (byte_word_count self.now.region) title }
         ensures long { length self.now.view.words ≡ byte_word_count self.now.region }
     {
-        // Naming the seat inside hands its proof what the type keeps; so do the lines like this one below, here and in the other files.
+        // Naming the seat inside gives its proof what the type keeps; so do the lines like this one below, here and in the other files.
         let _ = &self.seat;
         let _ = title;
     }
@@ -89,7 +89,7 @@ impl Seat {
 }
 
 impl Region {
-    /// A region of so many super pages of 2,097,152 bytes, whose words are all 0, and its first seat: it holds all bytes
+    /// A region of this many super pages of 2,097,152 bytes, with all words 0, and its first seat: it holds all bytes
     /// as raw, and has the right to make `budget` counted steps, every stake, every keeper with an empty list, and
     /// every lease.
     pub fn new(alloc: Global, supers: u32, budget: u32) -> Result<(Region, Seat), OutOfMemory>
@@ -112,7 +112,7 @@ impl Region {
         ))
     }
 
-    /// One step on the title's count word, which changes number, count and bit at once. It answers the word that it
+    /// One step on the title's count word, which changes number, count and bit at once. It returns the word that it
     /// found.
     pub fn count_step(&self, seat: &mut Seat, title: Title, step: Step) -> Word
         requires region { seat.old.region ≡ self.now }
@@ -124,8 +124,8 @@ impl Region {
         Word(add_as::<Brand>(&self.table, &mut seat.seat, word, added(step), title, step))
     }
 
-    /// The word at the offset `at`, in bytes: a raw word, a word of a title that the seat holds free, or with a stake one
-    /// of a title of which it has a handle.
+    /// The word at the offset `at`, in bytes: a raw word, a word of a title that the seat holds free, or with a stake a word
+    /// of a title that it has a handle of.
     pub fn load(&self, seat: &mut Seat, at: u32) -> u64
         requires region { seat.old.region ≡ self.now }
         requires able { CanLoad at seat.old.view }
@@ -137,7 +137,7 @@ impl Region {
     }
 
     /// Stores the value in the word at the offset `at`, in bytes: a raw word, a content word of a title that the seat
-    /// holds free, or one of its Own to which no Ref points.
+    /// holds free, or one of its Own if no Ref points to that.
     pub fn store(&self, seat: &mut Seat, at: u32, value: u64)
         requires region { seat.old.region ≡ self.now }
         requires able { CanStore at seat.old.view }
@@ -149,7 +149,7 @@ impl Region {
         store_as::<Brand>(&self.table, &mut seat.seat, (at / 8) as usize, value, at)
     }
 
-    /// Poisons the content word of this number, from 0, of the seat's Own: the next one.
+    /// Poisons the content word with this index, from 0, of the seat's Own: the next one.
     pub fn poison_next(&self, seat: &mut Seat, title: Title, word: u32)
         requires region { seat.old.region ≡ self.now }
         requires able { CanPoison title word seat.old.view }
@@ -182,7 +182,7 @@ fn count_index(title: Title) -> usize
     (title.start / 8 + (title.len / 8 - 1)) as usize
 }
 
-// Which word of the region is the title's content word of this number.
+// Which word of the region is the title's content word with this index.
 fn content_index(title: Title, word: u32) -> usize
     requires { word < content_count title }
     ensures { result ≡ content_place title word }

@@ -14,7 +14,7 @@ use pa_machine::{Item, Step, Title};
 use std::alloc::Global;
 use std::marker::{Brand, PhantomData};
 
-/// What a region is opened with: its words for bytes, and the counted steps that may be made.
+/// What a region is opened with: the number of its words for bytes, and of the counted steps that may be made.
 #[derive(Drop)]
 pub struct Opening {
     pub words: u32,
@@ -33,10 +33,10 @@ impl TableRule<(), View, Opening> for Kept {
     ghost first = { λ key. first_view key.words key.budget };
 }
 
-/// The words of a region, of which only seats of it can change any.
+/// The words of a region, which only its seats can change.
 pub type Words = Table<(), View, Opening, Kept, Global>;
 
-/// What one step tells its seat. The call that makes the step picks it.
+/// What one step reports to its seat. The call that makes the step picks it.
 pub trait Telling {
     ghost use Rattle.std.specs.Prelude.{ℕ};
     ghost use Rattle.atomic_table.specs.Table.{Me};
@@ -49,7 +49,7 @@ impl Telling for Brand {
     ghost then = { λ _ _ _. Unit {0} };
 }
 
-/// A step that tells what was picked, and what the rule says of the view after it.
+/// A step that reports what was picked, and what the rule says of the view after it.
 pub struct Told<T> {
     telling: PhantomData<T>,
 }
@@ -79,7 +79,7 @@ pub fn add_as<T: Telling>(
     table.shared.fetch_add::<Told<T>>(seat, word, value)
 }
 
-// One load of a word, which is the word at that offset in bytes.
+// One load of the word at that offset in bytes.
 pub fn load_as<T: Telling>(table: &Words, seat: &mut Seat<(), View>, word: usize, _at: u32) -> u64
     requires region { (seat.old.table_id ≡ table.now.shared.table_id) × (word < table.now.shared.table_id.words) }
     requires allowed { Allows (λ (s : TableState (Unit {0}) View). IsKept s.words s.views)
@@ -91,7 +91,7 @@ pub fn load_as<T: Telling>(table: &Words, seat: &mut Seat<(), View>, word: usize
     table.shared.load::<Told<T>>(seat, word)
 }
 
-// One load of a word, at which a seat cuts the title or makes it raw again.
+// One load of a word, at which a seat cuts the title or uncuts it.
 pub fn title_as<T: Telling>(table: &Words, seat: &mut Seat<(), View>, word: usize, _title: Title)
     requires region { (seat.old.table_id ≡ table.now.shared.table_id) × (word < table.now.shared.table_id.words) }
     requires allowed { Allows (λ (s : TableState (Unit {0}) View). IsKept s.words s.views)
@@ -115,7 +115,7 @@ pub fn enter_as<T: Telling>(table: &Words, seat: &mut Seat<(), View>, _keeper: u
     table.shared.load::<Told<T>>(seat, 0);
 }
 
-// One store to a word, which is the word at that offset in bytes.
+// One store to the word at that offset in bytes.
 pub fn store_as<T: Telling>(
     table: &Words,
     seat: &mut Seat<(), View>,
@@ -133,7 +133,7 @@ pub fn store_as<T: Telling>(
     table.shared.store::<Told<T>>(seat, word, value)
 }
 
-// The same, of poison to a title's content word of this number.
+// The same, of poison to the title's content word with this index.
 pub fn poison_as<T: Telling>(
     table: &Words,
     seat: &mut Seat<(), View>,
@@ -153,7 +153,7 @@ pub fn poison_as<T: Telling>(
         .store::<Told<T>>(seat, word, 0xefef_efef_efef_efef)
 }
 
-/// The two views that a hand makes of one. The call that hands over picks them.
+/// The two views that a hand makes from one. The call that hands over picks them.
 pub trait Handing {
     ghost use Rattle.pa_region.specs.declared.view.View.{View};
 
@@ -179,7 +179,7 @@ impl<T: Handing> Split<View> for Handed<T> {
     ghost right = { T.right };
 }
 
-// One load of word 0, at which a new seat gets items, so many counted steps and what is marked.
+// One load of word 0, at which a new seat gets items, this many counted steps and what is marked.
 pub fn hand_as<T: Handing>(
     table: &Words,
     seat: &mut Seat<(), View>,
@@ -197,7 +197,7 @@ pub fn hand_as<T: Handing>(
     table.shared.split_seat::<Handed<T>>(seat)
 }
 
-/// The view that a join makes of two, and the one that is left. The call that joins picks them.
+/// The view that a join makes from two, and the one that is left. The call that joins picks them.
 pub trait Taking {
     ghost use Rattle.pa_region.specs.declared.view.View.{View};
 
@@ -235,7 +235,7 @@ pub fn take_as<T: Taking>(table: &Words, seat: &mut Seat<(), View>, other: Seat<
     table.shared.join_seat::<Taken<T>>(seat, other)
 }
 
-// One load of word 0, which changes no view, and tells what the rule says of it.
+// One load of word 0, which changes no view, and reports what the rule says of it.
 pub fn tell_as<T: Telling>(table: &Words, seat: &mut Seat<(), View>)
     requires region { (seat.old.table_id ≡ table.now.shared.table_id) × (0 < table.now.shared.table_id.words) }
     requires allowed { Allows (λ (s : TableState (Unit {0}) View). IsKept s.words s.views)

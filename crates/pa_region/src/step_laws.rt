@@ -1,32 +1,32 @@
-//! What each step leaves of a seat's view, as laws: calls that do nothing, and whose clauses are proved.
+//! How each step changes a seat's view, as laws: calls that do nothing, but have proved clauses.
 ghost use Rattle.pa_region.specs.Leaves.{EntryLeaves, CountLeaves, ReleaseLeaves, LookLeaves, StoreLeaves, EnterLeaves, StatesAreOwns, OwnsChange, FilledWords, NewWordsAreZero};
 
-/// An entry stands at the end of the least stake's log, and other logs are as before.
+/// An entry is at the end of the least stake's log, and other logs are as before.
 pub fn entries_stand_in_logs()
     ensures { EntryLeaves }
 {}
 
-/// What a counted step leaves of holdings, logs, words and what was seen.
+/// How a counted step changes holdings, logs, words and what was seen.
 pub fn counted_steps_leave()
     ensures { CountLeaves }
 {}
 
-/// After a reset or a free the seat holds the title free exactly where the step returned it.
+/// After a reset or a free the seat holds the title free if and only if the step returned it.
 pub fn releases_leave()
     ensures { ReleaseLeaves }
 {}
 
-/// A look leaves what is held, and an entry.
+/// A look changes nothing that is held, and adds an entry.
 pub fn looks_leave()
     ensures { LookLeaves }
 {}
 
-/// Stores and poisonings leave how often each title is held.
+/// Stores and poisonings don't change how many times each title is held.
 pub fn stores_leave()
     ensures { StoreLeaves }
 {}
 
-/// An entry in a keeper's list stands at its end.
+/// An entry in a keeper's list is at its end.
 pub fn entries_stand_in_lists()
     ensures { EnterLeaves }
 {}
@@ -36,12 +36,12 @@ pub fn states_are_owns()
     ensures { StatesAreOwns }
 {}
 
-/// What the change of one Own makes of sums over a view's Owns.
+/// How the change of one Own changes sums over a view's Owns.
 pub fn owns_change()
     ensures { OwnsChange }
 {}
 
-/// Content words that were set have the value, and others are as before.
+/// Content words that were set have the value, and the others are as before.
 pub fn filled_words_have_the_value()
     ensures { FilledWords }
 {}

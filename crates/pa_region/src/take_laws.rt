@@ -1,12 +1,12 @@
-//! What a take leaves, as laws: calls that do nothing, and whose clauses are proved.
+//! How a take changes a view, as laws: calls that do nothing, but have proved clauses.
 ghost use Rattle.pa_region.specs.Takes.{SeenJoins, ListsJoin, BeginningsJoin, BeginningsAreOrdered, KeepersHaveAll, KnownWordsJoin, FreeNumbersStay, StakesMadeTheirs};
 
-/// Two seats together have seen of each title the greater number.
+/// Two seats together have seen the greater number of each title.
 pub fn seen_numbers_join()
     ensures { SeenJoins }
 {}
 
-/// Two seats together have seen of each keeper's list the longer beginning.
+/// Two seats together have seen the longer beginning of each keeper's list.
 pub fn seen_lists_join()
     ensures { ListsJoin }
 {}
@@ -21,7 +21,7 @@ pub fn beginnings_are_ordered()
     ensures { BeginningsAreOrdered }
 {}
 
-/// Who has a keeper has its whole list: a take brings no entry of it.
+/// A seat that has a keeper has its whole list: a take adds no entry to it.
 pub fn keepers_have_all()
     ensures { KeepersHaveAll }
 {}
@@ -31,7 +31,7 @@ pub fn known_words_join()
     ensures { KnownWordsJoin }
 {}
 
-/// Who holds a title free has seen its number: a take brings no greater one.
+/// A seat that holds a title free has seen its number: a take brings no greater one.
 pub fn free_numbers_stay()
     ensures { FreeNumbersStay }
 {}

@@ -5,7 +5,7 @@ use std::collections::LinkedList;
 pub struct RawRange {
     pub start: u32,
     pub len: u32,
-    /// A title that is cut out of these bytes has at least this `born`.
+    /// A title that is cut out of these bytes has a `born` of at least this.
     pub floor: u32,
 }
 
@@ -39,8 +39,8 @@ pub enum Entry {
         title: Title,
         found: u64,
     },
-    /// A load of the title's content word number `place`, with the value that it gave; what the seat did since the
-    /// entry before it; whether the seat held the title's Own; and whether it held it in another state than clean.
+    /// A load of the title's content word with the index `place`, with the value that it gave; what the seat did since the
+    /// entry before it; whether the seat held the title's Own; and whether it held it in a state other than clean.
     Read {
         title: Title,
         place: u32,
@@ -49,7 +49,7 @@ pub enum Entry {
         owned: bool,
         unclean: bool,
     },
-    /// An addition of so many bytes to a totals word, numbered from 0.
+    /// An addition of this many bytes to a totals word, numbered from 0.
     Added {
         word: u32,
         bytes: u64,
@@ -59,13 +59,13 @@ pub enum Entry {
         keeper: u32,
         made: Made,
     },
-    /// The title was made raw again.
+    /// The title was uncut.
     Uncut {
         title: Title,
     },
 }
 
-/// An entry of a keeper's list: the stake with which it was made, its numbers, and what its maker had seen then.
+/// An entry of a keeper's list: the stake it was made with, its numbers, and what its maker had seen then.
 pub struct Made {
     pub stake: u32,
     pub numbers: LinkedList<u64>,
@@ -103,15 +103,15 @@ pub struct SeenList {
     pub entries: LinkedList<Made>,
 }
 
-/// What a seat holds and knows. No value of it is ever made: it exists in proofs alone.
+/// What a seat holds and knows. No value of it is ever made: it exists only in proofs.
 pub struct View {
     pub raws: LinkedList<RawRange>,
     /// The titles that the seat holds free.
     pub frees: LinkedList<Title>,
-    /// The titles that the seat made raw again, with whatever stake.
+    /// The titles that the seat uncut, with whatever stake.
     pub uncut: LinkedList<Title>,
     pub owns: LinkedList<OwnTitle>,
-    /// Each Ref handle that the seat holds, as often as it holds it.
+    /// Each Ref handle that the seat holds, as many times as it holds it.
     pub refs: LinkedList<Title>,
     /// The region's words as the seat knows them: those that are raw here, those of its free titles, and the content
     /// words of its Owns. What the list has at any other place says nothing.
