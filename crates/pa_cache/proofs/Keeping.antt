@@ -28,7 +28,7 @@ taken_out c k m le is = record {
   few = let a = is.few in let b = outside_short k m c.titles le in omega arith;
 }
 
--- a title came in front that wasn't there
+-- a title that wasn't there came to the front
 pub put_in_front : (c : CacheList) (t : Title) → length c.titles ≤ limit_of c.class → t.len ≡ slot_of c.class → (Contains c.titles t → ⊥) → IsCache c → IsCache (with_titles c (t ∷ c.titles))
 put_in_front c t few size new is = record {
   class = is.class;
@@ -53,14 +53,14 @@ at_its_number v t aware free = record { once = let o = aware.free_once t in omeg
 pub at_their_numbers : (v : View) (ts : List Title) → IsAware v → HoldsFree v ts → All (IsFreeAtItsNumber v) ts
 at_their_numbers v ts aware free = λ k d within. at_its_number v (get_or ts k d) aware (free k d within)
 
--- a batch is empty exactly where no title is behind the first `keep`
+-- a batch is empty if and only if no title is after the first `keep`
 pub none_behind : (keep : ℕ) (ts : List Title) → (batch_after keep ts ≡ []) ↔ (length ts ≤ keep)
 none_behind keep ts = (
   (λ empty. let e : length (take 16 (drop keep ts)) ≡ 0 = ap length empty in omega (arith, length-take 16 (drop keep ts), length-drop keep ts)),
   (λ short. ap (take 16) (drop_all keep ts short)),
 )
 
--- the front is none exactly where the list is empty
+-- the front is none if and only if the list is empty
 pub none_where_empty : (front : Option Title) (ts : List Title) → (IsSome front ↔ (0 < length ts)) → IsNone front ↔ (ts ≡ [])
 none_where_empty None [] some = ((λ _. refl), (λ _. refl))
 none_where_empty None (t ∷ ts) some =

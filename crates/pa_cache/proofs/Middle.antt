@@ -11,7 +11,7 @@ abbrev pub outside : {X : Type 0} → ℕ → ℕ → List X → List X
 outside k m xs = take k xs ++ drop m xs
 
 module _ {X : Type 0} where
-  -- its first k are those of the list, and those behind them the list's from m on
+  -- its first k are those of the list, and those after them the list's from m on
   pub first_stay : (k m : ℕ) (xs : List X) → k ≤ m → take k (outside k m xs) ≡ take k xs
   first_stay zero m xs le = refl
   first_stay (suc k) zero xs le = absurd (omega arith)
@@ -24,11 +24,11 @@ module _ {X : Type 0} where
   later_stay (suc k) (suc m) [] le = refl
   later_stay (suc k) (suc m) (x ∷ xs) le = later_stay k m xs (omega arith)
 
-  -- how many are behind the first k
+  -- how many are after the first k
   pub later_count : (k m : ℕ) (xs : List X) → k ≤ m → length (outside k m xs) - k ≡ length xs - m
   later_count k m xs le = sym (length-drop k (outside k m xs)) ∙ ap length (later_stay k m xs le) ∙ length-drop m xs
 
-  -- which one is the first behind them
+  -- which one is the first after them
   pub next_is : (k m : ℕ) (xs : List X) (d : X) → k ≤ m → get_or (outside k m xs) k d ≡ get_or xs m d
   next_is k m xs d le =
       let here : get_or (drop k (outside k m xs)) 0 d ≡ get_or (outside k m xs) (k + 0) d = get_or-drop k (outside k m xs) 0 d in
@@ -54,7 +54,7 @@ module _ {X : Type 0} where
       let same : get_or (drop k xs) n x ≡ x = get_or-drop k xs n x ∙ sym (is ∙ next_is k (k + n) xs x (omega arith)) in
       take_more (drop k xs) n x there ∙ ap (λ y. take n (drop k xs) ++ y ∷ []) same
 
-  -- none is left behind the first k
+  -- none is left after the first k
   pub no_more : (k n : ℕ) (xs : List X) → length (outside k (k + n) xs) ≤ k →
       (take (n + 1) (drop k xs) ≡ take n (drop k xs)) × (outside k (k + (n + 1)) xs ≡ outside k (k + n) xs)
   no_more k n xs short =

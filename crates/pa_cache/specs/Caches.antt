@@ -14,7 +14,7 @@ pub record CacheList : Type 0 where
   pub class : ℕ
   pub titles : List Title
 
--- What the type keeps: the class is one of the 59, each title has its slot size, no title stands twice, and there are at
+-- What the type keeps: the class is one of the 59, each title has its slot size, no title is there twice, and there are at
 -- most 8 more than the limit.
 pub record IsCache (c : CacheList) : Type 0 where
   pub class : c.class < class_count
@@ -31,7 +31,7 @@ pub record IsFreeAtItsNumber (v : View) (t : Title) : Type 0 where
   pub once : free_of v t ≡ 1
   pub number : number_of (count_word v.words t) ≡ seen_of v t
 
--- the titles after the first `keep`, at most 16; what stays when they are taken out
+-- the titles after the first `keep`, at most 16; and what is left when they are taken out
 abbrev pub batch_after : ℕ → List Title → List Title
 batch_after keep ts = take 16 (drop keep ts)
 

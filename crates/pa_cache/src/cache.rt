@@ -43,7 +43,7 @@ impl Model for Cache {
 }
 
 impl Cache {
-    /// A cache of the class without titles. All the memory that it ever needs is taken here.
+    /// An empty cache of the class. All the memory that it ever needs is allocated here.
     pub fn new(alloc: Global, class: Class) -> Result<Cache, OutOfMemory>
         ensures { IfOk result (λ c. c ≡ record { class = class; titles = [] }) }
     {
@@ -75,7 +75,7 @@ impl Cache {
         self.len() > cache_limit(self.class)
     }
 
-    /// Takes the front. `None` exactly where it is empty.
+    /// Takes the front title, or `None` if and only if the cache is empty.
     pub fn pop(&mut self, region: &Region, seat: &mut Seat) -> Option<Title>
         requires region { seat.old.region ≡ region.now }
         requires free { HoldsFree seat.old.view self.old.titles }
@@ -92,7 +92,7 @@ impl Cache {
         self.titles.pop_front()
     }
 
-    /// Puts a free title in front.
+    /// Puts a free title at the front.
     pub fn push(&mut self, region: &Region, seat: &mut Seat, title: Title)
         requires region { seat.old.region ≡ region.now }
         requires free { HoldsFree seat.old.view self.old.titles }
@@ -128,8 +128,8 @@ impl Cache {
         put_behind(&mut self.titles, titles);
     }
 
-    /// Takes out the titles after the first `keep`, in order, at most 16. They are none exactly where the cache has no
-    /// more than `keep`. A call after it goes on behind them.
+    /// Takes out the titles after the first `keep`, in order, at most 16. There are none if and only if the cache has no
+    /// more than `keep`. The next call takes those after them.
     pub fn spill(&mut self, region: &Region, seat: &mut Seat, keep: u32) -> ArrayVec<Title, 16>
         requires region { seat.old.region ≡ region.now }
         requires free { HoldsFree seat.old.view self.old.titles }
@@ -157,7 +157,7 @@ impl Cache {
         batch_of(&self.titles, keep)
     }
 
-    /// Takes those titles off the list, whoever holds them by now.
+    /// Takes those titles off the list, whichever seat holds them by now.
     pub fn cut(&mut self, keep: u32)
         ensures class { self.new.class ≡ self.old.class }
         ensures rest { self.new.titles ≡ rest_after keep self.old.titles }
@@ -179,7 +179,7 @@ fn batch_of(list: &VecDeque<Title>, keep: u32) -> ArrayVec<Title, 16>
     batch
 }
 
-// Puts the titles behind those of the list, which has room for them.
+// Appends the titles to the list, which has room for them.
 fn put_behind(list: &mut VecDeque<Title>, titles: &[Title])
     requires { deque_len list.old + length titles.now ≤ deque_capacity list.old }
     ensures items { list.new.items ≡ list.old.items ++ titles.now }

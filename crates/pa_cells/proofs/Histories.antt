@@ -17,7 +17,7 @@ use Rattle.pa_rules.specs.Cells.{IsChain}
 use Rattle.pa_cells.specs.Handles.{ParkedHandle, held_as}
 use Rattle.pa_cells.specs.Cells.{Exchange, exchange_numbers, is_with_cell, entries_with, made_with_cell, cell_history, cell_holds, held_after, AreExchanges, CellsHeld, IsCells}
 
--- where one member of a list is set
+-- if one member of a list is set
 pub set_at : {A : Type 0} (xs : List A) (c k : ℕ) (y d : A) → c < length xs → slice_index_or (slice_set xs c y) k d ≡ (if c == k then y else slice_index_or xs k d)
 set_at {A} xs c k y d within = go (c == k) refl
   where
@@ -90,7 +90,7 @@ same_count k (m ∷ list) (x ∷ xs) e =
     go true false is same = cc
     go false true is same = cc
 
--- An exchange that stands in the list stands in its cell's history, behind as many as stand before it in the list.
+-- An exchange that is in the list is in its cell's history, after as many as are before it in the list.
 pub stands_at : ((a b : CellEntry) → cell_numbers a ≡ cell_numbers b → a ≡ b) → (before rest : List Made) (m : Made) (x : Exchange) (xs : List Exchange) → map (λ (n : Made). n.numbers) (before ++ m ∷ rest) ≡ map exchange_numbers xs → m.numbers ≡ exchange_numbers x → slice_get (entries_with x.cell xs) (length (made_with_cell x.cell before)) ≡ Some x.entry
 stands_at one [] rest m x [] e says = cc
 stands_at one [] rest m x (y ∷ xs) e says =

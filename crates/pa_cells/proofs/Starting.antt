@@ -11,7 +11,7 @@ use Rattle.pa_rules.specs.Cells.{IsChain}
 use Rattle.pa_cells.specs.Handles.{ParkedHandle, held_as}
 use Rattle.pa_cells.specs.Cells.{AreExchanges, held_after, cell_history, IsCells, empty_cells}
 
--- each member of a list that has one value is it, and so is what lies behind its end
+-- each member of a list that has one value is it, and so is what lies after its end
 pub always : {A : Type 0} (n k : ℕ) (y : A) → slice_index_or (replicate n y) k y ≡ y
 always zero k y = refl
 always (suc n) zero y = refl

@@ -1,4 +1,4 @@
--- The 64 cells: what each holds, the exchanges that were made with it, and the one list in which all exchanges stand.
+-- The 64 cells: what each holds, the exchanges that were made with it, and the one list with all exchanges.
 use Rattle.std.specs.Prelude.{◌≡◌, ℕ, ◌≤◌, List, [], ◌∷◌, ◌++◌, ◌==◌, Bool, map, length, replicate, Option, None, Some, IfSome, slice_get, slice_index, slice_index_or, slice_set}
 use Rattle.std.specs.List.{filter}
 use Rattle.atomic_table.specs.Seated.{TableId}
@@ -104,7 +104,7 @@ pub record MakesExchange (line cell : ℕ) (given : Option ParkedHandle) (lender
   pub noted : (m : Made) × IsNoted (least_stake lender.stakes) 5
       (exchange_numbers (record { cell = cell; entry = exchange_entry line given (cell_holds old.parked cell) })) lender lender_now old.view new.view m
 
--- an exchange that stands in the list stands in its cell's history, behind as many as stand before it in the list
+-- an exchange that is in the list is in its cell's history, after as many as are before it in the list
 abbrev pub PlacesStay : Type 0
 PlacesStay =
     (list before rest : List Made) (histories : List (List CellEntry)) (xs : List Exchange) (m : Made) (x : Exchange) →

@@ -35,15 +35,15 @@ pub record ParkedHandle : Type 0 where
   pub own : Bool
   pub note : Share
 
--- The act handed the slot of this title out: with a class, as one of a fill of that class, whose slots have the title's
--- length; without one, as a direct map of that length.
+-- The act gave the slot of this title out: with a class, as one slot of a fill of that class, which has the title's length
+-- as slot size; without one, as a direct map of that length.
 abbrev pub HandsOut : Option ℕ → Title → RootAct → Type 0
 HandsOut (Some class) t act =
     (pool : Option ℕ) × (slots : List Numbered) × (act ≡ Fill class pool slots) × Contains (names slots) (name_of t)
     × (t.len ≡ slot_of class)
 HandsOut None t act = (pool : ℕ) × (act ≡ Map pool (name_of t) t.len)
 
--- A view has seen how the handle's slot was made: in the list of its partition's keeper stands the entry that handed it out.
+-- A view has seen how the handle's slot was made: the list of its partition's keeper has the entry that gave it out.
 pub record HasSeenMade (h : Handle) (v : View) : Type 0 where
   pub partition : h.partition < most_partitions
   pub entry : (m : Made) × (e : RootEntry) × Contains (list_of h.partition v) m × (m.numbers ≡ root_numbers e)
@@ -106,7 +106,7 @@ abbrev pub TakersHaveHandles : Type 0
 TakersHaveHandles =
     (p : ParkedHandle) (v : View) → IsParked p → IsAware (united v p.note.view) → TakesHandle p v (united v p.note.view)
 
--- who has seen more of the list has seen how the slot was made
+-- a view that has seen more of the list has seen how the slot was made
 abbrev pub SlotsStaySeen : Type 0
 SlotsStaySeen =
     (h : Handle) (v w : View) → HasSeenMade h v → IsBeginning (list_of h.partition v) (list_of h.partition w) → HasSeenMade h w

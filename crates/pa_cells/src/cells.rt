@@ -21,10 +21,10 @@ const CELLS: usize = pa_trace::CELLS as usize;
 // How many entries a history has at most.
 const MOST: usize = 2_147_483_647;
 
-// The keeper in whose list all exchanges stand.
+// The keeper with the list of all exchanges.
 const KEEPER: u32 = 5;
 
-/// The 64 cells, which stand behind one lock. `N` names the region of their seat and of the notes in them. Contracts see
+/// The 64 cells, which are behind one lock. `N` names the region of their seat and of the notes in them. Contracts see
 /// the view of the seat, the history of each cell, and what each holds.
 #[derive(Drop)]
 pub struct Cells<N: Name> {
@@ -48,7 +48,7 @@ impl<N: Name> Model for Cells<N> {
 }
 
 impl<N: Name> Cells<N> {
-    /// 64 empty cells. The note has keeper 5, whose list is empty, and no stake.
+    /// 64 empty cells. The note has keeper 5, with an empty list, and no stake.
     pub fn new(alloc: Global, note: Note) -> Result<Cells<N>, OutOfMemory>
         requires region { note.region ≡ N.region }
         requires keeper { 0 < keeper_of note.view 5 }
@@ -153,7 +153,7 @@ fn nothing_parked(alloc: Global) -> Result<Vec<Option<Parked>>, OutOfMemory>
     Ok(parked)
 }
 
-// Puts the entry behind the others of the cell's history, and answers its place there. `None` where there is no memory, or
+// Puts the entry after the others of the cell's history, and returns its place there. `None` if there is no memory, or
 // no room in the history; it is unchanged then.
 fn append(histories: &mut Vec<History>, cell: usize, entry: CellEntry) -> Option<u32>
     requires { cell < length histories.old.items }
@@ -170,7 +170,7 @@ fn append(histories: &mut Vec<History>, cell: usize, entry: CellEntry) -> Option
     Some(count as u32)
 }
 
-// Puts this in the cell, and answers what was there.
+// Puts this in the cell, and returns what was there.
 fn replace(parked: &mut Vec<Option<Parked>>, cell: usize, given: Option<Parked>) -> Option<Parked>
     requires { cell < length parked.old.items }
     ensures found { result ≡ cell_holds parked.old.items cell }

@@ -1,4 +1,4 @@
-//! What handles and histories keep, as laws: calls that do nothing, and whose clauses are proved.
+//! What handles and histories keep, as laws: calls that do nothing, but have proved clauses.
 ghost use Rattle.pa_cells.specs.Handles.{HandedCanWait, GiversLackHandles, TakersHaveHandles, SlotsStaySeen};
 ghost use Rattle.pa_cells.specs.Cells.{PlacesStay};
 
@@ -10,12 +10,12 @@ pub fn what_was_handed_can_wait()
     ensures { HandedCanWait }
 {}
 
-/// Who hands one handle over has it no more, and all else that it had.
+/// A seat that hands a handle over doesn't have it any more, and still has all else.
 pub fn givers_lack_handles()
     ensures { GiversLackHandles }
 {}
 
-/// Who takes in the note of a handle has this handle besides, and has seen how the slot was made.
+/// A view that takes in the note of a handle has this handle besides, and has seen how the slot was made.
 pub fn takers_have_handles()
     ensures { TakersHaveHandles }
 {
@@ -23,12 +23,12 @@ pub fn takers_have_handles()
     slots_stay_seen();
 }
 
-/// Who has seen more of a root's list has seen as well how a slot was made.
+/// A view that has seen more of a root's list has seen as well how a slot was made.
 pub fn slots_stay_seen()
     ensures { SlotsStaySeen }
 {}
 
-/// An exchange that stands in the list stands at its place in its cell's history, whatever comes later.
+/// An exchange that is in the list is at its place in its cell's history, whatever comes later.
 pub fn places_stay()
     ensures { PlacesStay }
 {

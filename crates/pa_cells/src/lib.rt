@@ -1,6 +1,6 @@
 //! Cells in which threads exchange handles: 64 of them behind one lock.
 //!
-//! Each exchange puts something into a cell and takes out what the exchange before put there. All of them stand in one
+//! Each exchange puts something into a cell and takes out what the exchange before put there. All of them are in one
 //! list of the region, in the order in which they were made, and each cell's history is read off that list.
 #![tactic(auto)]
 

@@ -8,7 +8,7 @@ ghost use Rattle.pa_region.specs.Shares.{IsUser, IsStepMade, IsLooked};
 use pa_machine::{Step, Title, Word, returns};
 use pa_region::{Region, Seat, releases_leave};
 
-/// What a release did to the slot: somebody else still holds it, or it was the last to let go and the slot is free.
+/// What a release did to the slot: another owner or `raw_ptr` still holds it, or it was the last and the slot is free.
 #[derive(Clone, Copy, Debug, PartialEq, Eq)]
 pub enum Fate {
     Kept,
@@ -24,7 +24,7 @@ pub fn issue(region: &Region, seat: &mut Seat, title: Title) -> Word
     region.count_step(seat, title, Step::Issue)
 }
 
-/// A `raw_ptr` is made, from the owner's pointer or from another `raw_ptr`: the seat gets one Ref more.
+/// A `raw_ptr` is made, from the owner's pointer or from another `raw_ptr`: the seat gets one more Ref.
 pub fn copy(region: &Region, seat: &mut Seat, title: Title) -> Word
     requires region { seat.old.region ≡ region.now }
     requires able { CanCount Copy title seat.old.view }
@@ -33,7 +33,7 @@ pub fn copy(region: &Region, seat: &mut Seat, title: Title) -> Word
     region.count_step(seat, title, Step::Copy)
 }
 
-/// The owner tells that it has written the content, to which no `raw_ptr` points.
+/// The owner records that it has written the content; no `raw_ptr` points to the slot.
 pub fn wrote(region: &Region, seat: &mut Seat, title: Title) -> Word
     requires region { seat.old.region ≡ region.now }
     requires able { CanCount Write title seat.old.view }
@@ -42,7 +42,7 @@ pub fn wrote(region: &Region, seat: &mut Seat, title: Title) -> Word
     region.count_step(seat, title, Step::Write)
 }
 
-/// A `raw_ptr` is let go. `Last` exactly where the owner had freed the slot before and no other `raw_ptr` is left: then
+/// A `raw_ptr` is let go. `Last` if and only if the owner had freed the slot before and no other `raw_ptr` is left: then
 /// the seat holds the title free.
 pub fn reset(region: &Region, seat: &mut Seat, title: Title) -> (Word, Fate)
     requires region { seat.old.region ≡ region.now }
@@ -55,7 +55,7 @@ pub fn reset(region: &Region, seat: &mut Seat, title: Title) -> (Word, Fate)
     release(region, seat, title, Step::Reset)
 }
 
-/// The owner frees the slot. `Last` exactly where no `raw_ptr` points to it: then the seat holds the title free. Else
+/// The owner frees the slot. `Last` if and only if no `raw_ptr` points to it: then the seat holds the title free. Else
 /// the slot is quarantined.
 pub fn free(region: &Region, seat: &mut Seat, title: Title) -> (Word, Fate)
     requires region { seat.old.region ≡ region.now }

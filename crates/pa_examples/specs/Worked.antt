@@ -23,7 +23,7 @@ use Rattle.pa_rules.specs.declared.played.Played.{Played}
 use Rattle.pa_rules.specs.Played.{entry_of}
 use Rattle.pa_rules.specs.Legal.{IsLegal, IsFileRun}
 
--- the run tells just this
+-- the run has just these lists
 pub record IsRunOf (r : Run) (told : List Entry) (journals : List (List RootEntry)) (pools : List PoolEntry)
     (exchanged : List (List CellEntry)) (lines : List ReportLine) : Type 0 where
   pub entries : r.entries.items ≡ told
@@ -32,7 +32,7 @@ pub record IsRunOf (r : Run) (told : List Entry) (journals : List (List RootEntr
   pub cells : r.cells.items ≡ exchanged
   pub report : r.report.items ≡ lines
 
--- The trace is within the limits, and there is a run that tells just this, with numbers that have the bits of their types.
+-- The trace is within the limits, and there is a run with just these lists, with numbers that have the bits of their types.
 -- Its vectors are of some heap.
 pub record IsTold (t : Trace) (told : List Entry) (journals : List (List RootEntry)) (pools : List PoolEntry)
     (exchanged : List (List CellEntry)) (lines : List ReportLine) : Type 0 where
@@ -43,7 +43,7 @@ pub record IsTold (t : Trace) (told : List Entry) (journals : List (List RootEnt
 abbrev pub seen_at : ℕ → ℕ → ℕ → Seen
 seen_at start born word = record { slot = record { start = start; born = born }; found = record { 0 = word } }
 
--- so many slots with so many bytes
+-- this many slots with this many bytes
 abbrev pub tally : ℕ → ℕ → Tally
 tally slots bytes = record { slots = slots; bytes = bytes }
 
@@ -105,7 +105,7 @@ abbrev pub DirectMapIsTold : Type 0
 DirectMapIsTold = IsTold direct_map_trace (map entry_of direct_map_records)
     (direct_map_again_journal ∷ []) direct_map_again_pool [] direct_map_report
 
--- a run that tells this is the one in the order of the lines
+-- a run with these lists is the one in the order of the lines
 abbrev pub DirectMapIsFiled : Type 0
 DirectMapIsFiled =
     (r : Run) → IsRunOf r (map entry_of direct_map_records) (direct_map_again_journal ∷ []) direct_map_again_pool [] direct_map_report →
@@ -172,7 +172,7 @@ abbrev pub TwoThreadsAreTold : Type 0
 TwoThreadsAreTold = IsTold two_threads_trace (map entry_of two_threads_records) (two_threads_journal ∷ []) two_threads_pool
     (two_threads_history ∷ []) two_threads_report
 
--- a run that tells this is legal
+-- a run with these lists is legal
 abbrev pub TwoThreadsAreLegal : Type 0
 TwoThreadsAreLegal =
     (r : Run) → IsRunOf r (map entry_of two_threads_records) (two_threads_journal ∷ []) two_threads_pool

@@ -73,7 +73,7 @@ EarlyReadIsTold =
     IsTold early_read_trace (map entry_of early_read_records) (two_threads_journal ∷ []) two_threads_pool
     (there_history ∷ back_history ∷ []) early_read_report
 
--- a run that tells this is legal
+-- a run with these lists is legal
 abbrev pub EarlyReadIsLegal : Type 0
 EarlyReadIsLegal =
     (r : Run) →

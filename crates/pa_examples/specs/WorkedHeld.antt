@@ -67,12 +67,12 @@ pub record HasWords (words : List ℕ) : Type 0 where
   pub quarantined : slice_index words 2051 ≡ 0x3000002
   pub others : (i : ℕ) → 2051 < i → slice_index words i ≡ 0
 
--- A region of one super page has such words, and where it has them the run is held in it.
+-- A region of one super page has such words, and if it has them the run is held in it.
 pub record WordsAreHeld : Type 0 where
   pub some : (words : List ℕ) × (length words ≡ 262144) × HasWords words
   pub held : (words : List ℕ) → HasWords words → IsHeldIn held_trace held_told words
 
--- The worked run of direct maps tells this. Only its last map stands, which is live and was never written to; the two that
+-- The worked run of direct maps has these lists. Only its last map stands, which is live and was never written to; the two that
 -- went back began at the same byte.
 abbrev pub direct_map_told : Told
 direct_map_told =

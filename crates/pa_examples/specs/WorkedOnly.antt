@@ -18,7 +18,7 @@ use Rattle.pa_examples.specs.Worked.{direct_map_trace, direct_map_records, direc
 use Rattle.pa_examples.specs.WorkedWrites.{writes_trace, writes_records, writes_journal, writes_pool, writes_report}
 use Rattle.pa_examples.specs.WorkedPurge.{purge_trace, purge_report}
 
--- the run tells this, but for empty journals and histories after these
+-- the run has these lists, but for empty journals and histories after these
 pub record Tells (r : Run) (told : List Entry) (journals : List (List RootEntry)) (pools : List PoolEntry)
     (exchanged : List (List CellEntry)) (lines : List ReportLine) : Type 0 where
   pub entries : r.entries.items ≡ told
@@ -27,7 +27,7 @@ pub record Tells (r : Run) (told : List Entry) (journals : List (List RootEntry)
   pub cells : (k : ℕ) → history_of r k ≡ history_at exchanged k
   pub report : r.report.items ≡ lines
 
--- each legal run of the trace tells this, so that with any other record, entry or number a run isn't legal
+-- each legal run of the trace has these lists, so with any other record, entry or number a run isn't legal
 abbrev pub IsOnlyRun : Trace → List Entry → List (List RootEntry) → List PoolEntry → List (List CellEntry) → List ReportLine → Type 0
 IsOnlyRun t told journals pools exchanged lines = (r : Run) → IsLegal t r → Tells r told journals pools exchanged lines
 

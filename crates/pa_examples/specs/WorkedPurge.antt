@@ -32,6 +32,6 @@ purge_report = report_line 1 (tally 1 16) (tally 0 0) (tally 7 112) purge_census
 abbrev pub PurgeIsTold : Type 0
 PurgeIsTold = IsTold purge_trace (map entry_of purge_records) (purge_journal ∷ []) purge_pool [] purge_report
 
--- a run that tells this is the one in the order of the lines
+-- a run with these lists is the one in the order of the lines
 abbrev pub PurgeIsFiled : Type 0
 PurgeIsFiled = (r : Run) → IsRunOf r (map entry_of purge_records) (purge_journal ∷ []) purge_pool [] purge_report → IsFileRun purge_trace r

@@ -60,7 +60,7 @@ writes_report = report_line 1 (tally 1 16) (tally 0 0) (tally 7 112) (census_of 
 abbrev pub WritesAreTold : Type 0
 WritesAreTold = IsTold writes_trace (map entry_of writes_records) (writes_journal ∷ []) writes_pool [] writes_report
 
--- a run that tells this is the one in the order of the lines
+-- a run with these lists is the one in the order of the lines
 abbrev pub WritesAreFiled : Type 0
 WritesAreFiled =
     (r : Run) → IsRunOf r (map entry_of writes_records) (writes_journal ∷ []) writes_pool [] writes_report → IsFileRun writes_trace r

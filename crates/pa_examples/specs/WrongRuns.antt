@@ -24,7 +24,7 @@ made line seen usable = record { line = line; thread = 0; answer = answers.Made 
 abbrev pub stepped : ℕ → Seen → Entry
 stepped line seen = record { line = line; thread = 0; answer = answers.Done seen }
 
--- what a run tells that has no exchanges and no report
+-- the lists of a run that has no exchanges and no report
 abbrev pub telling : List Entry → List (List RootEntry) → List PoolEntry → Told
 telling es journals pools = record { entries = es; roots = journal_at journals; pools = pools; cells = history_at []; report = [] }
 
@@ -46,7 +46,7 @@ maps_told =
     ((map_made 2 0 16384 2002944 ∷ map_gone 3 1 16384 0 4 ∷ []) ∷ [])
     (pool_take 2 0 1 (Some 0) ∷ pool_give 3 0 1 0 ∷ [])
 
--- caches fails at the record of the second allocation, whose line lacks an entry, and not at the Unmap's
+-- caches fails at the record of the second allocation, since that line lacks an entry, and not at the Unmap's
 abbrev pub MapsFail : Type 0
 MapsFail = (r : Run) → told_by r ≡ maps_told → FailsAt clauses.Caches maps_trace r 4
 

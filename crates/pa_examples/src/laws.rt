@@ -59,7 +59,7 @@ pub fn worked_runs_are_the_only_ones()
     ensures purge { OnlyPurge }
 {}
 
-/// Two worked runs are held by regions whose words were worked out by hand: a live slot has its value, a quarantined one
+/// Two worked runs are held by regions with words that were worked out by hand: a live slot has its value, a quarantined one
 /// poison, and what went back has none.
 pub fn worked_words_are_held()
     ensures words { WordsAreHeld }
@@ -93,19 +93,19 @@ pub fn astray_fails()
     ensures { AstrayFails }
 {}
 
-/// A run of two threads, which was worked out by hand, meets all that is asked of told records to be shown legal: one thread
+/// A run of two threads, which was worked out by hand, meets all that is asked of annotated records to be shown legal: one thread
 /// gives the other a raw_ptr through a cell and frees the slot, while the other reads it and finds poison.
 pub fn two_threads_are_told()
     ensures { TwoThreadsArePlayedOut }
 {}
 
-/// A run of one thread with a purge, which was worked out by hand, meets all that is asked of told records: a slot is freed,
+/// A run of one thread with a purge, which was worked out by hand, meets all that is asked of annotated records: a slot is freed,
 /// goes back with the purge and is taken again.
 pub fn purge_is_told()
     ensures { PurgeIsPlayedOut }
 {}
 
-/// A run of one thread with direct maps, which was worked out by hand, meets all that is asked of told records: one map goes
+/// A run of one thread with direct maps, which was worked out by hand, meets all that is asked of annotated records: one map goes
 /// back as it is freed, one with the reset of its raw_ptr, and for one there is no room.
 pub fn direct_map_is_told()
     ensures { DirectMapIsPlayedOut }
@@ -137,7 +137,7 @@ pub fn threads_say()
     ensures { ThreadsSay }
 {}
 
-/// So all that is asked of told records is met with each of them, and each is legal: poison while the free is under way, the
+/// So all that is asked of annotated records is met with each of them, and each is legal: poison while the free is under way, the
 /// content, and that the slot was freed.
 pub fn other_reads_are_legal()
     ensures { OtherReadsAreLegal }
@@ -155,7 +155,7 @@ pub fn purge_closes()
     ensures { PurgeIsClosed }
 {}
 
-/// So does the run of direct maps: the seat that closes it owns the last map, and made the two raw again that went back.
+/// So does the run of direct maps: the seat that closes it owns the last map, and uncut the two that went back.
 pub fn direct_map_closes()
     ensures { DirectMapIsClosed }
 {}

@@ -1,4 +1,4 @@
--- A course enters nothing in the list of a partition past the run's: the thread that made the first entry there had seen none.
+-- An execution enters nothing in the list of a partition past the run's: the thread that made the first entry there had seen none.
 use Rattle.std.proofs.Common.{◌≡◌, ℕ, zero, suc, ◌-◌, ◌<◌, ◌≤◌, List, [], ◌∷◌, ◌++◌, refl, sym, ◌∙◌, ap, subst, arith, inl, inr}
 use Rattle.std.specs.Prelude.{Contains}
 use Rattle.std.specs.List.{AllByRecursion as Each}
@@ -24,7 +24,7 @@ use Rattle.pa_logs.proofs.Listing.{entered_append}
 not_none : (m : Made) (ms : List Made) → m ∷ ms ≡ [] → ⊥
 not_none m ms e = cc
 
--- who made the first entry made one
+-- the record with the first entry made one
 made_first : (k : ℕ) (m : Made) (ms : List Made) → m.stake ≡ k → made_with k (m ∷ ms) ≡ [] → ⊥
 made_first k m ms mine none =
     let here : made_with k (m ∷ ms) ≡ m ∷ made_with k ms = rw (eq-eqb m.stake k mine) refl in
@@ -42,7 +42,7 @@ module _ (t : Trace) (c : Course) (v : View) (limits : IsWithinLimits t) (course
   -- ---- the thread that made the first entry
 
   module _ (m : Made) (rest : List Made) (first : list_of p v ≡ m ∷ rest) where
-    -- one op of it makes none where it has made none
+    -- one op makes none if none was made before
     op_none : (w next : WorkerValue) (x : ToldRecord) → PlaysOne w next x → w.stock.partitions ≡ t.partitions → w.stock.thread ≡ m.stake → HasSeenAll w.stock.view v →
         entered_in p (log_of m.stake w.stock.view) ≡ [] → entered_in p (log_of m.stake next.stock.view) ≡ []
     op_none w next x one many mine sees none = elim (one.does.homes p (omega arith) low) [

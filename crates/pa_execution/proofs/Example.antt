@@ -1,4 +1,4 @@
--- The small course meets all that is asked of a course.
+-- The small execution meets all that is asked of an execution.
 use Rattle.std.proofs.Common.{◌≡◌, ℕ, ◌<◌, ◌≤◌, List, [], ◌∷◌, ltb, eqb, map, filter, replicate, refl, sym, ◌∙◌, ap, subst, arith, inl, inr, append-nil}
 use Rattle.std.specs.Prelude.{◌+◌, Contains}
 use Rattle.std.proofs.lemmas.Bool.{cases_Bool, cases_lt, cases_eq}
@@ -100,7 +100,7 @@ worker_log k = elim (cases_Bool (eqb 0 k)) [ inl y ↦ rw y refl | inr m ↦ rw 
 sees : HasSeenAll small_view small_seat
 sees = record { lists = λ q. ([], refl); seen = λ u. omega arith }
 
--- ---- the course
+-- ---- the execution
 
 two_phases : (P : ℕ → Type 0) → P 1 → P 2 → (n : ℕ) → 1 ≤ n → n ≤ 2 → P n
 two_phases P a b n low high = elim (cases_eq n 1) [

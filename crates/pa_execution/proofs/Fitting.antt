@@ -1,4 +1,4 @@
--- The run that a course became fits each worker: what its seat has seen of the lists stands in it, and the acts of a line are those
+-- The run that an execution became fits each worker: what its seat has seen of the lists is in it, and the acts of a line are those
 -- that its record entered.
 use Rattle.std.proofs.Common.{◌≡◌, ℕ, zero, suc, ◌<◌, ◌≤◌, List, [], ◌∷◌, ◌++◌, length, map, Some, slice_get, refl, sym, ◌∙◌, ap, arith, inl, inr}
 use Rattle.std.specs.Prelude.{Contains}
@@ -51,7 +51,7 @@ none_numbered : (es : List RootEntry) → map root_numbers es ≡ [] → es ≡ 
 none_numbered [] none = refl
 none_numbered (e ∷ es) none = absurd cc
 
--- what stands in a list stands in a longer one
+-- what is in a list is in a longer one
 pub stands_longer : (list longer : List Made) (m : Made) (i : ℕ) → IsBeginning list longer → StandsAt list m i → StandsAt longer m i
 stands_longer list longer m i (more, e) s = record {
   older = s.older;

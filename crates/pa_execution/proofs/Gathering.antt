@@ -1,4 +1,4 @@
--- How the main seat hears what all workers have seen, and how they hear from it.
+-- How the main seat takes in what all workers have seen, and how they get it back.
 use Rattle.std.proofs.Common.{◌≡◌, ℕ, ◌+◌, ◌<◌, List, [], ◌∷◌, ◌++◌, refl, sym, ◌∙◌, ap, subst, arith, inl, inr, eqb}
 use Rattle.std.specs.Prelude.{not}
 use Rattle.std.specs.List.{sum_by}
@@ -55,7 +55,7 @@ first_logged k (s ∷ a) b has =
 
 -- ---- what a seat has after it took a note in, and after it handed one over
 
--- a view with the stake of a note in which another view told it
+-- a view with the stake of a note that another view handed it
 module _ (k : ℕ) (seat v : View) where
   abbrev note : View
   note = given_after (stake_parcel k) v

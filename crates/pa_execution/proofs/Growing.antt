@@ -1,4 +1,4 @@
--- How a course grows.
+-- How an execution grows.
 use Rattle.std.proofs.Common.{◌≡◌, ℕ, zero, suc, ◌+◌, ◌<◌, ◌≤◌, List, [], map, refl, sym, ◌∙◌, ap, subst, arith, inl, inr, eqb}
 use Rattle.std.specs.Prelude.{if◌then◌else◌}
 use Rattle.std.proofs.lemmas.Bool.{cases_eq, eq-eqb, ne_eqb}
@@ -25,7 +25,7 @@ choose P (suc n) each =
       ],
     )
 
--- the course with this phase
+-- the execution with this phase
 abbrev with_phase : ℕ → (ℕ → WorkerValue) → (ℕ → List ToldRecord) → (ℕ → WorkerValue) → View → Course → Course
 with_phase n starts plays ends seat c = record {
   starts = λ m k. if eqb m n then starts k else c.starts m k;
@@ -34,7 +34,7 @@ with_phase n starts plays ends seat c = record {
   seats = λ m. if eqb m n then seat else c.seats m;
 }
 
--- a course of no phase
+-- an execution of no phase
 abbrev no_phase : (ℕ → WorkerValue) → View → Course
 no_phase starts seat = record { starts = λ n k. starts k; plays = λ n k. []; ends = λ n k. starts k; seats = λ n. seat }
 

@@ -1,4 +1,4 @@
--- A course says what is asked of the ops of workers, and of the runner.
+-- An execution says what is asked of the ops of workers, and of the runner.
 use Rattle.std.proofs.Common.{◌≡◌, ℕ, zero, suc, leb, ◌-◌, ◌<◌, ◌≤◌, Bool, List, [], ◌∷◌, ◌++◌, filter, refl, sym, ◌∙◌, ap, subst, arith, inl, inr}
 use Rattle.std.specs.Prelude.{Contains}
 use Rattle.std.proofs.lemmas.Bool.{cases_Bool, cases_lt, lt-ltb, le-ltb}
@@ -33,7 +33,7 @@ use Rattle.pa_execution.proofs.Grouping.{so_far, are_lines, within, in_group, gr
 use Rattle.pa_execution.proofs.Leading.{RowsLead, rows_append, rows_told, lists_append, rows_lead}
 use Rattle.pa_execution.proofs.Playing.{in_order}
 
--- records that pass are the told records that do
+-- records that pass are the annotated records that do
 played_filter : (test : Played → Bool) (xs : List ToldRecord) → filter test (played_in xs) ≡ played_in (filter (λ (x : ToldRecord). test x.played) xs)
 played_filter test [] = refl
 played_filter test (x ∷ xs) = elim (cases_Bool (test x.played)) [
@@ -126,7 +126,7 @@ module _ (t : Trace) (r : Told) (c : Course) (v : View) (xs : List Exchange) (ru
       let later = (then_sees t r c v xs run x among).seen u in
       omega arith
 
-  -- what a record of an earlier phase hands on was heard before the next one
+  -- what a record of an earlier phase hands on was known before the next one
   before_phase : (x y : ToldRecord) (u : Title) → Contains all_told x → Contains all_told y → x.played.phase < y.played.phase → x.gives u ≤ y.saw u
   before_phase x y u first second late =
       let a = within t c run.left.limits run.course x first in

@@ -1,4 +1,4 @@
--- A course says what is asked of the pool, the roots and the cells.
+-- An execution says what is asked of the pool, the roots and the cells.
 use Rattle.std.proofs.Common.{◌≡◌, ℕ, suc, ◌≤◌, true, eqb, List, [], ◌∷◌, ◌++◌, length, map, filter, refl, sym, ◌∙◌, ap, subst, arith, inl, inr, slice_index}
 use Rattle.std.specs.Prelude.{Contains}
 use Rattle.std.proofs.lemmas.List.{append_assoc}
@@ -64,7 +64,7 @@ swaps_entries k (m ∷ ms) (x ∷ xs) same =
       | inr n ↦ rw n (swaps_entries k ms xs rest)
     ]
 
--- what stands around one entry of the list
+-- what is around one entry of the list
 record SwapStands (swaps : List SwapMade) (k : ℕ) (older : List Made) (m : Made) : Type 0 where
   before : List SwapMade
   swap : SwapMade
@@ -147,7 +147,7 @@ module _ (t : Trace) (r : Told) (c : Course) (v : View) (xs : List Exchange) (ru
     cells_are = λ k. run.left.cells k ∙ swaps_entries k (list_of 5 v) xs run.left.exchanges;
   }
 
-  -- where an exchange's entry stands among all
+  -- where an exchange's entry is among all
   stands : (x : ToldRecord) (k reg : ℕ) → Contains (told_in t c) x → x.played.op ≡ ops.Swap k reg → IsSwapAt swaps x k
   stands x k reg among op =
       let p = played_so t r c v xs run x among in

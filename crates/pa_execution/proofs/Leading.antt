@@ -1,4 +1,4 @@
--- Where the rows of a worker's registers and lists lead, in a run that fits.
+-- If the rows of a worker's registers and lists lead, in a run that fits.
 use Rattle.std.proofs.Common.{◌≡◌, ℕ, List, [], ◌∷◌, ◌++◌, sym, ◌∙◌, ap, subst}
 use Rattle.std.specs.Prelude.{Contains}
 use Rattle.pa_machine.specs.declared.word.SlotName.{SlotName}

@@ -48,7 +48,7 @@ map_len : (asked len asked' len' : ℕ) (slot slot' : SlotName) → Map asked sl
 map_len asked len asked' len' slot slot' e = cc
 
 module _ (pools : List PoolEntry) (roots : Journals) where
-  -- where no other partition makes a title of the name
+  -- if no other partition makes a title of the name
   home_is : (n p : ℕ) (s : SlotName) (t : Title) → p < n → IsMadeBy pools (roots p) t → name_of t ≡ s →
       ((q : ℕ) (u : Title) → IsMadeBy pools (roots q) u → name_of u ≡ s → q ≡ p) → homes_by n pools roots s ≡ p
   home_is zero p s t below made is only = absurd (omega arith)

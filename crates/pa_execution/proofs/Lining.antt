@@ -1,4 +1,4 @@
--- A line of the report is said where it is what the workers counted and have cached, and a root's census.
+-- A line of the report is right if it is what the workers counted and have cached, and a root's census.
 use Rattle.std.proofs.Common.{◌≡◌, ℕ, zero, suc, ◌<◌, ◌≤◌, Bool, List, [], length, refl, sym, ◌∙◌, ap, subst, arith}
 use Rattle.std.specs.Prelude.{Contains}
 use Rattle.std.proofs.lemmas.Bool.{lt-ltb}

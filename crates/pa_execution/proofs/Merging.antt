@@ -1,4 +1,4 @@
--- The records of a course, merged by the trace's lines: their lines are the trace's, and those of a thread in a phase are its own.
+-- The records of an execution, merged by the trace's lines: their lines are the trace's, and those of a thread in a phase are its own.
 use Rattle.std.proofs.Common.{◌≡◌, ℕ, Bool, true, false, ◌&&◌, List, [], ◌∷◌, ◌++◌, map, take, drop, filter, refl, sym, ◌∙◌, ap, subst, inl, inr}
 use Rattle.std.specs.Prelude.{Contains}
 use Rattle.std.proofs.lemmas.Bool.{cases_Bool, eq-eqb, eqb-true}
@@ -9,15 +9,15 @@ use Rattle.pa_execution.specs.Courses.{is_line_of}
 use Rattle.pa_execution.specs.Merged.{without_line, merged_by_lines}
 use Rattle.pa_lists.proofs.Tests.{both_true}
 
--- the op lines of told records
+-- the op lines of annotated records
 abbrev pub lines_told : List ToldRecord → List OpLine
 lines_told xs = map op_line_of (played_in xs)
 
--- a told record of a thread in a phase
+-- an annotated record of a thread in a phase
 abbrev pub is_told_in : ℕ → ℕ → ToldRecord → Bool
 is_told_in n k x = is_line_of n k (op_line_of x.played)
 
--- records whose first line is this
+-- records with this first line
 record Begun (xs : List ToldRecord) (o : OpLine) (ls : List OpLine) : Type 0 where
   first : ToldRecord
   rest : List ToldRecord

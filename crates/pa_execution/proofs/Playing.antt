@@ -87,7 +87,7 @@ stays w v (x ∷ xs) (next, one, more) =
     let (thread, many) = stays next v xs more in
     (thread ∙ one.does.same.0, many ∙ one.does.same.1)
 
--- its log has the stretches more
+-- its log has the log segments more
 abbrev pub stretches : List ToldRecord → List Entry
 stretches xs = flat_map (λ (x : ToldRecord). x.stretch) xs
 

@@ -14,7 +14,7 @@ use Rattle.pa_execution.specs.Telling.{WorkersHaveTheirs}
 use Rattle.pa_execution.proofs.Chaining.{was_played, heard_next}
 use Rattle.pa_execution.proofs.Grouping.{so_far, thread_until}
 
--- the entries of told records
+-- the entries of annotated records
 abbrev entries_in : List ToldRecord → List Entry
 entries_in xs = map entry_of (played_in xs)
 

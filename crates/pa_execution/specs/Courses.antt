@@ -1,4 +1,4 @@
--- How a run of several workers went, phase after phase: what they played, told and heard.
+-- How a run of several workers went, phase after phase: what they played, and when they lent their stakes and got them back.
 use Rattle.std.specs.Prelude.{◌≡◌, ℕ, ◌+◌, ◌<◌, ◌≤◌, ◌==◌, ◌&&◌, Bool, List, [], map, filter}
 use Rattle.pa_machine.specs.declared.title.Title.{Title}
 use Rattle.pa_region.specs.declared.view.View.{View}
@@ -15,8 +15,8 @@ use Rattle.pa_op_specs.specs.Stocks.{listed_in}
 use Rattle.pa_op_specs.specs.Workers.{WorkerValue, IsNewWorker, worker_with_view}
 use Rattle.pa_op_specs.specs.Plays.{PlaysAll}
 
--- How a run went. Of each phase, from 1 on, and each thread: its worker as it began, the records of its lines, and its worker as it
--- ended, before it told; and the main seat at the phase's end, when all had told.
+-- How a run went. For each phase, from 1 on, and each thread: its worker as it began, the records of its lines, and its worker as
+-- it ended, before it lent its stake; and the main seat at the phase's end, when all had lent theirs.
 pub record Course : Type 0 where
   pub starts : ℕ → ℕ → WorkerValue
   pub plays : ℕ → ℕ → List ToldRecord
@@ -42,8 +42,8 @@ pub record BeginsNew (k partitions : ℕ) (w : WorkerValue) : Type 0 where
   pub new : IsNewWorker k partitions lines view w
   pub log : log_of k view ≡ []
 
--- At a phase's end each worker has told the main seat. That has every stake, each with its worker's log, or an empty one where the
--- run has no such thread; and it has seen what each worker has.
+-- At a phase's end each worker has lent its stake to the main seat. That has every stake, each with its worker's log, or an empty
+-- log if the run has no such thread; and it has seen what each worker has.
 pub record HasHeardAll (threads : ℕ) (ends : ℕ → WorkerValue) (seat : View) : Type 0 where
   pub aware : IsAware seat
   pub every : HasEveryStake seat
@@ -51,8 +51,8 @@ pub record HasHeardAll (threads : ℕ) (ends : ℕ → WorkerValue) (seat : View
   pub idle : (k : ℕ) → threads ≤ k → log_of k seat ≡ []
   pub sees : (k : ℕ) → k < threads → HasSeenAll (ends k).stock.view seat
 
--- Where a phase follows, the worker of thread k has heard. It is as it was but for its view, which has the same log and has seen what
--- the main seat has; and its lists are the same, each title at its number.
+-- If a phase follows, the worker of thread k gets its stake back. It is as it was but for its view, which has the same log and has
+-- seen what the main seat has; and its lists are the same, each title at its number.
 pub record Hears (k : ℕ) (seat : View) (before after : WorkerValue) : Type 0 where
   pub view : View
   pub same : after ≡ worker_with_view view before
@@ -63,7 +63,7 @@ pub record Hears (k : ℕ) (seat : View) (before after : WorkerValue) : Type 0 w
 -- The first `phases` phases of the trace went so.
 --   begins: at the start each worker is new
 --   plays, lines: in each phase each plays its lines, in order
---   tells, hears: then all tell, and where a phase follows they hear
+--   tells, hears: then all lend their stakes to the main seat, and if a phase follows they get them back
 --   keeps: the main seat forgets nothing
 pub record IsCourse (t : Trace) (phases : ℕ) (c : Course) : Type 0 where
   pub begins : (k : ℕ) → k < t.threads → BeginsNew k t.partitions (c.starts 1 k)

@@ -1,4 +1,4 @@
--- A small course that was worked out by hand: one thread copies an empty register in each of two phases, and is answered Nothing.
+-- A small execution, worked out by hand: one thread copies an empty register in each of two phases, and the answer is Nothing.
 use Rattle.std.specs.Prelude.{ℕ, List, [], ◌∷◌, false, ◌==◌, if◌then◌else◌, Contains}
 use Rattle.pa_trace.specs.declared.script.Trace.{Trace}
 use Rattle.pa_trace.specs.declared.script.Line.TheVariants.{Phase, Do}
@@ -105,7 +105,7 @@ small_report n = record {
   decommitted = 0;
 }
 
--- what is printed of it
+-- the output of it
 abbrev pub small_told : Told
 small_told = record {
   entries = small_entry 1 ∷ small_entry 2 ∷ [];
@@ -115,8 +115,8 @@ small_told = record {
   report = small_report 1 ∷ small_report 2 ∷ [];
 }
 
--- It is a whole run's course, and its report's lines are what its worker counted; so they are said, all layers say what they are asked,
--- and the run is legal.
+-- It is a whole run's execution, and its report's lines are what its worker counted; so these are right, all layers meet their
+-- obligations, and the run is legal.
 pub record SmallCourseFits : Type 0 where
   pub run : IsWholeRun small_trace small_told small_course small_seat []
   pub counted : (l : ReportLine) → Contains small_told.report l → IsLineBy small_trace small_course small_seat l

@@ -1,4 +1,4 @@
--- How the main seat hears what all workers have seen at a phase's end, one after the other, and how they hear from it.
+-- How all workers lend their stakes to the main seat at a phase's end, one after the other, and how they get them back.
 use Rattle.std.specs.Prelude.{◌≡◌, ℕ, ◌+◌, ◌<◌, ◌≤◌, []}
 use Rattle.pa_trace.specs.Limits.{most_threads}
 use Rattle.pa_region.specs.declared.view.View.{View}
@@ -19,8 +19,8 @@ pub record IsMain (threads : ℕ) (seat : View) : Type 0 where
   pub idle : (k : ℕ) → threads ≤ k → log_of k seat ≡ []
   pub clean : unclean_of seat ≡ 0
 
--- The first `count` workers have told the main seat, which was `first` before. It has their stakes besides, each with its log, and has
--- seen what they have, and what it had.
+-- The first `count` workers have lent their stakes to the main seat, which was `first` before. It has these besides, each with its
+-- log, and has seen what the workers have, and what it had seen.
 pub record HasHeardSome (threads count : ℕ) (ends : ℕ → WorkerValue) (first seat : View) : Type 0 where
   pub main : IsMain threads seat
   pub told : (k : ℕ) → k < count → 0 < stake_of seat k
@@ -28,8 +28,8 @@ pub record HasHeardSome (threads count : ℕ) (ends : ℕ → WorkerValue) (firs
   pub sees : (k : ℕ) → k < count → HasSeenAll (ends k).stock.view seat
   pub grows : HasSeenAll first seat
 
--- The first `count` workers have heard from the main seat, which was `whole` before. It has the stakes of the others, with their logs.
--- It has seen what it had.
+-- The first `count` workers got their stakes back from the main seat, which was `whole` before. It has the stakes of the others, with
+-- their logs, and has seen what it had.
 pub record HasAnswered (threads count : ℕ) (whole seat : View) : Type 0 where
   pub main : IsMain threads seat
   pub stakes : (k : ℕ) → count ≤ k → stake_of seat k ≡ stake_of whole k
@@ -37,11 +37,11 @@ pub record HasAnswered (threads count : ℕ) (whole seat : View) : Type 0 where
   pub seen : seat.seen ≡ whole.seen
   pub lists : seat.seen_lists ≡ whole.seen_lists
 
--- the worker when it told
+-- the worker when it has lent its stake
 abbrev pub told_worker : ℕ → WorkerValue → WorkerValue
 told_worker k w = worker_with_view (left_after (stake_parcel k) w.stock.view) w
 
--- The next worker tells: where the seat takes its note in, the seat has heard one more. And one that has heard all threads has heard all.
+-- The next worker lends its stake: if the seat takes its note in, it has one more. And when it has those of all threads, it has all.
 pub record WorkersTell : Type 0 where
   pub none : (threads : ℕ) (ends : ℕ → WorkerValue) (seat : View) → IsMain threads seat → HasHeardSome threads 0 ends seat seat
   pub next : (threads k : ℕ) (ends : ℕ → WorkerValue) (first seat : View) → HasHeardSome threads k ends first seat → k < threads →
@@ -51,8 +51,8 @@ pub record WorkersTell : Type 0 where
   pub all : (threads : ℕ) (ends : ℕ → WorkerValue) (first seat : View) → HasHeardSome threads threads ends first seat → IsAware seat →
       HasHeardAll threads ends seat
 
--- The next worker hears: the seat can hand it its stake, which is for it; it has heard then, and the seat has answered one more.
--- And one that has answered all threads is a main seat again.
+-- The next worker gets its stake back: the seat can hand it over, and it fits the worker; then the seat has served one more.
+-- And when it has served all threads it is a main seat again.
 pub record WorkersHear : Type 0 where
   pub none : (threads : ℕ) (ends : ℕ → WorkerValue) (first whole : View) → HasHeardSome threads threads ends first whole →
       HasAnswered threads 0 whole whole

@@ -1,4 +1,4 @@
--- How a course grows, a phase at a time, so that a loop over phases can keep it.
+-- How an execution grows, a phase at a time, so that a loop over phases can keep it.
 use Rattle.std.specs.Prelude.{◌≡◌, ℕ, ◌+◌, ◌<◌, ◌≤◌, List, map}
 use Rattle.pa_region.specs.declared.view.View.{View}
 use Rattle.pa_trace.specs.declared.script.Trace.{Trace}
@@ -8,20 +8,20 @@ use Rattle.pa_op_specs.specs.Workers.{WorkerValue}
 use Rattle.pa_op_specs.specs.Plays.{PlaysAll}
 use Rattle.pa_execution.specs.Courses.{Course, IsCourse, BeginsNew, HasSeenAll, HasHeardAll, Hears, lines_in}
 
--- Two courses have their first phases in common.
+-- Two executions have their first phases in common.
 pub record Agree (phases : ℕ) (c d : Course) : Type 0 where
   pub starts : (n k : ℕ) → 1 ≤ n → n ≤ phases → d.starts n k ≡ c.starts n k
   pub plays : (n k : ℕ) → 1 ≤ n → n ≤ phases → d.plays n k ≡ c.plays n k
   pub ends : (n k : ℕ) → 1 ≤ n → n ≤ phases → d.ends n k ≡ c.ends n k
   pub seats : (n : ℕ) → 1 ≤ n → n ≤ phases → d.seats n ≡ c.seats n
 
--- The first `phases` phases went so, and these workers begin the next one: new ones in the first phase, else those that have heard.
+-- The first `phases` phases went so, and these workers begin the next one: new ones in the first phase, else those of the last one.
 pub record HasBegun (t : Trace) (phases : ℕ) (c : Course) (starts : ℕ → WorkerValue) : Type 0 where
   pub course : IsCourse t phases c
   pub new : phases ≡ 0 → (k : ℕ) → k < t.threads → BeginsNew k t.partitions (starts k)
   pub heard : 1 ≤ phases → (k : ℕ) → k < t.threads → Hears k (c.seats phases) (c.ends phases k) (starts k)
 
--- The first `phases` phases went so, and left these workers, before they told, and this main seat, when all had.
+-- The first `phases` phases went so, and left these workers, before they lent their stakes, and this main seat, after all had.
 pub record HasEnded (t : Trace) (phases : ℕ) (c : Course) (workers : ℕ → WorkerValue) (main : View) : Type 0 where
   pub course : IsCourse t phases c
   pub ends : (k : ℕ) → k < t.threads → c.ends phases k ≡ workers k
@@ -32,10 +32,10 @@ abbrev pub PlaysPhase : Trace → ℕ → ℕ → (before after : WorkerValue) �
 PlaysPhase t n k before after =
     (xs : List ToldRecord) × PlaysAll before xs after × (map op_line_of (played_in xs) ≡ lines_in t.lines n k)
 
--- How courses grow.
+-- How executions grow.
 --   begins: at the start no phase is over
---   ends: when each has played its lines of the next phase and told, that is over, and those before are what they were
---   goes_on: when each has heard, the next one begins
+--   ends: when each has played its lines of the next phase and lent its stake, that is over, and those before are what they were
+--   goes_on: when each has its stake back, the next one begins
 pub record CoursesGrow : Type 0 where
   pub begins : (t : Trace) (starts : ℕ → WorkerValue) → ((k : ℕ) → k < t.threads → BeginsNew k t.partitions (starts k)) →
       (c : Course) × HasBegun t 0 c starts

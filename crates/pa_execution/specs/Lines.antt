@@ -19,12 +19,12 @@ use Rattle.pa_execution.specs.Courses.{Course}
 use Rattle.pa_execution.specs.Merged.{told_in, lists_at}
 use Rattle.pa_execution.specs.Telling.{IsWholeRun}
 
--- the sum over the first so many threads
+-- the sum over the threads below this number
 abbrev pub sum_over : (ℕ → ℕ) → ℕ → ℕ
 sum_over f zero = 0
 sum_over f (suc k) = f k + sum_over f k
 
--- The tally is what went into partition p less what went out of it, as these workers counted it.
+-- The tally is what went into partition p minus what went out of it, as these workers counted it.
 pub record IsLeftOf (into out : Count → Tally) (p threads : ℕ) (workers : ℕ → WorkerValue) (tally : Tally) : Type 0 where
   pub slots : tally.slots ≡ sum_over (λ k. (into (counted_in (workers k).counts p)).slots) threads
       - sum_over (λ k. (out (counted_in (workers k).counts p)).slots) threads
@@ -36,14 +36,14 @@ pub record IsCachedBy (p threads : ℕ) (workers : ℕ → WorkerValue) (tally :
   pub slots : tally.slots ≡ sum_over (λ k. listed_slots (listed_in (workers k).stock p) 0 class_count) threads
   pub bytes : tally.bytes ≡ sum_over (λ k. listed_bytes (λ class. length (listed_in (workers k).stock p class)) 0 class_count) threads
 
--- The line says what the workers, as they were at the end of its phase, and the root of its partition tell.
+-- The line agrees with the workers, as they were at the end of its phase, and with the root of its partition.
 pub record IsLineBy (t : Trace) (c : Course) (v : View) (l : ReportLine) : Type 0 where
   pub live : IsLeftOf (λ (n : Count). n.issued) (λ (n : Count). n.freed) l.partition t.threads (c.ends l.phase) l.live
   pub quarantined : IsLeftOf (λ (n : Count). n.entered) (λ (n : Count). n.left) l.partition t.threads (c.ends l.phase) l.quarantined
   pub cached : IsCachedBy l.partition t.threads (c.ends l.phase) l.cached
   pub root : IsCensusBy (list_of l.partition (c.seats l.phase)) (list_of 4 v) (census_of l)
 
--- Then the line is said, as all layers are asked.
+-- Then the line says what all layers require of it.
 abbrev pub CoursesTellLines : Type 0
 CoursesTellLines =
     (t : Trace) (r : Told) (c : Course) (v : View) (xs : List Exchange) → IsWholeRun t r c v xs →

@@ -1,4 +1,4 @@
--- The records of a course in the order of the trace's lines, and what the run became.
+-- The records of an execution in the order of the trace's lines, and what the run became.
 use Rattle.std.specs.Prelude.{◌≡◌, ℕ, ◌<◌, ◌≤◌, List, [], ◌∷◌, ◌++◌, map, take, drop, nat_lt, if◌then◌else◌}
 use Rattle.pa_trace.specs.declared.script.Trace.{Trace}
 use Rattle.pa_trace.specs.Limits.{IsWithinLimits, most_partitions}
@@ -48,16 +48,16 @@ swaps_of [] xs = []
 swaps_of (m ∷ ms) [] = []
 swaps_of (m ∷ ms) (x ∷ xs) = record { made = m; cell = x.cell; entry = x.entry } ∷ swaps_of ms xs
 
--- What the run became, as the ops of workers see it: a slot is as long as the journals tell, and of the partition that they tell.
+-- What the run became, as the ops of workers see it: each slot has the length and the partition that the journals say.
 abbrev pub outcome_of : Trace → Told → Outcome
 outcome_of t r =
     record { partitions = t.partitions; roots = r.roots; pools = r.pools; cells = r.cells; sizes = sizes_in t r; homes = homes_in t r }
 
--- What is printed is what the course left, where `v` is the seat that closes and `xs` are the exchanges.
+-- The output is what the execution left; `v` is the seat that closes and `xs` are the exchanges.
 --   limits: the trace is within its limits
---   entries: the records are those of the course
+--   entries: the records are those of the execution
 --   pool, fits: the pool's list is its entries in numbers, and they replay
---   lists, journals, past, numbers: so are the roots' lists, each a journal that replays, and there are four; and a root hands a slot
+--   lists, journals, past, numbers: so are the roots' lists, each a journal that replays, and there are four; and a root gives a slot
 --     out at the number at which it has it
 --   exchanges, cells, chain: the cells' list is the exchanges in numbers, each cell's history is those with it, and each found what
 --     the one before gave

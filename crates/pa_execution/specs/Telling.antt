@@ -1,4 +1,4 @@
--- What follows of a course: each layer says what it is asked.
+-- What follows from an execution: each layer meets its obligations.
 use Rattle.std.specs.Prelude.{◌≡◌, ℕ, ◌<◌, ◌≤◌, List, [], map, filter, Contains}
 use Rattle.pa_trace.specs.declared.script.Trace.{Trace}
 use Rattle.pa_trace.specs.Limits.{IsWithinLimits, most_partitions}
@@ -15,13 +15,13 @@ use Rattle.pa_cells.specs.Cells.{Exchange}
 use Rattle.pa_execution.specs.Courses.{Course, IsCourse, Closes}
 use Rattle.pa_execution.specs.Merged.{told_in, lists_at, swaps_of, IsLeftBehind}
 
--- A whole run: its course through all phases, the seat that closes it, and what is printed is what they left.
+-- A whole run: its execution through all phases, the seat that closes it, and the output is what they left.
 pub record IsWholeRun (t : Trace) (r : Told) (c : Course) (v : View) (xs : List Exchange) : Type 0 where
   pub course : IsCourse t (phases_in t.lines) c
   pub closes : Closes (c.seats (phases_in t.lines)) v
   pub left : IsLeftBehind t r v (told_in t c) xs
 
--- Then each layer says what it is asked.
+-- Then each layer meets its obligations.
 abbrev pub CoursesTellHeap : Type 0
 CoursesTellHeap =
     (t : Trace) (r : Told) (c : Course) (v : View) (xs : List Exchange) → IsWholeRun t r c v xs →
@@ -51,7 +51,7 @@ CoursesLeaveNonePast =
     (t : Trace) (c : Course) (v : View) → IsWithinLimits t → IsCourse t (phases_in t.lines) c → Closes (c.seats (phases_in t.lines)) v →
     (p : ℕ) → t.partitions ≤ p → p < most_partitions → list_of p v ≡ []
 
--- Each worker has the records of its thread so far, in order; and a title that a stretch says was made raw again goes back by an
+-- Each worker has the records of its thread so far, in order; and a title that a log segment says was uncut goes back by an
 -- entry of the same record. That asks nothing of the close, so the records can be merged before it.
 pub record HaveTheirs (t : Trace) (c : Course) : Type 0 where
   pub records : (n k : ℕ) → 1 ≤ n → n ≤ phases_in t.lines → k < t.threads →
@@ -61,7 +61,7 @@ pub record HaveTheirs (t : Trace) (c : Course) : Type 0 where
 abbrev pub WorkersHaveTheirs : Type 0
 WorkersHaveTheirs = (t : Trace) (c : Course) → IsWithinLimits t → IsCourse t (phases_in t.lines) c → HaveTheirs t c
 
--- And where each line of the report is said, by the workers' counts and lists and by the roots, all layers say all at once.
+-- And if each line of the report is right, by the workers' counts and lists and by the roots, all layers meet all of them.
 abbrev pub CoursesTellAll : Type 0
 CoursesTellAll =
     (t : Trace) (r : Told) (c : Course) (v : View) (xs : List Exchange) → IsWholeRun t r c v xs →

@@ -1,4 +1,4 @@
--- A worker's op: the record, and what the op did with its stock.
+-- A worker's op: the record, and what the op did with its thread state.
 use Rattle.std.proofs.Common.{◌≡◌, ℕ, ◌<◌, Bool, List, [], ◌∷◌, ◌++◌, length, refl, sym, ◌∙◌, ap, subst, arith}
 use Rattle.std.proofs.lemmas.List.{length-append}
 use Rattle.pa_trace.specs.declared.script.Op.{Op}
@@ -19,7 +19,7 @@ plays_op line op answer before after records does counts phase =
     let (x, is, done) = does phase in
     (x, is, record { records = records ∙ ap (λ p. before.records ++ entry_of p ∷ []) (sym is); does = done; counts = counts phase x is done })
 
--- The same by what the calls leave: the stock, the records with one more, and the counts.
+-- The same by what the calls leave: the thread state, the records with one more, and the counts.
 pub worker_plays : (line : ℕ) (op : Op) (answer : Answer) (w : WorkerValue) (after : StockValue) (records : List Entry) (counts : List Count) (thread room : ℕ) (stopped : Bool) →
     records ≡ w.records ++ record { line = line; thread = thread; answer = answer } ∷ [] → thread ≡ after.thread → DoesOp line op answer w.stock after →
     CountsOp line op answer w.stock after w.counts counts →

@@ -1,4 +1,4 @@
--- The words of the closed region end with each standing title's history, by what the close tells its seat.
+-- The words of the closed region end with each standing title's history, by what the close ensures for its seat.
 use Rattle.std.proofs.Common.{◌≡◌, ℕ, false, ◌&&◌, List, ap, arith, inl, inr}
 use Rattle.std.specs.Prelude.{nat_lt}
 use Rattle.std.specs.List.{sum_by}

@@ -20,7 +20,7 @@ use Rattle.pa_rules.proofs.Numbering.{lines_rise}
 use Rattle.pa_logs.specs.Told.{ToldRecord, played_in}
 use Rattle.pa_logs.specs.Listed.{AreRising}
 
--- the thread and the op of a line are the trace's, and it stands in one of so many phases from one on
+-- the thread and the op of a line are the trace's, and it is in one of this many phases from one on
 record IsDueIn (partitions threads phase later : ℕ) (a : OpLine) : Type 0 where
   thread : a.thread < threads
   op : IsOpWithin partitions a.op
@@ -70,7 +70,7 @@ records_due t ps x limits are among =
     let high = due.high in
     record { thread = due.thread; op = due.op; low = due.low; high = omega arith }
 
--- told records stand in the order of their lines where the records do
+-- annotated records are in the order of their lines if the records are
 rising_told : (ts : List ToldRecord) → AllPairs (λ (x y : Played). x.line < y.line) (played_in ts) → AreRising ts
 rising_told [] h = pairs_none (λ (x y : ToldRecord). x.played.line < y.played.line)
 rising_told (x ∷ xs) h =

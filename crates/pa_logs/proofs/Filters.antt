@@ -26,7 +26,7 @@ module _ {A : Type 0} where
       pairs_cons R x xs (λ y among. each x y (first_in x xs) (later_in x y xs among))
       (pairs_all R xs (λ y z p q. each y z (later_in x y xs p) (later_in x z xs q)))
 
-  -- where all members pass, and where none does
+  -- if all members pass, and if none does
   pub filter_all : (test : A → Bool) (xs : List A) → ((x : A) → Contains xs x → test x ≡ true) → filter test xs ≡ xs
   filter_all test [] each = refl
   filter_all test (x ∷ xs) each = rw (each x (first_in x xs)) (ap (λ ys. x ∷ ys) (filter_all test xs (λ y among. each y (later_in x y xs among))))
@@ -87,7 +87,7 @@ module _ {A : Type 0} where
   pub only_one : (a x : A) → Contains (a ∷ []) x → a ≡ x
   only_one a x among = elim (in_cases a x [] among) [ inl same ↦ same | inr later ↦ absurd (not_in_none x later) ]
 
-  -- where one member passes, one place has such a member
+  -- if one member passes, one place has such a member
   pub one_place : (test : A → Bool) (xs : List A) (a : A) (i k : ℕ) (x y : A) → filter test xs ≡ a ∷ [] → slice_get xs i ≡ Some x → slice_get xs k ≡ Some y →
       test x ≡ true → test y ≡ true → i ≡ k
   one_place test [] a i k x y e at_i at_k passes also = absurd cc
@@ -118,7 +118,7 @@ module _ {A : Type 0} where
     | inr n ↦ rw n (filter_both f g xs)
   ]
 
-  -- nothing more, where a list is the first part of itself
+  -- nothing more, if a list is the first part of itself
   pub nothing_more : (xs ys : List A) → xs ++ ys ≡ xs → ys ≡ []
   nothing_more [] ys e = e
   nothing_more (x ∷ xs) ys e = nothing_more xs ys cc

@@ -56,7 +56,7 @@ there_named (u ∷ us) s t among is = elim (cases_Bool (same_slot (name_of u) s)
 ]
 
 module _ (pools : List PoolEntry) (roots : Journals) where
-  -- where no other partition makes a title of the name
+  -- if no other partition makes a title of the name
   home_is : (n p : ℕ) (s : SlotName) (t : Title) → p < n → IsMadeBy pools (roots p) t → name_of t ≡ s →
       ((q : ℕ) (u : Title) → IsMadeBy pools (roots q) u → name_of u ≡ s → q ≡ p) → homes_by n pools roots s ≡ p
   home_is zero p s t below made is only = absurd (omega arith)
@@ -127,7 +127,7 @@ module _ (supers partitions : ℕ) (ps : List Played) (pools : List PoolEntry) (
       some_is : (a b : Step) → Some a ≡ Some b → a ≡ b
       some_is a b e = cc
 
-  -- nothing finds the word 0 where no step is made there
+  -- nothing finds the word 0 if no step is made there
   no_step : (m : Mark) (o : Option Step) → m.step ≡ o → Contains (marks_of ps) m → IsRunFrom (marks_of ps) m.slot 0 [] → IsOneRun (marks_of ps) m.slot (0 ∷ []) → ⊥
   no_step m None none among run one =
       let (x, member, marked) = mark_from ps m among in

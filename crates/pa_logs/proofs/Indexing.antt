@@ -26,7 +26,7 @@ use Rattle.pa_logs.proofs.Orders.{place_in}
 use Rattle.pa_lists.proofs.Indexed.{at_map, slice_get_at}
 use Rattle.pa_lists.proofs.Options.{some_same}
 
--- what stands at an index
+-- what is at an index
 stands_get : (list : List Made) (m : Made) (j : ℕ) → StandsAt list m j → slice_get list j ≡ Some m
 stands_get list m j s =
     ap (λ l. slice_get l j) (s.begins ∙ append_assoc s.older (m ∷ []) s.rest)
@@ -103,7 +103,7 @@ module _ (lists : ℕ → List Made) (pools : List PoolEntry) (roots : Journals)
       let e : o.made.numbers ∷ [] ≡ pool_numbers o.pool ∷ [] =
       ap (λ ms. map (λ (m : Made). m.numbers) ms) (sym o.made_is) ∙ (it.pools_are ∙ ap (λ es. map pool_numbers es) o.pools) in cc
 
-  -- it stands at one place
+  -- it is at one place
   index_is : (x : ToldRecord) (it : Enters x) (o : AskedOnce (lists 4) x it) (j : ℕ) (m : Made) → Contains ts x → slice_get (lists 4) j ≡ Some m → Contains (entered_in 4 x.stretch) m → j ≡ o.index
   index_is x it o j m among at_j within =
       let is = are.is 4 (omega arith) in

@@ -51,7 +51,7 @@ left_by_some s (e ∷ es) more = elim (cases_lt 0 (times s (leaves_by e.act))) [
   | inr none ↦ let (f, among, leaves) = left_by_some s es (omega arith) in (f, later_in e f es among, leaves)
 ]
 
--- a slot that stands in the lists of a thread stands in one of them
+-- a slot that is in the lists of a thread is in one of them
 record IsListed (s : SlotName) (lists : ℕ → List Numbered) (class n : ℕ) : Type 0 where
   at : ℕ
   within : at < class + n

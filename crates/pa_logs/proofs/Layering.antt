@@ -31,7 +31,7 @@ use Rattle.pa_logs.proofs.Orders.{place_in, orders_follow}
 use Rattle.pa_logs.proofs.Sizing.{lengths_follow}
 use Rattle.pa_logs.proofs.Uncutting.{stands_uncut}
 
--- the told record of a record
+-- the annotated record of a record
 told_there : (ts : List ToldRecord) (x : Played) → Contains (played_in ts) x → (y : ToldRecord) × Contains ts y × (y.played ≡ x)
 told_there ts x among = map_cases (λ (z : ToldRecord). z.played) ts x among
 

@@ -1,4 +1,4 @@
--- The entries of a list on a record's line are those that it entered, and stand in order.
+-- The entries of a list on a record's line are those that it entered, and are in order.
 use Rattle.std.proofs.Common.{◌≡◌, ℕ, ◌<◌, ◌≤◌, Bool, true, false, List, [], ◌∷◌, ◌++◌, length, filter, flat_map, map, slice_get, Some, refl, sym, ◌∙◌, ap, subst, arith, inl, inr, eqb, append_assoc}
 use Rattle.std.specs.Prelude.{Contains, AllPairs}
 use Rattle.std.proofs.lemmas.Bool.{cases_Bool, cases_lt, cases_eq, eq-eqb, eqb-true, leb-true, le-leb}
@@ -128,7 +128,7 @@ lines_have_theirs = record {
   theirs = λ q list ts x is rising among. theirs q list ts is x rising among;
 }
 
--- entries of one stake stand in the order of their lines
+-- entries of one stake are in the order of their lines
 abbrev InOrder : Made → Made → Type 0
 InOrder m n = line_of m ≤ line_of n
 

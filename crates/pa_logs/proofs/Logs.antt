@@ -17,7 +17,7 @@ use Rattle.pa_logs.specs.Told.{ToldRecord, is_of_thread, log_of, told_of, LogsAr
 abbrev part : ℕ → ℕ → ℕ → ℕ
 part thread amount k = if eqb thread k then amount else 0
 
--- the log of a thread weighs what its first record's stretch does, if that is its own, and the rest
+-- the log of a thread weighs what its first record's log segment does, if that is its own, and the rest
 log_sum : (weight : Entry → ℕ) (k : ℕ) (x : ToldRecord) (ts : List ToldRecord) →
     part x.played.thread (sum_by weight x.stretch) k + sum_by weight (log_of k ts) ≡ sum_by weight (log_of k (x ∷ ts))
 log_sum weight k x ts = elim (cases_Bool (is_of_thread k x)) [
@@ -57,7 +57,7 @@ part_sum thread amount (s ∷ ss) e =
           omega arith
     ]
 
--- the logs of these stakes weigh what the records do, where each record's thread has one of them
+-- the logs of these stakes weigh what the records do, if each record's thread has one of them
 stakes_sum : (weight : Entry → ℕ) (ss : List Stake) (ts : List ToldRecord) →
     ((x : ToldRecord) → Contains ts x → sum_by (λ (s : Stake). one (eqb s.number x.played.thread)) ss ≡ 1) →
     sum_by (λ (s : Stake). sum_by weight (log_of s.number ts)) ss ≡ told_of ts weight

@@ -1,4 +1,4 @@
--- A stretch has the step or the look of its record's mark, and no other step.
+-- A log segment has the step or the look of its record's mark, and no other step.
 use Rattle.std.proofs.Common.{◌≡◌, ℕ, ◌+◌, ◌<◌, Bool, List, [], ◌∷◌, ◌++◌, Option, Some, None, refl, sym, ◌∙◌, ap, subst, inl, inr}
 use Rattle.std.specs.Prelude.{Contains}
 use Rattle.std.proofs.lemmas.List.Elements.{Contains-append_right, Contains-append_cases}
@@ -19,7 +19,7 @@ use Rattle.pa_lists.proofs.Joined.{filter_cases, filter_in}
 use Rattle.pa_rules.specs.Played.{step_of, mark_of_answer, mark_at, look_at}
 use Rattle.pa_logs.specs.Touches.{title_of, is_touch, touches, AreLooks, StepMade, value_by, done_step, step_in, IsStepTold, IsLookTold, IsReadTold, IsDoneTold, IsSeenTold, ReadsTold, IsToldBy, TellsItsMark}
 
--- what touches says of the stretch
+-- what touches says of the log segment
 touched_in : (es : List Entry) (e : Entry) → Contains (touches es) e → Contains es e
 touched_in es e among = (filter_cases is_touch es e among).0
 
@@ -34,7 +34,7 @@ looks_none t u (e ∷ es) step found value are among = elim (in_cases e _ es amo
   | inr rest ↦ looks_none t u es step found value are.1 rest
 ]
 
--- a step that is told is there, and no other is
+-- the step that is recorded is there, and no other
 step_there : (t : Title) (step : Step) (found value : ℕ) (es : List Entry) → IsStepTold t step found value es → Contains es (Counted t step found value)
 step_there t step found value es told =
     touched_in es (Counted t step found value)
@@ -74,7 +74,7 @@ read_alone t u place found value owned es p w v told among =
       | inr rest ↦ elim (in_cases r (Counted u p w v) [] rest) [ inl e ↦ absurd cc | inr none ↦ absurd (not_in_none _ none) ]
     ]
 
--- the parts of what a stretch tells of a mark, by op, answer and line
+-- the parts of what a log segment says of a mark, by op, answer and line
 pub record Tells (sizes : SlotName → ℕ) (line : ℕ) (op : Op) (a : Answer) (es : List Entry) : Type 0 where
   pub has_step : (d : StepMade) → step_in op a ≡ Some d → Contains es (Counted (title_of sizes d.slot) d.step d.found d.value)
   pub has_look : (m : Mark) → mark_of_answer line op a ≡ Some m → m.step ≡ None → Contains es (Looked (title_of sizes m.slot) m.found) × (0 < held_of m.found + refs_of m.found)

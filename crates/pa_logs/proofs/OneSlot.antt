@@ -26,7 +26,7 @@ some_step None h = absurd (none_is None refl h)
     none_is (Some p) e i = cc
 some_step (Some p) h = (p, refl)
 
--- the step that stands at number k: its record, its word and the next
+-- the step that is at number k: its record, its word and the next
 pub record IsStepAt (ps : List Played) (s : SlotName) (history : List Done) (k : ℕ) (x : Played) (d : StepMade) : Type 0 where
   pub among : Contains ps x
   pub is : step_by x ≡ Some d
@@ -41,7 +41,7 @@ module _ (ps : List Played) (s : SlotName) (history : List Done) (steps : AreSte
   pub number_at : (k : ℕ) → k ≤ length history → number_of (word_at_number k history) ≡ k
   number_at k within = reached_number (up_to k history) (up_to_legal k history steps.legal) ∙ up_to_length k history within
 
-  -- what stands at a number could be made there
+  -- what is at a number could be made there
   pub can_at : (k : ℕ) (d : Done) → up_to (k + 1) history ≡ d ∷ up_to k history → CanStep d.step (word_at_number k history)
   can_at k d stands =
       let legal : IsLegal (d ∷ up_to k history) = subst IsLegal stands (up_to_legal (k + 1) history steps.legal) in

@@ -1,4 +1,4 @@
--- The entries of journals and of the pool stand in order, as those of the lists do.
+-- The entries of journals and of the pool are in order, as those of the lists do.
 use Rattle.std.proofs.Common.{◌≡◌, ℕ, zero, suc, ◌<◌, List, [], ◌∷◌, map, slice_get, Some, refl, sym, ◌∙◌, ap}
 use Rattle.std.specs.Prelude.{Contains}
 use Rattle.pa_record.specs.declared.root.RootEntry.{RootEntry}

@@ -1,4 +1,4 @@
--- A record's stretch in its thread's log, and logs up to a phase.
+-- A record's log segment in its thread's log, and logs up to a phase.
 use Rattle.std.proofs.Common.{◌≡◌, ℕ, zero, suc, ◌<◌, ◌≤◌, Bool, true, List, [], ◌∷◌, ◌++◌, refl, sym, ◌∙◌, ap, subst, arith, inl, inr, filter, flat_map}
 use Rattle.std.specs.Prelude.{Contains}
 use Rattle.std.specs.List.{sum_by}
@@ -46,7 +46,7 @@ log_append k xs ys =
 log_first : (k : ℕ) (x : ToldRecord) (ts : List ToldRecord) → is_of_thread k x ≡ true → log_of k (x ∷ ts) ≡ x.stretch ++ log_of k ts
 log_first k x ts mine = rw mine refl
 
--- a record's stretch stands in its thread's log
+-- a record's log segment is in its thread's log
 pub stretch_at : (k : ℕ) (ts : List ToldRecord) (x : ToldRecord) → Contains ts x → x.played.thread ≡ k → (before later : List Entry) × (log_of k ts ≡ before ++ (x.stretch ++ later))
 stretch_at k ts x among mine =
     let (front, rest, parts) = parts_at ts x among in (

@@ -71,7 +71,7 @@ freed_by ts s word y among frees =
     (map_in (λ (x : ToldRecord). x.played) ts y among, done.seen, op.0, op.1, done.answer, done.slot ∙ frees.slot, ap number_of (done.found ∙ frees.found))
 
 module _ (sizes : SlotName → ℕ) (v : View) (ts : List ToldRecord) (off : IsReadOff sizes v ts) where
-  -- the records of a phase's end are told
+  -- the log segments of the records up to a phase's end are right
   told_until_told : (n : ℕ) → AreTold sizes (told_until n ts)
   told_until_told n x among = off.told x (filter_cases (is_until n) ts x among).0
 
@@ -164,7 +164,7 @@ module _ (sizes : SlotName → ℕ) (v : View) (ts : List ToldRecord) (off : IsR
         ],
       )
 
-  -- where a read gave poison, the next free is another thread's, in the same phase
+  -- if a read gave poison, the next free is another thread's, in the same phase
   poisoned : (x : ToldRecord) (seen : Seen) (w : View) (stake : Stake) → (knows : KnowsAll w (told_until x.played.phase ts)) → Contains ts x → stake.number ≡ x.played.thread →
       mark_of x.played ≡ Some (mark_at x.played.line seen None) →
       IsFreedElsewhere (logged_of_by w) (knows.all.history (title_of sizes seen.slot)) (title_of sizes seen.slot) stake.number (number_of seen.found.0) →

@@ -43,7 +43,7 @@ use Rattle.pa_lists.proofs.Elements.{all_from_members}
 abbrev numbers : List Made → List (List ℕ)
 numbers ms = map (λ (m : Made). m.numbers) ms
 
--- where a list's images begin with another's, so does the list
+-- if a list's images begin with another's, so does the list
 begin_map : {A B : Type 0} (f : A → B) (xs ys : List A) (zs : List B) → ((x y : A) → f x ≡ f y → x ≡ y) → map f xs ≡ map f ys ++ zs → (ws : List A) × (xs ≡ ys ++ ws)
 begin_map f xs [] zs one e = (xs, refl)
 begin_map f [] (y ∷ ys) zs one e = absurd cc
@@ -218,7 +218,7 @@ cached partitions threads roots xs p tally h =
     let (after, rows, same) = leads partitions roots no_caches xs h.all h.each in
     (after, rows, h.slots ∙ sym (same_slots after h.all p threads same), h.bytes ∙ sym (same_bytes after h.all p threads same))
 
--- lines differ where they rise
+-- lines differ if they rise
 pub lines_differ : (ts : List ToldRecord) → AreRising ts → AllPairs (λ (x y : Played). x.line ≢ y.line) (played_in ts)
 lines_differ [] h = pairs_none (λ (x y : Played). x.line ≢ y.line)
 lines_differ (t ∷ ts) h =

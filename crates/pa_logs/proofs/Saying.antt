@@ -1,4 +1,4 @@
--- What the layers say of lists, logs, exchanges and what was seen gives what the laws ask of them.
+-- What the layers say of lists, logs, exchanges and what was seen gives what the laws require of them.
 use Rattle.std.proofs.Common.{◌≡◌, ◌≢◌, ℕ, ◌<◌, ◌≤◌, List, [], ◌∷◌, ◌++◌, map, sym, ◌∙◌, ap, subst, arith, inl, inr}
 use Rattle.std.specs.Prelude.{Contains, AllPairs}
 use Rattle.std.proofs.lemmas.List.Elements.{Contains-append_left, Contains-append_right}
@@ -30,7 +30,7 @@ use Rattle.pa_logs.proofs.Listing.{lines_have_theirs}
 use Rattle.pa_logs.proofs.Seating.{seats_know}
 use Rattle.pa_logs.proofs.Swapping.{Apart, apart, swaps_follow}
 
--- exchanges whose entries are on different lines
+-- exchanges with entries on different lines
 swaps_apart : (ss : List SwapMade) → AllPairs Apart (map (λ (s : SwapMade). s.made) ss) → AllPairs (λ (a b : SwapMade). line_of a.made ≢ line_of b.made) ss
 swaps_apart [] h = pairs_none (λ (a b : SwapMade). line_of a.made ≢ line_of b.made)
 swaps_apart (s ∷ ss) h =

@@ -1,4 +1,4 @@
--- Sums over the stretches of records, and the entries that count in them.
+-- Sums over the log segments of records, and the entries that count in them.
 use Rattle.std.proofs.Common.{◌≡◌, ℕ, ◌<◌, ◌≤◌, List, [], ◌∷◌, refl, sym, ◌∙◌, ap, arith, inl, inr}
 use Rattle.std.specs.Prelude.{Contains}
 use Rattle.std.specs.List.{sum_by}
@@ -57,14 +57,14 @@ module _ {A : Type 0} where
         ]
       ]
 
--- an entry of a record's stretch is weighed
+-- an entry of a record's log segment is weighed
 pub told_in : (ts : List ToldRecord) (x : ToldRecord) (e : Entry) (weight : Entry → ℕ) → Contains ts x → Contains x.stretch e → weight e ≤ told_of ts weight
 told_in ts x e weight among there =
     let a = sum_in weight x.stretch e there in
     let b = sum_in (λ (y : ToldRecord). sum_by weight y.stretch) ts x among in
     omega arith
 
--- and what weighs is an entry of a record's stretch
+-- and what weighs is an entry of a record's log segment
 pub told_some : (ts : List ToldRecord) (weight : Entry → ℕ) → 0 < told_of ts weight → (x : ToldRecord) × (e : Entry) × Contains ts x × Contains x.stretch e × (0 < weight e)
 told_some ts weight h =
     let (x, among, more) = sum_some (λ (y : ToldRecord). sum_by weight y.stretch) ts h in

@@ -26,7 +26,7 @@ use Rattle.pa_lists.proofs.Indexed.{in_at, at_map}
 abbrev pub Apart : Made → Made → Type 0
 Apart m n = line_of m ≢ line_of n
 
--- an entry at a place of a list whose lines differ is the first of its line
+-- an entry at a place of a list in which lines differ is the first of its line
 place_at : (list : List Made) (i : ℕ) (m : Made) → AllPairs Apart list → slice_get list i ≡ Some m → place_of list (line_of m) ≡ i
 place_at [] i m apart at_i = absurd cc
 place_at (n ∷ ns) zero m apart at_i =
@@ -81,7 +81,7 @@ one_place k (s ∷ ss) j e at_j = elim (cases_Bool (is_of_cell k s)) [
   | inr n ↦ later_place s ss e (one_place k ss j e (rw n at at_j))
 ]
 
--- two of them stand as they do in the cell
+-- two of them are in the same order as in the cell
 pub record StandTwo (swaps : List SwapMade) (e f : CellEntry) : Type 0 where
   pub first : ℕ
   pub second : ℕ
@@ -207,7 +207,7 @@ module _ (list : List Made) (cells : ℕ → List CellEntry) (swaps : List SwapM
       let d : place_of list y.line ≡ j = ap (place_of list) (sym b) ∙ place_at list j n apart at_j in
       omega arith
 
-  -- records on one line don't stand before each other
+  -- records on one line aren't before each other
   not_before : (x y : ToldRecord) → Contains ts x → Contains ts y → x.played.line ≡ y.played.line → StandsBefore x.played y.played → ⊥
   not_before x y first second same (inl (thread, less)) = absurd (omega arith)
   not_before x y first second same (inr late) =

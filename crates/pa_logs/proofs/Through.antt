@@ -134,7 +134,7 @@ module _ (sizes : SlotName → ℕ) (facts : Facts) where
 value_is : (a b : Seen) (v w : ℕ) → answers.Value a v ≡ answers.Value b w → a ≡ b
 value_is a b v w e = cc
 
--- the read of a stretch through an Own is an owner's
+-- the read of a log segment through an Own is an owner's
 owned_read : (sizes : SlotName → ℕ) (s : SlotName) (seen : Seen) (place value : ℕ) (owned : Bool) (x : ToldRecord) (r : Reg) → IsReadThrough sizes r x → r ≡ Own s →
     IsReadTold (title_of sizes seen.slot) place seen.found.0 value owned x.stretch → IsReadTold (title_of sizes seen.slot) place seen.found.0 value true x.stretch
 owned_read sizes s seen place value owned x r reads own told =

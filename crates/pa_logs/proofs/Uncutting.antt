@@ -1,4 +1,4 @@
--- After a direct map went back it doesn't stand, so a title that stands wasn't made raw again.
+-- After a direct map went back it doesn't stand, so a title that stands wasn't uncut.
 use Rattle.std.proofs.Common.{◌≡◌, ℕ, ◌+◌, ◌<◌, ◌≤◌, List, [], ◌∷◌, slice_get, Some, sym, ◌∙◌, ap, subst, arith, inl, inr}
 use Rattle.std.specs.Prelude.{Contains}
 use Rattle.std.proofs.lemmas.Bool.{cases_lt}

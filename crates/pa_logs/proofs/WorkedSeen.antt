@@ -137,7 +137,7 @@ SawSteps x = (t : Title) (step : Step) (found value : ℕ) → Contains x.stretc
 abbrev SawLooks : ToldRecord → Type 0
 SawLooks x = (t : Title) (found : ℕ) → Contains x.stretch (Looked t found) → (x.saw t ≤ number_of found) × (number_of found ≤ x.gives t)
 
--- the second record comes after the first, or doesn't stand behind it
+-- if the second record comes after the first, it has seen what the first hands on
 abbrev Handed : Title → ToldRecord → ToldRecord → Type 0
 Handed t x y = StandsBefore x.played y.played → x.gives t ≤ y.saw t
 

@@ -17,8 +17,8 @@ use Rattle.pa_logs.specs.Told.{ToldRecord, played_in, AreLogs}
 use Rattle.pa_logs.specs.Touches.{AreTold}
 use Rattle.pa_logs.specs.Reads.{KnowsAll}
 
--- The words end with a title's history: its count word is the last word; where it is quarantined its content is poison, and
--- where it is live, what the history says.
+-- The words end with a title's history: its count word is the last word; if it is quarantined its content is poison, and
+-- if it is live, what the history says.
 pub record EndsWith (words : List ℕ) (t : Title) (history : List Done) : Type 0 where
   pub word : count_word words t ≡ reached history
   pub quarantined : IsQuarantined (count_word words t) → HasContentFrom words t 0 poison
@@ -36,10 +36,10 @@ HeldFollows =
     (sizes : SlotName → ℕ) (words : List ℕ) (t : Trace) (r : Told) (v : View) (ts : List ToldRecord) → played_in ts ≡ records_of t r →
     AreTold sizes ts → (knows : KnowsAll v ts) → AreEnds sizes words r knows.all.history → IsHeldIn t r words
 
--- What the closing seat is asked besides what the close tells it.
+-- What the closing seat must satisfy besides what the close ensures for it.
 --   long: a title that was made and stands has the length of its slot
---   cut: no log says of it that it was made raw again
---   kept: where no log names it, the seat holds it
+--   cut: no log says of it that it was uncut
+--   kept: if no log names it, the seat holds it
 --   clean: each Own of the seat is clean
 pub record IsClosing (sizes : SlotName → ℕ) (r : Told) (v : View) : Type 0 where
   pub long : (p : ℕ) (title : Title) → IsStanding r.pools (r.roots p) title → sizes (name_of title) ≡ title.len
@@ -47,7 +47,7 @@ pub record IsClosing (sizes : SlotName → ℕ) (r : Told) (v : View) : Type 0 w
   pub kept : (p : ℕ) (title : Title) → IsStanding r.pools (r.roots p) title → logged_of v (names title) ≡ 0 → HasTitle v title
   pub clean : unclean_of v ≡ 0
 
--- Then the words end with each standing title's history; and where the logs are those of a run's records, they hold the run.
+-- Then the words end with each standing title's history; and if the logs are those of a run's records, they hold the run.
 pub record ClosesHolding : Type 0 where
   pub ends : (sizes : SlotName → ℕ) (words : List ℕ) (r : Told) (v : View) → (end : IsEnd words v) → IsClosing sizes r v →
       AreEnds sizes words r end.logs.history

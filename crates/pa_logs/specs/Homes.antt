@@ -15,7 +15,7 @@ use Rattle.pa_legal.specs.Known.{FindsInUse}
 use Rattle.pa_legal.specs.Tallies.{AreHomes}
 use Rattle.pa_logs.specs.Lengths.{titles_by, lengths_by}
 
--- the last of the first partitions whose journal makes a title of that name, 0 where none does
+-- the last of the first partitions with a journal that makes a title of that name, 0 if none does
 abbrev pub homes_by : ℕ → List PoolEntry → Journals → SlotName → ℕ
 homes_by zero pools roots s = 0
 homes_by (suc n) pools roots s =

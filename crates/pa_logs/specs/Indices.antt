@@ -16,8 +16,8 @@ use Rattle.pa_logs.specs.Told.{ToldRecord}
 use Rattle.pa_logs.specs.Listed.{line_of, IsListOf, AreRising, IsJournalOf, IsPoolList}
 use Rattle.pa_logs.specs.Swaps.{SwapMade, is_of_cell, AreSwaps}
 
--- The entry m stands in the list with so many before it. A call says it of the entry that it made: the list that its seat has
--- seen then ends with the entry, its answer is how many stand before it, and that list is a beginning of what the list became.
+-- The entry m is in the list with this many before it. A call says it of the entry that it made: the list that its seat has
+-- seen then ends with the entry, its answer is how many are before it, and that list is a beginning of what the list became.
 pub record StandsAt (list : List Made) (m : Made) (index : ℕ) : Type 0 where
   pub older : List Made
   pub rest : List Made
@@ -44,7 +44,7 @@ pub record IsSwapAt (swaps : List SwapMade) (x : ToldRecord) (k : ℕ) : Type 0 
   pub line : line_of swap.made ≡ x.played.line
   pub answer : x.played.answer ≡ Swapped (length (filter (is_of_cell k) older))
 
--- what a record entered, as its stretch says in numbers: in each journal these entries, and in the pool's list these
+-- what a record entered, as its log segment says in numbers: in each journal these entries, and in the pool's list these
 pub record Enters (x : ToldRecord) : Type 0 where
   pub roots : ℕ → List RootEntry
   pub pools : List PoolEntry
@@ -64,8 +64,8 @@ pub record AskedNone (x : ToldRecord) (it : Enters x) : Type 0 where
   pub pools : it.pools ≡ []
   pub roots : (p : ℕ) → filter asks (it.roots p) ≡ []
 
--- It asked once: it made one entry of the pool, of partition p, and of its journal entries one names one: it is in p's journal,
--- and names the pool's by the index at which it stands.
+-- It asked once: it made one entry of the pool, of partition p, and one of its journal entries names one: it is in p's journal,
+-- and names the pool's by its index.
 pub record AskedOnce (list : List Made) (x : ToldRecord) (it : Enters x) : Type 0 where
   pub made : Made
   pub pool : PoolEntry
@@ -93,7 +93,7 @@ pub record AreLists (lists : ℕ → List Made) (pools : List PoolEntry) (roots 
   pub pool : IsPoolList (lists 4) pools
 
 -- Then indices are those of a legal run.
---   swapped: an exchange's answer is where it stands in its cell's history
+--   swapped: an exchange's answer is where it is in its cell's history
 --   full: a record that is full names a Full of its line
 --   named: each entry of the pool is named by a journal entry, which is of its partition and line; once: and by no other
 pub record IndicesFollow : Type 0 where

@@ -29,7 +29,7 @@ maps_by (Give slots) = []
 maps_by (Unmap asked slot) = []
 maps_by Purge = []
 
--- the titles that a journal makes, and those that the journals of so many partitions make
+-- the titles that a journal makes, and those that the journals of this many partitions make
 abbrev pub titles_by : List PoolEntry → List RootEntry → List Title
 titles_by pools journal =
     flat_map slots_cut (root_replayed pools journal new_root).spans ++ flat_map (λ (e : RootEntry). maps_by e.act) journal
@@ -38,18 +38,18 @@ abbrev pub titles_of : List PoolEntry → Journals → ℕ → List Title
 titles_of pools roots zero = []
 titles_of pools roots (suc n) = titles_by pools (roots n) ++ titles_of pools roots n
 
--- the length of the first title of that name, 0 where there is none
+-- the length of the first title of that name, 0 if there is none
 abbrev pub length_among : List Title → SlotName → ℕ
 length_among [] s = 0
 length_among (t ∷ ts) s = if same_slot (name_of t) s then t.len else length_among ts s
 
--- the length of each slot, as the journals tell it
+-- the length of each slot, as the journals say it
 abbrev pub lengths_by : ℕ → List PoolEntry → Journals → SlotName → ℕ
 lengths_by partitions pools roots s = length_among (titles_of pools roots partitions) s
 
 -- Then each slot has the length that its journal gives.
 --   made: a title that was made has that of its slot
---   stands: so has one that stands, as the closing seat is asked
+--   stands: so has one that stands, as the closing seat must satisfy
 --   named: and a slot has the length of its class or of its direct map
 pub record LengthsFollow : Type 0 where
   pub made : (supers partitions p : ℕ) (ps : List Played) (pools : List PoolEntry) (roots : Journals) (t : Title) →

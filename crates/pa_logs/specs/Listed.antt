@@ -31,7 +31,7 @@ pub record IsListOf (q : ℕ) (list : List Made) (ts : List ToldRecord) : Type 0
   pub made : (k : ℕ) → made_with k list ≡ entered_in q (log_of k ts)
   pub lines : (x : ToldRecord) (m : Made) → Contains ts x → Contains (entered_in q x.stretch) m → line_of m ≡ x.played.line
 
--- the records stand in the order of their lines
+-- the records are in the order of their lines
 abbrev pub AreRising : List ToldRecord → Type 0
 AreRising ts = AllPairs (λ (x y : ToldRecord). x.played.line < y.played.line) ts
 
@@ -48,7 +48,7 @@ HasCuts q list ts =
     (x : ToldRecord) → Contains ts x →
     (older rest : List Made) × (list ≡ older ++ rest) × IsListOf q older (told_until x.played.phase ts)
 
--- Then the entries of a thread stand in the order of its lines, and those of a phase before those of a later one.
+-- Then the entries of a thread are in the order of its lines, and those of a phase before those of a later one.
 abbrev pub EntriesInOrder : Type 0
 EntriesInOrder =
     (q : ℕ) (list : List Made) (ts : List ToldRecord) (x y : ToldRecord) (i j : ℕ) (m n : Made) → IsListOf q list ts → HasCuts q list ts →
@@ -63,7 +63,7 @@ IsJournalOf list journal = map (λ (m : Made). m.numbers) list ≡ map root_numb
 abbrev pub IsPoolList : List Made → List PoolEntry → Type 0
 IsPoolList list pools = map (λ (m : Made). m.numbers) list ≡ map pool_numbers pools
 
--- Then the entries of journals and of the pool stand in the order of their threads' lines and of the phases.
+-- Then the entries of journals and of the pool are in the order of their threads' lines and of the phases.
 pub record OrdersFollow : Type 0 where
   pub journal : (p : ℕ) (list : List Made) (journal : List RootEntry) (ts : List ToldRecord) (x y : ToldRecord) (i j : ℕ)
       (e f : RootEntry) → IsListOf p list ts → HasCuts p list ts → AreRising ts → IsJournalOf list journal → Contains ts x → Contains ts y →

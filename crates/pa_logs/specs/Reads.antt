@@ -27,7 +27,7 @@ pub record KnowsAll (v : View) (ts : List ToldRecord) : Type 0 where
 abbrev pub HaveEnds : List ToldRecord → Type 0
 HaveEnds ts = (x : ToldRecord) → Contains ts x → (v : View) × KnowsAll v (told_until x.played.phase ts)
 
--- What is known of a run's stretches: each is what its answer asks for; at the end and at the end of each phase a view knows
+-- What is known of a run's log segments: each is what its answer asks for; at the end and at the end of each phase a view knows
 -- all logs; and no record of a later phase found a lower number of a slot than one of an earlier phase left there.
 pub record IsReadOff (sizes : SlotName → ℕ) (v : View) (ts : List ToldRecord) : Type 0 where
   pub told : AreTold sizes ts
@@ -39,7 +39,7 @@ pub record IsReadOff (sizes : SlotName → ℕ) (v : View) (ts : List ToldRecord
 abbrev pub MayBePoison : List Played → Played → SlotName → ℕ → Type 0
 MayBePoison ps x s k = (y : Played) × IsNextFree ps s k y × (y.thread ≢ x.thread) × (y.phase ≡ x.phase)
 
--- What a read of a slot that the allocator holds gave: its content; or poison, where its seat had no Own of the slot and
+-- What a read of a slot that the allocator holds gave: its content; or poison, if its seat had no Own of the slot and
 -- that may be.
 abbrev pub GaveRight : List Played → Played → Seen → ℕ → Bool → Type 0
 GaveRight ps x seen value owned =

@@ -45,12 +45,12 @@ pub record TakenAt (p phase : ℕ) (lists : ℕ → List Made) (ts : List ToldRe
   pub replays : IsJournal pool journal
   pub taken : c ≡ census (root_replayed pool journal new_root)
 
--- what the slots weigh together whose steps pass, as the first threads count those of their own records
+-- the total weight of the slots with a step that passes, as the first threads count those of their own records
 abbrev pub counted_by : (Step → ℕ → Bool) → (SlotName → ℕ) → List Played → ℕ → ℕ
 counted_by test weight xs zero = 0
 counted_by test weight xs (suc k) = weight_of test weight (marks_of (records_by k xs)) + counted_by test weight xs k
 
--- the tally is what went in less what went out, by the threads' counts
+-- the tally is what went in minus what went out, by the threads' counts
 pub record IsLeftBy (into out : Step → ℕ → Bool) (home size : SlotName → ℕ) (p threads : ℕ) (xs : List Played) (tally : Tally) :
     Type 0 where
   pub slots : tally.slots ≡ counted_by into (one_of home p) xs threads - counted_by out (one_of home p) xs threads
@@ -79,8 +79,8 @@ pub record IsLineTold (partitions threads : ℕ) (home size : SlotName → ℕ) 
   pub cached : AreListed partitions threads roots (until l.phase (played_in ts)) l.partition l.cached
   pub root : TakenAt l.partition l.phase lists ts (census_of l)
 
--- What is known of the run: its lists, journals, pool and slots; that records stand in phases; whose slot each is; and that no
--- thread has a number that isn't below so many.
+-- What is known of the run: its lists, journals, pool and slots; that records are in phases; the partition and length of each
+-- slot; and that each thread's number is below `threads`.
 pub record AreReported (supers partitions threads : ℕ) (home size : SlotName → ℕ) (lists : ℕ → List Made) (pools : List PoolEntry)
     (roots : Journals) (ts : List ToldRecord) : Type 0 where
   pub lists_are : AreLists lists pools roots ts

@@ -28,7 +28,7 @@ HasCacheRows partitions roots cache [] = Unit {0}
 HasCacheRows partitions roots cache (x ∷ xs) =
     (next : Cache) × CacheRow partitions roots x x.answer cache next × HasCacheRows partitions roots next xs
 
--- Where it is so of each thread, it is so of the run.
+-- If it is so of each thread, it is so of the run.
 pub record ThreadsMerge : Type 0 where
   pub registers : (facts : Facts) (all : AllRegs) (ps : List Played) → ((k : ℕ) → HasRows facts (all k) (records_by k ps)) →
       (after : AllRegs) × RowsTo facts all ps after

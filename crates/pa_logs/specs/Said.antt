@@ -63,7 +63,7 @@ use Rattle.pa_logs.specs.Reported.{IsLeftBy, CacheLeadsTo}
 use Rattle.pa_logs.specs.Standing.{OnlyUnmapsUncut}
 use Rattle.pa_logs.specs.Whole.{IsPlayedOut}
 
--- the length and the partition of each slot, as the journals of the run tell them
+-- the length and the partition of each slot, as the journals of the run say them
 abbrev pub sizes_in : Trace → Told → SlotName → ℕ
 sizes_in t r = lengths_by t.partitions r.pools r.roots
 
@@ -84,8 +84,8 @@ pub record EndsPhase (n : ℕ) (v last : View) (ts : List ToldRecord) : Type 0 w
   pub has : HasLogs v (told_until n ts)
   pub begins : (q : ℕ) → q < 6 → IsBeginning (list_of q v) (list_of q last)
 
--- What the runner says, where `seats` are those at the phases' ends.
---   limits, due, records: the trace is within its limits; the records are its lines, each with its stretch
+-- What the runner ensures; `seats` are those at the phases' ends.
+--   limits, due, records: the trace is within its limits; the records are its lines, each with its log segment
 --   has, ends: the seat at the end, and those at each phase's end, have every stake
 --   heard: the seat at the end has seen what each record hands on
 --   phases: and a record's seat has seen what those of the phases before hand on
@@ -129,10 +129,10 @@ pub record RootsTell (t : Trace) (r : Told) (v : View) (ts : List ToldRecord) : 
   pub numbers : AreNumbered r.roots
   pub unmaps : (x : ToldRecord) → Contains ts x → UnmapsNext r.roots x.played
 
--- What the cells' type keeps, and their calls say.
---   swaps_are, chain: the list's entries are the exchanges, each of which found what the one before gave
+-- What the cells' type keeps, and their calls ensure.
+--   swaps_are, chain: the list's entries are the exchanges, and each of these found what the one before gave
 --   one_each, only: a record entered at most one, and it was an exchange
---   answers: an exchange answers where it stands among those of its cell
+--   answers: an exchange answers where it is among those of its cell
 --   gives: and hands on what its entry carries
 pub record CellsTell (r : Told) (v : View) (ts : List ToldRecord) (swaps : List SwapMade) : Type 0 where
   pub swaps_are : AreSwaps (list_of 5 v) r.cells swaps
@@ -153,7 +153,7 @@ HoldsHandle (Ref u) s = u ≡ s
 HoldsHandle Freed s = ⊥
 HoldsHandle Cleared s = ⊥
 
--- A read through this register: where that has a handle, the seat had seen the issue of its slot; and where it has an Own, the
+-- A read through this register: if that has a handle, the seat had seen the issue of its slot; and if it has an Own, the
 -- log says that the read was an owner's.
 pub record IsReadThrough (sizes : SlotName → ℕ) (reg : Reg) (x : ToldRecord) : Type 0 where
   pub issued : (s : SlotName) → HoldsHandle reg s → 1 ≤ x.saw (title_of sizes s)
@@ -185,8 +185,8 @@ pub record HaveSeen (ts : List ToldRecord) : Type 0 where
   pub thread : (x y : ToldRecord) (t : Title) → Contains ts x → Contains ts y → x.played.thread ≡ y.played.thread →
       x.played.line < y.played.line → x.gives t ≤ y.saw t
 
--- What the ops of workers say of their own seats, where `lists` are those of all threads at the phases' ends.
---   told, lines: each stretch is what its answer asks for, and entered only what is of its line
+-- What the ops of workers ensure for their own seats; `lists` are those of all threads at the phases' ends.
+--   told, lines: each log segment is what its answer requires, and entered only what is of its line
 --   rows: the rows of each thread's registers; seen: what its seat had seen
 --   caches: and the lists to which its rows lead at each phase's end
 pub record HeapTells (t : Trace) (r : Told) (ts : List ToldRecord) (lists : ℕ → Caches) : Type 0 where
@@ -211,8 +211,8 @@ pub record IsCensusBy (list pool_list : List Made) (c : Census) : Type 0 where
   pub replays : IsJournal pool journal
   pub taken : c ≡ census (root_replayed pool journal new_root)
 
--- A line of the report is what the workers' counts of steps, their lists and the root's census say at the end of its phase, where
--- these are the lists and this is the seat.
+-- A line of the report is what the workers' counts of steps, their lists and the root's census say at the end of its phase, with
+-- these lists and this seat.
 pub record IsLineSaid (t : Trace) (r : Told) (v : View) (ts : List ToldRecord) (all : Caches) (seat : View) (l : ReportLine) : Type 0 where
   pub live : IsLeftBy issues frees (homes_in t r) (sizes_in t r) l.partition t.threads (until l.phase (played_in ts)) l.live
   pub quarantined :
@@ -235,8 +235,8 @@ pub record LayersSay (t : Trace) (r : Told) (v : View) (ts : List ToldRecord) : 
   pub heap : HeapTells t r ts lists
   pub report : (l : ReportLine) → Contains r.report l → IsLineSaid t r v ts (lists l.phase) (seats l.phase) l
 
--- What they say besides of the seat that closes the region, where these are the threads' lists at the end.
---   unmaps: a title that a stretch says was made raw again goes back by an entry of the same record
+-- What they ensure besides for the seat that closes the region, with these as the threads' lists at the end.
+--   unmaps: a title that a log segment says was uncut goes back by an entry of the same record
 --   rooted: a slot that was made and is with its root is free in the seat: the root's seat held it
 --   listed: so is the title of a slot on a thread's list
 --   clean: each Own of the seat is clean
@@ -248,7 +248,7 @@ pub record CloseSays (t : Trace) (r : Told) (v : View) (ts : List ToldRecord) (a
       0 < free_of v (title_of (sizes_in t r) m.slot)
   pub clean : unclean_of v ≡ 0
 
--- Then all that is known of a run of which it is asked is known; it is legal; and where the close tells its seat what the words
+-- Then all that must be known of the run is known; it is legal; and if the close ensures for its seat what the words
 -- are, they hold it.
 pub record LayersTellAll : Type 0 where
   pub played : (t : Trace) (r : Told) (v : View) (ts : List ToldRecord) → LayersSay t r v ts →

@@ -14,7 +14,7 @@ use Rattle.pa_rules.specs.Contents.{IsContent}
 use Rattle.pa_logs.specs.Told.{ToldRecord, played_in, AreLogs}
 use Rattle.pa_logs.specs.Touches.{title_of, StepMade, step_by, AreTold}
 
--- a step stands in the history at the number that it found, and found the history's word there
+-- a step is in the history at the number that it found, and found the history's word there
 pub record StandsIn (history : List Done) (d : StepMade) : Type 0 where
   pub below : number_of d.found < length history
   pub word : word_at_number (number_of d.found) history ≡ d.found
@@ -22,7 +22,7 @@ pub record StandsIn (history : List Done) (d : StepMade) : Type 0 where
 
 -- The history is that of slot s by these records.
 --   legal: each of its steps was enabled
---   stand: each step that a record made of the slot stands in it
+--   stand: each step that a record made of the slot is in it
 --   made: a record made each of its steps, and found its word
 --   one: no two did so at one number
 --   looks: each word that a record found is one of the history
@@ -35,7 +35,7 @@ pub record AreSteps (ps : List Played) (s : SlotName) (history : List Done) : Ty
       → d.slot ≡ s → e.slot ≡ s → number_of d.found ≡ number_of e.found → x ≡ y
   pub looks : (x : Played) (m : Mark) → Contains ps x → mark_of x ≡ Some m → m.slot ≡ s → IsWordIn m.found history
 
--- Where a view's logs are those of the records, each title's history is that of its slot.
+-- If a view's logs are those of the records, each title's history is that of its slot.
 abbrev pub HistoriesFollow : Type 0
 HistoriesFollow =
     (sizes : SlotName → ℕ) (v : View) (ts : List ToldRecord) (history : Title → List Done) → AreLogs v ts → AreTold sizes ts →

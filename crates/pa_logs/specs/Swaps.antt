@@ -31,13 +31,13 @@ pub record AreSwaps (list : List Made) (cells : ℕ → List CellEntry) (swaps :
   pub lines : (e : SwapMade) → Contains swaps e → line_of e.made ≡ e.entry.line
   pub cells_are : (k : ℕ) → cells k ≡ map (λ (e : SwapMade). e.entry) (filter (is_of_cell k) swaps)
 
--- where the first entry of a line stands in a list
+-- where the first entry of a line is in a list
 abbrev pub place_of : List Made → ℕ → ℕ
 place_of [] line = 0
 place_of (m ∷ ms) line = if line_of m == line then 0 else 1 + place_of ms line
 
 -- What is known of the cells' list.
---   is, cuts, rising: it is that of these records, at each phase's end and at the end, which stand in the order of their lines
+--   is, cuts, rising: it is that of these records, at each phase's end and at the end, which are in the order of their lines
 --   swaps_are: its entries are the exchanges
 --   one_each, has: a record entered at most one, and an exchange did
 --   rises, gives: what makers had seen rises along it, and it is what an exchange hands on
@@ -68,7 +68,7 @@ pub record SwapsFollow : Type 0 where
 -- What the cells' type and their calls say besides.
 --   chain: in each cell an exchange finds what the one before gave
 --   made: an exchange is a record's, which names its cell
---   answers: a record's answer is where its exchange stands in the cell's history
+--   answers: a record's answer is where its exchange is in the cell's history
 pub record AreAnswered (cells : ℕ → List CellEntry) (swaps : List SwapMade) (ts : List ToldRecord) : Type 0 where
   pub chain : (k : ℕ) → IsChain Nothing (cells k)
   pub made : (s : SwapMade) → Contains swaps s →

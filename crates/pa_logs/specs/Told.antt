@@ -1,4 +1,4 @@
--- Told records: the records of a run, each with what the log of its thread tells of it.
+-- Annotated records: the records of a run, each with what the log of its thread says of it.
 use Rattle.std.specs.Prelude.{◌≡◌, ℕ, ◌<◌, ◌≤◌, List, ◌==◌, nat_le, map, filter, flat_map, Bool, Contains}
 use Rattle.std.specs.List.{sum_by}
 use Rattle.std.specs.List.{AllByRecursion as Each}
@@ -10,7 +10,7 @@ use Rattle.pa_region.specs.declared.view.View.{View}
 use Rattle.pa_region.specs.Views.{stake_of, logged_of, HasEveryStake}
 use Rattle.pa_rules.specs.declared.played.Played.{Played}
 
--- A record of a run; the stretch of its thread's log that it stands for; the number of each title that its seat had seen
+-- A record of a run; the log segment of its thread's log that belongs to it; the number of each title that its seat had seen
 -- before it; and the number up to which it hands on what was seen: what its seat had seen after it, and for an exchange
 -- what the entry in the cells' list carries.
 pub record ToldRecord : Type 0 where
@@ -19,7 +19,7 @@ pub record ToldRecord : Type 0 where
   pub saw : Title → ℕ
   pub gives : Title → ℕ
 
--- the records without what logs tell of them
+-- the records without what logs say of them
 abbrev pub played_in : List ToldRecord → List Played
 played_in ts = map (λ (x : ToldRecord). x.played) ts
 
@@ -27,11 +27,11 @@ played_in ts = map (λ (x : ToldRecord). x.played) ts
 abbrev pub is_of_thread : ℕ → ToldRecord → Bool
 is_of_thread k x = x.played.thread == k
 
--- the log of thread k: the stretches of its records, in order
+-- the log of thread k: the log segments of its records, in order
 abbrev pub log_of : ℕ → List ToldRecord → List Entry
 log_of k ts = flat_map (λ (x : ToldRecord). x.stretch) (filter (is_of_thread k) ts)
 
--- the entries of all stretches, each with its weight, added up
+-- the entries of all log segments, each with its weight, added up
 abbrev pub told_of : List ToldRecord → (Entry → ℕ) → ℕ
 told_of ts weight = sum_by (λ (x : ToldRecord). sum_by weight x.stretch) ts
 

@@ -1,4 +1,4 @@
--- What the stretch of a log says of the record that it stands for: the steps, the looks and the reads of its op.
+-- What a log segment says of its record: the steps, the looks and the reads of its op.
 use Rattle.std.specs.Prelude.{◌≡◌, ℕ, ◌+◌, ◌<◌, List, [], ◌∷◌, ◌++◌, filter, Bool, true, false, Option, Some, None, Contains}
 use Rattle.pa_machine.specs.declared.title.Title.{Title}
 use Rattle.pa_machine.specs.declared.word.SlotName.{SlotName}
@@ -24,7 +24,7 @@ abbrev pub title_of : (SlotName → ℕ) → SlotName → Title
 title_of sizes s = record { start = s.start; len = sizes s; born = s.born }
 
 -- the entry is a step, a look or a read of a title: no addition to a total, no entry in a list, and no title
--- that is made raw again
+-- that is uncut
 abbrev pub is_touch : Entry → Bool
 is_touch (Counted t step found value) = true
 is_touch (Looked t found) = true
@@ -33,7 +33,7 @@ is_touch (Added word bytes) = false
 is_touch (Entered keeper made) = false
 is_touch (Uncut t) = false
 
--- those of a stretch
+-- those of a log segment
 abbrev pub touches : List Entry → List Entry
 touches es = filter is_touch es
 
@@ -42,7 +42,7 @@ abbrev pub AreLooks : Title → List Entry → Type 0
 AreLooks t [] = Unit {0}
 AreLooks t (e ∷ es) = ((found : ℕ) × (e ≡ Looked t found)) × AreLooks t es
 
--- a step that a record made: of a slot, with the word that it found and the value that it wrote, 0 where it isn't a write
+-- a step that a record made: of a slot, with the word that it found and the value that it wrote, or 0 if it isn't a write
 pub record StepMade : Type 0 where
   pub slot : SlotName
   pub step : Step
@@ -73,7 +73,7 @@ step_in op answer = None
 abbrev pub step_by : Played → Option StepMade
 step_by x = step_in x.op x.answer
 
--- the stretch has this step, after looks that its record doesn't keep, and touches nothing else
+-- the log segment has this step, after looks that its record doesn't keep, and touches nothing else
 abbrev pub IsStepTold : Title → Step → ℕ → ℕ → List Entry → Type 0
 IsStepTold t step found value es = (looks : List Entry) × AreLooks t looks × (touches es ≡ looks ++ Counted t step found value ∷ [])
 
@@ -105,7 +105,7 @@ ReadsTold sizes op seen value es =
     (reg place : ℕ) × (owned : Bool) × (op ≡ ops.Read reg place)
     × IsReadTold (title_of sizes seen.slot) place seen.found.0 value owned es
 
--- What a stretch is, by the op and its answer. A slot that was made has its count word behind the usable bytes.
+-- What a log segment is, by the op and its answer. A slot that was made has its count word after the usable bytes.
 abbrev pub IsToldBy : (SlotName → ℕ) → Op → Answer → List Entry → Type 0
 IsToldBy sizes op (answers.Made seen usable) es =
     IsStepTold (title_of sizes seen.slot) steps.Issue seen.found.0 0 es × (usable + 8 ≡ sizes seen.slot)
@@ -118,16 +118,16 @@ IsToldBy sizes op (answers.StaleUse seen) es = IsSeenTold sizes seen es
 IsToldBy sizes op (answers.Shared seen) es = IsSeenTold sizes (Some seen) es
 IsToldBy sizes op answer es = touches es ≡ []
 
--- each record's stretch is what its answer asks for
+-- each record's log segment is what its answer asks for
 abbrev pub IsTold : (SlotName → ℕ) → ToldRecord → Type 0
 IsTold sizes x = IsToldBy sizes x.played.op x.played.answer x.stretch
 
 abbrev pub AreTold : (SlotName → ℕ) → List ToldRecord → Type 0
 AreTold sizes ts = (x : ToldRecord) → Contains ts x → IsTold sizes x
 
--- Then a stretch tells what its record's mark does.
+-- Then a log segment says what its record's mark does.
 --   has_step: it has the step that the record made
---   has_look: it has the look, where the record's mark is one, and that found a word in use
+--   has_look: it has the look, if the record's mark is one, and that found a word in use
 --   step_is: a counted step that it has is the one that the record made, of the slot's title
 pub record TellsMark (sizes : SlotName → ℕ) (x : ToldRecord) : Type 0 where
   pub has_step : (d : StepMade) → step_by x.played ≡ Some d → Contains x.stretch (Counted (title_of sizes d.slot) d.step d.found d.value)

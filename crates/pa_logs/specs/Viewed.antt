@@ -1,4 +1,4 @@
--- What seats had seen along a run, in which order exchanges stand, and what follows: the clause of what was seen.
+-- What seats had seen along a run, in which order the exchanges come, and what follows: the clause of what was seen.
 use Rattle.std.specs.Prelude.{◌≡◌, ◌≢◌, ℕ, ◌+◌, ◌<◌, ◌≤◌, List, Contains, AllPairs}
 use Rattle.pa_machine.specs.declared.title.Title.{Title}
 use Rattle.pa_machine.specs.declared.word.SlotName.{SlotName}
@@ -21,9 +21,9 @@ IsExchanged x = (cell reg : ℕ) × (x.op ≡ Swap cell reg)
 -- Exchanges have one order: `place` is that of the exchange on a line.
 --   cells_are: the cells are those of the records
 --   lines: each record has a line of its own
---   phases: those of a later phase stand on later lines
+--   phases: those of a later phase are on later lines
 --   handed: the next exchange of a cell comes after the one that gave
---   threads: those of one thread stand in the order of its lines
+--   threads: those of one thread are in the order of its lines
 pub record IsOrdered (cells : ℕ → List CellEntry) (place : ℕ → ℕ) (ps : List Played) : Type 0 where
   pub cells_are : AreCells cells ps
   pub lines : AllPairs (λ (x y : Played). x.line ≢ y.line) ps
@@ -36,7 +36,7 @@ pub record IsOrdered (cells : ℕ → List CellEntry) (place : ℕ → ℕ) (ps 
 --   steps, looks: no step or look found less than its seat had seen, and what it left is handed on
 --   grows: what was seen stays seen
 --   stands: a record's seat has seen what the ones before it hand on, of its thread and of the phases before
---   hands: an exchange hands on what the exchange did that gave
+--   hands: an exchange hands on what the exchange that gave to it did
 pub record AreViewed (cells : ℕ → List CellEntry) (ts : List ToldRecord) : Type 0 where
   pub steps : (x : ToldRecord) (t : Title) (step : Step) (found value : ℕ) → Contains ts x →
       Contains x.stretch (Counted t step found value) → (x.saw t ≤ number_of found) × (number_of found + 1 ≤ x.gives t)

@@ -21,11 +21,11 @@ use Rattle.pa_logs.specs.Touches.{AreTold}
 use Rattle.pa_logs.specs.Reads.{KnowsAll, HaveEnds, HaveReaders}
 use Rattle.pa_logs.specs.Viewed.{IsExchanged, AreViewed}
 
--- A run's records with their stretches, what is known of their logs, and the clauses that other layers give.
---   due, records: the records are the trace's lines, each with a stretch
---   told, last, ends: each stretch is what its answer asks for; at the end and at each phase's end a view knows all logs
---   readers: reads say through which handle they were
---   viewed, handed, threads: what seats had seen, and the order of exchanges, where `place` is that of a line
+-- A run's records with their log segments, what is known of their logs, and the clauses that other layers give.
+--   due, records: the records are the trace's lines, each with a log segment
+--   told, last, ends: each log segment is what its answer requires; at the end and at each phase's end a view knows all logs
+--   readers: reads are known to be through their handles
+--   viewed, handed, threads: what seats had seen, and the order of exchanges; `place` is a line's place in it
 --   cells, registers, pool, roots, caches, report: six clauses of a legal run
 --   numbers, unmaps: a root's numbers, and direct maps that go back
 pub record IsPlayedOut (sizes : SlotName → ℕ) (place : ℕ → ℕ) (t : Trace) (r : Told) (v : View) (ts : List ToldRecord) : Type 0 where
@@ -48,7 +48,7 @@ pub record IsPlayedOut (sizes : SlotName → ℕ) (place : ℕ → ℕ) (t : Tra
   pub numbers : AreNumbered r.roots
   pub unmaps : (x : Played) → Contains (played_in ts) x → UnmapsNext r.roots x
 
--- Then what the run tells is legal.
+-- Then the output of the run is legal.
 abbrev pub LegalIsTold : Type 0
 LegalIsTold =
     (sizes : SlotName → ℕ) (place : ℕ → ℕ) (t : Trace) (r : Told) (v : View) (ts : List ToldRecord) →

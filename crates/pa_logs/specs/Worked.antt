@@ -35,7 +35,7 @@ its_title = record { start = 16384; len = 16; born = 0 }
 abbrev pub at_number : ℕ → Title → ℕ
 at_number n t = if same_title its_title t then n else 0
 
--- a record in phase 1, what its thread's log tells of it, the number that its seat had seen, and the one that it hands on
+-- a record in phase 1, what its thread's log says of it, the number that its seat had seen, and the one that it hands on
 abbrev pub worked : ℕ → ℕ → Op → Answer → List Entry → ℕ → ℕ → ToldRecord
 worked line thread op answer stretch saw gives = record {
   played = record { line = line; thread = thread; phase = 1; op = op; answer = answer };
@@ -62,7 +62,7 @@ the_free = worked 5 0 (ops.Free 0) (answers.Done (slot_with 33554435)) (Counted 
 abbrev pub worked_records : List ToldRecord
 worked_records = the_maker ∷ the_copy ∷ the_reader ∷ the_free ∷ []
 
--- a view with the 16 stakes, whose logs are those of some records
+-- a view with the 16 stakes; their logs are those of some records
 abbrev pub with_log : List ToldRecord → Stake → Stake
 with_log ts s = record { number = s.number; log = log_of s.number ts }
 
@@ -91,6 +91,6 @@ WorkedIsReadOff = IsReadOff sixteen (view_of worked_records) worked_records
 abbrev pub no_cells : ℕ → List CellEntry
 no_cells k = []
 
--- and what their seats had seen is in order, where a line's place is its number
+-- and what their seats had seen is in order, with each line's number as its place
 abbrev pub WorkedIsSeen : Type 0
 WorkedIsSeen = IsOrdered no_cells (λ line. line) (played_in worked_records) × AreViewed no_cells worked_records

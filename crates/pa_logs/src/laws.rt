@@ -23,17 +23,17 @@ pub fn logs_are_told()
     ensures { LogsAreTold }
 {}
 
-/// The law that a stretch of a log has the step or the look that its record tells, and no other step.
+/// A log segment has the step or the look that its record reports, and no other step.
 pub fn tells_its_mark()
     ensures { TellsItsMark }
 {}
 
-/// The law that each title's history is that of its slot's steps, where a view's logs are those of the records.
+/// Each title's history is that of its slot's steps, if a view's logs are those of the records.
 pub fn histories_follow()
     ensures { HistoriesFollow }
 {}
 
-/// The law that each slot has one run, where each has a history by the records.
+/// Each slot has one run, if each has a history by the records.
 pub fn slots_follow()
     ensures { SlotsFollow }
 {}
@@ -43,7 +43,7 @@ pub fn content_follows()
     ensures { ContentFollows }
 {}
 
-/// The law that each read gave its slot's content, or poison: where it was freed, or where its next free was under way.
+/// Each read gave its slot's content, or poison: if it was freed, or if its next free was under way.
 pub fn reads_follow()
     ensures { ReadsFollow }
 {}
@@ -63,7 +63,7 @@ pub fn lines_have_theirs()
     ensures { LinesHaveTheirs }
 {}
 
-/// The law that the entries of a list stand in the order of a thread's lines, and in that of the phases.
+/// The law that the entries of a list are in the order of a thread's lines, and in that of the phases.
 pub fn entries_in_order()
     ensures { EntriesInOrder }
 {}
@@ -73,7 +73,7 @@ pub fn acts_are_theirs()
     ensures { ActsAreTheirs }
 {}
 
-/// The law that a run is legal of whose records, logs and lists all this is known.
+/// A run is legal if all this is known of its records, logs and lists.
 pub fn legal_is_told()
     ensures { LegalIsTold }
 {}
@@ -83,12 +83,12 @@ pub fn worked_is_read_off()
     ensures { WorkedIsReadOff }
 {}
 
-/// The law that the words of a closed region hold a run, where they end with each standing title's history.
+/// The words of a closed region hold a run, if they end with each standing title's history.
 pub fn held_follows()
     ensures { HeldFollows }
 {}
 
-/// The law that the entries of journals and of the pool stand in the order of their threads' lines and of the phases.
+/// The law that the entries of journals and of the pool are in the order of their threads' lines and of the phases.
 pub fn orders_follow()
     ensures { OrdersFollow }
 {}
@@ -98,7 +98,7 @@ pub fn swaps_follow()
     ensures { SwapsFollow }
 {}
 
-/// The law that registers and caches are those of a run, where each thread's are those of its records.
+/// Registers and caches are those of a run, if each thread's are those of its records.
 pub fn threads_merge()
     ensures { ThreadsMerge }
 {}
@@ -123,8 +123,8 @@ pub fn cells_follow()
     ensures { CellsFollow }
 {}
 
-/// The law that the words of a closed region end with each standing title's history, and hold the run, by what the close
-/// tells its seat.
+/// The words of a closed region end with each standing title's history, and hold the run, by what the close ensures
+/// for its seat.
 pub fn closes_holding()
     ensures { ClosesHolding }
 {}
@@ -144,7 +144,7 @@ pub fn report_follows()
     ensures { ReportFollows }
 {}
 
-/// The law that no log says of a title that stands that it was made raw again.
+/// The law that no log says of a title that stands that it was uncut.
 pub fn stands_uncut()
     ensures { StandsUncut }
 {}
@@ -165,7 +165,7 @@ pub fn homes_follow()
     ensures { HomesFollow }
 {}
 
-/// The law that a run is legal, and held by the closed region, of which each layer says what it is asked.
+/// A run is legal, and the closed region holds it, if each layer meets its obligations.
 pub fn layers_tell_all()
     ensures { LayersTellAll }
 {}

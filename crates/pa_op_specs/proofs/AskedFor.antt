@@ -42,8 +42,8 @@ here_at line p acts = elim (at_root line p p acts) [ inl y ↦ y.1 | inr n ↦ a
 pub root_elsewhere : (line p q : ℕ) (acts : List RootAct) → (q ≡ p → ⊥) → root_at line p acts q ≡ []
 root_elsewhere line p q acts other = elim (at_root line p q acts) [ inl y ↦ absurd (other y.0) | inr n ↦ n.1 ]
 
--- The stretch `es` has these acts of the line in partition p's journal, and entries of the pool's list, of which a seat with the
--- view w has seen them at their places.
+-- The log segment `es` has these acts of the line in partition p's journal, and entries of the pool's list, which a seat with the
+-- view w has seen at their places.
 pub record Asks (line p : ℕ) (acts : List RootAct) (es : List Entry) (w : View) : Type 0 where
   pub roots_are : (q : ℕ) → q < 4 → map (λ (m : Made). m.numbers) (entered_in q es) ≡ map root_numbers (root_at line p acts q)
   pub pools : List PoolEntry
@@ -51,7 +51,7 @@ pub record Asks (line p : ℕ) (acts : List RootAct) (es : List Entry) (w : View
   pub asked : (x : ToldRecord) (it : Enters x) → (entered_in 4 x.stretch ≡ entered_in 4 es) → (it.roots ≡ root_at line p acts) → (it.pools ≡ pools) →
       AskedNone x it ⊎ AskedOnce (list_of 4 w) x it
 
--- what a record with that stretch entered
+-- what a record with that log segment entered
 abbrev pub it_asks : (line p : ℕ) (acts : List RootAct) (es : List Entry) (w : View) (x : ToldRecord) → Asks line p acts es w → ((q : ℕ) → entered_in q x.stretch ≡ entered_in q es) → Enters x
 it_asks line p acts es w x are same = record {
   roots = root_at line p acts;

@@ -1,4 +1,4 @@
--- An op whose stretch makes entries in the lists of roots and of the pool does what it should.
+-- An op whose log segment makes entries in the lists of roots and of the pool does what it should.
 use Rattle.std.proofs.Common.{◌≡◌, ℕ, ◌+◌, ◌<◌, ◌≤◌, Bool, true, false, List, [], ◌∷◌, ◌++◌, refl, sym, ◌∙◌, ap, subst, arith, inl, inr, map, ◌⊎◌, append_assoc}
 use Rattle.std.specs.Prelude.{◌==◌, Contains, filter, nat_lt, if◌then◌else◌}
 use Rattle.std.proofs.lemmas.List.{append-nil}
@@ -46,7 +46,7 @@ use Rattle.pa_op_specs.specs.Plays.{DoesOp, AnswersIn}
 use Rattle.pa_op_specs.proofs.Touching.{Touches, Touched}
 use Rattle.pa_op_specs.proofs.Quiet.{quiet_record}
 
--- What stays of a view where no log gets an entry: stakes and logs; it has seen all that it had, and no more of the titles that it
+-- What stays of a view when no log gets an entry: stakes and logs; it has seen all that it had, and no more of the titles that it
 -- holds free, which are no fewer.
 pub record Rests (v w : View) : Type 0 where
   pub stakes : (k : ℕ) → stake_of w k ≡ stake_of v k
@@ -57,7 +57,7 @@ pub record Rests (v w : View) : Type 0 where
   pub numbers : (n : ℕ) (t : Title) → IsWellFormed n t → 0 < free_of v t → seen_of w t ≡ seen_of v t
   pub budget : v.budget ≤ w.budget
 
--- What an entry of such a stretch says: a step or a look finds nothing older than was seen before, and what it leaves is seen
+-- What an entry of such a log segment says: a step or a look finds nothing older than was seen before, and what it leaves is seen
 -- after; an entry of a list, below the cells', is of this line; nothing is added to a total.
 abbrev pub TellsOf : ℕ → View → View → Entry → Type 0
 TellsOf line v w (Counted t step found value) = (seen_of v t ≤ number_of found) × (number_of found + 1 ≤ seen_of w t)
@@ -75,7 +75,7 @@ pub record Entering (stake line : ℕ) (es : List Entry) (v w : View) : Type 0 w
   pub grows : (t : Title) → seen_of v t ≤ seen_of w t
   pub each : (e : Entry) → Contains es e → TellsOf line v w e
 
--- ---- how a stretch comes about
+-- ---- how a log segment comes about
 
 pub if_none : (stake k : ℕ) (log : List Entry) → log ≡ log ++ (if k == stake then [] else [])
 if_none stake k log = go (k == stake)
@@ -141,7 +141,7 @@ one_enters j r p line act v w it low = lends_enters r line (Entered p it.made �
       | inr none ↦ absurd (not_in_none e none)
     ])
 
--- an entry of the pool and then one in a root's list, behind what was done first
+-- an entry of the pool and then one in a root's list, after what was done first
 pub two_enters : (asked j r p line : ℕ) (first : List Entry) (taken : PoolEntry) (act : RootAct) (v w : View)
     (it : EntersTwo asked j r p first taken (root_entry line act) v w) → p < 5 → taken.line ≡ line → ((e : Entry) → Contains first e → TellsOf line v w e) →
     Entering r line (first ++ (Entered 4 it.pool ∷ Entered p it.made ∷ [])) v w
@@ -167,7 +167,7 @@ tells_more line v u w x (Added word bytes) before after is = is
 tells_more line v u w x (Entered keeper made) before after is = is
 tells_more line v u w x (Uncut t) before after is = is
 
--- one stretch, and then another
+-- one log segment, and then another
 pub entering_both : (stake line : ℕ) (es fs : List Entry) (v u w : View) → Entering stake line es v u → Entering stake line fs u w →
     Entering stake line (es ++ fs) v w
 entering_both stake line es fs v u w one two = record {
@@ -185,7 +185,7 @@ entering_both stake line es fs v u w one two = record {
     go log true = append_assoc log es fs
     go log false = append-nil (log ++ [])
 
--- ---- what a stretch entered
+-- ---- what a log segment entered
 
 -- entries of one list are those of that list, and of no other
 pub entered_here : (p : ℕ) (ms : List Made) → entered_in p (map (Entered p) ms) ≡ ms
@@ -204,7 +204,7 @@ entered_elsewhere p q (m ∷ ms) other = go (p == q) refl (entered_elsewhere p q
     go true is again = absurd (other (grind (arith, nat_tests)))
     go false is again = again
 
--- each is an entry of the stretch
+-- each is an entry of the log segment
 pub entered_from : (q : ℕ) (es : List Entry) (m : Made) → Contains (entered_in q es) m → Contains es (Entered q m)
 entered_from q [] m among = absurd (not_in_none m among)
 entered_from q (e ∷ es) m among = elim (Contains-append_cases (entry_in q e) (entered_in q es) m among) [
@@ -266,7 +266,7 @@ line_acts o x it is acts = record {
       ap (λ (es : List RootEntry). acts_in (filter (λ (e : RootEntry). e.line == x.played.line) es)) (is.past p past);
 }
 
--- so they are none where it entered none
+-- so there are none if it entered none
 pub none_here : (o : Outcome) (x : ToldRecord) (it : Enters x) → LineActs o x it → (p : ℕ) → it.roots p ≡ [] → acts_of o.roots x.played.line p ≡ []
 none_here o x it acts p none = go (nat_lt p 4) refl
   where
@@ -274,7 +274,7 @@ none_here o x it acts p none = go (nat_lt p 4) refl
     go true is = acts.here p (grind (arith, nat_tests)) ∙ ap acts_in none
     go false is = acts.past p (grind (arith, nat_tests))
 
--- these alone, where it entered them in one journal and none in another
+-- only these, if it entered them in one journal and none in another
 pub only_acts : (o : Outcome) (x : ToldRecord) (it : Enters x) (p : ℕ) (es : List RootEntry) → LineActs o x it → p < 4 → it.roots p ≡ es →
     ((q : ℕ) → (q ≡ p → ⊥) → it.roots q ≡ []) → OnlyActs o.roots x.played.line p (acts_in es)
 only_acts o x it p es acts low here none = (acts.here p low ∙ ap acts_in here, (λ q other. none_here o x it acts q (none q other)))
@@ -296,14 +296,14 @@ act_on (f ∷ es) line e among is = go (f.line == line) refl (λ later. act_on e
       | inr later ↦ again later
     ]
 
--- where no act of the line unmaps, and where one does at the number that the step left
+-- if no act of the line unmaps, and if one does at the number that the step left
 pub unmaps_next : (roots : Journals) (x : Played) →
     ((p asked : ℕ) (slot : Numbered) → Contains (acts_of roots x.line p) (Unmap asked slot) → (seen : _) → x.answer ≡ answers.Done seen →
     slot.number ≡ number_of seen.found.0 + 1) → UnmapsNext roots x
 unmaps_next roots x says seen p asked slot e done among on act =
     says p asked slot (subst (λ a. Contains (acts_of roots x.line p) a) act (act_on (roots p) x.line e among on)) seen done
 
--- what it entered in a journal its op makes, where that makes each of these
+-- what it entered in a journal its op makes, if that makes each of these
 pub makes_each : (x : ToldRecord) (it : Enters x) (pools : List PoolEntry) →
     ((p : ℕ) (e : RootEntry) → p < 4 → Contains (it.roots p) e → MakesEntry pools p e.act x.played.op) →
     (p : ℕ) (m : Made) (e : RootEntry) → p < 4 → Contains (entered_in p x.stretch) m → m.numbers ≡ root_numbers e → MakesEntry pools p e.act x.played.op
@@ -325,10 +325,10 @@ makes_each x it pools each p m e low among says =
 
 -- ---- the op
 
--- What is left to say of a record whose stretch is as above.
+-- What is left to say of a record whose log segment is as above.
 --   cells: its op is no exchange
 --   it, asked: what it entered in the lists of the roots and the pool; it asked the pool at most once
---   refused, uncuts: a record that is full names its entry; a title that was made raw again is one that it unmaps
+--   refused, uncuts: a record that is full names its entry; a title that was uncut is one that it unmaps
 --   homes: in the journal of a partition past the run's it made no entry, or its seat had seen one there before
 --   answers: in each run in which the acts of its line are these
 pub record SaysEntered (s after : StockValue) (x : ToldRecord) : Type 0 where

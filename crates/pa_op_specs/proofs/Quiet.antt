@@ -42,7 +42,7 @@ entered_none q (Added word bytes ∷ es) v w each = absurd (each (Added word byt
 entered_none q (Entered keeper made ∷ es) v w each = absurd (each (Entered keeper made) (first_in _ es))
 entered_none q (Uncut t ∷ es) v w each = absurd (each (Uncut t) (first_in _ es))
 
--- the lists are as they were, where the numbers of free titles are
+-- the lists are as they were, if the numbers of free titles are
 pub same_titles : (v w : View) (ts : List Title) → ((t : Title) → Contains ts t → seen_of w t ≡ seen_of v t) →
     map (at_number_seen w) ts ≡ map (at_number_seen v) ts
 same_titles v w [] each = refl
@@ -51,7 +51,7 @@ same_titles v w (t ∷ ts) each =
     let here : at_number_seen w t ≡ at_number_seen v t = ap (λ n. record { slot = record { start = t.start; born = t.born }; number = n }) (each t (first_in t ts)) in
     ap (λ m. m ∷ map (at_number_seen w) ts) here ∙ ap (λ ms. at_number_seen v t ∷ ms) again
 
--- A record of a worker's op with such a stretch.
+-- A record of a worker's op with such a log segment.
 abbrev pub quiet_record : StockValue → View → ℕ → ℕ → Op → Answer → List Entry → ToldRecord
 quiet_record s w line phase op answer es = record {
   played = record { line = line; thread = s.thread; phase = phase; op = op; answer = answer };
@@ -78,7 +78,7 @@ no_acts o x is acts none q = go (nat_lt q 4) refl
         let past : o.partitions ≤ q = let few = is.few in let far : 4 ≤ q = grind (arith, nat_tests) in omega arith in
         ap (λ (es : List RootEntry). map (λ (e : RootEntry). e.act) (filter (λ (e : RootEntry). e.line == x.played.line) es)) (is.past q past)
 
--- where no act is of a line, no entry is
+-- if no act is of a line, no entry is
 kept_of_line : (es : List RootEntry) (line : ℕ) (e : RootEntry) → Contains es e → e.line ≡ line →
     map (λ (f : RootEntry). f.act) (filter (λ (f : RootEntry). f.line == line) es) ≡ [] → ⊥
 kept_of_line [] line e among is none = not_in_none e among
@@ -93,7 +93,7 @@ kept_of_line (f ∷ es) line e among is none =
       | inr later ↦ again later empty
     ]
 
--- the op is no exchange, and was not refused for want of room
+-- the op is no exchange, and wasn't refused for lack of room
 pub record IsQuiet (op : Op) (answer : Answer) : Type 0 where
   pub room : (j : ℕ) → answer ≡ answers.Full j → ⊥
   pub cells : (list : List Made) (x : ToldRecord) → entered_in 5 x.stretch ≡ [] → EntersCells op list x
@@ -155,7 +155,7 @@ touched_does s w registers caches op answer es touched quiet says line phase = (
       pools_are = ap (λ (ms : List Made). map (λ m. m.numbers) ms) (none 4);
     }
 
--- the same where the lists are as they were
+-- the same if the lists are as they were
 pub quiet_does : (s : StockValue) (w : View) (registers : List StockRegister) (op : Op) (answer : Answer) (es : List Entry) →
     HoldsLists s.caches s.view → Touched s.thread es s.view w → IsQuiet op answer →
     ((line phase : ℕ) (o : Outcome) → IsOutcome o → IsSeenOf o w → NoActs o.roots line →

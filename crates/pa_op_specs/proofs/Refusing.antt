@@ -106,7 +106,7 @@ plainly op (answers.Full entry) is = absurd is
 plainly op (answers.Swapped entry) is = absurd is
 plainly op (answers.Purged slots) is = absurd is
 
--- the op does what it should, where its row says so, and its register where it reads
+-- the op does what it should, if its row says so, and its register if it reads
 pub plain_does : (s : StockValue) (op : Op) (answer : Answer) → IsStock s → IsNoSwap op → IsPlain answer →
     ((o : Outcome) → IsOutcome o → IsSeenOf o s.view → Row (row_facts o) op (regs_of s.registers) answer (regs_of s.registers)) →
     ((o : Outcome) (line phase : ℕ) → IsOutcome o → IsSeenOf o s.view → ReadsIts o.sizes (regs_of s.registers) op (quiet_record s s.view line phase op answer [])) →

@@ -21,7 +21,7 @@ sum_set f (x ∷ xs) (suc i) y d within =
     let again = sum_set f xs i y d (omega arith) in
     omega (arith, sum_by-cons f x (slice_set xs i y), sum_by-cons f x xs)
 
--- what a list has where one member is set
+-- what a list has after one member is set
 pub set_at : {A : Type 0} (xs : List A) (c k : ℕ) (y d : A) → c < length xs →
     slice_index_or (slice_set xs c y) k d ≡ (if k == c then y else slice_index_or xs k d)
 set_at {A} xs c k y d within = go (k == c) refl
@@ -39,7 +39,7 @@ regs_set rs i r k within = ap as_reg (set_at rs i k r Empty within) ∙ go (k ==
     go true = refl
     go false = refl
 
--- how each slot was made of which a register has a handle was seen, where one register is set
+-- it was seen how the slot of each register's handle was made, after one register is set
 pub made_set : (v : View) (rs : List StockRegister) (i : ℕ) (r : StockRegister) → i < length rs → IsMadeFor v r →
     ((k : ℕ) → IsMadeFor v (register_in rs k)) → (k : ℕ) → IsMadeFor v (register_in (slice_set rs i r) k)
 made_set v rs i r within here there k = subst (IsMadeFor v) (sym (set_at rs i k r Empty within)) (go (k == i))
@@ -48,7 +48,7 @@ made_set v rs i r within here there k = subst (IsMadeFor v) (sym (set_at rs i k 
     go true = here
     go false = there k
 
--- a register of which a test says that it has no handle
+-- a register that by a test has no handle
 pub bare_register : (r : StockRegister) (has : Bool) → has ≡ false → (HasSomeHandle r → IsTrue has) → HasNoHandle r
 bare_register Empty has none tells = tt
 bare_register (Own h) has none tells = absurd (true≢false (sym (tells tt) ∙ none))

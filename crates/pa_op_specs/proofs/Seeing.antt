@@ -22,7 +22,7 @@ use Rattle.pa_op_specs.specs.Outcomes.{Outcome, IsOutcome, IsSeenOf}
 use Rattle.pa_op_specs.specs.Stocks.{StockRegister, IsMadeFor}
 use Rattle.pa_rules.specs.declared.register.Register.TheVariants.{Empty, Own, Ref, Freed, Cleared}
 
--- who has seen the same lists has seen how a slot was made
+-- a view that has seen the same lists has seen how a slot was made
 pub made_kept : (h : Handle) (v w : View) → w.seen_lists ≡ v.seen_lists → HasSeenMade h v → HasSeenMade h w
 made_kept h v w same is = record {
   partition = is.partition;
@@ -43,7 +43,7 @@ size_by : (roots : Journals) (p : ℕ) (e : RootEntry) (class : Option ℕ) (t :
 size_by roots p e (Some c) t among out = inl (c, (e, out.0, out.1, among, out.2, out.3), out.4)
 size_by roots p e None t among out = inr (e, out.0, among, out.1)
 
--- A slot of which it was seen how it was made has the length of its title, and its handle's partition, in any run that fits.
+-- A slot that was seen made has the length of its title, and its handle's partition, in any run that fits.
 pub record IsSlotIn (o : Outcome) (h : Handle) : Type 0 where
   pub length : o.sizes (name_of h.title) ≡ h.title.len
   pub home : o.homes (name_of h.title) ≡ h.partition
@@ -97,6 +97,6 @@ now_seen t n m k e = elim (title_tells t t) [
   | inr differs ↦ absurd (differs.1 refl)
 ]
 
--- whose mark a record's is, that has the slot's size
+-- the mark belongs to a record and has the slot's size
 pub home_of : (o : Outcome) (p : ℕ) (n m : Mark) → Some n ≡ Some m → HasSize o.roots p n.slot (o.sizes n.slot) → HasSize o.roots p m.slot (o.sizes m.slot)
 home_of o p n m e size = subst (λ (k : Mark). HasSize o.roots p k.slot (o.sizes k.slot)) (of_some n m e) size

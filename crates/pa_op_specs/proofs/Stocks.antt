@@ -1,4 +1,4 @@
--- A worker's stock stays sound.
+-- A worker's thread state stays sound.
 use Rattle.std.proofs.Common.{◌≡◌, ℕ, zero, suc, ◌<◌, ◌≤◌, List, [], ◌∷◌, length, ◌∙◌, ap, subst, arith, inl, inr}
 use Rattle.std.specs.List.{sum_by}
 use Rattle.std.proofs.lemmas.List.Sums.{sum_by-cons}
@@ -42,7 +42,7 @@ register_owns s i h is below own =
     let sum = is.handles.owns h.title in
     omega arith
 
--- it has a Ref where the register has one
+-- it has a Ref if the register has one
 pub register_points : (s : StockValue) (i : ℕ) (h : Handle) → IsStock s → i < 64 → register_in s.registers i ≡ Ref h → 0 < ref_of s.view h.title
 register_points s i h is below ref =
     let part = part_of (refs_one h.title) s.registers i (let n = is.handles.count in omega arith) in
@@ -50,7 +50,7 @@ register_points s i h is below ref =
     let sum = is.handles.refs h.title in
     omega arith
 
--- the stock with another view, which has seen how all was made that was seen so before, and holds no fewer free titles
+-- the thread state with another view, which has seen how all was made that was seen so before, and holds no fewer free titles
 pub stock_kept : (s : StockValue) (w : View) (rs : List StockRegister) → IsStock s → HoldsHandles rs w → HoldsStake s.thread w →
     ((h : Handle) → HasSeenMade h s.view → HasSeenMade h w) → ((t : Title) → free_of s.view t ≤ free_of w t) →
     IsStock (record s { view = w; registers = rs })
@@ -70,7 +70,7 @@ stock_kept s w rs is handles stake made frees = record {
   stake = stake;
 }
 
--- where it has seen the same lists and has the same stakes
+-- if it has seen the same lists and has the same stakes
 pub stock_with : (s : StockValue) (w : View) (rs : List StockRegister) → IsStock s → HoldsHandles rs w → w.seen_lists ≡ s.view.seen_lists →
     ((t : Title) → free_of s.view t ≤ free_of w t) → ((k : ℕ) → stake_of w k ≡ stake_of s.view k) →
     IsStock (record s { view = w; registers = rs })

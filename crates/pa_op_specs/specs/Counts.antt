@@ -26,11 +26,11 @@ no_count = record { issued = no_slots; freed = no_slots; entered = no_slots; lef
 abbrev pub counted_in : List Count → ℕ → Count
 counted_in counts p = slice_index_or counts p no_count
 
--- one slot of so many bytes more, where that is so
+-- one slot of this many bytes more, if the test is true
 abbrev pub one_slot_more : Bool → ℕ → Tally → Tally
 one_slot_more more bytes t = if more then record { slots = t.slots + 1; bytes = t.bytes + bytes } else t
 
--- a partition's count after a step that found this word, on a slot of so many bytes
+-- a partition's count after a step that found this word, on a slot of this many bytes
 abbrev pub after_step : Step → ℕ → ℕ → Count → Count
 after_step step found bytes c =
     record {
@@ -40,7 +40,7 @@ after_step step found bytes c =
       left = one_slot_more (leaves step found) bytes c.left;
     }
 
--- the counts after an op that made this step on the slot of a handle, where it made one
+-- the counts after an op that made this step on the slot of a handle, if it made one
 abbrev pub counts_after : Step → Option Handle → Option Seen → List Count → List Count
 counts_after step None seen counts = counts
 counts_after step (Some h) None counts = counts
@@ -71,7 +71,7 @@ abbrev pub made_seen : Answer → Option Seen
 made_seen (answers.Made seen usable) = Some seen
 made_seen answer = None
 
--- The counts are of at most so many steps: one slot each, of less than 2^32 bytes.
+-- The counts are of at most this many steps: one slot each, of less than 2^32 bytes.
 pub record IsOfSteps (steps : ℕ) (t : Tally) : Type 0 where
   pub slots : t.slots ≤ steps
   pub bytes : t.bytes ≤ 4294967296 * steps
@@ -83,12 +83,12 @@ pub record AreOfSteps (steps : ℕ) (counts : List Count) : Type 0 where
   pub entered : (p : ℕ) → IsOfSteps steps (counted_in counts p).entered
   pub left : (p : ℕ) → IsOfSteps steps (counted_in counts p).left
 
--- The tally grew by what the slots of partition p weigh whose steps pass, in these records: each 1, and its bytes.
+-- The tally grew by the slots of partition p with a step in these records that passes: each counts 1, and its bytes.
 pub record GrewBy (test : Step → ℕ → Bool) (home size : SlotName → ℕ) (p : ℕ) (xs : List Played) (before after : Tally) : Type 0 where
   pub slots : after.slots ≡ before.slots + weight_of test (one_of home p) (marks_of xs)
   pub bytes : after.bytes ≡ before.bytes + weight_of test (bytes_of home size p) (marks_of xs)
 
--- so each count did by these records, where these are the partition and the length of each slot
+-- so did each count by these records, with these as the partition and the length of each slot
 pub record CountsBy (home size : SlotName → ℕ) (xs : List Played) (before after : List Count) : Type 0 where
   pub issued : (p : ℕ) → p < most_partitions → GrewBy issues home size p xs (counted_in before p).issued (counted_in after p).issued
   pub freed : (p : ℕ) → p < most_partitions → GrewBy frees home size p xs (counted_in before p).freed (counted_in after p).freed

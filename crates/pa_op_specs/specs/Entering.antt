@@ -18,8 +18,8 @@ use Rattle.pa_logs.specs.Indices.{Enters, AskedNone, AskedOnce, IsFullAt}
 use Rattle.pa_logs.specs.Standing.{Unmaps}
 use Rattle.pa_op_specs.specs.Stocks.{StockValue}
 
--- An exchange with cell k made one entry in the cells' list, which is of its line, and answers how many exchanges of the cell
--- stand before it.
+-- An exchange with cell k made one entry in the cells' list, which is of its line, and returns how many exchanges of the cell
+-- are before it.
 pub record EntersExchange (list : List Made) (x : ToldRecord) (k : ℕ) : Type 0 where
   pub older : List Made
   pub rest : List Made
@@ -42,11 +42,11 @@ EntersCells (ops.Read reg place) list x = entered_in 5 x.stretch ≡ []
 EntersCells (ops.Swap cell reg) list x = EntersExchange list x cell
 EntersCells ops.Purge list x = entered_in 5 x.stretch ≡ []
 
--- What a record entered, where `lists` are those that its seat has seen after it.
+-- What a record entered; `lists` are those that its seat has seen after it.
 --   lines: all is of its line
 --   asked: it asked the pool at most once
---   refused: where it was full, it names its entry
---   uncuts: a title that was made raw again is one that it unmaps
+--   refused: if it was full, it names its entry
+--   uncuts: a title that was uncut is one that it unmaps
 --   cells: an exchange is one entry of the cells' list, and no other op enters there
 pub record EntersOwn (lists : ℕ → List Made) (x : ToldRecord) : Type 0 where
   pub lines : (q : ℕ) (m : Made) → Contains (entered_in q x.stretch) m → line_of m ≡ x.played.line

@@ -1,5 +1,5 @@
 -- What follows of ops that a worker played one after the other: in every run that fits, the rows of its registers and of its
--- lists, that each stretch is what its answer asks for, and what it counted.
+-- lists, that each log segment is what its answer asks for, and what it counted.
 use Rattle.std.specs.Prelude.{◌≡◌, ℕ, List, ◌++◌, Contains}
 use Rattle.pa_region.specs.declared.view.View.{View}
 use Rattle.pa_logs.specs.Told.{ToldRecord, played_in}
@@ -12,7 +12,7 @@ use Rattle.pa_op_specs.specs.Workers.{WorkerValue}
 use Rattle.pa_op_specs.specs.Outcomes.{Outcome, IsOutcome, IsSeenOf, ActsAreOf, row_facts}
 use Rattle.pa_op_specs.specs.Plays.{PlaysAll}
 
--- A run of so many partitions became this, in which these records were made by a seat that had this view after them.
+-- A run of this many partitions became this, in which these records were made by a seat that had this view after them.
 pub record FitsAll (o : Outcome) (partitions : ℕ) (v : View) (xs : List ToldRecord) : Type 0 where
   pub many : o.partitions ≡ partitions
   pub run : IsOutcome o

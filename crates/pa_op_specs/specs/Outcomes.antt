@@ -29,7 +29,7 @@ pub record Outcome : Type 0 where
   pub sizes : SlotName → ℕ
   pub homes : SlotName → ℕ
 
--- what the rows of registers ask of it: all bytes of a slot but its count word are usable
+-- what the transitions of registers need to know of it: all bytes of a slot but its count word are usable
 abbrev pub row_facts : Outcome → Facts
 row_facts o = record { usable_of = usable_of; usable_at = λ s. o.sizes s - 8; cells = o.cells }
 
@@ -43,8 +43,8 @@ pub record IsOutcome (o : Outcome) : Type 0 where
   pub homes : (p : ℕ) (e : RootEntry) (class : Option ℕ) (t : Title) → Contains (o.roots p) e → HandsOut class t e.act →
       o.homes (name_of t) ≡ p
 
--- What a view has seen stands in it: an entry of a journal or of the pool's list at its place, and an exchange in its cell's
--- history behind those of the cell before it.
+-- What a view has seen is in it: an entry of a journal or of the pool's list at its place, and an exchange in its cell's
+-- history after those of the cell before it.
 pub record IsSeenOf (o : Outcome) (v : View) : Type 0 where
   pub roots : (p : ℕ) (older rest : List Made) (m : Made) (e : RootEntry) → p < most_partitions → list_of p v ≡ older ++ m ∷ rest →
       m.numbers ≡ root_numbers e → slice_get (o.roots p) (length older) ≡ Some e
@@ -60,7 +60,7 @@ ActsAreOf o x =
     map (λ (m : Made). m.numbers) (entered_in p x.stretch) ≡ map root_numbers entries →
     acts_of o.roots x.played.line p ≡ map (λ (e : RootEntry). e.act) entries
 
--- A run of so many partitions became this, in which the record was made by a seat that had this view then.
+-- A run of this many partitions became this, in which the record was made by a seat that had this view then.
 pub record FitsRun (o : Outcome) (partitions : ℕ) (v : View) (x : ToldRecord) : Type 0 where
   pub many : o.partitions ≡ partitions
   pub run : IsOutcome o

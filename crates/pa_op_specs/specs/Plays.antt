@@ -1,4 +1,4 @@
--- What an op of a worker says of its own seat: its record, the stretch of its thread's log, and what these are in any run.
+-- What an op of a worker says of its own seat: its record, the log segment of its thread's log, and what these are in any run.
 use Rattle.std.specs.Prelude.{◌≡◌, ℕ, ◌+◌, ◌<◌, ◌≤◌, ◌==◌, List, [], ◌∷◌, ◌++◌, if◌then◌else◌, Some, Contains}
 use Rattle.pa_machine.specs.declared.title.Title.{Title}
 use Rattle.pa_machine.specs.declared.word.Step.{Step}
@@ -44,8 +44,8 @@ pub record HasSeenFor (v after : View) (x : ToldRecord) : Type 0 where
   pub grows : (t : Title) → x.saw t ≤ x.gives t
 
 -- What the record is in a run that became this.
---   told: its stretch is what its answer asks for
---   row, lists: its answer and what it entered are those that its thread's registers and lists ask for, and lead to the next
+--   told: its log segment is what its answer requires
+--   row, lists: its answer and what it entered are those that its thread's registers and lists require, and lead to the next
 --   reader: a read was made through its register
 --   unmaps: a direct map that it gives back is named at the number that its step left
 --   makes: what it entered in a journal its op makes
@@ -60,10 +60,10 @@ pub record AnswersIn (o : Outcome) (before after : StockValue) (x : ToldRecord) 
       MakesEntry o.pools p e.act x.played.op
   pub home : (m : Mark) → mark_of x.played ≡ Some m → (p : ℕ) × HasSize o.roots p m.slot (o.sizes m.slot)
 
--- What an op did with the worker's stock, and the told record that it is.
+-- What an op did with the worker's thread state, and the annotated record that it is.
 --   thread, same: the record is of the worker's thread
 --   stakes: which stays
---   logs: the log of its stake has the stretch more, and no other log
+--   logs: the log of its stake has the log segment more, and no other log
 --   lists: it forgets nothing of any list
 --   seen, enters: what its seat had seen, and what it entered
 --   homes: in the list of a partition past the run's nothing, or its seat had seen an entry there before
@@ -79,14 +79,14 @@ pub record Does (before after : StockValue) (x : ToldRecord) : Type 0 where
   pub homes : EntersAtHome before x
   pub answers : (o : Outcome) → FitsRun o before.partitions after.view x → AnswersIn o before after x
 
--- so an op on this line does, with this answer, in whatever phase the line stands
+-- so an op on this line does, with this answer, in whatever phase the line is
 abbrev pub DoesOp : (line : ℕ) → Op → Answer → (before after : StockValue) → Type 0
 DoesOp line op answer before after =
     (phase : ℕ) → (x : ToldRecord)
     × (x.played ≡ record { line = line; thread = before.thread; phase = phase; op = op; answer = answer }) × Does before after x
 
 -- An op was played: the worker has its record besides; its counts grew by the record's step, in every run that fits; and all else is
--- what the op did with its stock.
+-- what the op did with its thread state.
 pub record PlaysOne (before after : WorkerValue) (x : ToldRecord) : Type 0 where
   pub records : after.records ≡ before.records ++ entry_of x.played ∷ []
   pub does : Does before.stock after.stock x

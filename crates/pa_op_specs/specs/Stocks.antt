@@ -22,11 +22,11 @@ use Rattle.pa_cells.specs.Handles.{HasSeenMade}
 use Rattle.pa_root.specs.Handing.{numbered_by}
 use Rattle.pa_rules.specs.declared.register.Register.TheVariants.{Empty, Own, Ref, Freed, Cleared}
 
--- what a register of a worker has; a handle is of a slot whose title, partition and class it knows
+-- what a register of a worker has; of a handle's slot the title, partition and class are known
 abbrev pub StockRegister : Type 0
 StockRegister = Register Handle
 
--- A worker's stock, as contracts see it: the number of its thread; how many partitions the run has; the view of its seat; its
+-- A worker's thread state, as contracts see it: the number of its thread; how many partitions the run has; the view of its seat; its
 -- registers; and a cache for each of 4 partitions and 59 classes, those of partition 0 first.
 pub record StockValue : Type 0 where
   pub thread : ℕ
@@ -39,7 +39,7 @@ pub record StockValue : Type 0 where
 abbrev pub register_in : List StockRegister → ℕ → StockRegister
 register_in registers i = slice_index_or registers i Empty
 
--- where the cache of a partition and a class stands
+-- the index of the cache of a partition and a class
 abbrev pub cache_place : ℕ → ℕ → ℕ
 cache_place p class = class_count * p + class
 
@@ -61,7 +61,7 @@ regs_of registers i = as_reg (register_in registers i)
 abbrev pub listed_in : StockValue → Cache
 listed_in s p class = numbered_by s.view (titles_in s.caches p class)
 
--- 1 where the register has the title's Own, or a Ref of it, else 0
+-- 1 if the register has the title's Own, or a Ref of it, else 0
 abbrev pub owns_one : Title → StockRegister → ℕ
 owns_one t Empty = 0
 owns_one t (Own h) = one (same_title h.title t)
@@ -87,7 +87,7 @@ HasNoHandle (Ref h) = ⊥
 HasNoHandle Freed = Unit {0}
 HasNoHandle Cleared = Unit {0}
 
--- the view has seen how the slot was made of which the register has a handle
+-- the view has seen how the slot of this register's handle was made
 abbrev pub IsMadeFor : View → StockRegister → Type 0
 IsMadeFor v Empty = Unit {0}
 IsMadeFor v (Own h) = HasSeenMade h v
@@ -95,7 +95,7 @@ IsMadeFor v (Ref h) = HasSeenMade h v
 IsMadeFor v Freed = Unit {0}
 IsMadeFor v Cleared = Unit {0}
 
--- The handles. The seat has each Own and each Ref as often as registers have it, and no Own is unclean; and it has seen how
+-- The handles. The seat has each Own and each Ref as many times as registers have it, and no Own is unclean; and it has seen how
 -- each of their slots was made.
 pub record HoldsHandles (registers : List StockRegister) (v : View) : Type 0 where
   pub count : length registers ≡ register_count
@@ -122,12 +122,12 @@ pub record HoldsLists (caches : List CacheList) (v : View) : Type 0 where
   pub made : (p class : ℕ) (t : Title) → Contains (titles_in caches p class) t → HasSeenMade (listed_slot p class t) v
   pub well : (p class : ℕ) (t : Title) → Contains (titles_in caches p class) t → (words : ℕ) × IsWellFormed words t
 
--- The stake. It is the thread's, or none while the worker has told.
+-- The stake. It is the thread's, or none while the worker has lent it.
 pub record HoldsStake (thread : ℕ) (v : View) : Type 0 where
   pub small : thread < most_threads
   pub only : (k : ℕ) → (k ≡ thread → ⊥) → stake_of v k ≡ 0
 
--- What is always true of a worker's stock.
+-- What is always true of a worker's thread state.
 pub record IsStock (s : StockValue) : Type 0 where
   pub partitions : s.partitions ≤ most_partitions
   pub handles : HoldsHandles s.registers s.view
@@ -140,7 +140,7 @@ pub record IsForThread (thread : ℕ) (v : View) : Type 0 where
   pub has : 0 < stake_of v thread
   pub unused : (t : Title) → own_of v t + ref_of v t ≡ 0
 
--- the worker's stock at the start: its registers and lists are empty
+-- the worker's thread state at the start: its registers and lists are empty
 pub record IsNewStock (thread partitions : ℕ) (v : View) (s : StockValue) : Type 0 where
   pub thread_is : s.thread ≡ thread
   pub partitions_are : s.partitions ≡ partitions
@@ -148,7 +148,7 @@ pub record IsNewStock (thread partitions : ℕ) (v : View) (s : StockValue) : Ty
   pub registers : (i : ℕ) → register_in s.registers i ≡ Empty
   pub lists : (p class : ℕ) → titles_in s.caches p class ≡ []
 
--- these are the first so many lists of a worker at the start: of each class in turn, without titles
+-- these are the first `count` lists of a worker at the start: of each class in turn, without titles
 pub record AreNoLists (count : ℕ) (caches : List CacheList) : Type 0 where
   pub count_is : length caches ≡ count
   pub each : (k : ℕ) → k < count → slice_index_or caches k no_cache ≡ record { class = k % class_count; titles = [] }

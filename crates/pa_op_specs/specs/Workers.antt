@@ -7,7 +7,7 @@ use Rattle.pa_op_specs.specs.declared.counts.Count.{Count}
 use Rattle.pa_op_specs.specs.Counts.{AreOfSteps, counted_in, no_count}
 use Rattle.pa_op_specs.specs.Stocks.{StockValue, IsStock, IsNewStock}
 
--- A worker: its stock; its records so far, and for how many in all there is room; whether an op answered want of memory; and what
+-- A worker: its thread state; its records so far, and for how many in all there is room; whether an op ran out of memory; and what
 -- it counted of its steps, for each of 4 partitions.
 pub record WorkerValue : Type 0 where
   pub stock : StockValue
@@ -33,7 +33,7 @@ pub record CanPlayOp (w : WorkerValue) : Type 0 where
   pub stake : HasItsStake w.stock
   pub room : length w.records < w.room
 
--- After an op that didn't want for memory it isn't stopped, has its stake and one record more, and room for as many in all as
+-- After an op that didn't run out of memory it isn't stopped, has its stake and one record more, and room for as many in all as
 -- before.
 pub record KeepsOn (before after : WorkerValue) : Type 0 where
   pub going : after.stopped ≡ false

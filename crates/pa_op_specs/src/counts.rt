@@ -9,6 +9,6 @@ pub struct Count {
     pub freed: Tally,
     /// Those that it freed while `raw_ptr`s pointed to them.
     pub entered: Tally,
-    /// Those that were freed, and of which it reset the last `raw_ptr`.
+    /// The freed slots that left quarantine when it reset their last `raw_ptr`.
     pub left: Tally,
 }

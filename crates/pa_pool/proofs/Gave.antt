@@ -40,7 +40,7 @@ is_out supers taken es h note u sound aware parted lease =
     let z : one (eqb taken taken) ≡ 1 = ap one (eq-eqb taken taken refl) in
     elim (out_cases (pool_after es supers) taken) [ inl is ↦ is | inr none ↦ let l = sound.here taken none in absurd (omega arith) ]
 
--- and its entry stands in the list, with what it found
+-- and its entry is in the list, with what it found
 pub out_found : (supers taken : ℕ) (es : List PoolEntry) (h : View) → IsPoolSound supers es h → (is : IsEntryOut (pool_after es supers) taken) → FoundRun es taken is.0.count is.0.first
 out_found supers taken es h sound is =
     subst (λ (n : ℕ). FoundRun es n is.0.count is.0.first) is.2 ((sound_state supers es sound.pool).found is.0 is.1).1
@@ -62,7 +62,7 @@ run_found supers taken first count es h e sound is stands acts =
     let same = stands ∙ get_or_from_slice_get es taken there.0 e there.1 in
     ap (option_map (λ (x : PoolEntry). x.act)) there.1 ∙ ap Some (sym (ap (λ (x : PoolEntry). x.act) same) ∙ acts)
 
--- an entry of a beginning stands at its place, also where the list gets more
+-- an entry of a beginning is at its place, also if the list gets more
 pub begun_at : (a b : List Made) (n : ℕ) (m : Made) → IsBeginning a b → slice_get a n ≡ Some m → slice_get b n ≡ Some m
 begun_at a b n m begins at_n = ap (λ xs. slice_get xs n) begins.1 ∙ slice_get_more a begins.0 n m at_n
 
@@ -89,7 +89,7 @@ seen_entry supers taken partition first count es h seat seat_now after m sound b
     entry_of None ns e = absurd (not_some ns e)
     entry_of (Some x) ns e = (x, refl, of_some (pool_numbers x) ns e)
 
--- two views of which neither has more
+-- two views, neither with more
 pub more_joined : (u h note : View) (first count floor n : ℕ) → IsParted u h note → HasNoMore h → HasRun first count floor n note → HasNoMore u
 more_joined u h note first count floor n parted more run = record {
   titles = λ t.
@@ -191,7 +191,7 @@ give_ends line partition supers taken first count from of r es h note u w seat s
     (take_entry seen.0 partition of (Some from), ap (λ n. slice_get es n) out.2 ∙ seen.1, refl) in
     (gave_sound line partition supers taken first count es h note u w m sound parted run out found owned same (made_by r (give_entry line partition count first) seat seat_now u w m noted hosts), same, one)
 
--- and what the call tells
+-- and what the call ensures
 pub given_so : (line partition taken first count from of index : ℕ) (u : View) (a b host : Share) (p q z : PoolValue) (m : Made) → IsAsBefore p q → index ≡ length q.entries →
     FoundRun q.entries taken count first → of ≡ count → from ≡ first → IsNoted (least_stake a.view.stakes) 4 (pool_numbers (give_entry line partition count first)) a.view b.view u host.view m →
     list_of 4 u ≡ list_of 4 q.view → z.entries ≡ q.entries ++ give_entry line partition count first ∷ [] → z.supers ≡ q.supers → list_of 4 z.view ≡ list_of 4 host.view →

@@ -58,11 +58,11 @@ plan_follows plan next es after e v was step grown sound =
       same,
     )
 
--- a new member stands at the end
+-- a new member is at the end
 pub last_stands : {A : Type 0} (before after : List A) (x : A) (index : ℕ) → after ≡ before ++ x ∷ [] → index ≡ length before → slice_get after index ≡ Some x
 last_stands before after x index grown place = ap (λ xs. slice_get xs index) grown ∙ (ap (λ n. slice_get (before ++ x ∷ []) n) place ∙ slice_get_at before [] x)
 
--- what the entry tells the caller
+-- what the entry means for the caller
 pub entered : (r : ℕ) (e : PoolEntry) (v w u host : View) (p q z : PoolValue) (m : Made) → IsAsBefore p q → IsNoted r 4 (pool_numbers e) v w u host m → list_of 4 u ≡ list_of 4 q.view →
     z.entries ≡ q.entries ++ e ∷ [] → z.supers ≡ q.supers → list_of 4 z.view ≡ list_of 4 host → IsEntered r e v w p z m
 entered r e v w u host p q z m same noted stays grown supers list = record {

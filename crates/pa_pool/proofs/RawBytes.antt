@@ -1,4 +1,4 @@
--- Raw bytes and leases of which a part is handed over.
+-- Raw bytes and leases when a part of them is handed over.
 use Rattle.std.proofs.Common.{◌≡◌, ℕ, ◌+◌, ◌*◌, ◌<◌, ◌≤◌, Bool, true, false, ◌&&◌, List, [], ◌∷◌, refl, sym, arith, inl, inr, leb, eqb}
 use Rattle.std.specs.List.{sum_by, filter}
 use Rattle.std.proofs.lemmas.List.Sums.{sum_by-cons, sum_by-append, sum_by-le-sum_by}
@@ -85,7 +85,7 @@ given_lease first count index n v = let c = sum_by-cons (λ l. one (eqb l n)) in
 pub given_keeper : (first count index k : ℕ) (v : View) → keeper_of (given_after (run_parcel first count index) v) k ≡ 0
 given_keeper first count index k v = no_keepers k v.keepers
 
--- who keeps what has no title has none
+-- a view that keeps what has no title has none
 pub no_title_kept : (v w : View) → Keeps v w → HasNoTitle v → HasNoTitle w
 no_title_kept v w k none t =
     let f = k.things (FreeTitle t) in let o = k.things (OwnOf t) in let r = k.things (RefOf t) in

@@ -41,7 +41,7 @@ counted supers es = pool_is_sound.counted supers es
 pub same_supers : (supers : ℕ) (es : List PoolEntry) → (pool_after es supers).supers ≡ supers
 same_supers supers es = pool_is_sound.supers supers es
 
--- the entry of a run that is taken stands in the list
+-- the entry of a run that is taken is in the list
 pub out_below : (supers : ℕ) (es : List PoolEntry) (n : ℕ) → IsPool supers es → IsEntryOut (pool_after es supers) n → n < length es
 out_below supers es n fits h =
     let f = ((sound_state supers es fits).found h.0 h.1).0 in let c = counted supers es in let e = h.2 in omega arith
@@ -56,14 +56,14 @@ byte_cases first count b = elim (cases_lt b (2097152 * first)) [
   ]
 ]
 
--- and then before it or behind it
+-- and then before it or after it
 pub byte_apart : (first count b : ℕ) → (IsByteOf first count b → ⊥) → (b < 2097152 * first) ⊎ (2097152 * first + 2097152 * count ≤ b)
 byte_apart first count b out = elim (cases_lt b (2097152 * first)) [
   | inl y ↦ inl y
   | inr n ↦ elim (cases_lt b (2097152 * (first + count))) [ inl y ↦ absurd (out (n, y)) | inr m ↦ inr (omega arith) ]
 ]
 
--- a run more
+-- one more run
 pub took_more : (n first count : ℕ) (ts : List Taken) (t : Taken) → Contains ts t → Contains (ts ++ record { entry = n; first = first; count = count } ∷ []) t
 took_more n first count ts t among = Contains-append_left ts (record { entry = n; first = first; count = count } ∷ []) t among
 

@@ -21,7 +21,7 @@ use Rattle.pa_pool.proofs.Runs.{counted, out_below, took_more, took_last}
 use Rattle.pa_pool.proofs.RawBytes.{low_rises, left_raw, given_lease, given_keeper, no_title_kept, handed}
 use Rattle.pa_pool.proofs.NextPool.{list_grows, next_pool}
 
--- an entry with these numbers stands at the list's end, and the view kept what it has
+-- an entry with these numbers is at the list's end, and the view kept what it has
 pub record IsMadeBy (e : PoolEntry) (before after : View) (m : Made) : Type 0 where
   pub list : list_of 4 after ≡ list_of 4 before ++ m ∷ []
   pub says : m.numbers ≡ pool_numbers e
@@ -35,7 +35,7 @@ pub more_kept : (v w : View) → Keeps v w → HasNoMore v → HasNoMore w
 more_kept v w k more = record { titles = no_title_kept v w k more.titles; budget = k.budget ∙ more.budget; keepers = λ n ne. k.keepers n ∙ more.keepers n ne }
 
 module _ (line partition count supers : ℕ) (es : List PoolEntry) (h w : View) (m : Made) where
-  -- where it found none
+  -- if it found none
   pub took_none : IsPoolSound supers es h → 1 ≤ count → IsLowest (pool_after es supers) count None → IsMadeBy (take_entry line partition count None) h w m →
       IsPoolSound supers (es ++ take_entry line partition count None ∷ []) w
   took_none sound some lowest made =
@@ -117,7 +117,7 @@ module _ (line partition count supers : ℕ) (es : List PoolEntry) (h w : View) 
             omega arith
       ]
 
-  -- where it found some
+  -- if it found some
   pub took_some : (first : ℕ) → IsPoolSound supers es h → 1 ≤ count → IsLowest (pool_after es supers) count (Some first) → IsMadeBy (take_entry line partition count (Some first)) h w m → IsAware w →
       IsParted w (left_after (run_parcel first count (length es)) w) (given_after (run_parcel first count (length es)) w) →
       IsPoolSound supers (es ++ take_entry line partition count (Some first) ∷ []) (left_after (run_parcel first count (length es)) w)

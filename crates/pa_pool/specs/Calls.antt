@@ -1,4 +1,4 @@
--- What the pool's calls ask and tell.
+-- What the pool's calls require and ensure.
 use Rattle.std.specs.Prelude.{◌≡◌, ℕ, ◌+◌, ◌*◌, ◌<◌, ◌≤◌, [], ◌∷◌, ◌++◌, ◌==◌, length, Option, Some, None, slice_get}
 use Rattle.pa_machine.specs.declared.title.Title.{Title}
 use Rattle.pa_machine.specs.declared.event.Item.TheVariants.{Raw}
@@ -21,14 +21,14 @@ use Rattle.pa_pool.specs.declared.fault.PoolFault.{PoolFault}
 use Rattle.pa_pool.specs.declared.fault.PoolFault.TheVariants.{NoRoom, OutOfMemory}
 use Rattle.pa_pool.specs.Pools.{PoolValue, pool_after, IsByteOf, HasNoTitle}
 
--- the entry of a take of `count` super pages that found those from here on, or none; and that of a give
+-- the entry of a take of `count` super pages that found those from here on, or none; and the entry of a give
 abbrev pub take_entry : (line partition count : ℕ) → Option ℕ → PoolEntry
 take_entry line partition count found = record { line = line; partition = partition; act = Take count found }
 
 abbrev pub give_entry : (line partition count first : ℕ) → PoolEntry
 give_entry line partition count first = record { line = line; partition = partition; act = Give count first }
 
--- The pool made the entry e, with the stake r that the caller lent: as m it stands at the end of the pool's list, which both
+-- The pool made the entry e, with the stake r that the caller lent: as m it is at the end of the pool's list, which both
 -- have seen whole, and in the stake's log; and it carries all that the caller had seen, and nothing that it hasn't seen now.
 pub record IsEntered (r : ℕ) (e : PoolEntry) (seat seat_now : View) (pool pool_now : PoolValue) (m : Made) : Type 0 where
   pub entries : pool_now.entries ≡ pool.entries ++ e ∷ []
@@ -41,7 +41,7 @@ pub record IsEntered (r : ℕ) (e : PoolEntry) (seat seat_now : View) (pool pool
   pub before : (t : Title) → seen_of seat t ≤ seen_among t m.seen
   pub known : (t : Title) → seen_among t m.seen ≤ seen_of seat_now t
 
--- the same of seats before and after: with the caller's least stake
+-- the same for seats before and after: with the caller's least stake
 abbrev pub Enters : PoolEntry → (seat seat_now : Share) → (pool pool_now : PoolValue) → Type 0
 Enters e a b p q = (m : Made) × IsEntered (least_stake a.view.stakes) e a.view b.view p q m
 
@@ -63,12 +63,12 @@ pub record HasRun (first count floor n : ℕ) (v : View) : Type 0 where
 abbrev pub run_parcel : (first count index : ℕ) → Parcel
 run_parcel first count index = parcel_of (Raw (2097152 * first) (2097152 * count) ∷ []) 0 (Lease index ∷ [])
 
--- no other byte is raw there
+-- the view has no other byte as raw
 abbrev pub HasNoOther : (first count : ℕ) → View → Type 0
 HasNoOther first count v = (b : ℕ) → (IsByteOf first count b → ⊥) → held_of_view v (RawByte b) ≡ 0
 
--- The pool was asked for `count` super pages, and found the lowest that are free, or none where there are none. Its entry
--- with this index, the new one, says so.
+-- The pool was asked for `count` super pages, and found the lowest that are free, or none if there are none. Its new entry,
+-- with this index, says so.
 pub record IsTaken (line partition count : ℕ) (found : Option ℕ) (index : ℕ)
     (seat seat_now : Share) (pool pool_now : PoolValue) : Type 0 where
   pub place : index ≡ length pool.entries
@@ -76,20 +76,20 @@ pub record IsTaken (line partition count : ℕ) (found : Option ℕ) (index : �
   pub entered : Enters (take_entry line partition count found) seat seat_now pool pool_now
   pub stands : slice_get pool_now.entries index ≡ Some (take_entry line partition count found)
 
--- The note of a take that found the super pages from `first` on, as entry `index`: it has them, with floors of at most the
+-- The note of a take, entry `index`, that found the super pages from `first` on: it has them, with floors of at most the
 -- index, and that lease, and nothing else; and it has seen the pool's whole list.
 pub record IsNoteOf (first count index : ℕ) (note : View) (pool_now : PoolValue) : Type 0 where
   pub run : HasRun first count index index note
   pub only : HasNoOther first count note
   pub list : list_of 4 note ≡ list_of 4 pool_now.view
 
--- nothing changed but room
+-- nothing changed but the room for entries
 pub record IsAsBefore (pool pool_now : PoolValue) : Type 0 where
   pub view : pool_now.view ≡ pool.view
   pub entries : pool_now.entries ≡ pool.entries
   pub supers : pool_now.supers ≡ pool.supers
 
--- a take that gave none: there are none, as an entry says; or there was no memory, and nothing changed
+-- a take that gave none: there are none, as an entry says; or it ran out of memory, and nothing changed
 abbrev pub Refused : (line partition count : ℕ) → (seat seat_now : Share) → (pool pool_now : PoolValue) → PoolFault → Type 0
 Refused line partition count a b p q (NoRoom index) = IsTaken line partition count None index a b p q
 Refused line partition count a b p q OutOfMemory = IsAsBefore p q × (b ≡ a)
@@ -102,13 +102,13 @@ pub record HasSeenTake (partition taken first count : ℕ) (v : View) : Type 0 w
   pub stands : slice_get (list_of 4 v) taken ≡ Some made
   pub says : made.numbers ≡ pool_numbers (take_entry line partition count (Some first))
 
--- What comes back with a note is what entry `taken` took: the seat has seen it, and the note has its super pages, whose floors
--- are at most `taken` + 1, and its lease.
+-- What comes back with a note is what entry `taken` took: the seat has seen that entry, and the note has its lease and its super
+-- pages, with floors of at most `taken` + 1.
 pub record ComesBack (partition taken first count : ℕ) (seat note : View) : Type 0 where
   pub seen : HasSeenTake partition taken first count seat
   pub run : HasRun first count (taken + 1) taken note
 
--- It was given back, as the entry with this index, the new one, says.
+-- It was given back, as the new entry, with this index, says.
 pub record IsGivenBack (line partition taken first count index : ℕ)
     (seat seat_now : Share) (pool pool_now : PoolValue) : Type 0 where
   pub place : index ≡ length pool.entries
@@ -116,14 +116,14 @@ pub record IsGivenBack (line partition taken first count index : ℕ)
   pub entered : Enters (give_entry line partition count first) seat seat_now pool pool_now
   pub stands : slice_get pool_now.entries index ≡ Some (give_entry line partition count first)
 
--- what a view has seen so it has seen still when it has seen more of the list
+-- a take that a view has seen it still has seen when it has seen more of the list
 abbrev pub SeenTakesStay : Type 0
 SeenTakesStay =
     (partition taken first count : ℕ) (v w : View) → IsBeginning (list_of 4 v) (list_of 4 w) → HasSeenTake partition taken first count v →
     HasSeenTake partition taken first count w
 
--- Who has super pages as raw, and a lease, can hand them over. The note has them then, with floors that are no higher, and the
--- lease, and nothing else; and who gave them has the other bytes and the other leases as before.
+-- A view that has super pages as raw, and a lease, can hand them over. The note then has them, with floors that are no
+-- higher, and the lease, and nothing else; and the giver has the other bytes and the other leases as before.
 pub record RunsAreHanded : Type 0 where
   pub able : (first count floor n : ℕ) (v : View) → HasRaw first count floor v → 0 < lease_of v n → CanHand (run_parcel first count n) v
   pub given : (first count floor n : ℕ) (v : View) → HasRaw first count floor v →

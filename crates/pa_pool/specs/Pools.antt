@@ -12,14 +12,14 @@ use Rattle.pa_region.specs.Views.{free_of, own_of, ref_of, low_of, stake_of}
 use Rattle.pa_region.specs.Lists.{keeper_of, lease_of, list_of}
 use Rattle.pa_region.specs.Lending.{HostsKeeper}
 
--- the pool: the view of its seat, its entries, how many super pages the region has, and for how many entries more it has room
+-- the pool: the view of its seat, its entries, how many super pages the region has, and for how many more entries it has room
 pub record PoolValue : Type 0 where
   pub view : View
   pub entries : List PoolEntry
   pub supers : ℕ
   pub spare : ℕ
 
--- the pool of so many super pages after these entries
+-- the pool of this many super pages after these entries
 abbrev pub pool_after : List PoolEntry → ℕ → PoolState
 pool_after entries supers = pool_replayed entries (new_pool supers)
 
@@ -32,7 +32,7 @@ pub record IsFreeByte (s : PoolState) (byte : ℕ) : Type 0 where
   pub inside : byte < 2097152 * s.supers
   pub free : (t : Taken) → Contains s.taken t → IsByteOf t.first t.count byte → ⊥
 
--- entry n took a run that is taken still
+-- entry n took a run that is still taken
 abbrev pub IsEntryOut : PoolState → ℕ → Type 0
 IsEntryOut s n = (t : Taken) × Contains s.taken t × (t.entry ≡ n)
 
@@ -46,9 +46,9 @@ pub record HasNoMore (v : View) : Type 0 where
   pub budget : v.budget ≡ 0
   pub keepers : (k : ℕ) → (k ≡ 4 → ⊥) → keeper_of v k ≡ 0
 
--- What the type keeps. The entries are those of a pool over the super pages, and the list of keeper 4 is that, in numbers.
+-- What the type keeps. The entries are those of a pool over the super pages, and the list of keeper 4 is these, as numbers.
 -- The seat has that keeper, no stake, and only clean Owns. Each byte of a super page that isn't taken is raw there, with a
--- floor of at most the number of entries. It has the lease of each entry but those whose runs are taken; and nothing more.
+-- floor of at most the number of entries. It has the lease of each entry with a run that isn't taken; and nothing more.
 pub record IsPoolSound (supers : ℕ) (entries : List PoolEntry) (v : View) : Type 0 where
   pub few : supers ≤ most_supers
   pub pool : IsPool supers entries

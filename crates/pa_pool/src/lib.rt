@@ -1,7 +1,7 @@
-//! The pool of super pages over the region, as it stands behind a lock: whose turn it is takes the lowest super pages that
+//! The pool of super pages over the region, kept behind a lock: the thread that holds the lock takes the lowest super pages that
 //! are free, or gives some back.
 //!
-//! The pool has the super pages that nobody took as raw bytes, and the lease of each take that isn't out. So a lease that
+//! The pool has the super pages that aren't taken as raw bytes, and the lease of each take that was given back. So a lease that
 //! comes back shows that its take wasn't given back before.
 #![tactic(auto)]
 

@@ -23,7 +23,7 @@ const MOST_MEMBERS: usize = 2147483647;
 const KEEPER: u32 = 4;
 
 /// The pool of super pages of the region that the name says. Contracts see it as the view of its seat, its entries, how
-/// many super pages there are, and for how many entries more it has room.
+/// many super pages there are, and for how many more entries it has room.
 #[derive(Drop)]
 pub struct Pool<N: Name> {
     seat: Seat,
@@ -54,7 +54,7 @@ impl<N: Name> Model for Pool<N> {
 }
 
 impl<N: Name> Pool<N> {
-    /// The pool of the region's super pages, at most 16, none of which is taken. The note has them as raw, the pool's keeper,
+    /// The pool of the region's super pages, at most 16, and none is taken. The note has them as raw, the pool's keeper,
     /// and every lease.
     pub fn open(alloc: Global, note: Note, supers: u32) -> Result<Pool<N>, OutOfMemory>
         requires region { note.region ≡ N.region }
@@ -81,8 +81,8 @@ impl<N: Name> Pool<N> {
         let _ = &self.seat;
     }
 
-    /// Takes the lowest `count` super pages that are free and stand side by side, for a partition, by the op of a line, with
-    /// the caller's least stake. It answers the index of the pool's entry, the first super page, and a note with their raw
+    /// Takes the lowest `count` super pages that are free and side by side, for a partition, by the op of a line, with
+    /// the caller's least stake. It returns the index of the pool's entry, the first super page, and a note with their raw
     /// bytes and the lease of that index.
     pub fn take(
         &mut self,
@@ -128,8 +128,8 @@ impl<N: Name> Pool<N> {
     }
 
     /// Gives back what entry `taken` took, for a partition, by the op of a line, with the caller's least stake. The note has its
-    /// super pages and its lease. It answers the index of the pool's entry. The note comes back for want of memory
-    /// alone, and nothing changed then.
+    /// super pages and its lease. It returns the index of the pool's entry. The note comes back only if this runs out of
+    /// memory, and nothing changed then.
     pub fn give(
         &mut self,
         region: &Region,
@@ -165,7 +165,7 @@ impl<N: Name> Pool<N> {
         Ok(append(region, seat, &mut self.seat, &mut self.entries, entry))
     }
 
-    /// Makes room for one entry more.
+    /// Makes room for one more entry.
     pub fn room(&mut self) -> Result<(), OutOfMemory>
         ensures same { IsAsBefore self.old self.new }
         ensures room { IfOk result (λ _. 1 ≤ self.new.spare) }
@@ -202,8 +202,8 @@ impl<N: Name> Pool<N> {
     }
 }
 
-// Makes the entry in the pool's list, with the caller's least stake, and puts it behind the entries, which have room for it.
-// It answers its index.
+// Makes the entry in the pool's list, with the caller's least stake, and appends it to the entries, which have room for it.
+// It returns the entry's index.
 fn append(
     region: &Region,
     lender: &mut Seat,

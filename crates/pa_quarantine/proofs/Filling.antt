@@ -191,7 +191,7 @@ look_last law t word v u e has = ap (λ (x : View). last_entry (least_log x.stak
 pub look_own : LookLeaves → (t : Title) (word : ℕ) (v u : View) → u ≡ after_look t word v → HasStake v → 0 < own_of v t → 0 < own_of u t
 look_own law t word v u e stake has = let o = (law t word v stake).0.owns t in subst (λ (x : View). 0 < own_of x t) (sym e) (omega arith)
 
--- where a content word lies
+-- where a content word is
 pub place_offset : (n : ℕ) (t : Title) (place : ℕ) → IsWellFormed n t → place < content_count t →
     (t.start + 8 * place ≡ content_offset t place) × ((t.start + 8 * place) % 8 ≡ 0) × Covers t (t.start + 8 * place)
 place_offset n t place well below =

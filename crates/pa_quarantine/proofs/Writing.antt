@@ -16,7 +16,7 @@ use Rattle.pa_region.specs.Leaves.{StatesAreOwns, OwnsChange, FilledWords}
 use Rattle.pa_quarantine.specs.Filling.{writes_to, filled}
 use Rattle.pa_quarantine.proofs.Filling.{offset_place, open_own}
 
--- an Own of which no Ref is known to be left, clean or dirty
+-- an Own, clean or dirty, that is known to have no Ref left
 abbrev pub IsOpen : Title → View → Type 0
 IsOpen t v = (0 < idle_of v t) × (0 < own_as v t Clean + own_as v t Dirty)
 
@@ -43,7 +43,7 @@ stake_still : (t : Title) (value j : ℕ) (v : View) → HasStake v → HasStake
 stake_still t value zero v has = has
 stake_still t value (suc j) v has = has
 
--- where the word lies
+-- where the word is
 content_inside : (n : ℕ) (t : Title) (j at_byte : ℕ) → IsWellFormed n t → at_byte ≡ t.start + 8 * j → j < content_count t → (at_byte % 8 ≡ 0) × IsContentOf t at_byte
 content_inside n t j at_byte well e below =
     let a = well.start_aligned in let b = well.len_aligned in let c = well.long in
@@ -109,7 +109,7 @@ write_end t value j v u some_content all e = e ∙ (ap (λ (k : ℕ). writes_to 
     go zero h = absurd (omega arith)
     go (suc k) h = refl
 
--- the owner may tell that it has written
+-- the owner may record its write
 pub write_told : StatesAreOwns → OwnsChange → FilledWords → (n : ℕ) (t : Title) (value : ℕ) (v u : View) → IsWellFormed n t → length v.words ≡ n → IsOpen t v → HasStake v → 0 < v.budget →
     u ≡ filled t value v → CanCount Write t u
 write_told states law fills n t value v u well long has stake budget e =

@@ -1,4 +1,4 @@
--- What a zero-fill, a poisoning and a read make of the seat's view.
+-- How a zero-fill, a poisoning and a read change the seat's view.
 use Rattle.std.specs.Prelude.{ℕ, zero, suc, true}
 use Rattle.pa_machine.specs.declared.title.Title.{Title}
 use Rattle.pa_machine.specs.Titles.{content_count, poison}
@@ -33,7 +33,7 @@ poisoned t v = record v {
   since = record v.since { poisoned = true };
 }
 
--- the same of a seat
+-- the same for a seat
 abbrev pub poisoned_share : Title → Share → Share
 poisoned_share t s = record s { view = poisoned t s.view }
 

@@ -11,7 +11,7 @@ use pa_count::wrote;
 use pa_machine::{Title, Word};
 use pa_region::{Region, Seat, filled_words_have_the_value, owns_change, states_are_owns};
 
-/// Makes every content word of a free slot 0, in address order: so it can be issued.
+/// Sets every content word of a free slot to 0, in address order, so that it can be issued.
 pub fn zero_fill(region: &Region, seat: &mut Seat, title: Title)
     requires region { seat.old.region ≡ region.now }
     requires able { 0 < free_of seat.old.view title }
@@ -26,7 +26,7 @@ pub fn zero_fill(region: &Region, seat: &mut Seat, title: Title)
     }
 }
 
-/// Poisons every content word of the seat's Own, in address order: so it can be freed.
+/// Poisons every content word of the seat's Own, in address order, so that it can be freed.
 pub fn poison(region: &Region, seat: &mut Seat, title: Title)
     requires region { seat.old.region ≡ region.now }
     requires able { (0 < own_as seat.old.view title Clean + own_as seat.old.view title Dirty) × HasStake seat.old.view }
@@ -42,8 +42,8 @@ pub fn poison(region: &Region, seat: &mut Seat, title: Title)
     }
 }
 
-/// Writes the value to every content word of the seat's Own, to which no `raw_ptr` points, in address order, and then
-/// tells that it has.
+/// Writes the value to every content word of the seat's Own, in address order, if no `raw_ptr` points to it, and then
+/// records the write.
 pub fn write(region: &Region, seat: &mut Seat, title: Title, value: u64) -> Word
     requires region { seat.old.region ≡ region.now }
     requires own { (0 < idle_of seat.old.view title) × (0 < own_as seat.old.view title Clean + own_as seat.old.view title Dirty) }

@@ -16,7 +16,7 @@ use pa_count::{Fate, free, look, reset};
 use pa_machine::{Title, Word};
 use pa_region::{Region, Seat, looks_leave, owns_change, states_are_owns};
 
-/// The owner frees the slot: its content is poisoned, and then it is freed in one step. `Last` exactly where no
+/// The owner frees the slot: its content is poisoned, and then it is freed in one step. `Last` if and only if no
 /// `raw_ptr` points to it: then the seat holds the title free. Else the slot is quarantined.
 pub fn free_owned(region: &Region, seat: &mut Seat, title: Title) -> (Word, Fate)
     requires region { seat.old.region ≡ region.now }
@@ -32,7 +32,7 @@ pub fn free_owned(region: &Region, seat: &mut Seat, title: Title) -> (Word, Fate
     free(region, seat, title)
 }
 
-/// A `raw_ptr` is let go. `Last` exactly where the owner had freed the slot before and no other `raw_ptr` is left: then
+/// A `raw_ptr` is let go. `Last` if and only if the owner had freed the slot before and no other `raw_ptr` is left: then
 /// the seat holds the title free.
 pub fn release(region: &Region, seat: &mut Seat, title: Title) -> (Word, Fate)
     requires region { seat.old.region ≡ region.now }
@@ -45,8 +45,8 @@ pub fn release(region: &Region, seat: &mut Seat, title: Title) -> (Word, Fate)
     reset(region, seat, title)
 }
 
-/// Reads a content word, numbered from 0, right after a look at the count word. A slot that was freed gives poison; one's
-/// own gives what is known of it.
+/// Reads a content word, by its index from 0, right after a look at the count word. A slot that was freed gives poison; the
+/// seat's own slot gives what the seat knows of it.
 pub fn read(region: &Region, seat: &mut Seat, title: Title, place: u32) -> (Word, u64)
     requires region { seat.old.region ≡ region.now }
     requires able { IsUser title seat.old.view × HasStake seat.old.view }

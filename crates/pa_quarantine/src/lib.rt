@@ -1,5 +1,5 @@
 //! The content of a slot on its way out and back: it is zeroed before an issue, written by its owner, and poisoned
-//! before a free, so that a `raw_ptr` that is left reads poison.
+//! before a free, so that any `raw_ptr` left to it reads poison.
 #![tactic(auto)]
 
 mod fill;

@@ -77,7 +77,7 @@ module _ {A : Type 0} where
       let here = h x in
       omega (arith, sum_by-cons f x xs)
 
-  -- Where some member passes the test, the first such member is one that does. Leaving it out takes its amount from
+  -- If some member passes the test, the first such member is one that does. Leaving it out takes its amount from
   -- each sum, and changing it puts another in its place.
   pub record IsFirst (test : A → Bool) (xs : List A) (x : A) : Type 0 where
     pub passes : test x ≡ true
@@ -160,7 +160,7 @@ module _ {A : Type 0} where
       let again = sum_alone f xs i v e (λ j y at_j ne. h (suc j) y at_j (λ q. ne (omega arith))) in
       omega arith
 
-  -- where none passes, a change changes nothing
+  -- if none passes, a change changes nothing
   pub none_changed : (test : A → Bool) (change : A → A) (xs : List A) → sum_by (λ x. one (test x)) xs ≡ 0 → changed test change xs ≡ xs
   none_changed test change [] h = refl
   none_changed test change (x ∷ xs) h =

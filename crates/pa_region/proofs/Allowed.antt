@@ -80,7 +80,7 @@ free_word t words views i v k at_i mine =
     let f = held_within words views i v at_i (FreeTitle t) in
     elim (free_or (count_word (byte_words words) t)) [ inl y ↦ y | inr n ↦ let z = word.taken n in absurd (omega arith) ]
 
--- who holds a title free has no handle of it
+-- a view that holds a title free has no handle of it
 pub free_alone : (t : Title) (words : List ℕ) (views : List View) (i : ℕ) (v : View) → IsKept words views → get_elem? views i ≡ some v →
     0 < free_of v t → IsUser t v → ⊥
 free_alone t words views i v k at_i mine has =

@@ -16,7 +16,7 @@ pub up_to_none : (history : List Done) → up_to 0 history ≡ []
 up_to_none [] = refl
 up_to_none (d ∷ older) = rw (le-ltb (length older) 0 (omega arith)) (up_to_none older)
 
--- a step more changes nothing up to a number that was within
+-- one more step changes nothing up to a number that was within
 pub up_to_more : (k : ℕ) (d : Done) (history : List Done) → k ≤ length history → up_to k (d ∷ history) ≡ up_to k history
 up_to_more k d history within = rw (le-ltb (length history) k within) refl
 

@@ -61,7 +61,7 @@ same_logs v w e f a = record {
     named : (t : Title) → 0 < logged_of w (names t) → 0 < logged_of v (names t)
     named t mine = subst (λ (ss : List Stake). 0 < sum_by (λ (s : Stake). sum_by (names t) s.log) ss) e mine
 
--- what is true of a view is true of who has a share of it
+-- what is true of a view is true of a view that has a share of it
 share_aware : (v w : View) → IsShareOf v w → IsAware v → IsAware w
 share_aware v w h a = record {
   raw_once = λ b. let e = h.things (RawByte b) in let o = a.raw_once b in omega arith;
@@ -105,7 +105,7 @@ share_aware v w h a = record {
     back : HasEveryStake w → HasEveryStake v
     back every k small = let e = h.stakes k in let o = every k small in omega arith
 
--- all of a list pass a test where none passes the other
+-- all members of a list pass a test if none passes the other
 filter_all : (test other : Stake → Bool) (ss : List Stake) → ((s : Stake) → other s ≡ not (test s)) → filter other ss ≡ [] → filter test ss ≡ ss
 filter_all test other [] flips none = refl
 filter_all test other (s ∷ ss) flips none = go (test s) (filter_all test other ss flips) (subst (λ (b : Bool). cond b (s ∷ filter other ss) (filter other ss) ≡ []) (flips s) none)
@@ -114,7 +114,7 @@ filter_all test other (s ∷ ss) flips none = go (test s) (filter_all test other
     go true again e = ap (λ xs. s ∷ xs) (again e)
     go false again e = let l : length (s ∷ filter other ss) ≡ 0 = ap (λ (xs : List Stake). length xs) e in absurd (omega arith)
 
--- who has no stake of any number has none
+-- a view that has no stake of any number has none
 no_stakes : (ss : List Stake) → ((k : ℕ) → sum_by (λ (s : Stake). one (eqb s.number k)) ss ≡ 0) → ss ≡ []
 no_stakes [] none = refl
 no_stakes (s ∷ ss) none =
@@ -122,7 +122,7 @@ no_stakes (s ∷ ss) none =
     let z = none s.number in
     elim (one_eq s.number s.number) [ inl y ↦ let e = y.0 in absurd (omega arith) | inr n ↦ absurd (n.1 refl) ]
 
--- where one part has every stake, the other has none
+-- if one part has every stake, the other has none
 others_none : (v w u : View) → IsAware v → ((k : ℕ) → stake_of w k + stake_of u k ≡ stake_of v k) → HasEveryStake w → u.stakes ≡ []
 others_none v w u a parts every = no_stakes u.stakes none
   where
@@ -139,7 +139,7 @@ not_twice : (b : Bool) → b ≡ not (not b)
 not_twice true = refl
 not_twice false = refl
 
--- so of who hands something over
+-- so of a view that hands something over
 pub left_aware : (p : Parcel) (v : View) → CanHand p v → IsAware v → IsAware (left_after p v)
 left_aware p v can a =
     let parts = hand_parts p v can in
@@ -159,7 +159,7 @@ left_aware p v can a =
       undone = λ t. let e = parts.undone t in omega arith;
     }) a
 
--- and of who gets it
+-- and of the view that gets it
 pub given_aware : (p : Parcel) (v : View) → CanHand p v → IsAware v → IsAware (given_after p v)
 given_aware p v can a =
     let parts = hand_parts p v can in

@@ -132,7 +132,7 @@ aware_of words views i v k at_i = record {
     begins : (q : ℕ) → IsBeginning (list_of q v) (k.list q)
     begins q = among_beginning k.list q v.seen_lists (k.lists.each_view i v at_i).beginnings
 
--- whatever a step tells, it also tells what the rule says of the view after it
+-- whatever a step ensures, it also ensures what the rule says of the view after it
 pub tells_aware : (slots id place : ℕ) (me : Me (Unit {0}) View) (change : ℕ → ℕ) (then : ℕ → Me (Unit {0}) View → Type 0) →
     Allows (λ (s : TableState (Unit {0}) View). IsKept s.words s.views) slots id me place change then →
     Allows (λ (s : TableState (Unit {0}) View). IsKept s.words s.views) slots id me place change (λ word after. then word after × IsAware after.0)

@@ -13,7 +13,7 @@ use Rattle.pa_region.specs.Views.{held_of_view, byte_words, shown}
 use Rattle.pa_region.specs.Rule.{IsKept}
 use Rattle.pa_region.proofs.Pieces.{held_within}
 
--- the words of the bytes, where one of them is written
+-- the words of the bytes after one of them is written
 pub bytes_set : (words : List ℕ) (p x : ℕ) → p < length words - 16 → byte_words (set words p x) ≡ set (byte_words words) p x
 bytes_set words p x below = rw (length-set words p x) (take-set-lt (length words - 16) words p x below)
 

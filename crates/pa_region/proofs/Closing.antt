@@ -38,7 +38,7 @@ clean_split true Dirty = refl
 clean_split true (Poisoned j) = refl
 clean_split false a = refl
 
--- how often a view has the title's Own in another state than clean
+-- how many times a view has the title's Own in a state other than clean
 abbrev unclean_by : Title → View → ℕ
 unclean_by t v = sum_by (λ (o : OwnTitle). one (same_title o.title t && is_unclean o.state)) v.owns
 
@@ -51,7 +51,7 @@ and_second : (a b : Bool) → one (a && b) ≤ one b
 and_second true b = omega arith
 and_second false b = omega arith
 
--- where a view has every stake, and no unclean Own of the title, each Own of the title is clean
+-- if a view has every stake, and no unclean Own of the title, each Own of the title is clean
 owned_clean : (words : List ℕ) (views : List View) (i : ℕ) (v : View) (t : Title) → IsKept words views → get_elem? views i ≡ some v → HasEveryStake v → has_unclean v t ≡ false →
     total_of (shown words views) (OwnAs t Clean) ≡ total_of (shown words views) (OwnOf t)
 owned_clean words views i v t k at_i every clean =
@@ -93,7 +93,7 @@ ends_with words views i v t k at_i every held = record {
       k.content.clean t (omega arith);
 }
 
--- the end, where the rule holds of these words
+-- the end, if the rule holds for these words
 end_of : (words : List ℕ) (views : List View) (i : ℕ) (v : View) → IsKept words views → get_elem? views i ≡ some v → HasEveryStake v → IsEnd (byte_words words) v
 unfolding knows_logs
 end_of words views i v k at_i every = record {

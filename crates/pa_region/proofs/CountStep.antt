@@ -64,7 +64,7 @@ count_step_of step t words views i v k at_i can =
       },
     )
 
--- where a count is known to be 0 after the step on its title, it is
+-- if a count is known to be 0 after the step on its title, it is
 idle_here : (step : Step) (t : Title) (words after : List ℕ) (views : List View) (i : ℕ) (v w : View) → IsKept words views → get_elem? views i ≡ some v →
     HasPiece step t v → CanStep step (count_word (byte_words words) t) → w.owns ≡ (moved step t (count_word (byte_words words) t) v).owns →
     total_of (shown after (set views i w)) (OwnOf t) ≤ total_of (shown words views) (OwnOf t) ⊎ (step ≡ Issue) →

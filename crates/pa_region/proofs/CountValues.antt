@@ -114,7 +114,7 @@ other_holds step t u word v can ne =
     let lf = l.free in let lo = l.own in let gf = g.free in let go = g.own in
     (omega arith, omega arith)
 
--- Of its own title: who holds it free after the step got it back by it; who has its Own had it before, or held the
+-- Of its own title: a view that holds it free after the step got it back by it; one that has its Own had it before, or held the
 -- title free before an issue.
 record IsHeldBy (step : Step) (t : Title) (word : ℕ) (v : View) : Type 0 where
   free : 0 < free_of (after_count step t word v) t → (is_back (stepped step word) ≡ true) × ((step ≡ Reset) ⊎ ((step ≡ Free) × (0 < own_of v t)))

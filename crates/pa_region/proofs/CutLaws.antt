@@ -1,4 +1,4 @@
--- What callers may cut: in a new region, beside what was cut before, and out of what was made raw again.
+-- What callers may cut: in a new region, beside what was cut before, and out of what was uncut.
 use Rattle.std.proofs.Common.{◌≡◌, ℕ, zero, suc, ◌+◌, ◌*◌, ◌%◌, ◌<◌, ◌≤◌, ◌&&◌, List, [], ◌∷◌, set, refl, arith, ◌⊎◌, inl, inr, leb}
 use Rattle.std.specs.Prelude.{slice_index}
 use Rattle.std.proofs.lemmas.List.Sums.{sum_by-cons}
@@ -15,7 +15,7 @@ use Rattle.pa_region.specs.Start.{first_view}
 use Rattle.pa_region.proofs.Parting.{has_byte, range_cases, ranges_part}
 use Rattle.pa_region.proofs.Cutting.{inside_low}
 
--- a range with the byte, whose floor is low enough, counts once
+-- a range with the byte, and with a floor that is low enough, counts once
 low_here : (r : RawRange) (b n : ℕ) → r.start ≤ b → b < r.start + r.len → r.floor ≤ n → one (has_byte r b && leb r.floor n) ≡ 1
 low_here r b n low high floor = elim (range_cases r b) [
   | inl y ↦ rw (y.2, le-leb r.floor n floor) refl
@@ -54,7 +54,7 @@ uncut_gives_back t v = (
       omega (arith, sum_by-cons (λ (r : RawRange). one (has_byte r b && leb r.floor n)) (raw_again t) v.raws),
 )
 
--- a word that is 0 is 0 where a count word was set to 0
+-- a word that is 0 stays 0 if a count word was set to 0
 pub zero_set : (words : List ℕ) (p q : ℕ) → slice_index words q ≡ 0 → slice_index (set words p 0) q ≡ 0
 zero_set [] p q zero_at = zero_at
 zero_set (x ∷ xs) zero zero zero_at = refl

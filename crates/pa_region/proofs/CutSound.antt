@@ -1,4 +1,4 @@
--- The table lets a seat cut and make raw again: the conditions of its calls, and what a seat's type keeps.
+-- The table lets a seat cut and uncut: the conditions of its calls, and what a seat's type keeps.
 use Rattle.std.proofs.Common.{◌≡◌, ℕ, ◌+◌, ◌-◌, ◌/◌, ◌<◌, List, set, refl, sym, ◌∙◌, ap, subst, arith, inl, inr}
 use Rattle.std.proofs.lemmas.List.{set-get_or, get_or-set_same}
 use Rattle.std.proofs.lemmas.List.Sums.{sum_by-cons}
@@ -72,7 +72,7 @@ cut_allowed t slots id place me can zero s k homes at_id small = (
   ((refl, refl), (cut_unseen t s.words s.views id me.0 k at_id can).1),
 )
 
--- and one that can make it raw again may do so
+-- and one that can uncut it may do so
 pub uncut_allowed : (t : Title) (slots id place : ℕ) (me : Me (Unit {0}) View) → CanUncut t me.0 →
     Allows (λ (s : TableState (Unit {0}) View). IsKept s.words s.views) slots id me place (λ n. n) (λ word after. Leaves (after_uncut t me.0) me after)
 uncut_allowed t slots id place me can s k homes at_id small = (

@@ -70,7 +70,7 @@ low_more views b m n less =
       | inr k ↦ let z : leb floor n ≡ true = le-leb floor n (omega arith) in rw z (one_small (leb floor m))
     ]
 
--- a counted step, and an entry that a title was made raw again, name it
+-- a counted step, and an entry that a title was uncut, name it
 pub counted_names : (t : Title) (e : Entry) → counted_on t e ≤ names t e
 counted_names t (Counted u step found value) = omega arith
 counted_names t (Looked u found) = omega arith

@@ -26,7 +26,7 @@ use Rattle.pa_region.proofs.ListPart.{each_set}
 use Rattle.pa_region.proofs.JoinLists.{longer_is}
 
 module _ {A : Type 0} where
-  -- where no member passes the test
+  -- if no member passes the test
   pub each_none : (P Q : A → Type 0) (test : A → Bool) (xs : List A) → sum_by (λ x. one (test x)) xs ≡ 0 → ((x : A) → test x ≡ false → P x → Q x) → Each P xs → Each Q xs
   each_none P Q test [] none h e = tt
   each_none P Q test (x ∷ xs) none h e =
@@ -36,7 +36,7 @@ module _ {A : Type 0} where
         | inr n ↦ (h x n e.0, each_none P Q test xs (omega arith) h e.1)
       ]
 
-  -- where at most one does, and it changes
+  -- if at most one does, and it changes
   pub each_one : (P Q : A → Type 0) (test : A → Bool) (change : A → A) (xs : List A) → sum_by (λ x. one (test x)) xs ≤ 1 →
       ((x : A) → test x ≡ true → P x → Q (change x)) → ((x : A) → test x ≡ false → P x → Q x) → Each P xs → Each Q (changed test change xs)
   each_one P Q test change [] few f h e = tt
@@ -51,13 +51,13 @@ append_nil : (xs : List Made) → xs ++ [] ≡ xs
 append_nil [] = refl
 append_nil (x ∷ xs) = ap (λ ys. x ∷ ys) (append_nil xs)
 
--- what makers had seen rises on, where the last one has seen it all
+-- what makers had seen still grows, if the last one has seen it all
 rises_more : (ms : List Made) (m : Made) → Rises ms → Each (IsKnownTo m.seen) ms → Rises (ms ++ m ∷ [])
 rises_more [] m r known = (tt, tt)
 rises_more (x ∷ ms) m r known =
     (each_append (λ later. IsKnownTo later.seen x) ms (m ∷ []) r.0 (known.0, tt), rises_more ms m r.1 known.1)
 
--- a list of keeper q where that of keeper k has an entry more
+-- a list of keeper q when that of keeper k has one more entry
 abbrev pub list_with : (ℕ → List Made) → ℕ → Made → ℕ → List Made
 list_with list k m q = if eqb q k then list q ++ m ∷ [] else list q
 

@@ -85,7 +85,7 @@ enter_keeps k numbers words views i v r at_i can =
     once : (n : ℕ) → stakes_in views n ≤ 1
     once n = let e = r.logs.each_stake n in elim (one_lt n 16) [ inl y ↦ let z = y.0 in omega arith | inr m ↦ let z = m.0 in omega arith ]
 
--- what the step tells: the view after it
+-- what the step reports: the view after it
 abbrev pub EnterTells : ℕ → List ℕ → Me (Unit {0}) View → Me (Unit {0}) View → Type 0
 EnterTells k numbers me after = (after.0 ≡ after_enter k numbers me.0) × (after.1 ≡ me.1)
 

@@ -70,7 +70,7 @@ least_changed test e (s ∷ ss) = go (test s) (least_changed test e ss)
 pub least_noted : (e : Entry) (ss : List Stake) → least_stake (noted e ss) ≡ least_stake ss
 least_noted e ss = least_changed (λ (s : Stake). eqb s.number (least_stake ss)) e ss
 
--- over all views, one of which becomes w
+-- over all views, when one of them becomes w
 pub logged_set : (views : List View) (i : ℕ) (v w : View) (e : Entry) → get_elem? views i ≡ some v →
     ((weight : Entry → ℕ) → logged_of w weight ≡ logged_of v weight + weight e) →
     (weight : Entry → ℕ) → logged_in (set views i w) weight ≡ logged_in views weight + weight e

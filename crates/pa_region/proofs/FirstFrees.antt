@@ -21,11 +21,11 @@ and_false : (a b : Bool) → b ≡ false → one (a && b) ≡ 0
 and_false true b e = rw e refl
 and_false false b e = refl
 
--- a step more counts where it is a Free and the number is within
+-- one more step counts if it is a Free and the number is within
 pub frees_more : (k : ℕ) (d : Done) (history : List Done) → k ≤ length history → frees_from k (d ∷ history) ≡ one (is_free d.step) + frees_from k history
 frees_more k d history within = let a = and_true (is_free d.step) (leb k (length history)) (le-leb k (length history) within) in omega arith
 
--- and counts nothing where the number is past
+-- and counts nothing if the number is past it
 frees_less : (k : ℕ) (d : Done) (history : List Done) → length history < k → frees_from k (d ∷ history) ≡ frees_from k history
 frees_less k d history past = let a = and_false (is_free d.step) (leb k (length history)) (lt-leb k (length history) past) in omega arith
 
@@ -67,7 +67,7 @@ first_stays d history k n first =
     let r = frees_more (n + 1) d history (omega arith) in
     record { behind = behind; none_before = omega arith; here = omega arith }
 
--- a Free where there was none is the first
+-- a Free is the first if there was none
 pub first_now : (d : Done) (history : List Done) (k : ℕ) → k ≤ length history → frees_from k history ≡ 0 → is_free d.step ≡ true →
     IsFirstFree (d ∷ history) k (length history)
 first_now d history k within none free =
@@ -80,7 +80,7 @@ first_now d history k within none free =
     let o : one (is_free d.step) ≡ 1 = ap one free in
     record { behind = within; none_before = omega arith; here = omega arith }
 
--- where there are some, there is a first
+-- if there are some, there is a first
 pub has_first : (k : ℕ) (history : List Done) → 0 < frees_from k history → (n : ℕ) × IsFirstFree history k n
 has_first k [] some_free = absurd (omega arith)
 has_first k (d ∷ older) some_free =
@@ -119,7 +119,7 @@ bit_kept Reset word can other set = let s = stepped_is Reset word can in s.1 ∙
 bit_kept Free word can other set = absurd (omega arith)
 bit_kept Write word can other set = let s = stepped_is Write word can in s.1 ∙ set
 
--- the bit that was set at a number is set at the end, where no Free came since
+-- the bit that was set at a number is set at the end, if no Free came since
 pub bit_unfreed : (k : ℕ) (history : List Done) → IsLegal history → k ≤ length history → held_of (word_at_number k history) ≡ 1 →
     frees_from k history ≡ 0 → held_of (reached history) ≡ 1
 bit_unfreed k [] legal within set none = set

@@ -1,4 +1,4 @@
--- What the word of a title tells a view that has the title, and that its step is enabled there.
+-- What the word of a title implies for a view that has the title, and that its step is enabled there.
 use Rattle.std.proofs.Common.{◌≡◌, ℕ, ◌<◌, List, length, sym, ap, arith, inl, inr}
 use mathlib.Core.Option.{some}
 use lib.ListN.{get_elem?}
@@ -86,7 +86,7 @@ count_can step t words views i v k at_i can =
     let c = can.2 in
     enabled step t words views i v k at_i held (handle_piece step t v can.0) (omega arith)
 
--- what the title's word tells a view that holds the title
+-- what the title's word implies for a view that holds the title
 pub count_found : (t : Title) (words : List ℕ) (views : List View) (i : ℕ) (v : View) → IsKept words views → get_elem? views i ≡ some v →
     IsTitleHeld (held_of_view v) t → IsFound t (count_word (byte_words words) t) v
 count_found t words views i v k at_i mine =

@@ -18,7 +18,7 @@ use Rattle.pa_region.proofs.HandStep.{hand_parts, hand_keeps}
 use Rattle.pa_region.proofs.JoinStep.{united_parts, join_keeps}
 use Rattle.pa_region.proofs.Merging.{merged_long}
 
--- who holds no more, is as sound
+-- a view that holds no more is as sound
 sound_less : (region : TableId) (v w : View) → IsSeatSound region v → ((x : Thing) → held_of_view w x ≤ held_of_view v x) → length w.words ≡ length v.words → IsSeatSound region w
 sound_less region v w s less long = record {
   small = s.small;

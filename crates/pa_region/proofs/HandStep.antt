@@ -55,12 +55,12 @@ hand_parts p v can = record {
 pub given_clean : (p : Parcel) (v : View) → unclean_of (given_after p v) ≡ 0
 given_clean p v = given_nothing (λ u a. one (is_unclean a)) (λ t. refl) p.items v (empty_of v)
 
--- where no stake is in the parcel, all stay
+-- if no stake is in the parcel, all stay
 stakes_stay : (p : Parcel) (ss : List Stake) → ((k : ℕ) → p.stakes k ≡ false) → filter (λ (s : Stake). not (p.stakes s.number)) ss ≡ ss
 stakes_stay p [] none = refl
 stakes_stay p (s ∷ ss) none = rw (none s.number) (ap (λ xs. s ∷ xs) (stakes_stay p ss none))
 
--- who has an unclean Own keeps its stakes
+-- a view that has an unclean Own keeps its stakes
 left_stake : (p : Parcel) (v : View) → CanHand p v → (0 < unclean_of v → HasStake v) → 0 < unclean_of (left_after p v) → HasStake (left_after p v)
 left_stake p v can stake some_own =
     let u = (hand_parts p v can).unclean in
@@ -73,7 +73,7 @@ left_stake p v can stake some_own =
       | inr n ↦ n
     ]
 
--- who holds less knows less
+-- a view that holds less knows less
 pub knows_less : (v w : View) (q : ℕ) → ((x : Thing) → held_of_view w x ≤ held_of_view v x) → Knows w q → Knows v q
 knows_less v w q less (inl raw) = let e = less (RawByte (8 * q)) in inl (omega arith)
 knows_less v w q less (inr (inl free)) =
@@ -83,7 +83,7 @@ knows_less v w q less (inr (inr own)) =
     let e = less (OwnOf own.0) in let a = owns_have w own.0 in let b = owns_have v own.0 in let has = own.1 in
     inr (inr (own.0, omega arith, own.2))
 
--- a fact of each view, where one is parted
+-- a fact of each view, when one is parted
 pub each_parted : (P : View → Type 0) (views : List View) (i : ℕ) (v l r : View) → get_elem? views i ≡ some v →
     ((j : ℕ) (u : View) → get_elem? views j ≡ some u → P u) → P l → P r → (j : ℕ) (u : View) → get_elem? (set views i l ++ r ∷ []) j ≡ some u → P u
 each_parted P views i v l r at_i before left right j u at_j = elim (at_snoc (set views i l) r u j at_j) [
@@ -115,14 +115,14 @@ listed_part list v w stakes keepers l lists seen s q less fewer = record {
   handles = λ t has. rw seen (l.handles t (let e = fewer t in omega arith));
 }
 
--- the view of who gave, and that of who gets
+-- the giver's view, and the receiver's
 left_keepers : (p : Parcel) (v : View) → CanHand p v → (k : ℕ) → keeper_of (left_after p v) k ≤ keeper_of v k
 left_keepers p v can k = let e = (hand_parts p v can).keepers k in omega arith
 
 given_keepers : (p : Parcel) (v : View) → CanHand p v → (k : ℕ) → keeper_of (given_after p v) k ≤ keeper_of v k
 given_keepers p v can k = let e = (hand_parts p v can).keepers k in omega arith
 
--- who holds less has fewer handles
+-- a view that holds less has fewer handles
 fewer_handles : (v w : View) → ((x : Thing) → held_of_view w x ≤ held_of_view v x) → (t : Title) → own_of w t + ref_of w t ≤ own_of v t + ref_of v t
 fewer_handles v w less t =
     let o = less (OwnOf t) in let r = less (RefOf t) in

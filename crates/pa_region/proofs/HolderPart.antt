@@ -185,7 +185,7 @@ change_of step t a words total later x = record {
   place = (omega arith, omega arith);
 }
 
--- a title that is counted well and whose word isn't read is held
+-- a title that is counted well, and has a word that isn't read, is held
 counted_held : (word : ℕ) (total : Thing → ℕ) (t : Title) → IsCounted word total t → IsTitleHeld total t
 counted_held word total t c =
     elim (cases_lt 0 (total (OwnOf t) + total (RefOf t))) [
@@ -226,7 +226,7 @@ pub word_here : (step : Step) (t : Title) (a : OwnState) (words : List ℕ) (tot
 word_here step t a words total later idle budget steps h x =
     word_written words t (stepped step (count_word words t)) (h.good.divided.well t x.held)
 
--- a counted step keeps the part, where the core stays good: it takes 1 of the budget, and the knowledge that a count is 0
+-- a counted step keeps the part if the core stays good: it takes 1 of the budget, and the knowledge that a count is 0
 -- is true after it
 pub holders_count : (step : Step) (t : Title) (a : OwnState) (words : List ℕ) (total later : Thing → ℕ) (idle idle_after : Title → ℕ) (budget left steps : ℕ) →
     Holders words total idle budget steps → IsCountStep step t a words total later → IsGood (words_by step t words) later → left + 1 ≡ budget →
@@ -268,7 +268,7 @@ holders_count step t a words total later idle idle_after budget left steps h x g
       ];
     }
 
--- a step that changes no word, and nothing of what is held, keeps the part, where the knowledge of counts stays true
+-- a step that changes no word, and nothing of what is held, keeps the part if the knowledge of counts stays true
 pub holders_same : (words : List ℕ) (total later : Thing → ℕ) (idle idle_after : Title → ℕ) (budget left steps more : ℕ) →
     Holders words total idle budget steps → ((x : Thing) → later x ≡ total x) →
     ((u : Title) → 0 < idle_after u → refs_of (count_word words u) ≡ 0) → left ≡ budget → more ≡ steps →
@@ -284,7 +284,7 @@ holders_same words total later idle idle_after budget left steps more h same kno
       few_refs = λ u y. h.few_refs u (held u y);
     }
 
--- a step that changes no held title's count word keeps the part, where the core stays good
+-- a step that changes no held title's count word keeps the part if the core stays good
 pub holders_written : (words after : List ℕ) (total later : Thing → ℕ) (idle idle_after : Title → ℕ) (budget left steps more : ℕ) →
     Holders words total idle budget steps → IsGood after later → ((u : Title) → IsTitleHeld later u → IsTitleHeld total u) →
     ((u : Title) → IsTitleHeld total u → count_word after u ≡ count_word words u) → ((u : Title) → idle_after u ≡ idle u) →

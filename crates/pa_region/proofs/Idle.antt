@@ -134,8 +134,8 @@ busy_there t os has =
     let z : busy_own t (busy first.0) ≡ 1 = rw first.1.passes refl in
     omega arith
 
--- After a copy nobody knows that the count is 0: the view that has the Own has marked it, and where another one has it
--- or none, a Ref was there before.
+-- After a copy no view knows that the count is 0: the view that has the Own has marked it, and if another view has it
+-- or none does, a Ref was there before.
 pub copy_idle : (words : List ℕ) (views : List View) (i : ℕ) (t : Title) (word : ℕ) (v w : View) → get_elem? views i ≡ some v →
     w.owns ≡ changed (is_own_of t) busy v.owns → total_of (shown words (set views i w)) (OwnOf t) ≤ 1 →
     (held_of_view v (OwnOf t) ≡ 0 → idle_in views t ≡ 0) → idle_in (set views i w) t ≡ 0

@@ -21,7 +21,7 @@ longer_is a b = elim (cases_lt (length a) (length b)) [
 same_long : (a b : List Made) → a ≡ b → length a ≡ length b
 same_long a b e = ap (λ xs. length xs) e
 
--- with one note more in front
+-- with one more note at the front
 longest_more : (e whole a b : List Made) → IsLongest whole a b → IsLongest (longer e whole) (longer e a) b
 longest_more e whole a b l =
     let l1 = l.first in let l2 = l.second in
@@ -61,7 +61,7 @@ among_append k (n ∷ ns) ms = go (eqb n.keeper k) (among_append k ns ms)
     go true again = longest_more n.entries (list_among k (ns ++ ms)) (list_among k ns) (list_among k ms) again
     go false again = again
 
--- nothing behind a list that is as long
+-- nothing after a list that is as long
 nothing_behind : (rest : List Made) → length rest ≡ 0 → rest ≡ []
 nothing_behind [] e = refl
 nothing_behind (m ∷ ms) e = absurd (omega arith)
@@ -116,7 +116,7 @@ among_beginning list k (n ∷ ns) each =
       | inr m ↦ rw m.0 again
     ]
 
--- what a stake made stays the same between two lists where it is the same
+-- what a stake made stays the same between two lists if it is the same in both
 pub made_between : (r : ℕ) (a b c : List Made) → IsBeginning a b → IsBeginning b c → made_with r a ≡ made_with r c → made_with r a ≡ made_with r b
 made_between r a b c f g same =
     let e : made_with r b ≡ made_with r a ++ made_with r f.0 = ap (made_with r) f.1 ∙ made_append r a f.0 in

@@ -96,7 +96,7 @@ spent_parts w = record {
   undone = λ t. refl;
 }
 
--- who knows a word of the view of both knows it alone
+-- a word that the view of both knows, only one view knows
 united_knows : (v w : View) (q : ℕ) → Knows (united v w) q → Knows v q ⊎ Knows w q
 united_knows v w q (inl raw) =
     let e = united_held v w (RawByte (8 * q)) in
@@ -123,7 +123,7 @@ united_values words v w long mine other q knows =
       | inr n ↦ at_q ∙ rw (le-ltb 0 (knowing v q) n) (other q (elim (united_knows v w q knows) [ inl z ↦ (let k = knows_knowing v q z in absurd (omega arith)) | inr z ↦ z ]))
     ]
 
--- a fact of each view, where two are joined
+-- a fact of each view, when two are joined
 pub each_joined : (P : View → Type 0) (views : List View) (i j : ℕ) (v w both spent : View) → get_elem? views i ≡ some v → get_elem? (set views i both) j ≡ some w →
     ((m : ℕ) (u : View) → get_elem? views m ≡ some u → P u) → P both → P spent → (m : ℕ) (u : View) → get_elem? (set (set views i both) j spent) m ≡ some u → P u
 each_joined P views i j v w both spent at_i at_j before here rest =

@@ -24,7 +24,7 @@ number_count from (suc count) k =
     let b = sum_by-cons (λ (s : Stake). one (eqb s.number k)) (record { number = from; log = [] }) (stakes_from (suc from) count) in
     omega arith
 
--- where the leases from f on are cut at n, only n is gone
+-- if the leases from f on are cut at n, only n is gone
 cut_at : (f n m : ℕ) → f ≤ n → sum_by (λ x. one (eqb x m)) (numbers_from f (n - f)) + one (leb (suc n) m) + one (eqb n m) ≡ one (leb f m)
 cut_at f n m low =
     let c = number_count f (n - f) m in

@@ -94,7 +94,7 @@ ref_change Reset t a left u = let b = back_ref (is_back left) t u in omega arith
 ref_change Free t a left u = let b = back_ref (is_back left) t u in omega arith
 ref_change Write t a left u = refl
 
--- the words where the title isn't given back
+-- the words if the title isn't given back
 words_stay : (step : Step) (t : Title) (word : ℕ) (v : View) → gives_back step (stepped step word) ≡ false → (moved step t word v).words ≡ v.words
 words_stay Issue t word v e = refl
 words_stay Copy t word v e = refl
@@ -121,7 +121,7 @@ words_beside Free t word v q out = go (is_back (stepped Free word))
     go false = refl
 words_beside Write t word v q out = refl
 
--- the count word where it is given back
+-- the count word if it is given back
 word_back : (step : Step) (t : Title) (word : ℕ) (v : View) → gives_back step (stepped step word) ≡ true → count_place t < length v.words →
     count_word (moved step t word v).words t ≡ stepped step word
 word_back Issue t word v e below = absurd (cc)

@@ -51,7 +51,7 @@ marked_here r = marked_is r r ∙ elim (eqb_tells r r) [ inl y ↦ y.0 | inr n �
 pub marked_beside : (r k : ℕ) → (k ≡ r → ⊥) → (stake_parcel r).stakes k ≡ false
 marked_beside r k ne = marked_is r k ∙ elim (eqb_tells r k) [ inl y ↦ absurd (ne (sym y.1)) | inr n ↦ n.0 ]
 
--- how often the two have a stake
+-- how many times the two have a stake
 pub given_stake : (r : ℕ) (v : View) → stake_of (given_after (stake_parcel r) v) r ≡ stake_of v r
 given_stake r v = filter_number (stake_parcel r).stakes r v.stakes ∙ rw (marked_here r) refl
 
@@ -108,7 +108,7 @@ given_keeper r k v = no_keepers k v.keepers
 pub begins_on : (a b c : List Made) → IsBeginning a b → IsBeginning b c → IsBeginning a c
 begins_on a b c f g = (f.0 ++ g.0, g.1 ∙ (ap (λ xs. xs ++ g.0) f.1 ∙ append_assoc a f.0 g.0))
 
--- who gets a stake back keeps what it has
+-- a view that gets a stake back keeps what it has
 lend_keeps : (lender done : View) (r : ℕ) → CanHand (stake_parcel r) lender → CanHand (stake_parcel r) done → length lender.words ≡ length done.words →
     IsAware (united (left_after (stake_parcel r) lender) (given_after (stake_parcel r) done)) → stake_of done r ≡ stake_of lender r →
     Keeps lender (united (left_after (stake_parcel r) lender) (given_after (stake_parcel r) done))
@@ -193,7 +193,7 @@ keeps_on u v w a b = record {
   undone = λ t. let x = a.undone t in let y = b.undone t in omega arith;
 }
 
--- who had the stake keeps what it has
+-- a view that had the stake keeps what it has
 pub host_keeps : (host lender done : View) (r : ℕ) → CanHand (stake_parcel r) lender → CanHand (stake_parcel r) done → length host.words ≡ length lender.words →
     IsAware (united host (given_after (stake_parcel r) lender)) → stake_of host r ≡ 0 → Keeps (united host (given_after (stake_parcel r) lender)) done →
     Keeps host (left_after (stake_parcel r) done)
@@ -224,7 +224,7 @@ host_keeps host lender done r can there long aware none k =
       undone = λ t. let e = parts.undone t in let f = k.undone t in omega arith;
     }
 
--- who makes an entry keeps what it has
+-- a view that makes an entry keeps what it has
 pub entering_keeps : (k : ℕ) (numbers : List ℕ) (v : View) → CanEnter k v → Keeps v (after_enter k numbers v)
 entering_keeps k numbers v can =
     let e = enter_leaves k numbers v can in
@@ -247,7 +247,7 @@ entering_keeps k numbers v can =
       undone = λ t. omega arith;
     }
 
--- who has no unclean Own has no poisoned one
+-- a view that has no unclean Own has no poisoned one
 pub none_poisoned : (v : View) (t : Title) → unclean_of v ≡ 0 → poisoned_of v t ≡ 0
 none_poisoned v t clean =
     let l = sum_by-le-sum_by (λ (o : OwnTitle). one (same_title o.title t && is_poisoned o.state)) (λ (o : OwnTitle). one (is_unclean o.state)) v.owns (λ o. each (same_title o.title t) o.state) in
@@ -259,7 +259,7 @@ none_poisoned v t clean =
     each true (Poisoned j) = omega arith
     each false a = omega arith
 
--- the least stake of who has the same stakes
+-- the least stake of a view that has the same stakes
 same_least : (v w : View) → HasStake v → ((k : ℕ) → stake_of w k ≡ stake_of v k) → least_stake w.stakes ≡ least_stake v.stakes
 same_least v w has same =
     let a = least_there v.stakes has in
@@ -270,7 +270,7 @@ same_least v w has same =
     let high = least_below v.stakes (least_stake w.stakes) (omega arith) in
     omega arith
 
--- who keeps what could lend can lend again
+-- a view that keeps what could lend can lend again
 pub lends_again : (v w : View) → Keeps v w → CanLend v → CanLend w × (least_stake w.stakes ≡ least_stake v.stakes)
 lends_again v w k can =
     let l = same_least v w can.0 k.stakes in let u = k.unclean in let has = can.0 in let clean = can.1 in

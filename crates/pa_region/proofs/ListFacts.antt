@@ -18,7 +18,7 @@ module _ {A : Type 0} where
   each_both P Q R [] h e f = tt
   each_both P Q R (x ∷ xs) h e f = (h x e.0 f.0, each_both P Q R xs h e.1 f.1)
 
-  -- of two lists, one behind the other
+  -- of two lists, one after the other
   pub each_append : (P : A → Type 0) (xs ys : List A) → Each P xs → Each P ys → Each P (xs ++ ys)
   each_append P [] ys e f = f
   each_append P (x ∷ xs) ys e f = (e.0, each_append P xs ys e.1 f)
@@ -31,7 +31,7 @@ module _ {A : Type 0} where
   each_right P [] ys e = e
   each_right P (x ∷ xs) ys e = each_right P xs ys e.1
 
-  -- where one member changes
+  -- if one member changes
   pub each_changed : (P : A → Type 0) (test : A → Bool) (change : A → A) (xs : List A) → ((x : A) → P x → P (change x)) → Each P xs → Each P (changed test change xs)
   each_changed P test change [] h e = tt
   each_changed P test change (x ∷ xs) h e = go (test x) (each_changed P test change xs h e.1)
@@ -49,7 +49,7 @@ entered_more k [] e = append_nil (entry_in k e)
     append_nil (x ∷ xs) = ap (λ ys. x ∷ ys) (append_nil xs)
 entered_more k (d ∷ log) e = ap (λ xs. entry_in k d ++ xs) (entered_more k log e) ∙ sym (append_assoc (entry_in k d) (entered_in k log) (entry_in k e))
 
--- nothing more, where the entry enters nothing there
+-- nothing more, if the entry enters nothing there
 pub entered_nothing : (k : ℕ) (log : List Entry) (e : Entry) → entry_in k e ≡ [] → entered_in k (log ++ e ∷ []) ≡ entered_in k log
 entered_nothing k log e none = entered_more k log e ∙ (ap (λ xs. entered_in k log ++ xs) none ∙ append_nil (entered_in k log))
   where
@@ -57,7 +57,7 @@ entered_nothing k log e none = entered_more k log e ∙ (ap (λ xs. entered_in k
     append_nil [] = refl
     append_nil (x ∷ xs) = ap (λ ys. x ∷ ys) (append_nil xs)
 
--- what was made with a stake, in two lists one behind the other
+-- what was made with a stake, in two lists one after the other
 pub made_append : (r : ℕ) (a b : List Made) → made_with r (a ++ b) ≡ made_with r a ++ made_with r b
 made_append r [] b = refl
 made_append r (m ∷ a) b = go (eqb m.stake r) (made_append r a b)

@@ -23,7 +23,7 @@ use Rattle.pa_region.proofs.ListFacts.{each_map, each_changed, entered_nothing}
 abbrev pub IsLogging : List Stake → List Stake → Type 0
 IsLogging before after = (after ≡ before) ⊎ ((e : Entry) × (after ≡ noted e before) × ((k : ℕ) → entry_in k e ≡ []))
 
--- a view after a step that enters nothing: it has seen as much at least, also the issue of a title of which it got a handle
+-- a view after a step that enters nothing: it has seen at least as much, also the issue of a title that it got a handle of
 pub record IsGrown (v w : View) : Type 0 where
   pub keepers : w.keepers ≡ v.keepers
   pub leases : w.leases ≡ v.leases
@@ -55,7 +55,7 @@ listed_grown list v w l g = record {
   handles = λ t has. elim (g.handles t has) [ inl y ↦ let a = l.handles t y in let b = g.seen t in omega arith | inr n ↦ n ];
 }
 
--- a fact of each view, where one view changes
+-- a fact of each view, when one view changes
 pub each_set : (P : View → Type 0) (views : List View) (i : ℕ) (v w : View) → get_elem? views i ≡ some v →
     ((j : ℕ) (u : View) → get_elem? views j ≡ some u → (j ≡ i → ⊥) → P u) → P w → (j : ℕ) (u : View) → get_elem? (set views i w) j ≡ some u → P u
 each_set P views i v w at_i others here j u at_j = elim (eqb_tells j i) [

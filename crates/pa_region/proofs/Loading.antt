@@ -1,4 +1,4 @@
--- The table lets a seat load, and what a load tells.
+-- The table lets a seat load, and what a load returns.
 use Rattle.std.proofs.Common.{◌≡◌, ℕ, ◌-◌, ◌*◌, ◌/◌, ◌%◌, ◌<◌, List, length, set, get_or, refl, sym, ◌∙◌, ap, subst, arith, ◌⊎◌, inl, inr}
 use Rattle.std.specs.Prelude.{slice_index}
 use Rattle.std.proofs.lemmas.List.{set-get_or}
@@ -42,7 +42,7 @@ same_cover : (words : List ℕ) (views : List View) (i : ℕ) (v : View) (t u : 
 same_cover words views i v t u b k at_i mine other covers inside =
     k.holders.good.divided.apart t u b (held_in_all words views i v t at_i (title_held v t mine)) (held_in_all words views i v u at_i (title_held v u other)) covers inside
 
--- a plain word is none of a title of which the view has a handle
+-- a plain word is no word of a title that the view has a handle of
 plain_unused : (at_byte : ℕ) (words : List ℕ) (views : List View) (i : ℕ) (v : View) (t : Title) → IsKept words views → get_elem? views i ≡ some v →
     IsPlain v at_byte → Covers t at_byte → IsUser t v → ⊥
 plain_unused at_byte words views i v t k at_i (inl raw) covers has =

@@ -28,7 +28,7 @@ inner true true false d = omega arith
 inner true false c d = omega arith
 inner false b c d = omega arith
 
--- the number is tested where the word is
+-- the test of the word includes that of the number
 inner_number : (a b c d e : Bool) → (c ≡ true → e ≡ true) → one (a && (b && (c && d))) ≤ one (a && e)
 inner_number false b c d e h = omega arith
 inner_number true false c d e h = omega arith

@@ -56,7 +56,7 @@ covering_free q (f ∷ fs) t h covers =
       | inr n ↦ let n0 = n.0 in let again = covering_free q fs t (omega arith) covers in omega arith
     ]
 
--- an Own of which the word is a content word
+-- an Own with the word as a content word
 own_covering : (q : ℕ) (os : List OwnTitle) → 0 < sum_by (λ (o : OwnTitle). one (leb o.title.start (8 * q) && ltb (8 * q + 8) (o.title.start + o.title.len))) os →
     (t : Title) × (0 < sum_by (λ (o : OwnTitle). one (same_title o.title t)) os) × IsContentOf t (8 * q)
 own_covering q [] h = absurd (omega arith)
@@ -112,7 +112,7 @@ merged_long v q [] (y ∷ ys) e = absurd (omega arith)
 merged_long v q (x ∷ xs) [] e = refl
 merged_long v q (x ∷ xs) (y ∷ ys) e = ap suc (merged_long v (suc q) xs ys (omega arith))
 
--- which word stands where
+-- which word is where
 pub merged_at : (v : View) (q : ℕ) (xs ys : List ℕ) (i : ℕ) → length xs ≡ length ys →
     slice_index (merged v q xs ys) i ≡ (if ltb 0 (knowing v (q + i)) then slice_index xs i else slice_index ys i)
 unfolding merged

@@ -24,7 +24,7 @@ moved_stakes Reset t word v = refl
 moved_stakes Free t word v = refl
 moved_stakes Write t word v = refl
 
--- what it made raw again
+-- what it uncut
 pub moved_uncut : (step : Step) (t : Title) (word : ℕ) (v : View) → (moved step t word v).uncut ≡ v.uncut
 moved_uncut Issue t word v = refl
 moved_uncut Copy t word v = refl

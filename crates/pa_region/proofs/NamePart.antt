@@ -17,7 +17,7 @@ named_same words after total later named named_after uncut uncut_after n count s
   held = λ u known none. let e = names u in let f = same_uncut u in stays u (n.held u (omega arith) (omega arith));
 }
 
--- A step on a held title, which one log names once more, keeps the part: a title that no log says was made raw again
+-- A step on a held title, which one log names once more, keeps the part: a title that no log says was uncut
 -- stays held.
 pub named_more : (t : Title) (words after : ℕ) (total later : Thing → ℕ) (low : ℕ → ℕ → ℕ) (named named_after uncut uncut_after : Title → ℕ) →
     Named words total named uncut → Reservations total low named uncut → IsDivided words total → IsTitleHeld total t → after ≡ words →

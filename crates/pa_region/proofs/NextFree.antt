@@ -1,4 +1,4 @@
--- A first Free of a history, in logs: the next one, and in which log it stands.
+-- A first Free of a history, in logs: the next one, and which log it is in.
 use Rattle.std.proofs.Common.{◌≡◌, ℕ, suc, ◌+◌, ◌<◌, ◌≤◌, Bool, true, false, List, [], ◌∷◌, length, refl, sym, ◌∙◌, ap, arith, inl, inr, eqb}
 use Rattle.std.specs.Prelude.{if◌then◌else◌}
 use Rattle.std.specs.List.{sum_by}
@@ -27,7 +27,7 @@ use Rattle.pa_region.proofs.AtNumber.{up_to_all, up_to_more, up_to_length, up_to
 use Rattle.pa_region.proofs.FirstFrees.{frees_more, frees_past, frees_fewer, first_within}
 use Rattle.pa_region.proofs.Standing.{logged_two, at_number, step_stands}
 
--- the Frees from a number on are one more than those after it exactly where the step there is a Free
+-- the Frees from a number on are one more than those after it if and only if the step there is a Free
 frees_at : (d : Done) (history : List Done) (n : ℕ) → n < length history → up_to (n + 1) history ≡ d ∷ up_to n history →
     frees_from n history ≡ frees_from (n + 1) history + one (is_free d.step)
 frees_at d [] n below at_n = absurd (omega arith)

@@ -22,7 +22,7 @@ use Rattle.pa_region.proofs.TakeLaws.{left_whole}
 use Rattle.pa_region.proofs.Leaving.{enter_leaves}
 use Rattle.pa_region.proofs.LendBack.{marked_here, given_stake, given_beside, log_filter, log_right, lends_back, host_keeps, entering_keeps}
 
--- who has only clean Owns may hand its stake over
+-- a view that has only clean Owns may hand its stake over
 pub can_hand : (r : ℕ) (v : View) → unclean_of v ≡ 0 → CanHand (stake_parcel r) v
 can_hand r v clean = record { items = tt; budget = omega arith; leases = tt; clean = λ k marked. clean }
 
@@ -30,7 +30,7 @@ can_hand r v clean = record { items = tt; budget = omega arith; leases = tt; cle
 abbrev pub both_of : View → View → View
 both_of a h = united h (given_after (stake_parcel (least_stake a.stakes)) a)
 
--- how often it has a stake
+-- how many times it has a stake
 pub both_stake : (a h : View) → CanHost h → stake_of (both_of a h) (least_stake a.stakes) ≡ stake_of a (least_stake a.stakes)
 both_stake a h host =
     let e = (united_parts h (given_after (stake_parcel (least_stake a.stakes)) a)).stakes (least_stake a.stakes) in
@@ -57,7 +57,7 @@ host_least a h lends host =
           absurd (omega arith)
     ]
 
--- so it may make an entry where it has the keeper
+-- so it may make an entry if it has the keeper
 pub enter_can : (a h : View) (k : ℕ) → CanLend a → CanHost h → 0 < keeper_of h k → CanEnter k (both_of a h)
 enter_can a h k lends host has =
     let e = (united_parts h (given_after (stake_parcel (least_stake a.stakes)) a)).keepers k in

@@ -28,7 +28,7 @@ pub one_true : (b : Bool) → 0 < one b → b ≡ true
 one_true true h = refl
 one_true false h = absurd (omega arith)
 
--- what a quiet read right after an entry tells
+-- what a quiet read right after an entry shows
 pub record IsQuietRead (own : Bool) (t : Title) (found value : ℕ) (a : Entry) (u : Title) (given : ℕ) (since : Deeds) (owned unclean : Bool) : Type 0 where
   pub looked : a ≡ Looked t found
   pub title : u ≡ t
@@ -68,12 +68,12 @@ quiet_tells own t found value (Added w bytes) u place given since owned unclean 
 quiet_tells own t found value (Entered keeper numbers) u place given since owned unclean h = absurd (omega arith)
 quiet_tells own t found value (Uncut again) u place given since owned unclean h = absurd (omega arith)
 
--- nothing was handed over where all was quiet
+-- nothing was handed over if all was quiet
 pub quiet_handed : (d : Deeds) → is_quiet d ≡ true → d.handed ≡ false
 quiet_handed d q = not-true d.handed (and_parts (not d.handed) (not d.stored && not d.poisoned) q).0
 
--- What a read's word is, by the title's word and history. Where the bit is 0, it is poison. Through a clean Own it is
--- the content. Through a Ref alone, where the bit is set, it is the content; or it is poison, and an Own is poisoned in a
+-- What a read's word is, by the title's word and history. If the bit is 0, it is poison. Through a clean Own it is
+-- the content. Through a Ref alone, if the bit is set, it is the content; or it is poison, and an Own is poisoned in a
 -- view apart from the reader's stake.
 pub record IsWordRead (history : List Done) (word value : ℕ) (owned unclean : Bool) (poisoned : ℕ) : Type 0 where
   pub freed : held_of word ≡ 0 → value ≡ poison
@@ -89,7 +89,7 @@ pub record HasLast (history : Title → List Done) (words : List ℕ) (v : View)
   pub waits : (found : ℕ) → last ≡ Some (Looked t found) → v.since.handed ≡ false → Waits history words v t found
   pub own_log : (n : ℕ) → logs (counted_at t n) ≡ sum_by (counted_at t n) (least_log v.stakes)
 
--- where the bit was set in the word that a look found, and a read gave poison, somebody else frees
+-- if the bit was set in the word that a look found, and a read gave poison, another thread is freeing the slot
 frees_apart : (history : Title → List Done) (words : List ℕ) (v : View) (t : Title) (last : Option Entry) (logs_by : ℕ → (Entry → ℕ) → ℕ) (poisoned : Title → ℕ → ℕ)
     (r found : ℕ) → HasLast history words v t last (logs_by r) → last ≡ Some (Looked t found) → v.since.handed ≡ false → held_of found ≡ 1 →
     (held_of (count_word words t) ≡ 0) ⊎ (0 < poisoned t r) → IsFreeing logs_by poisoned (history t) t r (number_of found)
@@ -110,7 +110,7 @@ frees_apart history words v t last logs_by poisoned r found k is quiet set why =
       )
 ]
 
--- a read that gives poison where the bit is 0 makes no pair that gave another value
+-- a read that gives poison when the bit is 0 makes no pair that gave another value
 gave_poison : (history : Title → List Done) (words : List ℕ) (v : View) (t : Title) (place value : ℕ) (owned unclean : Bool) (a : Entry) →
     ((found : ℕ) → a ≡ Looked t found → v.since.handed ≡ false → Waits history words v t found) → (held_of (count_word words t) ≡ 0 → value ≡ poison) →
     gave_no_poison a (Read t place value v.since owned unclean) ≡ 0

@@ -51,7 +51,7 @@ unfolding blank
 blank_long zero = refl
 blank_long (suc n) = ap suc (blank_long n)
 
--- the rule holds at the start, where the words are 0
+-- the rule holds at the start, if the words are 0
 pub opens : (words budget : ℕ) → budget ≤ 65536 → IsKept (replicate (words + 16) 0) (first_view words budget ∷ [])
 opens words budget few = record {
   history = λ t. [];

@@ -33,7 +33,7 @@ last_more (a ∷ b ∷ log) e = last_more (b ∷ log) e
 abbrev pub stake_with : ℕ → List Entry → Stake
 stake_with k log = record { number = k; log = log }
 
--- a sum over stakes, of which the first of a number gains an entry
+-- a sum over stakes, when the first of a number gains an entry
 sum_noted_at : (f : Stake → ℕ) (e : Entry) (k : ℕ) (ss : List Stake) → 0 < sum_by (λ (s : Stake). one (eqb s.number k)) ss →
     sum_by f (changed (λ (s : Stake). eqb s.number k) (with_entry_last e) ss) + f (stake_with k (log_among k ss)) ≡
     sum_by f ss + f (stake_with k (log_among k ss ++ e ∷ []))
@@ -74,7 +74,7 @@ noted_by amount r more e ss has grows =
       | inr n ↦ let d = rw n.0 at c in rw n.0 (omega arith)
     ]
 
--- Where one view's least log gains an entry, over all views: the pairs,
+-- If one view's least log gains an entry, over all views: the pairs,
 pub paired_set : (views : List View) (i : ℕ) (v w : View) (e : Entry) → get_elem? views i ≡ some v → w.stakes ≡ noted e v.stakes → least_stake v.stakes < 16 →
     (weight : Entry → Entry → ℕ) → paired_in (set views i w) weight ≡ paired_in views weight + weight_after weight (last_entry (least_log v.stakes)) e
 paired_set views i v w e at_i stakes has weight =
@@ -101,7 +101,7 @@ logged_by_set views i v w e at_i stakes has r weight =
     rw stakes (noted_by (sum_by weight) r (weight e) e v.stakes has (sum_by_push weight (least_log v.stakes) e)) in
     omega arith
 
--- where no view's stakes change, none of them does
+-- if no view's stakes change, none of them does
 pub by_same : (amount : Stake → ℕ) (views : List View) (i : ℕ) (v w : View) → get_elem? views i ≡ some v → w.stakes ≡ v.stakes →
     sum_by (λ (u : View). sum_by amount u.stakes) (set views i w) ≡ sum_by (λ (u : View). sum_by amount u.stakes) views
 by_same amount views i v w at_i stakes =
@@ -142,7 +142,7 @@ by_none amount r (s ∷ ss) none =
           omega arith
     ]
 
--- a log whose entries stand at these places has this pair
+-- a log with its entries at these places has this pair
 pub pair_at : (weight : Entry → Entry → ℕ) (before : List Entry) (a b : Entry) (later : List Entry) → weight a b ≤ pairs weight (before ++ a ∷ b ∷ later)
 pair_at weight [] a b later = omega arith
 pair_at weight (x ∷ []) a b later = omega arith

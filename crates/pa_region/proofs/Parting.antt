@@ -223,7 +223,7 @@ pub items_owns : (g : Title → OwnState → ℕ) (xs : List Item) (v w : View) 
 items_owns g [] v w can = refl
 items_owns g (x ∷ xs) v w can = items_owns g xs (without_item x v) (with_item x v w) can.1 ∙ item_owns g x v w can.0
 
--- what is given counts nothing where a clean Own does
+-- what is given counts nothing if a clean Own counts nothing
 pub given_nothing : (g : Title → OwnState → ℕ) → ((t : Title) → g t Clean ≡ 0) → (xs : List Item) (v w : View) → owns_by g (given_of xs v w) ≡ owns_by g w
 given_nothing g none [] v w = refl
 given_nothing g none (x ∷ xs) v w = given_nothing g none xs (without_item x v) (with_item x v w) ∙ here x

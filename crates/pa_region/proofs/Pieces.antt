@@ -24,7 +24,7 @@ use Rattle.pa_region.specs.Views.{raw_piece, own_piece, pieces_of, held_of_view,
 use Rattle.pa_region.specs.Moves.{changed, is_title_of, is_own_of, is_back, HasHandle, moved, busy, written}
 use Rattle.pa_region.proofs.Adding.{IsFirst, sum_set, sum_part, sum_map, sum_none, first_of, one_and}
 
--- how often a view holds a thing, by the four lists of its holdings
+-- how many times a view holds a thing, by the four lists of its holdings
 abbrev pub raw_sum : View → Thing → ℕ
 raw_sum v x = sum_by (λ r. amount x (raw_piece r)) v.raws
 
@@ -54,7 +54,7 @@ held_split v x =
     let g = sum_map (amount x) RefPiece v.refs in
     omega arith
 
--- the titles that a view holds stand in its lists
+-- the titles that a view holds are in its lists
 pub frees_have : (v : View) (t : Title) → held_of_view v (FreeTitle t) ≡ free_of v t
 frees_have v t =
     let s = held_split v (FreeTitle t) in
@@ -187,7 +187,7 @@ own_as_own v t a =
     sum_by-le-sum_by (λ (o : OwnTitle). one (same_title o.title t && same_state o.state a)) (λ (o : OwnTitle). one (is_own_of t o)) v.owns
     (λ o. one_and (same_title o.title t) (same_state o.state a))
 
--- who has the handle has the piece
+-- a view that has the handle has the piece
 pub handle_piece : (step : Step) (t : Title) (v : View) → HasHandle step t v → HasPiece step t v
 handle_piece Issue t v has = has
 handle_piece Copy t v has = let l = own_as_own v t Clean in omega arith

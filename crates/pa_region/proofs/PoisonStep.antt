@@ -35,13 +35,13 @@ use Rattle.pa_region.proofs.WriteStep.{IsWrite, write_keeps}
 use Rattle.pa_region.proofs.StoreStep.{content_no_count, title_below}
 use Rattle.pa_lists.proofs.Tests.{both_true}
 
--- an Own with so many words poisoned is an Own
+-- an Own with this many words poisoned is an Own
 pub own_to_own : (v : View) (t : Title) (j : ℕ) → own_to v t j ≤ own_of v t
 own_to_own v t j =
     sum_by-le-sum_by (λ (o : OwnTitle). one (same_title o.title t && (progress o.state == j))) (λ (o : OwnTitle). one (is_own_of t o)) v.owns
     (λ o. one_and (same_title o.title t) (progress o.state == j))
 
--- the state of an Own with so many words poisoned
+-- the state of an Own with this many words poisoned
 pub state_to : (v : View) (t : Title) (j : ℕ) → 0 < own_to v t j → (b : OwnState) × (progress b ≡ j) × (0 < held_of_view v (OwnAs t b))
 state_to v t j has = (first.0.state, so_many, holds)
   where

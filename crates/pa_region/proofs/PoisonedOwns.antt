@@ -92,7 +92,7 @@ unpoisoned t (o ∷ os) =
     go true (Poisoned j) = omega arith
     go false a = omega arith
 
--- so the one Own of a title, where it is clean or dirty, isn't poisoned
+-- so the one Own of a title, if it is clean or dirty, isn't poisoned
 pub none_poisoned : (v : View) (t : Title) → 0 < own_as v t Clean + own_as v t Dirty → own_of v t ≤ 1 → poisoned_of v t ≡ 0
 none_poisoned v t unfrozen few = let all = unpoisoned t v.owns in omega arith
 
@@ -129,7 +129,7 @@ looked_same f t word os = sum_changed (λ (o : OwnTitle). f o.title o.state) (is
     go true o = refl
     go false o = refl
 
--- how often a view that hasn't stake r has the title's Own poisoned
+-- how many times a view that hasn't stake r has the title's Own poisoned
 abbrev pub apart_of : Title → ℕ → View → ℕ
 apart_of t r v = if ltb 0 (stake_of v r) then 0 else poisoned_of v t
 
@@ -158,7 +158,7 @@ apart_less t r v =
     poisoned_less : (t : Title) (os : List OwnTitle) → sum_by (λ (o : OwnTitle). one (same_title o.title t && is_poisoned o.state)) os ≤ sum_by (λ (o : OwnTitle). one (same_title o.title t)) os
     poisoned_less t os = sum_by-le-sum_by (λ (o : OwnTitle). one (same_title o.title t && is_poisoned o.state)) (λ (o : OwnTitle). one (same_title o.title t)) os (λ o. go (same_title o.title t) (is_poisoned o.state))
 
--- where the one Own of a title is in a view that has stake r, none is poisoned apart from it
+-- if the one Own of a title is in a view that has stake r, none is poisoned apart from it
 pub none_beside : (views : List View) (i : ℕ) (v : View) → get_elem? views i ≡ some v → (t : Title) (r : ℕ) → sum_by (λ u. own_of u t) views ≤ 1 → 0 < own_of v t →
     0 < stake_of v r → poisoned_apart views t r ≡ 0
 none_beside views i v at_i t r few mine stake =

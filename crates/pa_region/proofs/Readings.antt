@@ -1,4 +1,4 @@
--- That reads gave what they should stays true: where logs gain an entry, and where histories and Owns go on.
+-- That reads gave what they should stays true: when logs gain an entry, and when histories and Owns go on.
 use Rattle.std.proofs.Common.{◌≡◌, ℕ, ◌+◌, ◌<◌, ◌≤◌, Bool, true, false, ◌&&◌, List, [], ◌∷◌, Some, None, Option, refl, ◌∙◌, arith, inl, inr, eqb}
 use Rattle.std.specs.List.{sum_by}
 use Rattle.std.proofs.lemmas.List.Sums.{sum_by-cons, sum_by-le-sum_by}
@@ -125,7 +125,7 @@ right_none history pairs pairs_by logs_by poisoned freed none none_by = record {
   ref = λ r t found value set some_pair. let z = none_by r false t found value in absurd (omega arith);
 }
 
--- the reason stays, where no counted step was made and no Own got clean
+-- the reason stays, if no counted step was made and no Own got clean
 pub freeing_same : (logs_by after_by : ℕ → (Entry → ℕ) → ℕ) (poisoned later : Title → ℕ → ℕ) (history : List Done) (t : Title) (r k : ℕ) →
     ((n : ℕ) → after_by r (counted_at t n) ≡ logs_by r (counted_at t n)) → (0 < poisoned t r → 0 < later t r) →
     IsFreeing logs_by poisoned history t r k → IsFreeing after_by later history t r k

@@ -45,11 +45,11 @@ each_set P Q views i v w at_i each here beside j u at_j = elim (eqb_tells j i) [
       beside j u n.1 was (each j u was)
 ]
 
--- the least stake stays where an entry is made
+-- the least stake stays when an entry is made
 pub stake_noted : (e : Entry) (v w : View) → w.stakes ≡ noted e v.stakes → HasStake v → HasStake w
 stake_noted e v w stakes has = let l : least_stake w.stakes ≡ least_stake v.stakes = ap least_stake stakes ∙ least_noted e v.stakes in omega arith
 
--- an amount is the same where none is added
+-- an amount is the same if none is added
 pub none_more : (b : Bool) (more was now : ℕ) → now ≡ was + (if b then more else 0) → more ≡ 0 → now ≡ was
 none_more true more was now e z = omega arith
 none_more false more was now e z = omega arith
@@ -61,7 +61,7 @@ reader_handed history words v handed stake = record {
   stake = stake;
 }
 
--- Other views, of which each is a reader: what the rule says of reads goes over where they have the logs of each stake as
+-- Other views that are each a reader: what the rule says of reads goes over if they have the logs of each stake as
 -- before, and no poisoned Own is clean, freed, or in a view with a stake that it was apart from.
 pub reads_over : (history : Title → List Done) (words after : List ℕ) (views later : List View) → Reads history words views →
     ((weight : Entry → Entry → ℕ) → paired_in later weight ≡ paired_in views weight) → ((r : ℕ) (weight : Entry → Entry → ℕ) → paired_by later r weight ≡ paired_by views r weight) →
@@ -74,7 +74,7 @@ reads_over history words after views later reads paired by_number logged poisone
   each_view = each;
 }
 
--- A step that logs nothing keeps what the rule says of reads: where its view has its stakes and titles as before, each
+-- A step that logs nothing keeps what the rule says of reads, if its view has its stakes and titles as before, each
 -- poisoned Own stays one, an Own is unclean only with a stake, and the words of held titles stay.
 pub reads_other : (history : Title → List Done) (words after : List ℕ) (views : List View) (i : ℕ) (v w : View) → get_elem? views i ≡ some v →
     Reads history (byte_words words) views → w.stakes ≡ v.stakes → ((t : Title) → HasTitle v t → HasTitle w t) →

@@ -1,4 +1,4 @@
--- Steps that only regroup what the views have: where all sums stay, the rule's parts do.
+-- Steps that only regroup what the views have: if all sums stay, the rule's parts do.
 use Rattle.std.proofs.Common.{◌≡◌, ℕ, ◌+◌, ◌<◌, ◌≤◌, Bool, true, false, ◌&&◌, List, [], ◌∷◌, ◌++◌, length, set, refl, sym, ◌∙◌, ap, subst, arith, ◌⊎◌, inl, inr}
 use Rattle.std.specs.List.{sum_by}
 use Rattle.std.specs.Prelude.{nat_lt, if◌then◌else◌}
@@ -49,7 +49,7 @@ pub record IsRegrouped (before after : List View) : Type 0 where
   pub poisoned : (t : Title) (k : ℕ) → poisoned_apart before t k ≤ poisoned_apart after t k
   pub undone : (t : Title) → undone_in after t ≡ undone_in before t
 
--- contents stay where the totals do
+-- contents stay if the totals do
 content_regrouped : (words : List ℕ) (before after : List View) (last : Title → ℕ) → ((x : Thing) → total_of (shown words after) x ≡ total_of (shown words before) x) →
     KeepsContent (shown words before) last → KeepsContent (shown words after) last
 content_regrouped words before after last same k = record {
@@ -104,7 +104,7 @@ kept_regrouped words before after k g values listed free readers =
       undone = λ t. let a = g.undone t in let b = g.logs (uncuts t) in let c = k.undone t in omega arith;
     }
 
--- how often a view that doesn't have stake k has the title's Own poisoned
+-- how many times a view that doesn't have stake k has the title's Own poisoned
 abbrev pub apart_of : View → Title → ℕ → ℕ
 apart_of v t k = if nat_lt 0 (stake_of v k) then 0 else poisoned_of v t
 
@@ -128,7 +128,7 @@ apart_parted v l r t k stakes poisoned = elim (apart_is v t k) [
       ]
 ]
 
--- nor does a join, where the stakes that come find none
+-- nor does a join, if the stakes that come find none
 apart_joined : (v w both : View) (t : Title) (k : ℕ) → stake_of both k ≡ stake_of v k + stake_of w k → poisoned_of both t ≡ poisoned_of v t + poisoned_of w t →
     CanTake v w → apart_of v t k + apart_of w t k ≤ apart_of both t k
 apart_joined v w both t k stakes poisoned can = elim (apart_is both t k) [
@@ -219,7 +219,7 @@ join_less f views i j v w both spent at_i at_j e none =
     let b = sum_set f (set views i both) j w spent at_j in
     omega arith
 
--- who has no Own knows of none that no Ref of it is left
+-- a view that has no Own knows of none that no Ref of it is left
 idle_within : (v : View) (t : Title) → idle_of v t ≤ own_of v t
 idle_within v t = sum_by-le-sum_by (λ (o : OwnTitle). one (same_title o.title t && o.idle)) (λ (o : OwnTitle). one (same_title o.title t)) v.owns (λ o. one_and (same_title o.title t) o.idle)
 

@@ -22,7 +22,7 @@ use Rattle.pa_region.specs.Shares.{Share, IsStepMade}
 abbrev pub IsRelease : Step → Type 0
 IsRelease step = (step ≡ Reset) ⊎ (step ≡ Free)
 
--- a release that is enabled is a returning step exactly where the word after it is free
+-- a release that is enabled is a returning step if and only if the word after it is free
 returns_free : (step : Step) (word : ℕ) → IsRelease step → CanStep step word → IsReturning step word → IsFree (stepped step word)
 returns_free step word (inl e) can r = go (subst (λ (s : Step). CanStep s word) e can) (subst (λ (s : Step). IsReturning s word) e r)
   where
@@ -46,7 +46,7 @@ free_returns step word (inr e) can f = subst (λ (s : Step). IsReturning s word)
     go : CanStep Free word → IsFree (stepped Free word) → IsReturning Free word
     go can f = let s = stepped_is Free word can in let a = s.0 in let b = s.1 in let c = s.2 in let p = f.0 in let q = f.1 in (omega arith, omega arith)
 
--- how often the seat holds the title free after a release
+-- how many times the seat holds the title free after a release
 frees_after : (step : Step) (t : Title) (word : ℕ) (v : View) → IsRelease step → HasPiece step t v →
     free_of (after_count step t word v) t ≡ free_of v t + held_in (returned_at (stepped step word) t) (FreeTitle t)
 frees_after step t word v release has =

@@ -28,7 +28,7 @@ stakes_kept has v w same s k below = s k below ∙ ap (ltb 0) (sym (same k))
 pub stakes_equal : (v w : View) → w.stakes ≡ v.stakes → SameStakes v w
 stakes_equal v w e k = ap (λ ss. sum_by (λ (s : Stake). one (eqb s.number k)) ss) e
 
--- how often a number stands among those that pass a test on numbers
+-- how many times a number is among those that pass a test on numbers
 pub filter_number : (test : ℕ → Bool) (k : ℕ) (ss : List Stake) →
     sum_by (λ (s : Stake). one (eqb s.number k)) (filter (λ (s : Stake). test s.number) ss) ≡ (if test k then sum_by (λ (s : Stake). one (eqb s.number k)) ss else 0)
 filter_number test k [] = nothing (test k)

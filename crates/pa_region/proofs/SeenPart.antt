@@ -64,7 +64,7 @@ seen_within views i v logs unseen at_i s t =
 abbrev pub note : Title → ℕ → SeenNumber
 note t number = record { title = t; number = number }
 
--- a note more never takes back what was seen
+-- one more note never takes back what was seen
 pub note_grows : (t : Title) (number : ℕ) (notes : List SeenNumber) (u : Title) → seen_among u notes ≤ seen_among u (note t number ∷ notes)
 note_grows t number notes u = elim (title_tells t u) [
   | inl y ↦ rw y.0 (le-max_right number (seen_among u notes))
@@ -109,7 +109,7 @@ ahead_antitone views t a b h =
     go true n = lt_antitone a b n h
     go false n = omega arith
 
--- An entry in the log of one view, with a number of its title that is now seen, keeps the part: where all logs have
+-- An entry in the log of one view, with a number of its title that is now seen, keeps the part, if all logs have
 -- that many counted steps on the title, and the entry is seen.
 pub seen_entered : (views : List View) (i : ℕ) (v w : View) (logs after : (Entry → ℕ) → ℕ) (e : Entry) (t : Title) (number : ℕ) →
     get_elem? views i ≡ some v → w.seen ≡ note t number ∷ v.seen → ((f : Entry → ℕ) → logged_of w f ≡ logged_of v f + f e) →

@@ -11,7 +11,7 @@ use Rattle.pa_region.specs.declared.view.View.{View}
 use Rattle.pa_region.specs.Views.{pieces_of, held_of_view, byte_words, shown}
 
 module _ {A B : Type 0} where
-  -- what stands at a place of a list that is mapped
+  -- what is at a place of a list that is mapped
   pub map_at : (f : A → B) (xs : List A) (i : ℕ) (x : A) (d : B) → get_elem? xs i ≡ some x → get_or (map f xs) i d ≡ f x
   map_at f [] i x d e = absurd (some-ne-none x (sym e))
   map_at f (y ∷ ys) zero x d e = ap f (some-injective y x e)
@@ -42,7 +42,7 @@ module _ {A B : Type 0} where
   map_same f (z ∷ zs) (suc i) x y e same = ap (λ bs. f z ∷ bs) (map_same f zs i x y e same)
 
 module _ {A : Type 0} where
-  -- the member that was put at a place stands there, and the others stay
+  -- the member that was put at a place is there, and the others stay
   pub put_there : (xs : List A) (i : ℕ) (x y : A) → get_elem? xs i ≡ some x → get_elem? (set xs i y) i ≡ some y
   put_there [] i x y e = absurd (some-ne-none x (sym e))
   put_there (z ∷ zs) zero x y e = refl
@@ -63,7 +63,7 @@ pub shown_held : (words : List ℕ) (views : List View) (i : ℕ) (v : View) →
     held_by (shown words views) i x ≡ held_of_view v x
 shown_held words views i v at_i x = ap (λ ps. held_in ps x) (map_at pieces_of views i v [] at_i)
 
--- what actor k holds where these views are shown
+-- what actor k holds when these views are shown
 abbrev get_held : List View → ℕ → Thing → ℕ
 get_held vs k x = held_in (get_or (map pieces_of vs) k []) x
 

@@ -1,4 +1,4 @@
--- A step that logs have stands in the title's history at the number that it found.
+-- A step that logs have is in the title's history at the number that it found.
 use Rattle.std.proofs.Common.{◌≡◌, ℕ, zero, suc, ◌+◌, ◌<◌, ◌≤◌, ◌&&◌, List, [], ◌∷◌, ◌++◌, length, refl, sym, ◌∙◌, ap, arith, inl, inr, eqb}
 use Rattle.std.specs.Prelude.{if◌then◌else◌}
 use Rattle.std.specs.List.{sum_by}
@@ -102,7 +102,7 @@ pub logged_two : (v : View) → AddsUp (logged_of v)
 logged_two v f g h each =
     sum_two (λ (s : Stake). sum_by f s.log) (λ (s : Stake). sum_by g s.log) (λ (s : Stake). sum_by h s.log) v.stakes (λ s. sum_two f g h s.log each)
 
--- what stands in a history at a number
+-- what is in a history at a number
 pub record IsAtNumber (logs : (Entry → ℕ) → ℕ) (t : Title) (history : List Done) (k : ℕ) (d : Done) : Type 0 where
   pub stands : up_to (k + 1) history ≡ d ∷ up_to k history
   pub logged : logs (counted_as t d.step (word_at_number k history) d.value) ≡ 1

@@ -1,4 +1,4 @@
--- What stays over all views where one view changes and keeps it.
+-- What stays over all views when one view changes and keeps it.
 use Rattle.std.proofs.Common.{◌≡◌, ℕ, ◌+◌, ◌≤◌, ◌&&◌, List, set, refl, arith, ltb, leb}
 use Rattle.std.proofs.lemmas.List.Sums.{sum_by-le-sum_by}
 use mathlib.Core.Option.{some}
@@ -12,7 +12,7 @@ use Rattle.pa_region.specs.Views.{raw_piece, held_of_view, shown, low_of, low_in
 use Rattle.pa_region.proofs.Adding.{one_and, sum_set}
 use Rattle.pa_region.proofs.Pieces.{held_split, total_sum}
 
--- floors stay where a view's raw ranges do
+-- floors stay if a view's raw ranges do
 pub low_set : (views : List View) (i : ℕ) (v w : View) → get_elem? views i ≡ some v → w.raws ≡ v.raws → (b n : ℕ) → low_in (set views i w) b n ≡ low_in views b n
 low_set views i v w at_i e b n =
     let c = sum_set (λ u. low_of u b n) views i v w at_i in
@@ -26,7 +26,7 @@ stakes_set views i v w at_i same k =
     let s = same k in
     omega arith
 
--- what a view's own list says was made raw again, some log says, where the lists stay and no log loses anything
+-- what a view's own list says was uncut, some log says, if the lists stay and no log loses anything
 pub undone_set : (views : List View) (i : ℕ) (v w : View) → get_elem? views i ≡ some v → w.uncut ≡ v.uncut →
     ((t : Title) → uncut_in views t ≤ uncut_in (set views i w) t) → ((t : Title) → undone_in views t ≤ uncut_in views t) →
     (t : Title) → undone_in (set views i w) t ≤ uncut_in (set views i w) t

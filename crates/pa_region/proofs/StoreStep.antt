@@ -35,7 +35,7 @@ use Rattle.pa_region.proofs.OneTitle.{few_owns}
 use Rattle.pa_region.proofs.PoisonedOwns.{sum_grows, none_poisoned}
 use Rattle.pa_region.proofs.WriteStep.{IsWrite, write_keeps}
 
--- the test tells whether the word is a content word of the Own
+-- the test says whether the word is a content word of the Own
 content_test : (at_byte : ℕ) (o : OwnTitle) → ((has_content_at at_byte o ≡ true) × IsContentOf o.title at_byte) ⊎ ((has_content_at at_byte o ≡ false) × (IsContentOf o.title at_byte → ⊥))
 content_test at_byte o = elim (cases_lt at_byte o.title.start) [
   | inl y ↦ inr (rw (lt-leb o.title.start at_byte y) refl, (λ h. let z = h.0 in omega arith))
@@ -116,7 +116,7 @@ store_holds at_byte value v x same =
     let c = changed_sum (has_content_at at_byte) dirty (λ o. amount x (own_piece o)) v.owns same in
     omega arith
 
--- no Own of the view has the word, where it is raw, or in a free title
+-- no Own of the view has the word, if it is raw, or in a free title
 pub plain_owns : (at_byte : ℕ) (words : List ℕ) (views : List View) (i : ℕ) (v : View) → IsKept words views → get_elem? views i ≡ some v →
     HasRawWord v at_byte ⊎ HasFreeContent v at_byte → changed (has_content_at at_byte) dirty v.owns ≡ v.owns
 plain_owns at_byte words views i v k at_i plain =
@@ -199,7 +199,7 @@ store_write at_byte value words views i v k at_i can = record {
     no_count (inr (inl free)) t held e = content_no_count words views free.0 t at_byte k (free_in_all words views i v free.0 at_i free.1) free.2 can.0 held e
     no_count (inr (inr own)) t held e = content_no_count words views own.0 t at_byte k (own_in_all words views i v own.0 at_i (owned own.0 own.1)) own.3 can.0 held e
 
-    -- of the Own whose content it is, no state is a poisoned one
+    -- the Own with this content is in no poisoned state
     unpoisoned : (own : HasIdleContent v at_byte) → (u : Title) (j : ℕ) (o : OwnTitle) → get_elem? v.owns j ≡ some o → has_content_at at_byte o ≡ true →
         one (same_title o.title u && is_poisoned o.state) ≡ 0
     unpoisoned own u j o at_j here = elim (content_test at_byte o) [
@@ -260,7 +260,7 @@ plain_changes at_byte value words views i v k at_i plain x =
     ap (λ (os : List OwnTitle). sum_by (λ o. amount x (own_piece o)) os) (plain_owns at_byte words views i v k at_i plain) in
     omega arith
 
--- the state in which the store finds the Own whose content it changes
+-- the state of the Own with this content when the store finds it
 own_changes : (at_byte value : ℕ) (words : List ℕ) (views : List View) (i : ℕ) (v : View) (t : Title) → IsKept words views → get_elem? views i ≡ some v →
     0 < own_of v t → IsContentOf t at_byte →
     (a : OwnState) × (0 < held_of_view v (OwnAs t a)) × Changes (held_of_view v) (OwnPiece t a ∷ []) (OwnPiece t Dirty ∷ []) (held_of_view (after_store at_byte value v))

@@ -46,7 +46,7 @@ same_entries a b (q ∷ qs) k has e f =
       | inr n ↦ let z = n.0 in same_entries a b qs k (omega arith) e.1 f.1
     ]
 
--- so who has a keeper sees no more of its list after a take
+-- so a view that has a keeper sees no more of its list after a take
 pub left_whole : (v w : View) (k : ℕ) → IsAware v → IsAware (united v w) → 0 < keeper_of v k → list_of k (united v w) ≡ list_of k v
 left_whole v w k a both has =
     same_entries (λ q. list_of q v) (λ q. list_of q (united v w)) v.keepers k has a.own_lists
@@ -122,7 +122,7 @@ right_known v w q a long knows = elim (cases_lt 0 (knowing v q)) [
   | inr n ↦ joined_word v w q long ∙ rw (le-ltb 0 (knowing v q) n) refl
 ]
 
--- who holds a title free knows its count word
+-- a view that holds a title free knows its count word
 pub knows_count : (n : ℕ) (t : Title) (v : View) → IsWellFormed n t → 0 < free_of v t → Knows v (count_place t)
 knows_count n t v well free = inr (inl (t, free, word_covered n t (count_place t) well (omega arith, omega arith)))
 

@@ -1,4 +1,4 @@
--- Making a free title raw again is an enabled event of the core that is shown, and keeps the rule.
+-- Uncutting a free title is an enabled event of the core that is shown, and keeps the rule.
 use Rattle.std.proofs.Common.{◌≡◌, ℕ, ◌+◌, ◌*◌, ◌<◌, ◌≤◌, Bool, true, false, ◌&&◌, List, [], ◌∷◌, length, set, refl, sym, ◌∙◌, ap, subst, arith, inl, inr, leb}
 use Rattle.std.specs.List.{sum_by}
 use Rattle.std.specs.Prelude.{◌==◌}

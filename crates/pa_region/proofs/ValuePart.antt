@@ -24,11 +24,11 @@ use Rattle.pa_region.proofs.Shown.{put_there, put_beside}
 abbrev pub ShownGood : List ℕ → List View → Type 0
 ShownGood words views = IsGood (byte_words words) (total_of (shown words views))
 
--- how often a view holds a title free or as an Own
+-- how many times a view holds a title free or as an Own
 abbrev sole : View → Title → ℕ
 sole v t = held_of_view v (FreeTitle t) + held_of_view v (OwnOf t)
 
--- how often it holds it in any way
+-- how many times it holds it in any way
 abbrev any_of : View → Title → ℕ
 any_of v t = sole v t + held_of_view v (RefOf t)
 
@@ -57,7 +57,7 @@ sole_once words views i j v u t g at_i at_j ne mine other =
     refl_at : (w : View) → held_of_view w (FreeTitle t) + held_of_view w (OwnOf t) ≡ sole w t
     refl_at w = omega arith
 
--- who holds a title free is the only one that has it
+-- a view that holds a title free is the only one that has it
 free_only : (words : List ℕ) (views : List View) (i j : ℕ) (v u : View) (t : Title) → ShownGood words views → get_elem? views i ≡ some v →
     get_elem? views j ≡ some u → (j ≡ i → ⊥) → 0 < any_of v t → 0 < held_of_view u (FreeTitle t) → ⊥
 free_only words views i j v u t g at_i at_j ne mine other =
@@ -82,7 +82,7 @@ free_only words views i j v u t g at_i at_j ne mine other =
     refl_any : (w : View) → sole w t + held_of_view w (RefOf t) ≡ any_of w t
     refl_any w = omega arith
 
--- a byte is raw at most once, and not where a held title lies
+-- a byte is raw at most once, and not inside a held title
 pub raw_once : (words : List ℕ) (total : Thing → ℕ) (b : ℕ) → IsGood words total → total (RawByte b) ≤ 1
 raw_once words total b g = elim (cases_lt b (8 * length words)) [
   | inl below ↦ elim (g.divided.bytes b below) [ inl r ↦ let z = r.0 in omega arith | inr r ↦ let z = r.0 in omega arith ]
@@ -125,7 +125,7 @@ knows_apart words views i j v u q g at_i at_j ne mine other = go (knows_where v 
         let same = g.divided.apart t.0 r.0 (8 * q) (title_held i v t.0 at_i t.1) (title_held j u r.0 at_j r.1) t.2 r.2 in
         sole_once words views i j v u r.0 g at_i at_j ne (subst (λ (z : Title). 0 < sole v z) same t.1) r.1
 
--- nobody but who has the title knows its count word
+-- only a view that has the title knows its count word
 pub place_unknown : (words : List ℕ) (views : List View) (i j : ℕ) (v u : View) (t : Title) → ShownGood words views → get_elem? views i ≡ some v →
     get_elem? views j ≡ some u → (j ≡ i → ⊥) → IsTitleHeld (held_of_view v) t → Knows u (count_place t) → ⊥
 place_unknown words views i j v u t g at_i at_j ne mine other = go other
@@ -163,7 +163,7 @@ place_unknown words views i j v u t g at_i at_j ne mine other = go other
         let p = inside.1 in
         absurd (omega arith)
 
--- After a step of one view what the views know is true, where the step left each word that another view knows, and where
+-- After a step of one view what the views know is true, if the step left each word that another view knows, and if
 -- what the view itself knows is true.
 pub values_step : (words after : List ℕ) (views : List View) (i : ℕ) (v w : View) → get_elem? views i ≡ some v → Values words views →
     length after ≡ length words → length w.words ≡ length v.words →
@@ -186,7 +186,7 @@ values_step words after views i v w at_i vs same_length long others mine = recor
   ];
 }
 
--- where no word changes, and the view knows no more than before
+-- if no word changes, and the view knows no more than before
 pub values_same : (words : List ℕ) (views : List View) (i : ℕ) (v w : View) → get_elem? views i ≡ some v → Values words views →
     w.words ≡ v.words → ((q : ℕ) → Knows w q → Knows v q) → Values words (set views i w)
 values_same words views i v w at_i vs same knows =

@@ -1,4 +1,4 @@
--- What a look waits with, under the steps of others and where it is made.
+-- What a look waits with, when others step and when it is made.
 use Rattle.std.proofs.Common.{◌≡◌, ℕ, ◌<◌, ◌≤◌, List, [], ◌∷◌, ◌++◌, Some, length, refl, sym, ◌∙◌, ap, subst, arith, inl, inr, eqb}
 use Rattle.std.specs.List.{sum_by}
 use Rattle.std.proofs.lemmas.List.Sums.{sum_by-cons, sum_by_push}
@@ -70,7 +70,7 @@ last_counts weight (a ∷ []) e is =
     some_is a b same = cc
 last_counts weight (a ∷ b ∷ log) e is = let again = last_counts weight (b ∷ log) e is in omega (arith, sum_by-cons weight a (b ∷ log))
 
--- a look goes on waiting where its view has title and logs as before, and the word has the same bit
+-- a look goes on waiting if its view has title and logs as before, and the word has the same bit
 pub waits_same : (history : Title → List Done) (words after : List ℕ) (v w : View) (t : Title) (found : ℕ) → Waits history words v t found →
     HasTitle w t → w.stakes ≡ v.stakes → held_of (count_word after t) ≡ held_of (count_word words t) → Waits history after w t found
 waits_same history words after v w t found waits has stakes same = record {

@@ -125,7 +125,7 @@ whole_reads history words views i v reads at_i every each = record {
       | inr n ↦ let z = by_none (pairs weight) r v.stakes (omega arith) in absurd (omega arith)
     ]
 
--- the pair of a look and a read of its title, where the read is quiet
+-- the pair of a look and a read of its title, if the read is quiet
 quiet_pair : (own : Bool) (t : Title) (found place value : ℕ) (since : Deeds) (owned unclean : Bool) → is_quiet since ≡ true → unclean ≡ false → owned ≡ own →
     quiet_read own t found value (Looked t found) (Read t place value since owned unclean) ≡ 1
 quiet_pair true t found place value since owned unclean quiet clean owner =

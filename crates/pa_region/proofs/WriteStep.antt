@@ -1,4 +1,4 @@
--- A step that writes one known word, which is no count word, keeps the rule where it keeps the core good and its contents.
+-- A step that writes one known word, which is no count word, keeps the rule if it keeps the core good and its contents.
 use Rattle.std.proofs.Common.{◌≡◌, ℕ, ◌-◌, ◌*◌, ◌<◌, ◌≤◌, List, length, set, refl, sym, ◌∙◌, ap, subst, arith, inl, inr}
 use Rattle.std.specs.Prelude.{slice_index, ◌==◌}
 use Rattle.std.specs.List.{sum_by}

@@ -16,7 +16,7 @@ use Rattle.pa_region.proofs.Pieces.{title_held, held_title, owns_have, idle_owns
 use Rattle.pa_region.proofs.StoreStep.{store_keeps, store_holds, plain_owns, own_dirty}
 use Rattle.pa_region.proofs.PoisonStep.{poison_keeps, poison_holds, own_to_own}
 
--- what a step tells whose seat is left with this view
+-- what a step that leaves its seat with this view reports
 abbrev pub Leaves : View → Me (Unit {0}) View → Me (Unit {0}) View → Type 0
 Leaves w me after = (after.0 ≡ w) × (after.1 ≡ me.1)
 

@@ -48,7 +48,7 @@ logged_of_by v r weight = sum_by (amount_by r (sum_by weight)) v.stakes
 abbrev pub logged_by : List View → ℕ → (Entry → ℕ) → ℕ
 logged_by views r weight = sum_by (λ v. logged_of_by v r weight) views
 
--- the log of the first stake whose number is k
+-- the log of the first stake with the number k
 abbrev pub log_among : ℕ → List Stake → List Entry
 log_among k [] = []
 log_among k (s ∷ ss) = if s.number == k then s.log else log_among k ss

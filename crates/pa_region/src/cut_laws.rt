@@ -1,4 +1,4 @@
-//! What callers may cut, as laws: calls that do nothing, and whose clauses are proved.
+//! What callers may cut, as laws: calls that do nothing, but have proved clauses.
 ghost use Rattle.pa_region.specs.CutTells.{FirstCanCut, CutLeavesOthers, UncutGivesBack, CutsLeaveZero};
 
 /// In a new region each title inside can be cut.

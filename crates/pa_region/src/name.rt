@@ -2,7 +2,7 @@ ghost use Rattle.std.specs.Prelude.{[]};
 
 use std::marker::Brand;
 
-/// Which region a value belongs to that is kept behind a lock, so that only its type can say what is known of it. It has no
+/// Which region a value that is kept behind a lock belongs to: only its type can say what is known of it. It has no
 /// calls. One call of a program picks the region: it gives `Brand` for the name.
 pub trait Name {
     ghost use Rattle.atomic_table.specs.Seated.{TableId};

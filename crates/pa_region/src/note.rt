@@ -39,7 +39,7 @@ impl Note {
         seat
     }
 
-    /// What the rule says of the note's view, whose list of words is as long as the region's. It costs nothing: it hands
+    /// What the rule says of the note's view; its list of words is as long as the region's. It costs nothing: it hands
     /// on what the note's type keeps.
     pub fn aware(&self)
         ensures aware { IsAware self.now.view }

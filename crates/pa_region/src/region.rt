@@ -78,7 +78,7 @@ impl Seat {
 }
 
 impl Seat {
-    /// What the rule says of the seat's view, whose list of words is as long as the region's. It costs nothing: it hands
+    /// What the rule says of the seat's view; its list of words is as long as the region's. It costs nothing: it hands
     /// on what the seat's type keeps.
     pub fn aware(&self)
         ensures aware { IsAware self.now.view }

@@ -79,7 +79,7 @@ enabled_with (Cut actor t) s h =
     (has_with s actor h.0, aside s actor (λ ps. (b : ℕ) → t.start ≤ b → b < t.start + t.len → 0 < held_in ps (RawByte b)) h.1, h.2, h.3, h.4, h.5)
 enabled_with (Uncut actor t) s h = (has_with s actor h.0, aside s actor (λ ps. 0 < held_in ps (FreeTitle t)) h.1)
 
--- what actors lose and gain, where the one more does neither
+-- what actors lose and gain, if the additional one does neither
 exchanged_with : (before after : List (List Piece)) (from to : ℕ) (lost gained : List Piece) → from < length before → to < length before →
     Exchanges before (of_actor from lost) (of_actor to gained) after →
     Exchanges (before ++ [] ∷ []) (of_actor from lost) (of_actor to gained) (after ++ [] ∷ [])

@@ -56,7 +56,7 @@ inside_out a e b (r ∷ rs) out =
     let c = sum_by-cons (has_raw b) (inner_part a e r) (inside a e rs) in
     omega arith
 
--- a view's raw bytes stand in its ranges
+-- a view's raw bytes are in its ranges
 raws_have : (v : View) (b : ℕ) → held_of_view v (RawByte b) ≡ sum_by (has_raw b) v.raws
 raws_have v b =
     let s = held_split v (RawByte b) in
@@ -93,7 +93,7 @@ range_given start len v (OwnOf t) has once = sum_none (λ (r : RawRange). amount
 range_given start len v (OwnAs t s) has once = sum_none (λ (r : RawRange). amount (OwnAs t s) (raw_piece r)) (inside start (start + len) v.raws) (λ r. refl)
 range_given start len v (RefOf t) has once = sum_none (λ (r : RawRange). amount (RefOf t) (raw_piece r)) (inside start (start + len) v.raws) (λ r. refl)
 
--- who gets an item has this item more
+-- a view that gets an item has this item more
 item_came : (x : Item) (v w : View) → HoldsGiven x v → HasRawOnce v → (th : Thing) →
     held_of_view (with_item x v w) th ≡ held_of_view w th + amount th (piece_of x)
 item_came (Raw start len) v w has once th =
@@ -119,7 +119,7 @@ item_came (Ref t) v w has once th =
     let s2 = held_split w th in
     omega arith
 
--- and who gives it has it less
+-- and the giver has it once less
 item_out : (x : Item) (v w : View) → HoldsGiven x v → HasRawOnce v → (th : Thing) →
     held_of_view (without_item x v) th + amount th (piece_of x) ≡ held_of_view v th
 item_out x v w has once th =

@@ -14,14 +14,14 @@ use Rattle.pa_machine.proofs.Totals.{of_actor_here, of_actor_apart}
 use Rattle.pa_machine.proofs.Lasting.{lasts}
 use Rattle.pa_region_core.specs.Handed.{hands_of}
 
--- who holds these pieces has the item
+-- a view that holds these pieces has the item
 abbrev pub HasItem : List Piece → Item → Type 0
 HasItem ps (Raw start len) = (b : ℕ) → start ≤ b → b < start + len → 0 < held_in ps (RawByte b)
 HasItem ps (Free t) = 0 < held_in ps (FreeTitle t)
 HasItem ps (Own t) = 0 < held_in ps (OwnAs t Clean)
 HasItem ps (Ref t) = 0 < held_in ps (RefOf t)
 
--- one item goes from who had the first pieces, which are the third then, to who had the second, which are the last then
+-- one item goes from the holder of the first pieces, which are the third then, to that of the second, which are the last then
 pub record IsPassed (x : Item) (giver getter left given : List Piece) : Type 0 where
   pub has : HasItem giver x
   pub out : (th : Thing) → held_in left th + amount th (piece_of x) ≡ held_in giver th
@@ -92,7 +92,7 @@ passed_event x s from to left given ne has_from has_to p = (
       ]
     ]
 
--- where two actors changed before, and change again
+-- if two actors changed before, and change again
 over_again : (hs : List (List Piece)) (from to : ℕ) (mid got left given : List Piece) → (from ≡ to → ⊥) →
     set (set hs to given) from left ≡ set (set (set (set hs to got) from mid) to given) from left
 over_again hs from to mid got left given ne = sym (

@@ -21,7 +21,7 @@ use Rattle.pa_region.specs.Hands.{united, spent_of}
 use Rattle.pa_region_core.specs.Handed.{raw_item, own_item, items_held}
 use Rattle.pa_region_core.proofs.Passing.{HasItem, ArePassed, pass_both}
 
--- who has the piece of an item has the item
+-- a view that has the piece of an item has the item
 first_has : (x : Item) (ps : List Piece) → HasItem (piece_of x ∷ ps) x
 first_has (Raw start len) ps = λ b low high.
     let c = sum_by-cons (amount (RawByte b)) (RawPiece start len) ps in
@@ -44,7 +44,7 @@ first_has (Ref t) ps =
 abbrev Grows : (List Piece → List Piece) → Type 0
 Grows place = (ps : List Piece) (q : Piece) (th : Thing) → held_in (place (ps ++ q ∷ [])) th ≡ held_in (place ps) th + amount th q
 
--- items whose pieces stand first go to that place, one after the other
+-- items with their pieces first go to that place, one after the other
 pass_first : (place : List Piece → List Piece) → Grows place → (xs : List Item) (rest ps : List Piece) →
     ArePassed xs (map piece_of xs ++ rest) (place ps) rest (place (ps ++ map piece_of xs))
 pass_first place grows [] rest ps = (refl, ap place (append-nil ps))
@@ -71,7 +71,7 @@ grows_between left right ps q th =
     let f = sum_by-append (amount th) ps right in
     omega arith
 
--- and behind a list
+-- and after a list
 grows_behind : (left : List Piece) (place : List Piece → List Piece) → Grows place → Grows (λ ps. left ++ place ps)
 grows_behind left place grows ps q th =
     let a = sum_by-append (amount th) left (place (ps ++ q ∷ [])) in

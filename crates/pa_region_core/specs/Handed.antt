@@ -21,7 +21,7 @@ use Rattle.pa_region.specs.Hands.{Parcel, CanHand, CanTake, left_after, given_af
 abbrev pub with_actor : State → State
 with_actor s = record { words = s.words; holdings = s.holdings ++ [] ∷ [] }
 
--- Such an actor changes nothing that is said of a core: what each actor holds, the new one nothing; what all hold; whether
+-- Such an actor changes nothing that is said of a core: what each actor holds (the new one nothing); what all hold; whether
 -- the core is good; and which content it keeps.
 abbrev pub ActorAddsNothing : Type 0
 ActorAddsNothing =
@@ -37,11 +37,11 @@ ActorAddsNothing =
 abbrev pub ActorStaysAside : Type 0
 ActorStaysAside = (s : State) (events : List Event) (after : State) → IsRunTo s events after → IsRunTo (with_actor s) events (with_actor after)
 
--- each of these items goes from one actor to the other, one after the other
+-- each of these items goes from the first actor to the second, one after the other
 abbrev pub hands_of : ℕ → ℕ → List Item → List Event
 hands_of from to items = map (Hand from to) items
 
--- a raw range as an item, and an Own, which is handed clean
+-- a raw range as an item; and an Own, which is handed over clean
 abbrev pub raw_item : RawRange → Item
 raw_item r = Raw r.start r.len
 
@@ -52,7 +52,7 @@ own_item o = Own o.title
 abbrev pub items_held : View → List Item
 items_held v = map raw_item v.raws ++ (map Free v.frees ++ (map own_item v.owns ++ map Ref v.refs))
 
--- A hand by view number i is a run of the core, to which an actor was added that holds nothing: the actor i hands it the
+-- A hand by view number i is a run of the core, with one more actor that holds nothing: the actor i hands it the
 -- parcel's items, in their order, each while it has it. The run ends in the core that is shown after the hand, and no word
 -- has changed.
 abbrev pub HandIsItsEvents : Type 0

@@ -1,4 +1,4 @@
-//! What a hand and a take are in the core, as laws: calls that do nothing, and whose clauses are proved.
+//! What a hand and a take are in the core, as laws: calls that do nothing, but have proved clauses.
 ghost use Rattle.pa_region_core.specs.Handed.{ActorAddsNothing, ActorStaysAside, HandIsItsEvents, TakeIsItsEvents};
 
 /// A core with one more actor, which holds nothing, is the same to all that is said of a core: what each actor holds, what

@@ -1,4 +1,4 @@
--- The pool was asked: where its entry stands, that it is new to the root, and what the log says.
+-- The pool was asked: where its entry is, that it is new to the root, and what the log says.
 use Rattle.std.proofs.Common.{◌≡◌, ℕ, ◌+◌, ◌<◌, ◌≤◌, List, [], ◌∷◌, ◌++◌, Option, Some, None, length, map, refl, sym, ◌∙◌, ap, subst, arith}
 use Rattle.std.specs.Prelude.{slice_get}
 use Rattle.std.proofs.lemmas.List.{append-nil, length-append, length-map, map-append}
@@ -27,7 +27,7 @@ use Rattle.pa_root.proofs.Entries.{on, entry_is_new}
 pub begun_length : (a b : List Made) → IsBeginning a b → length a ≤ length b
 begun_length a b (rest, e) = let k = length-append a rest in let n = ap length e in omega arith
 
--- who shows what it has seen can lend its stake still, the same one
+-- a seat that shows what it has seen can still lend its stake, the same one
 pub shown_lends : (v mid root root_now : View) → IsShown root root_now v mid → CanLend v → CanLend mid × (least_stake mid.stakes ≡ least_stake v.stakes)
 shown_lends v mid root root_now shown can = lends_again v mid (shown.taker 0).keeps can
 
@@ -69,7 +69,7 @@ asked_is line p count index found v root root_now mid after pool pool_now shown 
       later = omega arith;
     }
 
--- ---- where the run lies
+-- ---- where the run is
 
 next_supers : (a : PoolAct) (s : PoolState) → (pool_next a s).supers ≡ s.supers
 next_supers (Take count None) s = refl

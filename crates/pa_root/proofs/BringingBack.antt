@@ -1,4 +1,4 @@
--- A title that comes back is made raw again, and its super pages are given to the pool: what the steps tell.
+-- A title that comes back is uncut, and its super pages are given to the pool: what the steps ensure.
 use Rattle.std.proofs.Common.{◌≡◌, ℕ, ◌<◌, ◌≤◌, [], ◌∷◌, ◌++◌, Some, length, map, sym, ◌∙◌, ap, subst, arith}
 use Rattle.std.specs.Prelude.{slice_get}
 use Rattle.std.proofs.lemmas.List.{append-nil, length-map, map-append}
@@ -34,7 +34,7 @@ use Rattle.pa_root.proofs.Together.{free_both, no_own_clean}
 use Rattle.pa_root.proofs.Asked.{shown_lends}
 
 module _ (t : Title) (w : View) (has : HasOnly (t ∷ []) w) where
-  -- the note has it free, and so has who takes it in
+  -- the note has it free, and so has the seat that takes it in
   pub free_in_note : 0 < free_of w t
   free_in_note = (has.frees t).1 (first_in t [])
 
@@ -47,7 +47,7 @@ module _ (t : Title) (w : View) (has : HasOnly (t ∷ []) w) where
   note_clean : unclean_of w ≡ 0
   note_clean = no_own_clean w (λ v. let h = has.handles v in omega arith)
 
-  -- who took it in can be lent a stake still
+  -- the seat that took it in can still be lent a stake
   pub both_hosts : (root shown u : View) → CanHost root → Keeps root shown → u ≡ united shown w → CanHost u
   both_hosts root shown u (none, clean) keeps is =
       let parts = united_parts shown w in
@@ -82,7 +82,7 @@ module _ (t : Title) (w : View) (has : HasOnly (t ∷ []) w) where
         inside = let i = well.inside in omega arith;
       }
 
--- The pool's entry that says what was given back: where it stands, that it is new, and that the root has seen it.
+-- The pool's entry that says what was given back: where it is, that it is new, and that the root has seen it.
 pub given_is : (line p taken first count index : ℕ) (seat seat_now : Share) (after root root_now : View) (pool pool_now : PoolValue) →
     IsGivenBack line p taken first count index seat seat_now pool pool_now → CanLend seat.view → IsAware seat.view → IsAware seat_now.view → IsPoolKept pool →
     IsShown seat_now.view after root root_now → IsGivenFor (least_stake seat.view.stakes) line p first count index seat.view after root root_now

@@ -20,7 +20,7 @@ use Rattle.pa_root.proofs.Giving.{was_made, good}
 pub free_there : (v w : View) (titles : List Title) → HasOnly titles w → (t : Title) → Contains titles t → 0 < free_of (united v w) t
 free_there v w titles has t among = let here = (has.frees t).1 among in let e = free_both v w t in omega arith
 
--- numbers that are the same are told the same
+-- equal numbers mean the same
 pub same_numbers : (v w : View) (ts : List Title) → ((t : Title) → Contains ts t → seen_of v t ≡ seen_of w t) → numbered_by v ts ≡ numbered_by w ts
 same_numbers v w [] same = refl
 same_numbers v w (t ∷ ts) same =
@@ -28,7 +28,7 @@ same_numbers v w (t ∷ ts) same =
     let rest = same_numbers v w ts (λ u among. same u (later_in t u ts among)) in
     ap (λ (x : Numbered). x ∷ numbered_by v ts) here ∙ ap (λ xs. at_number_seen w t ∷ xs) rest
 
--- the titles are told at the note's numbers
+-- the titles are named with the note's numbers
 pub numbers_came : (p : ℕ) (s : RootState) (w : View) (titles : List Title) → CanComeBack p s w titles →
     numbered_by (united s.view w) titles ≡ numbered_by w titles
 numbers_came p s w titles can =

@@ -134,7 +134,7 @@ module _ (p : ℕ) (s : RootState) (w : View) (titles : List Title) (can : CanCo
     abbrev entry : RootEntry
     entry = root_entry line (Give (numbered_by w titles))
 
-    -- who holds it free after that
+    -- a view that holds it free after that
     free_where : (t : Title) → 0 < free_of x t → (0 < free_of s.view t) ⊎ Contains titles t
     free_where t free =
         let e = free_now s.view w x keeps t in

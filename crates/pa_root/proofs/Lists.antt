@@ -41,7 +41,7 @@ pools_are_read = record {
   list = λ list pools same. read_by_numbers list ∙ ap (map pool_entry_read) same ∙ read_again pools;
 }
 
--- who has seen more of the pool's list has seen more of its entries
+-- a view that has seen more of the pool's list has seen more of its entries
 pub pools_more : (v x : View) → IsBeginning (list_of 4 v) (list_of 4 x) → (rest : List PoolEntry) × (pools_seen x ≡ pools_seen v ++ rest)
 pools_more v x (rest, e) = (pools_read rest, ap pools_read e ∙ map-append (λ (m : Made). pool_entry_read m.numbers) (list_of 4 v) rest)
 

@@ -1,4 +1,4 @@
--- A direct map as a call: the root is sound with its entry, and the caller is told.
+-- A direct map as a call: the root is sound with its entry, and what the caller knows.
 use Rattle.std.proofs.Common.{◌≡◌, ℕ, ◌%◌, ◌≤◌, [], ◌∷◌, ◌++◌, Some, length, refl, sym, ◌∙◌, ap, subst, arith}
 use Rattle.pa_machine.specs.declared.title.Title.{Title}
 use Rattle.pa_layout.specs.Pages.{supers_for}
@@ -34,7 +34,7 @@ use Rattle.pa_root.proofs.Parcels.{KeepsBut, keeps_but}
 use Rattle.pa_root.proofs.Together.{no_own_clean, hosts_both}
 use Rattle.pa_root.proofs.Mapped as made
 
--- the pages of a direct map of so many bytes came to a sound root, and its title was cut
+-- the pages of a direct map of this many bytes came to a sound root, and its title was cut
 pub record HasMapCut (p line len asked first : ℕ) (s : RootState) (r : ℕ) (v a w note c : View) : Type 0 where
   pub pages : HasPages p line (supers_for len) asked first s r v a w note
   pub whole : len % 8 ≡ 0

@@ -1,4 +1,4 @@
--- A direct map that comes back is still mapped: its seat would hold no title that it made raw again.
+-- A direct map that comes back is still mapped: its seat would hold no title that it uncut.
 use Rattle.std.proofs.Common.{[], subst, arith, refl, inl, inr}
 use Rattle.pa_region.specs.Lists.{list_of, IsBeginning}
 use Rattle.pa_region.proofs.JoinStep.{united_parts}

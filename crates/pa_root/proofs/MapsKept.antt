@@ -16,7 +16,7 @@ use Rattle.pa_pool.specs.Calls.{HasSeenTake}
 use Rattle.pa_pool.proofs.Gave.{seen_stays}
 use Rattle.pa_root.specs.Keeping.{RootState, KnowsMaps}
 
--- A seat that has seen more of the pool's list, and whose own list has what it had.
+-- A seat that has seen more of the pool's list; its own list has what it had.
 pub record SeesMore (v x : View) : Type 0 where
   pub undone : (t : Title) → undone_of v t ≤ undone_of x t
   pub pool : IsBeginning (list_of 4 v) (list_of 4 x)
@@ -27,7 +27,7 @@ taken_stays : (p : ℕ) (v x : View) (t : Title) → SeesMore v x →
     (first : ℕ) × (t.start ≡ page_place first 1) × HasSeenTake p t.born first (supers_for t.len) x
 taken_stays p v x t more (first, start, seen) = (first, start, seen_stays p t.born first (supers_for t.len) v x more.pool seen)
 
--- An entry goes on where its seat sees more, each direct map stays mapped or was made raw again, and what the entry maps is mapped; and what is
+-- An entry goes on where its seat sees more, each direct map stays mapped or was uncut, and what the entry maps is mapped; and what is
 -- mapped besides has its take.
 pub maps_go_on : (p : ℕ) (s : RootState) (x : View) (e : RootEntry) (after : Root) → KnowsMaps p s → SeesMore s.view x →
     ((t : Title) → Contains s.root.maps t → Contains after.maps t ⊎ (0 < undone_of x t)) →
@@ -56,7 +56,7 @@ maps_leave p s x e after knows more same none =
     maps_go_on p s x e after knows more (λ t among. inl (subst (λ ts. Contains ts t) (sym same) among))
     (λ asked len slot is. absurd (none asked len slot is)) (λ t among. inl (subst (λ ts. Contains ts t) same among))
 
--- and where its seat sees more
+-- and if its seat sees more
 pub maps_stay : (p : ℕ) (s : RootState) (x : View) → KnowsMaps p s → SeesMore s.view x → KnowsMaps p (record { view = x; journal = s.journal; root = s.root })
 maps_stay p s x knows more = record {
   mapped = λ t made. elim (knows.mapped t made) [ inl there ↦ inl there | inr gone ↦ inr (let g = more.undone t in omega arith) ];

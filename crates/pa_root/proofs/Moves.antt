@@ -26,7 +26,7 @@ moves_more journal e name =
     numbers_grow.moves journal (e ∷ []) name
     ∙ ap (λ ms. moves_of journal name ++ filter (is_of name) ms) (append-nil (moves_by e.line e.act))
 
--- slots that move in one way, of which none has the name, or one has
+-- slots that move in one way, if none has the name, or one has
 pub none_moves : (line : ℕ) (way : Way) (name : SlotName) (slots : List Numbered) → (Contains (names slots) name → ⊥) →
     filter (is_of name) (map (move_of line way) slots) ≡ []
 none_moves line way name [] away = refl
@@ -61,7 +61,7 @@ pub numbers_without : (journal : List RootEntry) (e : RootEntry) (name : SlotNam
 numbers_without journal e name none =
     moves_more journal e name ∙ ap (λ ms. moves_of journal name ++ ms) none ∙ append-nil (moves_of journal name)
 
--- one that moves once is then where the move leaves it
+-- one that moves once is then in the state that the move gives
 pub numbers_with : (journal : List RootEntry) (e : RootEntry) (name : SlotName) (m : Move) → filter (is_of name) (moves_by e.line e.act) ≡ m ∷ [] →
     IsNumbered (Some 0) (moves_of journal name) → HasAt (at_end (Some 0) (moves_of journal name)) m.way m.number →
     IsNumbered (Some 0) (moves_of (journal ++ e ∷ []) name) × (at_end (Some 0) (moves_of (journal ++ e ∷ []) name) ≡ at_after m.way m.number)

@@ -1,4 +1,4 @@
--- A journal's entries are told apart by their numbers.
+-- A journal's entries are distinguished by their numbers.
 use Rattle.std.proofs.Common.{◌≡◌, ℕ, List, [], ◌∷◌, ◌++◌, Option, Some, None, ◌∙◌, ap}
 use Rattle.pa_machine.specs.declared.word.SlotName.{SlotName}
 use Rattle.pa_record.specs.declared.numbered.Numbered.{Numbered}

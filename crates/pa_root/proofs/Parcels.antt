@@ -30,7 +30,7 @@ use Rattle.pa_root.specs.Filling.{free_item, frees_parcel, GivesTitles}
 
 -- ---- what can be given
 
--- a list without one title has the others as often
+-- a list without one title has each other one as many times
 others_stay : (t u : Title) (ts : List Title) → (t ≡ u → ⊥) → sum_by (λ x. one (same_title x u)) (without (is_title_of t) ts) ≡ sum_by (λ x. one (same_title x u)) ts
 others_stay t u [] ne = refl
 others_stay t u (x ∷ xs) ne =

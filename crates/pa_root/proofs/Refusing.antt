@@ -1,4 +1,4 @@
--- The pool has no such super pages: what the caller's seat tells, and the root with the entry that says so.
+-- The pool has no such super pages: what the caller's seat knows, and the root with the entry that says so.
 use Rattle.std.proofs.Common.{◌≡◌, ℕ, ◌+◌, ◌<◌, ◌≤◌, List, [], ◌∷◌, ◌++◌, Option, Some, None, length, refl, sym, ◌∙◌, ap, subst, arith}
 use Rattle.std.specs.Prelude.{option_map}
 use Rattle.std.proofs.lemmas.List.{length-append}
@@ -36,11 +36,11 @@ use Rattle.pa_root.proofs.Lists.{pools_more}
 use Rattle.pa_root.proofs.Ready.{named_seen}
 use Rattle.pa_root.proofs.Seeing.{idle_entries_keep}
 
--- who still has what it had can host still, and its keeper's list is the same
+-- a seat that still has what it had can still host, and its keeper's list is the same
 pub keeper_stays : (p : ℕ) (v x : View) → Keeps v x → 0 < keeper_of v p → 0 < keeper_of x p
 keeper_stays p v x keeps has = subst (λ n. 0 < n) (sym (keeps.keepers p)) has
 
--- what the pool's entry says to who has seen it, and to who was shown that
+-- what the pool's entry says to a seat that has seen it, and to one that was shown that
 pub pool_says : (a : View) (index count line p : ℕ) (found : Option ℕ) (r : ℕ) (v root : View) → IsAskedFor r line p count found index v a root →
     act_at (pools_seen a) index ≡ Some (Take count found)
 pool_says a index count line p found r v root asked = ap (option_map (λ (e : PoolEntry). e.act)) asked.stands
@@ -114,7 +114,7 @@ pub full_tells : (j r p line count : ℕ) (class : Option ℕ) (s s_now : RootSt
     FullTells j r p line count class v after s s_now
 full_tells j r p line count class s s_now v after told same = record { full = told.full; journal = told.journal; same = same }
 
--- a root that got none: it tells so and is sound, or nothing changed
+-- a root that got none: it says so and is sound, or nothing changed
 pub none_given : (r p line count : ℕ) (class : Option ℕ) (a b w w_now : Share) (js js_now : List RootEntry) (root : Root) (fault : FillFault) →
     IsRootSound p (root_of_parts w.view js root) →
     ((asked : ℕ) → FoundNone (pools_seen w_now.view) asked count → FullFits (pools_seen w_now.view) class asked root) →

@@ -127,7 +127,7 @@ rows_have (b ∷ bs) t (c, has, (k, below, e)) = elim (in_cases b c bs has) [
   | inr later ↦ Contains-append_right (titles_beside b.first 0 b.count) (titles_in_rows bs) t (rows_have bs t (c, later, (k, below, e)))
 ]
 
--- no title stands twice in two lists that share none
+-- no title is twice in two lists that share none
 pairs_both : (xs ys : List Title) → AllPairs ◌≢◌ xs → AllPairs ◌≢◌ ys → ((x y : Title) → Contains xs x → Contains ys y → x ≢ y) → AllPairs ◌≢◌ (xs ++ ys)
 pairs_both [] ys h k apart = k
 pairs_both (x ∷ xs) ys h k apart =

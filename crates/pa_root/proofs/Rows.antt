@@ -92,7 +92,7 @@ maps_can_be_cut first born len v whole long raw = record {
 
 -- ---- one step of the loop
 
--- the next title stands behind this one
+-- the next title is after this one
 pub next_place : (first next : Title) (n : ℕ) → next ≡ title_beside first n →
     (let x : Title = record { start = next.start + next.len; len = next.len; born = next.born } in x ≡ title_beside first (n + 1))
 next_place first next n e =
@@ -100,7 +100,7 @@ next_place first next n e =
     ap (λ (y : Title). let x : Title = record { start = y.start + y.len; len = y.len; born = y.born } in x) e
     ∙ ap (λ k. let x : Title = record { start = k; len = first.len; born = first.born } in x) more
 
--- all of the row are new to who has cut them
+-- all of the row are new to the seat that cut them
 pub all_new : (first : Title) (count done : ℕ) (v w : View) → done ≡ count → w ≡ after_cuts (titles_beside first 0 done) v → NoneSeen v (titles_beside first 0 done) →
     NoneSeen w (titles_beside first 0 count)
 all_new first count done v w e f new t among =

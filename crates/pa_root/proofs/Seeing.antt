@@ -26,7 +26,7 @@ use Rattle.pa_root.proofs.Lists.{hosts_kept, journal_stays, journal_goes_on}
 use Rattle.pa_root.proofs.MapsKept.{maps_leave, maps_stay}
 use Rattle.pa_root.proofs.Whole.{made_is_whole}
 
--- who keeps what it has holds the same titles
+-- a view that keeps what it has holds the same titles
 pub free_kept : (v x : View) (t : Title) → Keeps v x → free_of x t ≡ free_of v t
 free_kept v x t keeps = sym (frees_have x t) ∙ keeps.things (FreeTitle t) ∙ frees_have v t
 
@@ -40,7 +40,7 @@ handles_kept v x t keeps =
 pub root_sound : (p : ℕ) (s : RootState) → HasJournal p s → IsSound s.root
 root_sound p s has = subst (λ r. IsSound r) (sym has.replayed) (journal_leaves (pools_seen s.view) s.journal has.fits).sound
 
--- ---- parts that stay where the root has the same slots
+-- ---- parts that stay when the root has the same slots
 
 pub titles_stay : (s : RootState) (x : View) (journal : List RootEntry) (after : Root) → Keeps s.view x → HasSameSlots s.root after → HoldsMade s →
     HoldsMade (record { view = x; journal = journal; root = after })
@@ -56,7 +56,7 @@ titles_stay s x journal after keeps same holds = record {
   budget = keeps.budget ∙ holds.budget;
 }
 
--- what is in the rest of a root was, where nothing that was made went
+-- what is in the rest of a root was in it, if nothing that was made went
 pub rest_before : (r after : Root) (j b : ℕ) → ((t : Title) → IsMade r t → IsMade after t) → after.supers ≡ r.supers → after.maps ≡ r.maps →
     IsInRest after j b → IsInRest r j b
 rest_before r after j b keeps supers maps (inl (at, among, born, inside, away)) =

@@ -47,7 +47,7 @@ more_none k r log now e = by_test (eqb k r)
     by_test true = e ∙ sym (append-nil log)
     by_test false = e ∙ sym (append-nil log)
 
--- who gives a note that has nothing keeps what it has
+-- a view that gives a note that has nothing keeps what it has
 pub gives_nothing : (v : View) (r : ℕ) → Lends r [] v (left_after (frees_parcel []) v)
 gives_nothing v r =
     let stakes : (left_after (frees_parcel []) v).stakes ≡ v.stakes = all_stakes v.stakes in
@@ -72,7 +72,7 @@ gives_nothing v r =
       logs = λ k. more_none k r (log_of k v) (log_of k (left_after (frees_parcel []) v)) (ap (λ ss. log_among k ss) stakes);
     }
 
--- and who takes it keeps what it has
+-- and the seat that takes it keeps what it has
 pub takes_nothing : (v w : View) (r : ℕ) → IsAware w → IsAware (united w (given_after (frees_parcel []) v)) → length w.words ≡ length v.words →
     Lends r [] w (united w (given_after (frees_parcel []) v))
 takes_nothing v w r aware both long =
@@ -118,7 +118,7 @@ shown_by v v_now g w w_now left given both aware now long =
       seen = λ t. subst (λ x. seen_of v t ≤ seen_of x t) (sym is) (seen_right t w.seen v.seen);
     }
 
--- Two seats that show each other what they have seen have seen the same of the list of which one has the keeper.
+-- Two seats that show each other what they have seen have seen the same of a list if one of them has its keeper.
 module _ (p : ℕ) (v w v_mid w_mid v_now w_now : View) (there : IsShown w w_mid v v_mid) (back : IsShown v_mid v_now w_mid w_now) (has : 0 < keeper_of v p) where
   pub own_stays : list_of p v_now ≡ list_of p v
   own_stays = back.same p ∙ (there.taker 0).own_lists p has

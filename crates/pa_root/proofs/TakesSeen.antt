@@ -14,12 +14,12 @@ use Rattle.pa_pool.proofs.Gave.{seen_stays}
 use Rattle.pa_root.specs.Making.{IsEnteredAt}
 use Rattle.pa_root.specs.Asking.{IsAskedFor, IsRunNote}
 
--- the member behind others stands at their number
+-- the member after others is at their number
 behind : (earlier : List Made) (m : Made) → slice_get (earlier ++ m ∷ []) (length earlier) ≡ Some m
 behind [] m = refl
 behind (x ∷ xs) m = behind xs m
 
--- who has seen an entry that says so has seen the take
+-- a view that has seen an entry that says so has seen the take
 pub entered_seen : (line p count first index r : ℕ) (v after : View) (m : Made) →
     IsEnteredAt index r 4 (pool_numbers (take_entry line p count (Some first))) v after m → HasSeenTake p index first count after
 entered_seen line p count first index r v after m made = record {

@@ -92,7 +92,7 @@ module _ (v w x : View) (keeps : Keeps (united v w) x) where
   pub pool_begins : IsAware (united v w) → IsBeginning (list_of 4 v) (list_of 4 x)
   pool_begins both = begins_on (list_of 4 v) (list_of 4 (united v w)) (list_of 4 x) (left_begins v w 4 both) (keeps.lists 4)
 
-  -- of each title it has seen the number that who held it free had
+  -- it has seen the same number of each title as the seat that held it free
   pub left_now : (n : ℕ) (t : Title) → IsAware v → IsAware (united v w) → IsAware x → length v.words ≡ length w.words → IsWellFormed n t → 0 < free_of v t →
       seen_of x t ≡ seen_of v t
   left_now n t aware both now long well free =

@@ -1,4 +1,4 @@
--- An unmap as a call: the direct map that comes back is mapped, and what is told of it and kept after it.
+-- An unmap as a call: the direct map that comes back is mapped, and what is known and kept after it.
 use Rattle.std.proofs.Common.{◌≡◌, ℕ, ◌+◌, [], ◌∷◌, ◌++◌, length, sym, ◌∙◌, ap, subst, arith}
 use Rattle.std.specs.Prelude.{Contains, slice_get, option_map}
 use Rattle.pa_machine.specs.declared.title.Title.{Title}
@@ -36,7 +36,7 @@ use Rattle.pa_root.proofs.Asked.{begun_length}
 use Rattle.pa_root.proofs.MapsCome.{what_comes_is_mapped}
 use Rattle.pa_root.proofs.Unmapped.{raw_now, hosts_left, unmaps_hand_back, unmaps_keep}
 
--- the title came back, and was made raw again
+-- the title came back, and was uncut
 pub record IsBringing (p r number : ℕ) (s : RootState) (t : Title) (v v1 c w : View) : Type 0 where
   pub sound : IsRootSound p s
   pub aware : IsAware s.view
@@ -68,7 +68,7 @@ module _ (p r number : ℕ) (s : RootState) (t : Title) (v v1 c w : View) (b : I
       what_comes_is_mapped p s1 w t
       (record { sound = sound1; aware = b.back.shown_aware; note_aware = b.back.note_aware; both_aware = b.back.both_aware; has = b.has; named = b.named })
 
-  -- where it stands, and which entry of the pool took its super pages
+  -- where it is, and which entry of the pool took its super pages
   taken : (t.start ≡ page_place first 1) × HasSeenTake p t.born first count b.back.shown
   taken =
       let (at, start, seen) = sound1.maps.taken t mapped in

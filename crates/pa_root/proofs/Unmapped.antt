@@ -347,7 +347,7 @@ module _ (p first : ℕ) (s : RootState) (w c : View) (t : Title) (cut : IsCutBa
             let same : undone_of y v ≡ undone_of c v = refl in
             omega arith
 
-        -- the one that came back stands in the list
+        -- the one that came back is in the list
         here : 0 < undone_of x t
         here =
             let b = cut.uncut.undone t in let d = keeps.undone t in

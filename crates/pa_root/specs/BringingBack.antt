@@ -1,4 +1,4 @@
--- A direct map is brought back: its title comes to the root's seat and is made raw again, and its super pages go to the pool.
+-- A direct map is brought back: its title comes to the root's seat and is uncut, and its super pages go to the pool.
 use Rattle.std.specs.Prelude.{◌≡◌, ℕ, ◌+◌, ◌≤◌, [], ◌∷◌, length, Some, slice_get, ◌*◌}
 use Rattle.pa_machine.specs.declared.title.Title.{Title}
 use Rattle.pa_layout.specs.Limits.{most_words}

@@ -8,7 +8,7 @@ use Rattle.pa_region.specs.Cuts.{CanCut}
 use Rattle.pa_root.specs.Keeping.{IsInRun}
 use Rattle.pa_root.specs.Filling.{CanCutAll, after_cuts}
 
--- title number n of those that stand side by side from the first one on; and `count` of them, from number `from` on
+-- the n-th of the titles that are side by side from the first one on; and `count` of them, from the one numbered `from` on
 abbrev pub title_beside : Title → ℕ → Title
 title_beside first n = record { start = first.start + first.len * n; len = first.len; born = first.born }
 
@@ -20,13 +20,13 @@ titles_beside first from (suc count) = title_beside first from ∷ titles_beside
 abbrev pub NoneSeen : View → List Title → Type 0
 NoneSeen v ts = (t : Title) → Contains ts t → seen_of v t ≡ 0
 
--- What can be cut in two parts can be cut, and the view is then the same; and what was new stays so.
+-- What can be cut in two parts can be cut, and the view is then the same; and a new title stays new.
 pub record CutsGoOn : Type 0 where
   pub parts : (ts us : List Title) (v : View) → CanCutAll (ts ++ us) v → CanCutAll ts v × CanCutAll us (after_cuts ts v)
   pub view : (ts us : List Title) (v : View) → after_cuts (ts ++ us) v ≡ after_cuts us (after_cuts ts v)
   pub seen : (ts : List Title) (v : View) (t : Title) → seen_of (after_cuts ts v) t ≡ seen_of v t
 
--- the title of a direct map of so many bytes in the super pages from `first` on, which this entry of the pool took
+-- the title of a direct map of this many bytes in the super pages from `first` on, which this entry of the pool took
 abbrev pub map_beside : (first born len : ℕ) → Title
 map_beside first born len = record { start = page_place first 1; len = len; born = born }
 

@@ -23,7 +23,7 @@ use Rattle.pa_root.specs.Keeping.{RootState, HoldsMade, KnowsNumbers, IsInRun, H
 use Rattle.pa_root.specs.Handing.{HasOnly, numbered_by, root_entry}
 use Rattle.pa_root.specs.Laws.{HasEntryMore, after_entry}
 
--- What is kept of slots, raw bytes and leases, also between two entries.
+-- What holds of slots, raw bytes and leases, also between two entries.
 pub record HasSlots (s : RootState) : Type 0 where
   pub titles : HoldsMade s
   pub numbers : KnowsNumbers s
@@ -43,7 +43,7 @@ pub record HasRunOnly (first count floor entry : ℕ) (v : View) : Type 0 where
   pub stakes : (k : ℕ) → stake_of v k ≡ 0
   pub keepers : (k : ℕ) → keeper_of v k ≡ 0
 
--- A root may take in a note of one super page from the pool, whose entry is later than those by which it has super pages.
+-- A root may take in a note of one super page from the pool, if the pool's entry is later than those of its own super pages.
 pub record CanTakePage (p number entry : ℕ) (s : RootState) (w : View) : Type 0 where
   pub sound : IsRootSound p s
   pub aware : IsAware s.view
@@ -51,7 +51,7 @@ pub record CanTakePage (p number entry : ℕ) (s : RootState) (w : View) : Type 
   pub long : length s.view.words ≡ length w.words
   pub has : HasRunOnly number 1 entry entry w
 
--- the root with the super page, whose seat has the view u
+-- the root with the super page, and with the view u of its seat
 abbrev pub opened_state : (number entry : ℕ) → RootState → View → RootState
 opened_state number entry s u = record { view = u; journal = s.journal; root = opened number entry s.root }
 
@@ -71,7 +71,7 @@ abbrev pub after_cuts : List Title → View → View
 after_cuts [] v = v
 after_cuts (t ∷ ts) v = after_cuts ts (after_cut t v)
 
--- What was made goes on being made, and these titles were made besides, each once.
+-- What was made before stays made, and these titles were made besides, each once.
 pub record MakesMore (r after : Root) (ts : List Title) : Type 0 where
   pub keeps : (t : Title) → IsMade r t → IsMade after t
   pub only : (t : Title) → IsMade after t → IsMade r t ⊎ Contains ts t
@@ -91,8 +91,8 @@ WhatIsMadeCanBeCut =
 abbrev pub ready_root : Option ℕ → RootState → View → Root
 ready_root asked s u = opened_by (pools_seen u) asked s.root
 
--- A root is ready for a fill of a class: where its first take has to ask the pool, its seat has the super page, which the pool
--- gave by an entry that is later than those which the journal names. It made raw again what it had, and may have seen more.
+-- A root is ready for a fill of a class: if its first take has to ask the pool, its seat has the super page, which the pool
+-- gave by an entry that is later than those which the journal names. What was uncut stays so, and the seat may have seen more.
 pub record IsReadyFor (p class : ℕ) (asked : Option ℕ) (s : RootState) (u : View) : Type 0 where
   pub sound : IsRootSound p s
   pub aware : IsAware u
@@ -105,7 +105,7 @@ pub record IsReadyFor (p class : ℕ) (asked : Option ℕ) (s : RootState) (u : 
   pub asked_if : Asked (pools_seen u) class asked s.root
   pub later : AsksFrom (least_after_all 0 s.journal) asked
 
--- A root is ready as it is where its first take finds a span; and with the super page that the pool gave, by an entry behind
+-- A root is ready as it is if its first take finds a span; and else with the super page that the pool gave, by an entry after
 -- those that its seat had seen.
 pub record RootsAreReady : Type 0 where
   pub as_it_is : (p class : ℕ) (s : RootState) → IsRootSound p s → IsAware s.view → class < class_count → IsSome (span_for class s.root) →

@@ -27,11 +27,11 @@ pub record HasOnly (titles : List Title) (v : View) : Type 0 where
   pub keepers : (k : ℕ) → keeper_of v k ≡ 0
   pub leases : (n : ℕ) → lease_of v n ≡ 0
 
--- a title at the number that a seat has seen of it
+-- a title with the step number that a seat has seen of it
 abbrev pub at_number_seen : View → Title → Numbered
 at_number_seen v t = record { slot = name_of t; number = seen_of v t }
 
--- titles, each so
+-- titles, each with that number
 abbrev pub numbered_by : View → List Title → List Numbered
 numbered_by v titles = map (at_number_seen v) titles
 
@@ -39,14 +39,14 @@ numbered_by v titles = map (at_number_seen v) titles
 abbrev pub root_entry : ℕ → RootAct → RootEntry
 root_entry line act = record { line = line; act = act }
 
--- An entry of the root's journal that names one of the pool, or none, was made for the seat: the pool's stands before it. It
--- has index j in the journal, and tells what `act` makes of the pool's index.
+-- An entry of the root's journal that names one of the pool, or none, was made for the seat: the pool's entry comes before it.
+-- It has index j in the journal, and says what `act` makes of the pool's index.
 abbrev pub EntersFor : (j r p line : ℕ) → Option ℕ → Option ℕ → RootAct → View → View → Type 0
 EntersFor j r p line None found act v after = EntersOne j r p (root_entry line act) v after
 EntersFor j r p line (Some asked) found act v after =
     EntersTwo asked j r p [] (take_entry line p 1 found) (root_entry line act) v after
 
--- A fill of a class gave these titles in a note: one at least and at most as many as were wanted, each once and of the class's
+-- A fill of a class gave these titles in a note: at least one and at most as many as were wanted, each once and of the class's
 -- slot size. The entry made for it names them, each at the number that the note has seen; it asked the pool if it had to.
 pub record FillGives (r p line class want : ℕ) (v after note : View) (titles : List Title) : Type 0 where
   pub some : 1 ≤ length titles
@@ -64,7 +64,7 @@ pub record IsFullFor (j r p line count : ℕ) (class : Option ℕ) (v after : Vi
   pub asked : ℕ
   pub enters : EntersTwo asked j r p [] (take_entry line p count None) (root_entry line (Full class asked)) v after
 
--- A direct map of so many bytes was made, and the note has its title, of which nobody has seen a step.
+-- A direct map of this many bytes was made, and the note has its title, on which no seat has seen a step.
 pub record MapGives (r p line len : ℕ) (v after note : View) (title : Title) : Type 0 where
   pub long : title.len ≡ len
   pub has : HasOnly (title ∷ []) note
@@ -79,7 +79,7 @@ abbrev pub GiveTakes : (r p line : ℕ) (v after note : View) (titles : List Tit
 GiveTakes r p line v after note titles =
     (j : ℕ) × EntersOne j r p (root_entry line (Give (numbered_by note titles))) v after
 
--- A direct map came back at the number that the note had seen: it was made raw again, and its super pages went to the pool.
+-- A direct map came back at the number that the note had seen: it was uncut, and its super pages went to the pool.
 pub record UnmapTakes (r p line : ℕ) (v after note : View) (title : Title) : Type 0 where
   pub index : ℕ
   pub asked : ℕ
@@ -91,8 +91,8 @@ pub record UnmapTakes (r p line : ℕ) (v after note : View) (title : Title) : T
 abbrev pub PurgeEnters : (r p line : ℕ) (v after : View) → Type 0
 PurgeEnters r p line v after = (j : ℕ) × EntersOne j r p (root_entry line Purge) v after
 
--- What a call asks of its caller's seat for the titles that come back: the seat has seen an entry of the root's list, a fill
--- that names the title and whose class has its length as slot size; or a map that names it with its length.
+-- What a call requires of its caller's seat for the titles that come back: the seat has seen an entry of the root's list, a fill
+-- that names the title and has a class with the title's length as slot size; or a map that names it with its length.
 abbrev pub HasSeenFill : ℕ → View → Title → Type 0
 HasSeenFill p v t =
     (line class : ℕ) × (asked : Option ℕ) × (slots : List Numbered) × (n : Numbered) × (t.len ≡ slot_of class) × Contains slots n

@@ -27,8 +27,8 @@ pub record RootState : Type 0 where
   pub journal : List RootEntry
   pub root : Root
 
--- The journal of partition p. Its seat has keeper p, whose list is the journal in numbers, and can be lent a stake. The journal
--- is one of a root, with what the seat has seen of the pool's entries, and the root is what it replays to.
+-- The journal of partition p. Its seat has keeper p, and that list is the journal as numbers; the seat can be lent a stake. The
+-- journal is one of a root, with what the seat has seen of the pool's entries, and the root is what it replays to.
 pub record HasJournal (p : ℕ) (s : RootState) : Type 0 where
   pub partition : p < most_partitions
   pub hosts : HostsKeeper p s.view
@@ -45,7 +45,7 @@ pub record HoldsMade (s : RootState) : Type 0 where
   pub unused : (t : Title) → own_of s.view t + ref_of s.view t ≡ 0
   pub budget : s.view.budget ≡ 0
 
--- The numbers. By its journal the root hands each slot out at the number at which it has it, at first 0; and of each title that
+-- The numbers. By its journal the root gives each slot out at the number at which it has it, at first 0; and of each title that
 -- its seat holds free, this is the number that the seat has seen.
 pub record KnowsNumbers (s : RootState) : Type 0 where
   pub numbered : (name : SlotName) → IsNumbered (Some 0) (moves_of s.journal name)
@@ -59,8 +59,8 @@ IsInRun first count b = (2097152 * first ≤ b) × (b < 2097152 * (first + count
 abbrev pub IsInMade : Root → ℕ → ℕ → Type 0
 IsInMade r born b = (t : Title) × IsMade r t × (t.born ≡ born) × Covers t b
 
--- The byte b is one of the rest of what entry j of the pool took for the root: it lies in that super page and in no slot of it
--- that was made; or in the super pages of that direct map, and not in its slot.
+-- The byte b is one of the rest of what entry j of the pool took for the root: it is in that super page and in no slot that was
+-- made of it; or in the super pages of that direct map, and not in its slot.
 abbrev pub IsInSuperRest : Root → ℕ → ℕ → Type 0
 IsInSuperRest r j b = (at : SuperPage) × Contains r.supers at × (at.born ≡ j) × IsInRun at.number 1 b × (IsInMade r j b → ⊥)
 
@@ -83,7 +83,7 @@ pub record KeepsLeases (s : RootState) : Type 0 where
   pub supers : (at : SuperPage) → Contains s.root.supers at → 0 < lease_of s.view at.born
   pub maps : (t : Title) → Contains s.root.maps t → 0 < lease_of s.view t.born
 
--- What is known of direct maps. Each that the journal made is mapped, or the seat made it raw again. And of each that is mapped
+-- What is known of direct maps. Each that the journal made is mapped, or the seat uncut it. And of each that is mapped
 -- the seat has seen the take of the pool, for this partition, that found its super pages.
 pub record KnowsMaps (p : ℕ) (s : RootState) : Type 0 where
   pub mapped : (t : Title) → IsMapBy s.journal t → Contains s.root.maps t ⊎ (0 < undone_of s.view t)
@@ -96,7 +96,7 @@ pub record KnowsMaps (p : ℕ) (s : RootState) : Type 0 where
 --   numbers: each at the number that the journal says
 --   rest: all other bytes of its super pages are raw
 --   leases: it has the lease of each entry of the pool by which it has super pages
---   maps: each direct map that its journal made is mapped, or its seat made it raw again; and the seat has seen its take
+--   maps: each direct map that its journal made is mapped, or its seat uncut it; and the seat has seen its take
 pub record IsRootSound (p : ℕ) (s : RootState) : Type 0 where
   pub journal : HasJournal p s
   pub titles : HoldsMade s

@@ -19,13 +19,13 @@ use Rattle.pa_rules.specs.Holders.{moves_by}
 use Rattle.pa_root.specs.Reading.{pool_entry_read, pools_read, pools_seen}
 use Rattle.pa_root.specs.Keeping.{RootState, IsRootSound}
 
--- An entry of the pool is what its numbers say. So a seat has seen the pool's entries where its list is that of the pool.
+-- An entry of the pool is what its numbers say. So a seat has seen the pool's entries if its list is that of the pool.
 pub record PoolsAreRead : Type 0 where
   pub entry : (e : PoolEntry) → pool_entry_read (pool_numbers e) ≡ e
   pub list : (list : List Made) (pools : List PoolEntry) → map (λ (m : Made). m.numbers) list ≡ map pool_numbers pools →
       pools_read list ≡ pools
 
--- a root whose seat has keeper p with an empty list, nothing that is used and no title, and which has nothing
+-- a root with nothing, and with a seat that has keeper p, an empty list, no title and nothing that is used
 pub record IsFirstView (p : ℕ) (v : View) : Type 0 where
   pub partition : p < most_partitions
   pub hosts : HostsKeeper p v
@@ -63,7 +63,7 @@ after_entry x e s = record { view = x; journal = s.journal ++ e ∷ []; root = r
 abbrev pub HasEntryMore : ℕ → RootEntry → View → View → Type 0
 HasEntryMore p e v x = (m : Made) × (list_of p x ≡ list_of p v ++ m ∷ []) × (m.numbers ≡ root_numbers e)
 
--- the entry fits the root, and the entry of the pool that it names, if any, comes behind those that the journal names
+-- the entry fits the root, and the entry of the pool that it names, if any, comes after those that the journal names
 pub record FitsNext (e : RootEntry) (s : RootState) (x : View) : Type 0 where
   pub act : RootActFits (pools_seen x) e.act s.root
   pub asks : AsksFrom (least_after_all 0 s.journal) (asked_by e.act)
@@ -86,13 +86,13 @@ IdleEntriesKeep =
 abbrev pub PurgesKeepSlots : Type 0
 PurgesKeepSlots = (r : Root) → IsSound r → HasSameSlots r (purged r)
 
--- What a seat has seen of the root's list, the journal has at that place: an entry is told by its numbers.
+-- What a seat has seen of the root's list, the journal has at that place: its numbers determine an entry.
 abbrev pub SeenIsInJournal : Type 0
 SeenIsInJournal =
     (p : ℕ) (s : RootState) (list : List Made) (e : RootEntry) → IsRootSound p s → IsBeginning list (list_of p s.view) →
     Contains (map (λ (m : Made). m.numbers) list) (root_numbers e) → Contains s.journal e
 
--- The journal is one of a root with all entries of the pool, where the list that the root's seat has seen of the pool's keeper
+-- The journal is one of a root with all entries of the pool, if the list that the root's seat has seen of the pool's keeper
 -- is a beginning of the pool's list; and it replays to the same root.
 abbrev pub JournalsFitPool : Type 0
 JournalsFitPool =

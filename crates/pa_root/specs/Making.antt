@@ -1,4 +1,4 @@
--- What a call of the root tells its caller of its own seat: the entries that were made for it, in the lists of the root and of
+-- What a call of the root ensures for its caller's seat: the entries that were made for it, in the lists of the root and of
 -- the pool, with its stake.
 use Rattle.std.specs.Prelude.{◌≡◌, ℕ, ◌<◌, ◌≤◌, List, [], ◌∷◌, ◌++◌, length}
 use Rattle.pa_machine.specs.declared.title.Title.{Title}
@@ -33,7 +33,7 @@ pub record EntersOne (j r p : ℕ) (entry : RootEntry) (v after : View) : Type 0
   pub is_made : IsEnteredAt j r p (root_numbers entry) v after made
   pub lends : Lends r (Entered p made ∷ []) v after
 
--- Entry `asked` of the pool and then entry j of partition p's journal were made for the seat. Its stake's log has, behind
+-- Entry `asked` of the pool and then entry j of partition p's journal were made for the seat. Its stake's log has, after
 -- what was done first, the two and nothing else besides. What the first carries, the second does.
 pub record EntersTwo (asked j r p : ℕ) (first : List Entry) (taken : PoolEntry) (entry : RootEntry) (v after : View) : Type 0 where
   pub pool : Made
@@ -43,8 +43,8 @@ pub record EntersTwo (asked j r p : ℕ) (first : List Entry) (taken : PoolEntry
   pub between : (t : Title) → seen_among t pool.seen ≤ seen_among t made.seen
   pub lends : Lends r (first ++ (Entered 4 pool ∷ Entered p made ∷ [])) v after
 
--- Entries that were made stay told, also from a view before. An entry with a lent stake is told so, and two are that were made one after the other, the
--- first by the pool.
+-- An entry that was made for a seat is so for a later view too, and for one before. One made with a lent stake is such an
+-- entry, and two that are made one after the other, the first by the pool, are a pair of them.
 pub record EntriesAreTold : Type 0 where
   pub later : (j r k : ℕ) (numbers : List ℕ) (v x after : View) (m : Made) → IsEnteredAt j r k numbers v x m → Keeps x after →
       IsEnteredAt j r k numbers v after m
@@ -58,7 +58,7 @@ pub record EntriesAreTold : Type 0 where
       IsNoted r p (root_numbers entry) x after host host_now n →
       EntersTwo asked (length (list_of p host)) r p first taken entry v after
 
--- Who lent its stake for an entry hadn't seen it before: what it had seen of the list is no longer than the list was.
+-- A view that lent its stake for an entry hadn't seen it before: what it had seen of the list is no longer than the list was.
 abbrev pub EntriesAreNew : Type 0
 EntriesAreNew =
     (r k : ℕ) (numbers : List ℕ) (v after host host_now : View) (m : Made) → IsAware v → IsAware after → 0 < stake_of v r →

@@ -20,8 +20,8 @@ use Rattle.pa_root.specs.Laws.{HasEntryMore, after_entry}
 use Rattle.pa_root.specs.Filling.{HasRunOnly, frees_parcel, GivesTitles}
 use Rattle.pa_root.specs.Cutting.{map_beside}
 
--- A sound root takes in a note of the super pages for a direct map of so many bytes, which the pool gave for its partition by an
--- entry behind those that its seat had seen; and cuts the direct map's title, of which nobody has seen a step. Its seat has the view c
+-- A sound root takes in a note of the super pages for a direct map of this many bytes, which the pool gave for its partition by an
+-- entry after those that its seat had seen; and cuts the direct map's title, on which no seat has seen a step. Its seat has the view c
 -- then.
 pub record IsCutForMap (p first entry len : ℕ) (s : RootState) (w c : View) : Type 0 where
   pub sound : IsRootSound p s

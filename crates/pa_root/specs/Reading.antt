@@ -19,7 +19,7 @@ abbrev pub given_read : List ℕ → ℕ
 given_read [] = 0
 given_read (first ∷ rest) = first
 
--- What the pool did: 0, a count and what was found, or 1, a count and the first. Numbers that no act has are read as a give
+-- What the pool did: 0, a count and what was found, or 1, a count and the first. Numbers of no act are read as a give
 -- of nothing.
 abbrev pub pool_act_read : List ℕ → PoolAct
 pool_act_read [] = Give 0 0
@@ -37,6 +37,6 @@ pool_entry_read (line ∷ partition ∷ act) = record { line = line; partition =
 abbrev pub pools_read : List Made → List PoolEntry
 pools_read list = map (λ (m : Made). pool_entry_read m.numbers) list
 
--- What a seat has seen of the pool's entries. Where its list is that of the pool, in numbers, these are the pool's entries.
+-- What a seat has seen of the pool's entries. If its list is that of the pool, in numbers, these are the pool's entries.
 abbrev pub pools_seen : View → List PoolEntry
 pools_seen v = pools_read (list_of 4 v)

@@ -27,7 +27,7 @@ use Rattle.pa_root.specs.Making.{IsEnteredAt}
 use Rattle.pa_root.specs.Cutting.{titles_beside}
 use Rattle.pa_root.specs.Filling.{IsReadyFor, IsCutFor, ready_root, fill_taken, frees_parcel}
 
--- The pool was asked for `count` super pages and had none: entry j of the journal says so and names the pool's, behind those that
+-- The pool was asked for `count` super pages and had none: entry j of the journal says so and names the pool's, after those that
 -- the root's seat had seen. That seat had the view w and has `w_now`, and the journal was js.
 pub record IsRefusedBy (j r p line count : ℕ) (class : Option ℕ) (v after w w_now : View) (js js_now : List RootEntry) : Type 0 where
   pub full : IsFullFor j r p line count class v after
@@ -39,18 +39,18 @@ pub record IsRefusedBy (j r p line count : ℕ) (class : Option ℕ) (v after w 
   pub aware : IsAware w
   pub now_aware : IsAware w_now
 
--- why there are no super pages: none are free; or there was no memory, and nothing changed
+-- why there are no super pages: none are free; or it ran out of memory, and nothing changed
 abbrev pub RefusesRoom :
     (r p line count : ℕ) → Option ℕ → (seat seat_now own own_now : Share) → (js js_now : List RootEntry) → FillFault → Type 0
 RefusesRoom r p line count class a b w w_now js js_now (Full j) =
     IsRefusedBy j r p line count class a.view b.view w.view w_now.view js js_now
 RefusesRoom r p line count class a b w w_now js js_now OutOfMemory = (b ≡ a) × (w_now ≡ w) × (js_now ≡ js)
 
--- a root's state, of its parts
+-- a root's state, from its parts
 abbrev pub root_of_parts : View → List RootEntry → Root → RootState
 root_of_parts v journal r = record { view = v; journal = journal; root = r }
 
--- What the caller's seat tells once a root is ready for a fill: the pool's entry that was made for it, if it was asked; and
+-- What the caller's seat knows once a root is ready for a fill: the pool's entry that was made for it, if it was asked; and
 -- nothing has changed if it wasn't.
 pub record PoolGave (r p line index : ℕ) (v after : View) : Type 0 where
   pub first : ℕ
@@ -68,7 +68,7 @@ pub record IsOpenedFor (r p line class : ℕ) (asked : Option ℕ) (s : RootStat
   pub root_is : root ≡ ready_root asked s u
   pub told : AskedIf r p line asked v after
 
--- the titles of rows of slots, each of which stand side by side
+-- the titles of rows of slots; those of a row are side by side
 abbrev pub titles_in_rows : List Row → List Title
 titles_in_rows [] = []
 titles_in_rows (b ∷ bs) = titles_beside b.first 0 b.count ++ titles_in_rows bs

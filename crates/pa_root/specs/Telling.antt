@@ -1,4 +1,4 @@
--- What a fill and a direct map tell of their root: its journal has one entry more, the one that was made for the caller.
+-- What a fill and a direct map ensure of their root: its journal has one more entry, the one that was made for the caller.
 use Rattle.std.specs.Prelude.{◌≡◌, ℕ, List, [], ◌∷◌, ◌++◌, Option}
 use Rattle.pa_machine.specs.declared.title.Title.{Title}
 use Rattle.pa_buckets.specs.Bands.{fill_of}
@@ -16,7 +16,7 @@ pub record FillTells (r p line class : ℕ) (v after note : View) (titles : List
   pub gives : FillGives r p line class (fill_of class) v after note titles
   pub journal : s_now.journal ≡ s.journal ++ root_entry line (act.Fill class gives.asked (numbered_by note titles)) ∷ []
 
--- A direct map of so many bytes was made, and the note has its title.
+-- A direct map of this many bytes was made, and the note has its title.
 pub record MapTells (r p line len : ℕ) (v after note : View) (title : Title) (s s_now : RootState) : Type 0 where
   pub gives : MapGives r p line len v after note title
   pub journal : s_now.journal ≡ s.journal ++ root_entry line (act.Map title.born (name_of title) len) ∷ []
@@ -27,7 +27,7 @@ pub record FullTells (j r p line count : ℕ) (class : Option ℕ) (v after : Vi
   pub journal : s_now.journal ≡ s.journal ++ root_entry line (act.Full class full.asked) ∷ []
   pub same : s_now.root ≡ s.root
 
--- why a fill or a direct map gave none: there's no room; or there was no memory, and nothing changed
+-- why a fill or a direct map gave none: there's no room; or it ran out of memory, and nothing changed
 abbrev pub NoneGiven : (r p line count : ℕ) → Option ℕ → (seat seat_now : Share) → (s s_now : RootState) → FillFault → Type 0
 NoneGiven r p line count class a b s s_now (Full j) = FullTells j r p line count class a.view b.view s s_now
 NoneGiven r p line count class a b s s_now OutOfMemory = (s_now ≡ s) × (b ≡ a)

@@ -1,4 +1,4 @@
--- A title that is made raw again with a lent stake; and seats that show each other what they have seen.
+-- A title that is uncut with a lent stake; and seats that show each other what they have seen.
 use Rattle.std.specs.Prelude.{◌≡◌, ℕ, ◌+◌, ◌<◌, ◌≤◌, [], ◌∷◌}
 use Rattle.pa_machine.specs.declared.title.Title.{Title}
 use Rattle.pa_machine.specs.Titles.{same_title, Covers, IsWellFormed}
@@ -11,7 +11,7 @@ use Rattle.pa_region.specs.Lists.{list_of, lease_of, keeper_of, IsBeginning}
 use Rattle.pa_region.specs.Takes.{IsLongest}
 use Rattle.pa_region.specs.Lending.{Lends}
 
--- The free title t was made raw again, and stands in the view's list of such titles: titles that are born later can be cut out of
+-- The free title t was uncut, and is in the view's list of such titles: titles that are born later can be cut out of
 -- its bytes. All else is as it was, but that more may have been seen, though no more of a title that is free here, nor of an own
 -- list.
 pub record IsUncut (t : Title) (v after : View) : Type 0 where
@@ -29,7 +29,7 @@ pub record IsUncut (t : Title) (v after : View) : Type 0 where
   pub lists : (k : ℕ) → IsBeginning (list_of k v) (list_of k after)
   pub undone : (o : Title) → undone_of after o ≡ undone_of v o + one (same_title t o)
 
--- it was made raw again in the host's view, with the lender's stake r, whose log says so
+-- it was uncut in the host's view, with the lender's stake r, and that stake's log says so
 pub record IsUncutWith (r : ℕ) (t : Title) (lender lender_now host host_now : View) : Type 0 where
   pub lends : Lends r (Uncut t ∷ []) lender lender_now
   pub uncut : IsUncut t host host_now

@@ -22,12 +22,12 @@ use Rattle.pa_root.specs.Laws.{HasEntryMore, after_entry}
 use Rattle.pa_root.specs.Filling.{HasRunOnly}
 use Rattle.pa_root.specs.Uncutting.{IsUncut}
 
--- What a call that took a direct map back tells: its entries, and that the journal has the root's.
+-- What a call that took a direct map back ensures: its entries, and that the journal has the root's.
 pub record UnmapTells (r p line : ℕ) (v after note : View) (title : Title) (s s_now : RootState) : Type 0 where
   pub takes : UnmapTakes r p line v after note title
   pub journal : s_now.journal ≡ s.journal ++ root_entry line (Unmap takes.asked (at_number_seen note title)) ∷ []
 
--- a direct map of a sound root stands in the super pages that its entry of the pool took
+-- a direct map of a sound root is in the super pages that its entry of the pool took
 abbrev pub MapsStandInRuns : Type 0
 MapsStandInRuns = (p : ℕ) (s : RootState) (t : Title) → IsRootSound p s → Contains s.root.maps t → IsMapTaken (pools_seen s.view) t
 
@@ -51,12 +51,12 @@ pub record MapComesBack (p : ℕ) (s : RootState) (w : View) (t : Title) : Type 
   pub has : HasOnly (t ∷ []) w
   pub named : HasSeenMap p w t
 
--- Then the root still has it mapped: had it made it raw again, its seat would hold no such title.
+-- Then the root still has it mapped: if it had uncut it, its seat would hold no such title.
 abbrev pub WhatComesIsMapped : Type 0
 WhatComesIsMapped = (p : ℕ) (s : RootState) (w : View) (t : Title) → MapComesBack p s w t → Contains s.root.maps t
 
 -- A note with the view w brings the title of a direct map that a sound root has, in the super pages from `first` on, and nothing
--- else. The root's seat takes it and makes the title raw again: it has the view c then.
+-- else. The root's seat takes it and uncuts the title: it has the view c then.
 pub record IsCutBack (p first : ℕ) (s : RootState) (w c : View) (t : Title) : Type 0 where
   pub sound : IsRootSound p s
   pub aware : IsAware s.view
@@ -78,7 +78,7 @@ abbrev pub UnmapsHandBack : Type 0
 UnmapsHandBack = (p first : ℕ) (s : RootState) (w c : View) (t : Title) → IsCutBack p first s w c t → HandsBack first t c
 
 -- And the root is sound with the entry that names the title, at the number that the note had seen, once its seat has handed the
--- super pages over, has seen the pool's entry that gave them back, behind those that it had seen, and has made the entry.
+-- super pages over, has seen the pool's entry that gave them back, after those that it had seen, and has made the entry.
 abbrev pub UnmapsKeep : Type 0
 UnmapsKeep =
     (p line first asked : ℕ) (s : RootState) (w c x : View) (t : Title) (e : RootEntry) → IsCutBack p first s w c t →

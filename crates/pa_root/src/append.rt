@@ -11,7 +11,7 @@ use pa_region::{Region, Seat, enter_with};
 // The most members of a list.
 const MOST_MEMBERS: usize = 2_147_483_647;
 
-// Makes room for one entry more.
+// Makes room for one more entry.
 pub(crate) fn make_room(journal: &mut Vec<RootEntry>) -> Result<(), OutOfMemory>
     ensures same { journal.new.items ≡ journal.old.items }
     ensures room { OnOk result (length journal.new.items < vec_capacity journal.new) }
@@ -24,8 +24,8 @@ pub(crate) fn make_room(journal: &mut Vec<RootEntry>) -> Result<(), OutOfMemory>
     Ok(())
 }
 
-// Makes the entry in the list of the keeper, with the lender's least stake, and puts it behind the journal, which has room for
-// it. It answers its index.
+// Makes the entry in the list of the keeper, with the lender's least stake, and appends it to the journal, which has room for
+// it. It returns the entry's index.
 pub(crate) fn append(
     region: &Region,
     lender: &mut Seat,

@@ -13,7 +13,7 @@ use pa_region::{Name, Note, Region, Seat};
 use std::marker::PhantomData;
 use std::sync::{Mutex, Wait};
 
-// Who asks a root: the region, the seat whose stake is lent, and the line of the op. `N` names the region.
+// What a request to a root comes with: the region, the seat that lends its stake, and the line of the op. `N` names the region.
 #[derive(Drop)]
 pub(crate) struct Asking<'a, N: Name> {
     pub(crate) region: &'a Region,
@@ -25,8 +25,8 @@ pub(crate) struct Asking<'a, N: Name> {
 
 impl<N: Name> Asking<'_, N> {
     // Asks the pool for `count` super pages for a partition, by the op of the line, with the seat's least stake. The root's seat
-    // shows the other one what it has seen first, so that the pool's entry is later. It answers the entry's index, and the first
-    // super page with a note that has them, where there are so many. After want of memory no seat has changed.
+    // first shows the caller's what it has seen, so that the pool's entry is later. It returns the entry's index, and if there
+    // are that many, the first super page and a note that has them. If it runs out of memory, no seat has changed.
     pub(crate) fn ask_pool<R: Wait>(
         &mut self,
         rt: &R,

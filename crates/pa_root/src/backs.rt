@@ -18,7 +18,7 @@ use pa_machine::{Item, Title};
 use pa_pool::Pool;
 use pa_region::{Mark, Name, Note, Region, Seat};
 
-// Shows the seat what the root's has seen, takes in the note, and makes its title raw again with the seat's least stake. It answers
+// Shows the seat what the root's has seen, takes in the note, and uncuts its title with the seat's least stake. It returns
 // the title's number.
 pub(crate) fn take_title(
     region: &Region,
@@ -49,7 +49,7 @@ pub(crate) fn take_title(
     number
 }
 
-// Hands over the super pages of a direct map whose title was made raw again, as raw bytes, with the lease of the entry of the pool
+// Hands over the super pages of a direct map after its title was uncut, as raw bytes, with the lease of the entry of the pool
 // that took them.
 pub(crate) fn hand_map(region: &Region, seat: &mut Seat, title: Title) -> Note
     requires region { seat.old.region ≡ region.now }
@@ -72,7 +72,7 @@ pub(crate) fn hand_map(region: &Region, seat: &mut Seat, title: Title) -> Note
 
 impl<N: Name> Asking<'_, N> {
     // Gives super pages back to the pool, which its entry `taken` took for the partition, by the op of the line with the seat's
-    // least stake; and shows the root's seat the new entry, whose index it answers.
+    // least stake; shows the root's seat the new entry, and returns its index.
     pub(crate) fn give_run(
         &mut self,
         root: &mut Seat,

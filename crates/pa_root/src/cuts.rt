@@ -10,7 +10,7 @@ ghost use Rattle.pa_root.specs.Cutting.{titles_beside, NoneSeen, map_beside};
 use pa_machine::Title;
 use pa_region::{Region, Seat};
 
-/// Cuts `count` titles out of raw bytes, side by side, from the first one on. Nobody has seen a step on any of them.
+/// Cuts `count` titles out of raw bytes, side by side, from the first one on. No seat has seen a step on any of them.
 pub fn cut_beside(region: &Region, seat: &mut Seat, first: Title, count: u32)
     requires region { seat.old.region ≡ region.now }
     requires able { CanCutAll (titles_beside first 0 count) seat.old.view }
@@ -26,7 +26,7 @@ pub fn cut_beside(region: &Region, seat: &mut Seat, first: Title, count: u32)
     }
 }
 
-/// Cuts the title of a direct map of `len` bytes out of the raw super pages from `first` on, behind their first partition
+/// Cuts the title of a direct map of `len` bytes out of the raw super pages from `first` on, after their first partition
 /// page.
 pub fn cut_map(region: &Region, seat: &mut Seat, first: u32, born: u32, len: u32) -> Title
     requires region { seat.old.region ≡ region.now }

@@ -5,7 +5,7 @@ use pa_machine::OutOfMemory;
 pub enum FillFault {
     /// There is no room. The entry of the journal with this index says so.
     Full(u32),
-    /// Want of memory: nothing changed.
+    /// Out of memory: nothing changed.
     OutOfMemory,
 }
 

@@ -28,11 +28,11 @@ use std::marker::PhantomData;
 use std::sync::{Mutex, Wait};
 
 impl<N: Name, const P: u32> Root<N, P> {
-    /// Hands out as many free slots of the class as a thread asks for at once, or fewer where there aren't so many, but at
-    /// least one, as an op of the line asks. The pool is asked for a super page where no span has a slot of the class left and
-    /// the current super page has no room for one. The note has the titles free, and nothing else. Where there is no
-    /// slot, the journal says so. After want of memory nothing changed. The room for one entry is all that it takes of
-    /// memory for the journal.
+    /// Gives out as many free slots of the class as a thread asks for at once, or fewer if there are fewer, but at least
+    /// one, as an op of the line asks. The pool is asked for a super page if no span has a slot of the class left and
+    /// the current super page has no room for one. The note has the titles free, and nothing else. If there is no
+    /// slot, the journal says so. If it runs out of memory, nothing changed. The only memory that it needs for the journal is
+    /// the room for one entry.
     pub fn fill<R: Wait>(
         &mut self,
         rt: &R,
@@ -92,8 +92,8 @@ impl<N: Name, const P: u32> Root<N, P> {
 }
 
 impl<const P: u32> Ledger<P> {
-    // Makes a root ready for a fill of the class: where it has to ask the pool, it opens the super page that the pool gave, whose
-    // entry is answered. Where the pool has none, the journal, which has room for an entry, says so.
+    // Makes a root ready for a fill of the class: if it has to ask the pool, it opens the super page that the pool gave, and
+    // returns the pool's entry. If the pool has none, the journal, which has room for an entry, says so.
     fn open_page<N: Name, R: Wait>(
         &mut self,
         rt: &R,
@@ -142,7 +142,7 @@ impl<const P: u32> Ledger<P> {
 }
 
 // Takes slots of the class from a root that is ready for a fill, cuts those that are new, and hands all of them over in a note.
-// It answers the titles too, and the slots with the numbers at which they go.
+// It returns the titles too, and the slots with the numbers at which they go.
 fn take_out(
     region: &Region,
     own: &mut Seat,

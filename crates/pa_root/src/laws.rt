@@ -1,4 +1,4 @@
-//! What keeps a root sound, as laws: calls that do nothing, and whose clauses are proved.
+//! What keeps a root sound, as laws: calls that do nothing, but have proved clauses.
 ghost use Rattle.pa_root.specs.Cutting.{CutsGoOn, MapsCanBeCut};
 ghost use Rattle.pa_root.specs.Filling.{OpeningKeeps, WhatIsMadeCanBeCut, RootsAreReady, FillsHandOut, FillsKeep};
 ghost use Rattle.pa_root.specs.Giving.{WhatComesIsOut, GivesKeep};
@@ -7,12 +7,12 @@ ghost use Rattle.pa_root.specs.Making.{EntriesAreTold, EntriesAreNew};
 ghost use Rattle.pa_root.specs.Mapping.{MapsHandOut, MapsKeep};
 ghost use Rattle.pa_root.specs.Unmapping.{MapsStandInRuns, MapsStandOrCameBack, WhatComesIsMapped, UnmapsHandBack, UnmapsKeep};
 
-/// What a seat has seen of the pool's list are the pool's entries, where the list is theirs in numbers.
+/// What a seat has seen of the pool's list are the pool's entries, if the list is theirs in numbers.
 pub fn pools_are_read()
     ensures { PoolsAreRead }
 {}
 
-/// A root whose seat has a keeper with an empty list, and nothing else, is sound.
+/// A root is sound if its seat has a keeper with an empty list, and nothing else.
 pub fn a_new_root_is_sound()
     ensures { FirstIsSound }
 {}
@@ -37,7 +37,7 @@ pub fn purges_keep_slots()
     ensures { PurgesKeepSlots }
 {}
 
-/// Slots that come to a root in a note, and whose fill the note has seen, are out of the root.
+/// Slots that come to a root in a note that has seen their fill are out of the root.
 pub fn what_comes_back_is_out()
     ensures { WhatComesIsOut }
 {}
@@ -92,17 +92,17 @@ pub fn maps_keep_a_root()
     ensures { MapsKeep }
 {}
 
-/// Entries that were made for a caller are told to it, one or two.
+/// Entries that were made for a caller are known to it, one or two.
 pub fn entries_are_told()
     ensures { EntriesAreTold }
 {}
 
-/// Who lent its stake for an entry hadn't seen it before.
+/// A view that lent its stake for an entry hadn't seen it before.
 pub fn entries_are_new()
     ensures { EntriesAreNew }
 {}
 
-/// A direct map of a sound root stands in the super pages that its entry of the pool took.
+/// A direct map of a sound root is in the super pages that its entry of the pool took.
 pub fn maps_are_taken()
     ensures { MapsStandInRuns }
 {}
@@ -117,12 +117,12 @@ pub fn unmaps_keep_a_root()
     ensures { UnmapsKeep }
 {}
 
-/// What a seat has seen of the root's list stands in the journal.
+/// What a seat has seen of the root's list is in the journal.
 pub fn what_is_seen_is_in_the_journal()
     ensures { SeenIsInJournal }
 {}
 
-/// A journal fits all entries of the pool, of which the root's seat has seen a beginning.
+/// A journal fits all entries of the pool, if the root's seat has seen a beginning of them.
 pub fn journals_fit_the_pool()
     ensures { JournalsFitPool }
 {}
@@ -132,7 +132,7 @@ pub fn maps_stand_or_came_back()
     ensures { MapsStandOrCameBack }
 {}
 
-/// A direct map that comes to a root in a note, and whose entry the note has seen, is still mapped.
+/// A direct map that comes to a root in a note that has seen its entry is still mapped.
 pub fn a_map_that_comes_back_is_mapped()
     ensures { WhatComesIsMapped }
 {}

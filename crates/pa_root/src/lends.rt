@@ -7,7 +7,7 @@ ghost use Rattle.pa_root.specs.Uncutting.{IsUncutWith, IsShown};
 use pa_machine::Title;
 use pa_region::{Region, Seat, lend_stake};
 
-/// Makes the host's free title raw again, with the lender's least stake, whose log says so. The stake is lent to the host
+/// Uncuts the host's free title, with the lender's least stake, so that its log says so. The stake is lent to the host
 /// and comes back.
 pub fn uncut_with(region: &Region, lender: &mut Seat, host: &mut Seat, title: Title)
     requires regions { (lender.old.region ≡ region.now) × (host.old.region ≡ region.now) }

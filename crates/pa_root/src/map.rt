@@ -20,8 +20,8 @@ use std::sync::{Mutex, Wait};
 
 impl<N: Name, const P: u32> Root<N, P> {
     /// Makes a direct map of the shape, as an op of the line asks, in super pages that the pool is asked for. The note has its
-    /// title free, of which nobody has seen a step, and nothing else. Where the pool has no such super pages, the journal
-    /// says so. After want of memory nothing changed.
+    /// title free, on which no seat has seen a step, and nothing else. If the pool has no such super pages, the journal
+    /// says so. If it runs out of memory, nothing changed.
     pub fn map<R: Wait>(
         &mut self,
         rt: &R,

@@ -21,7 +21,7 @@ use pa_region::{Name, Note, Region, Seat};
 use std::alloc::Global;
 use std::marker::{Model, PhantomData};
 
-/// The root of partition `P`, 0 to 3, of the region that the name says. It stands behind a lock. Contracts see it as the view of
+/// The root of partition `P`, 0 to 3, of the region that the name says. It is kept behind a lock. Contracts see it as the view of
 /// its seat, its journal, and what the journal replays to.
 #[derive(Drop)]
 pub struct Root<N: Name, const P: u32> {
@@ -78,7 +78,7 @@ impl<N: Name, const P: u32> Root<N, P> {
 
     /// Returns slots to their spans, in the titles' order, as an op of the line lets them go. The note holds these titles
     /// free, 1 to 16, each once, and nothing else, and has seen a fill of this root that names each. The note and the titles
-    /// come back for want of memory alone, and nothing changed then.
+    /// come back only if this runs out of memory, and nothing changed then.
     pub fn give_back(
         &mut self,
         region: &Region,
@@ -126,7 +126,7 @@ impl<N: Name, const P: u32> Root<N, P> {
         Ok(())
     }
 
-    /// Decommits every empty span, as an op of the line asks. After want of memory nothing changed.
+    /// Decommits every empty span, as an op of the line asks. If it runs out of memory, nothing changed.
     pub fn purge(&mut self, region: &Region, seat: &mut Seat, line: u32) -> Result<(), OutOfMemory>
         requires regions { (region.now ≡ N.region) × (seat.old.region ≡ N.region) }
         requires lender { CanLend seat.old.view }

@@ -9,7 +9,7 @@ use pa_machine::{Item, Title};
 use pa_place::Made;
 use pa_region::{Region, Seat};
 
-// Cuts the slots of all these rows out of raw bytes. Nobody has seen a step on any of them.
+// Cuts the slots of all these rows out of raw bytes. No seat has seen a step on any of them.
 pub(crate) fn cut_rows(region: &Region, seat: &mut Seat, rows: &[Made])
     requires region { seat.old.region ≡ region.now }
     requires able { CanCutAll (titles_in_rows rows.now) seat.old.view }
@@ -23,7 +23,7 @@ pub(crate) fn cut_rows(region: &Region, seat: &mut Seat, rows: &[Made])
     }
 }
 
-// These titles as free ones, which can be handed over: the first so many.
+// The first `titles.len()` items are these titles as free ones, which can be handed over.
 pub(crate) fn free_items(titles: &[Title]) -> [Item; 16]
     requires few { length titles.now ≤ 16 }
     ensures items { take (length titles.now) result ≡ map free_item titles.now }

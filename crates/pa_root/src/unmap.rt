@@ -17,9 +17,9 @@ use std::marker::PhantomData;
 use std::sync::{Mutex, Wait};
 
 impl<N: Name, const P: u32> Root<N, P> {
-    /// Takes a direct map back, as an op of the line lets it go: its title is made raw again, and its super pages go to the
+    /// Takes a direct map back, as an op of the line lets it go: its title is uncut, and its super pages go to the
     /// pool. The note holds the title free and nothing else, and has seen the entry of this root that made it. That it is
-    /// still mapped follows. The note and the title come back for want of memory alone, and nothing changed then.
+    /// still mapped follows. The note and the title come back only if this runs out of memory, and nothing changed then.
     pub fn unmap<R: Wait>(
         &mut self,
         rt: &R,

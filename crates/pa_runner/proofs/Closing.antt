@@ -1,4 +1,4 @@
--- A heap was closed in which all phases of a trace were played: what it leaves is the whole run of their course.
+-- A heap was closed in which all phases of a trace were played: what it leaves is the whole run of their execution.
 use Rattle.std.proofs.Common.{◌≡◌, ℕ, ◌*◌, ◌<◌, ◌≤◌, List, [], ◌∷◌, length, map, filter, refl, sym, ◌∙◌, ap, subst, arith, inl, inr}
 use Rattle.std.specs.Prelude.{Contains, All, ◌==◌}
 use Rattle.std.proofs.lemmas.Bool.{cases_Bool, lt-ltb}
@@ -50,7 +50,7 @@ use Rattle.pa_runner.specs.Merging.{is_entry_of, IsMergeOf}
 use Rattle.pa_runner.specs.Phases.{no_worker, worker_in}
 use Rattle.pa_runner.specs.Whole.{HasPlayed}
 
--- the records of a course
+-- the records of an execution
 abbrev pub entries_of : Trace → Course → List Entry
 entries_of t c = map entry_of (played_in (told_in t c))
 

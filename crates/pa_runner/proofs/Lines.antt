@@ -13,7 +13,7 @@ phase_after phase [] = phase
 phase_after phase (Phase ∷ ls) = phase_after (phase + 1) ls
 phase_after phase (Do thread op ∷ ls) = phase_after phase ls
 
--- an op line more, and a phase more
+-- an op line more, and one more phase
 pub lines_push : (n phase : ℕ) (ls : List Line) (thread : ℕ) (op : Op)
     → op_lines n phase (ls ++ Do thread op ∷ [])
     ≡ op_lines n phase ls ++ record { line = n + length ls; thread = thread; phase = phase_after phase ls; op = op } ∷ []

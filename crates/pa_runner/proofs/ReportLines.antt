@@ -86,7 +86,7 @@ told_same threads ends after told = record {
     still : (k : ℕ) (w : WorkerValue) → listed_in (told_worker k w).stock ≡ listed_in w.stock
     still k w = refl
 
--- ---- a phase more
+-- ---- one more phase
 
 one_more : (partitions phase n : ℕ) → phases_of partitions phase (n + 1) ≡ phases_of partitions phase n ++ partitions_of (phase + n) 0 partitions
 one_more partitions phase zero = let e : phase ≡ phase + 0 = omega arith in append-nil (partitions_of phase 0 partitions) ∙ ap (λ m. partitions_of m 0 partitions) e

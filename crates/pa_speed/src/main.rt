@@ -1,4 +1,4 @@
-//! Measures the texts: it reads the trace on standard input, or writes it or its run, so many times over, and prints how
+//! Measures the texts: it reads the trace on standard input, or writes it or its run, this many times over, and prints how
 //! many bytes that were in all. `bench/run` times it.
 #![tactic(auto)]
 
@@ -23,8 +23,8 @@ fn main(rt: HostRuntime) -> ExitCode {
     }
 }
 
-// Does what the two words say: `read`, `trace` or `run`, and how many times. `None` where they say something else, where
-// the input is no trace, and where memory is wanting.
+// Does what the two words say: `read`, `trace` or `run`, and how many times. `None` if they say something else, if
+// the input is no trace, or if it runs out of memory.
 fn measured(rt: &HostRuntime) -> Option<u64> {
     let words: Vec<String> = env::args(rt).ok()?.skip(1).collect(rt.alloc()).ok()?;
     let [what, times] = words.as_slice() else {
@@ -44,7 +44,7 @@ fn measured(rt: &HostRuntime) -> Option<u64> {
     }
 }
 
-// Reads the trace so many times. Tells the bytes that were read.
+// Reads the trace this many times. Tells the bytes that were read.
 fn read_again(alloc: Global, bytes: &[u8], times: u32) -> Option<u64>
     ensures { IfSome result (λ total. total ≡ times * length bytes.now) }
 {
@@ -56,7 +56,7 @@ fn read_again(alloc: Global, bytes: &[u8], times: u32) -> Option<u64>
     Some(total)
 }
 
-// Writes the trace so many times. Tells the bytes that were written.
+// Writes the trace this many times. Tells the bytes that were written.
 fn write_again(alloc: Global, trace: &Trace, times: u32) -> Option<u64>
     requires { IsWithinLimits trace.now }
     ensures { IfSome result (λ total. (text : List ℕ) → IsTraceText trace.now text → total ≡ times * length text) }
@@ -71,7 +71,7 @@ fn write_again(alloc: Global, trace: &Trace, times: u32) -> Option<u64>
     Some(total)
 }
 
-// Plays the trace, and writes the text of its run so many times. Tells the bytes that were written.
+// Plays the trace, and writes the text of its run this many times. Tells the bytes that were written.
 fn write_run_again(alloc: Global, trace: &Trace, times: u32) -> Option<u64>
     requires { IsWithinLimits trace.now }
 {

@@ -10,7 +10,7 @@ use std::sync::Wait;
 use std::test::Fail;
 use std::thread::Threads;
 
-// What `audit` answers of these bytes, read by so many at most; where it is done, `legal` must have been written, else nothing.
+// What `audit` returns for these bytes, read by at most this many; if it is done, `legal` must have been written, else nothing.
 fn told<R: Threads + Wait + Sync>(
     rt: &R,
     alloc: Global,
@@ -49,7 +49,7 @@ s 1 0 live 0 0 quarantined 0 0 cached 8 128 root 248 3968 committed 4096 reserve
 
 const END: &[u8] = b"end\n";
 
-// These parts, one behind the other.
+// These parts, one after the other.
 fn joined(alloc: Global, parts: &[&[u8]]) -> Result<Vec<u8>, Fail> {
     let mut input = Vec::new(alloc);
     for part in parts {

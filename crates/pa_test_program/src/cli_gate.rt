@@ -21,7 +21,7 @@ phase
 1 A r1 p0 24
 ";
 
-// The records where line 3 is played before line 2, and line 5 before line 6.
+// The records if line 3 is played before line 2, and line 5 before line 6.
 const SECOND_FIRST: &[u8] = b"run 1
 e 2 0 made 00004080.0 8 0000000000000000
 e 3 1 made 00004000.0 8 0000000000000000
@@ -29,7 +29,7 @@ e 5 0 made 00008000.0 24 0000000000000000
 e 6 1 made 00008100.0 24 0000000000000000
 r 0 0 3 fill ";
 
-// The records where line 2 is played before line 3, and line 6 before line 5.
+// The records if line 2 is played before line 3, and line 6 before line 5.
 const FIRST_FIRST: &[u8] = b"run 1
 e 2 0 made 00004000.0 8 0000000000000000
 e 3 1 made 00004080.0 8 0000000000000000
@@ -66,7 +66,7 @@ impl Holding {
         }
     }
 
-    // Waits until the line was answered, or for so many turns.
+    // Waits until the line was answered, or for this many turns.
     fn wait_for(&self, line: u32) {
         for _ in 0..TURNS {
             if count_of(&self.answered, line) > 0 {

@@ -1,4 +1,4 @@
-//! What `replay` writes: of one thread, of two whose phases leave no choice, and of two that meet.
+//! What `replay` writes: for one thread, for two when the phases leave no choice, and for two that meet.
 use crate::cli::{TEXT, TRACE, words};
 use pa_cli::{Outcome, Status, run};
 use pa_io::{MemSink, MemSource};
@@ -45,7 +45,7 @@ s 3 0 live 2 32 quarantined 0 0 cached 6 96 root 248 3968 committed 4096 reserve
 end
 ";
 
-// The same where the read on line 8 and the free stand in one phase.
+// The same with the read on line 8 and the free in one phase.
 const MEETING: &[u8] = b"trace 1 region 1 partitions 1 threads 2
 0 A r0 p0 8
 0 C r0 r1
@@ -59,7 +59,7 @@ phase
 1 R r0
 ";
 
-// What is written for it in front of the record of line 8, and behind it.
+// What is written for it before the record of line 8, and after it.
 const BEFORE: &[u8] = b"run 1
 e 2 0 made 00004000.0 8 0000000000000000
 e 3 0 done 00004000.0 0000000001000001
@@ -87,7 +87,7 @@ const READS: [&[u8]; 3] = [
     b"dangling 00004000.0 0000000003000002 efefefefefefefef",
 ];
 
-// What `replay` writes for these bytes, by reads and writes of at most so many; nothing where it isn't done or tells no run.
+// What `replay` writes for these bytes, by reads and writes of at most this many; nothing if it isn't done or returns no run.
 fn replayed<R: Threads + Wait + Sync>(
     rt: &R,
     alloc: Global,

@@ -4,7 +4,7 @@ use pa_trace::read_trace;
 use std::alloc::Global;
 use std::test::Fail;
 
-// Whether this text comes out where a trace is read and then played, and the same bytes where its text is played as it is read.
+// Whether this text comes out when a trace is read and then played, and the same bytes when its text is played as it is read.
 fn gives(alloc: Global, text: &[u8], due: &[u8]) -> Result<bool, Fail> {
     let Ok(trace) = read_trace(alloc, text) else {
         return Err(Fail::new("no trace"));

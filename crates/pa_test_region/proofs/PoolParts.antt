@@ -49,6 +49,6 @@ others =
     Stake 0 ∷ Stake 1 ∷ Stake 2 ∷ Stake 3 ∷ Stake 4 ∷ Stake 5 ∷ Stake 6 ∷ Stake 7 ∷ Stake 8 ∷ Stake 9 ∷ Stake 10 ∷ Stake 11 ∷ Stake 12 ∷ Stake 13 ∷ Stake 14 ∷ Stake 15 ∷ Keeper 0 ∷ Keeper 1 ∷ Keeper 2 ∷ Keeper 3
     ∷ Keeper 5 ∷ []
 
--- who gets it can lend a stake
+-- a view that gets it can lend a stake
 pub others_lend : (v w z : View) → v ≡ w → w ≡ given_after (parcel_of [] 0 others) z → z ≡ first_view 1048576 0 → CanLend v
 others_lend v w z e f g = subst (λ (x : View). CanLend x) (sym (e ∙ (f ∙ ap (λ (x : View). given_after (parcel_of [] 0 others) x) g))) (omega arith, omega arith)

@@ -30,7 +30,7 @@ use Rattle.pa_test_region.specs.RootScripts.{CanGoBack, CanMapGoBack}
 use Rattle.pa_root.proofs.Seeing.{free_kept, handles_kept}
 use Rattle.pa_thread_state.proofs.Taking.{for_made}
 
--- who keeps what it has still has these titles alone
+-- a view that keeps what it has still has these titles alone
 only_kept : (v x : View) (titles : List Title) → Keeps v x → HasOnly titles v → HasOnly titles x
 only_kept v x titles keeps has = record {
   frees = λ t. ((λ free. (has.frees t).0 (subst (λ n. 0 < n) (free_kept v x t keeps) free)), (λ among. subst (λ n. 0 < n) (sym (free_kept v x t keeps)) ((has.frees t).1 among)));

@@ -129,7 +129,7 @@ ref_out t (u ∷ us) has = go (same_title u t) refl (λ more. ref_out t us more)
         let d = sum_by-cons (λ x. one (same_title x t)) u (without (is_title_of t) us) in
         let less = again (omega arith) in omega arith
 
--- who gets them can let go of the Ref
+-- a view that gets them can let go of the Ref
 pub given_can : (t : Title) (stake : ℕ) (v w : View) → w ≡ given_after (one_ref t stake) v → stake < 16 → 0 < stake_of v stake → CanCount Reset t w
 given_can t stake v w e few has =
     let a : stake_of w stake ≡ stake_of v stake = ap (λ (x : View). stake_of x stake) e

@@ -10,7 +10,7 @@ use Rattle.pa_cache.specs.Caches.{CacheList, HoldsFree}
 abbrev pub row_slot : ℕ → Title
 row_slot n = record { start = 16384 + 16 * n; len = 16; born = 0 }
 
--- the first n slots of the row are in the cache, the seat holds them free, and can cut those behind them
+-- the first n slots of the row are in the cache, the seat holds them free, and can cut those after them
 pub record IsRowCut (n : ℕ) (v : View) (c : CacheList) : Type 0 where
   pub class : c.class ≡ 0
   pub count : length c.titles ≡ n

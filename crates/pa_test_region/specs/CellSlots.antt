@@ -42,7 +42,7 @@ pub record HasTestSlot (v : View) : Type 0 where
   pub stake : HasStake v
   pub made : HasSeenMade test_handle v
 
--- a note out of which cells are made
+-- a note from which cells are made
 pub record IsForCells (v : View) : Type 0 where
   pub keeper : 0 < keeper_of v 5
   pub stakes : (k : ℕ) → stake_of v k ≡ 0

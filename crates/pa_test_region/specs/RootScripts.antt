@@ -18,7 +18,7 @@ pub record CanMapGoBack (p : ℕ) (v : View) (t : Title) : Type 0 where
   pub has : HasOnly (t ∷ []) v
   pub named : HasSeenMap p v t
 
--- at most so many steps were made of a placement over a pool with that many entries
+-- at most this many steps were made of a placement over a pool with that many entries
 pub record IsPlayed (steps entries : ℕ) (r : Root) : Type 0 where
   pub turn : r.turn ≤ 32 * steps
   pub few : entries ≤ steps

@@ -32,7 +32,7 @@ pub record AreTogether (v w u : View) : Type 0 where
   pub stakes : (k : ℕ) → stake_of u k ≡ stake_of v k + stake_of w k
   pub clean : unclean_of u ≡ 0
 
--- The view has every stake, a clean Own of the title and no other unclean one, so many Refs of it, and so many counted steps.
+-- The view has every stake, a clean Own of the title and no other unclean one, `refs` Refs of it, and `steps` counted steps.
 pub record IsShared (t : Title) (refs steps : ℕ) (v : View) : Type 0 where
   pub every : HasEveryStake v
   pub own : own_as v t Clean ≡ 1

@@ -8,7 +8,7 @@ use pa_machine::Title;
 use pa_region::{Region, Seat};
 use std::test::Fail;
 
-// Cuts the next slot of a row of slots of 16 bytes, and puts it in front.
+// Cuts the next slot of a row of slots of 16 bytes, and puts it at the front.
 fn put_next(region: &Region, seat: &mut Seat, cache: &mut Cache, count: u32)
     requires region { seat.old.region ≡ region.now }
     requires row { IsRowCut count seat.old.view cache.old }
@@ -25,7 +25,7 @@ fn put_next(region: &Region, seat: &mut Seat, cache: &mut Cache, count: u32)
     cache.push(region, seat, title);
 }
 
-// Puts the row's first slots into an empty cache of a new region's seat, so many that the last is the front.
+// Puts the row's first slots into an empty cache of a new region's seat, so that the last one is the front.
 fn fill(region: &Region, seat: &mut Seat, cache: &mut Cache, count: u32)
     requires region { seat.old.region ≡ region.now }
     requires view { seat.old.view ≡ first_view 262144 0 }

@@ -138,7 +138,7 @@ fn start(alloc: Global) -> Result<(Region, Seat, Seat, Note), OutOfMemory>
     Ok((region, seat, second, keeper))
 }
 
-// One exchange. `None` is want of memory.
+// One exchange. `None` means out of memory.
 fn swap<N: Name>(
     cells: &mut Cells<N>,
     region: &Region,
@@ -227,7 +227,7 @@ fn handles_go_through_two_cells(rt: HostRuntime) -> Result<(), Fail> {
     exchange_here::<Brand, _>(&rt, rt.alloc(), &region, &mut seat, keeper)
 }
 
-// One exchange behind the lock, and the seat with which it was made.
+// One exchange under the lock, and the seat with which it was made.
 fn swap_as<N: Name, R: Wait>(
     rt: &R,
     region: &Region,

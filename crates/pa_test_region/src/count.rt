@@ -79,7 +79,7 @@ fn two_threads_reset_a_slot(rt: HostRuntime) -> Result<(), Fail> {
     Ok(())
 }
 
-// The bytes of a slot that is made raw again are cut for one that is born later.
+// The bytes of a slot that is uncut are cut for one that is born later.
 #[test]
 fn bytes_are_cut_again(rt: HostRuntime) -> Result<(), Fail> {
     let old = Title {

@@ -8,7 +8,7 @@ ghost use Rattle.pa_region.specs.Lending.{CanLend, CanHost, HostsKeeper, Keeps, 
 use pa_region::{Mark, Region, Seat, enter_both, enter_with, stakes_made_theirs};
 use std::test::Fail;
 
-// Two entries in the pool's list, with a stake that is lent twice: they stand at the list's end and in the stake's log.
+// Two entries in the pool's list, with a stake that is lent twice: they are at the list's end and in the stake's log.
 fn two_entries(region: &Region, lender: &mut Seat, pool: &mut Seat)
     requires regions { (lender.old.region ≡ region.now) × (pool.old.region ≡ region.now) }
     requires lender { CanLend lender.old.view }

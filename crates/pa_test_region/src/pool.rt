@@ -107,7 +107,7 @@ fn give<N: Name>(
     pool.give(region, seat, 3, 1, taken, note).ok()
 }
 
-// Takes one super page of four and two more; asks for two, of which there are none; gives the first back and takes it
+// Takes one super page of four and two more; asks for two more, and there are none; gives the first back and takes it
 // again; and gives the two back, with room for the entry.
 fn play<N: Name>(
     alloc: Global,

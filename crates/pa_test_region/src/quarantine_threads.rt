@@ -147,7 +147,7 @@ fn small_slot() -> Title
     }
 }
 
-// A new region whose one seat has the slot's Own and two Refs.
+// A new region with one seat, which has the slot's Own and two Refs.
 fn slot_with_two_refs(alloc: Global) -> Result<(Region, Seat), OutOfMemory>
     ensures region { IfOk result (λ r. r.1.region ≡ r.0) }
     ensures shared { IfOk result (λ r. IsShared record { start = 16384; len = 16; born = 0 } 2 3 r.1.view) }
@@ -181,7 +181,7 @@ fn of_three_threads_one_is_last(rt: HostRuntime) -> Result<(), Fail> {
     Ok(())
 }
 
-// Whether a read may give this value after a look that found this word, where 7 was written and another thread frees: with
+// Whether a read may give this value after a look that found this word, when 7 was written and another thread frees: with
 // the bit set 7, or poison; with the bit clear poison.
 fn may_be(found: Word, value: u64) -> bool {
     value == POISON || (held(found) && value == 7)
@@ -254,7 +254,7 @@ fn large_slot() -> Title
     }
 }
 
-// A new region whose one seat has the slot's Own, in which 7 was written, and one Ref.
+// A new region with one seat, which has the slot's Own, with 7 written to it, and one Ref.
 fn slot_with_one_ref(alloc: Global) -> Result<(Region, Seat), OutOfMemory>
     ensures region { IfOk result (λ r. r.1.region ≡ r.0) }
     ensures shared { IfOk result (λ r. IsShared record { start = 16384; len = 4096; born = 0 } 1 2 r.1.view) }

@@ -39,7 +39,7 @@ fn at_zero(titles: &ArrayVec<Title, 16>) -> Batch {
     slots
 }
 
-// A fill: what the root's journal says of it, and the slots. At most so many steps were made before.
+// A fill: what the root's journal says of it, and the slots. At most `steps` steps were made before.
 fn fill(
     placement: &mut Placement,
     pool: &mut PoolPlan,
@@ -66,7 +66,7 @@ fn fill(
     Ok((act, placed.titles))
 }
 
-// A slot goes back, if it is out. At most so many steps were made before.
+// A slot goes back, if it is out. At most `steps` steps were made before.
 fn give(placement: &mut Placement, steps: u32, title: Title)
     requires turn { placement.old.turn ≤ 32 * steps }
     requires few { steps < 10000 }
@@ -77,7 +77,7 @@ fn give(placement: &mut Placement, steps: u32, title: Title)
     }
 }
 
-// Slots go back one by one. At most so many steps were made before.
+// Slots go back one by one. At most `steps` steps were made before.
 fn give_all(placement: &mut Placement, pool: &PoolPlan, steps: u32, titles: &ArrayVec<Title, 16>)
     requires played { IsPlayed steps pool.now.entries placement.old }
     requires few { steps < 9000 }
@@ -93,7 +93,7 @@ fn give_all(placement: &mut Placement, pool: &PoolPlan, steps: u32, titles: &Arr
     }
 }
 
-// Nothing is done. At most so many steps were made before.
+// Nothing is done. At most `steps` steps were made before.
 fn stay(placement: &mut Placement, steps: u32)
     requires few { steps < 10000 }
     ensures played { (n : ℕ) → IsPlayed steps n placement.old → IsPlayed (steps + 1) n placement.new }
@@ -102,7 +102,7 @@ fn stay(placement: &mut Placement, steps: u32)
     let _placement = placement;
 }
 
-// A direct map: what the root's journal says of it, and its title. At most so many steps were made before.
+// A direct map: what the root's journal says of it, and its title. At most `steps` steps were made before.
 fn map(
     placement: &mut Placement,
     pool: &mut PoolPlan,
@@ -129,7 +129,7 @@ fn map(
     Ok((act, Some(title)))
 }
 
-// A direct map goes back, if it is mapped: what the root's journal says of it. At most so many steps were made before.
+// A direct map goes back, if it is mapped: what the root's journal says of it. At most `steps` steps were made before.
 fn unmap(
     placement: &mut Placement,
     pool: &mut PoolPlan,
@@ -159,7 +159,7 @@ struct Left {
     census: Census,
 }
 
-// Plays the calls over so many super pages. Each is at most 17 steps.
+// Plays the calls over this many super pages. Each is at most 17 steps.
 fn play_plain(alloc: Global, script: &[Line]) -> Result<Left, OutOfMemory>
     requires few { length script.now ≤ 400 }
 {
@@ -181,7 +181,7 @@ fn play_plain(alloc: Global, script: &[Line]) -> Result<Left, OutOfMemory>
     Ok(Left { journal, census })
 }
 
-// One call, which is at most 17 steps. At most so many were made before.
+// One call, which is at most 17 steps. At most `steps` were made before.
 fn play_call(
     placement: &mut Placement,
     pool: &mut PoolPlan,

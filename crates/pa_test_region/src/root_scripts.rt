@@ -24,10 +24,10 @@ use std::sync::{Mutex, Wait};
 pub(crate) enum Call {
     // A fill of the class with this number.
     Fill(u32),
-    // The slots of a fill go back that stand at this place among those that are held.
+    // The slots of a fill go back that are at this place among those that are held.
     Give(usize),
     Purge,
-    // A direct map for a request of so many bytes.
+    // A direct map for a request of this many bytes.
     Map(u32),
     // The direct map at this place goes back.
     Unmap(usize),
@@ -125,7 +125,7 @@ fn fill<N: Name, R: Wait>(
     }
 }
 
-// A direct map for a request of so many bytes.
+// A direct map for a request of this many bytes.
 fn map<N: Name, R: Wait>(
     rt: &R,
     region: &Region,
@@ -204,7 +204,7 @@ fn play_line<N: Name, R: Wait>(
     Ok(())
 }
 
-// Plays a script on a root of partition 0, over so many super pages. The notes are the root's and the pool's.
+// Plays a script on a root of partition 0, over this many super pages. The notes are the root's and the pool's.
 fn play_by<N: Name, R: Wait>(
     rt: &R,
     alloc: Global,
@@ -259,7 +259,7 @@ const OTHERS: [Mark; 20] = [
     Mark::Keeper(5),
 ];
 
-// Plays a script over a new region of so many super pages.
+// Plays a script over a new region of this many super pages.
 pub(crate) fn play<R: Wait>(
     rt: &R,
     alloc: Global,

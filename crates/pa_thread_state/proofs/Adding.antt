@@ -19,7 +19,7 @@ pub record IsAddedTo (lists : ℕ → List Numbered) (n : ℕ) (t : Tally) : Typ
 list_small : (n m : ℕ) → n < 59 → m ≤ 64 → slot_of n * m ≤ 58720256
 list_small n m below few = mul-le (slot_of n) m 917504 64 (IsRow-of n below).greatest_slot few
 
--- with the next list, which has so many slots
+-- with the next list, which has this many slots
 pub added_more : (lists : ℕ → List Numbered) (n m slots size : ℕ) (t : Tally) → n < 59 → m ≡ length (lists n) → m ≤ 64 → slots ≡ m → size ≡ slot_of n → IsAddedTo lists n t →
     IsAddedTo lists (n + 1) (record { slots = t.slots + slots; bytes = t.bytes + size * slots })
 added_more lists n m slots size t below is few count bytes h =

@@ -1,4 +1,4 @@
--- A list that was filled, and a direct map that came, by what the calls of a stock say.
+-- A list that was filled, and a direct map that came, by what the calls of a thread state say.
 use Rattle.std.proofs.Common.{◌≡◌, ℕ, ◌<◌, List, [], sym, ◌∙◌, ap, subst}
 use Rattle.std.specs.Prelude.{slice_index_or}
 use Rattle.std.specs.List.{remove}

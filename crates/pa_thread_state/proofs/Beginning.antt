@@ -1,4 +1,4 @@
--- A worker's stock at the start.
+-- A worker's thread state at the start.
 use Rattle.std.proofs.Common.{◌≡◌, ℕ, zero, suc, ◌+◌, ◌%◌, ◌<◌, ◌≤◌, Bool, true, false, List, [], ◌∷◌, ◌++◌, length, refl, sym, ◌∙◌, ap, subst, arith, inl, inr, rules}
 use Rattle.std.specs.Prelude.{Contains, nat_lt, if◌then◌else◌, replicate, slice_index_or, All}
 use Rattle.std.proofs.lemmas.List.{length-append}
@@ -24,7 +24,7 @@ long_replicate : (n : ℕ) → length {A = StockRegister} (replicate n Empty) �
 long_replicate zero = refl
 long_replicate (suc n) = let again = long_replicate n in omega arith
 
--- a list behind the others is the next one
+-- a list after the others is the next one
 past : (xs : List CacheList) (k : ℕ) → length xs ≤ k → slice_index_or xs k no_cache ≡ no_cache
 past [] k far = refl
 past (x ∷ xs) zero far = absurd (omega arith)
@@ -64,7 +64,7 @@ small_class caches k are = go (nat_lt k 236) refl
         let n = are.count_is in let far : 236 ≤ k = grind (arith, nat_tests) in
         let e = ap (λ (x : CacheList). x.class) (past caches k (omega arith)) in omega arith
 
--- the stock is sound
+-- the thread state is sound
 pub new_stock : (thread partitions : ℕ) (v : View) (caches : List CacheList) → IsForThread thread v → unclean_of v ≡ 0 → partitions ≤ 4 → AreNoLists 236 caches →
     IsStock (record { thread = thread; partitions = partitions; view = v; registers = replicate 64 Empty; caches = caches })
 new_stock thread partitions v caches for clean few are = record {
@@ -101,7 +101,7 @@ at_end [] x (suc k) e = absurd (omega arith)
 at_end (y ∷ ys) x zero e = absurd (omega arith)
 at_end (y ∷ ys) x (suc k) e = at_end ys x k (omega arith)
 
--- what a list has with one more behind it
+-- what a list has with one more after it
 put : (xs : List CacheList) (n : ℕ) (x : CacheList) → x ≡ record { class = n % 59; titles = [] } → length xs ≡ n →
     ((j : ℕ) → j < n → slice_index_or xs j no_cache ≡ record { class = j % 59; titles = [] }) → (k : ℕ) → k < n + 1 →
     slice_index_or (xs ++ x ∷ []) k no_cache ≡ record { class = k % 59; titles = [] }

@@ -78,7 +78,7 @@ no_more r k log = go (k == r)
     go true = append-nil log
     go false = append-nil log
 
--- So who has every stake, and whose logs stay, has seen each list whole.
+-- So a seat that has every stake, and whose logs stay, has seen each list whole.
 pub same_lists : (r : ℕ) (v w : View) → IsAware v → IsAware w → Lends r [] v w → HasEveryStake v → HasSameLists v w
 same_lists r v w was is lends every k =
     let begins = lends.keeps.lists k in

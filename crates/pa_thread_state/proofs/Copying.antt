@@ -1,4 +1,4 @@
--- A copy of a handle: that it can be made, and the stock after it.
+-- A copy of a handle: that it can be made, and the thread state after it.
 use Rattle.std.proofs.Common.{◌≡◌, ℕ, ◌<◌, List, length, refl, ◌∙◌, arith}
 use Rattle.std.specs.Prelude.{slice_set}
 use Rattle.std.proofs.lemmas.List.{length-set}
@@ -18,7 +18,7 @@ use Rattle.pa_op_specs.proofs.Seeing.{made_kept, made_for_kept}
 use Rattle.pa_thread_state.proofs.Leaving.{least_is, clean_own}
 use Rattle.pa_op_specs.proofs.Stocks.{register_has, stock_with}
 
--- the stock after a copy that found this word
+-- the thread state after a copy that found this word
 abbrev pub copied : StockValue → Handle → ℕ → ℕ → StockValue
 copied s h to word =
     record s { view = after_count steps.Copy h.title word s.view; registers = slice_set s.registers to (Ref h) }
@@ -46,7 +46,7 @@ none_pointed t (Ref h) is = absurd is
 none_pointed t Freed is = refl
 none_pointed t Cleared is = refl
 
--- the stock stays sound
+-- the thread state stays sound
 pub copied_stock : CountLeaves → OwnsChange → (s : StockValue) (from to word : ℕ) (h : Handle) → IsStock s → HasItsStake s → 0 < s.view.budget →
     from < 64 → to < 64 → HasHandleTo h (register_in s.registers from) → HasNoHandle (register_in s.registers to) → IsStock (copied s h to word)
 copied_stock counts owns s from to word h is stake budget below within has bare =

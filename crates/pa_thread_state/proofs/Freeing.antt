@@ -1,4 +1,4 @@
--- A free by the owner: that it can be made, and the stock after it.
+-- A free by the owner: that it can be made, and the thread state after it.
 use Rattle.std.proofs.Common.{◌≡◌, ℕ, ◌+◌, ◌<◌, List, length, refl, ◌∙◌, ap, arith}
 use Rattle.std.specs.Prelude.{slice_set}
 use Rattle.std.specs.List.{sum_by}
@@ -56,7 +56,7 @@ freed_clean t os clean =
     let less = without_less (is_own_of t) (λ (o : OwnTitle). one (is_unclean o.state)) os in
     omega arith
 
--- the stock stays sound
+-- the thread state stays sound
 pub freed_stock : CountLeaves → OwnsChange → StatesAreOwns → (s : StockValue) (r word : ℕ) (h : Handle) → IsStock s → HasItsStake s → 0 < s.view.budget → r < 64 →
     register_in s.registers r ≡ Own h → IsStock (freed s h r word)
 freed_stock counts owns states s r word h is stake budget below own =

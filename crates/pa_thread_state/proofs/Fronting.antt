@@ -1,4 +1,4 @@
--- A title in front of a list: the lists after it, and that the stock stays sound.
+-- A title at the front of a list: the lists after it, and that the thread state stays sound.
 use Rattle.std.proofs.Common.{◌≡◌, ℕ, ◌+◌, ◌*◌, ◌<◌, ◌≤◌, Bool, true, false, List, [], ◌∷◌, length, refl, sym, ◌∙◌, ap, subst, arith, ◌⊎◌, inl, inr}
 use Rattle.std.specs.Prelude.{◌==◌, Contains, nat_lt, if◌then◌else◌, slice_index_or, slice_set}
 use Rattle.std.proofs.lemmas.List.{length-set, get_or_default}
@@ -16,7 +16,7 @@ use Rattle.pa_op_specs.specs.Stocks.{StockValue, IsStock, cache_place, no_cache,
 use Rattle.pa_thread_state.specs.Changes.{CanList, put_in_front}
 use Rattle.pa_op_specs.proofs.Registers.{set_at}
 
--- A list after it: the one with the title in front, or as it was.
+-- A list after it: the one with the title at the front, or as it was.
 pub front_cases : (caches : List CacheList) (p c : ℕ) (t : Title) (q d : ℕ) → p < 4 → c < 59 → length caches ≡ 236 →
     ((q ≡ p) × (d ≡ c) × (titles_in (put_in_front p c t caches) q d ≡ t ∷ titles_in caches p c))
     ⊎ (((q ≡ p) × (d ≡ c) → ⊥) × (titles_in (put_in_front p c t caches) q d ≡ titles_in caches q d))
@@ -38,7 +38,7 @@ front_cases caches p c t q d low small long = by_class (nat_lt d 59) refl
       | inr n ↦ inr (λ e. n.1 (let f = e.0 in let g = e.1 in omega arith), ap (λ (x : CacheList). x.titles) (rw n.0 at at))
     ]
 
--- what is true of each list that was there, and of the one with the title in front, is true of each
+-- what is true of each list that was there, and of the one with the title at the front, is true of each
 each_list : (P : ℕ → ℕ → List Title → Type 0) (caches : List CacheList) (p c : ℕ) (t : Title) → p < 4 → c < 59 → length caches ≡ 236 →
     P p c (t ∷ titles_in caches p c) → ((q d : ℕ) → P q d (titles_in caches q d)) → (q d : ℕ) → P q d (titles_in (put_in_front p c t caches) q d)
 each_list P caches p c t low small long here there q d = elim (front_cases caches p c t q d low small long) [
@@ -46,7 +46,7 @@ each_list P caches p c t low small long here there q d = elim (front_cases cache
   | inr h ↦ subst (λ ts. P q d ts) (sym h.1) (there q d)
 ]
 
--- a title in a list afterwards is the one in front, or was there
+-- a title in a list afterwards is the one at the front, or was there
 where_from : (caches : List CacheList) (p c : ℕ) (t u : Title) (q d : ℕ) → p < 4 → c < 59 → length caches ≡ 236 → Contains (titles_in (put_in_front p c t caches) q d) u →
     ((q ≡ p) × (d ≡ c) × (t ≡ u)) ⊎ Contains (titles_in caches q d) u
 where_from caches p c t u q d low small long among = elim (front_cases caches p c t q d low small long) [
@@ -57,7 +57,7 @@ where_from caches p c t u q d low small long among = elim (front_cases caches p 
   | inr h ↦ inr (subst (λ ts. Contains ts u) h.1 among)
 ]
 
--- the stock stays sound, where the new list is one
+-- the thread state stays sound, if the new list is sound
 pub fronted_stock : (s : StockValue) (h : Handle) (c : ℕ) → IsStock s → CanList h c s → c < 59 → IsCache (record { class = c; titles = h.title ∷ titles_in s.caches h.partition c }) →
     IsStock (record s { caches = put_in_front h.partition c h.title s.caches })
 fronted_stock s h c is can small new = record {

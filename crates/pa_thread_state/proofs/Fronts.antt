@@ -1,4 +1,4 @@
--- A slot that goes in front of a list whose tail was given back.
+-- A slot that goes to the front of a list after its tail was given back.
 use Rattle.std.proofs.Common.{◌≡◌, ℕ, zero, suc, ◌<◌, ◌≤◌, Bool, true, false, List, [], ◌∷◌, length, take, Some, sym, ◌∙◌, ap, subst, arith, refl, ◌⊎◌, inl, inr}
 use Rattle.std.specs.Prelude.{◌==◌, ◌&&◌, Contains, if◌then◌else◌}
 use Rattle.std.proofs.lemmas.Bool.Decides.{nat_tests, eqb_tells}
@@ -35,7 +35,7 @@ taken_few zero ts = omega arith
 taken_few (suc n) [] = omega arith
 taken_few (suc n) (t ∷ ts) = let again = taken_few n ts in omega arith
 
--- The slot can go in front of what is left.
+-- The slot can go to the front of what is left.
 pub can_spill : SlotsStaySeen → (line : ℕ) (h : Handle) (class keep words : ℕ) (s b : StockValue) → IsBack h s → h.class ≡ Some class → keep < limit_of class →
     GivesTail line h.partition class keep s b → IsWellFormed words h.title → CanList h class b
 can_spill stays line h class keep words s b back class_is few given well = record {
@@ -51,7 +51,7 @@ can_spill stays line h class keep words s b back class_is few given well = recor
       omega arith;
 }
 
--- the list of partition p and the class with this in front
+-- the list of partition p and the class with this at the front
 pub front_list : (cache : Cache) (p c q d : ℕ) (xs : List Numbered) → ((q ≡ p) × (d ≡ c) × (with_list cache p c xs q d ≡ xs)) ⊎ (((q ≡ p) × (d ≡ c) → ⊥) × (with_list cache p c xs q d ≡ cache q d))
 front_list cache p c q d xs = elim (eqb_tells q p) [
   | inl y ↦ elim (eqb_tells d c) [

@@ -1,4 +1,4 @@
--- Titles that go back to their root: what the seat and the stock have then, and one entry after another.
+-- Titles that go back to their root: what the seat and the thread state have then, and one entry after another.
 use Rattle.std.proofs.Common.{◌≡◌, ℕ, zero, suc, ◌+◌, ◌-◌, ◌*◌, ◌<◌, ◌≤◌, Bool, true, false, List, [], ◌∷◌, ◌++◌, length, map, refl, sym, ◌∙◌, ap, subst, arith, ◌⊎◌, inl, inr, append_assoc}
 use Rattle.std.specs.Prelude.{◌==◌, ◌≢◌, AllPairs, Contains, if◌then◌else◌, slice_index_or, slice_set}
 use Rattle.std.specs.List.{sum_by}
@@ -162,7 +162,7 @@ module _ (r line p : ℕ) (ts : List Title) (v w : View) (hands : HandsBack r li
     hands_numbers law now n t well free =
         law hands.left w n t hands.aware now keeps well (let e = free_kept hands.left w t keeps in omega arith) ∙ ap (λ (z : View). seen_of z t) hands.left_is
 
--- ---- the stock after a batch
+-- ---- the thread state after a batch
 
 -- it has seen the fill that handed out a title of a list
 pub seen_fill : (s : StockValue) (p c : ℕ) (t : Title) → IsStock s → Contains (titles_in s.caches p c) t → HasSeenFill p s.view t
@@ -212,7 +212,7 @@ batch_gives law s w caches line p c keep is aware now low once hands kept =
       listed = λ q d t among. rest_listed (titles_in s.caches) p c keep q d t among;
     }
 
--- the stock stays sound
+-- the thread state stays sound
 pub batch_stock : SlotsStaySeen → (s : StockValue) (w : View) (new : CacheList) (line p c keep : ℕ) → IsStock s → IsAware s.view → p < 4 → c < 59 →
     AllPairs ◌≢◌ (titles_in s.caches p c) → AllPairs ◌≢◌ (batch_after keep (titles_in s.caches p c)) →
     HandsBack s.thread line p (batch_after keep (titles_in s.caches p c)) s.view w →
@@ -317,7 +317,7 @@ batch_done law stays s w cache new titles place line p c keep is aware now low s
           (λ q d. set_titles s.caches p c new q d low small is.lists.count ∙ ap (λ us. with_titles p c us (titles_in s.caches) q d) titles_are),
     )
 
--- after want of memory the seat has what it had
+-- if it runs out of memory, the seat has what it had
 pub back_stock : SlotsStaySeen → (s : StockValue) (w : View) → IsStock s → TakesBack s.view w → IsStock (record s { view = w })
 back_stock stays s w is back =
     stock_kept s w s.registers is
@@ -406,7 +406,7 @@ gives_on line p acts more left later a b d first second = record {
         ∙ ap (λ es. log ++ es) (sym (map-append (Entered p) first.entries second.entries))
     go log false = append-nil (log ++ [])
 
--- so it is a stretch of entries of the line
+-- so it is a log segment of entries of the line
 pub gives_enters : (line p : ℕ) (acts : List RootAct) (left : ℕ → ℕ → List Title) (a b : StockValue) (gives : Gives line p acts left a b) → p < 5 →
     Entering a.thread line (map (Entered p) gives.entries) a.view b.view
 gives_enters line p acts left a b gives low = record {

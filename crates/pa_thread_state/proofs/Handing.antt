@@ -1,4 +1,4 @@
--- A worker's stake handed over and taken back: the stock in between and after.
+-- A worker's stake handed over and taken back: the thread state in between and after.
 use Rattle.std.proofs.Common.{◌≡◌, ℕ, ◌<◌, ◌≤◌, Bool, true, false, not, ◌&&◌, List, [], ◌∷◌, length, refl, sym, ap, subst, arith, ◌⊎◌, inl, inr}
 use Rattle.std.specs.Prelude.{◌==◌}
 use Rattle.std.specs.List.{sum_by, filter}
@@ -38,7 +38,7 @@ filter_less test f (x ∷ xs) =
       | inr n ↦ rw n (omega arith)
     ]
 
--- the stock after the stake was handed over
+-- the thread state after the stake was handed over
 pub told_stock : (s : StockValue) → IsStock s → IsStock (record s { view = left_after (stake_parcel s.thread) s.view })
 told_stock s is =
     let w = left_after (stake_parcel s.thread) s.view in
@@ -59,7 +59,7 @@ told_stock s is =
     })
     (λ h made. made_kept h s.view w refl made) (λ t. omega arith)
 
--- who has no handle has no Own that isn't clean, and none poisoned
+-- a view that has no handle has no Own that isn't clean, and none poisoned
 none_owned : (os : List OwnTitle) → ((t : Title) → sum_by (λ (o : OwnTitle). one (same_title o.title t)) os ≡ 0) → sum_by (λ (o : OwnTitle). one (is_unclean o.state)) os ≡ 0
 none_owned [] none = refl
 none_owned (o ∷ os) none =
@@ -68,7 +68,7 @@ none_owned (o ∷ os) none =
     let d : one (same_title o.title o.title) ≡ 1 = ap one (title_self o.title) in
     absurd (omega arith)
 
--- the stock after the stake came back
+-- the thread state after the stake came back
 pub heard_stock : BeginningsJoin → SlotsStaySeen → (s : StockValue) (n : View) → IsStock s → IsForThread s.thread n → IsAware (united s.view n) →
     IsStock (record s { view = united s.view n })
 heard_stock joins stays s n is for aware =
@@ -129,7 +129,7 @@ all_go r (s ∷ ss) =
     other_way : (a b : ℕ) → (a == b) ≡ false → (b == a) ≡ false
     other_way a b e = grind (arith, nat_tests)
 
--- a note to which a worker told its stake can be heard by it, and the worker has none in between
+-- a worker can take back the note with the stake that it lent, and has no stake in between
 pub told_again : (thread : ℕ) (v : View) → HoldsStake thread v → 0 < stake_of v thread → IsForThread thread (given_after (stake_parcel thread) v)
 told_again thread v holds has = record {
   stake = record {

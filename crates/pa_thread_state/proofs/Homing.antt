@@ -1,4 +1,4 @@
--- A free title that goes home from a worker's seat, and comes back where it can't: the stock in between.
+-- A free title that goes back to its root from a worker's seat, or comes back if it can't: the thread state in between.
 use Rattle.std.proofs.Common.{◌≡◌, ℕ, ◌<◌, List, [], ◌∷◌, map, Option, Some, None, Result, Ok, Err, refl, sym, ◌∙◌, ap, subst, arith, inl, inr}
 use Rattle.std.specs.Prelude.{◌==◌, ◌≢◌, AllPairs, Contains, OnOk, OnErr}
 use Rattle.std.specs.List.{sum_by}
@@ -122,7 +122,7 @@ left_stock s h is aware back =
       stake = record { small = is.stake.small; only = λ k other. left_stake h.title s.view k ∙ is.stake.only k other };
     }
 
--- ---- it comes home
+-- ---- it goes back to its root
 
 -- an entry with this act
 entry_with : (e : RootEntry) (act : RootAct) → e.act ≡ act → e ≡ root_entry e.line act
@@ -162,7 +162,7 @@ home_lists s h w r es is aware back left_aware after_aware lends p class =
     let well = is.lists.well p class t among in
     kept_number (without_title h.title s.view) w well.0 t left_aware after_aware lends.keeps well.1 (left_listed s h is aware back p class t among))
 
--- the seat that lent its stake for it, or kept it, has a sound stock
+-- the seat that lent its stake for it, or kept it, has a sound thread state
 pub delivered_stock : {A E : Type 0} → SlotsStaySeen → (s : StockValue) (w note : View) (class : Option ℕ) (r p line : ℕ) (t : Title) (result : Result A E) → IsStock s →
     OnOk result (ComesHome class r p line s.view w note t) → OnErr result (w ≡ s.view) → IsStock (record s { view = w })
 delivered_stock stays s w note class r p line t (Ok x) is comes same = kept_stock stays s w is (comes_lends class r p line s.view w note t comes).1.keeps
@@ -172,7 +172,7 @@ pub same_view : {A E : Type 0} (result : Result A E) (seat before : Share) → O
 same_view (Ok x) seat before same = tt
 same_view (Err e) seat before same = ap (λ (n : Share). n.view) same
 
--- By what the calls say: it was handed over, and came home.
+-- By what the calls say: it was handed over, and its root took it.
 pub went_home : (line : ℕ) (h : Handle) (s part after : StockValue) (note : View) → IsStock s → IsAware s.view → IsBack h s →
     part ≡ record s { view = without_title h.title s.view } → note ≡ note_of_title h.title s.view → IsAware part.view → IsAware after.view →
     ComesHome h.class part.thread h.partition line part.view after.view note h.title → after ≡ record part { view = after.view } → GoesHome line h s after
@@ -192,7 +192,7 @@ went_home line h s part after note is aware back part_is note_is part_aware afte
 
 -- ---- it comes back
 
--- the stock with a note that has free titles alone
+-- the thread state with a note that has free titles alone
 pub back_stock : BeginningsJoin → SlotsStaySeen → (s : StockValue) (n : View) (ts : List Title) → IsStock s → HasOnly ts n → IsAware (united s.view n) →
     IsStock (record s { view = united s.view n })
 back_stock joins stays s n ts is has aware =

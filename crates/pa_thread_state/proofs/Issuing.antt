@@ -1,4 +1,4 @@
--- An issue of a free title to a register: that it can be made, and the stock after it.
+-- An issue of a free title to a register: that it can be made, and the thread state after it.
 use Rattle.std.proofs.Common.{◌≡◌, ℕ, ◌-◌, ◌<◌, ◌≤◌, true, List, ◌∷◌, length, refl, sym, ◌∙◌, ap, subst, arith, inl, inr}
 use Rattle.std.specs.Prelude.{Contains, slice_set}
 use Rattle.std.specs.List.{sum_by}
@@ -58,7 +58,7 @@ own_clean : (t : Title) (os : List OwnTitle) → sum_by (λ (o : OwnTitle). one 
     sum_by (λ (o : OwnTitle). one (is_unclean o.state)) (record { title = t; state = Clean; idle = true } ∷ os) ≡ 0
 own_clean t os none = let e = sum_by-cons (λ (o : OwnTitle). one (is_unclean o.state)) (record { title = t; state = Clean; idle = true }) os in omega arith
 
--- the stock stays sound
+-- the thread state stays sound
 pub issued_stock : CountLeaves → (s : StockValue) (r word : ℕ) (h : Handle) → IsStock s → CanCount steps.Issue h.title (zeroed h.title s.view) → r < 64 →
     HasNoHandle (register_in s.registers r) → IsBack h s → IsStock (issued s h r word)
 issued_stock counts s r word h is can below bare back = record {

@@ -1,4 +1,4 @@
--- What steps, looks and reads of one's own handles leave of a view whose one stake is a thread's.
+-- How steps, looks and reads of its own handles change a view, if its one stake is a thread's.
 use Rattle.std.proofs.Common.{◌≡◌, ℕ, ◌+◌, ◌<◌, ◌≤◌, Bool, true, false, ◌&&◌, List, [], ◌∷◌, refl, ap, arith, inl, inr}
 use Rattle.std.specs.Prelude.{◌==◌}
 use Rattle.std.specs.List.{sum_by}
@@ -25,7 +25,7 @@ use Rattle.pa_op_specs.specs.Stocks.{HoldsStake}
 use Rattle.pa_op_specs.proofs.Seeing.{now_seen}
 use Rattle.pa_op_specs.proofs.Touching.{Touched, touched_entry}
 
--- where all stakes have one number, the least one isn't below it
+-- if all stakes have one number, the least one isn't below it
 least_from : (r : ℕ) (ss : List Stake) → r ≤ 16 → ((k : ℕ) → (k ≡ r → ⊥) → sum_by (λ (s : Stake). one (s.number == k)) ss ≡ 0) → r ≤ least_stake ss
 least_from r [] small only = small
 least_from r (s ∷ ss) small only =
@@ -85,7 +85,7 @@ clean_own v t clean = let n = go v.owns in omega arith
           sum_by-cons (λ (x : OwnTitle). one (is_unclean x.state)) o os,
         )
 
--- a title of which the view has a handle isn't free in it
+-- a title that the view has a handle of isn't free in it
 pub user_not_free : (v : View) (t : Title) → IsAware v → IsUser t v → 0 < free_of v t → ⊥
 user_not_free v t aware user free = let z = aware.free_alone t free in absurd (omega arith)
 

@@ -70,7 +70,7 @@ in_rest keep ts t among = elim (Contains-append_cases (take keep ts) (drop (keep
 pub in_batch : (keep : ℕ) (ts : List Title) (t : Title) → Contains (batch_after keep ts) t → Contains ts t
 in_batch keep ts t among = drop_in keep ts t (take_in 16 (drop keep ts) t among)
 
--- where no title stands twice, none is in both
+-- if no title is there twice, none is in both
 apart_append : (xs ys : List Title) (t : Title) → AllPairs ◌≢◌ (xs ++ ys) → Contains xs t → Contains ys t → ⊥
 apart_append [] ys t once first second = not_in_none t first
 apart_append (x ∷ xs) ys t once first second =

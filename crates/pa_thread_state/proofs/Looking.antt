@@ -1,4 +1,4 @@
--- A look at the slot of a register's handle: the stock after it.
+-- A look at the slot of a register's handle: the thread state after it.
 use Rattle.std.proofs.Common.{◌≡◌, ℕ, Bool, true, false, refl, ◌∙◌, arith}
 use Rattle.std.specs.Prelude.{◌==◌, if◌then◌else◌}
 use Rattle.pa_machine.specs.Count.{refs_of}
@@ -20,7 +20,7 @@ use Rattle.pa_op_specs.proofs.Stocks.{stock_with}
 abbrev pub seen_at : Handle → ℕ → Seen
 seen_at h word = record { slot = name_of h.title; found = record { 0 = word } }
 
--- the stock after a look that found this word
+-- the thread state after a look that found this word
 abbrev pub looked : StockValue → Handle → ℕ → StockValue
 looked s h word = record s { view = after_look h.title word s.view }
 
@@ -32,7 +32,7 @@ idle_unclean word o = go (refs_of word == 0)
     go true = refl
     go false = refl
 
--- the stock stays sound
+-- the thread state stays sound
 pub looked_stock : LookLeaves → OwnsChange → (s : StockValue) (word : ℕ) (h : Handle) → IsStock s → HasItsStake s → IsStock (looked s h word)
 looked_stock looks owns s word h is stake =
     let t = h.title in

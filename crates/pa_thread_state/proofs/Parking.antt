@@ -1,4 +1,4 @@
--- Handles that go to a cell and come from one: the stock in between and after, and what stays of the seat's view.
+-- Handles that go to a cell and come from one: the thread state in between and after, and what stays of the seat's view.
 use Rattle.std.proofs.Common.{◌≡◌, ℕ, ◌+◌, ◌-◌, ◌<◌, ◌≤◌, Bool, true, false, ◌&&◌, not, List, [], ◌∷◌, ◌++◌, length, refl, sym, ◌∙◌, ap, subst, arith, inl, inr}
 use Rattle.std.specs.Prelude.{◌==◌, slice_set}
 use Rattle.std.specs.List.{sum_by}
@@ -91,7 +91,7 @@ parked_rests own h v lacks = record {
     none_less : (n : ℕ) → n ≤ n - 0
     none_less n = omega arith
 
--- the stock without it
+-- the thread state without it
 abbrev pub parked_stock_of : StockValue → Bool → Handle → ℕ → StockValue
 parked_stock_of s own h reg = record s { view = parked_view s.view own h; registers = slice_set s.registers reg Empty }
 
@@ -117,7 +117,7 @@ parked_stock law s reg own h is stake below has =
 
 -- ---- the stake is lent, and comes back
 
--- how all slots were made that registers have was seen, by who has seen more
+-- a view that has seen more has seen how all slots that registers have were made
 pub made_for_more : SlotsStaySeen → (v w : View) → ((k : ℕ) → IsBeginning (list_of k v) (list_of k w)) → (r : StockRegister) → IsMadeFor v r → IsMadeFor w r
 made_for_more stays v w more Empty m = tt
 made_for_more stays v w more (Own h) m = stays h v w m (more h.partition)
@@ -161,7 +161,7 @@ none_pointed t (Ref h) is = absurd is
 none_pointed t Freed is = refl
 none_pointed t Cleared is = refl
 
--- who has no stake of any number has none
+-- a view that has no stake of any number has none
 pub no_stakes : (ss : List Stake) → ((k : ℕ) → sum_by (λ (x : Stake). one (x.number == k)) ss ≡ 0) → ss ≡ []
 no_stakes [] none = refl
 no_stakes (s ∷ ss) none = elim (eqb_tells s.number s.number) [
@@ -173,7 +173,7 @@ no_stakes (s ∷ ss) none = elim (eqb_tells s.number s.number) [
   | inr never ↦ absurd (never.1 refl)
 ]
 
--- what stays where the note has no stake
+-- what stays if the note has no stake
 pub taken_rests : BeginningsJoin → SeenJoins → FreeNumbersStay → (v n : View) → IsAware v → IsAware n → IsAware (united v n) → length v.words ≡ length n.words →
     ((k : ℕ) → stake_of n k ≡ 0) → Rests v (united v n)
 taken_rests joins seen stay v n aware other both long none =
@@ -195,7 +195,7 @@ pub made_parked : (own : Bool) (h : Handle) (v : View) → HasSeenMade h v → I
 made_parked true h v m = m
 made_parked false h v m = m
 
--- the stock with it
+-- the thread state with it
 pub taken_stock : TakersHaveHandles → BeginningsJoin → SlotsStaySeen → (s : StockValue) (reg : ℕ) (p : ParkedHandle) → IsStock s → reg < 64 →
     HasNoHandle (register_in s.registers reg) → IsParked p → IsAware (united s.view p.note.view) →
     IsStock (record s { view = united s.view p.note.view; registers = slice_set s.registers reg (register_of p) })

@@ -69,7 +69,7 @@ cells_part words budget =
     let has : keeper_of (given_after (keeper_parcel 5) (without_roots words budget)) 5 ≡ 1 = refl in
     (((λ k. refl, refl), omega arith), refl)
 
--- a byte of so many words is raw in the pool's part, with the floor 0
+-- a byte of this many words is raw in the pool's part, with the floor 0
 low_there : (words budget b : ℕ) → b < 8 * words → 0 < low_of (for_pool words budget) b 0
 low_there words budget b below =
     let c : low_of (for_pool words budget) b 0 ≡ one ((nat_le 0 b && nat_lt b (0 + 8 * words)) && nat_le 0 0) + 0

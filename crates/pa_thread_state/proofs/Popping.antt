@@ -1,4 +1,4 @@
--- The front of a list leaves it: the stock after it.
+-- The front of a list leaves it: the thread state after it.
 use Rattle.std.proofs.Common.{◌≡◌, ℕ, ◌+◌, ◌*◌, ◌<◌, [], ◌++◌, length, Option, Some, None, refl, sym, ◌∙◌, ap, subst, arith}
 use Rattle.std.specs.Prelude.{◌↔◌, Contains, IsNone, IfSome, slice_index_or, slice_set}
 use Rattle.std.specs.Option.{option_to_list}
@@ -31,7 +31,7 @@ listed_caches s p c place cache new at where_is class =
     let e : new ≡ record { class = c; titles = new.titles } = ap (λ k. record { class = k; titles = new.titles }) (class ∙ at.class_is) in
     (e, ap (λ x. slice_set s.caches place x) e ∙ ap (λ k. slice_set s.caches k (record { class = c; titles = new.titles })) where_is)
 
--- the stock stays sound
+-- the thread state stays sound
 pub popped_stock : (s : StockValue) (p c place : ℕ) (cache new : CacheList) (o : Option Title) → IsStock s → p < 4 → c < 59 → CacheAt s p c place cache → place ≡ 59 * p + c →
     new.class ≡ cache.class → cache.titles ≡ option_to_list o ++ new.titles → IsCache new → IsStock (record s { caches = slice_set s.caches place new })
 popped_stock s p c place cache new o is low small at where_is class front sound =

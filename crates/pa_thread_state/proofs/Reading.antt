@@ -1,4 +1,4 @@
--- A look at a handle's slot, and right after it a load: the stock after it.
+-- A look at a handle's slot, and right after it a load: the thread state after it.
 use Rattle.std.proofs.Common.{ℕ, refl, arith}
 use Rattle.pa_machine.specs.declared.title.Title.{Title}
 use Rattle.pa_region.specs.declared.view.Entry.TheVariants.{Read}
@@ -21,7 +21,7 @@ read_view v t word place value = after_read t place value (after_look t word v)
 abbrev pub read_stock : StockValue → Handle → ℕ → ℕ → ℕ → StockValue
 read_stock s h word place value = record s { view = read_view s.view h.title word place value }
 
--- the stock stays sound
+-- the thread state stays sound
 pub read_sound : LookLeaves → EntryLeaves → OwnsChange → (s : StockValue) (word place value : ℕ) (h : Handle) → IsStock s → HasItsStake s →
     IsStock (read_stock s h word place value)
 read_sound looks entries owns s word place value h is stake =

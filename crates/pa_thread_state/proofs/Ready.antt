@@ -1,4 +1,4 @@
--- What a call of a worker's stock knows: of the stock, and of the handle of one of its registers.
+-- What a call of a worker's thread state knows: of the thread state, and of the handle of one of its registers.
 use Rattle.std.proofs.Common.{◌≡◌, ℕ, ◌<◌, sym, subst}
 use Rattle.pa_region.specs.Aware.{IsAware}
 use Rattle.pa_cells.specs.declared.handle.Handle.{Handle}
@@ -6,14 +6,14 @@ use Rattle.pa_rules.specs.declared.register.Register.TheVariants.{Own}
 use Rattle.pa_op_specs.specs.Stocks.{StockValue, IsStock, HasHandleTo, register_in}
 use Rattle.pa_op_specs.specs.Workers.{HasItsStake}
 
--- the stock is sound, has its stake, and its register has this handle
+-- the thread state is sound, has its stake, and its register has this handle
 pub record Holding (s : StockValue) (h : Handle) (reg : ℕ) : Type 0 where
   pub stock : IsStock s
   pub stake : HasItsStake s
   pub below : reg < 64
   pub has : HasHandleTo h (register_in s.registers reg)
 
--- the fields of a stock are those of its value
+-- the fields of a thread state are those of its value
 pub inside : (i s : StockValue) (h : Handle) (reg : ℕ) → i ≡ s → Holding s h reg → Holding i h reg
 inside i s h reg e holding = subst (λ (z : StockValue). Holding z h reg) (sym e) holding
 

@@ -1,4 +1,4 @@
--- What a root gives is taken in: the stock in between and after.
+-- What a root gives is taken in: the thread state in between and after.
 use Rattle.std.proofs.Common.{◌≡◌, ℕ, ◌<◌, ◌≤◌, List, [], ◌∷◌, length, Option, Some, None, refl, sym, ◌∙◌, ap, subst, arith}
 use Rattle.std.specs.Prelude.{◌==◌, Result, Ok, Err, IfErr, All, slice_index_or}
 use Rattle.std.specs.List.{remove}
@@ -33,25 +33,25 @@ pub err_weaker : {A E : Type 0} (r : Result A E) (P Q : E → Type 0) → ((e : 
 err_weaker (Ok a) P Q f is = tt
 err_weaker (Err e) P Q f is = f e is
 
--- who asked a root keeps what it has
+-- a seat that asked a root keeps what it has
 pub for_keeps : (j r p line : ℕ) (asked found : Option ℕ) (a : RootAct) (v u : View) → EntersFor j r p line asked found a v u → Keeps v u
 for_keeps j r p line None found a v u one = one.lends.keeps
 for_keeps j r p line (Some k) found a v u two = two.lends.keeps
 
--- the stock is sound when the root gave nothing
+-- the thread state is sound when the root gave nothing
 pub none_stock : SlotsStaySeen → (s : StockValue) (a b : Share) (r line p count : ℕ) (class : Option ℕ) (fault : FillFault) → IsStock s → a.view ≡ s.view →
     GivesNone r line p count class a b fault → IsStock (record s { view = b.view })
 none_stock stays s a b r line p count class (Full j) is at full = kept_stock stays s b.view is (subst (λ v. Keeps v b.view) at full.enters.lends.keeps)
 none_stock stays s a b r line p count class OutOfMemory is at same = subst (λ v. IsStock (record s { view = v })) (sym (ap (λ (x : Share). x.view) same ∙ at)) is
 
--- and so it is told of it
+-- and so it knows of it
 pub finds_none : (s : StockValue) (a b : Share) (r line p count : ℕ) (class : Option ℕ) (fault : FillFault) → a.view ≡ s.view → r ≡ s.thread →
     GivesNone r line p count class a b fault → FindsNone line p count class s (record s { view = b.view }) fault
 finds_none s a b r line p count class (Full j) at stake full =
     (subst (λ k. IsFullFor j k p line count class s.view b.view) stake (subst (λ v. IsFullFor j r p line count class v b.view) at full), refl)
 finds_none s a b r line p count class OutOfMemory at stake same = ap (λ v. record s { view = v }) (ap (λ (x : Share). x.view) same ∙ at)
 
--- the stock that took in a note with free titles alone
+-- the thread state that took in a note with free titles alone
 pub received_stock : SlotsStaySeen → (s : StockValue) (n : View) (titles : List Title) → IsStock s → HasOnly titles n → IsAware (united s.view n) →
     IsStock (record s { view = united s.view n })
 received_stock stays s n titles is has both =
@@ -72,7 +72,7 @@ received_stock stays s n titles is has both =
     })
     (λ h m. stays h s.view (united s.view n) m (left_begins s.view n h.partition both)) (λ t. omega (arith, sum_by-append (λ (u : Title). one (same_title u t)) s.view.frees n.frees))
 
--- the stock with a list that was loaded
+-- the thread state with a list that was loaded
 pub loaded_stock : (s : StockValue) (p c : ℕ) (ts : List Title) (words : ℕ) → IsStock s → CanLoad p c ts s → c < 59 → IsCache (record { class = c; titles = ts }) →
     All (IsWellFormed words) ts → IsStock (record s { caches = with_listed p c ts s.caches })
 loaded_stock s p c ts words is can small sound placed =

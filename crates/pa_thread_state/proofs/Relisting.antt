@@ -1,4 +1,4 @@
--- A list that is set: the lists after it, and that the stock stays sound.
+-- A list that is set: the lists after it, and that the thread state stays sound.
 use Rattle.std.proofs.Common.{◌≡◌, ℕ, ◌<◌, ◌≤◌, Bool, true, false, List, [], length, refl, sym, ◌∙◌, ap, subst, arith, ◌⊎◌, inl, inr}
 use Rattle.std.specs.Prelude.{◌==◌, Contains, nat_lt, if◌then◌else◌, slice_index_or, slice_set}
 use Rattle.std.proofs.lemmas.List.{length-set}
@@ -49,14 +49,14 @@ listed_from caches p c ts u q d low small long among = elim (listed_cases caches
   | inr h ↦ inr (subst (λ us. Contains us u) h.1 among)
 ]
 
--- A title that can stand on the list of partition p and class c: it is free, on no other list, and its slot was seen made for it.
+-- A title that can be on the list of partition p and class c: it is free, on no other list, and its slot was seen made for it.
 pub record CanStand (s : StockValue) (p c : ℕ) (t : Title) : Type 0 where
   pub free : 0 < free_of s.view t
   pub alone : (q d : ℕ) → Contains (titles_in s.caches q d) t → (q ≡ p) × (d ≡ c)
   pub made : HasSeenMade (listed_slot p c t) s.view
   pub well : (words : ℕ) × IsWellFormed words t
 
--- the stock stays sound, where the new list is one
+-- the thread state stays sound, if the new list is sound
 pub relisted_stock : (s : StockValue) (p c : ℕ) (ts : List Title) → IsStock s → p < 4 → c < 59 → IsCache (record { class = c; titles = ts }) → length ts ≤ limit_of c →
     ((t : Title) → Contains ts t → CanStand s p c t) → IsStock (record s { caches = with_listed p c ts s.caches })
 relisted_stock s p c ts is low small new few stand = record {
@@ -113,7 +113,7 @@ relisted_stock s p c ts is low small new few stand = record {
       | inr n ↦ ap (λ (x : CacheList). x.class) (rw n.0 at (at (cache_place q d))) ∙ is.lists.classes q d lower near
     ]
 
--- The lists afterwards, as the rules have them, where a seat has seen these numbers of the titles that were set, and of the others what
+-- The lists afterwards, as the rules have them, if a seat has seen these numbers of the titles that were set, and of the others what
 -- was seen before.
 pub relisted : (s : StockValue) (w : View) (p c : ℕ) (ts : List Title) (ns : List Numbered) → IsStock s → p < 4 → c < 59 → numbered_by w ts ≡ ns →
     ((q d : ℕ) (u : Title) → Contains (titles_in s.caches q d) u → seen_of w u ≡ seen_of s.view u) →

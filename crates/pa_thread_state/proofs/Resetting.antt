@@ -1,4 +1,4 @@
--- A reset of a raw_ptr: that it can be made, and the stock after it.
+-- A reset of a raw_ptr: that it can be made, and the thread state after it.
 use Rattle.std.proofs.Common.{◌≡◌, ℕ, ◌<◌, length, refl, ◌∙◌, ap, arith}
 use Rattle.std.specs.Prelude.{slice_set}
 use Rattle.std.proofs.lemmas.List.{length-set}
@@ -16,7 +16,7 @@ use Rattle.pa_op_specs.proofs.Seeing.{made_for_kept}
 use Rattle.pa_thread_state.proofs.Leaving.{least_is}
 use Rattle.pa_op_specs.proofs.Stocks.{register_points, stock_with}
 
--- the stock after a reset that found this word
+-- the thread state after a reset that found this word
 abbrev pub cleared : StockValue → Handle → ℕ → ℕ → StockValue
 cleared s h r word = record s { view = after_count steps.Reset h.title word s.view; registers = slice_set s.registers r Cleared }
 
@@ -24,7 +24,7 @@ pub can_reset : (s : StockValue) (r : ℕ) (h : Handle) → IsStock s → HasIts
     CanCount steps.Reset h.title s.view
 can_reset s r h is stake budget below ref = (register_points s r h is below ref, (least_is s.thread s.view is.stake stake).1, budget, tt)
 
--- the stock stays sound
+-- the thread state stays sound
 pub cleared_stock : CountLeaves → (s : StockValue) (r word : ℕ) (h : Handle) → IsStock s → HasItsStake s → 0 < s.view.budget → r < 64 → register_in s.registers r ≡ Ref h →
     IsStock (cleared s h r word)
 cleared_stock counts s r word h is stake budget below ref =

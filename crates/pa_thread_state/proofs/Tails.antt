@@ -52,7 +52,7 @@ some_none line p c keep s =
       | inr n ↦ rw n.0 refl
     ]
 
--- what is behind the first so many, where some went back
+-- what is after the first so many, when some went back
 pub behind : (line p c keep n : ℕ) (s now : StockValue) → GivesSome line p c keep n s now →
     titles_in now.caches p c ≡ outside keep (keep + 16 * n) (titles_in s.caches p c)
 behind line p c keep n s now some = some.given.kept p c ∙ this_list p c (outside keep (keep + 16 * n) (titles_in s.caches p c)) (titles_in s.caches)

@@ -46,8 +46,8 @@ stay v w n t a b both long well = (λ free. left_number v w n t a both long well
 
 -- ---- what was asked of a root
 
--- What the calls of a root say of an entry that names one of the pool or none: of the stock's seat, which has the view u then, and w once
--- it took the note.
+-- What the calls of a root say of an entry that names one of the pool or none: of the caller's seat, which has the view u, and w
+-- after it took the note.
 pub record Asking (line p : ℕ) (acts : List RootAct) (r : ℕ) (v u w : View) : Type 0 where
   pub es : List Entry
   pub entering : Entering r line es v u
@@ -97,7 +97,7 @@ pub for_made : (j r p line : ℕ) (asked found : Option ℕ) (a_root : RootAct) 
 for_made j r p line None found a_root v u one = (one.made, one.is_made)
 for_made j r p line (Some a) found a_root v u two = (two.made, two.is_made)
 
--- it is among those that who took the note has seen
+-- it is among those that the seat which took the note has seen
 pub still_there : (j r p : ℕ) (numbers : List ℕ) (v u w : View) (m : Made) → IsEnteredAt j r p numbers v u m → IsBeginning (list_of p u) (list_of p w) → Contains (list_of p w) m
 still_there j r p numbers v u w m at more =
     let (rest, is) = begins_on (at.earlier ++ m ∷ []) (list_of p u) (list_of p w) at.stands more in
@@ -145,7 +145,7 @@ module _ (s : StockValue) (u n : View) (titles : List Title) (is : IsStock s) (t
   pub took_number : (words : ℕ) (t : Title) → IsWellFormed words t → Contains titles t → seen_of (united u n) t ≡ seen_of n t
   took_number words t well among = right_number u n words t took.awares.2 took.awares.3 took.long well ((took.has.frees t).1 among)
 
-  -- the stretch after it
+  -- the log segment after it
   pub took_enters : (line : ℕ) (es : List Entry) → Entering s.thread line es s.view u → Entering s.thread line es s.view (united u n)
   took_enters line es entering =
       subst (λ xs. Entering s.thread line xs s.view (united u n)) (append-nil es)

@@ -1,4 +1,4 @@
--- Stores to the slot of an Own, and the step that tells of them: that they can be made, and the stock after them.
+-- Stores to the slot of an Own, and the step that records them: that they can be made, and the thread state after them.
 use Rattle.std.proofs.Common.{◌≡◌, ℕ, ◌<◌, true, List, [], ◌∷◌, length, refl, ◌∙◌, ap, arith, inl, inr}
 use Rattle.std.specs.List.{sum_by}
 use Rattle.std.proofs.lemmas.Bool.{cases_Bool}
@@ -55,7 +55,7 @@ filled_clean owns t os has clean =
     let e = ap (sum_by (λ (o : OwnTitle). one (is_unclean o.state))) (changed_both t dirty written (λ o. refl) os) in
     omega arith
 
--- the stock stays sound
+-- the thread state stays sound
 pub filled_sound : CountLeaves → OwnsChange → StatesAreOwns → FilledWords → (n : ℕ) (s : StockValue) (reg value word : ℕ) (h : Handle) → IsStock s → HasItsStake s →
     0 < s.view.budget → reg < 64 → register_in s.registers reg ≡ Own h → IsWellFormed n h.title → length s.view.words ≡ n → CanFill h s →
     IsStock (filled_stock s h value word)

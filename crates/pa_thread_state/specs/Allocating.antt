@@ -27,7 +27,7 @@ use Rattle.pa_cells.specs.Handles.{HasSeenMade}
 use Rattle.pa_rules.specs.declared.register.Register.TheVariants.{Own}
 use Rattle.pa_op_specs.specs.Stocks.{StockValue, cache_place, titles_in, listed_slot}
 
--- the caches where the list of a partition and a class has these titles
+-- the caches when the list of a partition and a class has these titles
 abbrev pub with_listed : ℕ → ℕ → List Title → List CacheList → List CacheList
 with_listed p class titles caches = slice_set caches (cache_place p class) (record { class = class; titles = titles })
 
@@ -79,7 +79,7 @@ pub record CanLoad (p class : ℕ) (titles : List Title) (s : StockValue) : Type
   pub new : (q other : ℕ) (t : Title) → Contains (titles_in s.caches q other) t → Contains titles t → ⊥
   pub made : (t : Title) → Contains titles t → HasSeenMade (listed_slot p class t) s.view
 
--- Where the list was empty, a fill brought titles: the first is for the allocation, and the others are the list then.
+-- If the list was empty, a fill brought titles: the first is for the allocation, and the others are the list then.
 pub record FillsList (line p class : ℕ) (t : Title) (before after : StockValue) : Type 0 where
   pub asked : View
   pub note : View
@@ -91,7 +91,7 @@ pub record FillsList (line p class : ℕ) (t : Title) (before after : StockValue
   pub empty : titles_in before.caches p class ≡ []
   pub after_is : after ≡ record before { view = united asked note; caches = with_listed p class rest before.caches }
 
--- A direct map of so many bytes came.
+-- A direct map of this many bytes came.
 pub record MapsTitle (line p len : ℕ) (t : Title) (before after : StockValue) : Type 0 where
   pub asked : View
   pub note : View
@@ -106,7 +106,7 @@ abbrev pub GivesNone : (r line p count : ℕ) → Option ℕ → (before after :
 GivesNone r line p count class before after (Full j) = IsFullFor j r p line count class before.view after.view
 GivesNone r line p count class before after OutOfMemory = after ≡ before
 
--- and so of a stock
+-- and so of a thread state
 abbrev pub FindsNone : (line p count : ℕ) → Option ℕ → (before after : StockValue) → FillFault → Type 0
 FindsNone line p count class before after (Full j) =
     IsFullFor j before.thread p line count class before.view after.view × (after ≡ record before { view = after.view })

@@ -1,4 +1,4 @@
--- What single calls of a worker's seat make of its stock.
+-- What single calls of a worker's seat make of its thread state.
 use Rattle.std.specs.Prelude.{◌≡◌, ℕ, ◌+◌, ◌<◌, ◌≤◌, Bool, true, false, List, ◌∷◌, length, Some, Contains, slice_set}
 use Rattle.pa_machine.specs.declared.title.Title.{Title}
 use Rattle.pa_machine.specs.declared.word.Step.{Step}
@@ -33,7 +33,7 @@ pub record ReadsAt (h : Handle) (place : ℕ) (seen : Seen) (value : ℕ) (befor
   pub after_is : after ≡ record before { view = after_read h.title place value (after_look h.title seen.found.0 before.view) }
   pub found : IsFound h.title seen.found.0 before.view
 
--- the stock's seat has the handle's Own, and knows that no Ref of it is left
+-- the thread state's seat has the handle's Own, and knows that no Ref of it is left
 abbrev pub CanFill : Handle → StockValue → Type 0
 CanFill h s = (0 < idle_of s.view h.title) × (0 < own_as s.view h.title Clean + own_as s.view h.title Dirty)
 
@@ -44,7 +44,7 @@ pub record WritesTo (h : Handle) (value : ℕ) (seen : Seen) (before after : Sto
   pub enabled : CanStep Write seen.found.0
   pub found : IsFound h.title seen.found.0 (filled h.title value before.view)
 
--- It let go of the handle of a register, by a reset or a free that found this where its view was `v`, and the register has that
+-- It let go of the handle of a register, by a reset or a free that found this when its view was `v`, and the register has that
 -- instead.
 pub record LetsGo (step : Step) (h : Handle) (reg : ℕ) (instead : StockRegister) (v : View) (seen : Seen) (before after : StockValue) : Type 0 where
   pub slot : seen.slot ≡ name_of h.title
@@ -59,13 +59,13 @@ pub record PointsTo (h : Handle) (to : ℕ) (seen : Seen) (before after : StockV
       after ≡ record before { view = after_count Copy h.title seen.found.0 before.view; registers = slice_set before.registers to (Ref h) }
   pub found : IsFound h.title seen.found.0 before.view
 
--- the caches with this title in front of the list of a partition and a class
+-- the caches with this title at the front of the list of a partition and a class
 abbrev pub put_in_front : ℕ → ℕ → Title → List CacheList → List CacheList
 put_in_front p class t caches =
     slice_set caches (cache_place p class) (record { class = class; titles = t ∷ titles_in caches p class })
 
--- A title that can be put in front of a list: it is free, well formed and on no list, its slot was seen made for that list, and
--- there is room.
+-- A title that can be put at the front of a list: it is free, well formed and on no list, its slot was seen made for that list,
+-- and there is room.
 pub record CanList (h : Handle) (class : ℕ) (s : StockValue) : Type 0 where
   pub class_is : h.class ≡ Some class
   pub free : 0 < free_of s.view h.title
@@ -84,7 +84,7 @@ pub record IsBack (h : Handle) (s : StockValue) : Type 0 where
 abbrev pub NeedsRoot : Handle → StockValue → Type 0
 NeedsRoot h s = (class : ℕ) → h.class ≡ Some class → limit_of class ≤ length (titles_in s.caches h.partition class)
 
--- It was put in front of the list of its class, which had room; or nothing was done, and it needs the root.
+-- It was put at the front of the list of its class, which had room; or nothing was done, and it needs the root.
 abbrev pub IsPut : Bool → Handle → (before after : StockValue) → Type 0
 IsPut true h before after =
     (class : ℕ) × (h.class ≡ Some class) × (class < class_count) × (length (titles_in before.caches h.partition class) < limit_of class)

@@ -39,7 +39,7 @@ Parks reg (Some p) before after =
     × (p.note.view ≡ given_after (handle_parcel p) before.view)
     × (after ≡ record before { view = left_after (handle_parcel p) before.view; registers = slice_set before.registers reg Empty })
 
--- A cell got what was given, on this line, and gave what it had: the entry stands behind those that were made before it, and
+-- A cell got what was given, on this line, and gave what it had: the entry is after those that were made before it, and
 -- the index is how many of them are of the cell. The seat lent its stake for it, and carries on with all it had.
 pub record SwapsHandles (line cell : ℕ) (given found : Option ParkedHandle) (index : ℕ) (before after : StockValue) : Type 0 where
   pub older : List Made

@@ -1,4 +1,4 @@
--- Titles that go back to the root of their partition: what that leaves of a worker's stock, and what was entered for it.
+-- Titles that go back to the root of their partition: what that leaves of a worker's thread state, and what was entered for it.
 use Rattle.std.specs.Prelude.{◌≡◌, ℕ, ◌<◌, ◌≤◌, ◌==◌, ◌&&◌, ◌++◌, List, [], ◌∷◌, map, take, drop, Contains, if◌then◌else◌}
 use Rattle.pa_machine.specs.declared.title.Title.{Title}
 use Rattle.pa_machine.specs.Titles.{IsWellFormed}
@@ -23,13 +23,13 @@ use Rattle.pa_rules.specs.Caches.{gives}
 use Rattle.pa_op_specs.specs.Stocks.{StockValue, titles_in, listed_in}
 
 -- Acts of the line were entered in the list of partition p's root, and the lists have these titles then.
---   entries, says: the entries, which tell the acts
---   logs: the log of the stock's stake has them, and no other log has more
+--   entries, says: the entries, which say the acts
+--   logs: the log of the thread state's stake has them, and no other log has more
 --   stakes, budget, same: stay
 --   lists, grows: it forgets nothing
---   numbers: of a title that it holds free still it has seen the same number
+--   numbers: it has seen the same number of each title that it still holds free
 --   fewer, frees: it holds no more titles free than before, and still those that were on no list
---   kept, listed: what the lists have, all of which they had
+--   kept, listed: what the lists have is part of what they had
 pub record Gives (line p : ℕ) (acts : List RootAct) (left : ℕ → ℕ → List Title) (before after : StockValue) : Type 0 where
   pub entries : List Made
   pub says : map (λ (m : Made). m.numbers) entries ≡ map root_numbers (map (root_entry line) acts)
@@ -65,7 +65,7 @@ pub record TakesBack (v after : View) : Type 0 where
 abbrev pub with_titles : ℕ → ℕ → List Title → (ℕ → ℕ → List Title) → ℕ → ℕ → List Title
 with_titles p class ts lists q c = if (q == p) && (c == class) then ts else lists q c
 
--- The titles of a list behind its first so many went back to their root, and the list has what was in front.
+-- The titles of a list after its first `keep` went back to their root, and the list has the first ones.
 abbrev pub GivesTail : (line p class keep : ℕ) (before after : StockValue) → Type 0
 GivesTail line p class keep before after =
     Gives line p (gives (drop keep (listed_in before p class)))

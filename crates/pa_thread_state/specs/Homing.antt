@@ -1,5 +1,5 @@
--- Where a slot goes that a step returned and that its list has no room for: home to its root alone, or to the front of its list, whose
--- tail goes home.
+-- Where a slot goes that a step returned, if its list has no room for it: alone back to its root, or to the front of its list after
+-- the list's tail went back.
 use Rattle.std.specs.Prelude.{◌≡◌, ℕ, ◌-◌, ◌/◌, ◌<◌, ◌⊎◌, [], ◌∷◌, Option, Some, None}
 use Rattle.pa_machine.specs.declared.title.Title.{Title}
 use Rattle.pa_buckets.specs.Limits.{class_count}
@@ -14,7 +14,7 @@ use Rattle.pa_op_specs.specs.Stocks.{StockValue, listed_in}
 use Rattle.pa_thread_state.specs.Changes.{put_in_front}
 use Rattle.pa_thread_state.specs.Giving.{GivesTail}
 
--- What was entered for a title that came home alone in a note: a slot of a class is given, a direct map unmapped.
+-- What was entered for a title that came back to its root alone in a note: a slot of a class is given, a direct map unmapped.
 abbrev pub ComesHome : Option ℕ → (r p line : ℕ) → (v after note : View) → Title → Type 0
 ComesHome None r p line v after note t = UnmapTakes r p line v after note t
 ComesHome (Some class) r p line v after note t = GiveTakes r p line v after note (t ∷ [])
@@ -33,14 +33,14 @@ pub record GoesHome (line : ℕ) (h : Handle) (before after : StockValue) : Type
   pub same : after ≡ record before { view = after.view }
   pub lists : SameLists (listed_in after) (listed_in before)
 
--- All but so many titles of the slot's list went home, and then it became the front of the list: as many are left as half the limit
--- of its class.
+-- The tail of the slot's list went back to the root, and then the slot became the front of the list, which has half the limit
+-- of its class then.
 pub record Spills (line : ℕ) (h : Handle) (class : ℕ) (before after : StockValue) : Type 0 where
   pub between : StockValue
   pub gives : GivesTail line h.partition class (limit_of class / 2 - 1) before between
   pub front : after ≡ record between { caches = put_in_front h.partition class h.title between.caches }
 
--- The slot is where it belongs: a direct map, or a slot of a class that keeps no list, went home; else its list spilled.
+-- The slot is where it belongs: a direct map, or a slot of a class that keeps no list, is in its root; else its list spilled.
 abbrev pub IsSettled : ℕ → Handle → (before after : StockValue) → Type 0
 IsSettled line h before after =
     (((class : ℕ) → h.class ≡ Some class → (class < class_count) × (limit_of class ≡ 0)) × GoesHome line h before after)

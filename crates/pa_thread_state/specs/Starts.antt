@@ -12,14 +12,14 @@ use Rattle.pa_region.specs.Marks.{parcel_of}
 use Rattle.pa_region.specs.Start.{stakes_from}
 use Rattle.pa_region.specs.Waiting.{unclean_of}
 
--- a keeper; all 16 stakes, and so many counted steps
+-- a keeper; all 16 stakes, and this many counted steps
 abbrev pub keeper_parcel : ℕ → Parcel
 keeper_parcel k = parcel_of [] 0 (Keeper k ∷ [])
 
 abbrev pub stakes_parcel : ℕ → Parcel
 stakes_parcel budget = parcel_of [] budget (map Stake (numbers_from 0 16))
 
--- It has every stake, each with an empty log, and so many counted steps; and nothing more, no title, no byte, no keeper and
+-- It has every stake, each with an empty log, and this many counted steps; and nothing more, no title, no byte, no keeper and
 -- no lease. It has seen no step, and nothing of any list.
 pub record HasAllStakes (budget : ℕ) (v : View) : Type 0 where
   pub all : v.stakes ≡ stakes_from 0 16

@@ -38,7 +38,7 @@ pub(crate) fn fill_from<N: Name, R: Wait>(
     with_root!(heap, partition, root => fill_at(rt, heap, seat, root, line, class))
 }
 
-// The fill behind the root's lock.
+// The fill, under the root's lock.
 fn fill_at<N: Name, R: Wait, const P: u32>(
     rt: &R,
     heap: &Heap<N>,
@@ -85,7 +85,7 @@ pub(crate) fn map_from<N: Name, R: Wait>(
     with_root!(heap, partition, root => map_at(rt, heap, seat, root, line, shape))
 }
 
-// The direct map behind the root's lock.
+// The direct map, under the root's lock.
 fn map_at<N: Name, R: Wait, const P: u32>(
     rt: &R,
     heap: &Heap<N>,

@@ -13,7 +13,7 @@ use pa_root::{Root, pools_are_read};
 use std::sync::{Mutex, Wait};
 
 impl<N: Name> Heap<N> {
-    /// What the root of a partition has, by its journal so far, all of which the seat has seen then. It makes no entry. A seat that
+    /// What the root of a partition has, by its journal so far; the seat has seen all of that then. It makes no entry. A seat that
     /// has every stake sees nothing new by it.
     pub fn census<R: Wait>(&self, rt: &R, seat: &mut Seat, partition: u32) -> Census
         requires region { seat.old.region ≡ N.region }
@@ -27,7 +27,7 @@ impl<N: Name> Heap<N> {
     }
 }
 
-// The census of the root behind the lock.
+// The census of the root, which is behind the lock.
 fn ask<N: Name, R: Wait, const P: u32>(
     rt: &R,
     heap: &Heap<N>,

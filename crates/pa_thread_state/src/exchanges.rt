@@ -18,7 +18,7 @@ use pa_rules::Register;
 use std::sync::Wait;
 
 impl<N: Name> Stock<N> {
-    /// Hands over the handle of a register, which is empty then; or nothing, where it has none.
+    /// Hands over the handle of a register, which is empty then; or nothing, if it has none.
     pub fn park(&mut self, region: &Region, reg: u32) -> Option<Parked>
         requires region { region.now ≡ N.region }
         requires stake { HasItsStake self.old }
@@ -54,8 +54,8 @@ impl<N: Name> Stock<N> {
         Parked { handle, own, note }
     }
 
-    /// The exchange itself, behind the lock of the cells: what was given goes into the cell, and what it had comes out. What
-    /// was given comes back for want of memory, and nothing changed then.
+    /// The exchange itself, under the lock of the cells: what was given goes into the cell, and what it had comes out. What
+    /// was given comes back if this runs out of memory, and nothing changed then.
     pub fn swap<R: Wait>(
         &mut self,
         rt: &R,
@@ -97,7 +97,7 @@ impl<N: Name> Stock<N> {
         }
     }
 
-    /// Takes a handle that was given back in again, where one was.
+    /// Takes a handle that was given back in again, if there was one.
     pub fn put_back(&mut self, region: &Region, given: Option<Parked>, reg: u32)
         requires region { region.now ≡ N.region }
         requires note { IfSome given (λ p. p.note.region ≡ N.region) }

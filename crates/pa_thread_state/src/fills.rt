@@ -27,7 +27,7 @@ use std::sync::Wait;
 
 impl<N: Name> Stock<N> {
     /// Fills the empty list of a partition and a class, on this line, from its root. The first title that it brings is answered,
-    /// and the others are the list then. After want of memory nothing changed.
+    /// and the others are the list then. If it runs out of memory, nothing changed.
     pub fn fill_list<R: Wait>(
         &mut self,
         rt: &R,
@@ -80,7 +80,7 @@ impl<N: Name> Stock<N> {
         fill_from(rt, heap, &mut self.seat, line, partition, class)
     }
 
-    /// A direct map of this shape from the root of a partition, on this line. After want of memory nothing changed.
+    /// A direct map of this shape from the root of a partition, on this line. If it runs out of memory, nothing changed.
     pub fn map_title<R: Wait>(
         &mut self,
         rt: &R,

@@ -28,8 +28,8 @@ use std::sync::{Mutex, Wait};
 const BATCH: u32 = 16;
 
 impl<N: Name> Stock<N> {
-    // Gives the titles of a list behind its first `keep` back to the root of their partition, 16 at a time, each batch in
-    // one entry of the line. After want of memory those that were given stay given, and the others stay on the list.
+    // Gives the titles of a list after its first `keep` back to the root of their partition, 16 at a time, each batch in
+    // one entry of the line. If it runs out of memory, those that were given stay given, and the others stay on the list.
     pub(crate) fn give_tail<R: Wait>(
         &mut self,
         rt: &R,
@@ -55,7 +55,7 @@ impl<N: Name> Stock<N> {
         Ok(())
     }
 
-    // How many batches the titles of a list behind its first `keep` make.
+    // How many batches the titles of a list after its first `keep` make.
     fn batches_behind(&self, partition: u32, class: Class, keep: u32) -> u32
         requires partition { partition < most_partitions }
         ensures all { length (titles_in self.now.caches partition class) ≤ keep + 16 * result }
@@ -69,7 +69,7 @@ impl<N: Name> Stock<N> {
         }
     }
 
-    // The first 16 titles of a list behind its first `keep`, or all of them where there are fewer.
+    // The first 16 titles of a list after its first `keep`, or all of them if there are fewer.
     fn batch_listed(&self, partition: u32, class: Class, keep: u32) -> ArrayVec<Title, 16>
         requires partition { partition < most_partitions }
         ensures titles { result.items ≡ batch_after keep (titles_in self.now.caches partition class) }
@@ -80,7 +80,7 @@ impl<N: Name> Stock<N> {
         self.caches[place].batch(keep)
     }
 
-    // Gives the first 16 titles of a list behind its first `keep` back, or all of them where there are fewer.
+    // Gives the first 16 titles of a list after its first `keep` back, or all of them if there are fewer.
     fn give_batch<R: Wait>(
         &mut self,
         rt: &R,
@@ -110,7 +110,7 @@ impl<N: Name> Stock<N> {
     }
 }
 
-// Hands these titles, which the seat holds free, over to the root of their partition. After want of memory the seat has them
+// Hands these titles, which the seat holds free, over to the root of their partition. If it runs out of memory, the seat has them
 // again.
 fn give_titles<N: Name, R: Wait>(
     rt: &R,
@@ -162,7 +162,7 @@ fn hand_free(region: &Region, seat: &mut Seat, titles: &[Title]) -> Note
     region.hand(seat, &items[..titles.len()], 0, &[])
 }
 
-// These titles as free ones, which can be handed over: the first so many.
+// The first `titles.len()` items are these titles as free ones, which can be handed over.
 fn free_items(titles: &[Title]) -> [Item; 16]
     requires few { length titles.now ≤ 16 }
     ensures items { take (length titles.now) result ≡ map free_item titles.now }
@@ -176,7 +176,7 @@ fn free_items(titles: &[Title]) -> [Item; 16]
     items
 }
 
-// Gives the titles of a note to the root of this partition. The note comes back for want of memory, and nothing changed then.
+// Gives the titles of a note to the root of this partition. The note comes back if this runs out of memory; nothing changed then.
 fn give_to<N: Name, R: Wait>(
     rt: &R,
     heap: &Heap<N>,

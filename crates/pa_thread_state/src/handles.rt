@@ -67,7 +67,7 @@ impl<N: Name> Stock<N> {
         (seen, value)
     }
 
-    /// Writes the value to each word of the slot of an Own, and tells so with a step.
+    /// Writes the value to each word of the slot of an Own, and records the write with a step.
     pub fn fill(&mut self, region: &Region, handle: &Handle, reg: u32, value: u64) -> Seen
         requires region { region.now ≡ N.region }
         requires stake { HasItsStake self.old }
@@ -89,7 +89,7 @@ impl<N: Name> Stock<N> {
         }
     }
 
-    /// Makes the second register a `raw_ptr` to the slot of which the first has a handle.
+    /// Makes the second register a `raw_ptr` to the slot that the first has a handle of.
     pub fn point(&mut self, region: &Region, handle: Handle, from: u32, to: u32) -> Seen
         requires region { region.now ≡ N.region }
         requires stake { HasItsStake self.old }

@@ -39,7 +39,7 @@ const STAKES: [Mark; 16] = [
     Mark::Stake(15),
 ];
 
-/// What the workers of a run share: the region, and each behind a lock of its own the pool of super pages, the root of each
+/// What the workers of a run share: the region, and, each behind a lock of its own, the pool of super pages, the root of each
 /// partition, and the 64 cells. `N` names the region.
 #[derive(Drop)]
 pub struct Heap<N: Name> {
@@ -75,7 +75,7 @@ impl<N: Name> Model for Heap<N> {
 }
 
 impl<N: Name> Heap<N> {
-    /// A heap over a new region of so many super pages, 1 to 16, with the region's first seat. The seat that comes back has
+    /// A heap over a new region of this many super pages, 1 to 16, with the region's first seat. The seat that comes back has
     /// every stake, each with an empty log, and the whole budget; the heap has all else.
     pub fn open(
         alloc: Global,
@@ -132,7 +132,7 @@ impl<N: Name> Heap<N> {
     }
 }
 
-// A region with this first seat has the words of so many super pages.
+// A region with this first seat has the words of this many super pages.
 fn is_whole(seat: &Seat, supers: u32, budget: u32)
     requires { seat.now.view ≡ first_view (262144 * supers) budget }
     ensures { byte_word_count seat.now.region ≡ 262144 * supers }
@@ -141,7 +141,7 @@ fn is_whole(seat: &Seat, supers: u32, budget: u32)
     seat.aware();
 }
 
-// Parts the first seat of a region of so many super pages: a note for each root, one for the cells, and one with all stakes and
+// Parts the first seat of a region of this many super pages: a note for each root, one for the cells, and one with all stakes and
 // the budget. The pool's part stays.
 fn part_all(
     region: &Region,
@@ -184,7 +184,7 @@ fn part(region: &Region, seat: &mut Seat, keeper: u32) -> Note
     region.hand(seat, &[], 0, &[Mark::Keeper(keeper)])
 }
 
-// Hands over all stakes, and so many counted steps.
+// Hands over all stakes, and this many counted steps.
 fn part_stakes(region: &Region, seat: &mut Seat, budget: u32) -> Note
     requires region { seat.old.region ≡ region.now }
     requires budget { budget ≤ seat.old.view.budget }

@@ -22,7 +22,7 @@ use pa_root::Root;
 use std::sync::{Mutex, Wait};
 
 impl<N: Name> Stock<N> {
-    // Brings a slot where it belongs that a step returned and that its list has no room for. After want of memory its title may
+    // Brings a slot that a step returned where it belongs, if its list has no room for it. If it runs out of memory, its title may
     // be on no list.
     pub(crate) fn settle<R: Wait>(
         &mut self,
@@ -48,7 +48,7 @@ impl<N: Name> Stock<N> {
         }
     }
 
-    // Gives the tail of the slot's list back, and puts the slot in front of what is left.
+    // Gives the tail of the slot's list back, and puts the slot at the front of what is left.
     fn spill<R: Wait>(
         &mut self,
         rt: &R,
@@ -73,7 +73,7 @@ impl<N: Name> Stock<N> {
         Ok(())
     }
 
-    // Sends a free title that is on no list home to its root.
+    // Sends a free title that is on no list back to its root.
     fn send_home<R: Wait>(
         &mut self,
         rt: &R,
@@ -114,7 +114,7 @@ impl<N: Name> Stock<N> {
         region.hand(&mut self.seat, &[Item::Free(handle.title)], 0, &[])
     }
 
-    // Brings the title of a note into its root. The note comes back for want of memory, and nothing changed then.
+    // Brings the title of a note into its root. The note comes back if this runs out of memory, and nothing changed then.
     fn deliver<R: Wait>(
         &mut self,
         rt: &R,
@@ -173,7 +173,7 @@ fn to_root<N: Name, R: Wait>(
     with_root!(heap, handle.partition, root => into_root(rt, heap, root, seat, line, note, handle))
 }
 
-// Brings the title of a note into this root, behind its lock: a direct map is unmapped, a slot of a class given.
+// Brings the title of a note into this root, under its lock: a direct map is unmapped, a slot of a class given.
 fn into_root<N: Name, const P: u32, R: Wait>(
     rt: &R,
     heap: &Heap<N>,

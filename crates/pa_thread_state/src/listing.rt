@@ -15,7 +15,7 @@ use pa_record::Tally;
 use pa_region::{Name, Region};
 
 impl<N: Name> Stock<N> {
-    // Puts the free title of a handle in front of the list of its partition and class, which has room.
+    // Puts the free title of a handle at the front of the list of its partition and class, which has room.
     pub(crate) fn list(&mut self, region: &Region, handle: &Handle, class: Class)
         requires region { region.now ≡ N.region }
         requires can { CanList handle.now class self.old }
@@ -67,7 +67,7 @@ impl<N: Name> Stock<N> {
         tally
     }
 
-    // Puts the title of a slot that is back in front of its list, where that has room.
+    // Puts the title of a slot that is back at the front of its list, if that has room.
     pub(crate) fn put(&mut self, region: &Region, handle: &Handle) -> bool
         requires region { region.now ≡ N.region }
         requires back { IsBack handle.now self.old }
@@ -109,7 +109,7 @@ pub(crate) fn class_numbered(number: u32) -> Class
     Class::of(number).unwrap()
 }
 
-// Where the cache of a partition and a class stands.
+// The index of the cache of a partition and a class.
 pub(crate) fn place_of(partition: u32, class: Class) -> usize
     requires { partition < most_partitions }
     ensures place { result ≡ class_count * partition + class }

@@ -23,7 +23,7 @@ use std::alloc::Global;
 use std::marker::PhantomData;
 
 impl<N: Name> Stock<N> {
-    /// The stock of a thread's worker at the start: its registers and lists are empty, and it has what the note has.
+    /// The thread state of a thread's worker at the start: its registers and lists are empty, and it has what the note has.
     pub fn open(
         alloc: Global,
         note: Note,

@@ -19,8 +19,8 @@ use pa_root::Root;
 use std::sync::{Mutex, Wait};
 
 impl<N: Name> Stock<N> {
-    /// Gives all lists of a partition back, on this line, and purges its root. It answers how many slots went back. After want of
-    /// memory what was given stays given.
+    /// Gives all lists of a partition back, on this line, and purges its root. It returns how many slots went back. If it
+    /// runs out of memory, what was given back stays so.
     pub fn purge_partition<R: Wait>(
         &mut self,
         rt: &R,
@@ -52,7 +52,7 @@ impl<N: Name> Stock<N> {
     }
 }
 
-// Purges the root of this partition. After want of memory nothing changed.
+// Purges the root of this partition. If it runs out of memory, nothing changed.
 fn purge_root<N: Name, R: Wait>(
     rt: &R,
     heap: &Heap<N>,

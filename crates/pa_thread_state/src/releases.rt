@@ -19,8 +19,8 @@ use pa_region::{Name, counted_steps_leave, owns_change, states_are_owns};
 use std::sync::Wait;
 
 impl<N: Name> Stock<N> {
-    /// Resets the `raw_ptr` of a register, which is cleared, and brings a slot that this returns where it belongs. After want
-    /// of memory the step stands, and the slot's title may be on no list.
+    /// Resets the `raw_ptr` of a register, which is cleared, and brings a slot that this returns where it belongs. If it runs out
+    /// of memory the step remains made, and the slot's title may be on no list.
     pub fn reset<R: Wait>(
         &mut self,
         rt: &R,
@@ -48,8 +48,8 @@ impl<N: Name> Stock<N> {
         }
     }
 
-    /// Poisons the slot that a register owns and frees it, and brings it where it belongs where this returns it. After want
-    /// of memory the step stands, and the slot's title may be on no list.
+    /// Poisons the slot that a register owns and frees it, and brings it where it belongs if this returns it. If it runs out
+    /// of memory the step remains made, and the slot's title may be on no list.
     pub fn free<R: Wait>(
         &mut self,
         rt: &R,
@@ -80,7 +80,7 @@ impl<N: Name> Stock<N> {
         }
     }
 
-    // Brings a slot that a step returned where it belongs: in front of its list where that has room, else by its root.
+    // Brings a slot that a step returned where it belongs: at the front of its list if that has room, else by its root.
     fn bring_back<R: Wait>(
         &mut self,
         rt: &R,

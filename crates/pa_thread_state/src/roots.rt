@@ -1,6 +1,6 @@
 //! The choice of a partition's root.
 
-// The call with the root of a partition of the heap, 0 to 3. Each root has a type of its own, so the call stands in each arm.
+// The call with the root of a partition of the heap, 0 to 3. Each root has a type of its own, so the call is in each arm.
 macro_rules! with_root {
     ($heap:expr, $partition:expr, $root:ident => $call:expr) => {
         match $partition {

@@ -16,7 +16,7 @@ use pa_region::{Name, Note, Seat};
 use pa_rules::Register;
 use std::marker::{Model, PhantomData};
 
-/// A worker's stock: its seat, its registers and its lists of free slots, with the number of its thread and of the run's
+/// A worker's thread state: its seat, its registers and its lists of free slots, with the number of its thread and of the run's
 /// partitions. `N` names the region.
 #[derive(Drop)]
 pub struct Stock<N: Name> {
@@ -65,7 +65,7 @@ impl<N: Name> Stock<N> {
         self.partitions
     }
 
-    /// The title of which a register has a handle is well formed, and the seat's list of words is as long as its region's. It
+    /// The title of a register's handle is well formed, and the seat's list of words is as long as its region's. It
     /// costs nothing.
     pub fn placed(&self, handle: &Handle, reg: u32)
         requires reg { reg < register_count }

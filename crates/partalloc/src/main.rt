@@ -15,7 +15,7 @@ use std::io::ErrorKind;
 use std::process::ExitCode;
 use std::{env, io};
 
-// The number with which the program ends where its words can't be had, but for want of memory.
+// The program's exit code if its words can't be had, for any reason but lack of memory.
 const NO_WORDS: u8 = 8;
 
 fn main(rt: HostRuntime) -> ExitCode {
@@ -41,7 +41,7 @@ fn words<R: Env + AllocGlobal>(rt: &R) -> io::Result<Vec<String>> {
     Ok(env::args(rt)?.skip(1).collect(rt.alloc())?)
 }
 
-// Prints the status's text where it isn't done, and ends with its number.
+// Prints the status's text unless it is `Done`, and exits with its number.
 fn end(rt: &impl Eprint, status: Status) -> ExitCode
     ensures { exit_status result ≡ status_number status }
 {
@@ -51,7 +51,7 @@ fn end(rt: &impl Eprint, status: Status) -> ExitCode
     }
 }
 
-// Ends where the words couldn't be had: memory was wanting, or one of them isn't UTF-8.
+// Exits if the words couldn't be had: it ran out of memory, or one of them isn't UTF-8.
 fn end_without_words(rt: &impl Eprint, kind: ErrorKind) -> ExitCode
     ensures memory { kind ≡ ErrorKind.OutOfMemory → exit_status result ≡ 6 }
     ensures other { (kind ≡ ErrorKind.OutOfMemory → ⊥) → exit_status result ≡ 8 }
@@ -63,7 +63,7 @@ fn end_without_words(rt: &impl Eprint, kind: ErrorKind) -> ExitCode
     }
 }
 
-// Prints the text on standard error, and ends with the number, also where the text can't be printed.
+// Prints the text on standard error, and exits with the number, also if the text can't be printed.
 fn refuse(rt: &impl Eprint, text: impl Display + Drop, number: u8) -> ExitCode
     ensures { exit_status result ≡ number }
 {

@@ -54,7 +54,7 @@ pub record IsCounted (ps : List Played) (n : ℕ) (live quarantined : Tally) : T
   pub lives : (homes sizes : SlotName → ℕ) → homes the_slot ≡ 0 → sizes the_slot ≡ 16 → IsLeftBy issues frees homes sizes 0 2 (until n ps) live
   pub waits : (homes sizes : SlotName → ℕ) → homes the_slot ≡ 0 → sizes the_slot ≡ 16 → IsLeftBy enters leaves homes sizes 0 2 (until n ps) quarantined
 
--- What is asked of the answer of the read: its stretch, what seats had seen, what is known at each phase's end, its rows, and the
+-- What is asked of the answer of the read: its log segment, what seats had seen, what is known at each phase's end, its rows, and the
 -- counts of steps.
 pub record ReadFits (answer : Answer) (word value after : ℕ) (ts : List ToldRecord) : Type 0 where
   pub told : (sizes : SlotName → ℕ) → sizes the_slot ≡ 16 → IsTold sizes (told_record (so_read answer word value after))
@@ -82,7 +82,7 @@ module _ (answer : Answer) (word value after : ℕ) (fits : ReadFits answer word
   abbrev sizes : SlotName → ℕ
   sizes = sizes_in two_threads_trace (told_with so)
 
-  -- the stretches of the other records are told with 16 bytes, so they are with the slot's length
+  -- the log segments of the other records are right with 16 bytes, so they are with the slot's length
   abbrev others : List ToldRecord
   others = told_records (take 5 threads_worked ++ drop 6 threads_worked)
 
@@ -235,7 +235,7 @@ module _ (answer : Answer) (word value after : ℕ) (fits : ReadFits answer word
 
 -- ---- the three answers
 
--- a read whose record tells of a look at the slot
+-- a read after a look at the slot that its record reports
 abbrev IsLook : Answer → ℕ → Type 0
 IsLook answer word = mark_of (record { line = 8; thread = 1; phase = 2; op = ops.Read 0 0; answer = answer }) ≡ Some (record { line = 8; slot = the_slot; found = word; step = None })
 

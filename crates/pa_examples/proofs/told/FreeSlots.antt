@@ -27,11 +27,11 @@ use Rattle.pa_examples.specs.told.AllSaid.{title_number, span_slots, one_word}
 use Rattle.pa_lists.specs.Numbers.{numbers}
 use Rattle.pa_buckets.proofs.Facts.{sixteen_bytes}
 
--- how often a title stands in a list
+-- how many times a title is in a list
 abbrev pub times_in : List Title → Title → ℕ
 times_in ts t = sum_by (λ u. one (same_title u t)) ts
 
--- a title of a list stands in it
+-- a title of a list is in it
 pub stands_in : (ts : List Title) (t : Title) → Contains ts t → 0 < times_in ts t
 stands_in [] t among = absurd (not_in_none t among)
 stands_in (u ∷ us) t among =
@@ -44,7 +44,7 @@ stands_in (u ∷ us) t among =
       | inr later ↦ let again = stands_in us t later in omega arith
     ]
 
--- and what stands in it is one of it
+-- and what is in it is one of it
 pub one_of_them : (ts : List Title) (t : Title) → 0 < times_in ts t → Contains ts t
 one_of_them ts t some_times =
     let (u, among, same) = sum_some (λ v. one (same_title v t)) ts some_times in
@@ -53,7 +53,7 @@ one_of_them ts t some_times =
       | inr n ↦ absurd (true≢false (sym (one_true _ same) ∙ n.0))
     ]
 
--- slots from a number on: each stands there once
+-- slots from a number on: each is there once
 from_number : (from count : ℕ) (t : Title) → (times_in (map title_number (numbers from count)) t ≡ 0)
     ⊎ ((times_in (map title_number (numbers from count)) t ≡ 1) × ((k : ℕ) × (from ≤ k) × (title_number k ≡ t)))
 from_number from zero t = inl refl
@@ -110,7 +110,7 @@ slots_apart t u b first second here there =
     let same : m ≡ n = omega arith in
     sym is ∙ (ap title_number same ∙ is')
 
--- the span, whose slots were all made: its place, the entry of the pool, its class and how many slots were made
+-- the span, with all its slots made: its index, the entry of the pool, its class and how many slots were made
 abbrev pub shape_of : Span → ℕ × ℕ × ℕ × ℕ
 shape_of s = (s.place, s.born, s.class, s.made)
 
@@ -146,11 +146,11 @@ words_long before after word =
     let c = length-append (blank before) (word ∷ blank after) in
     omega arith
 
--- where the count word of a slot stands
+-- where the count word of a slot is
 place_of : (n : ℕ) → count_place (title_number n) ≡ 2049 + 2 * n
 place_of n = omega arith
 
--- where the first slot's count word is the only one that isn't 0
+-- if the first slot's count word is the only one that isn't 0
 module _ (word : ℕ) where
   abbrev words : List ℕ
   words = one_word 2049 word 260094

@@ -1,4 +1,4 @@
--- A view with the logs of records that name one title knows all of them, from what the records' stretches weigh.
+-- A view with the logs of records that name one title knows all of them, from what the records' log segments weigh.
 use Rattle.std.proofs.Common.{◌≡◌, ℕ, zero, suc, ◌+◌, ◌<◌, ◌⊎◌, Bool, true, false, ltb, eqb, List, [], ◌∷◌, map, lit≤, refl, sym, ◌∙◌, subst, arith, inl, inr}
 use Rattle.std.specs.Prelude.{Contains, if◌then◌else◌}
 use Rattle.std.specs.List.{sum_by}
@@ -69,8 +69,8 @@ module _ (ts : List ToldRecord) (r : ℕ) (amount : List Entry → ℕ) where
   pub of_thread : 0 < sum_by (amount_by r amount) (view_of ts).stakes → 0 < amount (log_of r ts)
   of_thread h = by_thread (stakes_from 0 16) h
 
--- What is computed of records, whose titles have these histories.
---   chained: their stretches chain them
+-- What is computed of records, with these as the histories of their titles.
+--   chained: their log segments chain them
 --   well, one_name: the titles that they name are well formed, and two of one start and one `born` are one
 --   reads: what reads gave
 pub record AreKnown (ts : List ToldRecord) (history : Title → List Done) : Type 0 where
@@ -119,8 +119,8 @@ chain_there ts t is = record {
   looks = λ word some_look. let none = is.looked word in absurd (omega arith);
 }
 
--- What is computed of records that name one title, whose history is `steps`.
---   chained: their stretches chain it
+-- What is computed of records that name one title, with the history `steps`.
+--   chained: their log segments chain it
 --   other: they say nothing of another title
 --   freed, own, ref: what reads gave
 pub record IsOfOne (ts : List ToldRecord) (steps : List Done) : Type 0 where

@@ -223,7 +223,7 @@ module _ (answer : Answer) (word value after : ℕ) where
       chain zero = (refl, (refl, tt))
       chain (suc k) = tt
 
-      -- how many exchanges of the cell stand before
+      -- how many exchanges of the cell are before
       refl_at : (n c : ℕ) → n ≡ c → answers.Swapped 0 ≡ answers.Swapped 0
       refl_at n c e = refl
 

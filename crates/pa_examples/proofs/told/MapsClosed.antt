@@ -84,7 +84,7 @@ ends_third = record {
   content = λ own clean i low high. (words_at 252415 9728 0x1000001 (2048 + i)).1 (λ e. absurd (omega arith)) ∙ sym (ap content_of (its_history (map_title 5) ∙ last_history (map_title 5)));
 }
 
--- of the three that the logs name two were made raw again
+-- of the three that the logs name two were uncut
 named_is : (t : Title) → 0 < logged_of seat_maps (names t) → uncut_of seat_maps t ≡ 0 → map_title 5 ≡ t
 named_is t named cut =
     let all = weighed maps_told notes maps_lists maps_holding fits (names t) in

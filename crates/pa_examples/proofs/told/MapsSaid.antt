@@ -250,7 +250,7 @@ cells_tell = no_cells_tell told_maps seat_maps maps_told refl refl (refl, (refl,
 
 -- ---- the workers
 
--- lengths by the entry of the pool; so each stretch is told with those of the three maps
+-- lengths by the entry of the pool; so each log segment is right with those of the three maps
 abbrev by_born : (a b c : ℕ) → SlotName → ℕ
 by_born a b c s = if s.born == 0 then a else if s.born == 2 then b else c
 

@@ -35,7 +35,7 @@ use Rattle.pa_examples.proofs.told.Seats.{list_cases, FitsSeat}
 pub by_one : (P : ℕ → Type 0) → P 0 → ((k : ℕ) → (0 ≡ k → ⊥) → P k) → (k : ℕ) → P k
 by_one P first others k = elim (cases_eq 0 k) [ inl e ↦ subst P e first | inr n ↦ others k n ]
 
--- ---- lists whose entries the first thread made, with nothing seen
+-- ---- lists with entries that the first thread made, with nothing seen
 
 none_later : (m : Made) (ms : List Made) → m.seen ≡ [] → Each (λ (later : Made). IsKnownTo later.seen m) ms
 none_later m [] none = tt

@@ -63,7 +63,7 @@ after_reset = with after_take 0 Cleared
 not_own : (s : SlotName) → Ref the_slot ≡ Own s → ⊥
 not_own s e = cc
 
--- where the slot has 16 bytes
+-- if the slot has 16 bytes
 module _ (sizes : SlotName → ℕ) (long : sizes the_slot ≡ 16) where
   abbrev pub facts : Facts
   facts = by_length sizes threads_cells

@@ -68,7 +68,7 @@ pub record FitsSeat (ts : List ToldRecord) (notes : List SeenNumber) (lists : â„
 -- What is computed of what the seat holds.
 --   raw_none: none of its bytes is raw
 --   free_once, own_once, free_alone, apart: a title is there once, free or owned, and two share no byte
---   gone, undone: none was made raw again
+--   gone, undone: none was uncut
 --   free_seen, handles: it has seen the number of each that is free, and the issue of each that it owns
 --   long: the words are those of a region of one super page
 pub record FitsHolding (ts : List ToldRecord) (notes : List SeenNumber) (v : View) : Type 0 where

@@ -1,4 +1,4 @@
--- What the seats of worked records had seen is in order where tests that compute pass.
+-- What the seats of worked records had seen is in order if tests that compute pass.
 use Rattle.std.proofs.Common.{◌≡◌, ℕ, ◌+◌, ◌≤◌, Bool, true, ◌&&◌, leb, ltb, List, sym, ◌∙◌, ap, subst, arith, inl, inr}
 use Rattle.std.specs.Prelude.{Contains}
 use Rattle.std.specs.List.{list_all}
@@ -63,7 +63,7 @@ fits saw gives (Added word bytes) = true
 fits saw gives (Entered keeper made) = true
 fits saw gives (Uncut t) = true
 
--- The tests of worked records, where `hands` tells which line's exchange gave to which.
+-- The tests of worked records; `hands` says which line's exchange gave to which.
 abbrev pub are_seen : (ℕ → ℕ → Bool) → List Worked → Bool
 are_seen hands ws =
     list_all (λ (x : Worked). list_all (fits x.saw x.gives) x.stretch && covers x.saw x.gives) ws

@@ -1,4 +1,4 @@
--- The titles that a stretch says were made raw again, and that each goes back by an entry of its record.
+-- The titles that a log segment says were uncut, and that each goes back by an entry of its record.
 use Rattle.std.proofs.Common.{◌≡◌, List, [], ◌∷◌, inl, inr, sym, subst}
 use Rattle.std.specs.Prelude.{Contains}
 use Rattle.std.specs.List.{AllByRecursion as Each}
@@ -11,7 +11,7 @@ use Rattle.pa_logs.specs.Told.{ToldRecord}
 use Rattle.pa_logs.specs.Standing.{Unmaps, OnlyUnmapsUncut}
 use Rattle.pa_logs.proofs.Filters.{only_one}
 
--- the titles that an entry says were made raw again, before others
+-- the titles that an entry says were uncut, before others
 abbrev with_uncut : Entry → List Title → List Title
 with_uncut (Counted t step found value) ts = ts
 with_uncut (Looked t found) ts = ts

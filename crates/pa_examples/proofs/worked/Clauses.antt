@@ -1,4 +1,4 @@
--- A run that tells written lists is legal where each clause holds of the lists, and in the order of the lines where it has
+-- A run with written lists is legal if each clause holds of the lists, and in the order of the lines if it has
 -- one thread.
 use Rattle.std.proofs.Common.{◌≡◌, List, sym, ◌∙◌, ap, subst}
 use Rattle.std.specs.Prelude.{map}
@@ -41,7 +41,7 @@ pub record IsWritten (t : Trace) (ps : List Played) (journals : List (List RootE
   pub seen : IsSeenInOrder (history_at exchanged) ps
   pub report : IsReport (phases_in t.lines) t.partitions t.threads ps pools (journal_at journals) heaps
 
--- the clauses hold of a run that tells these lists
+-- the clauses hold of a run with these lists
 own_lists : (t : Trace) (r : Run) (ps : List Played) → map entry_of ps ≡ r.entries.items → IsWritten t ps r.roots.items r.pool.items r.cells.items r.report.items → IsLegal t r
 own_lists t r ps told w =
     let same : records_of t (told_by r) ≡ ps = ap (played t.lines) (sym told) ∙ records_are_lines.same t.lines ps w.lines in

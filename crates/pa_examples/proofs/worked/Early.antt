@@ -122,7 +122,7 @@ all_answered = (
   ),
 )
 
--- the exchanges of each cell stand in the order of their lines
+-- the exchanges of each cell are in the order of their lines
 ordered : (k i j : ℕ) (e f : CellEntry) (p q : Played) → IsExchange cells k i e → IsExchange cells k j f → IsOfLine early_read_records e.line p →
     IsOfLine early_read_records f.line q → StandsBefore p q → i < j
 ordered zero i j e f p q at at' of of' before =

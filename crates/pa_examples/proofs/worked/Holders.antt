@@ -23,7 +23,7 @@ use Rattle.pa_examples.proofs.worked.Lists.{each, implies, implied, none_passes,
 use Rattle.pa_lists.proofs.Indexed.{at_in}
 use Rattle.pa_lists.proofs.Elements.{passes}
 
--- The moves of each slot at each number have the holders that they need, where those of the slot and the number of each
+-- The moves of each slot at each number have the holders that they need, if those of the slot and the number of each
 -- move have: of any other there is no move.
 abbrev pub HasItsHolders : List Played → List Move → Move → Type 0
 HasItsHolders ps ms m = HasHolders ps m.slot m.number (filter (is_move_of m.slot m.number) ms)
@@ -44,7 +44,7 @@ all_have_holders ps ms h s k = elim (none_or_some (filter (is_move_of s k) ms)) 
 abbrev pub HasIt : List Played → Journals → ℕ → Seen → Type 0
 HasIt ps roots thread seen = IsHeld ps roots seen.slot (number_of seen.found.0) (WithThread thread)
 
--- where the record made a slot, its thread has it
+-- if the record made a slot, its thread has it
 abbrev pub IsIssued : List Played → Journals → Played → Type 0
 IsIssued ps roots x = (seen : Seen) (usable : ℕ) → x.answer ≡ answers.Made seen usable → HasIt ps roots x.thread seen
 

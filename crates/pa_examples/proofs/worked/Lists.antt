@@ -42,7 +42,7 @@ rises f xs h i j d low below = elim (cases_eq i j) [
   | inr ne ↦ pairs_pass (λ x y. f x ≤ f y) (λ x y. leb (f x) (f y)) (λ x y. leb-true (f x) (f y)) xs h i j d (omega arith) below
 ]
 
--- where the numbers rise, entries with one number stand in one place
+-- if the numbers rise, entries with one number are in one place
 pub one_place : {A : Type 0} (f : A → ℕ) (xs : List A) → all_pairs (λ x y. ltb (f x) (f y)) xs ≡ true → (i j : ℕ) (d e : A) → slice_get xs i ≡ Some d → slice_get xs j ≡ Some e → f d ≡ f e → i ≡ j
 one_place f xs h i j d e at at' same =
     let less : AllPairs (λ x y. f x < f y) xs = pairs_pass (λ x y. f x < f y) (λ x y. ltb (f x) (f y)) (λ x y. ltb-true (f x) (f y)) xs h in
@@ -56,7 +56,7 @@ one_place f xs h i j d e at at' same =
       ]
     ]
 
--- where one test passes, the other does
+-- if one test passes, the other does
 abbrev pub implies : Bool → Bool → Bool
 implies a b = not a || b
 
@@ -76,12 +76,12 @@ pub none_or_some : {A : Type 0} (xs : List A) → (xs ≡ []) ⊎ ((x : A) × Co
 none_or_some [] = inl refl
 none_or_some (x ∷ xs) = inr (x, first_in x xs)
 
--- where there is one journal, each entry is of partition 0 and stands in it
+-- if there is one journal, each entry is of partition 0 and is in it
 pub only_journal : (journal : List RootEntry) (p j : ℕ) (e : RootEntry) → IsEntry (journal_at (journal ∷ [])) p j e → (p ≡ 0) × (slice_get journal j ≡ Some e)
 only_journal journal zero j e at = (refl, at)
 only_journal journal (suc p) j e at = absurd (not_some e at)
 
--- the test whether x stands before y
+-- the test whether x is before y
 abbrev pub stands : Played → Played → Bool
 stands x y = (eqb x.thread y.thread && ltb x.line y.line) || ltb x.phase y.phase
 
@@ -89,11 +89,11 @@ pub stands-from : (x y : Played) → StandsBefore x y → stands x y ≡ true
 stands-from x y (inl (thread, line)) = or_left _ _ (and_from _ _ (eq-eqb x.thread y.thread thread) (lt-ltb x.line y.line line))
 stands-from x y (inr phase) = or_right _ _ (lt-ltb x.phase y.phase phase)
 
--- what stands before has the lesser line
+-- what is before has the lesser line
 abbrev pub lines_follow : List Played → Bool
 lines_follow ps = all_both (λ (x : Played) (y : Played). implies (stands x y) (ltb x.line y.line)) ps
 
--- entries whose lines don't fall stand in the order of the records
+-- entries with lines that don't fall are in the order of the records
 pub in_order : {A : Type 0} (ps : List Played) (line_of : A → ℕ) (xs : List A) → lines_follow ps ≡ true → IsNonDecreasingBy line_of xs →
     (i j : ℕ) (e f : A) (x y : Played) → slice_get xs i ≡ Some e → slice_get xs j ≡ Some f → IsOfLine ps (line_of e) x → IsOfLine ps (line_of f) y → StandsBefore x y → i < j
 in_order ps line_of xs h rise i j e f x y at at' (among, of) (among', of') before = elim (cases_lt i j) [

@@ -28,7 +28,7 @@ use Rattle.pa_lists.proofs.Elements.{passes}
 abbrev pub IsMade : List Played → List PoolEntry → RootEntry → Type 0
 IsMade ps pools e = (x : Played) × IsOfLine ps e.line x × MakesEntry pools 0 e.act x.op
 
--- where the record's request was refused, the journal has the entry for that
+-- if the record's request was refused, the journal has the entry for that
 abbrev pub IsRefused : List RootEntry → Played → Type 0
 IsRefused journal x = (j reg p size : ℕ) → x.answer ≡ answers.Full j → x.op ≡ ops.Alloc reg p size →
     (e : RootEntry) × IsEntry (journal_at (journal ∷ [])) p j e × (e.line ≡ x.line) × IsFull e.act
@@ -75,13 +75,13 @@ module _ (ps : List Played) (pools : List PoolEntry) (journal : List RootEntry) 
   not_full : list_all (λ (x : Played). not (is_full x.answer)) ps ≡ true → (x : Played) (j : ℕ) → Contains ps x → x.answer ≡ answers.Full j → ⊥
   not_full h x j among is = both_ways _ (not-true _ (passes (λ (y : Played). not (is_full y.answer)) ps x h among)) (subst (λ a. is_full a ≡ true) (sym is) refl)
 
-  -- where no request was refused
+  -- if no request was refused
   pub roots_of_one : IsJournal pools journal → AllByRecursion (IsMade ps pools) journal → lines_follow ps ≡ true →
       all_pairs (λ (x : RootEntry) (y : RootEntry). leb (entry_line x) (entry_line y)) journal ≡ true → list_all (λ (x : Played). not (is_full x.answer)) ps ≡ true →
       AreRoots 1 ps pools (journal_at (journal ∷ []))
   roots_of_one h made follow rise none_full = roots_by h made follow rise (λ x among j reg p size full op. absurd (not_full none_full x j among full))
 
-  -- where all its entries are of the phases up to one, the root has at its end what they replay to
+  -- if all its entries are of the phases up to one, the root has at its end what they replay to
   pub census_of_one : (phase : ℕ) (c : Census) → AllByRecursion (InPhases ps phase) journal → journal ≡ journal ++ [] → census (root_replayed pools journal new_root) ≡ c →
       HasCensus ps pools (journal_at (journal ∷ [])) phase 0 c
   census_of_one phase c in_phases parts counted = (

@@ -1,4 +1,4 @@
--- The pool of a written run with one journal, each entry of which names the pool's entry at its own place.
+-- The pool of a written run with one journal, in which each entry names the pool's entry at its own place.
 use Rattle.std.proofs.Common.{◌≡◌, ℕ, zero, suc, ◌+◌, ◌<◌, Bool, true, false, ◌&&◌, eqb, leb, List, [], ◌∷◌, Option, Some, None, refl, sym, ◌∙◌, ap, subst, arith}
 use Rattle.std.specs.Prelude.{slice_get}
 use Rattle.std.proofs.lemmas.Bool.{and_parts, eqb-true, false≢true}
@@ -53,7 +53,7 @@ alike_at (x ∷ es) (f ∷ fs) zero e h at =
 alike_at (x ∷ es) (f ∷ fs) (suc j) e h at = alike_at es fs j e (and_parts (eqb x.partition 0 && eqb f.line x.line) (are_alike es fs) h).1 at
 
 module _ (ps : List Played) (follow : lines_follow ps ≡ true) (journal : List RootEntry) (rise : all_pairs (λ (x : RootEntry) (y : RootEntry). leb (entry_line x) (entry_line y)) journal ≡ true) where
-  -- the entries of the journal stand in the order of the records
+  -- the entries of the journal are in the order of the records
   pub journal_in_order : (p i j : ℕ) (e f : RootEntry) (x y : Played) → IsEntry (journal_at (journal ∷ [])) p i e → IsEntry (journal_at (journal ∷ [])) p j f →
       IsOfLine ps e.line x → IsOfLine ps f.line y → StandsBefore x y → i < j
   journal_in_order p i j e f x y at at' of of' before =

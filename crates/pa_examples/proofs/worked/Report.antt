@@ -21,7 +21,7 @@ use Rattle.pa_examples.proofs.worked.Slots.{Worded, is_named, are_worded, worded
 pub other_lines : (ms : List Mark) → all_pairs (λ (m : Mark) (n : Mark). not (eqb m.line n.line)) ms ≡ true → AllPairs OtherLine ms
 other_lines ms h = pairs_pass OtherLine (λ (m : Mark) (n : Mark). not (eqb m.line n.line)) (λ m n other same. both_ways _ (not-true _ other) (eq-eqb m.line n.line same)) ms h
 
--- the slots whose last word passes a test
+-- the slots with a last word that passes a test
 abbrev pub passing : (ℕ → Bool) → Worded → Bool
 passing test n = test (last_word 0 n.words)
 

@@ -1,4 +1,4 @@
--- What was seen in a written run: by a test that stands for what is before what.
+-- What was seen in a written run: by a test that says what is before what.
 use Rattle.std.proofs.Common.{◌≡◌, ℕ, ◌≤◌, Bool, true, ◌&&◌, not, leb, List, Option, Some, None, subst}
 use Rattle.std.specs.Prelude.{Contains}
 use Rattle.std.specs.List.{list_all}
@@ -24,8 +24,8 @@ not_older-true o p m n h is is' same =
     let here : not_older (Some m) (Some n) ≡ true = subst (λ z. not_older (Some m) z ≡ true) is' (subst (λ z. not_older z p ≡ true) is h) in
     leb-true _ _ (implied _ _ here (same_slot_yes m.slot n.slot same))
 
--- The test `before` holds where a record stands before another, leads on from record to record and never back to the
--- same one, and where it holds no older number is found.
+-- The test `before` holds if a record is before another, leads on from record to record and never back to the
+-- same one, and if it holds no older number is found.
 abbrev pub is_seen : (Played → Played → Bool) → List Played → Bool
 is_seen before ps =
     all_both (λ (x : Played) (y : Played). implies (stands x y) (before x y)) ps

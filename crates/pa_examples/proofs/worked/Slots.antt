@@ -14,7 +14,7 @@ use Rattle.pa_examples.proofs.worked.Lists.{implies, implied}
 use Rattle.pa_lists.proofs.Elements.{passes}
 use Rattle.pa_lists.proofs.Different.{has_some}
 
--- where a step may be made
+-- if a step may be made
 abbrev pub enabled : Step → ℕ → ℕ → Bool
 enabled Issue c h = eqb h 0 && eqb c 0
 enabled Copy c h = ltb 0 (h + c)

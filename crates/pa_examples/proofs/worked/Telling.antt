@@ -1,4 +1,4 @@
--- A run that tells written lists: its vectors are of a heap.
+-- A run with written lists: its vectors are of a heap.
 use Rattle.std.proofs.Common.{◌<◌, ◌^◌, List, length, refl, Vec, Global}
 use Rattle.std.proofs.Math.Nat.{le_refl}
 use Rattle.std.specs.Ptr.{null_ptr}

@@ -1,4 +1,4 @@
--- There are runs that tell what was worked out, of traces within the limits.
+-- There are runs with the lists that were worked out, of traces within the limits.
 use Rattle.std.proofs.Common.{[], ◌∷◌, map, lit<, rules, Global}
 use Rattle.pa_trace.specs.Limits.{IsWithinLimits}
 use Rattle.pa_record.specs.Bits.{RunInBits}

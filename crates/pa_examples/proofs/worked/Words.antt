@@ -2,12 +2,12 @@
 use Rattle.std.proofs.Common.{◌≡◌, ℕ, zero, suc, ◌+◌, ◌<◌, ◌≤◌, List, [], ◌∷◌, ◌++◌, length, refl, ◌∙◌, ap, arith}
 use Rattle.std.specs.Prelude.{slice_index}
 
--- so many words that are 0
+-- this many words that are 0
 abbrev zeros : ℕ → List ℕ
 zeros zero = []
 zeros (suc n) = 0 ∷ zeros n
 
--- so many words that are 0, some words, and so many that are 0
+-- a number of words that are 0, some words, and again words that are 0
 pub between : ℕ → List ℕ → ℕ → List ℕ
 between zero mid back = mid ++ zeros back
 between (suc n) mid back = 0 ∷ between n mid back

@@ -1,4 +1,4 @@
--- The run whose journal names an entry of the pool that isn't there fails at the line that does so first.
+-- The run with a journal that names a missing entry of the pool fails at the first line that does so.
 use Rattle.std.proofs.Common.{◌≡◌, ℕ, zero, suc, ◌<◌, true, List, [], ◌∷◌, Some, length, refl, sym, ◌∙◌, ap, subst, arith, lit<, lit≤}
 use Rattle.std.specs.Prelude.{slice_get}
 use Rattle.pa_buckets.specs.Table.{rows, row_of, slot_of, pages_of, slots_of}

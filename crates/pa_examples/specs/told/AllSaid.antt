@@ -26,14 +26,14 @@ use Rattle.pa_examples.specs.told.Entered.{lists_of, gift_made, taking_made, thr
 use Rattle.pa_examples.specs.told.OtherReads.{content_read, freed_read, reading_so}
 use Rattle.pa_lists.specs.Numbers.{numbers}
 
--- What a seat holds: the titles that it has free, those that it has as an owner, and those that it made raw again; and the words.
+-- What a seat holds: the titles that it has free, those that it has as an owner, and those that it uncut; and the words.
 pub record Holding : Type 0 where
   pub frees : List Title
   pub owns : List OwnTitle
   pub uncut : List Title
   pub words : List ℕ
 
--- A seat with the 16 stakes, whose logs are those of these records. It has seen these numbers and these lists, and holds this.
+-- A seat with the 16 stakes; their logs are those of these records. It has seen these numbers and these lists, and holds this.
 abbrev pub seat_with : List ToldRecord → List SeenNumber → (ℕ → List Made) → Holding → View
 seat_with ts notes lists held = record {
   raws = [];
@@ -73,7 +73,7 @@ title_number n = record { start = 16384 + 16 * n; len = 16; born = 0 }
 unfoldable pub span_slots : ℕ → List Title
 span_slots count = map title_number (numbers 0 count)
 
--- words that are all 0 but one, behind so many and before so many
+-- words that are all 0 but one, with this many before it and this many after
 abbrev pub one_word : ℕ → ℕ → ℕ → List ℕ
 one_word before word after = blank before ++ word ∷ blank after
 
@@ -93,7 +93,7 @@ last_holding = record {
 abbrev pub seat_last : Worked → View
 seat_last read = seat_with (reading_so read) (seen_number 4) (lists_until 3) last_holding
 
--- what the run tells with that read
+-- the run's lists with that read
 abbrev pub told_with : Worked → Told
 told_with read = record {
   entries = map (λ (w : Worked). entry_of w.played) (take 5 threads_worked ++ (read ∷ drop 6 threads_worked));
@@ -103,7 +103,7 @@ told_with read = record {
   report = two_threads_report;
 }
 
--- all layers say what they are asked, where the read is so
+-- all layers meet their obligations, if the read is so
 abbrev pub SaysWith : Worked → Type 0
 SaysWith read = LayersSay two_threads_trace (told_with read) (seat_last read) (reading_so read)
 
@@ -124,8 +124,8 @@ pub record OtherReadsAreLegal : Type 0 where
   pub content : IsFineWith content_read
   pub freed : IsFineWith freed_read
 
--- A run with these records, whose closing seat is v: all layers say what they are asked, and the seat is what it is asked to be. So
--- the words that the close tells it hold the run.
+-- A run with these records, closed by the seat v: all layers meet their obligations, and the seat meets its own. So
+-- the words, by what the close ensures for it, hold the run.
 pub record IsClosed (t : Trace) (r : Told) (v : View) (ts : List ToldRecord) (words : List ℕ) : Type 0 where
   pub says : LayersSay t r v ts
   pub closes : CloseSays t r v ts (says.lists (phases_in t.lines))

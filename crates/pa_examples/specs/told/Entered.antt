@@ -24,7 +24,7 @@ in_root e = record { stake = 0; numbers = root_numbers e; seen = [] }
 abbrev pub in_pool : PoolEntry → Made
 in_pool e = record { stake = 0; numbers = pool_numbers e; seen = [] }
 
--- the six lists: that of the first root, of which this is the journal, of the pool, and of the cells; the other roots' are empty
+-- the six lists: that of the first root, which has this journal, of the pool, and of the cells; the other roots' are empty
 abbrev pub lists_of : List RootEntry → List PoolEntry → List Made → ℕ → List Made
 lists_of journal pools swaps q = slice_index_or (map in_root journal ∷ [] ∷ [] ∷ [] ∷ map in_pool pools ∷ swaps ∷ []) q []
 

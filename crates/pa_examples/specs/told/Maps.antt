@@ -1,4 +1,4 @@
--- The worked run of direct maps, with what its log, its lists and its seat tell: one map goes back as it is freed, one is
+-- The worked run of direct maps, with its log, its lists and its seat: one map goes back as it is freed, one is
 -- quarantined and goes back with the reset of its raw_ptr, and for one there is no room.
 use Rattle.std.specs.Prelude.{ℕ, List, [], ◌∷◌, map, Some, None}
 use Rattle.pa_machine.specs.declared.title.Title.{Title}
@@ -36,7 +36,7 @@ seen_map born n = record { title = map_title born; number = n }
 abbrev pub mapped : ℕ → ℕ → List Entry
 mapped line born = took (pool_take line 0 1 (Some 0)) ∷ filled (map_made line born 16384 2002944) ∷ Counted (map_title born) Issue 0 0 ∷ []
 
--- what it gains where a map goes back, of that entry of the pool, which this one gives back, at this number
+-- what it gains when a map goes back, of that entry of the pool, which this one gives back, at this number
 abbrev pub unmapped : ℕ → ℕ → ℕ → ℕ → List Entry
 unmapped line asked born number =
     took (pool_give line 0 1 0) ∷ filled (map_gone line asked 16384 born number) ∷ Uncut (map_title born) ∷ []
@@ -96,7 +96,7 @@ maps_worked =
 abbrev pub maps_told : List ToldRecord
 maps_told = told_records maps_worked
 
--- a run that tells what was worked out meets, with these records, all that is asked
+-- a run with the lists that were worked out meets, with these records, all that is required
 abbrev pub DirectMapIsPlayedOut : Type 0
 DirectMapIsPlayedOut =
     (r : Run) →

@@ -22,7 +22,7 @@ use Rattle.pa_examples.specs.told.Purge.{purge_told}
 use Rattle.pa_examples.specs.told.Threads.{seen_number}
 use Rattle.pa_lists.specs.Numbers.{numbers}
 
--- an owner of the title, whose content is what its history says
+-- an owner of the title, with the content that its history says
 abbrev pub owner_of : Title → OwnTitle
 owner_of t = record { title = t; state = Clean; idle = false }
 
@@ -40,7 +40,7 @@ told_purge = record {
 abbrev pub purge_lists : ℕ → List Made
 purge_lists = lists_of purge_journal purge_pool []
 
--- so many slots of the span from number 1 on
+-- this many slots of the span from number 1 on
 unfoldable pub later_slots : ℕ → List Title
 later_slots count = map title_number (numbers 1 count)
 
@@ -81,7 +81,7 @@ maps_lists = lists_of direct_map_again_journal direct_map_again_pool []
 abbrev pub maps_words : List ℕ
 maps_words = one_word 252415 0x1000001 9728
 
--- the seat at the end owns the third map, and made the other two raw again
+-- the seat at the end owns the third map, and uncut the other two
 abbrev pub maps_holding : Holding
 maps_holding = record {
   frees = [];

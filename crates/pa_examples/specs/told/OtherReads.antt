@@ -18,7 +18,7 @@ use Rattle.pa_logs.specs.Worked.{sixteen, its_title, view_of}
 use Rattle.pa_examples.specs.told.Threads.{seen_number, read_poison, threads_worked}
 use Rattle.pa_examples.specs.told.Worked.{Worked, told_records}
 
--- the read with this answer and stretch, after which its seat has seen this number
+-- the read with this answer and log segment, after which its seat has seen this number
 abbrev pub read_with : Answer → List Entry → ℕ → Worked
 read_with answer stretch after = record {
   played = record { line = 8; thread = 1; phase = 2; op = ops.Read 0 0; answer = answer };
@@ -46,7 +46,7 @@ pub record LogsFit (ts : List ToldRecord) : Type 0 where
   pub ends : HaveEnds ts
   pub viewed : AreViewed (history_at (two_threads_history ∷ [])) ts
 
--- so it is where the read gave the content, and where it found the slot freed
+-- so it is if the read gave the content, and if it found the slot freed
 pub record OtherReadsFit : Type 0 where
   pub content : LogsFit (reading_so content_read)
   pub freed : LogsFit (reading_so freed_read)

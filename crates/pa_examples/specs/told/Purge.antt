@@ -1,4 +1,4 @@
--- The worked run with a purge, with what its log, its lists and its seat tell: a slot is freed, goes back with the purge, and
+-- The worked run with a purge, with its log, its lists and its seat: a slot is freed, goes back with the purge, and
 -- is taken again.
 use Rattle.std.specs.Prelude.{List, [], ◌∷◌, ◌++◌, map, take, drop}
 use Rattle.pa_machine.specs.declared.word.Step.TheVariants.{Issue, Free}
@@ -49,7 +49,7 @@ purge_worked =
 abbrev pub purge_told : List ToldRecord
 purge_told = told_records purge_worked
 
--- a run that tells what was worked out meets, with these records, all that is asked
+-- a run with the lists that were worked out meets, with these records, all that is required
 abbrev pub PurgeIsPlayedOut : Type 0
 PurgeIsPlayedOut =
     (r : Run) → IsRunOf r (map entry_of purge_records) (purge_journal ∷ []) purge_pool [] purge_report →

@@ -1,4 +1,4 @@
--- The worked run of two threads with what its logs, its lists and its seats tell: one thread gives the other a raw_ptr
+-- The worked run of two threads with its logs, its lists and its seats: one thread gives the other a raw_ptr
 -- through a cell and frees the slot, while the other reads it and finds poison.
 use Rattle.std.specs.Prelude.{ℕ, List, [], ◌∷◌, map, false, Some}
 use Rattle.pa_machine.specs.declared.word.Step.TheVariants.{Issue, Copy, Reset, Free}
@@ -115,7 +115,7 @@ threads_worked =
 abbrev pub threads_told : List ToldRecord
 threads_told = told_records threads_worked
 
--- a run that tells what was worked out meets, with these records, all that is asked; a line's place is its number
+-- a run with the lists that were worked out meets, with these records, all that is required; a line's place is its number
 abbrev pub TwoThreadsArePlayedOut : Type 0
 TwoThreadsArePlayedOut =
     (r : Run) →

@@ -1,4 +1,4 @@
--- Records that were worked out by hand, with what logs tell of them and notes of what was seen.
+-- Records that were worked out by hand, with what logs say of them and notes of what was seen.
 use Rattle.std.specs.Prelude.{List, map}
 use Rattle.pa_region.specs.declared.view.Entry.{Entry}
 use Rattle.pa_region.specs.declared.view.SeenNumber.{SeenNumber}
@@ -6,7 +6,7 @@ use Rattle.pa_region.specs.Views.{seen_among}
 use Rattle.pa_rules.specs.declared.played.Played.{Played}
 use Rattle.pa_logs.specs.Told.{ToldRecord}
 
--- a record, its stretch of its thread's log, and notes of the numbers that its seat had seen before it and hands on
+-- a record, its log segment of its thread's log, and notes of the numbers that its seat had seen before it and hands on
 pub record Worked : Type 0 where
   pub played : Played
   pub stretch : List Entry

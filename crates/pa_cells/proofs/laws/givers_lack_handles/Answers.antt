@@ -19,7 +19,7 @@ use Rattle.pa_region.specs.Hands.{is_clean_of}
 use Rattle.pa_region.specs.Marks.{marked_stake}
 use Rattle.pa_cells.proofs.laws.givers_lack_handles.Goals as goal
 
--- a sum without the first member that passes a test, where the amount of each that passes is the same
+-- a sum without the first member that passes a test, if the amount of each that passes is the same
 sum_without : {A : Type 0} (test : A → Bool) (f : A → ℕ) (amount : ℕ) (xs : List A) → ((x : A) → test x ≡ true → f x ≡ amount) → 0 < sum_by (λ x. one (test x)) xs → sum_by f (without test xs) + amount ≡ sum_by f xs
 sum_without test f amount [] is there = absurd (omega arith)
 sum_without {A} test f amount (x ∷ xs) is there =
@@ -33,7 +33,7 @@ sum_without {A} test f amount (x ∷ xs) is there =
         let both : sum_by f (x ∷ without test xs) + amount ≡ f x + sum_by f xs = omega arith in
         both
 
--- who passes is of the title, and an Own is clean
+-- each Own that passes is of the title, and clean
 title_is : (t u : Title) → same_title u t ≡ true → u ≡ t
 title_is t u e = elim (title_tells u t) [ inl y ↦ y.1 | inr n ↦ cc ]
 

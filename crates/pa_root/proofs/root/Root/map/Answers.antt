@@ -26,7 +26,7 @@ use Rattle.pa_root.proofs.MapEnds.{HasMapCut, map_gives, map_hosts, mapped_sound
 use Rattle.pa_root.proofs.Refusing.{none_given, none_long}
 use Rattle.pa_root.proofs.root.Root.map.Goals as goal
 
--- ---- where there is no room
+-- ---- when there is no room
 
 pub invariant_of-self-in-Err : goal.invariant_of-self-in-Err
 invariant_of-self-in-Err g c =
@@ -68,7 +68,7 @@ returns-in-Err-clause-none g c =
     subst (λ (z : Share). NoneGiven r p c.args.line count None c.args.seat.now z c.args.self.now (root_of_parts c.ask_room-room.new.self.seat.view js_now root) c.in-Err.fault)
     (sym (search rules)) given
 
--- ---- where there is
+-- ---- when there is
 
 pub map-requires-clause-born : goal.map-requires-clause-born
 map-requires-clause-born g c =

@@ -2,7 +2,7 @@ use Rattle.std.proofs.Common.{◌≡◌}
 use Rattle.pa_thread_state.proofs.Tails.{GivesSome}
 use Rattle.pa_thread_state.proofs.stock.Stock.give_tail.Given as goal
 
--- so many batches went back
+-- this many batches went back
 abbrev pub invariant-loop-done : goal.invariant-loop-done
 invariant-loop-done g l = record {
   some : GivesSome l.line l.partition l.class l.keep l.done l.initial.self l.self;

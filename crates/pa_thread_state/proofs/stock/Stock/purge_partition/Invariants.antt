@@ -4,7 +4,7 @@ use Rattle.pa_op_specs.specs.Stocks.{listed_in}
 use Rattle.pa_thread_state.proofs.Purging.{GivesLists}
 use Rattle.pa_thread_state.proofs.stock.Stock.purge_partition.Given as goal
 
--- the lists of so many classes went back, with so many slots
+-- the lists of this many classes went back, with this many slots
 abbrev pub invariant-loop-number : goal.invariant-loop-number
 invariant-loop-number g l = record {
   some : GivesLists l.line l.partition l.number l.initial.self l.self;
