@@ -1,4 +1,4 @@
--- What is asked before a clause is tested, and what is told of it by the lines of the run's text.
+-- What must hold before a clause is tested, and what is found of it by the lines of the run's text.
 use Rattle.std.specs.Prelude.{ℕ, ◌+◌, ◌<◌, ◌-◌, ◌^◌, List, length, Option, Some, None}
 use Rattle.pa_trace.specs.declared.script.Trace.{Trace}
 use Rattle.pa_trace.specs.Limits.{IsWithinLimits}
@@ -28,7 +28,7 @@ abbrev pub HoldBefore : Clause → Trace → Run → Type 0
 HoldBefore c t r = (d : Clause) → turn d < turn c → Holds d t r
 
 -- What the test of a clause is given: a trace within its limits; a run that has a text, whose lines have numbers of 32 bits; the
--- run's records beside the ops of the trace, few and in the order of their lines; and that the clauses before this one hold.
+-- run's records with the ops of the trace, few and in the order of their lines; and that the clauses before this one hold.
 pub record CanBeAudited (c : Clause) (t : Trace) (r : Run) (ps : List Played) : Type 0 where
   pub limits : IsWithinLimits t
   pub printable : IsPrintable r
@@ -38,8 +38,8 @@ pub record CanBeAudited (c : Clause) (t : Trace) (r : Run) (ps : List Played) : 
   pub rising : RiseByLine ps
   pub before : HoldBefore c t r
 
--- What is known for the report before the clause of that turn is tested: where each phase ends; behind the clause of the roots what these
--- have, and behind that of the caches what the lists have.
+-- What is known for the report before the clause of that turn is tested: where each phase ends; after the clause of the roots what these
+-- have, and after that of the caches what the lists have.
 pub record KnowsBefore (n : ℕ) (t : Trace) (r : Run) (ps : List Played) (k : Known) : Type 0 where
   pub ends : KnowsEnds t ps k
   pub censuses : turn clauses.Roots < n → KnowsCensuses t r ps k

@@ -1,4 +1,4 @@
--- The places of a run's text in their order, and what is told of a clause by them.
+-- The places of a run's text in their order, and what is found of a clause by them.
 use Rattle.std.specs.Prelude.{◌<◌, ◌≤◌, length, Option, Some, None}
 use Rattle.pa_record.specs.declared.run.Run.{Run}
 use Rattle.pa_record.specs.RunText.{history_of, journal_of}
@@ -6,7 +6,7 @@ use Rattle.pa_rules.specs.declared.verdict.Place.{Place}
 use Rattle.pa_rules.specs.declared.verdict.Place.TheVariants as places
 use Rattle.pa_rules.specs.RecordDemands.{IsAbove}
 
--- the run's text has the place; behind the report's lines stands its end
+-- the run's text has the place; after the report's lines comes its end
 abbrev pub IsThere : Run → Place → Type 0
 IsThere r (places.Record i) = i < length r.entries.items
 IsThere r (places.Root p j) = j < length (journal_of r p)
@@ -14,7 +14,7 @@ IsThere r (places.Pool j) = j < length r.pool.items
 IsThere r (places.Cell k j) = j < length (history_of r k)
 IsThere r (places.Report i) = i ≤ length r.report.items
 
--- the first place stands above the second: records, journals, the pool, histories, the report
+-- the first place comes above the second: records, journals, the pool, histories, the report
 abbrev pub Precedes : Place → Place → Type 0
 Precedes (places.Record i) (places.Record j) = i < j
 Precedes (places.Record i) (places.Root p j) = Unit {0}

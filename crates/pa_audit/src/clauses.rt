@@ -26,7 +26,7 @@ use std::alloc::Global;
 const CLAUSES: u32 = 12;
 
 /// The verdict on a run of a trace: legal, or the first clause that fails, in the order of the clauses, and the first line of
-/// the run's text at which it does. Want of memory is the only error.
+/// the run's text at which it does. Out of memory is the only error.
 pub fn audit(alloc: Global, trace: &Trace, run: &Run) -> Result<Verdict, OutOfMemory>
     requires limits { IsWithinLimits trace.now }
     requires printable { IsPrintable run.now }
@@ -86,7 +86,7 @@ fn known_at_first(
     })
 }
 
-// The clause of a turn.
+// The clause by its index.
 fn clause_of(at: u32) -> Clause
     requires { at < 12 }
     ensures { turn result ≡ at }
@@ -107,7 +107,7 @@ fn clause_of(at: u32) -> Clause
     }
 }
 
-// The first line at which a clause fails, where those before it hold. Where it doesn't, what it leaves for the report is known.
+// The first line at which a clause fails, if those before it hold. If it doesn't fail, what it leaves for the report is known.
 fn clause_fails(
     alloc: Global,
     salt: Salt,

@@ -46,7 +46,7 @@ fn pool_place(at: Option<u32>) -> Option<Place>
     }
 }
 
-/// The first line at which a journal isn't right: a record's that was refused and names no Full of its line, or an entry's. Where there is
+/// The first line at which a journal isn't right: a record's that was refused and names no Full of its line, or an entry's. If there is
 /// none, it is known what each root has at the end of each phase.
 pub fn roots_fail(
     alloc: Global,
@@ -64,7 +64,7 @@ pub fn roots_fail(
     Ok(line_where(run, place))
 }
 
-// The first place at which the journals aren't right. Where there is none, what the roots have is told.
+// The first place at which the journals aren't right. If there is none, what the roots have is known.
 fn first_place(
     alloc: Global,
     trace: &Trace,
@@ -90,7 +90,7 @@ fn first_place(
     }
 }
 
-// The first entry of the journals that isn't right, by its partition and its place there. Where there is none, what the roots have is told.
+// The first entry of the journals that isn't right, by its partition and its index there. If there is none, what the roots have is known.
 fn first_entry(
     alloc: Global,
     trace: &Trace,

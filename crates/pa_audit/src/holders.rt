@@ -29,8 +29,8 @@ pub fn holders_fail(
     Ok(line_where(run, place))
 }
 
-/// The first line at which the threads' lists of free slots ask for another answer or for other entries. Where there is none, it is
-/// known what the lists have at the end of each phase, and where slots belong.
+/// The first line at which the threads' lists of free slots require another answer or other entries. If there is none, it is
+/// known what the lists have at the end of each phase, and which home each slot has.
 pub fn caches_fail(
     alloc: Global,
     salt: Salt,

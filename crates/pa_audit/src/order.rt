@@ -11,7 +11,7 @@ use pa_rules::Played;
 use pa_trace::Trace;
 use std::alloc::Global;
 
-/// The first line at which a record read a value which it may not give.
+/// The first line at which a record read a value which it may not report.
 pub fn contents_fail(
     alloc: Global,
     trace: &Trace,

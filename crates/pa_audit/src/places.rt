@@ -100,7 +100,7 @@ fn line_of(run: &DenseRun, place: Place) -> u32
     }
 }
 
-// The line of a place, where there is one.
+// The line of a place, if there is one.
 pub(crate) fn line_where(run: &DenseRun, place: Option<Place>) -> Option<u32>
     requires there { IfSome place (IsThere run.now) }
     requires short { HasLines32 run.now }

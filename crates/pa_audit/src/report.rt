@@ -13,7 +13,7 @@ use pa_rules::{Place, Played};
 use pa_trace::Trace;
 use std::alloc::Global;
 
-/// The first line of the report that isn't the one due there; behind the last one, the line that ends the run, where one is
+/// The first line of the report that isn't the one due there; after the last one, the line that ends the run, if one is
 /// missing.
 pub fn report_fails(
     alloc: Global,

@@ -1,4 +1,4 @@
--- What the walk over a journal tells.
+-- What the walk over a journal returns.
 use Rattle.std.specs.Prelude.{◌≡◌, ℕ, List, Some, length}
 use Rattle.pa_record.specs.declared.pool.PoolEntry.{PoolEntry}
 use Rattle.pa_rules.specs.declared.played.Played.{Played}

@@ -8,7 +8,7 @@ use Rattle.pa_rules.specs.Roots.{Journals, IsEntry, Names}
 use Rattle.pa_audit_heap.specs.declared.namings.Naming.{Naming}
 use Rattle.pa_audit_heap.specs.declared.namings.Naming.TheVariants.{Nobody, Once, Again}
 
--- entry i of partition p's journal, which stands above entry n of partition q's, names entry j of the pool
+-- entry i of partition p's journal, which comes above entry n of partition q's, names entry j of the pool
 abbrev pub NamesAbove : Journals → ℕ → ℕ → ℕ → ℕ → ℕ → Type 0
 NamesAbove roots q n p i j = IsAbove p i q n × Names roots p i j
 
@@ -32,7 +32,7 @@ pub record IsNamed (roots : Journals) (j : ℕ) (e : PoolEntry) : Type 0 where
   pub named : (i : ℕ) × (f : RootEntry) × IsEntry roots e.partition i f × (asked_by f.act ≡ Some j) × (f.line ≡ e.line)
   pub once : (p q i k : ℕ) → Names roots p i j → Names roots q k j → (p ≡ q) × (i ≡ k)
 
--- what becomes of a naming where an entry more names it
+-- how a naming changes if one more entry names it
 abbrev pub named_by : Naming → Naming → Naming
 named_by Nobody next = next
 named_by (Once partition line) next = Again

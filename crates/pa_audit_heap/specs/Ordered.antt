@@ -9,12 +9,12 @@ use Rattle.pa_audit_heap.specs.declared.order.Order.{Order}
 abbrev pub AreOfThreads16 : List Played → Type 0
 AreOfThreads16 ps = (x : Played) → Contains ps x → x.thread < most_threads
 
--- the one record of a line, and none where there is none
+-- the one record of a line, and none if there is none
 abbrev pub IsTheRecord : List Played → ℕ → Option Played → Type 0
 IsTheRecord ps line None = (x : Played) → IsOfLine ps line x → ⊥
 IsTheRecord ps line (Some x) = IsOfLine ps line x × ((y : Played) → IsOfLine ps line y → y ≡ x)
 
--- x stands on no lower line than its thread's last one, and in no lower phase
+-- x is on no lower line than its thread's last one, and in no lower phase
 pub record IsBehind (o : Order) (x : Played) : Type 0 where
   pub line : slice_index o.lines x.thread ≤ x.line
   pub phase : o.phase ≤ x.phase
@@ -23,7 +23,7 @@ pub record IsBehind (o : Order) (x : Played) : Type 0 where
 abbrev pub entered_by : Played → Order → Order
 entered_by x o = record { lines = slice_set o.lines x.thread x.line; phase = x.phase }
 
--- An entry on the line comes in order, and is the last one; a line of no record says nothing. Or it doesn't.
+-- An entry on the line comes in order, and is the last one; a line without a record is in order. Or it doesn't.
 abbrev pub Admits : List Played → ℕ → Order → Order → Bool → Type 0
 Admits ps line before after true =
     (((x : Played) → IsOfLine ps line x → ⊥) × (after ≡ before))
@@ -39,7 +39,7 @@ pub record IsAmong (ps : List Played) (lines : List ℕ) (j : ℕ) (x : Played) 
   pub holds : IsOfLine ps line x
 
 -- The order has the greatest line of each thread and the greatest phase of the records of the first j of these lines, and 0
--- where there is none.
+-- if there is none.
 pub record HasSeen (ps : List Played) (lines : List ℕ) (j : ℕ) (o : Order) : Type 0 where
   pub threads : length o.lines ≡ most_threads
   pub line : (x : Played) → IsAmong ps lines j x → x.line ≤ slice_index o.lines x.thread

@@ -1,5 +1,5 @@
--- The parts of what the clause of the pool asks of an entry, each of which has a pass of its own; and what that of the roots
--- asks of a record.
+-- The parts of what the clause of the pool requires of an entry, each of which has a pass of its own; and what that of the roots
+-- requires of a record.
 use Rattle.std.specs.Prelude.{◌≡◌, ℕ, List, map, take}
 use Rattle.pa_record.specs.declared.pool.PoolEntry.{PoolEntry}
 use Rattle.pa_trace.specs.declared.script.Op.TheVariants as ops
@@ -17,15 +17,15 @@ abbrev pub FitsPool : ℕ → List PoolEntry → ℕ → Type 0
 FitsPool supers pools j =
     (e : PoolEntry) → IsPoolEntry pools j e → PoolActFits pools e.partition e.act (pool_replayed (take j pools) (new_pool supers))
 
--- the journals name it once, and as it says
+-- the journals name it exactly once, with its partition and line
 abbrev pub IsNamedAt : List PoolEntry → Journals → ℕ → Type 0
 IsNamedAt pools roots j = (e : PoolEntry) → IsPoolEntry pools j e → IsNamed roots j e
 
--- no entry before it stands behind it
+-- no entry before it should come after it
 abbrev pub ComesAt : List Played → List PoolEntry → ℕ → Type 0
 ComesAt ps pools j = ComesInOrder ps (map (λ (e : PoolEntry). e.line) pools) j
 
--- a record that is full names a Full of its line
+-- a record with the answer Full names a Full of its line
 abbrev pub NamesFull : Journals → Played → Type 0
 NamesFull roots x =
     (j reg p size : ℕ) → x.answer ≡ answers.Full j → x.op ≡ ops.Alloc reg p size

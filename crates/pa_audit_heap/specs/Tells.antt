@@ -1,14 +1,14 @@
--- What a checker tells: that each place meets its demand, or the first that doesn't.
+-- What a checker returns: that each place meets its demand, or the first that doesn't.
 use Rattle.std.specs.Prelude.{ℕ, nat_lt, if◌then◌else◌, Option, Some, None}
 use Rattle.pa_rules.specs.RecordDemands.{IsAbove}
 
--- the lesser of two places, where there is one
+-- the lesser of two places, if there is one
 abbrev pub least_place : Option ℕ → Option ℕ → Option ℕ
 least_place None b = b
 least_place (Some i) None = Some i
 least_place (Some i) (Some j) = Some (if nat_lt j i then j else i)
 
--- of places of journals: by the partition, and by the place in its journal
+-- of places of journals: by the partition, and by the index in its journal
 abbrev pub TellsEntry : (ℕ → ℕ → Type 0) → Option (ℕ × ℕ) → Type 0
 TellsEntry Meets None = (p j : ℕ) → Meets p j
 TellsEntry Meets (Some (p, j)) = (Meets p j → ⊥) × ((q i : ℕ) → IsAbove q i p j → Meets q i)

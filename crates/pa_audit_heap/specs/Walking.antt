@@ -13,7 +13,7 @@ use Rattle.pa_audit_heap.specs.Censuses.{HaveCensuses}
 use Rattle.pa_audit_heap.specs.Ordered.{HasSeen}
 use Rattle.pa_audit_heap.specs.Replaying.{IsReplayed}
 
--- the censuses that were there, and this one for each phase more up to that one
+-- the censuses that were there, and this one once more for each further phase up to that one
 pub record AreFilledUp (c : Census) (to : ℕ) (before after : List Census) : Type 0 where
   pub many : length after ≡ max to (length before)
   pub each : HasEach (λ i d. (slice_get before i ≡ Some d) ⊎ ((length before ≤ i) × (d ≡ c))) after

@@ -39,7 +39,7 @@ impl Censuses {
         self.items.as_slice()
     }
 
-    // What the root has now, for each phase up to this one that has no census yet. It is counted only where there is one.
+    // What the root has now, for each phase up to this one that has no census yet. It is counted only if there is one.
     pub(crate) fn fill_up(&mut self, root: &Placement, to: u32) -> Result<(), OutOfMemory>
         ensures { OnOk result (AreFilledUp (census root.now) to self.old self.new) }
     {

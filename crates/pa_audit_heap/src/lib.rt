@@ -1,4 +1,4 @@
-//! Checkers for the clauses of a legal run that speak of the heap's journals: each tells the first place at which its clause
+//! Checkers for the clauses of a legal run that speak of the heap's journals: each returns the first place at which its clause
 //! isn't met, or that there is none.
 #![tactic(auto)]
 

@@ -12,7 +12,7 @@ use pa_direct::{GREATEST_IN_CLASS, GREATEST_SIZE, shape};
 use pa_record::PoolEntry;
 use pa_trace::Op;
 
-// Whether the op makes such an entry of the partition's journal.
+// Whether the op makes this entry of the partition's journal.
 pub(crate) fn makes_entry(pools: &[PoolEntry], partition: u32, act: Act<'_>, op: Op) -> bool
     ensures { IsTrue result ↔ MakesEntry pools.now partition (act_of act.entry) op }
 {

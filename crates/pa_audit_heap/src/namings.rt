@@ -8,7 +8,7 @@ use pa_dense::{Act, DenseJournal};
 use pa_machine::OutOfMemory;
 use std::alloc::Global;
 
-// How the journals name an entry of the pool: no entry of theirs does, just one does, which is of this partition and line,
+// How the journals name an entry of the pool: no entry of theirs does, exactly one does, which is of this partition and line,
 // or more than one does.
 #[derive(Clone, Copy, Debug, PartialEq, Eq)]
 pub(crate) enum Naming {
@@ -17,7 +17,7 @@ pub(crate) enum Naming {
     Again,
 }
 
-// How the journals name each of the pool's entries, of which there are so many.
+// How the journals name each of the pool's entries.
 pub(crate) fn namings_of(
     alloc: Global,
     size: usize,
@@ -57,7 +57,7 @@ fn name_all(
     }
 }
 
-// Names an entry of the pool, where it is there: it is named so, or once more.
+// Names an entry of the pool, if it exists: it is then named once, or once more.
 fn name(namings: &mut Vec<Naming>, pool: usize, naming: Naming)
     ensures { namings.new.items ≡ slice_set namings.old.items pool (named_by (slice_index_or namings.old.items pool Naming.Nobody) naming) }
 {

@@ -11,7 +11,7 @@ use pa_trace::MOST_THREADS;
 // The most threads of a trace.
 pub(crate) const THREADS: usize = MOST_THREADS as usize;
 
-// Entries in the order of their records: the last line of each thread, and the last phase; 0 where there is none.
+// Entries in the order of their records: the last line of each thread, and the last phase; 0 if there is none.
 #[derive(Drop)]
 pub(crate) struct Order {
     pub(crate) lines: [u32; THREADS],
@@ -19,7 +19,7 @@ pub(crate) struct Order {
 }
 
 impl Order {
-    // The order of no entries.
+    // The order before any entry.
     pub(crate) fn new() -> Order
         ensures { (ps : List Record) (lines : List ℕ) → HasSeen ps lines 0 result }
     {
@@ -29,7 +29,7 @@ impl Order {
         }
     }
 
-    // Whether an entry on this line comes in order behind those so far. Where it does it is the last one from then on.
+    // Whether an entry on this line comes in order after those so far. If it does, it is the last one from then on.
     pub(crate) fn admits(&mut self, records: &[Played], line: u32) -> bool
         requires records { length records.now < 2 ^ 32 }
         requires rising { RiseByLine records.now }
@@ -42,7 +42,7 @@ impl Order {
         }
     }
 
-    // Whether the record is behind the last one. Where it is it is the last one from then on.
+    // Whether the record comes after the last one. If it does, it is the last one from then on.
     pub(crate) fn enter(&mut self, found: Played) -> bool
         requires { found.thread < most_threads }
         ensures behind { IsTrue result ↔ IsBehind self.old found }

@@ -20,7 +20,7 @@ use pa_record::{PoolAct, PoolEntry, Taken};
 use pa_rules::Played;
 use std::alloc::Global;
 
-/// The first entry of the pool that doesn't meet what the clause `pool` asks of it, by its index. The records stand in the
+/// The first entry of the pool that doesn't meet what the clause `pool` requires of it, by its index. The records are in the
 /// order of their lines; `supers` is the number of the region's super pages.
 pub fn pool_meets(
     alloc: Global,
@@ -60,7 +60,7 @@ fn acts_fit(alloc: Global, supers: u32, pools: &[PoolEntry]) -> Result<Option<u3
     Ok(None)
 }
 
-// Whether the entry fits the pool. Where it does the pool makes it.
+// Whether the entry fits the pool. If it does, the pool makes it.
 pub(crate) fn act_fits(plan: &mut PoolPlan, pools: &[PoolEntry], entry: PoolEntry) -> bool
     requires { plan.old.entries < 2 ^ 32 - 1 }
     ensures fits { IsTrue result ↔ PoolActFits pools.now entry.partition entry.act plan.old }
@@ -78,7 +78,7 @@ pub(crate) fn act_fits(plan: &mut PoolPlan, pools: &[PoolEntry], entry: PoolEntr
     }
 }
 
-// Whether one of the runs has just these super pages, and an entry of the pool took it for the partition.
+// Whether one of the runs has exactly these super pages, and an entry of the pool took it for the partition.
 fn is_taken(runs: &[Taken], pools: &[PoolEntry], partition: u32, first: u32, count: u32) -> bool
     ensures { IsTrue result ↔
         ((t : Run) × Contains runs.now t × (t.first ≡ first) × (t.count ≡ count) × IsPartitions pools.now partition t) }
@@ -98,7 +98,7 @@ fn is_partitions(pools: &[PoolEntry], partition: u32, run: Taken) -> bool
     }
 }
 
-// The first entry that the journals don't name once, as it says.
+// The first entry that the journals don't name exactly once, with its partition and line.
 fn are_named(
     alloc: Global,
     pools: &[PoolEntry],
@@ -129,7 +129,7 @@ fn is_named(naming: Naming, entry: PoolEntry) -> bool
     }
 }
 
-// The first entry before which one stands that stands behind it.
+// The first entry before which one comes that should come after it.
 fn come_in_order(records: &[Played], pools: &[PoolEntry]) -> Option<u32>
     requires records { length records.now < 2 ^ 32 }
     requires rising { RiseByLine records.now }

@@ -3,7 +3,7 @@ ghost use Rattle.pa_record.specs.Pool.{FoundNone, FoundRun, GaveRun, act_at};
 
 use pa_record::{PoolAct, PoolEntry};
 
-// What the entry of the pool did, where it is there.
+// What the entry of the pool did, if it exists.
 fn act_at(pools: &[PoolEntry], at: u32) -> Option<PoolAct>
     ensures { result ≡ act_at pools.now at }
 {
@@ -13,7 +13,7 @@ fn act_at(pools: &[PoolEntry], at: u32) -> Option<PoolAct>
     }
 }
 
-// The first of the super pages that the entry found, where it is a take of so many that found some.
+// The first of the super pages that the entry found, if it is a take of that many that found some.
 pub(crate) fn found_run(pools: &[PoolEntry], at: u32, count: u32) -> Option<u32>
     ensures some { IfSome result (FoundRun pools.now at count) }
     ensures none { IfNone result ((first : ℕ) → FoundRun pools.now at count first → ⊥) }
@@ -29,7 +29,7 @@ pub(crate) fn found_run(pools: &[PoolEntry], at: u32, count: u32) -> Option<u32>
     }
 }
 
-// Whether the entry is a take of so many super pages that found none.
+// Whether the entry is a take of that many super pages that found none.
 pub(crate) fn found_none(pools: &[PoolEntry], at: u32, count: u32) -> bool
     ensures { IsTrue result ↔ FoundNone pools.now at count }
 {
@@ -46,7 +46,7 @@ pub(crate) fn found_nothing(pools: &[PoolEntry], at: u32) -> bool
     }
 }
 
-// Whether the entry gave back so many super pages from `first` on.
+// Whether the entry gave back that many super pages from `first` on.
 pub(crate) fn gave_run(pools: &[PoolEntry], at: u32, count: u32, first: u32) -> bool
     ensures { IsTrue result ↔ GaveRun pools.now at count first }
 {

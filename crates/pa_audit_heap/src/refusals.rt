@@ -13,7 +13,7 @@ use pa_record::Answer;
 use pa_rules::Played;
 use pa_trace::Op;
 
-/// The first record that doesn't meet what the clause `roots` asks of it, by its index: it was refused, and the entry of the
+/// The first record that doesn't meet what the clause `roots` requires of it, by its index: it was refused, and the entry of the
 /// journal that it names isn't a Full of its line.
 pub fn refusals_meet(records: &[Played], roots: &[DenseJournal]) -> Option<u32>
     requires { length records.now < 2 ^ 32 }
@@ -30,7 +30,7 @@ pub fn refusals_meet(records: &[Played], roots: &[DenseJournal]) -> Option<u32>
     None
 }
 
-// Whether the record names a Full of its line, where it is full.
+// Whether the record names a Full of its line, if its answer is Full.
 fn names_full(found: Played, roots: &[DenseJournal]) -> bool
     ensures { IsTrue result ↔ NamesFull (journal_at roots.now) found }
 {

@@ -40,7 +40,7 @@ impl Replay {
         Ok(Replay { root, plan })
     }
 
-    // Whether the entry fits. Where it does it is played. The entry of the pool that it names, if any, comes no earlier than
+    // Whether the entry fits. If it does, it is played. The entry of the pool that it names, if any, comes no earlier than
     // those that the plan has.
     pub(crate) fn play(&mut self, pools: &[PoolEntry], act: Act<'_>) -> Result<bool, OutOfMemory>
         requires pool { DoAllFit self.old.plan.supers pools.now }
@@ -70,7 +70,7 @@ impl Replay {
         }
     }
 
-    // TellsPlay the pool's entries before this one.
+    // Plays the pool's entries before this one.
     fn play_to(&mut self, pools: &[PoolEntry], to: u32)
         requires pool { DoAllFit self.old.plan.supers pools.now }
         requires few { length pools.now < 2 ^ 32 - 1 }
@@ -269,7 +269,7 @@ fn is_named(title: Title, name: SlotName) -> bool
     title.start == name.start && title.born == name.born
 }
 
-// Whether no slot stands twice.
+// Whether no slot is listed twice.
 fn are_different(slots: &[Numbered]) -> bool
     ensures { IsTrue result ↔ AllPairs ◌≢◌ (names slots.now) }
 {

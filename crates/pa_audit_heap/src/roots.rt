@@ -18,7 +18,7 @@ use pa_rules::Played;
 use std::alloc::Global;
 
 /// What the walk over the journals found: the first entry that doesn't meet its clause, by its partition and its index; and,
-/// where each does, what each partition's root has at the end of each phase.
+/// if each does, what each partition's root has at the end of each phase.
 #[derive(Drop)]
 pub struct JournalsFound {
     pub misfit: Option<(u32, u32)>,
@@ -32,8 +32,8 @@ pub(crate) enum JournalFound {
     Meets(Censuses),
 }
 
-/// The first entry of the journals that doesn't meet what the clause `roots` asks of it; where each does, the censuses. Each
-/// entry of the pool meets its clause, and the records stand in the order of their lines. `supers` is the number of the
+/// The first entry of the journals that doesn't meet what the clause `roots` requires of it; if each does, the censuses. Each
+/// entry of the pool meets its clause, and the records are in the order of their lines. `supers` is the number of the
 /// region's super pages.
 pub fn journals_meet(
     alloc: Global,
@@ -112,7 +112,7 @@ fn journal_meets(
     Ok(JournalFound::Meets(censuses))
 }
 
-// The entries of a partition's journal; none where it isn't there.
+// The entries of a partition's journal; none if it isn't there.
 fn journal_of(roots: &[DenseJournal], partition: u32) -> &[DenseEntry]
     ensures { result.now ≡ journal_at roots.now partition }
 {

@@ -20,7 +20,7 @@ use pa_record::PoolEntry;
 use pa_rules::Played;
 use std::alloc::Global;
 
-// A partition's journal, as far as its entries have met the clause `roots`: how they stand in order, the root and its pool, the
+// A partition's journal, as far as its entries have met the clause `roots`: their order, the root and its pool, the
 // first entry of the pool that the next one may name, and what the root had at the end of each phase that is over.
 #[derive(Drop)]
 pub(crate) struct Walk {
@@ -46,7 +46,7 @@ impl Walk {
         })
     }
 
-    // Whether the entry at this place, the next one, meets its clause. Where it does it is played.
+    // Whether the entry at this index, the next one, meets its clause. If it does, it is played.
     pub(crate) fn meets_next(
         &mut self,
         supers: u32,

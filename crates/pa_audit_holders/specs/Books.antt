@@ -11,16 +11,16 @@ use Rattle.pa_audit_holders.specs.Homes.{HasOneHome, KnowsHomes}
 use Rattle.pa_audit_holders.specs.Lines.{KnowsLine}
 use Rattle.pa_audit_holders.specs.Rows.{IsOfThreads}
 
--- a run of so many partitions, by its records and the journals of its roots
+-- a run of that many partitions, by its records and the journals of its roots
 pub record RunBooks : Type 0 where
   pub partitions : ℕ
   pub records : List Played
   pub roots : List (List RootEntry)
 
--- What is true of the books, which keep the places of each line's entries in the journals, and the home of each slot.
+-- What is true of the books, which keep the indices of each line's entries in the journals, and the home of each slot.
 --   few_partitions, few, four: there are at most four partitions and four journals, and fewer than 2^32 records
---   within: the records are of 16 threads and four partitions at most
---   known: the places of the entries of each record's line are known
+--   within: the records are of at most 16 threads and four partitions
+--   known: the indices of the entries of each record's line are known
 --   homes, kinds: the homes are those of the journals' slots, of which each has one
 pub record AreBooks (b : RunBooks) (lines : List (List (List ℕ))) (at : ℕ → Option Home) : Type 0 where
   pub few_partitions : b.partitions ≤ most_partitions

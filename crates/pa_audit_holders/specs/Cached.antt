@@ -12,7 +12,7 @@ use Rattle.pa_rules.specs.Tells.{TellsFirst}
 use Rattle.pa_audit_holders.specs.Lists.{no_slots}
 use Rattle.pa_audit_records.specs.Cuts.{HasEach}
 
--- the first so many records meet their demands, and lead to these lists
+-- the first records, this many of them, meet their demands, and lead to these lists
 abbrev pub HaveLed : ℕ → Journals → List Played → ℕ → Caches → Type 0
 HaveLed partitions roots ps end all = CachesTo partitions roots no_caches (take end ps) all
 
@@ -20,12 +20,12 @@ HaveLed partitions roots ps end all = CachesTo partitions roots no_caches (take 
 abbrev pub MeetCaches : ℕ → Journals → List Played → Type 0
 MeetCaches partitions roots ps = (i : ℕ) → CachesDemand partitions roots ps (places.Record i)
 
--- each of the first so many records meets it, and they lead to these lists
+-- each of the first records, this many of them, meets it, and they lead to these lists
 pub record CachesSoFar (partitions : ℕ) (roots : Journals) (ps : List Played) (all : Caches) (end : ℕ) : Type 0 where
   pub met : (i : ℕ) → i < end → CachesDemand partitions roots ps (places.Record i)
   pub led : HaveLed partitions roots ps end all
 
--- so it is; or this is the first record that doesn't meet it
+-- the same holds; or this is the first record that doesn't meet it
 abbrev pub TellsPlayed : ℕ → Journals → List Played → Caches → ℕ → Option ℕ → Type 0
 TellsPlayed partitions roots ps all end None = CachesSoFar partitions roots ps all end
 TellsPlayed partitions roots ps all end (Some i) = TellsFirst (λ k. CachesDemand partitions roots ps (places.Record k)) (Some i)

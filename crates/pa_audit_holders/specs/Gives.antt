@@ -6,7 +6,7 @@ use Rattle.pa_record.specs.declared.root.RootAct.{RootAct}
 use Rattle.pa_rules.specs.Roots.{Journals}
 use Rattle.pa_rules.specs.Caches.{Cache, acts_of, all_listed, gives, listed_slots, purge_acts}
 
--- Of what stands from one place on, the front up to another place gives back these slots; or no front does.
+-- Of the entries from one index on, those up to another index give back these slots; or no first part of them does.
 abbrev pub TellsGives : List RootAct → ℕ → List Numbered → Option ℕ → Type 0
 TellsGives acts at xs (Some end) = (drop at acts ≡ gives xs ++ drop end acts) × (end ≤ length acts)
 TellsGives acts at xs None = (rest : List RootAct) → drop at acts ≡ gives xs ++ rest → ⊥
@@ -18,13 +18,13 @@ whole_purge lists = purge_acts lists 0 class_count
 unfoldable pub whole_count : (ℕ → List Numbered) → ℕ
 whole_count lists = listed_slots lists 0 class_count
 
--- A line's entries purge the partition whose lists these are, and so many slots are left to be counted; or they don't, or
+-- A line's entries purge the partition whose lists these are, and that many slots are left to be counted; or they don't, or
 -- the lists have more slots than there are to count.
 abbrev pub TellsPurge : List RootAct → (ℕ → List Numbered) → ℕ → Option ℕ → Type 0
 TellsPurge acts lists slots (Some left) = (acts ≡ whole_purge lists) × (slots ≡ whole_count lists + left)
 TellsPurge acts lists slots None = acts ≡ whole_purge lists → whole_count lists ≤ slots → ⊥
 
--- a line's entries purge all partitions, whose lists have so many slots
+-- a line's entries purge all partitions, whose lists have that many slots
 abbrev pub PurgesAll : ℕ → Journals → ℕ → ℕ → Cache → Type 0
 PurgesAll partitions roots line slots cache =
     ((p : ℕ) → p < partitions → acts_of roots line p ≡ whole_purge (cache p)) × (slots ≡ all_listed cache 0 partitions)

@@ -26,7 +26,7 @@ NamesNoneGone before e = (s : SlotName) (n : ℕ) → NamesSlot e s → IsUnmapp
 abbrev pub NoneGone : List RootEntry → List Numbered → Type 0
 NoneGone before slots = (i n : ℕ) (d : Numbered) → i < length slots → IsUnmapped before (slice_index_or slots i d).slot n → ⊥
 
--- the lesser of two numbers, where there are two
+-- the lesser of two numbers, if there are two
 abbrev pub lesser_of : Option ℕ → ℕ → ℕ
 lesser_of None n = n
 lesser_of (Some k) n = min k n

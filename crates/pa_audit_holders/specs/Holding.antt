@@ -68,7 +68,7 @@ abbrev pub IsIssued : List Played → Journals → Played → Type 0
 IsIssued ps roots x =
     (seen : Seen) (usable : ℕ) → x.answer ≡ Made seen usable → IsHeld ps roots seen.slot (number_of seen.found.0) (WithThread x.thread)
 
--- what a mark tells of its slot
+-- what a mark reports of its slot
 abbrev pub slot_by : Mark → Numbered
 slot_by m = record { slot = m.slot; number = number_of m.found }
 
@@ -76,7 +76,7 @@ slot_by m = record { slot = m.slot; number = number_of m.found }
 abbrev pub StaysThere : Journals → Played → Type 0
 StaysThere roots x = (p n k : ℕ) (s : SlotName) → IsUnmapped (roots p) s n → IsOfSlot x s k → k < n
 
--- Of the entries of the first n journals: each meets what is asked of it, or this is the first that doesn't.
+-- Of the entries of the first n journals: each meets what is required of it, or this is the first that doesn't.
 abbrev pub EntriesSoFar : List Played → Journals → ℕ → Option (ℕ × ℕ) → Type 0
 EntriesSoFar ps roots n None = (p j : ℕ) → p < n → HoldersDemand ps roots (places.Root p j)
 EntriesSoFar ps roots n (Some (p, j)) =
@@ -92,7 +92,7 @@ abbrev pub entry_place : Option (ℕ × ℕ) → Option Place
 entry_place None = None
 entry_place (Some (p, j)) = Some (places.Root p j)
 
--- Nothing: each record and each entry of the journals meets what is asked of it. A place: it doesn't, and each before it in
+-- Nothing: each record and each entry of the journals meets what is required of it. A place: it doesn't, and each before it in
 -- the text does.
 abbrev pub TellsHolders : List Played → Journals → Option Place → Type 0
 TellsHolders ps roots None = (place : Place) → HoldersDemand ps roots place

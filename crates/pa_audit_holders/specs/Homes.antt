@@ -1,4 +1,4 @@
--- Where a free slot goes: to the lists of its partition and class, or to its root.
+-- The owner of a free slot: the lists of its partition and class, or its root.
 use Rattle.std.specs.Prelude.{◌≡◌, ℕ, ◌<◌, nat_lt, if◌then◌else◌, List, Option, Some, None, IsSome, Contains}
 use Rattle.pa_buckets.specs.Limits.{class_count}
 use Rattle.pa_buckets.specs.Table.{slot_of}
@@ -21,7 +21,7 @@ abbrev pub IsHomeIn : Journals → SlotName → ℕ → Option ℕ → Type 0
 IsHomeIn roots s p (Some class) = IsOfClass roots s p class × (class < class_count)
 IsHomeIn roots s p None = IsDirect roots s p
 
--- so it is of this home, and its bytes are those
+-- so the slot has this home, and these bytes
 pub record IsHomeOf (roots : Journals) (s : SlotName) (h : Home) : Type 0 where
   pub goes : IsHomeIn roots s h.partition h.class
   pub size : HasSize roots h.partition s h.bytes
@@ -32,7 +32,7 @@ pub record HasOneHome (roots : Journals) (s : SlotName) : Type 0 where
   pub direct : (p q : ℕ) → IsDirect roots s p → IsDirect roots s q → p ≡ q
   pub either : (p q c : ℕ) → IsOfClass roots s p c → IsDirect roots s q → ⊥
 
--- so it is where the clauses of the pool and the roots hold
+-- so it is if the clauses of the pool and the roots hold
 abbrev pub OneHome : Type 0
 OneHome =
     (supers partitions : ℕ) (ps : List Played) (pools : List PoolEntry) (roots : Journals) (s : SlotName) →
@@ -47,7 +47,7 @@ abbrev pub TellsHome : Journals → SlotName → Option Home → Type 0
 TellsHome roots s None = IsHomeless roots s
 TellsHome roots s (Some h) = IsHomeOf roots s h
 
--- what a table has by the numbers of names are homes
+-- what a table has by the numbers of slots' names are homes
 abbrev pub HasHomes : Journals → (ℕ → Option Home) → Type 0
 HasHomes roots at = (k : ℕ) (h : Home) → at k ≡ Some h → (s : SlotName) × (name_key s ≡ k) × (s.start < 4294967296) × IsHomeOf roots s h
 
@@ -55,7 +55,7 @@ HasHomes roots at = (k : ℕ) (h : Home) → at k ≡ Some h → (s : SlotName) 
 abbrev pub HasAll : (ℕ → Option Home) → List SlotName → Type 0
 HasAll at slots = (s : SlotName) → Contains slots s → IsSome (at (name_key s)) × (s.start < 4294967296)
 
--- what it had it has, and a home for each of these slots
+-- it keeps what it had, and has a home for each of these slots
 pub record EntersSlots (before after : ℕ → Option Home) (slots : List SlotName) : Type 0 where
   pub kept : (k : ℕ) → IsSome (before k) → IsSome (after k)
   pub has : HasAll after slots

@@ -1,4 +1,4 @@
--- The entries of a line, by their places in the journals.
+-- The entries of a line, by their indices in the journals.
 use Rattle.std.specs.Prelude.{◌≡◌, ℕ, ◌<◌, ◌==◌, List, [], map, filter, length, All, slice_index_or}
 use Rattle.pa_record.specs.declared.root.RootEntry.{RootEntry}
 use Rattle.pa_record.specs.declared.root.RootAct.{RootAct}
@@ -6,7 +6,7 @@ use Rattle.pa_record.specs.declared.root.RootAct.TheVariants.{Purge}
 use Rattle.pa_rules.specs.Roots.{Journals, journal_at}
 use Rattle.pa_rules.specs.Caches.{acts_of}
 
--- what the entry in a place did; a purge fills a place past the end
+-- what the entry at an index did; a purge stands in for an index past the end
 abbrev pub no_entry : RootEntry
 no_entry = record { line = 0; act = Purge }
 
@@ -17,12 +17,12 @@ did_at journal j = (slice_index_or journal j no_entry).act
 abbrev pub acts_on : List RootEntry → ℕ → List RootAct
 acts_on journal line = map (λ (e : RootEntry). e.act) (filter (λ (e : RootEntry). e.line == line) journal)
 
--- the entries in these places of the journal did this
+-- the entries at these indices of the journal did this
 pub record ArePlacesOf (journal : List RootEntry) (places : List ℕ) (acts : List RootAct) : Type 0 where
   pub among : All (λ j. j < length journal) places
   pub did : map (did_at journal) places ≡ acts
 
--- for each line below a number, the places of its entries in the journal; none where the table doesn't reach the line
+-- for each line below a number, the indices of its entries in the journal; none if the table doesn't reach the line
 abbrev pub AreOnLines : List RootEntry → ℕ → List (List ℕ) → Type 0
 AreOnLines journal count table = (l : ℕ) → l < count → ArePlacesOf journal (slice_index_or table l []) (acts_on journal l)
 
@@ -31,7 +31,7 @@ pub record HaveLines (roots : List (List RootEntry)) (count : ℕ) (tables : Lis
   pub many : length tables ≡ length roots
   pub each : (p : ℕ) → p < length roots → AreOnLines (journal_at roots p) count (slice_index_or tables p [])
 
--- the tables have the places of this line's entries in each journal
+-- the tables have the indices of this line's entries in each journal
 pub record KnowsLine (roots : List (List RootEntry)) (tables : List (List (List ℕ))) (line : ℕ) : Type 0 where
   pub many : length tables ≡ length roots
   pub each : (p : ℕ) → p < length roots

@@ -35,14 +35,14 @@ pub record AreSummed (lists : List (List Numbered)) (sums : List Tally) : Type 0
   pub four : length sums ≡ most_partitions
   pub each : (p : ℕ) → p < most_partitions → IsListedBy (cache_in lists) p (slice_index_or sums p no_slots)
 
--- the tally of lists of which one of a class had so many slots, and has so many now
+-- the tally of lists after one of a class went from the first number of slots to the second
 abbrev pub changed_by : Tally → ℕ → ℕ → ℕ → Tally
 changed_by sum class before after = record {
   slots = sum.slots - before + after;
   bytes = sum.bytes - slot_of class * before + slot_of class * after;
 }
 
--- the tally counts a list of this class with so many slots; no number is great
+-- the tally counts a list of this class with that many slots; no number is great
 pub record HasPart (sum : Tally) (class before after : ℕ) : Type 0 where
   pub slots : before ≤ sum.slots
   pub bytes : slot_of class * before ≤ sum.bytes

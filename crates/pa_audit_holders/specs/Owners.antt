@@ -64,7 +64,7 @@ way_of courses.Back = Back
 abbrev pub move_on : ℕ → Course → Numbered → Move
 move_on line course n = record { line = line; slot = n.slot; number = n.number; way = way_of course }
 
--- where an act is on a direct map, the slots are that one, at its number
+-- if an act is on a direct map, the slots are that one, at its number
 abbrev pub AreDirect : RootAct → List Numbered → Type 0
 AreDirect (Map asked slot len) xs = xs ≡ record { slot = slot; number = 0 } ∷ []
 AreDirect (Unmap asked slot) xs = xs ≡ slot ∷ []
@@ -83,7 +83,7 @@ abbrev pub AllFit : List Played → List Move → List Move → Type 0
 AllFit ps ms [] = Unit {0}
 AllFit ps ms (m ∷ rest) = MoveFits ps ms m × AllFit ps (ms ++ m ∷ []) rest
 
--- The owner that a move makes, and that it is the one that the move needs, on a line of this thread, or of none. Where the
+-- The owner that a move makes, and that it is the one that the move needs, on a line of this thread, or of none. If the
 -- slot isn't free at the number it never is, and no move on a line of no record finds a holder.
 abbrev pub owner_after : Course → ℕ → Owner
 owner_after courses.Out thread = Thread thread
@@ -104,7 +104,7 @@ abbrev pub IsNeeded : Owner → Course → Option ℕ → Type 0
 IsNeeded held course None = ⊥
 IsNeeded held course (Some thread) = held ≡ needed_owner course thread
 
--- the table has what it had, and the thread of the record where its step returned a slot
+-- the table has what it had, and the thread of the record if its step returned a slot
 pub record EntersReturn (x : Played) (f g : ℕ → Option ℕ) : Type 0 where
   pub hit : (s : SlotName) (k t : ℕ) → IsSized s k → g (word_key s k) ≡ Some t → (f (word_key s k) ≡ Some t) ⊎ (HasReturned x s k × (t ≡ x.thread))
   pub kept : (s : SlotName) (k : ℕ) → IsSized s k → g (word_key s k) ≡ None → f (word_key s k) ≡ None

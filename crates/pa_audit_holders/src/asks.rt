@@ -68,7 +68,7 @@ pub(crate) fn map_asked(op: Op) -> Option<u32>
     }
 }
 
-// The step that an op makes where its answer is `done`.
+// The step that an op makes if its answer is `done`.
 pub(crate) fn step_of(op: Op) -> Option<Step>
     ensures { result ≡ step_of op }
 {

@@ -23,7 +23,7 @@ use pa_trace::Op;
 use std::alloc::Global;
 use std::marker::Model;
 
-/// The books of a run: its records and the journals of its roots, with the places of each line's entries there, and the homes
+/// The books of a run: its records and the journals of its roots, with the indices of each line's entries there, and the homes
 /// of the slots. They are seen as the records and the journals.
 #[derive(Drop)]
 pub struct Books<'a> {
@@ -48,7 +48,7 @@ impl<'a> Model for Books<'a> {
 }
 
 impl<'a> Books<'a> {
-    /// The books of these records and journals. The records are of 16 threads and four partitions at most, and each slot of the
+    /// The books of these records and journals. The records are of at most 16 threads and four partitions, and each slot of the
     /// journals is of one partition, and of one class or a direct map, as the table of homes has it.
     pub fn of(
         alloc: Global,
@@ -98,7 +98,7 @@ impl<'a> Books<'a> {
         self.roots
     }
 
-    // The page of the record in this place.
+    // The page of the record at this index.
     pub(crate) fn page(&self, at: usize) -> Page<'_>
         requires { at < length self.now.records }
         ensures page { (x : Played) → IsRecord self.now.records at x → result ≡ page_of self.now x }
@@ -110,7 +110,7 @@ impl<'a> Books<'a> {
         Page { books: self, told }
     }
 
-    // The places of the entries of a record's line in a partition's journal.
+    // The indices of the entries of a record's line in a partition's journal.
     fn places(&self, line: u32, partition: u32) -> &[u32]
         requires { IsRecordsLine self.now.records line }
         ensures { ArePlacesOf (journal_at self.now.roots partition) result.now (acts_of (journal_at self.now.roots) line partition) }
@@ -121,7 +121,7 @@ impl<'a> Books<'a> {
         }
     }
 
-    // The home of a slot. None where no entry handed it out.
+    // The home of a slot. None if no entry handed it out.
     fn home_of(&self, slot: SlotName) -> Option<Home>
         ensures home { TellsHome (journal_at self.now.roots) slot result }
         ensures partition { IfSome result (λ home. home.partition < most_partitions) }
@@ -186,7 +186,7 @@ impl<'a> Page<'a> {
         self.told.answer
     }
 
-    // The home of a slot. None where no entry handed it out.
+    // The home of a slot. None if no entry handed it out.
     pub(crate) fn home_of(&self, slot: SlotName) -> Option<Home>
         ensures home { TellsHome (journal_at self.now.roots) slot result }
         ensures partition { IfSome result (λ home. home.partition < most_partitions) }
@@ -195,14 +195,14 @@ impl<'a> Page<'a> {
         self.books.home_of(slot)
     }
 
-    // The entries of a partition's journal; none where it isn't there.
+    // The entries of a partition's journal; none if it isn't there.
     pub(crate) fn journal(&self, partition: u32) -> &[DenseEntry]
         ensures { result.now ≡ journal_at self.now.roots partition }
     {
         journal_of(self.books.roots(), partition)
     }
 
-    // The places of the line's entries in a partition's journal.
+    // The indices of the line's entries in a partition's journal.
     pub(crate) fn places(&self, partition: u32) -> &[u32]
         ensures { ArePlacesOf (journal_at self.now.roots partition) result.now
             (acts_of (journal_at self.now.roots) self.now.told.line partition) }
@@ -246,7 +246,7 @@ impl<'a> Page<'a> {
         self.is_quiet(0) && self.none_but(0)
     }
 
-    // What the line's only entry did, which is of this partition. None where there is no such entry, or there are others.
+    // What the line's only entry did, which is of this partition. None if there is no such entry, or there are others.
     pub(crate) fn only_act(&self, partition: u32) -> Option<Act<'_>>
         ensures some { IfSome result (λ a. OnlyActs (journal_at self.now.roots) self.now.told.line partition (act_of a ∷ [])) }
         ensures none { IfNone result

@@ -19,7 +19,7 @@ use pa_record::Tally;
 use pa_trace::{MOST_PARTITIONS, MOST_THREADS};
 use std::alloc::Global;
 
-/// What the walk over the records found: the first that doesn't fit; and, where each fits, what the threads' lists had of each
+/// What the walk over the records found: the first that doesn't fit; and, if each fits, what the threads' lists had of each
 /// of four partitions at the end of each phase.
 #[derive(Drop)]
 pub struct CachesFound {
@@ -27,9 +27,9 @@ pub struct CachesFound {
     pub cached: Vec<[Tally; MOST_PARTITIONS as usize]>,
 }
 
-/// The index of the first record whose line's entries, or whose answer, aren't those that its thread's lists of free slots ask
-/// for; none where each is. Beside it, where there is none, what the lists of the first threads had at the end of each phase:
-/// the records of the first phases end at these places.
+/// The index of the first record whose line's entries, or whose answer, aren't those that its thread's lists of free slots
+/// require; none if each is. Beside it, if there is none, what the lists of the first threads had at the end of each phase:
+/// the records of the first phases end at these indices.
 pub fn caches_meet(
     alloc: Global,
     books: &Books<'_>,
@@ -63,7 +63,7 @@ pub fn caches_meet(
     Ok(CachesFound { misfit, cached })
 }
 
-// Plays the records of these places. Tells the first that doesn't fit.
+// Plays the records at these indices. Returns the first that doesn't fit.
 fn play_phase(
     alloc: Global,
     books: &Books<'_>,
@@ -102,7 +102,7 @@ fn no_lists(alloc: Global) -> Result<Vec<ThreadLists>, OutOfMemory>
     Ok(lists)
 }
 
-// Whether a record's row leads on from the lists. Where it does they are the next ones.
+// Whether a record's row leads on from the lists. If it does, they are the next ones.
 fn play(alloc: Global, page: &Page<'_>, caches: &mut Vec<ThreadLists>) -> Result<bool, OutOfMemory>
     requires threads { length caches.old.items ≡ most_threads }
     ensures next { IfOk result (TellsNext page.now.partitions (journal_at page.now.roots) page.now.told

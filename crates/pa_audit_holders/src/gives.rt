@@ -12,8 +12,8 @@ use pa_record::Numbered;
 // The most slots that go back to a root at once.
 const BATCH: usize = 16;
 
-// Of the entries in these places, from one place on, those that give these slots back, 16 each and the rest in the last:
-// the place behind them. None where they don't.
+// Of the entries at these indices, from one of them on, those that give these slots back, 16 each and the rest in the last:
+// the position after them. None if they don't.
 pub(crate) fn gives_from(
     journal: &[DenseEntry],
     places: &[u32],
@@ -40,7 +40,7 @@ pub(crate) fn gives_from(
     Some(next)
 }
 
-// Whether the entries in these places give these slots back, and are no more.
+// Whether the entries at these indices give these slots back, and are no more.
 pub(crate) fn all_give(journal: &[DenseEntry], places: &[u32], slots: &[Numbered]) -> bool
     requires among { All (λ j. j < length journal.now) places.now }
     ensures { IsTrue result ↔ (map (did_at journal.now) places.now ≡ gives slots.now) }
@@ -76,7 +76,7 @@ fn are_same(a: &[Numbered], b: &[Numbered]) -> bool
     true
 }
 
-// Whether the last of the entries in these places stands in this one, and is a purge.
+// Whether the last of the entries at these indices is at this one, and is a purge.
 pub(crate) fn ends_with_purge(journal: &[DenseEntry], places: &[u32], at: usize) -> bool
     requires among { All (λ j. j < length journal.now) places.now }
     requires within { at ≤ length places.now }

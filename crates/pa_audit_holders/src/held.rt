@@ -21,7 +21,7 @@ use pa_machine::number;
 use pa_record::{Answer, Numbered, Seen};
 use pa_rules::Played;
 
-// The slot of which the record tells, at the number that it found.
+// The slot that the record reports, at the number that it found.
 fn told_slot(told: Played) -> Option<Numbered>
     ensures { result ≡ option_map slot_by (mark_of told) }
 {
@@ -50,7 +50,7 @@ fn numbered(seen: Seen) -> Numbered
     }
 }
 
-// Who holds a slot at a number after all journals; nobody where two of them name it there.
+// Who holds a slot at a number after all journals; nobody if two of them name it there.
 fn owner_of(
     records: &[Played],
     firsts: &ByKey<u32>,

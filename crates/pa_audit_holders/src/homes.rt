@@ -14,7 +14,7 @@ use pa_machine::{OutOfMemory, SlotName};
 use pa_record::Numbered;
 use std::alloc::Global;
 
-/// Where a free slot goes: to the lists of its partition and class, by its number, or, where it has none, to the root of its
+/// The owner of a free slot: the lists of its partition and class, by the class's number, or, if it has no class, the root of its
 /// partition; and the slot's bytes.
 #[derive(Clone, Copy)]
 pub struct Home {

@@ -1,5 +1,5 @@
 //! Checkers for the clauses of a legal run that speak of free slots: who holds them, the threads' caches, and the report. Each
-//! tells the first place at which its clause isn't met, or that there is none.
+//! returns the first place at which its clause isn't met, or that there is none.
 #![tactic(auto)]
 
 mod acts;

@@ -9,7 +9,7 @@ use smallvec::SmallVec;
 use std::alloc::Global;
 use std::marker::Model;
 
-// Places in a journal, of which four take no memory of their own. They are seen as the list of them.
+// Indices into a journal, of which four need no memory of their own. They are seen as the list of them.
 #[derive(Drop)]
 pub(crate) struct Places {
     of: SmallVec<u32, 4>,
@@ -46,7 +46,7 @@ impl Places {
     }
 }
 
-// The places of a journal's entries, by their lines. They are seen as the list of these lists.
+// The indices of a journal's entries, by their lines. They are seen as the list of these lists.
 #[derive(Drop)]
 pub(crate) struct ByLine {
     lines: Vec<Places>,
@@ -61,7 +61,7 @@ impl Model for ByLine {
 }
 
 impl ByLine {
-    // So many lines of no entries.
+    // That many lines without entries.
     fn new(alloc: Global, count: usize) -> Result<ByLine, OutOfMemory>
         ensures count { IfOk result (λ b. length b ≡ count) }
         ensures empty { IfOk result (λ b. (l : ℕ) → slice_index_or b l [] ≡ []) }
@@ -73,7 +73,7 @@ impl ByLine {
         Ok(ByLine { lines })
     }
 
-    // Puts a place behind those of its line, where the line is there.
+    // Appends an index to those of its line, if the line is there.
     fn enter(&mut self, line: usize, place: u32) -> Result<(), OutOfMemory>
         ensures { OnOk result (self.new ≡ slice_set self.old line (slice_index_or self.old line [] ++ place ∷ [])) }
     {
@@ -83,7 +83,7 @@ impl ByLine {
         Ok(())
     }
 
-    // The places of the entries of those of the journal's lines that are below this number. A journal of no entries takes no
+    // The indices of the entries on those of the journal's lines that are below this number. A journal of no entries needs no
     // memory for its lines.
     #[tactic(auto, using(crate::proofs::Indexing::no_lines))]
     fn of(alloc: Global, count: usize, journal: &DenseJournal) -> Result<ByLine, OutOfMemory>
@@ -106,7 +106,7 @@ impl ByLine {
         }
     }
 
-    // The places of the entries, with room for each line below this number.
+    // The indices of the entries, with room for each line below this number.
     fn of_entries(
         alloc: Global,
         count: usize,
@@ -124,7 +124,7 @@ impl ByLine {
         Ok(by_line)
     }
 
-    // The places of the entries of a line; none where there is no such line.
+    // The indices of the entries of a line; none if there is no such line.
     pub(crate) fn places(&self, line: u32) -> &[u32]
         ensures { result.now ≡ slice_index_or self.now line [] }
     {
@@ -146,7 +146,7 @@ pub(crate) fn lines_below(records: &[Played]) -> usize
     most as usize + 1
 }
 
-// The places of the entries of all journals on lines below this number.
+// The indices of the entries of all journals on lines below this number.
 pub(crate) fn lines_of(
     alloc: Global,
     count: usize,
@@ -163,7 +163,7 @@ pub(crate) fn lines_of(
     Ok(tables)
 }
 
-// The entries of a partition's journal; none where it isn't there.
+// The entries of a partition's journal; none if it isn't there.
 pub(crate) fn journal_of(roots: &[DenseJournal], partition: u32) -> &[DenseEntry]
     ensures { result.now ≡ journal_at roots.now partition }
 {

@@ -17,10 +17,10 @@ const PARTITIONS: usize = MOST_PARTITIONS as usize;
 
 const CLASSES: usize = pa_buckets::CLASSES as usize;
 
-// The least number of unused places that are put in front of free slots.
+// The least number of unused entries that are put before the free slots.
 const LEAST_UNUSED: usize = 4;
 
-// Free slots, front first. They are seen as the list of them. They stand behind some places that are unused.
+// Free slots, front first. They are seen as the list of them. They come after some entries that are unused.
 #[derive(Drop)]
 pub(crate) struct FreeSlots {
     slots: Vec<Numbered>,
@@ -49,7 +49,7 @@ impl FreeSlots {
         }
     }
 
-    // Puts other slots in place of these.
+    // Replaces these slots by others.
     pub(crate) fn refill(&mut self, slots: &[Numbered]) -> Result<(), OutOfMemory>
         ensures { OnOk result (self.new ≡ slots.now) }
     {
@@ -58,7 +58,7 @@ impl FreeSlots {
         Ok(())
     }
 
-    // Puts a slot in front.
+    // Puts a slot at the front.
     pub(crate) fn put_front(&mut self, slot: Numbered) -> Result<(), OutOfMemory>
         ensures { OnOk result (self.new ≡ slot ∷ self.old) }
     {
@@ -70,7 +70,7 @@ impl FreeSlots {
         Ok(())
     }
 
-    // Drops the front, where there is one.
+    // Drops the front, if there is one.
     pub(crate) fn drop_front(&mut self)
         ensures { self.new ≡ drop 1 self.old }
     {
@@ -104,7 +104,7 @@ impl FreeSlots {
         self.unused = 0;
     }
 
-    // Keeps so many from the front on.
+    // Keeps the first `count` slots.
     pub(crate) fn keep(&mut self, count: usize)
         ensures { self.new ≡ take count self.old }
     {
@@ -115,7 +115,7 @@ impl FreeSlots {
 }
 
 // A thread's lists of free slots, at most 64 each. They are seen as the list of them, 59 of each of four partitions. Beside them
-// stands what those of each partition have together.
+// is what those of each partition have together.
 #[derive(Drop)]
 pub(crate) struct ThreadLists {
     lists: Vec<FreeSlots>,
@@ -166,7 +166,7 @@ impl ThreadLists {
         self.lists[CLASSES * partition as usize + class.number() as usize].items()
     }
 
-    // Puts other slots, at most 64, in place of those of a partition's list, which it hands out.
+    // Replaces the slots of a partition's list by others, at most 64, and returns the old ones.
     pub(crate) fn replace(&mut self, partition: u32, class: Class, slots: FreeSlots) -> FreeSlots
         requires partition { partition < most_partitions }
         requires few { length slots ≤ 64 }
@@ -194,7 +194,7 @@ impl ThreadLists {
     }
 }
 
-// Puts unused places in front of slots, more than there are slots. Tells how many.
+// Puts unused entries before the slots, more than there are slots. Returns how many.
 fn put_unused(slots: &mut Vec<Numbered>) -> Result<usize, OutOfMemory>
     ensures many { IfOk result (λ unused. 1 ≤ unused) }
     ensures within { IfOk result (λ unused. unused ≤ length slots.new.items) }
@@ -228,7 +228,7 @@ fn clear_all(lists: &mut Vec<FreeSlots>, sums: &[Tally; MOST_PARTITIONS as usize
     }
 }
 
-// Empties a partition's lists, which stand from this place on and have so many slots. Those behind the last of them that has
+// Empties a partition's lists, which begin at this index and have this many slots. Those after the last of them that has
 // some are left alone.
 fn clear_from(lists: &mut Vec<FreeSlots>, first: usize, slots: u64)
     requires within { first + class_count ≤ length lists.old.items }
@@ -247,7 +247,7 @@ fn clear_from(lists: &mut Vec<FreeSlots>, first: usize, slots: u64)
     }
 }
 
-// The tally of lists of which one of this class had so many slots and has so many now.
+// The tally after one list of this class went from `before` to `after` slots.
 fn changed(sum: Tally, class: Class, before: usize, after: usize) -> Tally
     requires { HasPart sum class before after }
     ensures { result ≡ changed_by sum class before after }

@@ -15,7 +15,7 @@ use pa_record::Numbered;
 use pa_rules::Played;
 use std::alloc::Global;
 
-// What is found of a line: the thread of its record, where there is one; and how far a line is above its record's place, as
+// What is found of a line: the thread of its record, if there is one; and how far a line is above its record's index, as
 // it was found last.
 #[derive(Clone, Copy)]
 pub(crate) struct Found {
@@ -23,8 +23,8 @@ pub(crate) struct Found {
     pub(crate) above: u32,
 }
 
-// The thread of the record on a line, where there is one. It is looked for first where it stands if the line is so far above
-// the record's place: the lines of records follow one another but for those on which a phase begins.
+// The thread of the record on a line, if there is one. It is looked for first at the index that has this distance from the line:
+// the lines of records follow one another but for those on which a phase begins.
 pub(crate) fn thread_on(records: &[Played], line: u32, above: u32) -> Found
     requires few { length records.now < 2 ^ 32 }
     requires rising { RiseByLine records.now }
@@ -49,7 +49,7 @@ fn found_at(records: &[Played], at: u32, line: u32) -> Found
     }
 }
 
-// The slots that an entry moves, all on one course.
+// The slots that an entry moves, all in one direction.
 #[derive(Clone, Copy)]
 pub(crate) struct Moves<'a> {
     pub(crate) course: Course,
@@ -106,7 +106,7 @@ pub(crate) fn both(a: bool, b: bool) -> bool
     a && b
 }
 
-// Moves slots, one after the other. Tells whether each has the holder that it needs.
+// Moves slots, one after the other. Returns whether each has the holder that it needs.
 pub(crate) fn move_slots(
     records: &[Played],
     firsts: &ByKey<u32>,

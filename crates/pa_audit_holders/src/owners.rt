@@ -13,7 +13,7 @@ use pa_record::{Answer, Numbered};
 use pa_rules::Played;
 use std::alloc::Global;
 
-// Who holds a free slot at a number: the root, or a thread; nobody where it isn't free there.
+// Who holds a free slot at a number: the root, or a thread; nobody if it isn't free there.
 #[derive(Clone, Copy, Debug, PartialEq, Eq)]
 pub(crate) enum Owner {
     Nobody,
@@ -169,14 +169,14 @@ fn is_needed(held: Owner, course: Course, thread: Option<u32>) -> bool
     }
 }
 
-// Who moves slots: an entry on this line, whose record is of this thread where there is one.
+// Who moves slots: an entry on this line, whose record is of this thread if there is one.
 #[derive(Clone, Copy)]
 pub(crate) struct Mover {
     pub(crate) line: u32,
     pub(crate) thread: Option<u32>,
 }
 
-// Moves a slot at a number. Tells whether its holder is the one that the move needs.
+// Moves a slot at a number. Returns whether its holder is the one that the move needs.
 pub(crate) fn move_slot(
     records: &[Played],
     firsts: &ByKey<u32>,

@@ -13,7 +13,7 @@ use crate::lists::ThreadLists;
 use pa_buckets::Class;
 use pa_dense::DenseEntry;
 
-// A purge gave all lists back, and says how many slots they had.
+// A purge gave all lists back, and its answer says how many slots they had.
 pub(crate) fn purged(page: &Page<'_>, slots: u32, cache: &mut ThreadLists) -> bool
     ensures { TellsRow (PurgedRow page.now.partitions (journal_at page.now.roots) page.now.told slots (cache_in cache.old))
         (cache_in cache.new) result }
@@ -25,7 +25,7 @@ pub(crate) fn purged(page: &Page<'_>, slots: u32, cache: &mut ThreadLists) -> bo
     true
 }
 
-// Whether the line's entries purge all partitions, and their lists have so many slots.
+// Whether the line's entries purge all partitions, and their lists have that many slots.
 fn purges_all(page: &Page<'_>, slots: u32, cache: &ThreadLists) -> bool
     ensures { IsTrue result ↔ PurgesAll page.now.partitions (journal_at page.now.roots) page.now.told.line slots (cache_in cache.now) }
 {
@@ -39,7 +39,7 @@ fn purges_all(page: &Page<'_>, slots: u32, cache: &ThreadLists) -> bool
     left == 0
 }
 
-// Where the line's entries purge a partition, and its lists have no more slots than so many: how many are left.
+// How many slots are left to be counted after a purge of a partition by the line's entries, if its lists have no more than that.
 fn purges_one(page: &Page<'_>, partition: u32, slots: usize, cache: &ThreadLists) -> Option<usize>
     requires partition { partition < most_partitions }
     ensures { TellsPurge (acts_of (journal_at page.now.roots) page.now.told.line partition) (cache_in cache.now partition) slots result }
@@ -48,7 +48,7 @@ fn purges_one(page: &Page<'_>, partition: u32, slots: usize, cache: &ThreadLists
     purges_lists(page.journal(partition), places, partition, slots, cache)
 }
 
-// The same of the entries in these places of the partition's journal.
+// The same of the entries at these indices of the partition's journal.
 fn purges_lists(
     journal: &[DenseEntry],
     places: &[u32],

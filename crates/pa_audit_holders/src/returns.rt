@@ -56,7 +56,7 @@ fn stepped(
     Ok(fits)
 }
 
-// A slot was returned, which has this number then.
+// A slot was returned, which then has this number.
 fn put_back(
     alloc: Global,
     page: &Page<'_>,
@@ -71,7 +71,7 @@ fn put_back(
     }
 }
 
-// A slot whose home this is was returned.
+// A slot with this home was returned.
 fn go_home(
     alloc: Global,
     page: &Page<'_>,

@@ -19,7 +19,7 @@ use pa_machine::{OutOfMemory, SlotName, number};
 use pa_record::{Answer, Numbered, Seen};
 use std::alloc::Global;
 
-// Whether a record's row leads on from its thread's lists. Where it does they are the next ones.
+// Whether a record's row leads on from its thread's lists. If it does, they are the next ones.
 pub(crate) fn plays(
     alloc: Global,
     page: &Page<'_>,
@@ -87,7 +87,7 @@ fn made_of_class(
     Ok(true)
 }
 
-// Whether a slot can be taken from the list: an empty one is filled first, and at any other the line has no entries. Where
+// Whether a slot can be taken from the list: an empty one is filled first, and at any other the line has no entries. If
 // it can, the list is then the one from which it is taken.
 fn fill_first(page: &Page<'_>, bin: &Bin, slots: &mut FreeSlots) -> Result<bool, OutOfMemory>
     requires few { length slots.old ≤ 64 }

@@ -29,10 +29,10 @@ pub(crate) struct Walked {
     pub(crate) misfit: Option<u32>,
 }
 
-// The line of a trace's first record, where no phase begins there.
+// The line of a trace's first record, if no phase begins there.
 const FIRST_LINE: u32 = 2;
 
-// Enters an entry behind those so far, on a line of this thread, or of none. Tells whether it fits.
+// Enters an entry after those so far, on a line of this thread, or of none. Returns whether it fits.
 fn play(
     records: &[Played],
     firsts: &ByKey<u32>,
@@ -75,7 +75,7 @@ fn first_misfit(first: Option<u32>, at: u32, fits: bool) -> Option<u32>
     }
 }
 
-// Goes through a journal, entry by entry, also where one doesn't fit.
+// Goes through a journal, entry by entry, even if one doesn't fit.
 pub(crate) fn walk(
     alloc: Global,
     salt: Salt,

@@ -11,7 +11,7 @@ use Rattle.pa_rules.specs.Legal.{IsLegal}
 use Rattle.pa_rules.specs.Verdicts.{IsFirstFailing}
 use Rattle.pa_audit_input.specs.Input.{IsAudited, IsFirstAuditFault}
 
--- the bytes are a trace and behind it a legal run of it
+-- the bytes are a trace followed by a legal run of it
 pub record IsLegalInput (bytes : List ℕ) : Type 0 where
   pub trace : Trace
   pub run : Run
@@ -19,7 +19,7 @@ pub record IsLegalInput (bytes : List ℕ) : Type 0 where
   pub input : IsAudited trace run lines bytes
   pub legal : IsLegal trace run
 
--- the bytes are a trace and behind it a run, of which this clause is the first that fails, first at line n of the bytes
+-- the bytes are a trace followed by a run; this clause is the first that fails, first at line n of the bytes
 pub record IsRefutedInput (clause : Clause) (n : ℕ) (bytes : List ℕ) : Type 0 where
   pub trace : Trace
   pub run : Run
@@ -34,7 +34,7 @@ abbrev pub IsVerdictOn : Verdict → List ℕ → Type 0
 IsVerdictOn Legal bytes = IsLegalInput bytes
 IsVerdictOn (Broken clause n) bytes = IsRefutedInput clause n bytes
 
--- why there is no verdict on the bytes: their first faulty line, or want of memory
+-- why there is no verdict on the bytes: their first faulty line, or out of memory
 abbrev pub IsInputFault : TraceFault → List ℕ → Type 0
 IsInputFault (BadLine n) bytes = IsFirstAuditFault (BadLine n) bytes
 IsInputFault (Limit n) bytes = IsFirstAuditFault (Limit n) bytes

@@ -8,11 +8,11 @@ use pa_rules::Verdict;
 use pa_trace::{TraceFault, read_trace};
 use std::alloc::Global;
 
-/// The verdict on the bytes: they are the text of a trace and behind it, from the first line that is `run 1` on, that of a run.
+/// The verdict on the bytes: they are the text of a trace and after it, from the first line that is `run 1` on, that of a run.
 /// Lines and bytes count from 1 in the whole input. `BadLine(n)` and `Limit(n)` name the first faulty line. In the trace's part
-/// they are those of `read_trace`. Behind it a line is faulty by `Limit` where it contains byte 134,217,729, else by `BadLine` where
-/// it isn't the line of an item that may stand there; n is one more than the number of lines where no line is `run 1` or the end is
-/// wanting. Of more than 134,217,728 bytes the first 134,217,729 are enough: what follows them changes no answer.
+/// they are those of `read_trace`. After it a line is faulty by `Limit` if it contains byte 134,217,729, else by `BadLine` if
+/// it isn't the line of an item that may come there; n is one more than the number of lines if no line is `run 1` or the end is
+/// missing. Of more than 134,217,728 bytes the first 134,217,729 are enough: what follows them changes no answer.
 pub fn judge(alloc: Global, bytes: &[u8]) -> Result<Verdict, TraceFault>
     requires { length bytes.now ≤ 134217729 }
     ensures verdict { IfOk result (λ v. IsVerdictOn v bytes.now) }

@@ -1,4 +1,4 @@
-//! The input of `audit`, a trace with a run behind it: where the run begins, the first faulty line, and the verdict.
+//! The input of `audit`, a trace followed by a run: where the run begins, the first faulty line, and the verdict.
 #![tactic(auto)]
 
 mod judging;

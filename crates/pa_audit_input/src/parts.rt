@@ -8,7 +8,7 @@ use pa_trace::cut_line;
 // The first line of a run's text.
 const RUN: &[u8] = b"run 1\n";
 
-// The bytes before the first line that is `run 1`, those from it on, and how many lines the first are.
+// The bytes before the first line that is `run 1`, those from it on, and how many lines come before it.
 pub fn parts_of(bytes: &[u8]) -> (&[u8], &[u8], u32)
     requires { length bytes.now ≤ 134217729 }
     ensures parted { IsParted result.0.now result.1.now bytes.now }
@@ -44,7 +44,7 @@ pub fn last_cut(bytes: &[u8]) -> (&[u8], u32)
     (whole, lines)
 }
 
-// The bytes behind the first line, which ends with its LF, or where there is none with the bytes.
+// The bytes after the first line, which ends with its LF, or, if there is none, with the bytes.
 #[tactic(auto, using(crate::proofs::Cutting::behind_cut, crate::proofs::Cutting::behind_end))]
 fn behind_line(bytes: &[u8]) -> &[u8]
     requires { 0 < length bytes.now }

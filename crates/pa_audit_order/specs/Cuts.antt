@@ -1,4 +1,4 @@
--- What a walk along the records of a thread knows: the records that are before those from some place on.
+-- What a walk along the records of a thread knows: the records that are before those from some index on.
 use Rattle.std.specs.Prelude.{◌≡◌, ℕ, ◌<◌, ◌≤◌, ◌⊎◌, if◌then◌else◌, Bool, List, Option, Some, None, Contains, length, min, sum_by}
 use Rattle.pa_machine.specs.Run.{Mark}
 use Rattle.pa_record.specs.declared.history.CellEntry.{CellEntry}
@@ -10,11 +10,11 @@ use Rattle.pa_audit_order.specs.Looks.{IsMarked, AreLeft, FindsEnough}
 use Rattle.pa_audit_records.specs.Cuts.{RiseByPhase}
 use Rattle.pa_audit_order.specs.Steps.{IsLastOf, ArePrevious, AreGivers}
 
--- x is before each record of the thread from place k on
+-- x is before each record of the thread from index k on
 abbrev pub IsAhead : (ℕ → List CellEntry) → List Played → ℕ → ℕ → Played → Type 0
 IsAhead cells ps t k x = (j : ℕ) (z : Played) → k ≤ j → IsRecord ps j z → z.thread ≡ t → IsBefore cells ps x z
 
--- x is before the record at place k and those of its thread behind it
+-- x is before the record at index k and those of its thread after it
 abbrev pub IsAheadAt : (ℕ → List CellEntry) → List Played → ℕ → Played → Type 0
 IsAheadAt cells ps k x = (y : Played) → IsRecord ps k y → IsAhead cells ps y.thread k x
 
@@ -24,12 +24,12 @@ IsNear cells ps j i =
     (x : Played) × (y : Played) × IsRecord ps j x × IsRecord ps i y
     × (IsLastOf ps y.thread i (Some j) ⊎ HandsTo cells x y ⊎ (x.phase < y.phase))
 
--- place i is marked, or on the stack
+-- index i is marked, or on the stack
 abbrev pub IsTakenUp : List Bool → List ℕ → ℕ → Type 0
 IsTakenUp marked stack i = IsMarked marked i ⊎ Contains stack i
 
--- Each place that is known, all of those below the floor among them, has a record that is ahead. The nearest steps to a marked
--- record come from places that are known, but for one record. The table has what the marked ones left.
+-- Each index that is known, all of those below the floor among them, has a record that is ahead. The nearest steps to a marked
+-- record come from indices that are known, but for one record. The table has what the marked ones left.
 pub record IsGrown (cells : ℕ → List CellEntry) (ps : List Played) (Ahead : Played → Type 0) (but : ℕ) (marked : List Bool)
     (stack : List ℕ) (floor : ℕ) (left : ℕ → Option ℕ) : Type 0 where
   pub long : length marked ≡ length ps
@@ -40,7 +40,7 @@ pub record IsGrown (cells : ℕ → List CellEntry) (ps : List Played) (Ahead : 
   pub near : (i j : ℕ) → (i ≡ but → ⊥) → IsMarked marked i → IsNear cells ps j i → IsTakenUp marked stack j
   pub numbers : AreLeft ps marked left
 
--- how many places aren't marked
+-- how many indices aren't marked
 abbrev pub unmarked : List Bool → ℕ
 unmarked marked = sum_by (λ b. if b then 0 else 1) marked
 
@@ -51,12 +51,12 @@ pub record IsPrepared (cells : ℕ → List CellEntry) (ps : List Played) (previ
   pub threads : ArePrevious ps previous (length ps)
   pub hands : AreGivers cells ps givers (length ps)
 
--- what is told of the records of one thread: as TellsFirst tells of all
+-- what is found of the records of one thread, as TellsFirst says it of all
 abbrev pub TellsOf : List Played → ℕ → (ℕ → Type 0) → Option ℕ → Type 0
 TellsOf ps t Meets None = (i : ℕ) (x : Played) → IsRecord ps i x → x.thread ≡ t → Meets i
 TellsOf ps t Meets (Some i) = (Meets i → ⊥) × ((j : ℕ) (x : Played) → j < i → IsRecord ps j x → x.thread ≡ t → Meets j)
 
--- the record at place k isn't marked, and finds no lower number of its slot than is left
+-- the record at index k isn't marked, and finds no lower number of its slot than is left
 abbrev pub IsOrderly : List Bool → ℕ → (ℕ → Option ℕ) → Option Mark → Type 0
 IsOrderly marked k left mark = (IsMarked marked k → ⊥) × FindsEnough left mark
 
@@ -65,7 +65,7 @@ abbrev pub TellsBelow : List Played → ℕ → (ℕ → Type 0) → Option ℕ 
 TellsBelow ps t Meets None = (i : ℕ) (x : Played) → IsRecord ps i x → x.thread < t → Meets i
 TellsBelow ps t Meets (Some i) = (Meets i → ⊥) × ((j : ℕ) (x : Played) → j < i → IsRecord ps j x → x.thread < t → Meets j)
 
--- the lesser of two places, where there are two
+-- the lesser of two indices, if there are two
 abbrev pub earlier_of : Option ℕ → Option ℕ → Option ℕ
 earlier_of None told = told
 earlier_of (Some a) None = Some a

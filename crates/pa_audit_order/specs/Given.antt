@@ -1,4 +1,4 @@
--- What a read may give, by the registers of its thread.
+-- What a read may report, by the registers of its thread.
 use Rattle.std.specs.Prelude.{◌≡◌, ◌≢◌, ℕ, ◌⊎◌, List}
 use Rattle.pa_machine.specs.declared.word.SlotName.{SlotName}
 use Rattle.pa_machine.specs.Count.{number_of}
@@ -35,7 +35,7 @@ MayGive ps regs x (Value seen value) =
 MayGive ps regs x (Dangling seen value) = value ≡ poison
 MayGive ps regs x answer = Unit {0}
 
--- the answer gives a value that depends on no slot's content, or none at all
+-- the answer has a value that depends on no slot's content, or none at all
 abbrev pub NeedsNoContent : Answer → Type 0
 NeedsNoContent (Value seen value) = ⊥
 NeedsNoContent (Dangling seen value) = value ≡ poison

@@ -5,7 +5,7 @@ use Rattle.std.specs.Prelude.{◌≡◌, ℕ, ◌+◌, ◌<◌, ◌≤◌, Optio
 abbrev pub HasNoKey : (ℕ → Option ℕ) → ℕ → ℕ → Type 0
 HasNoKey at low high = (q : ℕ) → low ≤ q → q < high → at q ≡ None
 
--- q is the greatest key that is there between the bounds, and v stands at it
+-- q is the greatest key that is there between the bounds, and v is its value
 pub record IsGreatest (at : ℕ → Option ℕ) (low high q v : ℕ) : Type 0 where
   pub from : low ≤ q
   pub below : q < high

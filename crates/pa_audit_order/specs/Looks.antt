@@ -1,4 +1,4 @@
--- What a record tells of a slot, by numbers alone.
+-- What a record reports of a slot, by step numbers alone.
 use Rattle.std.specs.Prelude.{◌≡◌, ℕ, ◌<◌, ◌≤◌, ◌⊎◌, Bool, true, List, Option, Some, None, slice_get}
 use Rattle.pa_machine.specs.Count.{number_of}
 use Rattle.pa_machine.specs.Run.{Mark}
@@ -13,11 +13,11 @@ use Rattle.pa_audit_order.specs.declared.looks.Look.{Look}
 abbrev pub look_by : Mark → Look
 look_by m = record { slot = m.slot; found = number_of m.found; left = left_number m }
 
--- place i of the list is marked
+-- index i of the list is marked
 abbrev pub IsMarked : List Bool → ℕ → Type 0
 IsMarked marked i = slice_get marked i ≡ Some true
 
--- at k stands v or the greater number that was there, the other keys have what they had
+-- the value at k is v or the greater number that was there, the other keys have what they had
 pub record Raises (f g : ℕ → Option ℕ) (k v : ℕ) : Type 0 where
   pub number : ℕ
   pub here : g k ≡ Some number
@@ -34,12 +34,12 @@ pub record AreLeft (ps : List Played) (marked : List Bool) (at : ℕ → Option 
   pub whole : (i : ℕ) (x : Played) (m : Mark) → IsMarked marked i → IsRecord ps i x → mark_of x ≡ Some m
       → (m.slot.start < 4294967296) × (n : ℕ) × (at (word_key m.slot 0) ≡ Some n) × (left_number m ≤ n)
 
--- what a record tells finds no lower number of its slot than the table has
+-- what a record reports finds no lower number of its slot than the table has
 abbrev pub FindsEnough : (ℕ → Option ℕ) → Option Mark → Type 0
 FindsEnough at None = Unit {0}
 FindsEnough at (Some m) = (n : ℕ) → at (word_key m.slot 0) ≡ Some n → n ≤ number_of m.found
 
--- no record finds a lower number of its slot than one that stands above it left
+-- no record finds a lower number of its slot than one above it left
 abbrev pub NumbersRise : List Played → Type 0
 NumbersRise ps =
     (i j : ℕ) (x y : Played) (m n : Mark) → i < j → IsRecord ps i x → IsRecord ps j y → mark_of x ≡ Some m → mark_of y ≡ Some n

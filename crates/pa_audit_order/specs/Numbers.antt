@@ -24,13 +24,13 @@ seen_by kind op answer = None
 abbrev pub DoesAt : Kind → Played → SlotName → ℕ → Type 0
 DoesAt kind x s n = (seen : Seen) × (seen_by kind x.op x.answer ≡ Some seen) × (seen.slot ≡ s) × (number_of seen.found.0 ≡ n)
 
--- one record at most did so with a slot at a number
+-- at most one record did so with a slot at a number
 abbrev pub IsOneAt : Kind → List Played → Type 0
 IsOneAt kind ps =
     (i j : ℕ) (x y : Played) (s : SlotName) (n : ℕ) → IsRecord ps i x → IsRecord ps j y → DoesAt kind x s n → DoesAt kind y s n
     → i ≡ j
 
--- the table has those of the records before place k, each by its slot and number
+-- the table has those of the records before index k, each by its slot and number
 pub record AreByNumber (kind : Kind) (ps : List Played) (at : ℕ → Option ℕ) (k : ℕ) : Type 0 where
   pub hit : (q i : ℕ) → at q ≡ Some i
       → (x : Played) × (s : SlotName) × (n : ℕ) × (i < k) × IsRecord ps i x × DoesAt kind x s n × (word_key s n ≡ q)

@@ -16,13 +16,13 @@ IsStepTo cells x y = StandsBefore x y ⊎ HandsTo cells x y
 abbrev pub IsGiving : (ℕ → List CellEntry) → ℕ → ℕ → ℕ → Type 0
 IsGiving cells k j line = (i : ℕ) × (e : CellEntry) × (j ≡ i + 1) × IsExchange cells k i e × (e.line ≡ line) × (e.gave ≢ Nothing)
 
--- of the records before place k the last one of the thread is this, or none is
+-- of the records before index k the last one of the thread is this, or none is
 abbrev pub IsLastOf : List Played → ℕ → ℕ → Option ℕ → Type 0
 IsLastOf ps t k None = (j : ℕ) (x : Played) → j < k → IsRecord ps j x → x.thread ≡ t → ⊥
 IsLastOf ps t k (Some i) =
     (x : Played) × IsRecord ps i x × (i < k) × (x.thread ≡ t) × ((j : ℕ) (y : Played) → i < j → j < k → IsRecord ps j y → y.thread ≡ t → ⊥)
 
--- the table has for each of so many records the one of its thread before it
+-- the table has for each of that many records the one of its thread before it
 pub record ArePrevious (ps : List Played) (table : List (Option ℕ)) (k : ℕ) : Type 0 where
   pub long : length table ≡ k
   pub last : (i : ℕ) (y : Played) (o : Option ℕ) → slice_get table i ≡ Some o → IsRecord ps i y → IsLastOf ps y.thread i o
@@ -32,18 +32,18 @@ pub record IsGiverOf (cells : ℕ → List CellEntry) (ps : List Played) (y : Pl
   pub some : IfSome o (λ j. (x : Played) × IsRecord ps j x × HandsTo cells x y)
   pub all : (j : ℕ) (x : Played) → IsRecord ps j x → HandsTo cells x y → o ≡ Some j
 
--- the table has for each of so many records the one that handed over to it
+-- the table has for each of that many records the one that handed over to it
 pub record AreGivers (cells : ℕ → List CellEntry) (ps : List Played) (table : List (Option ℕ)) (k : ℕ) : Type 0 where
   pub long : length table ≡ k
   pub hands : (i : ℕ) (y : Played) (o : Option ℕ) → slice_get table i ≡ Some o → IsRecord ps i y → IsGiverOf cells ps y o
 
--- a record, where there is one, as a list
+-- a record, if there is one, as a list
 abbrev pub as_list : Option ℕ → List ℕ
 as_list None = []
 as_list (Some i) = i ∷ []
 
--- To the list come the places from `low` on whose records are of an earlier phase, up to `high`, where the first is of this one
--- or a later.
+-- Added to the list are the indices from `low` to before `high`, whose records are of an earlier phase; record `high` is of
+-- this phase or a later one.
 pub record Adds (ps : List Played) (phase : ℕ) (old : List ℕ) (low : ℕ) (new : List ℕ) (high : ℕ) : Type 0 where
   pub from : low ≤ high
   pub within : high ≤ length ps
@@ -57,7 +57,7 @@ pub record AddsAll (ps : List Played) (phase : ℕ) (old : List ℕ) (low : ℕ)
   pub adds : Adds ps phase old low new high
   pub stop : (x : Played) → IsRecord ps high x → phase ≤ x.phase
 
--- To the list come the records from which the nearest steps lead to record i; those of earlier phases are below the floor.
+-- The records from which the nearest steps lead to record i are added to the list; those of earlier phases are below the floor.
 pub record AddsSteps (cells : ℕ → List CellEntry) (ps : List Played) (i : ℕ) (old : List ℕ) (low : ℕ) (new : List ℕ)
     (high : ℕ) : Type 0 where
   pub previous : (j : ℕ) (y : Played) → IsRecord ps i y → IsLastOf ps y.thread i (Some j) → Contains new j

@@ -25,8 +25,8 @@ use pa_trace::Op;
 use std::alloc::Global;
 use std::collections::BTreeMap;
 
-/// The index of the first record that read a value which it may not give: neither the content of its slot at the number
-/// that it found nor poison, or poison where no other thread's free was under way; none where no record did.
+/// The index of the first record that read a value which it may not report: neither the content of its slot at the number
+/// that it found nor poison, or poison when no other thread's free was under way; none if no record did.
 pub fn contents_meet(
     alloc: Global,
     records: &[Played],
@@ -56,7 +56,7 @@ pub fn contents_meet(
     Ok(None)
 }
 
-// Whether the answer is one that a record may give whatever its slot holds: poison for a slot that was freed, or no value
+// Whether the answer is one that a record may report whatever its slot holds: poison for a slot that was freed, or no value
 // at all.
 fn needs_no_content(answer: Answer) -> bool
     ensures { IsTrue result ↔ NeedsNoContent answer }
@@ -188,7 +188,7 @@ fn may_find_poison(
         && is_freed_meanwhile(frees, records, told, slot, number)
 }
 
-// Whether the value that a record read is one that it may give.
+// Whether the value that a record read is one that it may report.
 fn may_give(
     fills: &BTreeMap<u128, u32>,
     frees: &BTreeMap<u128, u32>,

@@ -15,7 +15,7 @@ use pa_record::History;
 use pa_rules::Played;
 use std::alloc::Global;
 
-// The records that are before those to come: which are marked, those that are still to be, up to which place all are in, and
+// The records that are before those to come: which are marked, those that are still to be, up to which index all are in, and
 // for each slot the greatest number that a marked record left.
 #[derive(Drop)]
 pub(crate) struct Cut {
@@ -25,7 +25,7 @@ pub(crate) struct Cut {
     pub left: ByKey<u64>,
 }
 
-// None of so many records.
+// None of that many records.
 pub(crate) fn no_cut(alloc: Global, salt: Salt, length: usize) -> Result<Cut, OutOfMemory>
     ensures marked { IfOk result (λ c. c.marked.items ≡ replicate length false) }
     ensures stack { IfOk result (λ c. c.stack.items ≡ []) }
@@ -40,7 +40,7 @@ pub(crate) fn no_cut(alloc: Global, salt: Salt, length: usize) -> Result<Cut, Ou
     })
 }
 
-// Puts a record on the stack, where there is one.
+// Puts a record on the stack, if there is one.
 fn push(stack: &mut Vec<u32>, at: Option<u32>) -> Result<(), OutOfMemory>
     ensures { OnOk result (stack.new.items ≡ stack.old.items ++ as_list at) }
 {
@@ -50,7 +50,7 @@ fn push(stack: &mut Vec<u32>, at: Option<u32>) -> Result<(), OutOfMemory>
     Ok(())
 }
 
-// Puts all records of earlier phases on the stack that aren't in yet.
+// Puts all records of earlier phases on the stack that aren't there yet.
 fn raise_floor(
     records: &[Played],
     phase: u32,
@@ -156,7 +156,7 @@ pub(crate) fn reach(
     Ok(())
 }
 
-// Whether what a record tells finds no lower number of its slot than is left there.
+// Whether what a record reports finds no lower number of its slot than is left there.
 pub(crate) fn finds_enough(left: &ByKey<u64>, told: Played) -> bool
     ensures enough { IsTrue result ↔ FindsEnough (value_at left.now) (mark_of told) }
     ensures sized { (m : Mark) → mark_of told ≡ Some m → m.slot.start < 4294967296 }

@@ -38,7 +38,7 @@ pub(crate) fn previous_of(
     Ok(previous)
 }
 
-// The line of the exchange before this one of the cell, where that gave a handle.
+// The line of the exchange before this one of the cell, if that gave a handle.
 fn given(cells: &[History], cell: u32, entry: u32) -> Option<u32>
     ensures some { IfSome result (IsGiving (history_at cells.now) cell entry) }
     ensures all { (l : ℕ) → IsGiving (history_at cells.now) cell entry l → result ≡ Some l }

@@ -20,7 +20,7 @@ pub(crate) fn key(slot: SlotName, number: u64) -> u128
         + number as u128
 }
 
-// What stands at the greatest key from `low` on and below `high`.
+// The value at the greatest key from `low` on and below `high`.
 pub(crate) fn greatest(map: &BTreeMap<u128, u32>, low: u128, high: u128) -> Option<(u128, u32)>
     ensures some { IfSome result (λ e. IsGreatest (get nat_cmp map.now) low high e.0 e.1) }
     ensures none { IfNone result (HasNoKey (get nat_cmp map.now) low high) }
@@ -33,7 +33,7 @@ pub(crate) fn greatest(map: &BTreeMap<u128, u32>, low: u128, high: u128) -> Opti
     Some((*key, *value))
 }
 
-// What stands at the least key from `low` to `last`.
+// The value at the least key from `low` to `last`.
 pub(crate) fn least(map: &BTreeMap<u128, u32>, low: u128, last: u128) -> Option<(u128, u32)>
     ensures some { IfSome result (λ e. IsLeast (get nat_cmp map.now) low (last + 1) e.0 e.1) }
     ensures none { IfNone result (HasNoKey (get nat_cmp map.now) low (last + 1)) }
@@ -46,7 +46,7 @@ pub(crate) fn least(map: &BTreeMap<u128, u32>, low: u128, last: u128) -> Option<
     Some((*key, *value))
 }
 
-// Raises what stands at a key to the value.
+// Raises the value at a key to this value.
 pub(crate) fn raise(map: &mut ByKey<u64>, key: u128, value: u64) -> Result<(), OutOfMemory>
     ensures { OnOk result (Raises (value_at map.old) (value_at map.new) key value) }
 {

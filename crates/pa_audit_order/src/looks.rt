@@ -9,7 +9,7 @@ use pa_record::{Answer, Seen};
 use pa_rules::Played;
 use pa_trace::Op;
 
-// What a record tells of a slot: the number that it found there, and the one that it left.
+// What a record reports of a slot: the number that it found there, and the one that it left.
 #[derive(Clone, Copy)]
 pub(crate) struct Look {
     pub slot: SlotName,
@@ -17,7 +17,7 @@ pub(crate) struct Look {
     pub left: u64,
 }
 
-// Whether an op makes a step where it is done.
+// Whether an op makes a step if it is done.
 fn makes_step(op: Op) -> bool
     ensures { result ≡ is_some (step_of op) }
 {
@@ -41,7 +41,7 @@ fn looked(seen: Seen, steps: bool) -> Look
     }
 }
 
-// What a record tells, where it tells of a slot.
+// What a record reports, if it reports a slot.
 pub(crate) fn look_of(told: Played) -> Option<Look>
     ensures { result ≡ option_map look_by (mark_of told) }
 {

@@ -16,7 +16,7 @@ pub(crate) fn has_no_exchange(cells: &[History]) -> bool
     cells.iter().all(|history| history.entries().is_empty())
 }
 
-// Whether no record finds a lower number of its slot than one that stands above it left.
+// Whether no record finds a lower number of its slot than one above it left.
 pub(crate) fn numbers_rise(
     alloc: Global,
     salt: Salt,

@@ -22,7 +22,7 @@ use pa_trace::MOST_THREADS;
 use std::alloc::Global;
 
 /// The index of the first record that is before itself, by its thread, by phases and by handles that were handed over, or
-/// finds a lower number of its slot than a record that is before it left; none where no record does.
+/// finds a lower number of its slot than a record that is before it left; none if no record does.
 pub fn seen_meets(
     alloc: Global,
     salt: Salt,
@@ -50,7 +50,7 @@ pub fn seen_meets(
     Ok(first)
 }
 
-// The lesser of two indices, where there are two.
+// The lesser of two indices, if there are two.
 fn earlier(first: Option<u32>, told: Option<u32>) -> Option<u32>
     ensures { result ≡ earlier_of first told }
 {

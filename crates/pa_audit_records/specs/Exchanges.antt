@@ -15,7 +15,7 @@ use Rattle.pa_rules.specs.RecordDemands.{IsAbove}
 abbrev pub NamesExchange : List CellEntry → Answer → ℕ → Type 0
 NamesExchange es answer line = (j : ℕ) × (e : CellEntry) × (answer ≡ Swapped j) × (slice_get es j ≡ Some e) × (e.line ≡ line)
 
--- what a record's op asks of its answer, where it is an exchange
+-- what a record's op requires of its answer, if it is an exchange
 abbrev pub SwapFits : (ℕ → List CellEntry) → Op → Answer → ℕ → Type 0
 SwapFits cells (ops.Alloc reg partition size) answer line = Unit {0}
 SwapFits cells (ops.Copy from to) answer line = Unit {0}
@@ -30,7 +30,7 @@ SwapFits cells ops.Purge answer line = Unit {0}
 abbrev pub IsSwapOf : ℕ → Op → Type 0
 IsSwapOf k op = (reg : ℕ) × (op ≡ ops.Swap k reg)
 
--- nothing: each exchange meets what is asked of it; one of them: it doesn't, and each above it does
+-- nothing: each exchange meets what is required of it; one of them: it doesn't, and each above it does
 abbrev pub TellsPair : (ℕ → ℕ → Type 0) → Option (ℕ × ℕ) → Type 0
 TellsPair Meets None = (k j : ℕ) → Meets k j
 TellsPair Meets (Some p) = (Meets p.0 p.1 → ⊥) × ((l i : ℕ) → IsAbove l i p.0 p.1 → Meets l i)
@@ -40,11 +40,11 @@ pub record AreLinesKnown (cells : ℕ → List CellEntry) (at : ℕ → Option �
   pub whole : (l i : ℕ) (f : CellEntry) → IsExchange cells l i f → IsAbove l i k j → IsSome (at f.line)
   pub only : (n : ℕ) → IsSome (at n) → (l i : ℕ) × (f : CellEntry) × IsExchange cells l i f × IsAbove l i k j × (f.line ≡ n)
 
--- x is the record of an exchange of the list before place j
+-- x is the record of an exchange of the list before index j
 abbrev pub IsEarlier : List Played → List CellEntry → ℕ → Played → Type 0
 IsEarlier ps es j x = (i : ℕ) × (e : CellEntry) × (i < j) × (slice_get es i ≡ Some e) × Contains ps x × (x.line ≡ e.line)
 
--- the greatest line of each thread, and the greatest phase, of the records of the exchanges before place j
+-- the greatest line of each thread, and the greatest phase, of the records of the exchanges before index j
 pub record HasLatest (ps : List Played) (es : List CellEntry) (j : ℕ) (last : ℕ → Option ℕ) (phase : ℕ) : Type 0 where
   pub lines : (x : Played) → IsEarlier ps es j x → (l : ℕ) × (last x.thread ≡ Some l) × (x.line ≤ l)
   pub phases : (x : Played) → IsEarlier ps es j x → x.phase ≤ phase
@@ -55,6 +55,6 @@ pub record HasLatest (ps : List Played) (es : List CellEntry) (j : ℕ) (last : 
 abbrev pub IsRecordOfSwap : List Played → ℕ → CellEntry → Played → Type 0
 IsRecordOfSwap ps cell e x = Contains ps x × (x.line ≡ e.line) × IsSwapOf cell x.op
 
--- the exchange found what is given, has no line that is known, and its record stands before none so far
+-- the exchange found what is given, has none of the known lines, and its record comes before none so far
 abbrev pub FitsNow : (ℕ → Option ℕ) → (ℕ → Option ℕ) → ℕ → Held → CellEntry → Played → Type 0
 FitsNow known last phase given e x = (e.found ≡ given) × (known e.line ≡ None) × (unwrap_or (last x.thread) 0 ≤ x.line) × (phase ≤ x.phase)

@@ -1,4 +1,4 @@
--- What a record tells of a slot, as the checkers have it.
+-- What a record reports of a slot, as the checkers have it.
 use Rattle.std.specs.Prelude.{ℕ, ◌<◌}
 use Rattle.pa_machine.specs.declared.word.SlotName.{SlotName}
 use Rattle.pa_machine.specs.Run.{Mark}

@@ -21,7 +21,7 @@ use Rattle.pa_rules.specs.Nexts.{copy_next, reset_next, free_next, write_next, r
 abbrev pub IsDoneAt : SlotName → Answer → Type 0
 IsDoneAt s answer = (seen : Seen) × (seen.slot ≡ s) × (answer ≡ Done seen)
 
--- a request for so many bytes, whose slot has this usable number
+-- a request for that many bytes, whose slot has this usable number
 abbrev pub AnswersRequest : ℕ → ℕ → Answer → Type 0
 AnswersRequest usable size answer =
     ((greatest_size < size) × (answer ≡ TooLarge))
@@ -44,7 +44,7 @@ AnswersCopyTo (Ref t) s answer = answer ≡ Filled
 AnswersCopyTo Freed s answer = IsDoneAt s answer
 AnswersCopyTo Cleared s answer = IsDoneAt s answer
 
--- an op that its register alone refuses has that answer; else its step on the slot, or its look at it, is answered so
+-- an op that its register alone refuses has that answer; else its step on the slot, or its look at it, has this answer
 abbrev pub AnswersOne : (SlotName → Answer → Type 0) → Result SlotName Answer → Answer → Type 0
 AnswersOne goes (Ok s) answer = goes s answer
 AnswersOne goes (Err refusal) answer = answer ≡ refusal
@@ -69,7 +69,7 @@ IsLookedAt looked s answer = (seen : Seen) × (seen.slot ≡ s) × (answer ≡ l
 abbrev pub AnswersFree : Reg → Answer → Type 0
 AnswersFree holds answer = AnswersNext IsDoneAt (IsLookedAt looked_free) (free_next holds) answer
 
--- the owner's step, or that raw_ptrs point to the slot
+-- the owner's step, or the answer that raw_ptrs point to the slot
 abbrev pub AnswersOwnWrite : SlotName → Answer → Type 0
 AnswersOwnWrite s answer =
     (seen : Seen) × (seen.slot ≡ s)
@@ -78,7 +78,7 @@ AnswersOwnWrite s answer =
 abbrev pub AnswersWrite : Reg → Answer → Type 0
 AnswersWrite holds answer = AnswersNext AnswersOwnWrite (IsLookedAt looked_write) (write_next holds) answer
 
--- a read of a word of slot s, of which so many bytes are usable
+-- a read of a word of slot s, of which that many bytes are usable
 abbrev pub AnswersReadFrom : SlotName → ℕ → ℕ → Answer → Type 0
 AnswersReadFrom s usable place answer =
     ((usable ≤ 8 * place) × (answer ≡ OutOfRange))
@@ -115,6 +115,6 @@ NamesRegisters (ops.Read reg place) = reg < register_count
 NamesRegisters (ops.Swap cell reg) = reg < register_count
 NamesRegisters ops.Purge = Unit {0}
 
--- the record is of one of 16 threads, and its op names registers that there are
+-- the record is of one of 16 threads, and its op names registers that exist
 abbrev pub IsPlayedWithin : Played → Type 0
 IsPlayedWithin x = (x.thread < most_threads) × NamesRegisters x.op

@@ -17,11 +17,11 @@ IsStepOf x q = (m : Mark) × (mark_of x ≡ Some m) × IsSome m.step × (word_ke
 abbrev pub IsStepAt : List Played → ℕ → ℕ → Type 0
 IsStepAt ps i q = (x : Played) × IsRecord ps i x × IsStepOf x q
 
--- the name and the word that a record tells have the bits of their types
+-- the name and the word that a record reports have the bits of their types
 abbrev pub IsSizedMark : Played → Type 0
 IsSizedMark x = (m : Mark) → mark_of x ≡ Some m → IsSized m.slot m.found
 
--- The table has the first record from k on that made a step at each number, and nothing where none did; and from k on each
+-- The table has the first record from k on that made a step at each number, and nothing if none did; and from k on each
 -- name and word has the bits of its type.
 pub record AreFirstsFrom (ps : List Played) (at : ℕ → Option ℕ) (k : ℕ) : Type 0 where
   pub hit : (q i : ℕ) → at q ≡ Some i → (k ≤ i) × IsStepAt ps i q × ((j : ℕ) → k ≤ j → IsStepAt ps j q → i ≤ j)
@@ -49,7 +49,7 @@ HasRunOf ps at s =
 abbrev pub AreReached : List Played → (ℕ → Option ℕ) → Type 0
 AreReached ps at = (s : SlotName) (w : ℕ) → IsSized s w → IsSome (at (word_key s w)) → HasRunOf ps at s
 
--- the table has the first word of each slot of which a record tells
+-- the table has the first word of each slot that a record reports
 abbrev pub HasAllSlots : List Played → (ℕ → Option ℕ) → Type 0
 HasAllSlots ps at = (i : ℕ) (x : Played) (m : Mark) → IsRecord ps i x → mark_of x ≡ Some m → IsSome (at (word_key m.slot 0))
 

@@ -18,7 +18,7 @@ pub record Puts {V : Type 0} (f g : ℕ → Option V) (k : ℕ) (v : V) : Type 0
   pub here : g k ≡ Some v
   pub other : (q : ℕ) → (q ≡ k → ⊥) → g q ≡ f q
 
--- the usable number of a slot in a table by the slots' numbers: 0 where none stands there
+-- the usable number of a slot in a table by the slots' numbers: 0 if none is there
 abbrev pub usable_by : (ℕ → Option ℕ) → SlotName → ℕ
 usable_by at s = unwrap_or (at (name_key s)) 0
 
@@ -30,7 +30,7 @@ AreUsables ps at = (s : SlotName) → s.start < 4294967296 → usable_by at s �
 abbrev pub ReadsSlot : Op → Type 0
 ReadsSlot op = (reg : ℕ) × (place : ℕ) × (op ≡ Read reg place)
 
--- it has where one of the records reads a slot
+-- it has if one of the records reads a slot
 abbrev pub SuitsReads : List Played → (ℕ → Option ℕ) → Type 0
 SuitsReads ps at = (x : Played) → Contains ps x → ReadsSlot x.op → AreUsables ps at
 
@@ -46,7 +46,7 @@ AreRegsOf list all = (t r : ℕ) → regs_in list t r ≡ all t r
 abbrev pub with_register : AllRegs → ℕ → ℕ → Reg → AllRegs
 with_register all thread reg holds = with_thread all thread (with (all thread) reg holds)
 
--- what the rows ask for besides the registers, by these records and cells
+-- what the rows need besides the registers, by these records and cells
 abbrev pub facts_by : (ℕ → List CellEntry) → List Played → Facts
 facts_by cells ps = record { usable_of = usable_of; usable_at = usable_in ps; cells = cells }
 

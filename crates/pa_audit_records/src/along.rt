@@ -14,7 +14,7 @@ use pa_machine::{OutOfMemory, Word, apply};
 use pa_rules::Played;
 use std::alloc::Global;
 
-// Whether a word is the one that a table gave, which is 0 where it gave none.
+// Whether a word is the one in a table, or 0 if the table has none.
 fn is_word(given: Option<u64>, word: Word) -> bool
     ensures { IsTrue result ↔ (word.0 ≡ unwrap_or given 0) }
 {
@@ -40,8 +40,8 @@ fn continues(words: &mut ByKey<u64>, mark: Marked) -> Result<bool, OutOfMemory>
     }
 }
 
-// Whether each record that tells of a slot found the word that those before it left there: one walk with one table tells
-// then that each slot has one run. Where threads had other steps between theirs, records may stand in another order.
+// Whether each record that reports a slot found the word that those before it left there: one walk with one table shows
+// then that each slot has one run. If threads had other steps between theirs, records may be in another order.
 pub(crate) fn stand_in_order(
     alloc: Global,
     salt: Salt,

@@ -7,7 +7,7 @@ use pa_machine::OutOfMemory;
 use std::alloc::Global;
 use std::collections::HashMap;
 
-/// A table of values by their keys. It hashes a key together with its salt, so that keys which were chosen by somebody who
+/// A table of values by their keys. It hashes a key together with its salt, so that keys which were chosen by somebody that
 /// doesn't know the salt don't get in one another's way. Any salt gives the same answers.
 #[derive(Drop)]
 pub struct ByKey<V> {
@@ -34,7 +34,7 @@ impl<V: Copy> ByKey<V> {
         Ok(())
     }
 
-    /// Sets the value at a key, and gives the one that stood there.
+    /// Sets the value at a key, and returns the one that was there.
     pub fn replace(&mut self, key: u128, value: V) -> Result<Option<V>, OutOfMemory>
         ensures old { IfOk result (λ old. old ≡ value_at self.old key) }
         ensures puts { OnOk result (Puts (value_at self.old) (value_at self.new) key value) }

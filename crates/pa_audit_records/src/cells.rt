@@ -18,7 +18,7 @@ use pa_rules::Played;
 use pa_trace::Op;
 use std::alloc::Global;
 
-/// The index of the first record of an exchange that doesn't name one of its cell with its line; none where each does.
+/// The index of the first record of an exchange that doesn't name one of its cell with its line; none if each does.
 pub fn swaps_meet(records: &[Played], cells: &[History]) -> Option<u32>
     requires few { length records.now < 2 ^ 32 }
     ensures { TellsFirst (λ i. CellsDemand (history_at cells.now) records.now (places.Record i)) result }
@@ -46,7 +46,7 @@ fn names_exchange(cells: &[History], cell: u32, answer: Answer, line: u32) -> bo
     }
 }
 
-// Whether the answer of an op is what it asks for, where it is an exchange.
+// Whether the answer of an op is what it requires, if it is an exchange.
 fn swap_fits(cells: &[History], op: Op, answer: Answer, line: u32) -> bool
     ensures { IsTrue result ↔ SwapFits (history_at cells.now) op answer line }
 {
@@ -66,7 +66,7 @@ fn is_swap(op: Op, of: u32) -> bool
     }
 }
 
-// The record of the line, where it is of an exchange with the cell.
+// The record of the line, if it is of an exchange with the cell.
 fn swap_of(records: &[Played], line: u32, cell: u32) -> Option<Played>
     requires few { length records.now < 2 ^ 32 }
     requires rising { RiseByLine records.now }
@@ -86,7 +86,7 @@ fn swap_of(records: &[Played], line: u32, cell: u32) -> Option<Played>
     }
 }
 
-// Whether the exchange found what is given, has no line that is known, and its record stands before none so far.
+// Whether the exchange found what is given, has none of the known lines, and its record comes before none so far.
 fn fits_now(
     known: &ByKey<u32>,
     last: &ByKey<u32>,
@@ -103,7 +103,7 @@ fn fits_now(
         && phase <= told.phase
 }
 
-// The record of the exchange, where it fits.
+// The record of the exchange, if it fits.
 fn record_of(
     records: &[Played],
     known: &ByKey<u32>,
@@ -168,7 +168,7 @@ fn cell_meets(
 }
 
 /// The first exchange, cell by cell, that found what the one before didn't give, has no line of its cell's, or one that an
-/// exchange above it has, or stands behind one whose record comes later; none where none does.
+/// exchange above it has, or comes after one whose record comes later; none if none does.
 pub fn exchanges_meet(
     alloc: Global,
     salt: Salt,

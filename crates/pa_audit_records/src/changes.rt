@@ -11,7 +11,7 @@ use pa_record::{Answer, Held, History};
 use pa_rules::{Played, Register};
 use pa_trace::Op;
 
-// What the exchange of this index with the cell found, and nothing where there is none.
+// What the exchange of this index with the cell found, and nothing if there is none.
 fn found_by(cells: &[History], cell: u32, entry: u32) -> Held
     ensures { result ≡ found_in (slice_get (history_at cells.now cell) entry) }
 {

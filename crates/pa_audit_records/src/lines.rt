@@ -8,7 +8,7 @@ use pa_record::Entry;
 use pa_trace::Line;
 
 /// The index of the first record that isn't the one due by its line and thread: of one too many, of one that is missing
-/// or of another one. None where the records are those of the trace's op lines.
+/// or of another one. None if the records are those of the trace's op lines.
 pub fn lines_meet(lines: &[Line], records: &[Entry]) -> Option<u32>
     requires lines { length lines.now < 2 ^ 32 - 2 }
     ensures { TellsFirst (λ i. LinesDemand lines.now records.now (places.Record i)) result }
@@ -31,7 +31,7 @@ pub fn lines_meet(lines: &[Line], records: &[Entry]) -> Option<u32>
     }
 }
 
-// Whether a record of this index is there, with this line and thread.
+// Whether the record of this index exists, with this line and thread.
 fn is_due(records: &[Entry], at: u32, line: u32, thread: u32) -> bool
     ensures { IsTrue result ↔ (slice_get (map key_of_entry records.now) at ≡ Some (line, thread)) }
 {

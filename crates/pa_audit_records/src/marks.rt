@@ -10,7 +10,7 @@ use pa_record::{Answer, Seen};
 use pa_rules::Played;
 use pa_trace::Op;
 
-// What a record tells of a slot: the word that it found there, and the step that it made.
+// What a record reports of a slot: the word that it found there, and the step that it made.
 #[derive(Clone, Copy)]
 pub(crate) struct Marked {
     pub slot: SlotName,
@@ -18,7 +18,7 @@ pub(crate) struct Marked {
     pub step: Option<Step>,
 }
 
-// The number of the slot at the word at which a record made a step, where it made one.
+// The number of the slot at the word at which a record made a step, if it made one.
 pub(crate) fn step_key(told: Played) -> Option<u128>
     ensures key { IfSome result (IsStepOf told) }
     ensures none { IfNone result ((q : ℕ) → IsStepOf told q → ⊥) }
@@ -29,7 +29,7 @@ pub(crate) fn step_key(told: Played) -> Option<u128>
     Some(key_word(mark.slot, mark.found))
 }
 
-// The step that an op makes where it is done.
+// The step that an op makes if it is done.
 fn step_by(op: Op) -> Option<Step>
     ensures { result ≡ step_of op }
 {
@@ -65,7 +65,7 @@ fn look(seen: Option<Seen>) -> Option<Marked>
     }
 }
 
-// What a record tells of a slot, where it tells of one.
+// What a record reports of a slot, if it reports one.
 pub(crate) fn told_mark(told: Played) -> Option<Marked>
     ensures mark { mark_of told ≡ option_map (mark_with told.line) result }
     ensures sized { IfSome result (λ m. IsSized m.slot m.found.0) }

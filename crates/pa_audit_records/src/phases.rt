@@ -44,7 +44,7 @@ fn record_phases(alloc: Global, records: &[Played]) -> Result<Vec<u32>, OutOfMem
     Ok(phases)
 }
 
-/// For each phase from 1 on, so many of them, how many records are of it or of earlier ones.
+/// For each of the phases 1 to `phases`, how many records are of it or of earlier ones.
 pub fn record_ends(
     alloc: Global,
     records: &[Played],

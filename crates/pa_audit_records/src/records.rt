@@ -11,7 +11,7 @@ use pa_rules::Played;
 use pa_trace::Line;
 use std::alloc::Global;
 
-/// The records beside the ops of the trace's lines, place by place; where one list is longer, the rest of it stays out.
+/// The records paired with the ops of the trace's lines; if one list is longer, the rest of it is left out.
 pub fn records_of(
     alloc: Global,
     lines: &[Line],
@@ -56,14 +56,14 @@ fn gather(alloc: Global, lines: &[Line], records: &[Entry]) -> Result<Vec<Played
     Ok(all)
 }
 
-// Whether the record at this place is on the line.
+// Whether the record at this index is on the line.
 fn is_on(records: &[Played], at: usize, line: u32) -> bool
     ensures { IsTrue result ↔ IsOnLine records.now line at }
 {
     at < records.len() && records[at].line == line
 }
 
-/// The place of the record on a line, where there is one. Where no phase ends before the line it is at once found, since
+/// The index of the record on a line, if there is one. If no phase ends before the line it is found at once, since
 /// line 2 is then the first record's.
 pub fn record_on(records: &[Played], line: u32) -> Option<u32>
     requires few { length records.now < 2 ^ 32 }
@@ -74,7 +74,7 @@ pub fn record_on(records: &[Played], line: u32) -> Option<u32>
     record_near(records, line, line.saturating_sub(2))
 }
 
-/// The same, where it is looked for in this place first.
+/// The same, but it is looked for at this index first.
 pub fn record_near(records: &[Played], line: u32, place: u32) -> Option<u32>
     requires few { length records.now < 2 ^ 32 }
     requires rising { RiseByLine records.now }
@@ -92,7 +92,7 @@ pub fn record_near(records: &[Played], line: u32, place: u32) -> Option<u32>
     }
 }
 
-/// The law that the records of a trace within its limits are of 16 threads at most and name registers below 64.
+/// The law that the records of a trace within its limits are of at most 16 threads and name registers below 64.
 pub fn records_are_within()
     ensures { RecordsAreWithin }
 {}

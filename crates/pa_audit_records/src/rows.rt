@@ -21,7 +21,7 @@ fn is_done(slot: SlotName, answer: Answer) -> bool
     }
 }
 
-// Whether a request of so many bytes may have this answer.
+// Whether a request of that many bytes may have this answer.
 fn may_request(size: u32, answer: Answer) -> bool
     ensures { IsTrue result ↔ AnswersRequest (usable_of size) size answer }
 {
@@ -35,7 +35,7 @@ fn may_request(size: u32, answer: Answer) -> bool
     }
 }
 
-// Whether an allocation may, by what its register holds.
+// Whether an allocation may have it, by what its register holds.
 pub(crate) fn may_alloc(holds: Register<SlotName>, size: u32, answer: Answer) -> bool
     ensures { IsTrue result ↔ AnswersAlloc holds (usable_of size) size answer }
 {
@@ -46,7 +46,7 @@ pub(crate) fn may_alloc(holds: Register<SlotName>, size: u32, answer: Answer) ->
     }
 }
 
-// Whether a copy of a handle to the slot may, by what the second register holds.
+// Whether a copy of a handle to the slot may have it, by what the second register holds.
 fn may_copy_to(into: Register<SlotName>, slot: SlotName, answer: Answer) -> bool
     ensures { IsTrue result ↔ AnswersCopyTo into slot answer }
 {
@@ -57,7 +57,7 @@ fn may_copy_to(into: Register<SlotName>, slot: SlotName, answer: Answer) -> bool
     }
 }
 
-// Whether a copy may, by what both registers hold.
+// Whether a copy may have it, by what both registers hold.
 pub(crate) fn may_copy(holds: Register<SlotName>, into: Register<SlotName>, answer: Answer) -> bool
     ensures { IsTrue result ↔ AnswersCopy holds into answer }
 {
@@ -67,7 +67,7 @@ pub(crate) fn may_copy(holds: Register<SlotName>, into: Register<SlotName>, answ
     }
 }
 
-// Whether a reset may.
+// Whether a reset may have it.
 pub(crate) fn may_reset(holds: Register<SlotName>, answer: Answer) -> bool
     ensures { IsTrue result ↔ AnswersReset holds answer }
 {
@@ -77,7 +77,7 @@ pub(crate) fn may_reset(holds: Register<SlotName>, answer: Answer) -> bool
     }
 }
 
-// Whether a free may.
+// Whether a free may have it.
 pub(crate) fn may_free(holds: Register<SlotName>, answer: Answer) -> bool
     ensures { IsTrue result ↔ AnswersFree holds answer }
 {
@@ -88,7 +88,7 @@ pub(crate) fn may_free(holds: Register<SlotName>, answer: Answer) -> bool
     }
 }
 
-// Whether a free through a `raw_ptr` to the slot may.
+// Whether a free through a `raw_ptr` to the slot may have it.
 fn may_free_through(slot: SlotName, answer: Answer) -> bool
     ensures { IsTrue result ↔ IsLookedAt looked_free slot answer }
 {
@@ -101,7 +101,7 @@ fn may_free_through(slot: SlotName, answer: Answer) -> bool
     }
 }
 
-// Whether a write may.
+// Whether a write may have it.
 pub(crate) fn may_write(holds: Register<SlotName>, answer: Answer) -> bool
     ensures { IsTrue result ↔ AnswersWrite holds answer }
 {
@@ -112,7 +112,7 @@ pub(crate) fn may_write(holds: Register<SlotName>, answer: Answer) -> bool
     }
 }
 
-// Whether a write by the owner of the slot may.
+// Whether a write by the owner of the slot may have it.
 fn may_write_own(slot: SlotName, answer: Answer) -> bool
     ensures { IsTrue result ↔ AnswersOwnWrite slot answer }
 {
@@ -123,7 +123,7 @@ fn may_write_own(slot: SlotName, answer: Answer) -> bool
     }
 }
 
-// Whether a write through a `raw_ptr` to the slot may.
+// Whether a write through a `raw_ptr` to the slot may have it.
 fn may_write_through(slot: SlotName, answer: Answer) -> bool
     ensures { IsTrue result ↔ IsLookedAt looked_write slot answer }
 {
@@ -136,7 +136,7 @@ fn may_write_through(slot: SlotName, answer: Answer) -> bool
     }
 }
 
-// Whether a read of this word of the slot may, of which so many bytes are usable.
+// Whether a read of this word of the slot may have it, if that many bytes of the slot are usable.
 pub(crate) fn may_read_from(slot: SlotName, usable: u32, place: u32, answer: Answer) -> bool
     ensures { IsTrue result ↔ AnswersReadFrom slot usable place answer }
 {
@@ -174,7 +174,7 @@ pub(crate) fn register(held: Held) -> Register<SlotName>
     }
 }
 
-/// The exchange of this index with the cell, where there is one. Both count from 0.
+/// The exchange of this index with the cell, if there is one. Both count from 0.
 pub fn exchange(cells: &[History], cell: u32, entry: u32) -> Option<CellEntry>
     ensures { result ≡ slice_get (history_at cells.now cell) entry }
 {
@@ -184,7 +184,7 @@ pub fn exchange(cells: &[History], cell: u32, entry: u32) -> Option<CellEntry>
     }
 }
 
-// Whether an exchange with the cell may, by what the register holds.
+// Whether an exchange with the cell may have it, by what the register holds.
 pub(crate) fn may_swap(
     cells: &[History],
     cell: u32,

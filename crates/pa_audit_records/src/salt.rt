@@ -6,7 +6,7 @@ use pa_rules::Played;
 use std::hash::{DefaultHasher, Hasher};
 
 /// What tables hash their keys together with. It is made of all slots and words of a run, from which the tables' keys come:
-/// whoever changes a key has another salt. Any salt gives the same answers, so nothing is said of which it is.
+/// whoever changes a key gets another salt. Any salt gives the same answers, so nothing is said of which salt it is.
 #[derive(Clone, Copy)]
 pub struct Salt {
     mask: u128,
@@ -38,7 +38,7 @@ impl Salt {
     }
 }
 
-// Stirs in the slot of which a record tells, and its word.
+// Stirs in the slot that a record reports, and its word.
 fn stir_record(state: &mut DefaultHasher, told: Played) {
     if let Some(mark) = told_mark(told) {
         stir(state, mark.slot, mark.found.0);

@@ -19,7 +19,7 @@ use pa_rules::Played;
 use std::alloc::Global;
 
 /// The index of the first record that found a word which isn't one of its slot's run, or made a step which isn't the one
-/// that the run used there; none where no record did.
+/// that the run used there; none if no record did.
 pub fn slots_meet(alloc: Global, salt: Salt, records: &[Played]) -> Result<Option<u32>, OutOfMemory>
     requires few { length records.now < 2 ^ 32 }
     requires rising { RiseByLine records.now }
@@ -40,7 +40,7 @@ pub fn slots_meet(alloc: Global, salt: Salt, records: &[Played]) -> Result<Optio
     Ok(None)
 }
 
-// The words of the runs of all slots of which the records tell.
+// The words of the runs of all slots that the records report.
 fn runs(
     alloc: Global,
     salt: Salt,

@@ -66,7 +66,7 @@ fn next_word(firsts: &ByKey<u32>, records: &[Played], slot: SlotName, word: Word
     }
 }
 
-// Enters the words of the slot's run, of which none is entered yet.
+// Enters the words of the slot's run, none of which is entered yet.
 pub(crate) fn reach(
     firsts: &ByKey<u32>,
     records: &[Played],

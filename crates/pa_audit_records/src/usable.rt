@@ -17,7 +17,7 @@ use std::alloc::Global;
 // Bytes of a count word.
 const COUNT_WORD: u32 = 8;
 
-// How many bytes of the slot of a request for so many are usable.
+// How many bytes of the slot of a request for `size` bytes are usable.
 pub(crate) fn usable_for(size: u32) -> u32
     requires { size ≤ greatest_size }
     ensures { result ≡ usable_of size }

@@ -22,7 +22,7 @@ use pa_rules::{Played, Register};
 use pa_trace::Op;
 use std::alloc::Global;
 
-/// The index of the first record whose answer isn't the one that its thread's registers ask for; none where each is.
+/// The index of the first record whose answer isn't the one that its thread's registers require; none if each is.
 pub fn registers_meet(
     alloc: Global,
     salt: Salt,
@@ -60,7 +60,7 @@ fn reads(records: &[Played]) -> bool
     records.iter().any(|told| is_read(told.op))
 }
 
-// The usable numbers of the slots, where a record reads one: no other op looks at them.
+// The usable numbers of the slots, if a record reads one: no other op looks at them.
 fn usables_to_read(alloc: Global, salt: Salt, records: &[Played]) -> Result<ByKey<u32>, OutOfMemory>
     ensures { IfOk result (λ m. SuitsReads records.now (value_at m)) }
 {
@@ -88,7 +88,7 @@ fn may_read(usables: &ByKey<u32>, holds: Register<SlotName>, place: u32, answer:
     }
 }
 
-// Whether a record's answer is one that its thread's registers ask for.
+// Whether a record's answer is one that its thread's registers require.
 fn may_answer(registers: &Registers, usables: &ByKey<u32>, cells: &[History], told: &Played) -> bool
     requires within { IsPlayedWithin told.now }
     ensures { (ps : List Played) → (ReadsSlot told.now.op → AreUsables ps (value_at usables.now)) →

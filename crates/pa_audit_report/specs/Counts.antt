@@ -18,7 +18,7 @@ use Rattle.pa_audit_report.specs.declared.counts.Stepped.{Stepped}
 use Rattle.pa_audit_records.specs.Cuts.{HasEach}
 use Rattle.pa_audit_report.specs.Sized.{home_in, size_in}
 
--- by the test the tally is what the slots of partition p weigh on which these records made steps
+-- the tally is the total weight of the slots of partition p on which steps of these records pass the test
 pub record IsTotal (test : Step → ℕ → Bool) (at : ℕ → Option Home) (p : ℕ) (xs : List Played) (tally : Tally) : Type 0 where
   pub slots : tally.slots ≡ weight_of test (one_of (home_in at) p) (marks_of xs)
   pub bytes : tally.bytes ≡ weight_of test (bytes_of (home_in at) (size_in at) p) (marks_of xs)
@@ -70,7 +70,7 @@ pub record DoesNothing (op : Op) : Type 0 where
   pub enters_not : (w : ℕ) → at_step enters w (step_of op) ≡ false
   pub leaves_not : (w : ℕ) → at_step leaves w (step_of op) ≡ false
 
--- the slot is of partition p and has so many bytes; or it isn't of that partition
+-- the slot is of partition p and has that many bytes; or it isn't of that partition
 pub record IsBytesOf (at : ℕ → Option Home) (p : ℕ) (s : SlotName) (bytes : ℕ) : Type 0 where
   pub home : home_in at s ≡ p
   pub size : size_in at s ≡ bytes
@@ -78,12 +78,12 @@ pub record IsBytesOf (at : ℕ → Option Home) (p : ℕ) (s : SlotName) (bytes 
 abbrev pub IsOfOther : (ℕ → Option Home) → ℕ → SlotName → Type 0
 IsOfOther at p s = home_in at s ≢ p
 
--- a tally with a slot more, where it counts
+-- a tally with one more slot, if it counts
 abbrev pub tally_more : Tally → Bool → ℕ → Tally
 tally_more t true bytes = record { slots = t.slots + 1; bytes = t.bytes + bytes }
 tally_more t false bytes = t
 
--- there is room in each tally for a slot more
+-- there is room in each tally for one more slot
 abbrev pub HasRoomFor : Tally → Type 0
 HasRoomFor t = (t.slots < 65536) × (t.bytes < 281474976710656)
 
@@ -93,7 +93,7 @@ pub record HasRoom (count : Count) : Type 0 where
   pub entered : HasRoomFor count.entered
   pub left : HasRoomFor count.left
 
--- the count with the step on a slot of so many bytes
+-- the count with the step on a slot of that many bytes
 abbrev pub raised_by : Count → Stepped → ℕ → Count
 raised_by c z bytes = record {
   issued = tally_more c.issued z.issues bytes;
@@ -102,7 +102,7 @@ raised_by c z bytes = record {
   left = tally_more c.left z.leaves bytes;
 }
 
--- what went in less what went out
+-- what was added less what was removed
 abbrev pub less_of : Tally → Tally → Tally
 less_of into out = record { slots = into.slots - out.slots; bytes = into.bytes - out.bytes }
 

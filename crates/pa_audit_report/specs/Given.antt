@@ -24,13 +24,13 @@ use Rattle.pa_audit_holders.specs.Rows.{IsOfThreads}
 abbrev pub HoldBefore : Trace → Run → Type 0
 HoldBefore t r = (d : Clause) → turn d < turn clauses.Report → Holds d t r
 
--- these are the run's records beside the ops of the trace
+-- these are the run's records with the ops of the trace
 abbrev pub AreRecordsOf : Trace → Run → List Played → Type 0
 AreRecordsOf t r ps = ps ≡ records_of t (told_by r)
 
 -- What they say of the records, the pool's entries and the journals.
 --   rising, phased: lines and phases of the records rise
---   within: they are of 16 threads and four partitions at most
+--   within: they are of at most 16 threads and four partitions
 --   slots: each slot's steps are one run; ordered: in the order of the phases
 --   pool, journals, caches: three clauses of a legal run
 --   fit, entries: each entry of the pool fits the pool, and each of a journal its root

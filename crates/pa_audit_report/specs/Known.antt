@@ -21,7 +21,7 @@ pub record KnowsEnds (t : Trace) (ps : List Played) (k : Known) : Type 0 where
 abbrev pub KnowsCensuses : Trace → Run → List Played → Known → Type 0
 KnowsCensuses t r ps k = HaveAllCensuses t.partitions (phases_in t.lines) ps r.pool.items (journal_at r.roots.items) k.censuses.items
 
--- what the threads' lists have, and where slots belong
+-- what the threads' lists have, and which home each slot has
 pub record KnowsLists (t : Trace) (r : Run) (ps : List Played) (k : Known) : Type 0 where
   pub homes : KnowsHomes (journal_at r.roots.items) (value_at k.homes)
   pub cached : HaveCached t.partitions t.threads (journal_at r.roots.items) ps k.cached.items

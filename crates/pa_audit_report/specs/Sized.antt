@@ -4,7 +4,7 @@ use Rattle.pa_machine.specs.declared.word.SlotName.{SlotName}
 use Rattle.pa_audit_holders.specs.declared.homes.Home.{Home}
 use Rattle.pa_audit_holders.specs.Homes.{home_at}
 
--- by the table a slot is of this partition, or of none, which is partition 4; and has so many bytes
+-- by the table a slot is of this partition, or of none, which is partition 4; and has that many bytes
 abbrev pub partition_by : Option Home → ℕ
 partition_by None = 4
 partition_by (Some h) = h.partition

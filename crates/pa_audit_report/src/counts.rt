@@ -31,7 +31,7 @@ pub(crate) struct InUse {
     pub(crate) quarantined: Tally,
 }
 
-// The slots of a partition that are in use at the end of each phase. The records of the first phases end at these places.
+// The slots of a partition that are in use at the end of each phase. The records of the first phases end at these indices.
 pub(crate) fn in_use_of(
     alloc: Global,
     partition: u32,
@@ -56,7 +56,7 @@ pub(crate) fn in_use_of(
     Ok(uses)
 }
 
-// The count with the records of these places.
+// The count with the records at these indices.
 fn count_on(
     partition: u32,
     records: &[Played],
@@ -79,7 +79,7 @@ fn count_on(
     count
 }
 
-// The count with the record of this place.
+// The count with the record at this index.
 fn count_record(
     partition: u32,
     records: &[Played],
@@ -127,7 +127,7 @@ struct Stepped {
     leaves: bool,
 }
 
-// The step by which a record makes a count grow. None where it makes none of them grow.
+// The step by which a record makes a count grow. None if it makes none of them grow.
 fn step_by(told: Played) -> Option<Stepped>
     ensures some { IfSome result (IsStepOf told) }
     ensures none { IfNone result (MovesNothing told) }
@@ -175,7 +175,7 @@ fn is_last(found: Word) -> bool
     returns(Step::Reset, found)
 }
 
-// The count with a step on a slot of so many bytes.
+// The count with a step on a slot of that many bytes.
 fn raised(count: Count, stepped: Stepped, bytes: u32) -> Count
     requires { HasRoom count }
     ensures { result ≡ raised_by count stepped bytes }
@@ -188,7 +188,7 @@ fn raised(count: Count, stepped: Stepped, bytes: u32) -> Count
     }
 }
 
-// A tally with a slot more of so many bytes, where it counts.
+// A tally with one more slot of that many bytes, if it counts.
 fn more(tally: Tally, counts: bool, bytes: u32) -> Tally
     requires slots { tally.slots < 65536 }
     requires bytes { tally.bytes < 2 ^ 48 }
@@ -216,7 +216,7 @@ fn no_count() -> Count
     }
 }
 
-// What went in less what went out. No more goes out than in.
+// What was added less what was removed. No more is removed than was added.
 fn in_use(count: Count) -> InUse
     ensures live { result.live ≡ less_of count.issued count.freed }
     ensures quarantined { result.quarantined ≡ less_of count.entered count.left }

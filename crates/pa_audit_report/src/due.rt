@@ -118,7 +118,7 @@ fn column_of(
     Ok(Column { lines })
 }
 
-// The line of a partition at the end of a phase, by its place among those that stand in the lists.
+// The line of a partition at the end of a phase, by its index in the lists.
 fn line_at(
     uses: &[InUse],
     cached: &[[Tally; MOST_PARTITIONS as usize]],

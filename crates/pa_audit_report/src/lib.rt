@@ -1,4 +1,4 @@
-//! The checker for the clause of a legal run that speaks of the report: it works the whole report out, and tells the first
+//! The checker for the clause of a legal run that speaks of the report: it works the whole report out, and returns the first
 //! line that isn't the one that is due.
 #![tactic(auto)]
 

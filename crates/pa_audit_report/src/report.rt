@@ -17,8 +17,8 @@ use pa_rules::Played;
 use pa_trace::Trace;
 use std::alloc::Global;
 
-/// The place of the first line of the report that isn't the one that is due; the one behind the last line where one is
-/// missing. None where each is.
+/// The place of the first line of the report that isn't the one that is due; the one after the last line if one is
+/// missing. None if each is.
 pub fn report_meets(
     alloc: Global,
     trace: &Trace,
@@ -39,7 +39,7 @@ pub fn report_meets(
     Ok(first_other(run.report(), due.as_slice()))
 }
 
-/// The first place at which the lists of lines differ.
+/// The first index at which the lists of lines differ.
 pub fn first_other(lines: &[ReportLine], due: &[ReportLine]) -> Option<u32>
     requires { length lines.now < 2 ^ 32 - 1 }
     ensures first { TellsFirst (λ i. slice_get lines.now i ≡ slice_get due.now i) result }
@@ -59,7 +59,7 @@ pub fn first_other(lines: &[ReportLine], due: &[ReportLine]) -> Option<u32>
     }
 }
 
-// Whether the line stands at this place.
+// Whether this line is at this index.
 fn stands_at(due: &[ReportLine], at: u32, line: ReportLine) -> bool
     ensures { IsTrue result ↔ (slice_get due.now at ≡ Some line) }
 {

@@ -1,4 +1,4 @@
--- How many slots of a class a thread keeps, and how many it asks for at once.
+-- How many slots of a class a thread keeps, and how many it requests at once.
 use Rattle.std.specs.Prelude.{ℕ, Bool, ◌&&◌, List, [], ◌∷◌, nat_le, find}
 use Rattle.std.specs.Option.{option_map_or}
 

@@ -8,7 +8,7 @@ use crate::spans::SpanShape;
 use crate::table::{CLASSES, ROWS};
 use std::marker::Model;
 
-// The cache limit's share in which slots are asked for.
+// A thread requests its cache limit divided by this many slots at once.
 const BATCH_RATIO: u32 = 8;
 
 /// A size class, 0 to 58: a bucket of PartitionAlloc.md. It is seen as its number.
@@ -26,7 +26,7 @@ impl Model for Class {
 }
 
 impl Class {
-    /// The class of that number. `None` exactly where the number is above 58.
+    /// The class of that number. `None` exactly when the number is above 58.
     pub fn of(number: u32) -> Option<Class>
         ensures refused { IsNone result ↔ (class_count ≤ number) }
         ensures class { IfSome result (λ c. c ≡ number) }
@@ -47,7 +47,7 @@ impl Class {
     }
 }
 
-/// The class of a raw size in bytes: the least whose slot size is at least that. `None` exactly where the raw size
+/// The class of a raw size in bytes: the least whose slot size is at least that. `None` exactly when the raw size
 /// is above 917,504, which is for a direct map.
 pub fn class_of(raw: u32) -> Option<Class>
     ensures refused { IsNone result ↔ (greatest_slot < raw) }
@@ -93,7 +93,7 @@ pub fn cache_limit(class: Class) -> u32
     }
 }
 
-/// How many slots of the class a thread whose cache is empty asks of the root at once: an eighth of the limit, and
+/// How many slots of the class a thread whose cache is empty requests from the root at once: an eighth of the limit, and
 /// at least one.
 pub fn fill_count(class: Class) -> u32
     ensures count { result ≡ fill_of class }

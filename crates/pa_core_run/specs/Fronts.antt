@@ -20,7 +20,7 @@ use Rattle.pa_core_run.specs.Playing.{Plays}
 use Rattle.pa_core_run.specs.Ledger.{Titles, IsShown}
 use Rattle.pa_core_run.specs.Standing.{Standing, ledger_of}
 
--- the titles that the journals make at some time; those that stand in the roots before a line; and the slots that were made and
+-- the titles that the journals make at some time; those that are in the roots before a line; and the slots that were made and
 -- are in their root then
 abbrev pub MadeIn : Parts → Title → Type 0
 MadeIn a t = (p : ℕ) × IsMadeBy a.pools (a.roots p) t
@@ -34,7 +34,7 @@ KeptIn root t = (p : ℕ) × IsMade (root p) t × (IsNameOut (root p) (name_of t
 abbrev pub titles_in : Parts → (ℕ → Root) → Titles
 titles_in a root = record { Made = MadeIn a; There = ThereIn root; Kept = KeptIn root }
 
--- What stands before a line, after some records and before the rest: the registers and lists that the records lead to, and from
+-- The state before a line, after some records and before the rest: the registers and lists that the records lead to, and from
 -- which the rest goes on; what the last exchange of each cell gave; and the words and contents that the records left.
 pub record IsFrontOf (a : Parts) (n : ℕ) (before rest : List Played) (st : Standing) : Type 0 where
   pub registers : HasRegisters a before st.regs
@@ -45,13 +45,13 @@ pub record IsFrontOf (a : Parts) (n : ℕ) (before rest : List Played) (st : Sta
   pub words : (x : SlotName) → st.word x ≡ word_after before x
   pub contents : (x : SlotName) → held_of (st.word x) ≡ 1 → IsContent a.ps x (number_of (st.word x)) (st.content x)
 
--- the core shows what stands before the line
+-- the core shows the state before the line
 pub record ShowsFront (a : Parts) (n : ℕ) (before rest : List Played) (s : State) : Type 0 where
   pub st : Standing
   pub front : IsFrontOf a n before rest st
   pub shown : IsShown (titles_in a (root_at a n)) (a.threads + 1) (2097152 * a.supers) (ledger_of a.partitions st) s
 
--- The record after these can be played wherever the core shows what stands before it, and leads to what stands before the next line.
+-- The record after these can be played whenever the core shows the state before it, and leads to the state before the next line.
 abbrev pub CanBePlayed : Parts → List Played → Played → List Played → Type 0
 CanBePlayed a before x rest =
     (s : State) → ShowsFront a x.line before (x ∷ rest) s → (next : State) × Plays (MadeIn a) x s next × ShowsFront a (x.line + 1) (before ++ x ∷ []) rest next

@@ -16,7 +16,7 @@ use Rattle.pa_one_run.specs.Parts.{parts_of}
 use Rattle.pa_core_run.specs.Playing.{HasCoreRun}
 use Rattle.pa_core_run.specs.Fronts.{CanBePlayed}
 
--- where each record of a run in the order of its lines can be played, the run has a run of the core
+-- if each record of a sequential run can be played, the run has a run of the core
 abbrev pub PlayedRecordsMakeARun : Type 0
 PlayedRecordsMakeARun =
     (t : Trace) (r : Run) → IsWithinLimits t → IsFileRun t r →
@@ -24,7 +24,7 @@ PlayedRecordsMakeARun =
     CanBePlayed (parts_of t (told_by r)) before x rest) → HasCoreRun t r
 
 -- Each record on a line without an entry of a journal can be played, whatever its op and its answer: a request that is too large or
--- finds its register filled, an allocation from the thread's list, a copy, a reset or free, also where it returns the slot to a list,
+-- finds its register filled, an allocation from the thread's list, a copy, a reset or free, even if it returns the slot to a list,
 -- a write, a read, an exchange, and every look and refusal.
 abbrev pub QuietRecordsArePlayed : Type 0
 QuietRecordsArePlayed =
@@ -52,7 +52,7 @@ SpilledRecordsArePlayed =
     Contains (acts_of (told_by r).roots x.line p) (Give slots) → CanBePlayed (parts_of t (told_by r)) before x rest
 
 -- And so can each reset or free that gave back a direct map: its line has an Unmap. The step leaves the map's free title, which goes to
--- actor 0 and becomes raw bytes again.
+-- actor 0 and is uncut.
 abbrev pub UnmappedRecordsArePlayed : Type 0
 UnmappedRecordsArePlayed =
     (t : Trace) (r : Run) → IsWithinLimits t → IsFileRun t r → (before : List Played) (x : Played) (rest : List Played) →

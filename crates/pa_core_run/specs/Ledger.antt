@@ -18,20 +18,20 @@ pub record Ledger : Type 0 where
   pub word : SlotName → ℕ
   pub content : SlotName → ℕ
 
--- Which titles there are: those that are made at some time of the run, those that are there now, and those that actor 0 has
+-- Which titles there are: those that are made at some time of the run, those that exist now, and those that actor 0 has
 -- now as free, for the roots.
 pub record Titles : Type 1 where
   pub Made : Title → Type 0
   pub There : Title → Type 0
   pub Kept : Title → Type 0
 
--- The core has so many actors and bytes, and shows the ledger.
+-- The core has that many actors and bytes, and shows the ledger.
 --   own, ref: each actor holds at least what it is to hold, of each title that is made; free: each thread does
 --   kept: actor 0 has the free slots of the roots
 --   words, contents: the count word of each title that is held is its slot's word, and a clean Own's content is its content
 --   clean: between two records each Own is clean
 --   raw: no thread has raw bytes
---   there: each title that is held is there
+--   there: each title that is held exists
 pub record IsShown (names : Titles) (actors bytes : ℕ) (b : Ledger) (s : State) : Type 0 where
   pub good : IsGoodState s
   pub many : length s.holdings ≡ actors

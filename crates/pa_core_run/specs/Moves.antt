@@ -17,7 +17,7 @@ use Rattle.pa_core_run.specs.Ledger.{Ledger, Titles, IsShown}
 abbrev pub HaveNames : (Title → Type 0) → Type 0
 HaveNames Made = (t u : Title) → Made t → Made u → name_of t ≡ name_of u → t ≡ u
 
--- no title stands twice, and no two share a byte
+-- no title is listed twice, and no two share a byte
 abbrev pub StandOnce : List Title → Type 0
 StandOnce [] = Unit {0}
 StandOnce (t ∷ ts) = (Contains ts t → ⊥) × StandOnce ts
@@ -35,11 +35,11 @@ named_in x (t ∷ ts) = once x (name_of t) + named_in x ts
 abbrev pub asking : Ledger → (ℕ → SlotName → ℕ) → Ledger
 asking b free = record b { free = free }
 
--- titles by lists: those that are made at some time, those that are there, and those that actor 0 has for the roots
+-- titles by lists: those that are made at some time, those that exist, and those that actor 0 has for the roots
 abbrev pub listed_titles : List Title → List Title → List Title → Titles
 listed_titles made there kept = record { Made = Contains made; There = Contains there; Kept = Contains kept }
 
--- What is asked of a title that is cut: it is none of those that are there, and lies apart from them, well formed in the region.
+-- What is required of a title that is cut: it is none of those that exist, and lies apart from them, well formed in the region.
 pub record CanBeCut (names : Titles) (bytes : ℕ) (t : Title) : Type 0 where
   pub apart : (u : Title) → names.There u → TitlesApart t u
   pub start_aligned : t.start % 8 ≡ 0
@@ -62,7 +62,7 @@ TitlesCanBeCut =
     ((t : Title) → Contains ts t → CanBeCut (listed_titles made there kept) bytes t × (b.word (name_of t) ≡ 0)) → AllApart ts →
     (after : State) × IsReached (listed_titles made (there ++ ts) (kept ++ ts)) actors bytes b s k after
 
--- A free title that actor 0 has can become raw bytes again: it is there no more, and actor 0 has it for the roots no more.
+-- A free title that actor 0 has can be uncut: it exists no more, and actor 0 has it for the roots no more.
 abbrev pub TitlesCanBeUncut : Type 0
 TitlesCanBeUncut =
     (t : Title) (made there kept there_then kept_then : List Title) (actors bytes k : ℕ) (b : Ledger) (s : State) →

@@ -23,13 +23,13 @@ use Rattle.pa_rules.specs.Played.{mark_of}
 use Rattle.pa_rules.specs.Told.{Told, told_by, records_of}
 use Rattle.pa_rules.specs.Legal.{IsFileRun}
 
--- the place that an op read, and the value that its answer gives
+-- the word that an op read, and the value that its answer gives
 abbrev pub read_by : Op → Answer → Option (ℕ × ℕ)
 read_by (ops.Read reg place) (answers.Value seen value) = Some (place, value)
 read_by (ops.Read reg place) (answers.Dangling seen value) = Some (place, value)
 read_by op answer = None
 
--- the events that a record tells of: its step on the count word, or a look at it; and its read
+-- the events that a record reports: its step on the count word, or a look at it; and its read
 abbrev pub step_event : ℕ → Title → Option Step → Event
 step_event actor t None = Load actor (8 * count_place t)
 step_event actor t (Some step) = Count actor t step
@@ -50,7 +50,7 @@ abbrev pub HasRead : List ℕ → Title → Option (ℕ × ℕ) → Type 0
 HasRead words t None = Unit {0}
 HasRead words t (Some read) = (read.0 < content_count t) × (content_at words t read.0 ≡ read.1)
 
--- The title is the one that was made by this name, and the words have what was found. A record may tell of no slot.
+-- The title is the one that was made by this name, and the words have what was found. A record may report no slot.
 abbrev pub Finds : (Title → Type 0) → List ℕ → Title → Option Mark → Option (ℕ × ℕ) → Type 0
 Finds Made words t None read = Unit {0}
 Finds Made words t (Some mark) read = Made t × (name_of t ≡ mark.slot) × (count_word words t ≡ mark.found) × HasRead words t read
@@ -72,7 +72,7 @@ abbrev pub AreBeside : ℕ → List Event → Type 0
 AreBeside actor [] = Unit {0}
 AreBeside actor (e ∷ es) = IsBeside actor e × AreBeside actor es
 
--- A record is played by these events, from one state to another: first some that prepare, then those that it tells of, which
+-- A record is played by these events, from one state to another: first some that prepare, then those that it reports, which
 -- find what it says, and then some that clear up.
 pub record IsPlayedAs (Made : Title → Type 0) (x : Played) (s : State) (events : List Event) (next : State) : Type 0 where
   pub title : Title

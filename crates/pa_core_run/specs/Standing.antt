@@ -1,4 +1,4 @@
--- What stands before a line, and the ledger that the core is to show then.
+-- The state before a line, and the ledger that the core is to show then.
 use Rattle.std.specs.Prelude.{ℕ, zero, suc}
 use Rattle.pa_machine.specs.declared.word.SlotName.{SlotName}
 use Rattle.pa_buckets.specs.Limits.{class_count}

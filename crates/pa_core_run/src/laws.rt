@@ -8,43 +8,43 @@ pub fn file_runs_are_played()
     ensures { FileRunsArePlayed }
 {}
 
-/// The law that a run in the order of its lines has a run of the core, from its start, where each of its records can be
-/// played wherever the core shows what stands before it.
+/// The law that a run in the order of its lines has a run of the core, from its start, if each of its records can be
+/// played wherever the core shows what comes before it.
 pub fn played_records_make_a_run()
     ensures { PlayedRecordsMakeARun }
 {}
 
-/// The law that each record on a line without an entry of a journal can be so played.
+/// The law that each record on a line without an entry of a journal can be played in this way.
 pub fn quiet_records_are_played()
     ensures { QuietRecordsArePlayed }
 {}
 
-/// The law that each allocation which finds no room can be so played.
+/// The law that each allocation which finds no room can be played in this way.
 pub fn refused_records_are_played()
     ensures { RefusedRecordsArePlayed }
 {}
 
-/// The law that each allocation which made a slot can be so played: from the thread's list, after a fill, or as a direct map.
+/// The law that each allocation which made a slot can be played so: from the thread's list, after a fill, or as a direct map.
 pub fn made_records_are_played()
     ensures { MadeRecordsArePlayed }
 {}
 
-/// The law that each free or reset whose slot came to a list which spilled can be so played.
+/// The law that each free or reset whose slot came to a list which spilled can be played in this way.
 pub fn spilled_records_are_played()
     ensures { SpilledRecordsArePlayed }
 {}
 
-/// The law that each reset or free which gave back a direct map can be so played.
+/// The law that each reset or free which gave back a direct map can be played in this way.
 pub fn unmapped_records_are_played()
     ensures { UnmappedRecordsArePlayed }
 {}
 
-/// The law that each purge can be so played.
+/// The law that each purge can be played in this way.
 pub fn purged_records_are_played()
     ensures { PurgedRecordsArePlayed }
 {}
 
-/// The law that the core goes on showing the run while titles are cut out of raw bytes and made raw again, and while free slots go from
+/// The law that the core goes on showing the run while titles are cut out of raw bytes and uncut, and while free slots go from
 /// a thread to the roots and come from them.
 pub fn titles_come_and_go()
     ensures { TitlesComeAndGo }

@@ -16,12 +16,12 @@ use Rattle.pa_machine.specs.Trail.{IsGoodState, IsRunTo}
 abbrev pub EventsCanHappen : Type 0
 EventsCanHappen = (e : Event) (s : State) → IsGoodState s → IsEnabled e s → (after : State) × Happens e s after
 
--- Two runs, of which the second begins where the first ends, are one; and a run leaves a good core.
+-- Two runs, the second of which begins where the first ends, make one; and a run leaves a good core.
 pub record RunsJoin : Type 0 where
   pub joined : (s mid after : State) (es fs : List Event) → IsGoodState s → IsRunTo s es mid → IsRunTo mid fs after → IsRunTo s (es ++ fs) after
   pub good : (s after : State) (es : List Event) → IsGoodState s → IsRunTo s es after → IsGoodState after
 
--- A turn of an actor on a title, which leaves its count word so: a run, by which that actor lost and gained these pieces
+-- A turn of an actor on a title, which leaves this count word: a run, by which that actor lost and gained these pieces
 -- and no other actor anything, and which changed no word outside the title.
 pub record IsTurn (s : State) (actor : ℕ) (t : Title) (lost gained : List Piece) (word : ℕ) (events : List Event) (after : State) : Type 0 where
   pub run : IsRunTo s events after
@@ -29,12 +29,12 @@ pub record IsTurn (s : State) (actor : ℕ) (t : Title) (lost gained : List Piec
   pub word_left : count_word after.words t ≡ word
   pub others : (q : ℕ) → (Covers t (8 * q) → ⊥) → slice_index after.words q ≡ slice_index s.words q
 
--- an owner's next content words become poison, so many of them
+-- that many of the next content words of an owner become poison
 abbrev pub poisons : ℕ → ℕ → Title → List Event
 poisons zero actor t = []
 poisons (suc n) actor t = Poison actor t ∷ poisons n actor t
 
--- a value is stored to so many content words, from one on
+-- a value is stored to that many content words, from one on
 abbrev pub stores : ℕ → ℕ → ℕ → Title → ℕ → List Event
 stores zero i actor t value = []
 stores (suc n) i actor t value = Store actor (t.start + 8 * i) value ∷ stores n (i + 1) actor t value
@@ -46,7 +46,7 @@ pub record IsDone (s : State) (actor : ℕ) (t : Title) (step : Step) (lost gain
   pub prepares : IsTurn s actor t lost between (count_word s.words t) first mid
   pub steps : IsTurn mid actor t between gained (stepped step (count_word s.words t)) (Count actor t step ∷ []) after
 
--- what an owner, and what a raw_ptr, leaves by a step: the free title, where it was the last
+-- what an owner, and what a raw_ptr, gets by a step: the free title, if it was the last handle
 abbrev pub left_by : Step → State → Title → List Piece
 left_by step s t = returned_at (stepped step (count_word s.words t)) t
 

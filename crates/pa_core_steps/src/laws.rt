@@ -5,12 +5,12 @@ pub fn events_can_happen()
     ensures { EventsCanHappen }
 {}
 
-/// The law that two runs of which the second begins where the first ends are one run, and leave a good core.
+/// The law that two runs, the second of which begins where the first ends, make one run, and leave a good core.
 pub fn runs_join()
     ensures { RunsJoin }
 {}
 
-/// The law that an owner can free a slot of any length: its content words become poison, and then it lets go.
+/// The law that an owner can free a slot of any length: its content words become poison, and then it gives up its handle.
 pub fn frees_can_happen()
     ensures { FreesCanHappen }
 {}

@@ -34,7 +34,7 @@ impl DenseJournal {
         }
     }
 
-    /// Puts the entry behind the others. After want of memory the journal is as before.
+    /// Appends the entry. If memory runs out, the journal is as before.
     pub fn push(&mut self, entry: &LentEntry<'_>) -> Result<(), OutOfMemory>
         ensures pushed { OnOk result (self.new ≡ self.old ++ entry.now ∷ []) }
         ensures same { OnErr result (self.new ≡ self.old) }

@@ -6,7 +6,7 @@ use smallvec::SmallVec;
 use std::alloc::Global;
 use std::marker::Model;
 
-// The slots of an act, at most 16, in a list of their own. One slot takes no memory beside it. They are seen as the list of them.
+// The slots of an act, at most 16, in a list of their own. One slot needs no allocation. They are seen as the list of them.
 #[derive(Drop)]
 pub(crate) struct Kept {
     of: SmallVec<Numbered, 1>,

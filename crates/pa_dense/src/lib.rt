@@ -1,4 +1,4 @@
-//! A journal whose entries stand close together: a walk over it touches a fifth of the memory that `Journal` takes.
+//! A journal whose entries lie close together: a walk over it touches a fifth of the memory that `Journal` takes.
 #![tactic(auto)]
 
 mod entry;

@@ -7,7 +7,7 @@ use pa_record::{CellEntry, Entry, History, Journal, PoolEntry, ReportLine, Run};
 use std::alloc::Global;
 use std::marker::Model;
 
-/// What a run tells, as `Run`, with its journals kept densely. It is seen as that run.
+/// What a run contains, as `Run`, with its journals kept densely. It is seen as that run.
 #[derive(Drop)]
 pub struct DenseRun {
     entries: Vec<Entry>,

@@ -14,7 +14,7 @@ pub const GREATEST_IN_CLASS: u32 = 917_496;
 const COUNT_WORD: u32 = 8;
 
 /// The shape of the direct map for a request of that many bytes: the raw size rounded up to system pages, and the
-/// super pages that hold it with a partition page before it and another after it. `None` exactly where the request
+/// super pages that hold it with a partition page before it and another after it. `None` exactly when the request
 /// is above 33,521,656 bytes.
 pub fn shape(size: u32) -> Option<Shape>
     requires no_class { greatest_in_class < size }

@@ -1,4 +1,4 @@
--- What a line of a trace does to the roots and the caches: the run so far, and the deed of the line.
+-- What a line of a trace does to the roots and the caches: the run so far, and the effect of the line.
 use Rattle.std.specs.Prelude.{◌≡◌, ℕ, ◌<◌, ◌≤◌, List, [], ◌∷◌, ◌++◌, map, Some, Contains, AllPairs}
 use Rattle.std.specs.List.Sorted.{IsNonDecreasingBy}
 use Rattle.pa_machine.specs.declared.word.SlotName.{SlotName}
@@ -30,7 +30,7 @@ grown roots line acts p = roots p ++ entries_at line (acts p)
 abbrev pub root_at : List PoolEntry → Journals → ℕ → Root
 root_at pools roots p = root_replayed pools (roots p) new_root
 
--- The root after some acts. They fit where each fits the root after those before it, and names a later entry of the pool.
+-- The root after some acts. They fit if each fits the root after those before it, and names a later entry of the pool.
 abbrev pub root_after : List PoolEntry → List RootAct → Root → Root
 root_after pools [] r = r
 root_after pools (a ∷ acts) r = root_after pools acts (root_next pools a r)
@@ -41,7 +41,7 @@ ActsFit pools least (a ∷ acts) r =
     RootActFits pools a r × AsksFrom least (asked_by a) × ActsFit pools (least_after least (asked_by a)) acts (root_next pools a r)
 
 -- The run before line n.
---   rising, recorded, entered, sorted: records and entries stand in the order of their lines, which are below n
+--   rising, recorded, entered, sorted: records and entries are in the order of their lines, which are below n
 --   journals, lines, none_past, refusals: the journals are those of the records
 --   caches: the records lead to these lists
 --   numbers, unmaps: a root hands each slot out at the number at which it has it, and a direct map that goes back is named at
@@ -60,7 +60,7 @@ pub record IsPlacedTo (partitions n : ℕ) (ps : List Played) (pools : List Pool
   pub numbers : AreNumbered roots
   pub unmaps : (x : Played) → Contains ps x → UnmapsNext roots x
 
--- The deed of line n, whose record is x: the acts of its partitions, over a pool that got these entries more, and the lists of
+-- The effect of line n, whose record is x: the acts of its partitions, over a pool that got these entries more, and the lists of
 -- its thread before and after it.
 pub record IsDeed (partitions n : ℕ) (x : Played) (pools more : List PoolEntry) (roots : Journals) (acts : Acts) (cache next : Cache) :
     Type 0 where

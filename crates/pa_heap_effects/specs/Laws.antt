@@ -15,7 +15,7 @@ pub record StartsEmpty : Type 0 where
   pub placed : (partitions n : ℕ) → IsPlacedTo partitions n [] [] (λ p. []) (λ t p class. [])
   pub pooled : (supers n : ℕ) → IsPooledTo supers n [] (λ p. [])
 
--- the run with a line more, whose deed this is
+-- the run with one more line, whose effect this is
 abbrev pub LineExtends : Type 0
 LineExtends =
     (partitions n : ℕ) (ps : List Played) (x : Played) (pools more : List PoolEntry) (roots : Journals) (acts : Acts) (all : Caches)

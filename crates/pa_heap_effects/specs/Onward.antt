@@ -1,4 +1,4 @@
--- A run that goes on after a phase, and what stays of it for the report.
+-- A run that goes on after a phase, and what remains of it for the report.
 use Rattle.std.specs.Prelude.{◌≡◌, ℕ, ◌<◌, ◌≤◌, List, [], ◌∷◌, ◌++◌, Contains}
 use Rattle.pa_record.specs.declared.pool.PoolEntry.{PoolEntry}
 use Rattle.pa_record.specs.declared.report.Tally.{Tally}
@@ -35,7 +35,7 @@ CachesStay =
     IsPlacedTo partitions n ps pools roots all →
     GoesOn n ps later pools more roots grows → CachesTo partitions grows no_caches ps all
 
--- What stays of a phase that was the last of the run before line n: its records and its entries are those up to its end, and
+-- What remains of a phase that was the last of the run before line n: its records and its entries are those up to its end, and
 -- what its lists held and its roots had is what the report says.
 pub record IsPhaseEnd (partitions phase : ℕ) (ps later : List Played) (pools more : List PoolEntry) (roots grows : Journals)
     (all : Caches) : Type 0 where

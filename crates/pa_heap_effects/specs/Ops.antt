@@ -1,4 +1,4 @@
--- The deed of each op: what a call of the placement and a change of lists are for the run so far.
+-- The effect of each op: what a call of the placement and a change of lists are for the run so far.
 use Rattle.std.specs.Prelude.{◌≡◌, ℕ, zero, suc, ◌+◌, ◌<◌, ◌==◌, ◌≢◌, nat_lt, if◌then◌else◌, List, [], ◌∷◌, ◌++◌, map, length, Option, Some, None, All, AllPairs, Contains}
 use Rattle.pa_machine.specs.declared.title.Title.{Title}
 use Rattle.pa_machine.specs.declared.word.SlotName.{SlotName}
@@ -43,7 +43,7 @@ no_acts q = []
 abbrev pub only_in : ℕ → List RootAct → Acts
 only_in p acts q = if q == p then acts else []
 
--- the deed of a line with these acts in partition p, and what its root and the pool became
+-- the effect of a line with these acts in partition p, and what its root and the pool became
 pub record IsCalled (supers partitions n : ℕ) (x : Played) (pools more : List PoolEntry) (roots : Journals) (p : ℕ) (acts : List RootAct)
     (cache next : Cache) (after : Root) (plan : PoolState) : Type 0 where
   pub done : IsDone supers partitions n x pools more roots (only_in p acts) cache next
@@ -78,7 +78,7 @@ FrontLeaves =
 
 -- ---- fills and direct maps
 
--- the first of the super pages that a call got, by its slots; the entry of the pool that it made where it asked for `count`
+-- the first of the super pages that a call got, by its slots; the entry of the pool that it made if it asked for `count`
 abbrev pub found_by : List Title → Option ℕ
 found_by [] = None
 found_by (t ∷ ts) = Some (super_page_at t.start)
@@ -169,7 +169,7 @@ ReturnIsDone =
     (with_list (all x.thread) p class (kept class (returned_by seen ∷ all x.thread p class)))
     (all_returned (names (spilled class (returned_by seen ∷ all x.thread p class))) (root_at pools roots p)) (pool_at supers pools)
 
--- the super pages of a direct map that is mapped are one take of its partition that wasn't given
+-- the super pages of a direct map that is mapped are one take of its partition that wasn't given back
 abbrev pub MapsAreTaken : Type 0
 MapsAreTaken =
     (supers partitions n p : ℕ) (ps : List Played) (pools : List PoolEntry) (roots : Journals) (all : Caches) (t : Title) →
@@ -201,7 +201,7 @@ all_of lists class (suc n) = lists class ++ all_of lists (class + 1) n
 abbrev pub purge_in : ℕ → Cache → Acts
 purge_in partitions cache q = if nat_lt q partitions then purge_acts (cache q) 0 class_count else []
 
--- What a thread's lists have is out of its roots, each slot once.
+-- The slots of a thread's lists are out of its roots, each once.
 abbrev pub ListsAreOut : Type 0
 ListsAreOut =
     (supers partitions n p t : ℕ) (ls : List Line) (ps : List Played) (pools : List PoolEntry) (roots : Journals) (all : Caches) →

@@ -19,7 +19,7 @@ abbrev pub pool_at : ℕ → List PoolEntry → PoolState
 pool_at supers pools = pool_replayed pools (new_pool supers)
 
 -- The pool before line n.
---   entered, sorted: its entries stand in the order of their lines, which are below n
+--   entered, sorted: its entries are in the order of their lines, which are below n
 --   fits: each fits
 --   named, once: each is named by one entry of a journal, which is of its partition and line
 --   below: a journal names no other
@@ -50,7 +50,7 @@ Asks supers n pools [] acts = AsksNone acts
 Asks supers n pools (e ∷ []) acts = AsksOnce supers n pools e acts
 Asks supers n pools (e ∷ f ∷ more) acts = ⊥
 
--- the deed of a line, with its entries of the pool
+-- the effect of a line, with its entries of the pool
 pub record IsDone (supers partitions n : ℕ) (x : Played) (pools more : List PoolEntry) (roots : Journals) (acts : Acts)
     (cache next : Cache) : Type 0 where
   pub deed : IsDeed partitions n x pools more roots acts cache next

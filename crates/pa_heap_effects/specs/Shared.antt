@@ -1,4 +1,4 @@
--- What is there of the roots of all partitions at once: no two titles of it share a byte.
+-- What the roots of all partitions have at once: no two of these titles share a byte.
 use Rattle.std.specs.Prelude.{◌≡◌, ℕ, ◌⊎◌, List, Some, Contains, slice_get}
 use Rattle.pa_machine.specs.declared.title.Title.{Title}
 use Rattle.pa_record.specs.declared.pool.PoolEntry.{PoolEntry}
@@ -19,7 +19,7 @@ pub record SharePool (supers : ℕ) (pools : List PoolEntry) (roots : Journals) 
   pub named : (j : ℕ) (e : PoolEntry) → slice_get pools j ≡ Some e → (i : ℕ) × Names roots e.partition i j
   pub once : (j p q i k : ℕ) (e : PoolEntry) → slice_get pools j ≡ Some e → Names roots p i j → Names roots q k j → (p ≡ q) × (i ≡ k)
 
--- the title is there: a slot that was made, whether or not it is out, or a direct map that is mapped
+-- the title exists: a slot that was made, whether or not it is out, or a direct map that is mapped
 abbrev pub IsThere : Root → Title → Type 0
 IsThere r t = IsMade r t ⊎ Contains r.maps t
 
@@ -27,7 +27,7 @@ IsThere r t = IsMade r t ⊎ Contains r.maps t
 abbrev pub AreOneOrApart : ℕ → ℕ → Title → Title → Type 0
 AreOneOrApart p q t u = ((p ≡ q) × (t ≡ u)) ⊎ TitlesApart t u
 
--- Two titles that are there at once, of whichever partitions, are one or share no byte, and so are two that are out. The
+-- Two titles that exist at once, of whichever partitions, are one or share no byte, and so are two that are out. The
 -- journals of a run share its pool, and so do those of a run so far.
 pub record TitlesShareNoByte : Type 0 where
   pub there : (supers p q : ℕ) (pools : List PoolEntry) (roots : Journals) (t u : Title) → SharePool supers pools roots →

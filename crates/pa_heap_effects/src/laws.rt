@@ -8,7 +8,7 @@ pub fn starts_empty()
     ensures { StartsEmpty }
 {}
 
-/// The law that a run with a deed more is the run before the next line.
+/// The law that a run with one more line's effect is the run before the next line.
 pub fn line_extends()
     ensures { LineExtends }
 {}
@@ -43,27 +43,27 @@ pub fn front_leaves()
     ensures { FrontLeaves }
 {}
 
-/// The law that what a fill did is the deed of an allocation that found its list empty.
+/// The law that what a fill did is the effect of an allocation that found its list empty.
 pub fn fill_is_done()
     ensures { FillIsDone }
 {}
 
-/// The law that what a fill did that got no slot is the deed of an allocation without room.
+/// The law that a fill that got no slot is the effect of an allocation without room.
 pub fn full_is_done()
     ensures { FullIsDone }
 {}
 
-/// The law that what a direct map did is the deed of an allocation that asks for one.
+/// The law that what a direct map did is the effect of an allocation that asks for one.
 pub fn map_is_done()
     ensures { MapIsDone }
 {}
 
-/// The law that what a direct map did that got no room is the deed of an allocation without room.
+/// The law that a direct map that got no room is the effect of an allocation without room.
 pub fn full_map_is_done()
     ensures { FullMapIsDone }
 {}
 
-/// The law that what a thread's lists have is out of its roots, each slot once.
+/// The law that the slots of a thread's lists are out of the roots, each slot once.
 pub fn lists_are_out()
     ensures { ListsAreOut }
 {}
@@ -73,12 +73,12 @@ pub fn parts_are_out()
     ensures { PartsAreOut }
 {}
 
-/// The law of the deed of a step that returns a slot of a class, whether or not its list spills.
+/// The law of the effect of a step that returns a slot of a class, whether or not its list spills.
 pub fn return_is_done()
     ensures { ReturnIsDone }
 {}
 
-/// The law of the deed of a purge.
+/// The law of the effect of a purge.
 pub fn purge_is_done()
     ensures { PurgeIsDone }
 {}
@@ -93,22 +93,22 @@ pub fn caches_stay()
     ensures { CachesStay }
 {}
 
-/// The law of what stays of a phase: its records, its entries, what its roots had and what its lists held.
+/// The law of what remains of a phase: its records, its entries, what its roots had and what its lists held.
 pub fn phase_ends()
     ensures { PhaseEnds }
 {}
 
-/// The law that two titles which are there at once, of whichever partitions, are one or share no byte.
+/// The law that two titles which exist at once, in whichever partitions, are one or share no byte.
 pub fn titles_share_no_byte()
     ensures { TitlesShareNoByte }
 {}
 
-/// The law that the super pages of a direct map which is mapped are one take of its partition that wasn't given.
+/// The law that the super pages of a direct map which is mapped are one take of its partition that wasn't given back.
 pub fn maps_are_taken()
     ensures { MapsAreTaken }
 {}
 
-/// The law of the deed of a step that returns a direct map.
+/// The law of the effect of a step that returns a direct map.
 pub fn unmap_is_done()
     ensures { UnmapIsDone }
 {}

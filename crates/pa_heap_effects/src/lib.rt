@@ -1,4 +1,4 @@
-//! What a line more of a trace does to the pool, the roots and the caches: an op owes one deed, and all else is one law.
+//! What one more line of a trace does to the pool, the roots and the caches: each op has one effect, and all else is one law.
 //! Laws alone; nothing here runs.
 #![tactic(auto)]
 

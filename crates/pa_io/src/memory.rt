@@ -8,7 +8,7 @@ use pa_machine::OutOfMemory;
 use std::alloc::Global;
 use std::marker::Model;
 
-// How many calls were made, which ones are to fail, by their numbers from 0, and how many did. The counts stand still
+// How many calls were made, which ones are to fail, by their numbers from 0, and how many did. The counts stop
 // at their greatest value.
 #[derive(Drop)]
 struct Calls {
@@ -31,7 +31,7 @@ impl Calls {
         })
     }
 
-    // Counts one more call, and tells whether it is one of those that are to fail.
+    // Counts one more call, and returns whether it is one of those that are to fail.
     fn next_fails(&mut self) -> bool
         ensures fails { IsTrue result ↔ Contains self.old.fails.items self.old.made }
         ensures made { self.new ≡ record self.old { made = one_more self.old.made } }
@@ -50,7 +50,7 @@ impl Calls {
     }
 }
 
-/// A source in memory, which gives short pieces and fails where it is told to.
+/// A source in memory, which gives short pieces and fails on the calls that are chosen for it.
 #[derive(Drop)]
 pub struct MemSource {
     bytes: Vec<u8>,
@@ -74,7 +74,7 @@ impl Model for MemSource {
 }
 
 impl MemSource {
-    /// A source of these bytes, of which no call gives more than `piece`. The calls whose numbers, from 0, stand in
+    /// A source of these bytes, of which no call gives more than `piece`. The calls whose numbers, from 0, are in
     /// `fails` fail, and no others.
     pub fn new(
         alloc: Global,
@@ -142,7 +142,7 @@ impl Source for MemSource {
     }
 }
 
-/// A sink in memory, which takes short pieces, has a greatest number of bytes, and fails where it is told to.
+/// A sink in memory, which takes short pieces, has a greatest number of bytes, and fails on the calls that are chosen for it.
 #[derive(Drop)]
 pub struct MemSink {
     bytes: Vec<u8>,
@@ -169,7 +169,7 @@ impl Model for MemSink {
 
 impl MemSink {
     /// A sink with nothing written, which takes at most `room` bytes in all and at most `piece` bytes a call. The
-    /// calls whose numbers, from 0, stand in `fails` fail, and so does each call that finds `room` bytes written; no
+    /// calls whose numbers, from 0, are in `fails` fail, and so does each call that finds `room` bytes written; no
     /// other does. Memory for `room` bytes is taken at once.
     pub fn new(
         alloc: Global,

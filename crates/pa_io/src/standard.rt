@@ -5,13 +5,13 @@ ghost use Rattle.pa_io.specs.Moves.{Moves, Takes, HasRisen, HasWrittenPart, one_
 use crate::traits::{Failed, Sink, Source};
 use std::io::{Read, Write};
 
-/// A source over a reader of std, as standard input. It is the trusted edge: it tells what is left where the reader
-/// does, and of standard input that is nothing.
+/// A source over a reader of std, such as standard input. It is the trusted edge: what is left is known if the reader
+/// makes it known, which standard input doesn't.
 #[derive(Drop)]
 pub struct StdSource<I> {
     /// What is read from.
     pub reader: I,
-    /// How many reads failed, 0 to 2^64 - 1. It stands still there.
+    /// How many reads failed, 0 to 2^64 - 1. It stops there.
     pub faults: u64,
 }
 
@@ -54,12 +54,12 @@ impl<I: Read> Source for StdSource<I> {
     }
 }
 
-/// A sink over a writer of std, as standard output. It is the trusted edge: it tells nothing of what was written.
+/// A sink over a writer of std, such as standard output. It is the trusted edge: it says nothing of what was written.
 #[derive(Drop)]
 pub struct StdSink<O> {
     /// What is written to.
     pub writer: O,
-    /// How many writes failed, 0 to 2^64 - 1. It stands still there.
+    /// How many writes failed, 0 to 2^64 - 1. It stops there.
     pub faults: u64,
 }
 
@@ -92,7 +92,7 @@ impl<O: Write> Sink for StdSink<O> {
         // A failed write is counted.
         ensures err { OnErr result (self.new.faults ≡ one_more self.old.faults) }
 
-        // What the writer holds, where it is known, grew by the bytes that were taken, or at a fault by a first part.
+        // What the writer holds, if it is known, grew by the bytes that were taken, or at a fault by a first part.
         ensures passed { IfOk result (λ n.
             Appends (O.contents self.old.writer) (O.contents self.new.writer) (take n from.now)) }
         ensures part { OnErr result (HasWrittenPart
@@ -108,7 +108,7 @@ impl<O: Write> Sink for StdSink<O> {
     }
 }
 
-// Hands the bytes to the writer once, and flushes what it took. None where either fails, and where it took nothing.
+// Hands the bytes to the writer once, and flushes what it took. None if either fails or it took nothing.
 fn pass_on<O: Write>(writer: &mut O, from: &[u8]) -> Option<usize>
     ensures some_taken { IfSome result (λ n. 1 ≤ n) }
     ensures within { IfSome result (λ n. n ≤ length from.now) }

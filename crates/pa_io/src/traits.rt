@@ -22,11 +22,11 @@ pub trait Source {
     // How many faults there were so far. It never falls.
     ghost faults: { Self → ℕ };
 
-    // The bytes not yet read, where that is told.
+    // The bytes not yet read, if they are known.
     ghost left: { Self → Option (List ℕ) };
 
-    /// Moves the next bytes into the front of `into`, at most its length, and answers how many: 0 at the end of the
-    /// input alone. What stands behind them in `into` is left open, as is all of it after a failure.
+    /// Copies the next bytes to the start of `into`, at most its length, and returns how many: 0 only at the end of the
+    /// input. What follows them in `into` is unspecified, as is all of it after a failure.
     fn read(&mut self, into: &mut [u8]) -> Result<usize, Failed>
         requires { 0 < length into.old }
         ensures moves { IfOk result (λ n. Moves (left self.old) (left self.new) n into.new) }
@@ -41,10 +41,10 @@ pub trait Sink {
     // How many faults there were so far. It never falls.
     ghost faults: { Self → ℕ };
 
-    // The bytes taken so far, where that is told.
+    // The bytes taken so far, if they are known.
     ghost written: { Self → Option (List ℕ) };
 
-    /// Takes the first bytes of `from`, one at least, and answers how many.
+    /// Takes the first bytes of `from`, at least one, and returns how many.
     fn write(&mut self, from: &[u8]) -> Result<usize, Failed>
         requires { 0 < length from.now }
         ensures takes { IfOk result (λ n. Takes (written self.old) (written self.new) n from.now) }

@@ -14,7 +14,7 @@ pub record IsTheInterval (x : ℕ) (i : Interval) : Type 0 where
 abbrev pub EachByteHasOneKind : Type 0
 EachByteHasOneKind = (x : ℕ) → x < 2097152 → (i : Interval) × IsTheInterval x i
 
--- the byte k of a partition page is payload where the page is neither the first nor the last
+-- the byte k of a partition page is payload if the page is neither the first nor the last
 abbrev pub PayloadIsWholePages : Type 0
 PayloadIsWholePages =
     (super page k : ℕ) → page < 128 → k < 16384 →
@@ -26,7 +26,7 @@ pub record IsInPage (x super page : ℕ) : Type 0 where
   pub from : page_place super page ≤ x
   pub to : x < page_place super page + 16384
 
--- each byte lies in the page that its number tells, and in no other
+-- each byte lies in the page that `page_of` returns, and in no other
 abbrev pub PagesLieApart : Type 0
 PagesLieApart =
     (x super page : ℕ) → IsInPage x super page ↔ ((super ≡ super_page_at x) × (page ≡ page_at x))

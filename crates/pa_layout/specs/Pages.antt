@@ -17,7 +17,7 @@ page_place super page = 2097152 * super + 16384 * page
 abbrev pub record_place : ℕ → ℕ → ℕ
 record_place super page = 2097152 * super + 4096 + 32 * page
 
--- the super pages that a direct map takes for a slot of so many bytes: with a partition page before it and at least as much
--- behind it
+-- the super pages that a direct map takes for a slot of that many bytes: with a partition page before it and at least as much
+-- after it
 abbrev pub supers_for : ℕ → ℕ
 supers_for slot = (slot + 32768 + 2097151) / 2097152

@@ -3,7 +3,7 @@ use Rattle.std.specs.Prelude.{◌≡◌, ℕ, ◌≤◌, List, [], ◌∷◌, Co
 use Rattle.pa_layout.specs.declared.bytes.Kind.{Kind}
 use Rattle.pa_layout.specs.declared.bytes.Kind.TheVariants.{Guard, Metadata, Payload}
 
--- The bytes `from` to `to` of a super page, both of them too, and what they are for.
+-- The bytes `from` to `to` of a super page, both included, and what they are for.
 pub record Interval : Type 0 where
   pub from : ℕ
   pub to : ℕ

@@ -14,7 +14,7 @@ pub enum Kind {
     Payload,
 }
 
-/// What the byte at this offset of the region is for, where its super page is a bucket's.
+/// What the byte at this offset of the region is for, if its super page is a bucket's.
 pub fn kind_of(offset: u32) -> Kind
     ensures { IsOfKind (offset % 2097152) result }
 {

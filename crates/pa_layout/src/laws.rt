@@ -10,7 +10,7 @@ pub fn payload_is_whole_pages()
     ensures { PayloadIsWholePages }
 {}
 
-/// The law that each byte of a super page lies in exactly one partition page, the one that `page_of` tells.
+/// The law that each byte of a super page lies in exactly one partition page, the one that `page_of` returns.
 pub fn pages_lie_apart()
     ensures { PagesLieApart }
 {}

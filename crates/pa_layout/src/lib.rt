@@ -1,4 +1,4 @@
-//! The places in a super page: which of its bytes are guards, metadata and payload, and where its partition pages
+//! The layout of a super page: which of its bytes are guards, metadata and payload, and where its partition pages
 //! and their records lie.
 //!
 //! A super page, its guards and the metadata page inside the first partition page are PartitionAlloc's, as is a

@@ -50,8 +50,8 @@ pub fn meta_start(super_page: u32, page: u32) -> u32
     SUPER_PAGE * super_page + SYSTEM_PAGE + RECORD * page
 }
 
-/// The super pages that a direct map takes for a slot of so many bytes: the slot, a partition page before it and another
-/// behind it.
+/// The super pages that a direct map takes for a slot of that many bytes: the slot, a partition page before it and another
+/// after it.
 pub fn supers_for(slot: u32) -> u32
     ensures supers { result ≡ supers_for slot }
     ensures bound { result ≤ 2049 }

@@ -40,7 +40,7 @@ abbrev pub FindsInUse : Played → Type 0
 FindsInUse x = (m : Mark) → mark_of x ≡ Some m → m.step ≡ None → 0 < held_of m.found + refs_of m.found
 
 -- What is known of a run's slots, each clause by itself.
---   rising: the records stand in the order of their lines
+--   rising: the records are in the order of their lines
 --   slots, pool, journals, caches: four clauses of a legal run
 --   numbers: a root hands a slot out at the number at which it has it
 --   unmaps: a direct map that goes back is named at the number that the step left
@@ -78,7 +78,7 @@ pub record IsKnown (t : Trace) (r : Told) (ps : List Played) : Type 0 where
   pub unmaps : (x : Played) → Contains ps x → UnmapsNext r.roots x
   pub used : (x : Played) → Contains ps x → FindsInUse x
 
--- then what the run tells is legal
+-- then what the run contains is legal
 abbrev pub LegalFollows : Type 0
 LegalFollows = (t : Trace) (r : Told) → IsKnown t r (records_of t r) → IsLegalTold t r
 
@@ -89,7 +89,7 @@ NewMaps =
     AreRoots partitions ps pools roots → IsPoolOf supers ps pools roots → AllPairs (λ (x y : Played). x.line ≢ y.line) ps →
     Slots (marks_of ps) → AreCaches partitions roots ps → Contains ps x → IsNewMap roots x
 
--- Nothing is asked in vain: of each legal run whose looks find words in use all this is known.
+-- All of this can be met: it is known of each legal run whose looks find words in use.
 abbrev pub LegalIsKnown : Type 0
 LegalIsKnown =
     (t : Trace) (r : Told) → IsLegalTold t r → ((x : Played) → Contains (records_of t r) x → FindsInUse x) →

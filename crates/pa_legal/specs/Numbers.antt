@@ -27,7 +27,7 @@ is_of s m = same_slot m.slot s
 abbrev pub moves_of : List RootEntry → SlotName → List Move
 moves_of journal s = filter (is_of s) (all_moves journal)
 
--- Where the root has the slot at a number, or has it out: it hands the slot out at the number at which it has it, and takes
+-- If the root has the slot at the number, or has it out: it hands the slot out at the number at which it has it, and takes
 -- it back while it is out.
 abbrev pub HasAt : Option ℕ → Way → ℕ → Type 0
 HasAt at Out n = at ≡ Some n
@@ -64,7 +64,7 @@ OutNone =
     IsJournal pools journal → IsNumbered (Some 0) (moves_of journal s) →
     IsNameOut (root_replayed pools journal new_root) s → at_end (Some 0) (moves_of journal s) ≡ None
 
--- what stands on a thread's list is out of the root, free and nowhere else
+-- a slot on a thread's list is out of the root, free and nowhere else
 pub record IsCachedOut (pools : List PoolEntry) (roots : Journals) (threads p : ℕ) (all : Caches) (s : SlotName) (w : ℕ) : Type 0 where
   pub out : IsNameOut (root_replayed pools (roots p) new_root) s
   pub free : busy w ≡ 0
@@ -79,7 +79,7 @@ CachedOut =
     CachesTo partitions roots no_caches ps all → p < partitions → t < threads → class < class_count → Contains (all t p class) m →
     HasWord ps m.slot w → IsCachedOut pools roots threads p all m.slot w
 
--- A root's numbers go on where its journal grows: the slot's moves are those before and those after, which begin where the
+-- A root's numbers go on as its journal grows: the slot's moves are those before and those after, which begin where the
 -- ones before left it.
 pub record NumbersGrow : Type 0 where
   pub fits : (at : Option ℕ) (ms ns : List Move) → IsNumbered at ms → IsNumbered (at_end at ms) ns → IsNumbered at (ms ++ ns)

@@ -43,32 +43,32 @@ leaves Reset w = (held_of w == 0) && (refs_of w == 1)
 leaves Free w = false
 leaves Write w = false
 
--- what the slots of those marks weigh together whose steps pass
+-- the total weight of the slots of those marks whose step passes the test
 abbrev pub weight_of : (Step → ℕ → Bool) → (SlotName → ℕ) → List Mark → ℕ
 weight_of test weight ms = sum_by (λ (m : Mark). if at_step test m.found m.step then weight m.slot else 0) ms
 
--- the partition and the length of each slot that was stepped on or looked at are these
+-- each slot that was stepped on or looked at has this partition and this length
 abbrev pub AreHomes : Journals → (SlotName → ℕ) → (SlotName → ℕ) → List Mark → Type 0
 AreHomes roots home size ms = (m : Mark) → Contains ms m → HasSize roots (home m.slot) m.slot (size m.slot)
 
--- a slot of partition p weighs 1, or its bytes; another nothing
+-- a slot of partition p weighs 1, or its bytes; any other weighs 0
 abbrev pub one_of : (SlotName → ℕ) → ℕ → SlotName → ℕ
 one_of home p s = if home s == p then 1 else 0
 
 abbrev pub bytes_of : (SlotName → ℕ) → (SlotName → ℕ) → ℕ → SlotName → ℕ
 bytes_of home size p s = if home s == p then size s else 0
 
--- the tally is what went in and didn't go out, in slots and in bytes
+-- the tally is what was added and not removed, in slots and in bytes
 pub record IsLeft (into out : Step → ℕ → Bool) (home size : SlotName → ℕ) (p : ℕ) (ms : List Mark) (tally : Tally) : Type 0 where
   pub slots : tally.slots + weight_of out (one_of home p) ms ≡ weight_of into (one_of home p) ms
   pub bytes : tally.bytes + weight_of out (bytes_of home size p) ms ≡ weight_of into (bytes_of home size p) ms
 
--- no more went out than in, in slots and in bytes
+-- no more was removed than added, in slots and in bytes
 pub record WentIn (into out : Step → ℕ → Bool) (home size : SlotName → ℕ) (p : ℕ) (ms : List Mark) : Type 0 where
   pub slots : weight_of out (one_of home p) ms ≤ weight_of into (one_of home p) ms
   pub bytes : weight_of out (bytes_of home size p) ms ≤ weight_of into (bytes_of home size p) ms
 
--- What is given: a run's journals and pool, and some records with a line each and one run for each slot.
+-- What is given: a run's journals and pool, and some records each with a line of its own, and with one run for each slot.
 pub record IsTallied (supers partitions : ℕ) (ps xs : List Played) (pools : List PoolEntry) (roots : Journals) : Type 0 where
   pub journals : AreRoots partitions ps pools roots
   pub pool : IsPoolOf supers ps pools roots

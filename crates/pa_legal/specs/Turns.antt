@@ -24,7 +24,7 @@ abbrev pub makes : Way → ℕ → Holder
 makes Out t = WithThread t
 makes Back t = InRoot
 
--- the slot goes out and back in turn, where `away` says whether a thread has it before them
+-- the slot goes out and back in turn, and `away` says whether a thread has it before them
 abbrev pub Alternate : Bool → List Turn → Type 0
 Alternate away [] = Unit {0}
 Alternate away (u ∷ us) = (away ≡ not (is_out u.way)) × Alternate (is_out u.way) us
@@ -56,7 +56,7 @@ NoneLoses h us =
     (before after : List Turn) (u : Turn) → us ≡ before ++ u ∷ after → u.way ≡ Back →
     backs_of u.thread before < has u.thread h + takes_of u.thread before
 
--- Where the slot goes out and back in turn and no thread gives back more than it got, each turn finds the holder that it
+-- If the slot goes out and back in turn and no thread gives back more than it got, each turn finds the holder that it
 -- needs, and a thread that got the slot more often than it gave it back has it after them.
 abbrev pub HoldersBalance : Type 0
 HoldersBalance =

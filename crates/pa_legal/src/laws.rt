@@ -4,7 +4,7 @@ ghost use Rattle.pa_legal.specs.Numbers.{CachedOut, NumbersGrow, OutNone, Unname
 ghost use Rattle.pa_legal.specs.Tallies.{TalliesFollow};
 ghost use Rattle.pa_legal.specs.Turns.{HoldersBalance};
 
-/// The law that each turn of a slot finds the holder that it needs, where the slot goes out of the root and back in turn and
+/// The law that each turn of a slot finds the holder that it needs, if the slot goes out of the root and back in turn and
 /// no thread gives it back more often than it got it.
 pub fn holders_balance()
     ensures { HoldersBalance }
@@ -26,8 +26,8 @@ pub fn holders_follow()
     ensures { HoldersFollow }
 {}
 
-/// The law that a run is legal of which each clause is known but the titles and the holders, and the numbers at which a root
-/// has each slot.
+/// The law that a run is legal if each of its clauses is known but the titles and the holders, and so are the numbers at which
+/// a root has each slot.
 pub fn legal_follows()
     ensures { LegalFollows }
 {}
@@ -42,7 +42,7 @@ pub fn cached_out()
     ensures { CachedOut }
 {}
 
-/// The law that the slots and bytes which went in by some steps and didn't go out by others are those of the live slots of
+/// The law that the slots and bytes that some steps added and others didn't remove are those of the live slots of
 /// a partition, or of the quarantined ones.
 pub fn tallies_follow()
     ensures { TalliesFollow }
@@ -53,12 +53,12 @@ pub fn new_maps()
     ensures { NewMaps }
 {}
 
-/// The law that what is asked of a run's numbers holds of each legal run whose looks find words in use.
+/// The law that what is required of a run's numbers holds of each legal run whose looks find words in use.
 pub fn legal_is_known()
     ensures { LegalIsKnown }
 {}
 
-/// The law that a root's numbers go on where its journal grows.
+/// The law that a root's numbers go on as its journal grows.
 pub fn numbers_grow()
     ensures { NumbersGrow }
 {}

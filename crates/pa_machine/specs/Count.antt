@@ -17,7 +17,7 @@ refs_of w = w % 16777216 / 2
 abbrev pub held_of : ℕ → ℕ
 held_of w = w % 2
 
--- where a step may be made, by the count c and the bit h that it finds
+-- when a step may be made, by the count c and the bit h that it finds
 abbrev pub Enabled : Step → ℕ → ℕ → Type 0
 Enabled Issue c h = (h ≡ 0) × (c ≡ 0)
 Enabled Copy c h = 0 < h + c

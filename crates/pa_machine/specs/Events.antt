@@ -43,7 +43,7 @@ HoldsRaw s actor start len = (b : ℕ) → start ≤ b → b < start + len → H
 abbrev pub HoldsOpen : State → ℕ → Title → OwnState → Type 0
 HoldsOpen s actor t state = ((state ≡ Clean) ⊎ (state ≡ Dirty)) × Holds s actor (OwnAs t state)
 
--- what a step on the count word asks of the actor that makes it
+-- what a step on the count word requires of the actor that makes it
 abbrev pub CanCount : Step → State → ℕ → Title → Type 0
 CanCount Issue s actor t = Holds s actor (FreeTitle t) × HasContentFrom s.words t 0 0
 CanCount Copy s actor t = Holds s actor (OwnAs t Clean) ⊎ Holds s actor (RefOf t)
@@ -109,7 +109,7 @@ pub record IsAfter (s : State) (actor : ℕ) (lost gained : List Piece) (words_a
   pub words : after.words ≡ words_after
   pub holdings : Exchanges s.holdings (of_actor actor lost) (of_actor actor gained) after.holdings
 
--- what an actor gains by a step that leaves the word w: the free title, where bit and count are 0 after it
+-- what an actor gains by a step that leaves the word w: the free title, if bit and count are 0 after it
 abbrev pub returned_at : ℕ → Title → List Piece
 returned_at w t = if (held_of w == 0) && (refs_of w == 0) then FreePiece t ∷ [] else []
 

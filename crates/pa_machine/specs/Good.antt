@@ -14,7 +14,7 @@ IsByteGood total b =
     ((total (RawByte b) ≡ 1) × ((t : Title) → IsTitleHeld total t → Covers t b → ⊥))
     ⊎ ((total (RawByte b) ≡ 0) × ((t : Title) × IsTitleHeld total t × Covers t b))
 
--- Part 1, of so many words: each byte of the region is raw once or in one held title, and nothing lies outside. The
+-- Part 1, of the number of words: each byte of the region is raw once or in one held title, and nothing lies outside. The
 -- held titles are well formed, and two that share a byte are one.
 pub record IsDivided (words : ℕ) (total : Thing → ℕ) : Type 0 where
   pub bytes : (b : ℕ) → b < 8 * words → IsByteGood total b
@@ -23,15 +23,15 @@ pub record IsDivided (words : ℕ) (total : Thing → ℕ) : Type 0 where
   pub apart : (t u : Title) (b : ℕ) → IsTitleHeld total t → IsTitleHeld total u → Covers t b → Covers u b → t ≡ u
 
 -- Part 2, of one held title with the count word w: its bit and its count are the numbers of Own and Ref handles over
--- all actors. Exactly one actor holds it free where both are 0, and none does otherwise.
+-- all actors. Exactly one actor holds it free if both are 0, and none does otherwise.
 pub record IsCounted (w : ℕ) (total : Thing → ℕ) (t : Title) : Type 0 where
   pub owns : held_of w ≡ total (OwnOf t)
   pub refs : refs_of w ≡ total (RefOf t)
   pub free : IsFree w → total (FreeTitle t) ≡ 1
   pub taken : (IsFree w → ⊥) → total (FreeTitle t) ≡ 0
 
--- Part 3, of one held title: an Own that is poisoned in its first words has poison in them, and with no Own and a
--- Ref left every content word is poison
+-- Part 3, of one held title: an Own that is poisoned in its first words has poison in them, and if there is a
+-- Ref and no Own, every content word is poison
 pub record IsPoisonKept (words : List ℕ) (total : Thing → ℕ) (t : Title) : Type 0 where
   pub progress : (j : ℕ) → 0 < total (OwnAs t (Poisoned j)) → (j ≤ content_count t) × IsPoisonedTo words t j
   pub quarantine : IsQuarantined (count_word words t) → IsPoisonedTo words t (content_count t)

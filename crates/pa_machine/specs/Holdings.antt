@@ -12,7 +12,7 @@ pub data Piece : Type 0 where
   OwnPiece : Title → OwnState → Piece
   RefPiece : Title → Piece
 
--- what can be counted in a holding: how often a byte is raw in it, how often a title stands in it as a free title, as
+-- what can be counted in a holding: how often a byte is raw in it, how often a title is in it as a free title, as
 -- an Own, as an Own in this state, and as a Ref
 pub data Thing : Type 0 where
   RawByte : ℕ → Thing

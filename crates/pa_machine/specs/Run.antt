@@ -9,7 +9,7 @@ use Rattle.pa_machine.specs.Count.{CanStep, stepped, refs_of, held_of}
 abbrev pub same_slot : SlotName → SlotName → Bool
 same_slot s t = (s.start == t.start) && (s.born == t.born)
 
--- What a line tells of a slot: the word that it found there, and the step that it made. A look makes none.
+-- What a line reports of a slot: the word that it found there, and the step that it made. A look makes none.
 pub record Mark : Type 0 where
   pub line : ℕ
   pub slot : SlotName

@@ -14,7 +14,7 @@ IsPath ms s u (v ∷ vs) w = (m : Mark) × (p : Step) × IsFirstAt ms s u m p ×
 abbrev pub HasPath : List Mark → SlotName → ℕ → Type 0
 HasPath ms s w = (vs : List ℕ) × IsPath ms s 0 vs w × ((m : Mark) → Contains ms m → m.slot ≡ s → Contains (0 ∷ vs) m.found)
 
--- what is known of the marks so far, where each slot has this word
+-- what is known of the marks so far, if each slot has this word
 pub record HasRuns (ms : List Mark) (word : SlotName → ℕ) : Type 0 where
   pub counted : (m : Mark) → Contains ms m → IsSome m.step → number_of m.found < number_of (word m.slot)
   pub used : (m : Mark) (p : Step) → Contains ms m → m.step ≡ Some p → IsFirstAt ms m.slot m.found m p × CanStep p m.found

@@ -1,4 +1,4 @@
--- What the core's tables say: the state that they stand for, and what is always true of them.
+-- What the core's tables say: the state that they represent, and what is always true of them.
 use Rattle.std.specs.Prelude.{◌≡◌, ℕ, ◌+◌, ◌*◌, ◌/◌, ◌%◌, ◌<◌, ◌≤◌, List, [], ◌∷◌, ◌++◌, Bool, true, false, ◌==◌, ◌&&◌, ◌⊎◌, Contains, nat_le, nat_lt, Option, Some, None, length, map, slice_index, slice_set, replicate, if◌then◌else◌}
 use Rattle.std.specs.List.{slice_index_or, range_with_len, flat_map, swap_remove}
 use Rattle.std.specs.Prelude.{Box}
@@ -57,7 +57,7 @@ pieces_of holders slots actor = raw_pieces actor 0 holders ++ flat_map (place_pi
 abbrev pub holdings_of : List (Option ℕ) → List Place → ℕ → List (List Piece)
 holdings_of holders slots actors = map (pieces_of holders slots) (range_with_len 0 actors)
 
--- the state that the tables stand for
+-- the state that the tables represent
 abbrev pub state_of : Tables → State
 state_of c = record { words = c.words.items; holdings = holdings_of c.holders.items c.slots.items c.actors }
 
@@ -107,13 +107,13 @@ abbrev pub MayWrite : State → ℕ → ℕ → Type 0
 MayWrite s actor at =
     IsFreeWord s actor at ⊎ ((t : Title) × (state : OwnState) × IsOwnWord s actor at t state)
 
--- in a region of so many words, an entry stands at the first word of its title, which is well formed
+-- in a region of that many words, an entry is at the first word of its title, which is well formed
 abbrev pub IsPlaced : ℕ → ℕ → ℕ → Place → Type 0
 IsPlaced words actors i None = Unit {0}
 IsPlaced words actors i (Some b) =
     (b.value.title.start ≡ 8 * i) × IsWellFormed words b.value.title × IsHolderWithin actors b.value.free × IsOwnerWithin actors b.value.own
 
--- the entry that the table of homes names for the byte offset `at`, where its title covers the byte
+-- the entry that the table of homes names for the byte offset `at`, if its title covers the byte
 abbrev pub kept_over : ℕ → Place → Option Slot
 kept_over at None = None
 kept_over at (Some b) = if nat_le b.value.title.start at && nat_lt at (b.value.title.start + b.value.title.len) then Some b.value else None
@@ -121,7 +121,7 @@ kept_over at (Some b) = if nat_le b.value.title.start at && nat_lt at (b.value.t
 abbrev pub slot_over : List ℕ → List Place → ℕ → Option Slot
 slot_over homes slots at = kept_over at (slice_index_or slots (slice_index homes (at / 8)) None)
 
--- What is always true of the tables: their lengths, where an entry stands, where the words of a held title point, and
+-- What is always true of the tables: their lengths, at which index an entry is, where the words of a held title point, and
 -- that the state is good.
 pub record AreSound (c : Tables) : Type 0 where
   pub holders : length c.holders.items ≡ 8 * length c.words.items
@@ -153,17 +153,17 @@ IsSlotStepped Reset actor back old new =
 IsSlotStepped Free actor back old new = IsNextSlot old new (if back then Some actor else old.free) None old.refs.items
 IsSlotStepped Write actor back old new = IsNextSlot old new old.free (Some (record { actor = actor; state = Clean })) old.refs.items
 
--- in a table of titles, the entry at a place becomes another
+-- in a table of titles, the entry at an index is replaced by another
 abbrev pub IsChangedAt : (Slot → Slot → Type 0) → List Place → ℕ → List Place → Type 0
 IsChangedAt R before p after =
     (old : Box Slot Global) × (new : Box Slot Global) × (slice_index_or before p None ≡ Some old)
     × (after ≡ slice_set before p (Some new)) × R old.value new.value
 
--- there is an entry at the place, of which this holds
+-- there is an entry at the index, and this holds of it
 abbrev pub IsEntryAt : (Slot → Type 0) → List Place → ℕ → Type 0
 IsEntryAt P slots p = (b : Box Slot Global) × (slice_index_or slots p None ≡ Some b) × P b.value
 
--- the places from `start` to before `end` have this value, and the others are as before
+-- the entries from `start` to before `end` have this value, and the others are as before
 pub record IsFilled {A : Type 0} (d : A) (before : List A) (start end : ℕ) (value : A) (after : List A) : Type 0 where
   pub len : length after ≡ length before
   pub within : (i : ℕ) → start ≤ i → i < end → slice_index_or after i d ≡ value

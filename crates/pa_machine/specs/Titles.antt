@@ -8,7 +8,7 @@ use Rattle.pa_machine.specs.declared.title.OwnState.TheVariants.{Clean, Dirty, P
 abbrev pub Covers : Title → ℕ → Type 0
 Covers t b = (t.start ≤ b) × (b < t.start + t.len)
 
--- the title is well formed in a region of so many words
+-- the title is well formed in a region of that many words
 pub record IsWellFormed (words : ℕ) (t : Title) : Type 0 where
   pub start_aligned : t.start % 8 ≡ 0
   pub len_aligned : t.len % 8 ≡ 0

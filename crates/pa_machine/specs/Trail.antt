@@ -31,7 +31,7 @@ end_of s (after ∷ ss) = end_of after ss
 abbrev pub IsGoodState : State → Type 0
 IsGoodState s = IsGood s.words (total_of s)
 
--- The title was held as an Own or a Ref, and is free after the event, only where the event is a returning step on its
+-- The title was held as an Own or a Ref, and is free after the event, only if the event is a returning step on its
 -- count word; the actor that made the step has it then, and no other.
 pub record IsReturnedBy (e : Event) (s after : State) (t : Title) : Type 0 where
   pub actor : ℕ

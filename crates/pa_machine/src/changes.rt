@@ -13,7 +13,7 @@ use crate::word::{Step, Word, held, next, refs};
 
 // What the events change in the tables, one function for each.
 impl Tables {
-    // Makes an event that is enabled. After want of memory nothing changed.
+    // Makes an event that is enabled. If memory runs out, nothing changes.
     pub fn make(&mut self, event: &Event) -> Result<(), OutOfMemory>
         requires sound { AreSound self.old }
         requires enabled { IsEnabled event.now (state_of self.old) }
@@ -48,7 +48,7 @@ impl Tables {
         Ok(())
     }
 
-    // Stores the value. An Own in which it is stored becomes dirty.
+    // Stores the value. If the word is content of an Own, that Own becomes dirty.
     pub fn store(&mut self, actor: u32, at: u32, value: u64)
         requires sound { AreSound self.old }
         requires enabled { IsEnabled (Event.Store actor at value) (state_of self.old) }
@@ -64,7 +64,7 @@ impl Tables {
         self.words[word] = value;
     }
 
-    // Where the title starts whose Own the actor has and which has the byte.
+    // The start of the title that has the byte and whose Own the actor has.
     fn own_over(&self, actor: u32, at: u32) -> Option<usize>
         requires sound { AreSound self.now }
         ensures some { IfSome result
@@ -171,7 +171,7 @@ impl Tables {
         hand_ref_at(&mut self.slots, title.first_word(), from, to);
     }
 
-    // Cuts the title out of raw bytes of the actor, who has it free then.
+    // Cuts the title out of raw bytes of the actor, which then holds it free.
     pub fn cut(&mut self, actor: u32, title: Title) -> Result<(), OutOfMemory>
         requires sound { AreSound self.old }
         requires enabled { IsEnabled (Event.Cut actor title) (state_of self.old) }
@@ -197,7 +197,7 @@ impl Tables {
         Ok(())
     }
 
-    // Makes a free title of the actor raw again.
+    // Uncuts a free title of the actor: its bytes are raw.
     pub fn uncut(&mut self, actor: u32, title: Title)
         requires sound { AreSound self.old }
         requires enabled { IsEnabled (Event.Uncut actor title) (state_of self.old) }
@@ -214,10 +214,10 @@ impl Tables {
     }
 }
 
-/// The word that fills the content of a title before it is freed, and that a read of a freed slot gives: 8 times the byte ef.
+/// The word that fills the content of a title before it is freed, and that a read of a freed slot returns: 8 times the byte ef.
 pub const POISON: u64 = 0xefef_efef_efef_efef;
 
-// Whether neither bit nor count is left in the word.
+// Whether the word's bit and count are both 0.
 fn is_free(word: Word) -> bool
     ensures { result ≡ ((held_of word.0 == 0) && (refs_of word.0 == 0)) }
 {

@@ -32,14 +32,14 @@ impl Tables {
         requires { AreSound self.now }
         ensures { IsTrue result ↔ IsEnabled (Event.Count actor title step) (state_of self.now) }
     {
-        // what the two tests below ask is known behind this one
+        // what the two tests below require is known after this one
         if !self.has_actor(actor) {
             return false;
         }
         self.may_count(actor, title, step) && self.can_step(title, step)
     }
 
-    // What the step asks of the actor.
+    // What the step requires of the actor.
     fn may_count(&self, actor: u32, title: Title, step: Step) -> bool
         requires sound { AreSound self.now }
         requires actor { HasActor (state_of self.now) actor }
@@ -136,7 +136,7 @@ impl Tables {
         self.has_actor(actor) && self.may_poison(actor, title)
     }
 
-    // What that asks of an actor that there is.
+    // What that requires of an actor that exists.
     fn may_poison(&self, actor: u32, title: Title) -> bool
         requires sound { AreSound self.now }
         requires actor { HasActor (state_of self.now) actor }
@@ -177,7 +177,7 @@ impl Tables {
         }
     }
 
-    // Whether there are both actors and the first has the item.
+    // Whether both actors exist and the first has the item.
     fn can_hand(&self, from: u32, to: u32, item: Item) -> bool
         requires { AreSound self.now }
         ensures { IsTrue result ↔ IsEnabled (Event.Hand from to item) (state_of self.now) }
@@ -207,20 +207,20 @@ impl Tables {
         self.has_actor(actor) && self.may_cut(actor, title)
     }
 
-    // What that asks of an actor that there is: whole words, two at least, all raw for it, and a count word of 0.
+    // What that requires of an actor that exists: at least two whole words, all raw for it, and a count word of 0.
     fn may_cut(&self, actor: u32, title: Title) -> bool
         requires sound { AreSound self.now }
         requires actor { HasActor (state_of self.now) actor }
         ensures { IsTrue result ↔ MayCut (state_of self.now) actor title }
     {
-        // what the two tests below ask is known behind this one
+        // what the two tests below require is known after this one
         if !is_aligned(title) {
             return false;
         }
         self.holds_raw(actor, title.start, title.len) && self.count_word(title).0 == 0
     }
 
-    // Whether the actor has the title free, so that it may make it raw again.
+    // Whether the actor has the title free, so that it may uncut it.
     fn can_uncut(&self, actor: u32, title: Title) -> bool
         requires { AreSound self.now }
         ensures { IsTrue result ↔ IsEnabled (Event.Uncut actor title) (state_of self.now) }

@@ -29,7 +29,7 @@ impl Model for Core {
 }
 
 impl Core {
-    /// One event. `NotEnabled` comes exactly where the event's condition fails; after a refusal the core is as before.
+    /// One event. `NotEnabled` comes exactly when the event's condition fails; after a refusal the core is as before.
     pub fn step(&mut self, event: &Event) -> Result<(), StepFault>
         ensures happens { OnOk result (IsEnabled event.now self.old × Happens event.now self.old self.new) }
         ensures refused { result ≡ Err StepFault.NotEnabled → (IsEnabled event.now self.old → ⊥) }
@@ -72,7 +72,7 @@ impl Core {
     }
 }
 
-/// Plays the events in order. At a refusal the number is the event's index, and the events before it stand.
+/// Plays the events in order. At a refusal the number is the event's index, and the events before it stay made.
 pub fn core_run(core: &mut Core, events: &[Event]) -> Result<(), (u32, StepFault)>
     requires { length events.now < 2 ^ 32 }
     ensures done { OnOk result (IsRunTo core.old events.now core.new) }

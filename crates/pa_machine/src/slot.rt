@@ -8,7 +8,7 @@ use crate::title::{OwnState, Title};
 use crate::word::Step;
 use std::alloc::Global;
 
-/// Who has the Own handle of a title, and how it left the content.
+/// The actor that has the Own handle of a title, and how it left the content.
 #[derive(Clone, Copy, Debug, PartialEq, Eq)]
 pub struct Owner {
     pub actor: u32,
@@ -63,7 +63,7 @@ impl Slot {
         }
     }
 
-    // Whether the slot is free, and of the actor.
+    // Whether the slot is free and held by the actor.
     pub fn is_free_of(&self, actor: u32) -> bool
         ensures { IsTrue result ↔ (self.now.free ≡ Some actor) }
     {
@@ -112,7 +112,7 @@ impl Slot {
         }
     }
 
-    // The step of the actor on the count word; `back` says whether it gives the title back. Only a copy takes room.
+    // The step of the actor on the count word; `back` says whether it gives the title back. Only a copy needs memory.
     pub fn make_step(&mut self, actor: u32, step: Step, back: bool) -> Result<(), OutOfMemory>
         requires { step ≡ Step.Reset → Contains self.old.refs.items actor }
         ensures ok { OnOk result (IsSlotStepped step actor back self.old self.new) }
@@ -143,7 +143,7 @@ impl Slot {
         Ok(())
     }
 
-    // The slot is free of the actor, if the step left neither bit nor count.
+    // The actor holds the slot free, if the step left bit and count 0.
     fn give_back(&mut self, actor: u32, back: bool)
         ensures { IsNextSlot self.old self.new (if back then Some actor else self.old.free) self.old.own self.old.refs.items }
     {
@@ -152,7 +152,7 @@ impl Slot {
         }
     }
 
-    // One Ref of the actor goes.
+    // Removes one Ref of the actor.
     fn drop_ref(&mut self, actor: u32)
         requires { Contains self.old.refs.items actor }
         ensures { (k : ℕ) × (k < length self.old.refs.items) × (slice_index self.old.refs.items k ≡ actor)
@@ -162,7 +162,7 @@ impl Slot {
         self.refs.swap_remove(place);
     }
 
-    // Where the actor stands among the Refs.
+    // The actor's index among the Refs.
     fn ref_place(&self, actor: u32) -> usize
         requires { Contains self.now.refs.items actor }
         ensures below { result < length self.now.refs.items }
@@ -176,7 +176,7 @@ impl Slot {
         0
     }
 
-    // The owner's state is another one.
+    // Sets the owner and its state.
     pub fn restate(&mut self, actor: u32, state: OwnState)
         ensures { IsNextSlot self.old self.new self.old.free (Some (record { actor = actor; state = state })) self.old.refs.items }
     {

@@ -99,7 +99,7 @@ impl Tables {
         true
     }
 
-    // Whether the byte is raw, and of the actor.
+    // Whether the byte is raw and held by the actor.
     fn is_raw_of(&self, actor: u32, byte: usize) -> bool
         requires { byte < length self.now.holders.items }
         ensures { IsTrue result ↔ (slice_index_or self.now.holders.items byte None ≡ Some actor) }
@@ -174,7 +174,7 @@ impl Tables {
     }
 }
 
-// A table of so many places with no title.
+// A table of `count` entries without a title.
 fn no_slots(alloc: Global, count: usize) -> Result<Vec<Option<Box<Slot>>>, OutOfMemory>
     ensures { IfOk result (λ v. v.items ≡ replicate count None) }
 {

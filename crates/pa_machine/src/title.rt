@@ -44,8 +44,8 @@ impl Title {
     }
 }
 
-/// How an owner has left the content: as its last write left it, changed since, or poisoned in so many of its first
-/// words on the way to a free.
+/// How an owner has left the content: as its last write left it, changed since, or with that many of its first
+/// words poisoned, on the way to a free.
 #[derive(Clone, Copy, Debug, PartialEq, Eq)]
 pub enum OwnState {
     Clean,

@@ -59,7 +59,7 @@ pub fn returns(step: Step, found: Word) -> bool
     }
 }
 
-/// The word after a step. `None` exactly where the step isn't enabled at the word, or its number is the greatest,
+/// The word after a step. `None` exactly when the step isn't enabled at the word, or its number is the greatest,
 /// or a copy finds the greatest count.
 pub fn apply(w: Word, s: Step) -> Option<Word>
     ensures refused { IfNone result (¬ CanStep s w.0) }

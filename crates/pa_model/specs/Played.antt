@@ -1,4 +1,4 @@
--- What the lines of a trace tell, and its text.
+-- What the lines of a trace report, and its text.
 use Rattle.std.specs.Prelude.{ℕ, List}
 use Rattle.pa_trace.specs.declared.script.Trace.{Trace}
 use Rattle.pa_trace.specs.Limits.{IsInput}
@@ -8,7 +8,7 @@ use Rattle.pa_rules.specs.Legal.{IsFileRun}
 use Rattle.pa_core_run.specs.Playing.{HasCoreRun}
 use Rattle.pa_player.specs.Told.{Lists, IsToldRun}
 
--- a run that tells these lists is the trace's run in the order of its lines, has a run of the core, and can be written as a text
+-- a run that has these lists is the trace's run in the order of its lines, has a run of the core, and can be written as a text
 pub record IsAllTold (t : Trace) (told : Lists) : Type 0 where
   pub file : (r : Run) → IsToldRun told r → IsFileRun t r
   pub core : (r : Run) → IsToldRun told r → HasCoreRun t r

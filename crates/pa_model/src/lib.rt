@@ -1,4 +1,4 @@
-//! The player on one thread: it plays a trace line by line over the plain placement, and tells the whole run.
+//! The player on one thread: it plays a trace line by line over the plain placement, and returns the whole run.
 #![tactic(auto)]
 
 mod whole;

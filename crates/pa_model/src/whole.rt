@@ -13,12 +13,12 @@ use pa_record::Run;
 use pa_trace::{Head, LineReader, MOST_LINES, Trace, TraceFault};
 use std::alloc::Global;
 
-// Few bytes for a line: room for the records is taken ahead.
+// Few bytes for a line: memory for the records is reserved ahead.
 const LINE: usize = 8;
 
-/// Plays a trace within the limits on one thread, and answers the whole run: a record for each op line, the journals of the
+/// Plays a trace within the limits on one thread, and returns the whole run: a record for each op line, the journals of the
 /// roots, the entries of the pool, the histories of the cells, and the report by phase and partition. The trace's threads
-/// take their turns in the order of its lines. The run has a run of the core, in which each op is played as events. Want of
+/// take their turns in the order of its lines. The run has a run of the core, in which each op is played as events. Out of
 /// memory is the only error.
 pub fn play(alloc: Global, trace: &Trace) -> Result<Run, OutOfMemory>
     requires within { IsWithinLimits trace.now }
@@ -31,7 +31,7 @@ pub fn play(alloc: Global, trace: &Trace) -> Result<Run, OutOfMemory>
     told_of(alloc, trace, told)?.into_run(alloc)
 }
 
-/// Plays the trace whose text the bytes are in the same way, each line as soon as it is read, and answers the text of the run,
+/// Plays the trace whose text the bytes are in the same way, each line as soon as it is read, and returns the text of the run,
 /// which is printed as it is played. Bytes are refused with the fault with which `read_trace` refuses them.
 pub fn play_input(alloc: Global, bytes: &[u8]) -> Result<Vec<u8>, TraceFault>
     ensures text { IfOk result (λ text. IsInputPlayed bytes.now text.items) }
@@ -53,7 +53,7 @@ pub fn play_input(alloc: Global, bytes: &[u8]) -> Result<Vec<u8>, TraceFault>
     Ok(text)
 }
 
-// What the trace's lines tell, where nothing was told before.
+// What the trace's lines report, if nothing was reported before.
 fn told_of(
     alloc: Global,
     trace: &Trace,

@@ -1,4 +1,4 @@
--- What stands before a line of a run in the order of its lines: entries and exchanges, words, registers, what cells hold, roots.
+-- What comes before a line of a sequential run: entries and exchanges, words, registers, what cells hold, roots.
 use Rattle.std.specs.Prelude.{ℕ, List, [], ◌∷◌, filter, Some, ◌==◌, nat_lt, cond, Option, None}
 use Rattle.pa_machine.specs.declared.word.SlotName.{SlotName}
 use Rattle.pa_machine.specs.declared.word.Step.{Step}
@@ -13,7 +13,7 @@ use Rattle.pa_rules.specs.Registers.{AllRegs, Facts, RowsTo, no_regs, usable_in}
 use Rattle.pa_rules.specs.Sizes.{usable_of}
 use Rattle.pa_one_run.specs.Parts.{Parts, entry_line}
 
--- what stands before line n, on it, and past it
+-- what comes before line n, on it, and past it
 abbrev pub below : {A : Type 0} → (A → ℕ) → ℕ → List A → List A
 below f n xs = filter (λ x. nat_lt (f x) n) xs
 
@@ -23,7 +23,7 @@ on f n xs = filter (λ x. f x == n) xs
 abbrev pub past : {A : Type 0} → (A → ℕ) → ℕ → List A → List A
 past f n xs = filter (λ x. nat_lt n (f x)) xs
 
--- the word of slot s after some marks: that of a slot which was never stepped on is 0
+-- the word of slot s after some marks; it is 0 if the slot was never stepped on
 abbrev pub stepped_by : Option Step → ℕ → ℕ
 stepped_by None u = u
 stepped_by (Some p) u = stepped p u
@@ -36,11 +36,11 @@ word_from (m ∷ ms) s u = word_from ms s (cond (same_slot m.slot s) (stepped_by
 abbrev pub word_after : List Played → SlotName → ℕ
 word_after ps s = word_from (marks_of ps) s 0
 
--- what the rows of a run ask besides the registers
+-- what the rows of a run need besides the registers
 abbrev pub facts_of : Parts → Facts
 facts_of a = record { usable_of = usable_of; usable_at = usable_in a.ps; cells = a.cells }
 
--- the registers after the records before
+-- the registers after the records before the line
 abbrev pub HasRegisters : Parts → List Played → AllRegs → Type 0
 HasRegisters a before all = RowsTo (facts_of a) no_regs before all
 

@@ -18,7 +18,7 @@ pub record Parts : Type 0 where
   pub roots : Journals
   pub cells : ℕ → List CellEntry
 
--- the parts of what a run of the trace tells
+-- the parts of what a run of the trace contains
 abbrev pub parts_of : Trace → Told → Parts
 parts_of t r =
     record {

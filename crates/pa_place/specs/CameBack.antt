@@ -2,17 +2,17 @@
 use Rattle.std.specs.Prelude.{◌≡◌, ℕ, ◌+◌, ◌<◌, ◌≤◌, ◌==◌, if◌then◌else◌, List, [], ◌∷◌, length, slice_index_or}
 use Rattle.pa_buckets.specs.Table.{slots_of}
 
--- the numbers, the last that came back first; and below which number they lie, of which there is room for as many
+-- the numbers, the last that came back first; and the bound that they are below, which is also how many there is room for
 pub record CameBack : Type 0 where
   pub items : List ℕ
   pub room : ℕ
 
--- how often a number stands in the list
+-- how often a number is in the list
 abbrev pub times_in : ℕ → List ℕ → ℕ
 times_in n [] = 0
 times_in n (x ∷ xs) = (if x == n then 1 else 0) + times_in n xs
 
--- in the place of each number stands how often the list has it
+-- the entry of each number is how often the list has it
 abbrev pub AreTimes : List ℕ → List ℕ → Type 0
 AreTimes times xs = (n : ℕ) → n < length times → slice_index_or times n 0 ≡ times_in n xs
 

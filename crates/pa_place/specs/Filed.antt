@@ -21,7 +21,7 @@ pub record HasClasses (lists : Lists) : Type 0 where
   pub active : length lists.active.items ≡ class_count
   pub decommitted : length lists.decommitted.items ≡ class_count
 
--- there is room for so many spans of the class in its lists
+-- there is room for that many spans of the class in its lists
 pub record HasRoomToList (class n : ℕ) (lists : Lists) : Type 0 where
   pub active : HasListRoom class n lists.active.items
   pub decommitted : HasListRoom class n lists.decommitted.items

@@ -27,7 +27,7 @@ pub record AreListed (a : State) (ss : List Span) (lists : List (Vec ℕ Global)
   pub listing : (class : ℕ) (list : Vec ℕ Global) → slice_get lists class ≡ Some list → IsListing (is_of class a) ss list.items
   pub room : (class : ℕ) (list : Vec ℕ Global) → slice_get lists class ≡ Some list → count_by (is_class class) ss ≤ vec_capacity list
 
--- there is room for so many in the list of the class
+-- there is room for that many in the list of the class
 abbrev pub HasListRoom : ℕ → ℕ → List (Vec ℕ Global) → Type 0
 HasListRoom class n lists = (list : Vec ℕ Global) → slice_get lists class ≡ Some list → n ≤ vec_capacity list
 
@@ -54,7 +54,7 @@ pub record IsTurnCut (ss : List Span) (turn : ℕ) (ids : List ℕ) (count : ℕ
   pub before : (k i : ℕ) (s : Span) → k < count → slice_get ids k ≡ Some i → slice_get ss i ≡ Some s → s.turn < turn
   pub after : (k i : ℕ) (s : Span) → count ≤ k → slice_get ids k ≡ Some i → slice_get ss i ≡ Some s → turn ≤ s.turn
 
--- the list is in the order of turns, and has room for one more where one comes on it
+-- the list is in the order of turns, and has room for one more if one comes onto it
 pub record CanRefile (ss : List Span) (was is : Bool) (list : Vec ℕ Global) : Type 0 where
   pub order : IsInTurn ss list.items
   pub room : was ≡ false → is ≡ true → length list.items < vec_capacity list

@@ -7,7 +7,7 @@ use Rattle.pa_record.specs.Root.{Root, Found, Took, span_for, one_take}
 use Rattle.pa_record.specs.Sound.{IsMade}
 use Rattle.pa_place.specs.declared.placed.Made.{Made}
 
--- the slot of a batch with this number, from 0: as long as the first, and right behind the one before it
+-- the slot of a batch with this number, from 0: as long as the first, and right after the one before it
 abbrev pub title_in : Made → ℕ → Title
 title_in b k = record { start = b.first.start + b.first.len * k; len = b.first.len; born = b.first.born }
 

@@ -1,11 +1,11 @@
--- The order in which the spans of a root stand, by which one is searched.
+-- The order of the spans of a root, by which one is searched.
 use Rattle.std.specs.Prelude.{◌≡◌, ℕ, ◌+◌, ◌<◌, ◌≤◌, ◌⊎◌, ◌==◌, ◌&&◌, ◌||◌, nat_lt, Bool, true, false, List, Some, AllPairs, slice_get}
 use Rattle.pa_machine.specs.declared.word.SlotName.{SlotName}
 use Rattle.pa_record.specs.declared.taken.SuperPage.{SuperPage}
 use Rattle.pa_record.specs.Spans.{Span, bytes_of}
 use Rattle.pa_record.specs.Root.{Root}
 
--- s stands before t: its super page was taken before, or it ends before t in the same
+-- s comes before t: its super page was taken before, or it ends before t in the same
 abbrev pub IsBefore : Span → Span → Type 0
 IsBefore s t = (s.born < t.born) ⊎ ((s.born ≡ t.born) × (s.place + bytes_of s ≤ t.place))
 
@@ -13,12 +13,12 @@ IsBefore s t = (s.born < t.born) ⊎ ((s.born ≡ t.born) × (s.place + bytes_of
 abbrev pub IsOlder : SuperPage → SuperPage → Type 0
 IsOlder a b = a.born < b.born
 
--- the spans and the super pages stand in order
+-- the spans and the super pages are in order
 pub record IsOrdered (r : Root) : Type 0 where
   pub spans : AllPairs IsBefore r.spans
   pub supers : AllPairs IsOlder r.supers
 
--- the span starts behind the slot of that name, or its super page was taken later
+-- the span starts after the slot of that name, or its super page was taken later
 abbrev pub starts_after : SlotName → Span → Bool
 starts_after name s = nat_lt name.born s.born || ((name.born == s.born) && nat_lt name.start s.place)
 

@@ -18,7 +18,7 @@ abbrev pub filled_by : ℕ → ℕ → ℕ → Option ℕ → Root → Filled
 filled_by class want entry None r = record { root = r; titles = [] }
 filled_by class want entry (Some first) r = takes class want (opened first entry r)
 
--- A fill asks the pool exactly where no span of the class has a slot left and the current super page has no room for one.
+-- A fill asks the pool exactly when no span of the class has a slot left and the current super page has no room for one.
 abbrev pub Fills : ℕ → ℕ → PoolState → PoolState → Root → Filled → Option ℕ → Type 0
 Fills class want pool next r filled None = IsSome (span_for class r) × (next ≡ pool) × (filled ≡ takes class want r)
 Fills class want pool next r filled (Some entry) =
@@ -54,11 +54,11 @@ MapDid len pool next r after p = Maps len pool next r (with_slots after p) p.poo
 abbrev pub IsRefused : ℕ → PoolState → Option ℕ → Type 0
 IsRefused count pool asked = (asked ≡ Some pool.entries) × IsLowest pool count None
 
--- the call took no slot exactly where the pool was asked for `count` super pages and had none
+-- the call took no slot exactly when the pool was asked for `count` super pages and had none
 abbrev pub IsEmptyIfRefused : ℕ → PoolState → Placed → Type 0
 IsEmptyIfRefused count pool p = (p.titles.items ≡ []) ↔ IsRefused count pool p.pool
 
--- What each call leaves, for who makes many: the pool had n entries before it, and has m after it.
+-- What each call leaves, for a caller that makes many: the pool had n entries before it, and has m after it.
 pub record IsStep (n m : ℕ) (r after : Root) : Type 0 where
   pub turn : after.turn ≤ r.turn + 32
   pub rises : r.turn ≤ after.turn

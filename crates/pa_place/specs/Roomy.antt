@@ -3,12 +3,12 @@ use Rattle.std.specs.Prelude.{◌≡◌, ℕ, ◌≤◌, true, false}
 use Rattle.pa_record.specs.Root.{Root}
 use Rattle.pa_place.specs.declared.room.Room.{Room}
 
--- A root, and the room that there is: for so many takes of a class, for a super page that a pool gives, and for a direct map.
+-- A root, and the room that there is: for that many takes of a class, for a super page that a pool gives, and for a direct map.
 pub record RoomyRoot : Type 0 where
   pub root : Root
   pub room : Room
 
--- no room, room for a fill of so many slots of the class, and room for a direct map
+-- no room, room for a fill of that many slots of the class, and room for a direct map
 abbrev pub no_room : Room
 no_room = record { class = 0; takes = 0; super_page = false; map = false }
 
@@ -22,7 +22,7 @@ map_room = record { class = 0; takes = 0; super_page = false; map = true }
 abbrev pub opened_room : Room → Room
 opened_room room = record room { super_page = false }
 
--- there is room for so many takes of the class
+-- there is room for that many takes of the class
 pub record HasTakes (class want : ℕ) (room : Room) : Type 0 where
   pub own : room.class ≡ class
   pub many : want ≤ room.takes

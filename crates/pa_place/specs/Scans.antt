@@ -1,4 +1,4 @@
--- A span of a list by its place, where there is one; and the bytes of what a span keeps.
+-- A span of a list by its index, if there is one; and the bytes of what a span keeps.
 use Rattle.std.specs.Prelude.{ℕ, ◌*◌, List, Option, Some, None, slice_get}
 use Rattle.pa_buckets.specs.Table.{slot_of}
 use Rattle.pa_record.specs.Spans.{Span}

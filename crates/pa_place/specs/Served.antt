@@ -1,4 +1,4 @@
--- A span before it stands anywhere, and what a take leaves of one.
+-- A span before it has a place, and what a take leaves of one.
 use Rattle.std.specs.Prelude.{◌≡◌, ℕ, ◌+◌, ◌<◌, ◌≤◌, ◌^◌, List, [], ◌∷◌, All, slice_index_or, Vec, vec_len}
 use Rattle.std.specs.declared.alloc.Global.{Global}
 use Rattle.pa_machine.specs.declared.title.Title.{Title}
@@ -25,7 +25,7 @@ stands_at place born s = record s { place = place; born = born }
 abbrev pub IsLow : Span → Type 0
 IsLow s = s.place + bytes_of s ≤ 2 ^ 32
 
--- The front of the span's list was taken, after the span was provisioned where the list was empty.
+-- The front of the span's list was taken, after the span was provisioned if the list was empty.
 pub record IsServed (s next : Span) (served : Title) : Type 0 where
   pub number : ℕ
   pub rest : List ℕ

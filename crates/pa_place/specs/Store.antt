@@ -28,16 +28,16 @@ pub record IsReady (r : Root) : Type 0 where
   pub sound : IsSound r
   pub low : HasLowSupers r
 
--- the span at that place of the list has slots that aren't out
+-- the span at that index of the list has slots that aren't out
 abbrev pub IsUsableAt : Root → ℕ → Type 0
 IsUsableAt r at = (s : Span) × (slice_get r.spans at ≡ Some s) × (s.allocated < slots_of s.class)
 
--- The span from which a take is made stands there, in a root with it; where there is none, nothing changed.
+-- The span from which a take is made is at this index, in a root with it; if there is none, nothing changed.
 abbrev pub FindsPlace : ℕ → Root → Root → Option ℕ → Type 0
 FindsPlace class r after None = (span_for class r ≡ None) × (after ≡ r)
 FindsPlace class r after (Some at) = (f : Found) × (span_for class r ≡ Some f) × (f.root ≡ after) × (slice_get after.spans at ≡ Some f.span)
 
--- so many blank spans of the class lie ready
+-- that many blank spans of the class are ready
 pub record HasBlanks (class n : ℕ) (blanks : List Span) : Type 0 where
   pub many : n ≤ length blanks
   pub blank : All (λ s. s ≡ blank_span class) blanks
@@ -71,7 +71,7 @@ pub record IsStoreSound (s : Store) : Type 0 where
   pub maps : length s.maps.items ≤ 2147483647
   pub spans : vec_len s.spans ≤ 2147483647
 
--- there is room for so many spans of the class more, for one super page, and for one direct map
+-- there is room for that many more spans of the class, for one super page, and for one direct map
 pub record HasRoomFor (s : Store) (class spans : ℕ) : Type 0 where
   pub lists : HasRoomToList class (vec_len s.spans + spans) s.lists
   pub room : vec_len s.spans + spans ≤ vec_capacity s.spans
@@ -96,7 +96,7 @@ abbrev pub opened_where : Option ℕ → ℕ → Root → Root
 opened_where None entry r = r
 opened_where (Some first) entry r = opened first entry r
 
--- the pool was asked where no span for the class is there
+-- the pool was asked exactly when there is no span for the class
 abbrev pub AsksWhere : ℕ → PoolState → PoolState → Root → Root → Option ℕ → Type 0
 AsksWhere class pool next r after None = IsSome (span_for class r) × (next ≡ pool) × (after ≡ r)
 AsksWhere class pool next r after (Some entry) =

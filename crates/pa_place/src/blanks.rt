@@ -12,7 +12,7 @@ use std::mem;
 // The number of classes.
 const CLASSES: usize = pa_buckets::CLASSES as usize;
 
-// Blank spans that lie ready, in a list for each class. They are no part of the root.
+// Blank spans that are ready for use, in a list for each class. They aren't part of the root.
 #[derive(Drop)]
 pub(crate) struct Blanks {
     lists: Vec<Vec<PlainSpan>>,
@@ -31,7 +31,7 @@ impl Model for Blanks {
 }
 
 impl Blanks {
-    // None lies ready.
+    // No blank spans.
     pub(crate) fn new(alloc: Global) -> Result<Blanks, OutOfMemory> {
         let mut lists = Vec::with_capacity(alloc, CLASSES)?;
         for _class in 0..CLASSES {
@@ -40,7 +40,7 @@ impl Blanks {
         Ok(Blanks { lists })
     }
 
-    // Takes the list of the class, in which there are so many at least. After want of memory it is empty.
+    // Takes the list of the class, with at least `count` spans. If memory runs out, it is empty.
     pub(crate) fn take(
         &mut self,
         alloc: Global,
@@ -61,7 +61,7 @@ impl Blanks {
     }
 }
 
-// The list, with so many blank spans of the class at least.
+// The list, with at least `count` blank spans of the class.
 fn with_blanks(
     alloc: Global,
     class: Class,

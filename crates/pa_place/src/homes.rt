@@ -7,8 +7,8 @@ use std::alloc::Global;
 // The partition pages of the region: it has 64 super pages at most.
 const PAGES: usize = (64 * (SUPER_PAGE / PARTITION_PAGE)) as usize;
 
-// For each partition page of the region the place of the span that was last made over it, or 0. Nothing is known of it: it
-// is a guess that saves a search, and who uses it looks whether the span there is the one.
+// For each partition page of the region, the index of the span that was last made over it, or 0. It is a hint only: the
+// caller checks that the span found there holds the slot.
 #[derive(Drop)]
 pub(crate) struct Homes {
     places: Vec<u32>,
@@ -22,7 +22,7 @@ impl Homes {
         })
     }
 
-    // Marks so many pages, from the one at that byte on, with the place of a span.
+    // Marks `pages` pages, from the one at that byte on, with the index of a span.
     pub(crate) fn mark(&mut self, start: u32, pages: u32, at: usize) {
         let Ok(place) = u32::try_from(at) else {
             return;
@@ -35,7 +35,7 @@ impl Homes {
         }
     }
 
-    // The place with which the page of that byte is marked, or 0.
+    // The index with which the page of that byte is marked, or 0.
     #[inline]
     pub(crate) fn guess(&self, start: u32) -> usize {
         let page = page_at(start);

@@ -1,5 +1,5 @@
 //! The plain placement, over lists: the pool of super pages, and the root of one partition. It says what each call of an
-//! allocator's root has to answer, in the words of the definitions of what such a call is.
+//! allocator's root has to return, in the words of the definitions of what such a call is.
 #![tactic(auto)]
 
 mod blanks;

@@ -18,8 +18,8 @@ const CLASSES: usize = pa_buckets::CLASSES as usize;
 // The most spans that are empty at once: 16 stay so, and one more may be until the oldest is decommitted.
 const MOST_LISTED: usize = 17;
 
-// Where the spans stand that are empty, and for each class where those stand that are active and those that are
-// decommitted. Each list is in the order in which its spans entered the state.
+// The indices of the empty spans, and for each class those of the active spans and those of the
+// decommitted ones. Each list is in the order in which its spans entered the state.
 #[derive(Drop)]
 pub(crate) struct Lists {
     pub(crate) empty: Vec<usize>,
@@ -42,7 +42,7 @@ impl Lists {
         })
     }
 
-    // Makes room for so many spans of the class.
+    // Makes room for `most` spans of the class.
     pub(crate) fn reserve(&mut self, class: Class, most: usize) -> Result<(), OutOfMemory>
         requires { HasClasses self.old }
         ensures filed { (ss : List Span) → AreFiled ss self.old → AreFiled ss self.new }
@@ -52,7 +52,7 @@ impl Lists {
         reserve_at(&mut self.decommitted, class, most)
     }
 
-    // The span of the class that stands there goes from one state into another, or stays in it.
+    // The span of the class at this index goes from one state into another, or stays in it.
     pub(crate) fn refile(
         &mut self,
         spans: &[PlainSpan],
@@ -90,7 +90,7 @@ fn no_lists(alloc: Global) -> Result<Vec<Vec<usize>>, OutOfMemory>
     Ok(lists)
 }
 
-// Makes room for so many members of the list of the class in all.
+// Makes room for `most` members in all in the list of the class.
 fn reserve_at(lists: &mut Vec<Vec<usize>>, class: Class, most: usize) -> Result<(), OutOfMemory>
     requires { length lists.old.items ≡ class_count }
     ensures listed { (a : SpanState) (ss : List Span) → AreListed a ss lists.old.items → AreListed a ss lists.new.items }
@@ -99,7 +99,7 @@ fn reserve_at(lists: &mut Vec<Vec<usize>>, class: Class, most: usize) -> Result<
     reserve(&mut lists[class.number() as usize], most)
 }
 
-// Makes room for so many members in all.
+// Makes room for `most` members in all.
 fn reserve(list: &mut Vec<usize>, most: usize) -> Result<(), OutOfMemory>
     ensures items { list.new.items ≡ list.old.items }
     ensures more { vec_capacity list.old ≤ vec_capacity list.new }
@@ -124,8 +124,8 @@ pub(crate) fn first_listed(list: &[usize]) -> Option<usize>
     list.first().copied()
 }
 
-// Takes the index off the list of the spans in a state, or puts it at its end, where the span there leaves the state or
-// comes into it.
+// Removes the index from the list of the spans in a state, or appends it, if the span there leaves the state or
+// enters it.
 fn refile(
     list: &mut Vec<usize>,
     spans: &[PlainSpan],
@@ -154,7 +154,7 @@ fn are_same(one: State, other: State) -> bool
     one == other
 }
 
-// Takes the index off the list: as a rule it is the last.
+// Removes the index from the list; as a rule it is the last.
 fn take_off(list: &mut Vec<usize>, spans: &[PlainSpan], at: usize)
     requires there { at < length spans.now }
     requires order { IsInTurn spans.now list.old.items }
@@ -170,7 +170,7 @@ fn take_off(list: &mut Vec<usize>, spans: &[PlainSpan], at: usize)
     }
 }
 
-// Removes the index, which is searched by the turn of its span.
+// Removes the index, which is searched for by the turn of its span.
 fn remove_index(list: &mut Vec<usize>, spans: &[PlainSpan], at: usize)
     requires there { at < length spans.now }
     requires order { IsInTurn spans.now list.old.items }
@@ -202,7 +202,7 @@ fn count_before(list: &[usize], spans: &[PlainSpan], turn: u64) -> usize
     low
 }
 
-// The turn of the span there.
+// The turn of the span at this index.
 fn turn_at(spans: &[PlainSpan], at: usize) -> u64
     requires { at < length spans.now }
     ensures { (s : Span) → slice_get spans.now at ≡ Some s → result ≡ s.turn }

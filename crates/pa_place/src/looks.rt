@@ -34,7 +34,7 @@ impl Store {
         Some(Out::Map(self.maps[at]))
     }
 
-    // The slot of that name, if it is a span's and out.
+    // The slot of that name, if it is a slot of a span, and out.
     fn slot_out(&self, name: SlotName) -> Option<Title>
         requires ready { IsReady (root_of self.now) }
         requires ordered { IsOrdered (root_of self.now) }

@@ -2,14 +2,14 @@ use arrayvec::ArrayVec;
 use pa_machine::Title;
 
 /// What a fill or a direct map did: the index of the pool's entry that it made, if it asked the pool, and the slots that
-/// it took, in order. There are none exactly where there was no room.
+/// it took, in order. There are none exactly when there was no room.
 #[derive(Debug, Drop, PartialEq, Eq)]
 pub struct Placed {
     pub pool: Option<u32>,
     pub titles: ArrayVec<Title, 16>,
 }
 
-/// Slots of one span that were made together for the first time: `count` of them, 1 to 1,024, side by side from the first
+/// Slots of one span that were made together for the first time: `count` of them, 1 to 1,024, contiguous from the first
 /// on.
 #[derive(Clone, Copy, Debug, Default, PartialEq, Eq)]
 pub struct Made {

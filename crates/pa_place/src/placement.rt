@@ -24,7 +24,7 @@ use std::alloc::Global;
 use std::marker::Model;
 
 /// The root of one partition, as lists. It is seen as that root, which is sound, and of which at most 16 spans are empty.
-/// A list that would have more than 2,147,483,647 members is refused as want of memory.
+/// A list that would have more than 2,147,483,647 members is refused as out of memory.
 #[derive(Drop)]
 pub struct Placement {
     root: PlainRoot,
@@ -56,7 +56,7 @@ impl Placement {
     }
 
     /// Takes `want` slots of the class, 1 to 8, or as many as there are. Only the first take may ask the pool, for one super
-    /// page. After want of memory the placement and the pool are unchanged.
+    /// page. If memory runs out, the placement and the pool are unchanged.
     #[inline(always)]
     pub fn fill(
         &mut self,
@@ -84,8 +84,8 @@ impl Placement {
         })
     }
 
-    /// The same, but the slots are put into `titles`, which has none. Tells the index of the pool's entry that it made, if it
-    /// asked the pool. After want of memory the placement, the pool and `titles` are unchanged.
+    /// The same, but the slots are put into `titles`, which has none. Returns the index of the pool's entry that it made, if it
+    /// asked the pool. If memory runs out, the placement, the pool and `titles` are unchanged.
     #[inline(always)]
     pub fn fill_into(
         &mut self,
@@ -116,8 +116,8 @@ impl Placement {
         Ok(entry)
     }
 
-    /// Makes a direct map whose slot has `slot` bytes, a multiple of 4,096, in `supers` super pages that the pool is asked
-    /// for: 1 to 16, which the slot and 32,768 bytes need. After want of memory the placement and the pool are unchanged.
+    /// Makes a direct map whose slot has `slot` bytes, a multiple of 4,096, in `supers` super pages requested from the
+    /// pool: 1 to 16, which the slot and 32,768 bytes need. If memory runs out, the placement and the pool are unchanged.
     #[inline(always)]
     pub fn map(
         &mut self,
@@ -148,7 +148,7 @@ impl Placement {
         })
     }
 
-    /// Returns the slots one by one: at most 16, each of which is out of this root and stands once. It takes no memory.
+    /// Returns the slots one by one: at most 16, each of which is out of this root and is listed once. It allocates nothing.
     pub fn give(&mut self, titles: &[Title])
         requires few { length titles.now ≤ 16 }
         requires out { All (IsOut self.old) (map name_of titles.now) }
@@ -161,8 +161,8 @@ impl Placement {
         self.root.give(titles);
     }
 
-    /// Gives the super pages of a direct map back to the pool, and tells the pool's entry. The map is one of this root, and
-    /// its super pages are one take that wasn't given. It takes no memory.
+    /// Gives the super pages of a direct map back to the pool, and returns the pool's entry. The map is one of this root, and
+    /// its super pages are one take that wasn't given back. It allocates nothing.
     pub fn unmap(&mut self, pool: &mut PoolPlan, title: Title) -> u32
         requires mapped { Contains self.old.maps title }
         requires one_take { (t : Taken) × IsOneTake pool.old (super_page_at title.start) (supers_for title.len) t }
@@ -178,7 +178,7 @@ impl Placement {
         entry
     }
 
-    /// Decommits every empty span, the one that became empty first before the others. It takes no memory.
+    /// Decommits every empty span, the one that became empty first before the others. It allocates nothing.
     pub fn purge(&mut self)
         requires turn { self.old.turn < 2 ^ 62 }
         ensures purged { self.new ≡ purged self.old }
@@ -188,7 +188,7 @@ impl Placement {
         self.root.purge();
     }
 
-    /// The slot of a span, or the direct map, that has that name and is out of this root. `None` exactly where none is.
+    /// The slot of a span, or the direct map, that has that name and is out of this root. `None` exactly when there is none.
     pub fn out(&self, slot: SlotName) -> Option<Out>
         ensures some { IfSome result (IsOutAs self.now slot) }
         ensures none { IfNone result (IsNotOut self.now slot) }
@@ -204,8 +204,8 @@ impl Placement {
     }
 }
 
-/// Asks the pool for a super page where no span has a slot of the class left and the current super page has no room for a new
-/// one. What the pool gives becomes the current one. Tells the pool's entry, if it was asked.
+/// Asks the pool for a super page if no span has a slot of the class left and the current super page has no room for a new
+/// one. What the pool gives becomes the current one. Returns the pool's entry, if it was asked.
 pub fn ask(root: &mut PlainRoot, pool: &mut PoolPlan, class: Class) -> Option<u32>
     requires room { root.old.room.super_page ≡ true }
     requires entries { pool.old.entries < 2 ^ 32 - 1 }

@@ -21,10 +21,10 @@ use std::alloc::Global;
 use std::marker::Model;
 use std::mem;
 
-/// The root of one partition, as lists, for who asks the pool of super pages himself. `ready` makes room, after which the
-/// pool may be asked where `asks` tells so, and `open` and `take` can't fail; `ready_map` makes room for `map`. It is seen as
+/// The root of one partition, as lists, for a caller that asks the pool of super pages itself. `ready` makes room; after it the
+/// pool may be asked if `asks` says so, and `open` and `take` can't fail; `ready_map` makes room for `map`. It is seen as
 /// the root, which is sound, and of which at most 16 spans are empty, with the room that there is. The other calls that
-/// change it leave no promise of room. A list that would have more than 2,147,483,647 members is refused as want of memory.
+/// change it may use up the room. A list that would have more than 2,147,483,647 members is refused as out of memory.
 #[derive(Drop)]
 pub struct PlainRoot {
     store: Store,
@@ -79,8 +79,8 @@ impl PlainRoot {
         !self.store.has_span(class)
     }
 
-    /// Makes room for so many takes of the class, 1 to 8, and for a super page: after it `open` and `take` want no memory.
-    /// The root is unchanged, also after want of memory.
+    /// Makes room for `takes` takes of the class, 1 to 8, and for a super page: after it `open` and `take` need no memory.
+    /// The root is unchanged, even if memory runs out.
     pub fn ready(&mut self, class: Class, want: u32) -> Result<(), OutOfMemory>
         requires some { 1 ≤ want }
         requires few { want ≤ 8 }
@@ -94,7 +94,7 @@ impl PlainRoot {
         Ok(())
     }
 
-    /// Makes the super page, which this entry of the pool took, the current one. There is room for it. It takes no memory.
+    /// Makes the super page, which this entry of the pool took, the current one. There must be room for it. It allocates nothing.
     pub fn open(&mut self, first: u32, entry: u32)
         requires room { self.old.room.super_page ≡ true }
         requires low { first < 64 }
@@ -108,8 +108,8 @@ impl PlainRoot {
         self.store.open(first, entry);
     }
 
-    /// Takes `want` slots of the class, 1 to 8, or as many as there are, and puts them into `titles`, which has none. Tells
-    /// the batches of slots that were made for the first time. There is room for so many takes. It takes no memory.
+    /// Takes `want` slots of the class, 1 to 8, or as many as there are, and puts them into `titles`, which is empty. Returns
+    /// the batches of slots that were made for the first time. There must be room for that many takes. It allocates nothing.
     #[inline(always)]
     pub fn take(
         &mut self,
@@ -136,7 +136,7 @@ impl PlainRoot {
         made
     }
 
-    /// Makes room for a direct map: after it `map` wants no memory. The root is unchanged, also after want of memory.
+    /// Makes room for a direct map: after it `map` needs no memory. The root is unchanged, even if memory runs out.
     pub fn ready_map(&mut self) -> Result<(), OutOfMemory>
         ensures room { OnOk result (self.new.room ≡ map_room) }
         ensures root { self.new.root ≡ self.old.root }
@@ -147,8 +147,8 @@ impl PlainRoot {
         Ok(())
     }
 
-    /// Makes a direct map whose slot has so many bytes, in the super pages from `first` on, which this entry of the pool took
-    /// for it. There is room for it. It takes no memory.
+    /// Makes a direct map whose slot has `slot` bytes, in the super pages from `first` on, which this entry of the pool took
+    /// for it. There must be room for it. It allocates nothing.
     pub fn map(&mut self, first: u32, slot: u32, entry: u32) -> Title
         requires room { self.old.room.map ≡ true }
         requires low { first < 64 }
@@ -162,7 +162,7 @@ impl PlainRoot {
         self.store.map(first, slot, entry)
     }
 
-    /// Returns the slots one by one: at most 16, each of which is out of this root and stands once. It takes no memory.
+    /// Returns the slots one by one: at most 16, each of which is out of this root and is listed once. It allocates nothing.
     pub fn give(&mut self, titles: &[Title])
         requires few { length titles.now ≤ 16 }
         requires out { All (IsOut self.old.root) (map name_of titles.now) }
@@ -176,7 +176,7 @@ impl PlainRoot {
         self.store.give_all(titles);
     }
 
-    /// Removes a direct map of this root, whose super pages then go back to the pool. It takes no memory.
+    /// Removes a direct map of this root, whose super pages then go back to the pool. It allocates nothing.
     pub fn unmap(&mut self, title: Title)
         ensures unmapped { self.new.root ≡ unmapped (name_of title) self.old.root }
         ensures step { (n : ℕ) → IsStep n (n + 1) self.old.root self.new.root }
@@ -185,7 +185,7 @@ impl PlainRoot {
         self.store.unmap(title);
     }
 
-    /// Decommits every empty span, the one that became empty first before the others. It takes no memory.
+    /// Decommits every empty span, the one that became empty first before the others. It allocates nothing.
     pub fn purge(&mut self)
         requires turn { self.old.root.turn < 2 ^ 62 }
         ensures purged { self.new.root ≡ purged self.old.root }
@@ -196,7 +196,7 @@ impl PlainRoot {
         self.store.purge();
     }
 
-    /// The slot of a span, or the direct map, that has that name and is out of this root. `None` exactly where none is.
+    /// The slot of a span, or the direct map, that has that name and is out of this root. `None` exactly when there is none.
     pub fn out(&self, slot: SlotName) -> Option<Out>
         ensures some { IfSome result (IsOutAs self.now.root slot) }
         ensures none { IfNone result (IsNotOut self.now.root slot) }

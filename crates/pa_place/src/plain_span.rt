@@ -18,7 +18,7 @@ use pa_machine::{OutOfMemory, SlotName, Title};
 use std::alloc::Global;
 use std::marker::Model;
 
-// A slot span. Its free slots are those that came back, of which there is room for all, and behind them those from a number
+// A slot span. Its free slots are those that came back, for all of which there is room, followed by those from a number
 // on, which never left it since they were provisioned.
 #[derive(Drop)]
 pub(crate) struct PlainSpan {
@@ -49,7 +49,7 @@ impl Model for PlainSpan {
 }
 
 impl PlainSpan {
-    // A span of the class that stands nowhere yet.
+    // A span of the class that has no place yet.
     pub(crate) fn blank(alloc: Global, class: Class) -> Result<PlainSpan, OutOfMemory>
         ensures { IfOk result (λ s. s ≡ blank_span class) }
     {
@@ -127,7 +127,7 @@ impl PlainSpan {
         self.born == name.born && (self.place <= name.start && u64::from(name.start) < end)
     }
 
-    // Whether it starts behind the slot of that name, or its super page was taken later.
+    // Whether it starts after the slot of that name, or its super page was taken later.
     pub(crate) fn starts_after(&self, name: SlotName) -> bool
         ensures { result ≡ starts_after name self.now }
     {
@@ -141,7 +141,7 @@ impl PlainSpan {
         PARTITION_PAGE * span_of(self.class).pages
     }
 
-    // The number of the slot of that name, which starts in the span or behind it.
+    // The number of the slot of that name, which starts in the span or after it.
     fn number_of(&self, name: SlotName) -> u32
         requires { self.now.place ≤ name.start }
         ensures { result ≡ number_in self.now name }
@@ -163,7 +163,7 @@ impl PlainSpan {
         }
     }
 
-    // The slot of that name, which lies in the span; `None` exactly where it isn't out.
+    // The slot of that name, which lies in the span; `None` exactly when it isn't out.
     pub(crate) fn out(&self, name: SlotName) -> Option<Title>
         requires counted { IsCounted self.now }
         requires low { IsLow self.now }
@@ -184,7 +184,7 @@ impl PlainSpan {
         }
     }
 
-    // Takes the front of the list, after the span was provisioned where the list is empty. Not all of its slots are out.
+    // Takes the front of the list, after provisioning the span if the list is empty. Not all of its slots are out.
     pub(crate) fn take_slot(&mut self) -> Title
         requires counted { IsCounted self.old }
         requires some { self.old.allocated < slots_of self.old.class }
@@ -203,7 +203,7 @@ impl PlainSpan {
         self.made
     }
 
-    // Tells the batch of slots that were made beyond the first `before`, if some were. All lie in the region.
+    // Returns the batch of slots that were made beyond the first `before`, if some were. All lie in the region.
     pub(crate) fn tell_made(&self, before: u32, made: &mut ArrayVec<Made, 8>)
         requires low { IsLow self.now }
         requires most { self.now.made ≤ slots_of self.now.class }
@@ -219,7 +219,7 @@ impl PlainSpan {
         }
     }
 
-    // Provisions the span where its list is empty.
+    // Provisions the span if its list is empty.
     fn make_front(&mut self)
         requires counted { IsCounted self.old }
         requires some { self.old.allocated < slots_of self.old.class }
@@ -271,7 +271,7 @@ impl PlainSpan {
         }
     }
 
-    // Puts the slot of that name, which is one of its slots that are out, on the front of the list.
+    // Puts the slot of that name, which is one of its slots that are out, at the front of the list.
     pub(crate) fn put_back(&mut self, name: SlotName)
         requires counted { IsCounted self.old }
         requires some { 1 ≤ self.old.allocated }
@@ -293,7 +293,7 @@ impl PlainSpan {
         self.committed = 0;
     }
 
-    // Enters the state, with that turn where it is another than before. Tells the next turn.
+    // Enters the state; if it was in another one, it gets that turn. Returns the next turn.
     pub(crate) fn enter(&mut self, to: State, turn: u64) -> u64
         requires { turn < 2 ^ 63 }
         ensures state { self.new ≡ in_state to turn self.old }

@@ -36,7 +36,7 @@ impl Model for PoolPlan {
 }
 
 impl PoolPlan {
-    /// A pool of so many super pages, none of which is taken. `supers` is at most 64.
+    /// A pool of `supers` super pages, at most 64, none of which is taken.
     pub fn new(alloc: Global, supers: u32) -> Result<PoolPlan, OutOfMemory>
         requires { supers ≤ 64 }
         ensures start { IfOk result (λ p. p ≡ new_pool supers) }
@@ -56,8 +56,8 @@ impl PoolPlan {
         self.entries
     }
 
-    /// Takes the lowest `count` super pages that stand side by side and aren't taken, and answers the first of them. `None`
-    /// exactly where there are none. The call is one entry in both cases. It takes no memory.
+    /// Takes the lowest `count` consecutive super pages that aren't taken, and returns the first of them. `None`
+    /// exactly when there are none. The call is one entry in both cases. It allocates nothing.
     pub fn take(&mut self, count: u32) -> Option<u32>
         requires some { 1 ≤ count }
         requires entries { self.old.entries < 2 ^ 32 - 1 }
@@ -77,8 +77,8 @@ impl PoolPlan {
         found
     }
 
-    /// Gives the `count` super pages from `first` on back, which are one take that wasn't given. The call is one entry. It
-    /// takes no memory.
+    /// Gives the `count` super pages from `first` on back, which are one take that wasn't given back. The call is one entry. It
+    /// allocates nothing.
     pub fn give(&mut self, first: u32, count: u32)
         requires one_take { (t : Run) × IsOneTake self.old first count t }
         requires entries { self.old.entries < 2 ^ 32 - 1 }
@@ -88,7 +88,7 @@ impl PoolPlan {
         self.entries += 1;
     }
 
-    /// Whether the `count` super pages from `first` on are one take that wasn't given.
+    /// Whether the `count` super pages from `first` on are one take that wasn't given back.
     pub fn taken(&self, first: u32, count: u32) -> bool
         ensures { IsTrue result ↔ ((t : Run) × IsOneTake self.now first count t) }
     {
@@ -143,7 +143,7 @@ fn remove_run(taken: &mut Vec<Taken>, first: u32)
     }
 }
 
-// Where the run stands that begins there.
+// The index of the run that begins there.
 fn place_of(taken: &[Taken], first: u32) -> Option<usize>
     ensures { result ≡ position (λ t. t.first == first) taken.now }
 {

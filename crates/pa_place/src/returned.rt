@@ -5,7 +5,7 @@ use std::alloc::Global;
 use std::collections::VecDeque;
 use std::marker::Model;
 
-// The numbers of the slots that came back to a span, the last one first, and in the place of each number how often it is
+// The numbers of the slots that came back to a span, the last one first, and for each number how often it is
 // among them: once or not at all.
 #[derive(Drop)]
 pub(crate) struct Returned {
@@ -26,7 +26,7 @@ impl Model for Returned {
 }
 
 impl Returned {
-    // None, with room for so many numbers.
+    // None, with room for `room` numbers.
     pub(crate) fn new(alloc: Global, room: usize) -> Result<Returned, OutOfMemory>
         ensures { IfOk result (λ r. r ≡ record { items = []; room = room }) }
     {
@@ -50,7 +50,7 @@ impl Returned {
         self.times[number as usize] > 0
     }
 
-    // Puts a number in front, where there is room for one.
+    // Puts a number in front. There must be room for one.
     pub(crate) fn put_front(&mut self, number: u32)
         requires room { length self.old.items < self.old.room }
         requires few { length self.old.items < 1024 }
@@ -60,7 +60,7 @@ impl Returned {
         count_more(&mut self.times, number);
     }
 
-    // Takes the front, where there is one.
+    // Takes the front, if there is one.
     pub(crate) fn take_front(&mut self) -> Option<u32>
         ensures items { self.old.items ≡ option_to_list result ++ self.new.items }
         ensures none { IfNone result (self.old.items ≡ []) }
@@ -84,7 +84,7 @@ impl Returned {
     }
 }
 
-// Counts a number once more, where it has a place.
+// Counts a number once more, if it has an entry.
 fn count_more(times: &mut Vec<u16>, number: u32)
     requires { slice_index_or times.old.items number 0 < 1024 }
     ensures { times.new.items ≡ slice_set times.old.items number (slice_index_or times.old.items number 0 + 1) }
@@ -95,7 +95,7 @@ fn count_more(times: &mut Vec<u16>, number: u32)
     }
 }
 
-// Counts a number once less, where it has a place.
+// Counts a number once less, if it has an entry.
 fn count_less(times: &mut Vec<u16>, number: u32)
     requires { number < length times.old.items → 1 ≤ slice_index_or times.old.items number 0 }
     ensures { times.new.items ≡ slice_set times.old.items number (slice_index_or times.old.items number 0 - 1) }

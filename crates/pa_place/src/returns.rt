@@ -15,7 +15,7 @@ use pa_machine::{SlotName, Title};
 const MOST_EMPTY: usize = 16;
 
 impl Store {
-    // Returns the slots one by one. Each is out, and stands once.
+    // Returns the slots one by one. Each is out, and is listed once.
     pub(crate) fn give_all(&mut self, titles: &[Title])
         requires sound { IsSound (root_of self.old) }
         requires ordered { IsOrdered (root_of self.old) }
@@ -55,7 +55,7 @@ impl Store {
         self.settle();
     }
 
-    // Puts the slot of that name, which is out, on the front of its span's list.
+    // Puts the slot of that name, which is out, at the front of its span's list.
     fn put_back(&mut self, name: SlotName)
         requires sound { IsSound (root_of self.old) }
         requires ordered { IsOrdered (root_of self.old) }
@@ -76,7 +76,7 @@ impl Store {
         }
     }
 
-    // Decommits the empty span with the least turn where more than 16 are empty.
+    // Decommits the empty span with the least turn if more than 16 are empty.
     fn settle(&mut self)
         requires sound { IsSound (root_of self.old) }
         requires ordered { IsOrdered (root_of self.old) }
@@ -100,7 +100,7 @@ impl Store {
         self.lists.empty.len()
     }
 
-    // Decommits the empty span with the least turn, where one is empty.
+    // Decommits the empty span with the least turn, if one is empty.
     fn decommit_oldest(&mut self)
         requires sound { IsSound (root_of self.old) }
         requires ordered { IsOrdered (root_of self.old) }

@@ -3,7 +3,7 @@ ghost use Rattle.pa_place.specs.Roomy.{no_room, fill_room, map_room, opened_room
 
 use pa_buckets::Class;
 
-// What there is room for: so many takes of a class, a super page that a pool gives, and a direct map.
+// The room that was made: for a number of takes of a class, for a super page that a pool gives, and for a direct map.
 #[derive(Clone, Copy, Drop)]
 pub(crate) struct Room {
     pub(crate) class: u32,
@@ -13,7 +13,7 @@ pub(crate) struct Room {
 }
 
 impl Room {
-    // For nothing.
+    // No room.
     pub(crate) fn none() -> Room
         ensures { result ≡ no_room }
     {
@@ -25,7 +25,7 @@ impl Room {
         }
     }
 
-    // For so many takes of the class, and a super page.
+    // Room for that many takes of the class, and for a super page.
     pub(crate) fn of_fill(class: Class, takes: u32) -> Room
         ensures { result ≡ fill_room class takes }
     {
@@ -37,7 +37,7 @@ impl Room {
         }
     }
 
-    // For a direct map.
+    // Room for a direct map.
     pub(crate) fn of_map() -> Room
         ensures { result ≡ map_room }
     {
@@ -49,7 +49,7 @@ impl Room {
         }
     }
 
-    // The same, but for a super page.
+    // The same, without the room for a super page.
     pub(crate) fn opened(self) -> Room
         ensures { result ≡ opened_room self }
     {

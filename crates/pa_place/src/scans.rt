@@ -8,7 +8,7 @@ use crate::plain_span::PlainSpan;
 use pa_buckets::{Class, State};
 use pa_machine::SlotName;
 
-// Where the span stands in which the slot of that name lies. The spans are in order. They are searched only where the span
+// The index of the span that contains the slot of that name. The spans are in order. They are searched only if the span
 // isn't the one that was last made over the slot's page.
 #[inline]
 pub(crate) fn index_holding(spans: &[PlainSpan], homes: &Homes, name: SlotName) -> Option<usize>

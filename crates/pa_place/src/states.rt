@@ -32,7 +32,7 @@ impl Store {
         self.turn = self.spans[at].enter(to, self.turn);
     }
 
-    // Where the span stands from which a slot of the class is taken where no new one is made: of the active ones the one
+    // The index of the span from which a slot of the class is taken if no new one is made: of the active ones the one
     // that became so last; else of the empty ones; else of the decommitted ones.
     pub(crate) fn listed(&self, class: Class) -> Option<usize>
         requires sound { IsSound (root_of self.now) }
@@ -51,7 +51,7 @@ impl Store {
         self.latest_decommitted(class)
     }
 
-    // Where the span of the class stands that became active last.
+    // The index of the span of the class that became active last.
     fn latest_active(&self, class: Class) -> Option<usize>
         requires sound { IsSound (root_of self.now) }
         requires filed { IsFiled self.now }
@@ -61,7 +61,7 @@ impl Store {
         last_listed(&self.lists.active, class)
     }
 
-    // Where the span of the class stands that became decommitted last.
+    // The index of the span of the class that became decommitted last.
     fn latest_decommitted(&self, class: Class) -> Option<usize>
         requires sound { IsSound (root_of self.now) }
         requires filed { IsFiled self.now }
@@ -71,7 +71,7 @@ impl Store {
         last_listed(&self.lists.decommitted, class)
     }
 
-    // Where the span of the class stands that became empty last.
+    // The index of the span of the class that became empty last.
     fn latest_empty(&self, class: Class) -> Option<usize>
         requires sound { IsSound (root_of self.now) }
         requires filed { IsFiled self.now }

@@ -19,7 +19,7 @@ const MOST_MEMBERS: usize = 2_147_483_647;
 
 // The root of a partition as lists: the super pages that fills took, of which the last is the current one; the next free
 // partition page of the current one; the next turn; the direct maps; and the spans in the order in which they were made,
-// with their lists by states, and a guess for each partition page which span lies over it.
+// with their lists by states, and for each partition page a hint which span lies over it.
 #[derive(Drop)]
 pub(crate) struct Store {
     pub(crate) supers: Vec<SuperPage>,
@@ -51,7 +51,7 @@ impl Store {
         })
     }
 
-    // Makes room for so many spans of the class more and for one super page. There is none in lists that are too long.
+    // Makes room for `spans` more spans of the class and for one super page. There is none in lists that are too long.
     pub(crate) fn make_room(&mut self, class: Class, spans: u32) -> Result<(), OutOfMemory>
         requires { IsFiled self.old }
         ensures same { root_of self.new ≡ root_of self.old }
@@ -110,7 +110,7 @@ impl Store {
         self.page = 1;
     }
 
-    // Makes the direct map in the super pages from `first` on, which this entry of the pool took. There is room for one.
+    // Makes the direct map in the super pages from `first` on, which this entry of the pool took. There must be room for one.
     pub(crate) fn map(&mut self, first: u32, slot: u32, entry: u32) -> Title
         requires room { vec_len self.old.maps < vec_capacity self.old.maps }
         requires low { first < 64 }
@@ -151,7 +151,7 @@ fn remove_map(maps: &mut Vec<Title>, name: SlotName)
     }
 }
 
-// Where the direct map of that name stands.
+// The index of the direct map of that name.
 pub(crate) fn place_named(maps: &[Title], name: SlotName) -> Option<usize>
     ensures { result ≡ position (λ t. (t.start == name.start) && (t.born == name.born)) maps.now }
 {

@@ -25,7 +25,7 @@ use pa_record::SuperPage;
 const LAST_PAGE: u32 = 127;
 
 impl Store {
-    // Takes until so many slots are taken or a take finds none. As many blank spans lie ready, and there is room for them.
+    // Takes until that many slots are taken or a take finds none. As many blank spans are ready, and there is room for them.
     // Puts the slots into `titles` and the batches of slots that were made into `made`, which have none.
     #[inline(always)]
     pub(crate) fn takes(
@@ -62,7 +62,7 @@ impl Store {
         }
     }
 
-    // One take of a slot of the class that may not ask the pool. Some blank spans of the class lie ready, and there is room
+    // One take of a slot of the class that may not ask the pool. Some blank spans of the class are ready, and there is room
     // for one span more.
     #[inline(always)]
     fn take(
@@ -95,7 +95,7 @@ impl Store {
         Some(self.take_at(at, made))
     }
 
-    // Where the span stands from which a slot of the class is taken. It is made where none is listed and the current super
+    // The index of the span from which a slot of the class is taken. It is made if none is listed and the current super
     // page has room for it.
     fn place_for(&mut self, class: Class, blanks: &mut Vec<PlainSpan>) -> Option<usize>
         requires ready { IsReady (root_of self.old) }
@@ -154,7 +154,7 @@ impl Store {
         self.spans.push_reserved(span.at(start, at.born));
     }
 
-    // Takes a slot from the span there, which has one that isn't out. Tells the batch of slots that it made, if it made
+    // Takes a slot from the span there, which has one that isn't out. Returns the batch of slots that it made, if it made
     // some.
     #[inline(always)]
     fn take_at(&mut self, at: usize, made: &mut ArrayVec<Made, 8>) -> Title

@@ -1,4 +1,4 @@
--- What the parts of an op ask of the player.
+-- What the parts of an op require of the player.
 use Rattle.std.specs.Prelude.{◌≡◌, ℕ, zero, suc, ◌+◌, ◌*◌, ◌%◌, ◌<◌, ◌≤◌, ◌^◌, List, [], ◌∷◌, ◌++◌, map, length}
 use Rattle.std.specs.Prelude.{Option, Some, None, All, Contains}
 use Rattle.pa_machine.specs.Count.{CanStep, refs_of}
@@ -20,7 +20,7 @@ use Rattle.pa_player.specs.Tables.{slot_at, HasNone, IsIn}
 use Rattle.pa_player.specs.Told.{journal_in, history_in}
 use Rattle.pa_player.specs.Changes.{list_in, bytes_at, put_front, reset_last, freed_at, IsFilled, IsMapPlaced}
 
--- The slots in these places can go back to the root of partition q.
+-- The slots at these indices can go back to the root of partition q.
 pub record CanGive (q : ℕ) (xs : List ℕ) (p : Player) : Type 0 where
   pub root : q < length p.heap.roots
   pub journal : q < length p.told.journals
@@ -33,7 +33,7 @@ pub record CanGive (q : ℕ) (xs : List ℕ) (p : Player) : Type 0 where
   pub slots : length xs ≤ (tally_at p.cached.of q).slots
   pub bytes : bytes_at p.table xs ≤ (tally_at p.cached.of q).bytes
 
--- The list at a place can be filled from the root of partition q, or a direct map be made there.
+-- The list at an index can be filled from the root of partition q, or a direct map be made there.
 pub record CanPlace (q : ℕ) (p : Player) : Type 0 where
   pub root : q < length p.heap.roots
   pub journal : q < length p.told.journals
@@ -57,7 +57,7 @@ pub record CanPutBack (thread i q class : ℕ) (p : Player) : Type 0 where
   pub bytes : (tally_at p.cached.of q).bytes < 2 ^ 62
   pub gives : CanGive q (i ∷ list_in p (list_place p.partitions thread q class)) (put_front q (list_place p.partitions thread q class) i p)
 
--- The direct map in a place can go back to the pool.
+-- The direct map at an index can go back to the pool.
 pub record CanUnmap (i q : ℕ) (p : Player) : Type 0 where
   pub root : q < length p.heap.roots
   pub journal : q < length p.told.journals
@@ -79,7 +79,7 @@ pub record CanPut (q : ℕ) (p : Player) : Type 0 where
   pub slots : (tally_at p.cached.of q).slots < 2 ^ 31
   pub bytes : (tally_at p.cached.of q).bytes < 2 ^ 62
 
--- the places that the lists of so many classes of a thread have, from one class on
+-- the indices of the lists of some classes of a thread, from one class on
 unfoldable pub places_from : ℕ → ℕ → ℕ → ℕ → Player → List ℕ
 places_from thread q class zero p = []
 places_from thread q class (suc n) p = list_in p (list_place p.partitions thread q class) ++ places_from thread q (class + 1) n p
@@ -94,7 +94,7 @@ pub record CanPurgeOne (thread q : ℕ) (p : Player) : Type 0 where
 
 -- ---- each op
 
--- The free slot in a place can be issued to a register.
+-- The free slot at an index can be issued to a register.
 pub record CanIssue (thread reg i : ℕ) (p : Player) : Type 0 where
   pub threads : thread < length p.registers
   pub regs : reg < register_count
@@ -132,14 +132,14 @@ pub record CanAllocateMap (thread reg q len supers : ℕ) (p : Player) : Type 0 
   pub place : CanPlace q p
   pub issue : (r : Player) (i : ℕ) → IsMapPlaced q len supers p r i → CanIssue thread reg i r
 
--- A copy of a handle of the slot in a place, to a register that has none.
+-- A copy of a handle of the slot at an index, to a register that has none.
 pub record CanCopy (thread to i : ℕ) (p : Player) : Type 0 where
   pub threads : thread < length p.registers
   pub regs : to < register_count
   pub place : i < length p.table
   pub step : HasNone (register_at p thread to) → CanStep steps.Copy (slot_at p.table i).word.0
 
--- A reset of a `raw_ptr` to the slot in a place; a free of it by its owner; a write.
+-- A reset of a `raw_ptr` to the slot at an index; a free of it by its owner; a write.
 pub record CanReset (thread reg i : ℕ) (p : Player) : Type 0 where
   pub threads : thread < length p.registers
   pub regs : reg < register_count

@@ -11,23 +11,23 @@ use Rattle.pa_player.specs.Playing.{cell_at}
 use Rattle.pa_player.specs.Tallies.{IsNone}
 use Rattle.pa_player.specs.Told.{Lists}
 
--- so many empty lists
+-- that many empty lists
 pub record AreEmpty {X : Type 0} (n : ℕ) (xs : List (List X)) : Type 0 where
   pub count : length xs ≡ n
   pub empty : (i : ℕ) → slice_index_or xs i [] ≡ []
 
--- the registers of so many threads, 64 each, are empty
+-- the registers of that many threads, 64 each, are empty
 pub record AreClear (threads : ℕ) (xs : List (List Handle)) : Type 0 where
   pub count : length xs ≡ threads
   pub sixty_four : (t : ℕ) → t < threads → length (slice_index_or xs t []) ≡ register_count
   pub clear : (t r : ℕ) → slice_index_or (slice_index_or xs t []) r Empty ≡ Empty
 
--- so many roots without a span
+-- that many roots without a span
 pub record AreNew (partitions : ℕ) (xs : List Root) : Type 0 where
   pub count : length xs ≡ partitions
   pub new : (q : ℕ) → slice_index_or xs q new_root ≡ new_root
 
--- nothing is told, and the line after the head comes next
+-- nothing is reported, and the line after the head comes next
 pub record IsUntold (partitions : ℕ) (t : Lists) : Type 0 where
   pub entries : t.entries ≡ []
   pub journals : AreEmpty partitions t.journals

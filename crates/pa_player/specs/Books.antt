@@ -1,4 +1,4 @@
--- What is told of the records and the journals, whatever keeps it.
+-- The records and the journals that a player sent, whatever keeps them.
 use Rattle.std.specs.Prelude.{List, [], ◌∷◌, ◌++◌, ℕ, slice_index_or, slice_set}
 use Rattle.pa_record.specs.declared.entry.Entry.{Entry}
 use Rattle.pa_record.specs.declared.root.RootEntry.{RootEntry}
@@ -8,7 +8,7 @@ pub record Books : Type 0 where
   pub entries : List Entry
   pub journals : List (List RootEntry)
 
--- a record more
+-- one more record
 abbrev pub with_kept_entry : Entry → Books → Books
 with_kept_entry e b = record b { entries = b.entries ++ e ∷ [] }
 

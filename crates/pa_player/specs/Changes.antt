@@ -40,7 +40,7 @@ use Rattle.pa_player.specs.Playing.{numbered_at, list_place, root_of, register_a
 
 -- ---- one table
 
--- a step on the word of the slot in a place; its content
+-- a step on the word of the slot at an index; its content
 abbrev pub stepped_at : Step → ℕ → Player → Player
 stepped_at step i p =
     record p { table = slice_set p.table i (record (slot_at p.table i) { word = record { 0 = stepped step (slot_at p.table i).word.0 } }) }
@@ -55,7 +55,7 @@ registered t r h p = record p { registers = slice_set p.registers t (slice_set (
 abbrev pub listed : ℕ → List ℕ → Player → Player
 listed at xs p = record p { caches = slice_set p.caches at xs }
 
--- so many slots and bytes more in a partition, and less
+-- more slots and bytes in a partition, and fewer
 abbrev pub tallied_more : ℕ → ℕ → ℕ → List Tally → List Tally
 tallied_more q slots bytes ts = slice_set ts q (record { slots = (tally_at ts q).slots + slots; bytes = (tally_at ts q).bytes + bytes })
 
@@ -119,7 +119,7 @@ swapped thread k reg p =
 
 -- ---- parts of ops
 
--- the list of a thread in a place of the caches; how many bytes the slots of some places have together
+-- the list of a thread at an index of the caches; how many bytes the slots at some indices have together
 abbrev pub list_in : Player → ℕ → List ℕ
 list_in p at = slice_index_or p.caches at []
 
@@ -132,7 +132,7 @@ issued thread reg i p =
     live_more (slot_at p.table i).partition (slot_at p.table i).title.len
     (registered thread reg (Own i) (filled_at 0 i (stepped_at steps.Issue i p)))
 
--- the slots in some places go back to the root; those of a list after the first ones do
+-- the slots at some indices go back to the root; those of a list after the first ones do
 abbrev pub gave_back : ℕ → List ℕ → Player → Player
 gave_back q xs p =
     cached_less q (length xs) (bytes_at p.table xs)
@@ -141,7 +141,7 @@ gave_back q xs p =
 abbrev pub given : ℕ → ℕ → ℕ → Player → Player
 given q at keep p = listed at (take keep (list_in p at)) (gave_back q (drop keep (list_in p at)) p)
 
--- a slot of the class becomes the front of its list, of which half the limit stays where that is too long then
+-- a slot of the class becomes the front of its list, of which half the limit stays if that is then too long
 abbrev pub put_front : ℕ → ℕ → ℕ → Player → Player
 put_front q at i p = cached_more q (slot_at p.table i).title.len (listed at (i ∷ list_in p at) p)
 
@@ -162,7 +162,7 @@ taken_back thread q (Some class) i p =
     spilled_if class q (list_place p.partitions thread q class) (put_front q (list_place p.partitions thread q class) i p)
 taken_back thread q None i p = unmapped_at q i p
 
--- the lists of so many classes from one on go back whole; a purge of one partition, and of so many from one on
+-- the lists of some classes from one on go back whole; a purge of one partition, and of several from one on
 unfoldable pub given_from : ℕ → ℕ → ℕ → ℕ → Player → Player
 given_from thread q class zero p = p
 given_from thread q class (suc n) p = given_from thread q (class + 1) n (given q (list_place p.partitions thread q class) 0 p)
@@ -174,7 +174,7 @@ unfoldable pub purged_from : ℕ → ℕ → ℕ → Player → Player
 purged_from thread q zero p = p
 purged_from thread q (suc n) p = purged_from thread (q + 1) n (purged_with q (given_from thread q 0 class_count p))
 
--- The slots that left a root go behind the others of a list, in their order: `xs` are their numbers.
+-- The slots that left a root are appended to a list, in their order: `xs` are their numbers.
 abbrev pub ArePut : ℕ → ℕ → ℕ → List Title → Player → Player → List Numbered → Type 0
 ArePut q at class [] p r xs = (r ≡ p) × (xs ≡ [])
 ArePut q at class (t ∷ ts) p r xs =
@@ -184,11 +184,11 @@ ArePut q at class (t ∷ ts) p r xs =
 
 -- ---- an allocation
 
--- what is seen of the slot in a place
+-- what is seen of the slot at an index
 abbrev pub seen_at : List Slot → ℕ → Seen
 seen_at slots i = record { slot = named_at slots i; found = (slot_at slots i).word }
 
--- the answer of an allocation that got the slot in a place
+-- the answer of an allocation that got the slot at an index
 abbrev pub made_at : Player → ℕ → Answer
 made_at p i = answers.Made (seen_at p.table i) ((slot_at p.table i).title.len - 8)
 
@@ -200,7 +200,7 @@ pub record IsFrontIssued (thread reg q at : ℕ) (p r : Player) (answer : Answer
   pub issued : r ≡ issued thread reg place (cached_less q 1 (slot_at p.table place).title.len (listed at rest p))
   pub says : answer ≡ made_at p place
 
--- a root and the pool after a call, and the entry of the pool where the call asked for so many super pages
+-- a root and the pool after a call, and the entry of the pool if the call asked for that many super pages
 abbrev pub placed_in : ℕ → Root → PoolState → Player → Player
 placed_in q after plan p = with_root q after (with_pool plan p)
 
@@ -237,7 +237,7 @@ abbrev pub Fills : ℕ → ℕ → ℕ → Player → Player → Option ℕ → 
 Fills q at class p r None = IsFilled q at class p r
 Fills q at class p r (Some entry) = IsUnfilled q class p r entry
 
--- A direct map of so many bytes, in so many super pages, was made: its slot is in this place.
+-- A direct map of that many bytes, in that many super pages, was made: its slot is at this index.
 pub record IsMapPlaced (q len supers : ℕ) (p r : Player) (place : ℕ) : Type 0 where
   pub plan : PoolState
   pub after : Root
@@ -309,7 +309,7 @@ Copies thread to i Freed p r answer =
 Copies thread to i Cleared p r answer =
     (r ≡ registered thread to (Ref i) (stepped_at steps.Copy i p)) × (answer ≡ answers.Done (seen_at p.table i))
 
--- a reset and a free of the slot in a place, before it goes back or where it stays
+-- a reset and a free of the slot at an index, before it goes back or if it stays
 abbrev pub reset_at : ℕ → ℕ → ℕ → Player → Player
 reset_at thread reg i p = registered thread reg Cleared (stepped_at steps.Reset i p)
 
@@ -334,14 +334,14 @@ Frees thread reg i p r =
     ⊎ ((0 < refs_of (slot_at p.table i).word.0)
     × (r ≡ quarantined_more (slot_at p.table i).partition (slot_at p.table i).title.len (freed_at thread reg i p)))
 
--- a write by the owner, which only looks where a `raw_ptr` points to the slot
+-- a write by the owner, which only looks if a `raw_ptr` points to the slot
 abbrev pub Writes : ℕ → ℕ → Player → Player → Answer → Type 0
 Writes i value p r answer =
     ((refs_of (slot_at p.table i).word.0 ≡ 0) × (r ≡ filled_at value i (stepped_at steps.Write i p))
     × (answer ≡ answers.Done (seen_at p.table i)))
     ⊎ ((0 < refs_of (slot_at p.table i).word.0) × (r ≡ p) × (answer ≡ answers.Shared (seen_at p.table i)))
 
--- a look through a `raw_ptr` by who doesn't own: this where the slot was freed before, else `not owner`
+-- a look through a `raw_ptr` by a non-owner: this if the slot was freed before, else `not owner`
 abbrev pub LooksAt : ℕ → Answer → Player → Answer → Type 0
 LooksAt i freed p answer =
     ((held_of (slot_at p.table i).word.0 ≡ 1) × (answer ≡ answers.NotOwner (seen_at p.table i)))
@@ -358,7 +358,7 @@ Reads i place p answer =
 
 -- ---- the end of a phase
 
--- the line of the report for a partition; those of so many from one on
+-- the line of the report for a partition; those of several from one on
 abbrev pub report_line : Player → ℕ → ReportLine
 report_line p q =
     record {

@@ -1,7 +1,7 @@
 -- The lists of the caches.
 use Rattle.std.specs.Prelude.{◌≡◌, ℕ, List, [], ◌∷◌, slice_index_or, slice_set}
 
--- the front of a list left it
+-- the front was taken from a list
 pub record IsFront (at place : ℕ) (before after : List (List ℕ)) : Type 0 where
   pub rest : List ℕ
   pub front : slice_index_or before at [] ≡ place ∷ rest

@@ -98,7 +98,7 @@ journals p = journal_at p.told.journals
 abbrev pub numbered_at : List Slot → ℕ → Numbered
 numbered_at slots i = record { slot = named_at slots i; number = number_of (slot_at slots i).word.0 }
 
--- where the list of a thread stands, by its partition and class
+-- the index of a thread's list, by its partition and class
 abbrev pub list_place : ℕ → ℕ → ℕ → ℕ → ℕ
 list_place partitions t q class = (t * partitions + q) * class_count + class
 
@@ -126,7 +126,7 @@ IsMappedAs r x None = 0 < held_of x.word.0 + refs_of x.word.0 → Contains r.map
 -- The table has the slots that ever left a root.
 --   let_out, mapped: what each is
 --   at: a root has it at the number of its word
---   born: by an entry of the pool that there is
+--   born: by an entry of the pool that exists
 --   apart: no two have one name
 --   others: a slot that isn't in the table never moved
 pub record AreAllSlots (partitions : ℕ) (slots : List Slot) (pools : List PoolEntry) (roots : Journals) (root : ℕ → Root) : Type 0 where
@@ -161,7 +161,7 @@ pub record AreShaped (partitions threads : ℕ) (p : Player) : Type 0 where
   pub quarantined : length p.quarantined.of ≡ most_partitions
   pub cached : length p.cached.of ≡ most_partitions
 
--- No number passes its type: each line adds at most so much.
+-- No number exceeds its type: each line adds only so much.
 pub record AreBounded (line : ℕ) (p : Player) : Type 0 where
   pub few : line ≤ 65538
   pub slots : length p.table ≤ 8 * line
@@ -179,7 +179,7 @@ pub record AreTallied (threads : ℕ) (slots : List Slot) (ps : List Played) (al
   pub many : cached.slots ≡ cached_slots all q threads
   pub bytes : cached.bytes ≡ cached_bytes all q threads
 
--- A line of the report was told at the end of its phase, which is before phase `phase`: of the records then, from which the
+-- A line of the report was made at the end of its phase, which is before phase `phase`: of the records then, from which the
 -- run went on to line n.
 --   home, size: the partition and the length of each slot that was stepped on by then
 pub record IsToldLine (partitions threads n phase : ℕ) (ps : List Played) (pools : List PoolEntry) (roots : Journals)
@@ -205,7 +205,7 @@ pub record IsToldLine (partitions threads n phase : ℕ) (ps : List Played) (poo
   pub bytes : l.cached.bytes ≡ cached_bytes all l.partition threads
   pub census : census_of l ≡ census (root_at entries before l.partition)
 
--- These lines of a trace were played: the records are so, and the tables are what they left.
+-- These lines of a trace were played: the records are these, and the tables are what they left.
 pub record IsPlaying (region partitions threads : ℕ) (ls : List Line) (p : Player) : Type 0 where
   pub ps : List Played
   pub told : IsToldTo threads ls ps (shown p)

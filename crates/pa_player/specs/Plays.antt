@@ -1,4 +1,4 @@
--- What an op owes: whatever lines led to the player before it, with one more they lead to the player after it.
+-- What is to be shown of an op: whatever lines led to the player before it, with one more they lead to the player after it.
 use Rattle.std.specs.Prelude.{ℕ, ◌<◌, List, [], ◌∷◌, ◌++◌, length}
 use Rattle.pa_trace.specs.declared.script.Op.{Op}
 use Rattle.pa_trace.specs.declared.script.Line.{Line}

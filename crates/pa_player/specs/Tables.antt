@@ -1,4 +1,4 @@
--- The tables of the player: the slots that ever left a root, what is told so far, and the tallies.
+-- The tables of the player: the slots that ever left a root, what is reported so far, and the tallies.
 use Rattle.std.specs.Prelude.{◌≡◌, ℕ, ◌+◌, ◌*◌, ◌<◌, ◌⊎◌, List, [], ◌∷◌, ◌++◌, length, slice_index_or, Option, Some, None}
 use Rattle.pa_machine.specs.declared.title.Title.{Title}
 use Rattle.pa_machine.specs.declared.word.SlotName.{SlotName}
@@ -9,7 +9,7 @@ use Rattle.pa_player.specs.declared.handle.Handle.{Handle}
 use Rattle.pa_player.specs.declared.handle.Handle.TheVariants.{Empty, Own, Ref, Freed, Cleared}
 use Rattle.pa_player.specs.declared.table.Slot.{Slot}
 
--- the slot in a place, and its name
+-- the slot at an index, and its name
 abbrev pub no_slot : Slot
 no_slot = record { title = record { start = 0; len = 0; born = 0 }; partition = 0; class = None; word = record { 0 = 0 }; content = 0 }
 
@@ -27,13 +27,13 @@ named_at slots i = name_of (slot_at slots i).title
 abbrev pub key_of : SlotName → ℕ
 key_of s = s.start + 4294967296 * s.born
 
--- By its name each slot is found: the key of a place leads to it, and each key to a place of that key.
+-- By its name each slot is found: the key of an index leads to it, and each key to an index of that key.
 pub record IsHomed (slots : List Slot) (home : ℕ → Option ℕ) : Type 0 where
   pub leads : (i : ℕ) → i < length slots → home (key_of (named_at slots i)) ≡ Some i
   pub only : (k i : ℕ) → home k ≡ Some i → (i < length slots) × (key_of (named_at slots i) ≡ k)
   pub low : (i : ℕ) → i < length slots → (named_at slots i).start < 4294967296
 
--- no two places have slots of one name
+-- no two indices have slots of one name
 abbrev pub AreNamed : List Slot → Type 0
 AreNamed slots = (i j : ℕ) → i < length slots → j < length slots → named_at slots i ≡ named_at slots j → i ≡ j
 
@@ -41,13 +41,13 @@ AreNamed slots = (i j : ℕ) → i < length slots → j < length slots → named
 abbrev pub NoneNamed : List Slot → SlotName → Type 0
 NoneNamed slots s = (i : ℕ) → i < length slots → named_at slots i ≡ s → ⊥
 
--- the place of a slot, which is put behind the others if none has its name
+-- the index of a slot, which is appended if none has its name
 abbrev pub IsHome : List Slot → List Slot → Slot → ℕ → Type 0
 IsHome before after new place =
     ((after ≡ before) × (place < length before) × (named_at before place ≡ name_of new.title))
     ⊎ ((after ≡ before ++ new ∷ []) × (place ≡ length before) × NoneNamed before (name_of new.title))
 
--- what is told of a handle
+-- how a handle is reported
 abbrev pub held_of : List Slot → Handle → Held
 held_of slots Empty = held.Nothing
 held_of slots (Own place) = held.Own (named_at slots place)
@@ -55,7 +55,7 @@ held_of slots (Ref place) = held.Ref (named_at slots place)
 held_of slots Freed = held.Nothing
 held_of slots Cleared = held.Nothing
 
--- the place of a handle is in the table
+-- the index of a handle is in the table
 abbrev pub IsIn : ℕ → Handle → Type 0
 IsIn n Empty = Unit {0}
 IsIn n (Own place) = place < n
@@ -63,7 +63,7 @@ IsIn n (Ref place) = place < n
 IsIn n Freed = Unit {0}
 IsIn n Cleared = Unit {0}
 
--- the handle is of the slot in a place; there is none
+-- the handle is of the slot at an index; there is none
 abbrev pub Points : Handle → ℕ → Type 0
 Points Empty i = ⊥
 Points (Own place) i = place ≡ i

@@ -1,4 +1,4 @@
--- What the run tells so far.
+-- What the run contains so far.
 use Rattle.std.specs.Prelude.{ℕ, List, [], ◌∷◌, ◌++◌, slice_index_or, slice_set}
 use Rattle.pa_record.specs.declared.entry.Entry.{Entry}
 use Rattle.pa_record.specs.declared.history.CellEntry.{CellEntry}
@@ -24,17 +24,17 @@ journal_in t q = slice_index_or t.journals q []
 abbrev pub history_in : Lists → ℕ → List CellEntry
 history_in t k = slice_index_or t.histories k []
 
--- an entry more of a journal, and of a history
+-- one more entry of a journal, and of a history
 abbrev pub with_act : ℕ → RootEntry → Lists → Lists
 with_act q e t = record t { journals = slice_set t.journals q (journal_in t q ++ e ∷ []) }
 
 abbrev pub with_exchange : ℕ → CellEntry → Lists → Lists
 with_exchange k e t = record t { histories = slice_set t.histories k (history_in t k ++ e ∷ []) }
 
--- the run tells these lists
+-- the run has these lists
 abbrev pub IsToldRun : Lists → Run → Type 0
 IsToldRun t r = HasLists t.entries t.journals t.pools t.histories t.report r
 
--- the bytes are the text of a run that tells them
+-- the bytes are the text of a run that has them
 abbrev pub IsToldText : Lists → List ℕ → Type 0
 IsToldText t bytes = IsTextOfLists t.entries t.journals t.pools t.histories t.report bytes

@@ -74,7 +74,7 @@ impl<O: Output> Player<Told<O>> {
         }
     }
 
-    // An allocation of a slot of the class, from the thread's cache, which is filled first where it has none.
+    // An allocation of a slot of the class, from the thread's cache, which is filled first if it has none.
     fn request_slot(
         &mut self,
         thread: u32,
@@ -93,7 +93,7 @@ impl<O: Output> Player<Told<O>> {
         Ok(self.issue_front(thread, reg, partition, at))
     }
 
-    // An allocation of a slot of the class where the thread's cache has none.
+    // An allocation of a slot of the class if the thread's cache has none.
     fn refill(
         &mut self,
         thread: u32,
@@ -126,7 +126,7 @@ impl<O: Output> Player<Told<O>> {
         self.issue(thread, reg, place)
     }
 
-    // Fills a list that is empty from the root. Where there is no room it tells the journal's entry that says so.
+    // Fills a list that is empty from the root. If there is no room, it returns the journal's entry that says so.
     #[inline(always)]
     fn fill(&mut self, at: usize, partition: u32, class: Class) -> Result<Option<u32>, OutOfMemory>
         requires at { at < length self.old.caches }
@@ -152,7 +152,7 @@ impl<O: Output> Player<Told<O>> {
         Ok(None)
     }
 
-    // Puts the slots that left the root into the list, in their order, and tells the journal's entry.
+    // Puts the slots that left the root into the list, in their order, and returns the journal's entry.
     fn tell_fill(
         &mut self,
         at: usize,
@@ -178,7 +178,7 @@ impl<O: Output> Player<Told<O>> {
         Ok(())
     }
 
-    // Tells the pool's entry, if it was asked for so many super pages.
+    // Records the pool's entry, if it was asked for `count` super pages.
     fn tell_asked(
         &mut self,
         partition: u32,
@@ -251,7 +251,7 @@ impl<O: Output> Player<Told<O>> {
         Ok(self.issue(thread, reg, place))
     }
 
-    // Takes a direct map from the root of a partition, or none where there is no room.
+    // Takes a direct map from the root of a partition, or none if there is no room.
     #[inline(always)]
     fn take_map(&mut self, partition: u32, shape: Shape) -> Result<Placed, OutOfMemory>
         requires whole { shape.slot % 4096 ≡ 0 }
@@ -287,7 +287,7 @@ impl<O: Output> Player<Told<O>> {
     }
 }
 
-// The super page in which the first of the titles stands.
+// The super page in which the first of the titles lies.
 fn first_super(titles: &[Title]) -> Option<u32>
     ensures { result ≡ found_by titles.now }
 {

@@ -7,7 +7,7 @@ use pa_machine::OutOfMemory;
 use std::alloc::Global;
 use std::marker::Model;
 
-// The lists of all threads' caches, one after the other. They are seen as lists of places in the table, front first.
+// The lists of all threads' caches, one after the other. They are seen as lists of indices in the table, front first.
 #[derive(Drop)]
 pub(crate) struct Caches {
     lists: Vec<FreeList>,
@@ -22,7 +22,7 @@ impl Model for Caches {
 }
 
 impl Caches {
-    // So many empty lists.
+    // That many empty lists.
     pub(crate) fn new(alloc: Global, count: u32) -> Result<Caches, OutOfMemory>
         ensures { IfOk result (AreEmpty count) }
     {
@@ -41,7 +41,7 @@ impl Caches {
         self.lists[at].places()
     }
 
-    // Takes the front of a list. `None` exactly where it is empty.
+    // Takes the front of a list. `None` exactly when it is empty.
     pub(crate) fn front(&mut self, at: usize) -> Option<u32>
         requires among { at < length self.old }
         ensures some { IfSome result (λ place. IsFront at place self.old self.new) }
@@ -50,7 +50,7 @@ impl Caches {
         self.lists[at].front()
     }
 
-    // Puts a slot in front of a list, and behind it.
+    // Puts a slot at the front of a list, and at its end.
     pub(crate) fn put(&mut self, at: usize, place: u32)
         requires among { at < length self.old }
         requires room { length (slice_index_or self.old at []) < 65 }
@@ -67,7 +67,7 @@ impl Caches {
         self.lists[at].push(place);
     }
 
-    // Keeps so many of a list from the front on.
+    // Keeps the first `count` slots of a list.
     pub(crate) fn keep(&mut self, at: usize, count: usize)
         requires among { at < length self.old }
         ensures { self.new ≡ slice_set self.old at (take count (slice_index_or self.old at [])) }

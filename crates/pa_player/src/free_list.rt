@@ -3,7 +3,7 @@ ghost use Rattle.std.specs.Prelude.{◌≡◌, ◌<◌, ◌≤◌, [], ◌∷◌
 use arrayvec::ArrayVec;
 use std::marker::Model;
 
-// The free slots of one class that a thread's cache has, as their places in the table, front first: at most 65. It takes no
+// The free slots of one class that a thread's cache has, as their indices in the table, front first: at most 65. It needs no
 // memory, and is seen as the list of them.
 #[derive(Drop)]
 pub(crate) struct FreeList {
@@ -38,7 +38,7 @@ impl FreeList {
         self.places.as_slice()
     }
 
-    // Takes the front. `None` exactly where the list is empty.
+    // Takes the front. `None` exactly when the list is empty.
     pub(crate) fn front(&mut self) -> Option<u32>
         ensures some { IfSome result (λ place. self.old ≡ place ∷ self.new) }
         ensures none { IfNone result (self.old ≡ []) }
@@ -50,7 +50,7 @@ impl FreeList {
         }
     }
 
-    // Puts a slot in front of the others.
+    // Puts a slot before the others.
     pub(crate) fn put(&mut self, place: u32)
         requires { length self.old < 65 }
         ensures { self.new ≡ place ∷ self.old }
@@ -58,7 +58,7 @@ impl FreeList {
         self.places.insert(0, place);
     }
 
-    // Puts a slot behind the others.
+    // Appends a slot.
     pub(crate) fn push(&mut self, place: u32)
         requires { length self.old < 65 }
         ensures { self.new ≡ self.old ++ place ∷ [] }
@@ -66,7 +66,7 @@ impl FreeList {
         self.places.push(place);
     }
 
-    // Keeps so many from the front on.
+    // Keeps the first `count` slots.
     pub(crate) fn keep(&mut self, count: usize)
         ensures { self.new ≡ take count self.old }
     {

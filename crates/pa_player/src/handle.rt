@@ -1,4 +1,4 @@
-// What a register or a cell holds; a slot is told by its place in the table.
+// What a register or a cell holds; a slot is given by its index in the table.
 #[derive(Clone, Copy, Debug, PartialEq, Eq)]
 pub(crate) enum Handle {
     Empty,

@@ -15,7 +15,7 @@ pub(crate) struct Heap {
 }
 
 impl Heap {
-    // So many super pages, none of which is taken, and empty roots.
+    // That many super pages, none of which is taken, and empty roots.
     pub(crate) fn new(alloc: Global, region: u32, partitions: u32) -> Result<Heap, OutOfMemory>
         requires { region ≤ 64 }
         ensures pool { IfOk result (λ h. h.pool ≡ new_pool region) }

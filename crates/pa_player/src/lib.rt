@@ -1,4 +1,4 @@
-//! The player on one thread, line by line: it plays each line of a trace over the plain placement, and tells its records and
+//! The player on one thread, line by line: it plays each line of a trace over the plain placement, and sends its records and
 //! journals to an output, as lists or as their texts.
 #![tactic(auto)]
 

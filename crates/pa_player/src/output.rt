@@ -8,15 +8,15 @@ use pa_record::{Entry, Journal, LentEntry};
 use pa_run_writer::{Journals, Records};
 use std::alloc::Global;
 
-/// What a player tells its records and its journals to. `books` is what it was told.
+/// Where a player sends its records and its journals. `books` is what it was sent.
 pub trait Output: Drop {
     ghost books: { Self → Books };
 
-    /// A record more.
+    /// One more record.
     fn record(&mut self, entry: Entry) -> Result<(), OutOfMemory>
         ensures { OnOk result (books self.new ≡ with_kept_entry entry (books self.old)) };
 
-    /// An entry more of a partition's journal. Returns its index there.
+    /// One more entry of a partition's journal. Returns its index there.
     fn act(&mut self, partition: u32, entry: &LentEntry<'_>) -> Result<u32, OutOfMemory>
         requires partition { partition < length (books self.old).journals }
         requires few { length (kept_acts (books self.old) partition) < 2 ^ 32 }
@@ -32,7 +32,7 @@ pub struct ListOutput {
 }
 
 impl ListOutput {
-    /// No records, and `partitions` journals with no entries. Room is taken for the records of `lines` lines.
+    /// No records, and `partitions` journals with no entries. Memory is reserved for the records of `lines` lines.
     pub fn new(alloc: Global, partitions: u32, lines: usize) -> Result<ListOutput, OutOfMemory>
         ensures entries { IfOk result (λ lists. lists.entries.items ≡ []) }
         ensures journals { IfOk result (λ lists. AreEmpty partitions lists.journals.items) }
@@ -81,7 +81,7 @@ pub struct TextOutput {
 }
 
 impl TextOutput {
-    /// No records, and `partitions` journals with no entries. Room is taken for the texts of the records of `lines` lines.
+    /// No records, and `partitions` journals with no entries. Memory is reserved for the texts of the records of `lines` lines.
     pub fn new(alloc: Global, partitions: u32, lines: usize) -> Result<TextOutput, OutOfMemory>
         ensures records { IfOk result (λ texts. texts.records ≡ []) }
         ensures journals { IfOk result (λ texts. AreEmpty partitions texts.journals) }

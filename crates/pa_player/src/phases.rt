@@ -10,7 +10,7 @@ use pa_machine::OutOfMemory;
 use pa_record::ReportLine;
 
 impl<O: Output> Player<Told<O>> {
-    // Tells the heap of each partition at the end of a phase.
+    // Reports the heap of each partition at the end of a phase.
     pub(crate) fn end_phase(&mut self) -> Result<(), OutOfMemory>
         requires { CanEnd self.old }
         ensures { OnOk result (self.new ≡ phase_ended self.old) }

@@ -21,7 +21,7 @@ use pa_record::Answer;
 use pa_trace::{CELLS, Line, Op};
 use std::alloc::Global;
 
-/// What the lines of a trace so far left, and the output to which they are told.
+/// What the lines of a trace so far left, and the output to which they are sent.
 #[derive(Drop)]
 pub struct Player<T> {
     pub(crate) heap: Heap,
@@ -38,7 +38,7 @@ pub struct Player<T> {
 }
 
 impl<O: Output> Player<Told<O>> {
-    /// Before the first line, where nothing is told: `region` super pages, 1 to 16, `partitions`, 1 to 4, and `threads`, 1 to
+    /// Before the first line, when nothing was sent: `region` super pages, 1 to 16, `partitions`, 1 to 4, and `threads`, 1 to
     /// 16, as in the head of a trace. Out of memory is the only error.
     pub fn new(
         alloc: Global,
@@ -66,7 +66,7 @@ impl<O: Output> Player<Told<O>> {
         })
     }
 
-    /// Plays a line, and records its op. Out of memory is the only error; after it the player is of no more use.
+    /// Plays a line, and records its op. Out of memory is the only error; after it the player can't be used.
     pub fn line(&mut self, line: Line) -> Result<(), OutOfMemory>
         requires { IsReady line self.old }
         ensures { OnOk result (GoesTo self.old line self.new) }
@@ -97,7 +97,7 @@ impl<O: Output> Player<Told<O>> {
         Ok(())
     }
 
-    /// Ends the last phase, and returns what all lines told. Out of memory is the only error.
+    /// Ends the last phase, and returns what all lines reported. Out of memory is the only error.
     pub fn finish(mut self) -> Result<Told<O>, OutOfMemory>
         requires { CanEnd self }
         ensures { IfOk result (λ told. told ≡ (phase_ended self).told) }
@@ -106,7 +106,7 @@ impl<O: Output> Player<Told<O>> {
         Ok(self.told)
     }
 
-    // Plays one op, and answers it.
+    // Plays one op, and returns its answer.
     fn answer(&mut self, thread: u32, op: Op) -> Result<Answer, OutOfMemory>
         requires { IsReady (Do thread op) self.old }
         ensures { IfOk result (Plays self.old thread op self.new) }
@@ -145,7 +145,7 @@ impl<O: Output> Player<Told<O>> {
         self.registers.set(thread, reg, holds);
     }
 
-    // Where the list of a thread's cache stands, by its partition and class.
+    // The index of the list of a thread's cache, by its partition and class.
     pub(crate) fn list_of(&self, thread: u32, partition: u32, class: Class) -> usize
         requires thread { thread < most_threads }
         requires partitions { self.now.partitions ≤ most_partitions }

@@ -28,7 +28,7 @@ impl<O: Output> Player<Told<O>> {
         Ok(Answer::Purged { slots })
     }
 
-    // The same in one partition. Tells how many slots were given back.
+    // The same in one partition. Returns how many slots were given back.
     fn purge_one(&mut self, thread: u32, partition: u32) -> Result<u32, OutOfMemory>
         requires { CanPurgeOne thread partition self.old }
         ensures slots { IfOk result (λ n. n ≡ listed_slots (caches self.old thread partition) 0 class_count) }
@@ -40,7 +40,7 @@ impl<O: Output> Player<Told<O>> {
         Ok(slots)
     }
 
-    // Gives back all that the thread's lists of one partition have. Tells how many slots.
+    // Gives back all that the thread's lists of one partition have. Returns how many slots.
     fn give_all(&mut self, thread: u32, partition: u32) -> Result<u32, OutOfMemory>
         requires { CanPurgeOne thread partition self.old }
         ensures slots { IfOk result (λ n. n ≡ listed_slots (caches self.old thread partition) 0 class_count) }

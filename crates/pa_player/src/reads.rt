@@ -17,7 +17,7 @@ use pa_record::Answer;
 const WORD_BYTES: u32 = 8;
 
 impl<O: Output> Player<Told<O>> {
-    // A read of a word, by its number from 0.
+    // A read of a word, by its index from 0.
     pub(crate) fn read(&self, thread: u32, reg: u32, word: u32) -> Answer
         requires { IsReady (Do thread (ops.Read reg word)) self.now }
         ensures { Plays self.now thread (ops.Read reg word) self.now result }
@@ -31,7 +31,7 @@ impl<O: Output> Player<Told<O>> {
         }
     }
 
-    // A read of this slot: out of range past its words, and dangling where it was freed.
+    // A read of this slot: out of range past its words, and dangling if it was freed.
     fn read_from(&self, place: u32, word: u32) -> Answer
         requires { CanRead place self.now }
         ensures { Reads place word self.now result }

@@ -25,7 +25,7 @@ impl Model for Registers {
 }
 
 impl Registers {
-    // The empty registers of so many threads.
+    // The empty registers of that many threads.
     pub(crate) fn new(alloc: Global, threads: u32) -> Result<Registers, OutOfMemory>
         ensures { IfOk result (AreClear threads) }
     {

@@ -32,7 +32,7 @@ impl<O: Output> Player<Told<O>> {
         }
     }
 
-    // Puts a slot in front of its list. Where that is longer than its limit then, those after half of the limit go back to
+    // Puts a slot at the front of its list. If that is then longer than its limit, the slots after half of the limit go back to
     // the root.
     fn put_back(
         &mut self,
@@ -56,7 +56,7 @@ impl<O: Output> Player<Told<O>> {
         Ok(())
     }
 
-    // Gives the slots of a list from this place on back to the root, in batches of at most 16.
+    // Gives the slots of a list from this index on back to the root, in batches of at most 16.
     pub(crate) fn give(&mut self, at: usize, partition: u32, keep: usize) -> Result<(), OutOfMemory>
         requires at { at < length self.old.caches }
         requires can { CanGive partition (drop keep (list_in self.old at)) self.old }
@@ -117,7 +117,7 @@ impl<O: Output> Player<Told<O>> {
     }
 }
 
-// Lists the titles of the slots in these places, at most 16, and the slots with their numbers. Tells their bytes.
+// Lists the titles of the slots at these indices, at most 16, and the slots with their step numbers. Returns their bytes.
 #[inline(always)]
 fn list_given(
     table: &Table,

@@ -35,7 +35,7 @@ impl Model for Roots {
 }
 
 impl Roots {
-    // So many roots without a span.
+    // That many roots without a span.
     pub(crate) fn new(alloc: Global, partitions: u32) -> Result<Roots, OutOfMemory>
         ensures { IfOk result (AreNew partitions) }
     {
@@ -55,7 +55,7 @@ impl Roots {
     }
 
     // Fills from the root of a partition: `want` slots of the class, or as many as there are, into the list, which must
-    // have none. Tells the pool's entry, if the pool was asked.
+    // have none. Returns the pool's entry, if the pool was asked.
     #[inline(always)]
     pub(crate) fn fill(
         &mut self,
@@ -119,7 +119,7 @@ impl Roots {
         self.of[partition as usize].give(titles);
     }
 
-    // Gives a direct map of a partition back, and its super pages to the pool. Tells the pool's entry.
+    // Gives a direct map of a partition back, and its super pages to the pool. Returns the pool's entry.
     pub(crate) fn unmap(&mut self, partition: u32, pool: &mut PoolPlan, title: Title) -> u32
         requires among { partition < length self.old }
         requires mapped { Contains (slice_index_or self.old partition new_root).maps title }

@@ -33,7 +33,7 @@ impl<O: Output> Player<Told<O>> {
         }
     }
 
-    // A copy of a handle of this slot, where the second register has none.
+    // A copy of a handle of this slot, if the second register has none.
     fn copy_to(&mut self, thread: u32, place: u32, to: u32) -> Answer
         requires { CanCopy thread to place self.old }
         ensures { Copies thread to place (register_at self.old thread to) self.old self.new result }
@@ -104,7 +104,7 @@ impl<O: Output> Player<Told<O>> {
         }
     }
 
-    // Frees the slot that a register owns. It is returned where no `raw_ptr` points to it.
+    // Frees the slot that a register owns. It is returned if no `raw_ptr` points to it.
     fn free_owned(&mut self, thread: u32, reg: u32, place: u32) -> Result<Answer, OutOfMemory>
         requires { CanFree thread reg place self.old }
         ensures answer { IfOk result (λ a. a ≡ answers.Done (seen_at self.old.table place)) }
@@ -123,7 +123,7 @@ impl<O: Output> Player<Told<O>> {
         Ok(Answer::Done { seen })
     }
 
-    // A free through a `raw_ptr`: a second free where the slot was freed before, else by one who isn't the owner.
+    // A free through a `raw_ptr`: a second free if the slot was freed before, else a free by a non-owner.
     fn free_through(&self, place: u32) -> Answer
         requires { place < length self.now.table }
         ensures { LooksAt place (answers.SecondFree (Some (seen_at self.now.table place))) self.now result }
@@ -150,7 +150,7 @@ impl<O: Output> Player<Told<O>> {
         }
     }
 
-    // Writes the slot that a register owns, where no `raw_ptr` points to it.
+    // Writes the slot that a register owns, if no `raw_ptr` points to it.
     fn write_owned(&mut self, place: u32, value: u64) -> Answer
         requires { CanWrite place self.old }
         ensures { Writes place value self.old self.new result }
@@ -164,7 +164,7 @@ impl<O: Output> Player<Told<O>> {
         Answer::Done { seen }
     }
 
-    // A write through a `raw_ptr`: a stale use where the slot was freed, else by one who isn't the owner.
+    // A write through a `raw_ptr`: a stale use if the slot was freed, else a write by a non-owner.
     fn write_through(&self, place: u32) -> Answer
         requires { place < length self.now.table }
         ensures { LooksAt place (answers.StaleUse (Some (seen_at self.now.table place))) self.now result }

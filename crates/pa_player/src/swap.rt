@@ -24,7 +24,7 @@ impl<O: Output> Player<Told<O>> {
         Ok(Answer::Swapped { entry })
     }
 
-    // Makes the exchange. Tells its place in the cell's history.
+    // Makes the exchange. Returns its index in the cell's history.
     fn exchange(&mut self, thread: u32, cell: u32, reg: u32) -> Result<u32, OutOfMemory>
         requires { CanSwap thread cell reg self.old }
         ensures place { IfOk result (λ entry. entry ≡ length (history_in self.old.told cell)) }

@@ -11,7 +11,7 @@ use std::alloc::Global;
 use std::collections::HashMap;
 use std::marker::Model;
 
-// A slot that left a root: its title, its partition, its class where it is no direct map, its count word, and the value of
+// A slot that left a root: its title, its partition, its class if it isn't a direct map, its count word, and the value of
 // every word of its content while the allocator holds it.
 #[derive(Clone, Copy)]
 pub(crate) struct Slot {
@@ -62,7 +62,7 @@ impl Table {
         let _slots = self.slots.len();
     }
 
-    // Where the slot of the title stands. It is put behind the others, never issued, if none has its name.
+    // The index of the title's slot. It is appended, never issued, if none has its name.
     pub(crate) fn home(
         &mut self,
         title: Title,
@@ -91,7 +91,7 @@ impl Table {
         Ok(place)
     }
 
-    // The slot there.
+    // The slot at this index.
     pub(crate) fn slot(&self, place: u32) -> Slot
         requires among { place < length self.now }
         ensures slot { result ≡ slot_at self.now place }
@@ -125,7 +125,7 @@ impl Table {
         }
     }
 
-    // Makes a step on its count word. Tells what was found there.
+    // Makes a step on its count word. Returns what was found there.
     pub(crate) fn step(&mut self, place: u32, step: Step) -> Seen
         requires among { place < length self.old }
         requires can { CanStep step (slot_at self.old place).word.0 }
@@ -148,7 +148,7 @@ impl Table {
         self.slots[place as usize].content = value;
     }
 
-    // What is told of a handle.
+    // How a handle is reported.
     pub(crate) fn told(&self, handle: Handle) -> Held
         requires among { IsIn (length self.now) handle }
         ensures told { result ≡ held_of self.now handle }

@@ -5,7 +5,7 @@ ghost use Rattle.pa_player.specs.Tallies.{tally_at, IsNone};
 use pa_record::Tally;
 use pa_trace::MOST_PARTITIONS;
 
-// What the partitions have of one place of the report.
+// What the partitions have of one count of the report.
 #[derive(Clone, Copy)]
 pub(crate) struct Tallies {
     pub(crate) of: [Tally; MOST_PARTITIONS as usize],
@@ -21,7 +21,7 @@ impl Tallies {
         }
     }
 
-    // One slot more of so many bytes, and so many slots and bytes less.
+    // One more slot of `len` bytes, and that many slots and bytes less.
     pub(crate) fn add(&mut self, partition: u32, len: u32)
         requires partition { partition < most_partitions }
         requires slots { (tally_at self.old.of partition).slots < 2 ^ 32 }

@@ -16,8 +16,8 @@ use pa_run_writer::run_text;
 use std::alloc::Global;
 use std::marker::Model;
 
-/// What the run tells so far, and the number of the line that is played. It is seen as its lists, whatever the records and the
-/// journals are told to.
+/// What the run contains so far, and the number of the line that is played. It is seen as its lists, wherever the records and the
+/// journals are sent.
 #[derive(Drop)]
 pub struct Told<O: Output> {
     output: O,
@@ -43,7 +43,7 @@ impl<O: Output> Model for Told<O> {
 }
 
 impl<O: Output> Told<O> {
-    /// Nothing, before the first line, where the output was told nothing. The head is line 1.
+    /// Nothing, before the first line, when the output was sent nothing. The head is line 1.
     pub fn new(alloc: Global, output: O) -> Result<Told<O>, OutOfMemory>
         requires entries { (O.books output).entries ≡ [] }
         requires journals { (q : ℕ) → slice_index_or (O.books output).journals q [] ≡ [] }
@@ -109,7 +109,7 @@ impl<O: Output> Told<O> {
         Ok(())
     }
 
-    // An entry more of a root's journal on this line. Tells its place there.
+    // One more entry of a root's journal on this line. Returns its index there.
     #[inline(always)]
     pub(crate) fn root(&mut self, partition: u32, act: Act<'_>) -> Result<u32, OutOfMemory>
         requires partition { partition < length self.old.journals }
@@ -120,7 +120,7 @@ impl<O: Output> Told<O> {
         self.output.act(partition, &LentEntry::of(self.line, act))
     }
 
-    // The entry that there was no room for a slot of the class, or for a direct map where none is named. Tells its place there.
+    // The entry that there was no room for a slot of the class, or, if none is named, for a direct map. Returns its index there.
     #[inline(never)]
     pub(crate) fn refused(
         &mut self,
@@ -136,7 +136,7 @@ impl<O: Output> Told<O> {
         self.root(partition, Act::Full { class, pool })
     }
 
-    // An exchange with a cell on this line. Tells its place in the cell's history.
+    // An exchange with a cell on this line. Returns its index in the cell's history.
     pub(crate) fn exchange(
         &mut self,
         cell: u32,
@@ -157,7 +157,7 @@ impl<O: Output> Told<O> {
 }
 
 impl Told<ListOutput> {
-    /// The run that was told.
+    /// The run that was reported.
     pub fn into_run(self, alloc: Global) -> Result<Run, OutOfMemory>
         ensures { IfOk result (IsToldRun self) }
     {
@@ -173,7 +173,7 @@ impl Told<ListOutput> {
 }
 
 impl Told<TextOutput> {
-    /// The text of the run that was told.
+    /// The text of the run that was reported.
     pub fn into_text(self) -> Result<Vec<u8>, OutOfMemory>
         requires { (r : Run) → IsToldRun self r → IsPrintable r }
         ensures { IfOk result (λ text. IsToldText self text.items) }

@@ -1,4 +1,4 @@
--- In a sound root the turns tell one span: the one that has the greatest of those that pass a test, or the least.
+-- In a sound root the turns determine one span: the one that has the greatest of those that pass a test, or the least.
 use Rattle.std.specs.Prelude.{◌≡◌, Bool, true, false, Some, Contains}
 use Rattle.pa_buckets.specs.declared.spans.State.TheVariants as state
 use Rattle.pa_record.specs.Spans.{Span, is_in, latest, earliest}

@@ -21,7 +21,7 @@ use Rattle.pa_record.specs.Sound.{IsSound, IsSettled, IsBornBelow, AsksFrom, lea
 use Rattle.pa_record.specs.Steps.{IsLatest, IsEarliest, IsFilled, IsReturned, IsDecommittedTimes}
 use Rattle.pa_lists.specs.Numbers.{numbers}
 
--- Of the spans that pass a test the one with the greatest turn, and the one with the least; and none where none passes.
+-- Of the spans that pass a test the one with the greatest turn, and the one with the least; and none if none passes.
 pub record TurnsChoose : Type 0 where
   pub greatest : (test : Span → Bool) (ss : List Span) (s : Span) → latest test ss ≡ Some s → IsLatest test ss s
   pub no_greatest : (test : Span → Bool) (ss : List Span) → latest test ss ≡ None → (s : Span) → Contains ss s → test s ≡ false
@@ -48,8 +48,8 @@ pub record OutIsOut : Type 0 where
   pub titled : (r : Root) (name : SlotName) → IsOut r name → (t : Title) × IsTitleOut r t × (name ≡ name_of t)
   pub one : (r : Root) (t u : Title) → IsSound r → IsTitleOut r t → IsTitleOut r u → name_of t ≡ name_of u → t ≡ u
 
--- A fill of a sound root: the slots were not out before, are different, and are out after it. It gives one at least exactly
--- where its first take finds a span, which it does where it got a new super page; else it changes nothing.
+-- A fill of a sound root: the slots were not out before, are different, and are out after it. It gives at least one exactly
+-- when its first take finds a span, which it does where it got a new super page; else it changes nothing.
 pub record FillKeeps : Type 0 where
   pub filled : (class want : ℕ) (r : Root) → IsSound r → class < class_count → IsFilled class want r (takes class want r)
   pub opens : (number born : ℕ) (r : Root) → IsSound r → IsBornBelow born r → IsSound (opened number born r)
@@ -94,8 +94,8 @@ pub record JournalGrows : Type 0 where
       root_replayed pools (journal ++ e ∷ []) new_root ≡ root_next pools e.act (root_replayed pools journal new_root)
 
 -- What fits is determined: of two fills of a class that fit one root both asked the pool or neither did, and with the same
--- entry of the pool they have the same slots; where a fill fits, no Full of its class does that names the same entry, and
--- none at all where the fill asked for none; and direct maps of one entry of the pool have one name.
+-- entry of the pool they have the same slots; if a fill fits, no Full of its class that names the same entry does, and
+-- none at all if the fill asked for none; and direct maps of one entry of the pool have one name.
 pub record EntryIsOne : Type 0 where
   pub asked : (pools : List PoolEntry) (class : ℕ) (a b : Option ℕ) (xs ys : List Numbered) (r : Root) →
       RootActFits pools (Fill class a xs) r → RootActFits pools (Fill class b ys) r → is_some a ≡ is_some b
@@ -130,7 +130,7 @@ comes_by (Give slots) = names slots
 comes_by (Unmap asked slot) = slot.slot ∷ []
 comes_by Purge = []
 
--- how often a name stands in a list; how often a slot left the root in a journal, and how often it came back
+-- how often a name is in a list; how often a slot left the root in a journal, and how often it came back
 abbrev pub times : SlotName → List SlotName → ℕ
 times name xs = count_by (same_slot name) xs
 
@@ -146,7 +146,7 @@ times_back name (e ∷ es) = times name (comes_by e.act) + times_back name es
 abbrev pub IsNameOut : Root → SlotName → Type 0
 IsNameOut r name = (t : Title) × IsTitleOut r t × (name ≡ name_of t)
 
--- A slot is out exactly where it left the root once more than it came back; else it came back as often as it left.
+-- A slot is out exactly when it left the root once more than it came back; else it came back as often as it left.
 abbrev pub IsOutBy : Root → SlotName → ℕ → ℕ → Type 0
 IsOutBy r name left back = (IsNameOut r name × (left ≡ back + 1)) ⊎ ((IsNameOut r name → ⊥) × (left ≡ back))
 
@@ -154,7 +154,7 @@ abbrev pub OutIsLeft : Type 0
 OutIsLeft = (pools : List PoolEntry) (journal : List RootEntry) (name : SlotName) → IsJournal pools journal →
     IsOutBy (root_replayed pools journal new_root) name (times_left name journal) (times_back name journal)
 
--- What a call did is an entry that fits, where the pool made its entry for it behind all others: a fill that asked and got
+-- What a call did is an entry that fits, if the pool appended its entry for it: a fill that asked and got
 -- a super page, one that got none, a direct map, one that got no room, and a direct map that went back. And the pool's next
 -- entry is always one that a journal may name.
 pub record CallsFit : Type 0 where

@@ -1,4 +1,4 @@
--- The numbers of an entry, in the order of its fields. A variant is its place in its enum, counted from 0, before its
+-- The numbers of an entry, in the order of its fields. A variant is its index in its enum, counted from 0, before its
 -- fields; a list is its length before its members; an Option is 0, or 1 before its value.
 use Rattle.std.specs.Prelude.{ℕ, List, [], ◌∷◌, ◌++◌, length, Option, Some, None}
 use Rattle.std.specs.List.{flat_map}

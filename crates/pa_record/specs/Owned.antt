@@ -1,5 +1,5 @@
--- What a root has is its own: its super pages and direct maps are the runs that the entries of the pool took which they
--- name, and a slot lies in the super page of the entry that it names.
+-- What a root has is its own: each of its super pages and direct maps is the run that its entry of the pool took,
+-- and a slot lies in the super page of the entry that it names.
 use Rattle.std.specs.Prelude.{◌≡◌, ℕ, ◌+◌, ◌≤◌, List, Contains}
 use Rattle.pa_machine.specs.declared.title.Title.{Title}
 use Rattle.pa_layout.specs.Pages.{page_place, supers_for}
@@ -11,7 +11,7 @@ use Rattle.pa_record.specs.Pool.{FoundRun}
 use Rattle.pa_record.specs.Root.{Root, new_root, root_next, root_replayed, RootActFits, IsJournal, asked_by}
 use Rattle.pa_record.specs.Sound.{IsSound, IsBornBelow, AsksFrom, IsMade, IsInOwn}
 
--- the direct map stands behind the first partition page of the super pages that its entry of the pool took
+-- the direct map starts right after the first partition page of the super pages that its entry of the pool took
 abbrev pub IsMapTaken : List PoolEntry → Title → Type 0
 IsMapTaken pools t = (first : ℕ) × FoundRun pools t.born (supers_for t.len) first × (t.start ≡ page_place first 1)
 

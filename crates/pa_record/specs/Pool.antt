@@ -24,12 +24,12 @@ pub record IsFreeRun (s : PoolState) (count first : ℕ) : Type 0 where
   pub inside : first + count ≤ s.supers
   pub free : (t : Taken) → Contains s.taken t → IsApart first count t
 
--- what a take of `count` super pages finds: the lowest run that is free, and nothing where there is none
+-- what a take of `count` super pages finds: the lowest run that is free, and nothing if there is none
 abbrev pub IsLowest : PoolState → ℕ → Option ℕ → Type 0
 IsLowest s count None = (first : ℕ) → IsFreeRun s count first → ⊥
 IsLowest s count (Some first) = IsFreeRun s count first × ((lower : ℕ) → IsFreeRun s count lower → first ≤ lower)
 
--- these super pages are one take that wasn't given
+-- these super pages are one take that wasn't given back
 pub record IsOneTake (s : PoolState) (first count : ℕ) (t : Taken) : Type 0 where
   pub among : Contains s.taken t
   pub begins : t.first ≡ first
@@ -39,8 +39,8 @@ pub record IsOneTake (s : PoolState) (first count : ℕ) (t : Taken) : Type 0 wh
 abbrev pub IsPartitions : List PoolEntry → ℕ → Taken → Type 0
 IsPartitions pools partition t = (e : PoolEntry) × (slice_get pools t.entry ≡ Some e) × (e.partition ≡ partition)
 
--- An entry fits: a take has a count of at least 1 and finds the lowest free run, or none where there is none; a give
--- names one take of its partition that wasn't given.
+-- An entry fits: a take has a count of at least 1 and finds the lowest free run, or none if there is none; a give
+-- names one take of its partition that wasn't given back.
 abbrev pub PoolActFits : List PoolEntry → ℕ → PoolAct → PoolState → Type 0
 PoolActFits pools partition (Take count found) s = (1 ≤ count) × IsLowest s count found
 PoolActFits pools partition (Give count first) s = (t : Taken) × IsOneTake s first count t × IsPartitions pools partition t
@@ -74,7 +74,7 @@ abbrev pub PoolReplays : List PoolEntry → List PoolEntry → PoolState → Typ
 PoolReplays pools [] s = Unit {0}
 PoolReplays pools (e ∷ es) s = PoolActFits pools e.partition e.act s × PoolReplays pools es (pool_next e.act s)
 
--- the entries are those of a pool over so many super pages
+-- the entries are those of a pool over that many super pages
 abbrev pub IsPool : ℕ → List PoolEntry → Type 0
 IsPool supers pools = PoolReplays pools pools (new_pool supers)
 

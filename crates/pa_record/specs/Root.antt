@@ -35,7 +35,7 @@ new_root = record { supers = []; page = 0; turn = 0; maps = []; spans = [] }
 abbrev pub current : Root → Option SuperPage
 current r = slice_get r.supers (length r.supers - 1)
 
--- s enters the state, with the next turn where it is another than before
+-- s enters the state; if it was in another one before, it gets the next turn
 abbrev pub in_state : State → ℕ → Span → Span
 in_state to turn s = if same_state s.state to then s else record s { state = to; turn = turn }
 
@@ -45,7 +45,7 @@ turn_after to turn s = if same_state s.state to then turn else turn + 1
 abbrev pub entered : State → Span → Root → Root
 entered to s r = record r { spans = put (in_state to r.turn s) r.spans; turn = turn_after to r.turn s }
 
--- a span, and the root in which it stands
+-- a span, and the root that it is in
 pub record Found : Type 0 where
   pub span : Span
   pub root : Root
@@ -65,7 +65,7 @@ at_page class r (Some at) =
     let s = new_span class at r.page in
     if nat_le (r.page + pages_of class) 127 then Some (record { span = s; root = with_span s r }) else None
 
--- the listed span; where none is listed, a new one, if the current super page has room for it
+-- the listed span; if none is listed, a new one, if the current super page has room for it
 abbrev pub found_or_new : ℕ → Root → Option Span → Option Found
 found_or_new class r None = at_page class r (current r)
 found_or_new class r (Some s) = Some (record { span = s; root = r })
@@ -105,7 +105,7 @@ and_then t further = elim t.title as (λ o. Filled) [
   | Some title ↦ let rest = further t.root in record { root = rest.root; titles = title ∷ rest.titles }
 ]
 
--- takes until so many slots are taken or a take finds none
+-- takes until that many slots are taken or a take finds none
 abbrev pub takes : ℕ → ℕ → Root → Filled
 takes class zero r = record { root = r; titles = [] }
 takes class (suc want) r = and_then (one_take class r) (takes class want)
@@ -180,7 +180,7 @@ abbrev pub IsTitleOut : Root → Title → Type 0
 IsTitleOut r t =
     ((s : Span) × Contains r.spans s × (number : ℕ) × IsOutOf s (name_of t) number × (t ≡ title_at s number)) ⊎ Contains r.maps t
 
--- where the fill's first take asked the pool, the super page that it got is the current one
+-- if the fill's first take asked the pool, the super page that it got is the current one
 abbrev pub super_of : Option PoolAct → ℕ
 super_of (Some (pool.Take count (Some first))) = first
 super_of a = 0
@@ -201,7 +201,7 @@ root_next pools (Give slots) r = all_returned (names slots) r
 root_next pools (Unmap asked slot) r = unmapped slot.slot r
 root_next pools Purge r = purged r
 
--- a fill's first take asked the pool exactly where an entry is named, and it found a super page
+-- a fill's first take asked the pool exactly when an entry is named, and it found a super page
 abbrev pub Asked : List PoolEntry → ℕ → Option ℕ → Root → Type 0
 Asked pools class None r = IsSome (span_for class r)
 Asked pools class (Some j) r = IsNone (span_for class r) × (first : ℕ) × FoundRun pools j 1 first
@@ -211,7 +211,7 @@ abbrev pub FullFits : List PoolEntry → Option ℕ → ℕ → Root → Type 0
 FullFits pools None asked r = (count : ℕ) × FoundNone pools asked count
 FullFits pools (Some class) asked r = IsNone (span_for class r) × FoundNone pools asked 1
 
--- the direct map's slot stands in the super pages that the pool's entry found
+-- the direct map's slot lies in the super pages that the pool's entry found
 abbrev pub MapFits : List PoolEntry → ℕ → SlotName → ℕ → Type 0
 MapFits pools asked slot len =
     (first : ℕ) × FoundRun pools asked (supers_for len) first × (slot.start ≡ page_place first 1) × (slot.born ≡ asked)
@@ -255,7 +255,7 @@ asked_by Purge = None
 abbrev pub all_asked : List RootEntry → List ℕ
 all_asked es = filter_map (λ (e : RootEntry). asked_by e.act) es
 
--- numbers that rise, from the least on that the first may be
+-- rising numbers, of which the first is at least `least`
 abbrev pub RiseFrom : ℕ → List ℕ → Type 0
 RiseFrom least [] = Unit {0}
 RiseFrom least (n ∷ ns) = (least ≤ n) × RiseFrom (n + 1) ns

@@ -1,4 +1,4 @@
--- When a text is the text of a run, and when two runs tell the same.
+-- When a text is the text of a run, and when two runs have the same contents.
 use Rattle.std.specs.Prelude.{◌≡◌, ℕ, ◌≤◌, ◌<◌, List, [], length, slice_index_or}
 use Rattle.std.specs.List.{AllByRecursion}
 use Rattle.pa_record.specs.declared.root.RootEntry.{RootEntry}
@@ -37,7 +37,7 @@ journal_of r p = slice_index_or r.roots.items p []
 abbrev pub history_of : Run → ℕ → List CellEntry
 history_of r k = slice_index_or r.cells.items k []
 
--- two runs tell the same
+-- two runs have the same contents
 pub record IsSameRun (a b : Run) : Type 0 where
   pub entries : a.entries.items ≡ b.entries.items
   pub roots : (p : ℕ) → journal_of a p ≡ journal_of b p

@@ -41,7 +41,7 @@ pub record IsSoundSpan (s : Span) : Type 0 where
   pub counted : IsCounted s
   pub says : StateSays s.state s
 
--- the span stands on payload pages of one of the root's super pages
+-- the span lies on payload pages of one of the root's super pages
 pub record IsPlaced (r : Root) (s : Span) (at : SuperPage) (page : ℕ) : Type 0 where
   pub among : Contains r.supers at
   pub born : s.born ≡ at.born
@@ -53,8 +53,8 @@ pub record IsPlaced (r : Root) (s : Span) (at : SuperPage) (page : ℕ) : Type 0
 abbrev pub AreApart : Span → Span → Type 0
 AreApart s t = (s.place + bytes_of s ≤ t.place) ⊎ (t.place + bytes_of t ≤ s.place)
 
--- A root is sound: each span is and stands on payload pages, in the current super page below the next free page; no two
--- stand in one place, spans of one super page have no byte in common, and those that entered a state did so with
+-- A root is sound: each span is sound and lies on payload pages, in the current super page below the next free page; no two
+-- are in one place, spans of one super page have no byte in common, and those that entered a state did so with
 -- different turns; and a direct map has an entry of the pool to itself.
 pub record IsSound (r : Root) : Type 0 where
   pub spans : (s : Span) → Contains r.spans s → IsSoundSpan s
@@ -88,7 +88,7 @@ abbrev pub IsMapBy : List RootEntry → Title → Type 0
 IsMapBy journal t =
     (e : RootEntry) × (asked len : ℕ) × (slot : SlotName) × Contains journal e × (e.act ≡ Map asked slot len) × (t ≡ map_title slot len)
 
--- A title that a journal makes: a slot that was cut, as its root's spans tell, which never go and keep what they made; or
+-- A title that a journal makes: a slot that was cut, as its root's spans, which never go, record it; or
 -- that of a direct map, whether or not it went back.
 abbrev pub IsMadeBy : List PoolEntry → List RootEntry → Title → Type 0
 IsMadeBy pools journal t = IsMade (root_replayed pools journal new_root) t ⊎ IsMapBy journal t
@@ -102,7 +102,7 @@ abbrev pub IsInOwn : List PoolEntry → Title → Type 0
 IsInOwn pools t =
     (first : ℕ) × FoundRun pools t.born 1 first × (page_place first 1 ≤ t.start) × (t.start + t.len ≤ page_place first 127)
 
--- The title is a direct map: it stands behind the first guard of the super pages that its entry of the pool took, as many
+-- The title is a direct map: it starts right after the first guard of the super pages that its entry of the pool took, as many
 -- as it needs, and a guard follows it.
 pub record IsMapped (pools : List PoolEntry) (t : Title) (first : ℕ) : Type 0 where
   pub taken : FoundRun pools t.born (supers_for t.len) first
@@ -156,7 +156,7 @@ pub record IsNext (n : ℕ) (act : RootAct) (r after : Root) : Type 0 where
   pub born : IsBornBelow (least_after n (asked_by act)) after
   pub supers : (at : SuperPage) → Contains after.supers at → Contains r.supers at ⊎ (n ≤ at.born)
 
--- the entry of the pool that is the first which may be named after these entries
+-- the first entry of the pool that may be named after these entries
 abbrev pub least_after_all : ℕ → List RootEntry → ℕ
 least_after_all n [] = n
 least_after_all n (e ∷ es) = least_after_all (least_after n (asked_by e.act)) es

@@ -10,7 +10,7 @@ use Rattle.pa_lists.specs.Numbers.{numbers}
 -- A span: the byte at which it starts, the entry of the pool that took its super page, its class and state, the turn
 -- with which it entered the state, how many of its slots are out of the root, how many are provisioned and how many
 -- were ever made, its committed system pages, and the numbers of its free slots, front first. Its slots are numbered
--- from 0 in the order of their places.
+-- from 0 in address order.
 pub record Span : Type 0 where
   pub place : ℕ
   pub born : ℕ
@@ -48,7 +48,7 @@ more_pages s = max (s.committed + 1) ((slot_of s.class * (s.provisioned + 1) + 4
 abbrev pub more_slots : Span → ℕ
 more_slots s = min (4096 * more_pages s / slot_of s.class) (slots_of s.class)
 
--- A span whose list is empty is provisioned: the new slots stand in the list in the order of their places.
+-- A span whose list is empty is provisioned: the new slots are in the list in address order.
 abbrev pub provisioned_more : Span → Span
 provisioned_more s =
     record s {
@@ -133,7 +133,7 @@ listed class ss =
 abbrev pub same_place : Span → Span → Bool
 same_place s t = (s.place == t.place) && (s.born == t.born)
 
--- s stands in place of the span that is in its place
+-- s replaces the span that is in its place
 abbrev pub put : Span → List Span → List Span
 put s [] = []
 put s (t ∷ ts) = if same_place t s then s ∷ ts else t ∷ put s ts

@@ -64,7 +64,7 @@ pub record TakesNothing (r after : Root) : Type 0 where
   pub keeps : (t : Title) → IsMade r t → IsMade after t
   pub only : (name : SlotName) → IsOut after name → IsOut r name
 
--- the oldest empty span is decommitted so many times: nothing else changes
+-- the oldest empty span is decommitted that many times: nothing else changes
 pub record IsDecommittedTimes (n : ℕ) (r after : Root) : Type 0 where
   pub kept : TakesNothing r after
   pub turn : after.turn ≤ r.turn + n

@@ -32,7 +32,7 @@ abbrev pub seen_text_if : Option Seen → List ℕ
 seen_text_if None = []
 seen_text_if (Some seen) = seen_text seen
 
--- the answer's name and what it tells
+-- the answer's name and its fields
 abbrev pub answer_text : Answer → List ℕ
 answer_text (Made seen usable) = codes "made" ++ spaced_slot seen ++ codes " " ++ decimal usable ++ codes " " ++ hex 16 seen.found.0
 answer_text (Done seen) = codes "done" ++ seen_text seen
@@ -56,11 +56,11 @@ answer_text (Purged slots) = codes "purged " ++ decimal slots
 abbrev pub entry_text : Entry → List ℕ
 entry_text e = codes "e " ++ decimal e.line ++ codes " " ++ decimal e.thread ++ codes " " ++ answer_text e.answer ++ 10 ∷ []
 
--- a word and the number behind it
+-- a word and the number after it
 abbrev pub field_text : List ℕ → ℕ → List ℕ
 field_text word n = word ++ decimal n
 
--- the number, or a word where there is none
+-- the number, or a word if there is none
 abbrev pub number_or : List ℕ → Option ℕ → List ℕ
 number_or word None = word
 number_or word (Some n) = decimal n
@@ -131,7 +131,7 @@ spans_text s = field_text (codes " full ") s.full ++ field_text (codes " active 
 abbrev pub report_text : ReportLine → List ℕ
 report_text s = places_text s ++ bytes_text s ++ spans_text s ++ 10 ∷ []
 
--- what f tells of each member and its place, where the first has place n
+-- what f gives for each member and its index, where the first has index n
 abbrev pub lines_from : {A : Type 0} → (ℕ → A → List ℕ) → ℕ → List A → List ℕ
 lines_from f n [] = []
 lines_from f n (x ∷ xs) = f n x ++ lines_from f (n + 1) xs

@@ -5,7 +5,7 @@ use pa_buckets::Class;
 use pa_machine::SlotName;
 use std::marker::Model;
 
-/// The slots of an act, at most 16, where they are kept. They are seen as the list of them.
+/// At most 16 slots of an act, borrowed from where they are kept. They are seen as the list of them.
 #[derive(Drop)]
 pub struct LentSlots<'a> {
     of: &'a [Numbered],
@@ -62,7 +62,7 @@ pub enum ActWith<S> {
         slot: SlotName,
         len: u32,
     },
-    /// No room for a slot of the class, or for a direct map where no class is named.
+    /// No room for a slot of the class, or, if no class is named, for a direct map.
     Full {
         class: Option<Class>,
         pool: u32,

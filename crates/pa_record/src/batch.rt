@@ -4,7 +4,7 @@ use crate::Numbered;
 use arrayvec::ArrayVec;
 use std::marker::Model;
 
-/// At most 16 slots, each with its number. It takes no memory, and is seen as the list of them.
+/// At most 16 slots, each with its number. It allocates nothing, and is seen as the list of them.
 #[derive(Debug, Drop, PartialEq, Eq)]
 pub struct Batch {
     items: ArrayVec<Numbered, 16>,
@@ -33,7 +33,7 @@ impl Batch {
         }
     }
 
-    /// Puts a slot behind the others. Fewer than 16 are in the batch.
+    /// Appends a slot. The batch has fewer than 16.
     pub fn push(&mut self, item: Numbered)
         requires { length self.old < 16 }
         ensures pushed { self.new ≡ self.old ++ item ∷ [] }

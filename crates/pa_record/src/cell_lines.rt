@@ -8,8 +8,8 @@ use crate::{CellEntry, Held, History};
 use pa_machine::{OutOfMemory, SlotName};
 use pa_text::{Text, push_byte, push_bytes, push_slot};
 
-/// Appends the lines of all exchanges, by cell from cell 0 on and by index. After want of memory a first part of it
-/// may stand there.
+/// Appends the lines of all exchanges, by cell from cell 0 on and by index. If memory runs out, a first part of it
+/// may have been appended.
 #[tactic(auto, using(crate::proofs::Joining::starts_through))]
 pub fn push_cells(out: &mut Text, cells: &[History]) -> Result<(), OutOfMemory>
     ensures pushed { OnOk result (out.new ≡ out.old ++ cells_text cells.now) }

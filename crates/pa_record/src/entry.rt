@@ -9,7 +9,7 @@ pub struct Entry {
     pub answer: Answer,
 }
 
-/// A slot, and the count word that was found there: before the step where the op made one, else as it was looked at.
+/// A slot, and the count word that was found there: before the step if the op made one, else as it was looked at.
 #[derive(Clone, Copy, Debug, PartialEq, Eq)]
 pub struct Seen {
     pub slot: SlotName,

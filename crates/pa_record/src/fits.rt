@@ -51,7 +51,7 @@ fn journal_fits(entries: &[RootEntry])
     }
 }
 
-/// So has each of an entry of a journal; its class is one of the 59, and its batch has no more than 16 slots.
+/// So has each number of an entry of a journal; its class is one of the 59, and its batch has no more than 16 slots.
 pub fn root_fits(entry: &LentEntry<'_>)
     ensures { RootInBits entry.now }
 {
@@ -118,7 +118,7 @@ fn numbered_fits(slot: Numbered)
     ensures { NumberedInBits slot }
 {}
 
-/// So has each of the pool's entries.
+/// So has each number of the pool's entries.
 pub fn pool_fits(entries: &[PoolEntry])
     ensures { AllByRecursion PoolInBits entries.now }
 {
@@ -131,7 +131,7 @@ fn pool_entry_fits(entry: PoolEntry)
     ensures { PoolInBits entry }
 {}
 
-/// So has each of the exchanges with the cells.
+/// So has each number of the exchanges with the cells.
 pub fn histories_fit(histories: &[History])
     ensures { AllByRecursion (AllByRecursion CellInBits) histories.now }
 {
@@ -152,7 +152,7 @@ fn exchange_fits(entry: CellEntry)
     ensures { CellInBits entry }
 {}
 
-/// So has each of the report.
+/// So has each number of the report.
 pub fn report_fits(report: &[ReportLine])
     ensures { AllByRecursion ReportInBits report.now }
 {

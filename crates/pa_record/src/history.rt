@@ -45,7 +45,7 @@ impl History {
         }
     }
 
-    /// Puts an exchange behind the others. After want of memory the history is unchanged.
+    /// Appends an exchange. If memory runs out, the history is unchanged.
     pub fn push(&mut self, entry: CellEntry) -> Result<(), OutOfMemory>
         ensures pushed { OnOk result (self.new ≡ self.old ++ entry ∷ []) }
         ensures same { OnErr result (self.new ≡ self.old) }

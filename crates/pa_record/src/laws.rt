@@ -82,12 +82,12 @@ pub fn titles_are_asked()
     ensures { TitlesAreAsked }
 {}
 
-/// The law that a slot or a direct map is out of a root exactly where it left the root once more than it came back.
+/// The law that a slot or a direct map is out of a root exactly when it left the root once more than it came back.
 pub fn out_is_left()
     ensures { OutIsLeft }
 {}
 
-/// The law that what a call did is an entry that fits, where the pool's entry for it stands behind all others.
+/// The law that what a call did is an entry that fits, if the pool's entry for it is the last one.
 pub fn calls_fit()
     ensures { CallsFit }
 {}
@@ -109,7 +109,7 @@ pub fn one_is_chosen()
     ensures { OneIsChosen }
 {}
 
-/// The law that the super pages and direct maps of a root are the runs that the entries of the pool took which they name,
+/// The law that each super page and direct map of a root is the run that its entry of the pool took,
 /// and that a slot lies in the payload of the super page of its own entry.
 pub fn roots_are_taken()
     ensures { RootsAreTaken }

@@ -1,4 +1,4 @@
-//! What a run tells: a record for each op line of the trace, with the answer that its thread got; the journals of
+//! What a run contains: a record for each op line of the trace, with the answer that its thread got; the journals of
 //! the partitions' roots; the entries of the pool; the histories of the cells; and the report.
 #![tactic(auto)]
 

@@ -9,7 +9,7 @@ use crate::{CellEntry, Held, Numbered, PoolAct, PoolEntry, RootAct, RootEntry};
 use arrayvec::ArrayVec;
 use pa_machine::SlotName;
 
-/// The numbers of a journal's entry, in the order of its fields: a variant is its place in its enum, counted from 0,
+/// The numbers of a journal's entry, in the order of its fields: a variant is its index in its enum, counted from 0,
 /// before its fields; a list is its length before its members; an `Option` is 0, or 1 before its value.
 pub fn root_numbers(entry: &RootEntry) -> ArrayVec<u64, 64>
     ensures numbers { result.items ≡ root_numbers entry.now }

@@ -6,10 +6,10 @@ pub struct PoolEntry {
     pub act: PoolAct,
 }
 
-/// What the pool did with `count` super pages that stand side by side.
+/// What the pool did with `count` consecutive super pages.
 #[derive(Clone, Copy, Debug, PartialEq, Eq)]
 pub enum PoolAct {
-    /// The pool was asked for them. It gave those from `first` on, or none where it had no room.
+    /// The pool was asked for them. It gave those from `first` on, or none if it had no room.
     Take { count: u32, first: Option<u32> },
     /// Those from `first` on came back.
     Give { count: u32, first: u32 },

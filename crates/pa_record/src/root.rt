@@ -38,7 +38,7 @@ pub enum RootAct {
         slot: SlotName,
         len: u32,
     },
-    /// No room for a slot of the class, or for a direct map where no class is named.
+    /// No room for a slot of the class, or, if no class is named, for a direct map.
     Full {
         class: Option<Class>,
         pool: u32,

@@ -122,7 +122,7 @@ fn push_unmap(out: &mut Text, pool: u32, slot: Numbered) -> Result<(), OutOfMemo
     push_numbered(out, slot)
 }
 
-// Appends the slots, a space in front of each.
+// Appends the slots, a space before each.
 fn push_slots(out: &mut Text, slots: &[Numbered]) -> Result<(), OutOfMemory>
     ensures pushed { OnOk result (out.new ≡ out.old ++ slots_text slots.now) }
 {
@@ -142,7 +142,7 @@ fn push_numbered(out: &mut Text, slot: Numbered) -> Result<(), OutOfMemory>
     push_field(out, b"@", slot.number)
 }
 
-// Appends the number, or the word where there is none.
+// Appends the number, or the word if there is none.
 pub(crate) fn push_number_or(out: &mut Text, word: &[u8], n: Option<u32>) -> Result<(), OutOfMemory>
     ensures pushed { OnOk result (out.new ≡ out.old ++ number_or word.now n) }
 {

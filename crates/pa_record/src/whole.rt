@@ -13,7 +13,7 @@ use pa_machine::OutOfMemory;
 use pa_text::{Text, push_bytes};
 use std::alloc::Global;
 
-// The bytes of a line of a record, the pool or a cell, for the room that is taken ahead: few are longer.
+// The bytes of a line of a record, the pool or a cell, for the memory that is reserved ahead: few are longer.
 const LINE_BYTES: usize = 72;
 // The same of a line of a journal.
 const JOURNAL_BYTES: usize = 160;
@@ -38,14 +38,14 @@ pub fn write_run(alloc: Global, run: &Run) -> Result<Vec<u8>, OutOfMemory>
     Ok(out.into_vec())
 }
 
-/// A text belongs to one run, and a run has one text: two runs have the same text exactly where they tell the same. A
+/// A text belongs to one run, and a run has one text: two runs have the same text exactly when they have the same contents. A
 /// journal or a history that isn't there is an empty one.
 pub fn one_run_for_a_text()
     ensures run { (a b : Run) (text : List ℕ) → IsRunText a text → IsRunText b text → IsSameRun a b }
     ensures text { (a b : Run) (s t : List ℕ) → IsRunText a s → IsRunText b t → IsSameRun a b → s ≡ t }
 {}
 
-// How many bytes the text has, at a guess.
+// An estimate of how many bytes the text has.
 fn room(run: &Run) -> usize {
     let mut lines = run.entries.len().saturating_add(run.pool.len());
     for history in &run.cells {

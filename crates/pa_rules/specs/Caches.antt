@@ -84,7 +84,7 @@ FullRow roots x cache after =
     × SameLists after cache)
     ⊎ ((p size asked : ℕ) × AsksForMap x.op p size × OnlyActs roots x.line p (Full None asked ∷ []) × SameLists after cache)
 
--- how much of a list stays when a slot came to its front: all of it up to the limit, else the first half of the limit
+-- how many slots of a list stay when a slot came to its front: all of it up to the limit, else the first half of the limit
 abbrev pub kept : ℕ → List Numbered → List Numbered
 kept class xs = if nat_lt (limit_of class) (length xs) then take (limit_of class / 2) xs else xs
 
@@ -96,7 +96,7 @@ abbrev pub unmap_at : ℕ → SlotName → ℕ → RootAct
 unmap_at asked slot number = Unmap asked (record { slot = slot; number = number })
 
 -- a step returned a slot, which it left at this number: the slot becomes the front of its list, and what doesn't stay goes
--- back to the root; a direct map goes back at once, at a number of which the holders speak
+-- back to the root; a direct map goes back at once, at a number that the clause `holders` checks
 abbrev pub ReturnRow : Journals → Played → Numbered → Cache → Cache → Type 0
 ReturnRow roots x slot cache after =
     ((p class : ℕ) × IsOfClass roots slot.slot p class × OnlyActs roots x.line p (gives (spilled class (slot ∷ cache p class)))
@@ -124,7 +124,7 @@ abbrev pub all_listed : Cache → ℕ → ℕ → ℕ
 all_listed cache p zero = 0
 all_listed cache p (suc n) = listed_slots (cache p) 0 class_count + all_listed cache (p + 1) n
 
--- a purge of all partitions gave back all lists, and says how many slots they had
+-- a purge of all partitions gave back all lists, and its answer is how many slots they had
 abbrev pub PurgedRow : ℕ → Journals → Played → ℕ → Cache → Cache → Type 0
 PurgedRow partitions roots x slots cache after =
     ((p : ℕ) → p < partitions → acts_of roots x.line p ≡ purge_acts (cache p) 0 class_count)

@@ -26,7 +26,7 @@ IsExchange cells k j e = slice_get (cells k) j ≡ Some e
 --   lines: each exchange's line is an exchange of this cell
 --   different: no two exchanges have the same line
 --   answers: each exchange's record names it, and it has the record's line
---   order: the exchanges of a cell stand in the order of their records
+--   order: the exchanges of a cell are in the order of their records
 pub record AreCells (cells : ℕ → List CellEntry) (ps : List Played) : Type 0 where
   pub chain : (k : ℕ) → IsChain Nothing (cells k)
   pub lines : (k j : ℕ) (e : CellEntry) → IsExchange cells k j e → (p : Played) × (reg : ℕ) × IsOfLine ps e.line p × (p.op ≡ Swap k reg)

@@ -1,4 +1,4 @@
--- The content of a slot, and what a read may give.
+-- The content of a slot, and what a read may return.
 use Rattle.std.specs.Prelude.{◌≡◌, ◌≢◌, ℕ, ◌<◌, ◌≤◌, ◌⊎◌, List, ◌∷◌, ◌++◌, Contains}
 use Rattle.pa_machine.specs.declared.word.SlotName.{SlotName}
 use Rattle.pa_machine.specs.Count.{number_of}
@@ -29,7 +29,7 @@ abbrev pub IsWrittenFor : List Played → SlotName → ℕ → ℕ → ℕ → T
 IsWrittenFor ps s k n value = IsWrittenAt ps s n value × (n < k) × ((m : ℕ) → IsMadeAt ps s m → n < m → m < k → ⊥)
 
 -- The content of slot s at number k: the value of its last write that found a number below k and comes after the last
--- time below k at which it was made; 0 where there is no such write.
+-- time below k at which it was made; 0 if there is no such write.
 abbrev pub IsContent : List Played → SlotName → ℕ → ℕ → Type 0
 IsContent ps s k value =
     ((n : ℕ) × IsWrittenFor ps s k n value × ((m other : ℕ) → IsWrittenFor ps s k m other → n < m → ⊥))

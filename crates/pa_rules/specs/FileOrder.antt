@@ -16,20 +16,20 @@ use Rattle.pa_rules.specs.Roots.{Journals}
 abbrev pub is_step_before : SlotName → ℕ → Mark → Bool
 is_step_before s line m = same_slot m.slot s && (nat_lt m.line line && is_some m.step)
 
--- how many steps of slot s stand on the lines before this one
+-- how many steps of slot s are on the lines before this one
 abbrev pub steps_before : SlotName → ℕ → List Mark → ℕ
 steps_before s line ms = count_by (is_step_before s line) ms
 
--- each number found is how many steps of the slot stand on the lines before
+-- each number found is how many steps of the slot are on the lines before
 abbrev pub AreNumbersInFileOrder : List Mark → Type 0
 AreNumbersInFileOrder ms = (m : Mark) → Contains ms m → number_of m.found ≡ steps_before m.slot m.line ms
 
--- every cell's exchanges stand in the order of their lines
+-- every cell's exchanges are in the order of their lines
 abbrev pub AreCellsInFileOrder : (ℕ → List CellEntry) → Type 0
 AreCellsInFileOrder cells = (k : ℕ) → IsStrictlyIncreasing (map (λ e. e.line) (cells k))
 
--- All stands in the order of the lines: the entries of the journals and the pool, the exchanges and the numbers found; and
--- each read gave the content, or poison where the slot was freed.
+-- All is in the order of the lines: the entries of the journals and the pool, the exchanges and the numbers found; and
+-- each read returned the content, or poison if the slot was freed.
 pub record IsInFileOrder (ps : List Played) (pools : List PoolEntry) (roots : Journals) (cells : ℕ → List CellEntry) : Type 0 where
   pub journals : (p : ℕ) → IsNonDecreasingBy (λ (e : RootEntry). e.line) (roots p)
   pub pool : IsNonDecreasingBy (λ (e : PoolEntry). e.line) pools

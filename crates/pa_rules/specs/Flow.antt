@@ -1,4 +1,4 @@
--- How often a slot stands in the caches, and how often it goes into and out of them.
+-- How often a slot is in the caches, and how often it goes into and out of them.
 use Rattle.std.specs.Prelude.{◌≡◌, ◌≢◌, ℕ, zero, suc, ◌+◌, ◌<◌, ◌≤◌, ◌==◌, ◌&&◌, Bool, true, false, if◌then◌else◌, List, [], ◌∷◌, Option, Some, None, Contains, All, AllPairs, count_by}
 use Rattle.pa_machine.specs.declared.word.SlotName.{SlotName}
 use Rattle.pa_machine.specs.declared.word.Step.{Step}
@@ -56,7 +56,7 @@ issues_of s ms = count_by (is_issue_of s) ms
 abbrev pub returns_of : SlotName → List Mark → ℕ
 returns_of s ms = count_by (is_return_of s) ms
 
--- how often slot s stands in a thread's lists of one partition, `n` classes from one on; in those of the first threads
+-- how often slot s is in a thread's lists of one partition, `n` classes from one on; in those of the first threads
 abbrev pub listed_times : SlotName → (ℕ → List Numbered) → ℕ → ℕ → ℕ
 listed_times s lists class zero = 0
 listed_times s lists class (suc n) = times s (names (lists class)) + listed_times s lists (class + 1) n
@@ -88,7 +88,7 @@ abbrev pub IsOnlyOf : Journals → ℕ → SlotName → Type 0
 IsOnlyOf roots p s = (q : ℕ) (e : RootEntry) → Contains (roots q) e → Contains (leaves_by e.act) s → q ≡ p
 
 -- Record by record a slot goes from the root to a thread's list and on to an owner, and back: as often as it left the
--- root and was returned, it stands in a list, was issued, or came back to the root.
+-- root and was returned, it is in a list, was issued, or came back to the root.
 abbrev pub CachesKeep : Type 0
 CachesKeep =
     (partitions threads p : ℕ) (pools : List PoolEntry) (roots : Journals) (s : SlotName) (xs : List Played) (after : Caches) →
@@ -96,11 +96,11 @@ CachesKeep =
     CachesTo partitions roots no_caches xs after →
     cached_times s after p threads + issues_of s (marks_of xs) + back_on s roots p xs ≡ left_on s roots p xs + returns_of s (marks_of xs)
 
--- 1 where a word isn't that of a free slot
+-- 1 if a word isn't that of a free slot
 abbrev pub busy : ℕ → ℕ
 busy w = if (held_of w == 0) && (refs_of w == 0) then 0 else 1
 
--- A slot was issued as often as it was returned, and once more where its word isn't free; each record's line is its own.
+-- A slot was issued as often as it was returned, and once more if its word isn't free; each record's line is its own.
 abbrev pub IssuesReturn : Type 0
 IssuesReturn =
     (ps : List Played) (s : SlotName) (w : ℕ) → AllPairs (λ (x y : Played). x.line ≢ y.line) ps → Slots (marks_of ps) → HasWord ps s w →
@@ -112,7 +112,7 @@ IsInPhases ps =
     (x y : Played) (m n : Mark) → Contains ps x → Contains ps y → x.phase < y.phase → mark_of x ≡ Some m → mark_of y ≡ Some n →
     m.slot ≡ n.slot → left_number m ≤ number_of n.found
 
--- then the records up to the end of a phase have one run for each slot, where all have
+-- then the records up to the end of a phase have one run for each slot, if all records have
 abbrev pub RunsUntil : Type 0
 RunsUntil =
     (ps : List Played) (phase : ℕ) → AllPairs (λ (x y : Played). x.line ≢ y.line) ps → Slots (marks_of ps) → IsInPhases ps →

@@ -1,4 +1,4 @@
--- What the clauses of the heap ask of each place. A place of which a clause says nothing meets it.
+-- What the clauses of the heap require of each place. A place of which a clause requires nothing meets it.
 use Rattle.std.specs.Prelude.{◌≡◌, ℕ, ◌+◌, ◌<◌, ◌==◌, nat_lt, if◌then◌else◌, List, [], ◌∷◌, ◌++◌, map, take, filter, Option, Some, None, Contains, slice_get}
 use Rattle.pa_machine.specs.declared.word.SlotName.{SlotName}
 use Rattle.pa_machine.specs.Count.{number_of}
@@ -26,8 +26,8 @@ use Rattle.pa_rules.specs.Report.{IsReportLine, phases_of}
 abbrev pub IsPoolEntry : List PoolEntry → ℕ → PoolEntry → Type 0
 IsPoolEntry pools j e = slice_get pools j ≡ Some e
 
--- An entry of the pool fits the pool after those before it. An entry of its partition's journal names it, which is of its
--- line, and no other does; and no entry before it stands behind it.
+-- An entry of the pool fits the pool after those before it. Exactly one entry of the journals names it: one of its
+-- partition and line. And no entry before it should come after it.
 pub record PoolEntryFits (supers : ℕ) (ps : List Played) (pools : List PoolEntry) (roots : Journals) (j : ℕ) (e : PoolEntry) : Type 0 where
   pub fits : PoolActFits pools e.partition e.act (pool_replayed (take j pools) (new_pool supers))
   pub named : (i : ℕ) × (f : RootEntry) × IsEntry roots e.partition i f × (asked_by f.act ≡ Some j) × (f.line ≡ e.line)
@@ -39,7 +39,7 @@ PoolDemand supers ps pools roots (places.Pool j) = (e : PoolEntry) → IsPoolEnt
 PoolDemand supers ps pools roots place = Unit {0}
 
 -- An entry of a journal is of a partition of the trace and fits the root after those before it; it names a later entry of
--- the pool than they do, its line's op makes it, and none of them stands behind it.
+-- the pool than they do, its line's op makes it, and none of them should come after it.
 pub record EntryFits (partitions : ℕ) (ps : List Played) (pools : List PoolEntry) (roots : Journals) (p j : ℕ) (e : RootEntry) :
     Type 0 where
   pub partition : p < partitions
@@ -86,7 +86,7 @@ HoldersDemand ps roots (places.Record i) = (x : Played) → IsRecord ps i x → 
 HoldersDemand ps roots (places.Root p j) = (e : RootEntry) → IsEntry roots p j e → MovesOfEntryFit ps roots p j e
 HoldersDemand ps roots place = Unit {0}
 
--- caches: the records before lead to lists from which its own row follows
+-- caches: the records before it lead to lists from which its own row follows
 abbrev pub CachesDemand : ℕ → Journals → List Played → Place → Type 0
 CachesDemand partitions roots ps (places.Record i) =
     (x : Played) → IsRecord ps i x
@@ -94,7 +94,7 @@ CachesDemand partitions roots ps (places.Record i) =
     × CacheRow partitions roots x x.answer (all x.thread) next
 CachesDemand partitions roots ps place = Unit {0}
 
--- report: the line is the one that is due, by its phase and partition, and right; where one is missing none stands
+-- report: the line is the one that is due, by its phase and partition, and right; a missing line isn't right
 abbrev pub ReportDemand : ℕ → ℕ → ℕ → List Played → List PoolEntry → Journals → List ReportLine → Place → Type 0
 ReportDemand phases partitions threads ps pools roots report (places.Report i) =
     (slice_get (map (λ (l : ReportLine). (l.phase, l.partition)) report) i ≡ slice_get (phases_of partitions 1 phases) i)

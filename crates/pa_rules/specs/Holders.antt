@@ -56,7 +56,7 @@ IsReturnedBy ps s k x =
     Contains ps x × (m : Mark) × (step : Step) × (mark_of x ≡ Some m) × (m.slot ≡ s) × (m.step ≡ Some step)
     × IsReturning step m.found × (number_of m.found + 1 ≡ k)
 
--- A free slot's first holder at a number: the root at 0, else the thread whose step returned it. There is none where the
+-- A free slot's first holder at a number: the root at 0, else the thread whose step returned it. There is none if the
 -- slot isn't free at that number.
 abbrev pub IsFirstHolder : List Played → SlotName → ℕ → Holder → Type 0
 IsFirstHolder ps s k h = ((k ≡ 0) × (h ≡ InRoot)) ⊎ ((x : Played) × IsReturnedBy ps s k x × (h ≡ WithThread x.thread))
@@ -87,7 +87,7 @@ abbrev pub MovesFit : List Played → Holder → List Move → Type 0
 MovesFit ps h [] = Unit {0}
 MovesFit ps h (m ∷ ms) = (x : Played) × IsOfLine ps m.line x × (h ≡ needed_by m.way x) × MovesFit ps (made_by m.way x) ms
 
--- where a journal has the slot at the number, the slot is free there, and each entry has the holder that it needs
+-- if a journal has the slot at the number, the slot is free there, and each entry has the holder that it needs
 abbrev pub HasHolders : List Played → SlotName → ℕ → List Move → Type 0
 HasHolders ps s k [] = Unit {0}
 HasHolders ps s k (m ∷ ms) = (h : Holder) × IsFirstHolder ps s k h × MovesFit ps h (m ∷ ms)

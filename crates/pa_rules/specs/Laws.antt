@@ -30,7 +30,7 @@ pub record TitlesFollow : Type 0 where
 abbrev pub LinesDiffer : Type 0
 LinesDiffer = (ls : List Line) (ps : List Played) → AreLines ls ps → AllPairs (λ (x y : Played). x.line ≢ y.line) ps
 
--- The four places of a line of the report add up, where each record's line is its own and each slot's steps are one run,
+-- The four counts of a line of the report add up, if each record's line is its own and each slot's steps are one run,
 -- in the order of the phases: live, quarantined and cached slots and those with the root are together the slots that were
 -- made and the direct maps that are mapped at the end of the phase.
 abbrev pub PlacesAddUp : Type 0
@@ -52,7 +52,7 @@ ReportAddsUp =
     ≡ slots_made (root_replayed r.pools before new_root) + length (root_replayed r.pools before new_root).maps)
 
 -- The records that are due are all of the trace's op lines and all of the run's, and lists of which this holds are the
--- records beside their ops.
+-- records with their ops.
 pub record RecordsAreLines : Type 0 where
   pub lines : (ls : List Line) (es : List Entry) → AreDue ls es → AreLines ls (played ls es)
   pub told : (ls : List Line) (es : List Entry) → AreDue ls es → map entry_of (played ls es) ≡ es

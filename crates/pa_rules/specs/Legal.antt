@@ -27,8 +27,8 @@ is_phase (Do thread op) = false
 abbrev pub phases_in : List Line → ℕ
 phases_in ls = count_by is_phase ls + 1
 
--- The clauses of a legal run, in the order in which they are tested. What a run tells is legal by these records, which
--- stand beside the ops of their lines.
+-- The clauses of a legal run, in the order in which they are tested. What a run contains is legal by these records, which
+-- are paired with the ops of their lines.
 pub record IsLegalBy (t : Trace) (r : Told) (ps : List Played) : Type 0 where
   pub lines : AreDue t.lines r.entries
   pub cells : AreCells r.cells ps
@@ -43,7 +43,7 @@ pub record IsLegalBy (t : Trace) (r : Told) (ps : List Played) : Type 0 where
   pub seen : IsSeenInOrder r.cells ps
   pub report : IsReport (phases_in t.lines) t.partitions t.threads ps r.pools r.roots r.report
 
--- what a run tells is legal; in the order of the trace's lines, as one thread plays them
+-- what a run contains is legal; in the order of the trace's lines, as one thread plays them
 abbrev pub IsLegalTold : Trace → Told → Type 0
 IsLegalTold t r = IsLegalBy t r (records_of t r)
 

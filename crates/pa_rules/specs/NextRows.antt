@@ -1,4 +1,4 @@
--- What an op does by its register alone is what its row asks: a law for each op.
+-- What an op does by its register alone is what its row requires: a law for each op.
 use Rattle.std.specs.Prelude.{◌≡◌, ◌↔◌, ℕ, ◌*◌, ◌<◌, ◌≤◌, ◌⊎◌, Result, Ok, Err}
 use Rattle.pa_machine.specs.declared.word.SlotName.{SlotName}
 use Rattle.pa_machine.specs.Count.{refs_of}
@@ -19,11 +19,11 @@ IsRefusedSo refusal regs answer after = (answer ≡ refusal) × Becomes after re
 abbrev pub IsStepped : SlotName → Regs → Answer → Regs → Type 0
 IsStepped s regs answer after = (seen : Seen) × (seen.slot ≡ s) × (answer ≡ Done seen) × Becomes after regs
 
--- a look at slot s, which is answered so
+-- a look at slot s, which gets this answer
 abbrev pub IsAnsweredBy : (Seen → Answer) → SlotName → Regs → Answer → Regs → Type 0
 IsAnsweredBy looked s regs answer after = (seen : Seen) × (seen.slot ≡ s) × (answer ≡ looked seen) × Becomes after regs
 
--- a copy: the row of its second register says what its step asks
+-- a copy: the row of its second register says what its step requires
 abbrev pub CopyBy : Result SlotName Answer → Regs → ℕ → Answer → Regs → Type 0
 CopyBy (Ok s) regs to answer after = CopyToRow (regs to) s regs to answer after
 CopyBy (Err refusal) regs to answer after = IsRefusedSo refusal regs answer after
@@ -49,7 +49,7 @@ abbrev pub FreesAreNext : Type 0
 FreesAreNext = (r : Reg) (regs : Regs) (reg : ℕ) (answer : Answer) (after : Regs) →
     FreeRow r regs reg answer after ↔ FreeBy (free_next r) regs reg answer after
 
--- a write by the owner is made where no raw_ptr points to the slot
+-- a write by the owner is made if no raw_ptr points to the slot
 abbrev pub WriteBy : Next SlotName → Regs → Answer → Regs → Type 0
 WriteBy (Refused refusal) regs answer after = IsRefusedSo refusal regs answer after
 WriteBy (Step s) regs answer after =

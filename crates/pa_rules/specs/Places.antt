@@ -17,7 +17,7 @@ cells_at r = pool_at r + length r.pool.items
 abbrev pub report_at : Run → ℕ
 report_at r = cells_at r + sum_by length r.cells.items
 
--- the line of a place: behind the records and behind the report's lines stands the line that follows them
+-- the line of a place: after the records and after the report's lines comes the line that follows them
 abbrev pub line_at : Run → Place → ℕ
 line_at r (places.Record i) = 2 + i
 line_at r (places.Root p j) = roots_at r + sum_by length (take p r.roots.items) + j

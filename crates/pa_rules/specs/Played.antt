@@ -1,4 +1,4 @@
--- The records of a run beside the lines of its trace, and what they tell of the slots.
+-- The records of a run with the ops of its trace, and what they report of the slots.
 use Rattle.std.specs.Prelude.{◌≡◌, ℕ, ◌+◌, List, [], ◌∷◌, map, zip, Option, Some, None}
 use Rattle.std.specs.List.{filter_map}
 use Rattle.pa_machine.specs.declared.word.Step.{Step}
@@ -21,7 +21,7 @@ pub record OpLine : Type 0 where
   pub phase : ℕ
   pub op : Op
 
--- the op lines of a trace whose next line has this number and stands in this phase
+-- the op lines of a trace whose next line has this number and is in this phase
 abbrev pub op_lines : ℕ → ℕ → List Line → List OpLine
 op_lines n phase [] = []
 op_lines n phase (Phase ∷ ls) = op_lines (n + 1) (phase + 1) ls
@@ -34,18 +34,18 @@ op_line_of p = record { line = p.line; thread = p.thread; phase = p.phase; op = 
 abbrev pub entry_of : Played → Entry
 entry_of p = record { line = p.line; thread = p.thread; answer = p.answer }
 
--- the records beside their ops: those of all op lines of the trace; the head is line 1, and phases count from 1
+-- the records with their ops: those of all op lines of the trace; the head is line 1, and phases count from 1
 abbrev pub AreLines : List Line → List Played → Type 0
 AreLines ls ps = map op_line_of ps ≡ op_lines 2 1 ls
 
--- a run's records beside the ops of the trace, place by place; where one list is longer, the rest of it stays out
+-- a run's records paired with the ops of the trace; if one list is longer, the rest of it is left out
 abbrev pub beside : OpLine × Entry → Played
 beside (o, e) = record { line = o.line; thread = o.thread; phase = o.phase; op = o.op; answer = e.answer }
 
 abbrev pub played : List Line → List Entry → List Played
 played ls es = map beside (zip (op_lines 2 1 ls) es)
 
--- The records are the trace's op lines, in order, each once, with its thread: then those beside their ops are all of both.
+-- The records are the trace's op lines, in order, each once, with its thread: then the pairs are all of both.
 abbrev pub key_of_line : OpLine → ℕ × ℕ
 key_of_line o = (o.line, o.thread)
 
@@ -55,7 +55,7 @@ key_of_entry e = (e.line, e.thread)
 abbrev pub AreDue : List Line → List Entry → Type 0
 AreDue ls es = map key_of_entry es ≡ map key_of_line (op_lines 2 1 ls)
 
--- the step that an op makes where its answer is `done`; an allocation has an answer of its own, and
+-- the step that an op makes if its answer is `done`; an allocation has an answer of its own, and
 -- reads, exchanges and purges make no step
 abbrev pub step_of : Op → Option Step
 step_of (ops.Alloc reg partition size) = None
@@ -70,12 +70,12 @@ step_of ops.Purge = None
 abbrev pub mark_at : ℕ → Seen → Option Step → Mark
 mark_at line seen step = record { line = line; slot = seen.slot; found = seen.found.0; step = step }
 
--- a look, where the answer has one
+-- a look, if the answer has one
 abbrev pub look_at : ℕ → Option Seen → Option Mark
 look_at line None = None
 look_at line (Some seen) = Some (mark_at line seen None)
 
--- what an answer tells of a slot: `made` is an issue, `done` is its op's step, every other found word is a look
+-- what an answer reports of a slot: `made` is an issue, `done` is its op's step, every other found word is a look
 abbrev pub mark_of_answer : ℕ → Op → Answer → Option Mark
 mark_of_answer line op (Made seen usable) = Some (mark_at line seen (Some steps.Issue))
 mark_of_answer line op (Done seen) = Some (mark_at line seen (step_of op))
@@ -98,6 +98,6 @@ mark_of_answer line op (Purged slots) = None
 abbrev pub mark_of : Played → Option Mark
 mark_of p = mark_of_answer p.line p.op p.answer
 
--- what the records tell of the slots, in their order
+-- what the records report of the slots, in their order
 abbrev pub marks_of : List Played → List Mark
 marks_of ps = filter_map mark_of ps

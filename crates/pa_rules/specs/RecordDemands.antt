@@ -1,4 +1,4 @@
--- What the clauses of the records ask of each place. A place of which a clause says nothing meets it.
+-- What the clauses of the records require of each place. A place of which a clause requires nothing meets it.
 use Rattle.std.specs.Prelude.{◌≡◌, ℕ, zero, suc, ◌<◌, ◌≤◌, ◌⊎◌, List, [], ◌∷◌, map, take, Option, Some, None, Contains, slice_get}
 use Rattle.pa_machine.specs.declared.word.Step.{Step}
 use Rattle.pa_machine.specs.Count.{CanStep, number_of}
@@ -20,16 +20,16 @@ use Rattle.pa_rules.specs.Registers.{Facts, Regs, AllRegs, Row, RowsTo, no_regs,
 use Rattle.pa_rules.specs.Contents.{IsReadAllowed}
 use Rattle.pa_rules.specs.Seen.{IsBefore, left_number}
 
--- record i, beside the op of its line, is x
+-- record i, with the op of its line, is x
 abbrev pub IsRecord : List Played → ℕ → Played → Type 0
 IsRecord ps i x = slice_get ps i ≡ Some x
 
--- lines: the record is the one that is due, by its line and thread; one too many, one missing and another one are none
+-- lines: the record is the one that is due, by its line and thread; one too many, a missing one and a wrong one don't meet this
 abbrev pub LinesDemand : List Line → List Entry → Place → Type 0
 LinesDemand ls es (places.Record i) = slice_get (map key_of_entry es) i ≡ slice_get (map key_of_line (op_lines 2 1 ls)) i
 LinesDemand ls es place = Unit {0}
 
--- Of the entries on these lines none before place j stands behind it, as their threads' lines and their phases have it.
+-- None of the entries on these lines before index j should come after it, by their threads' lines and their phases.
 abbrev pub ComesInOrder : List Played → List ℕ → ℕ → Type 0
 ComesInOrder ps lines j =
     (i m n : ℕ) (x y : Played) → slice_get lines i ≡ Some m → slice_get lines j ≡ Some n → i < j →
@@ -40,12 +40,12 @@ abbrev pub WasGiven : List CellEntry → ℕ → Held → Type 0
 WasGiven es zero held = held ≡ Nothing
 WasGiven es (suc i) held = (e : CellEntry) × (slice_get es i ≡ Some e) × (held ≡ e.gave)
 
--- exchange i of cell l stands above exchange j of cell k
+-- exchange i of cell l comes above exchange j of cell k
 abbrev pub IsAbove : ℕ → ℕ → ℕ → ℕ → Type 0
 IsAbove l i k j = (l < k) ⊎ ((l ≡ k) × (i < j))
 
--- An exchange finds what the one before gave, its line is an exchange of this cell, which none above it has, and no
--- exchange before it stands behind it.
+-- An exchange finds what the one before it gave, its line is an exchange of this cell, which none above it has, and no
+-- exchange before it should come after it.
 pub record ExchangeFits (cells : ℕ → List CellEntry) (ps : List Played) (k j : ℕ) (e : CellEntry) : Type 0 where
   pub found : WasGiven (cells k) j e.found
   pub line : (p : Played) × (reg : ℕ) × IsOfLine ps e.line p × (p.op ≡ Swap k reg)
@@ -60,7 +60,7 @@ CellsDemand cells ps (places.Record i) =
 CellsDemand cells ps (places.Cell k j) = (e : CellEntry) → IsExchange cells k j e → ExchangeFits cells ps k j e
 CellsDemand cells ps place = Unit {0}
 
--- registers: the records before lead to registers in which its own row follows
+-- registers: the records before it lead to registers in which its own row follows
 abbrev pub RegistersDemand : (ℕ → ℕ) → (ℕ → List CellEntry) → List Played → Place → Type 0
 RegistersDemand usable_of cells ps (places.Record i) =
     let facts : Facts = record { usable_of = usable_of; usable_at = usable_in ps; cells = cells } in

@@ -32,7 +32,7 @@ with regs i r k = if k == i then r else regs k
 abbrev pub Becomes : Regs → Regs → Type 0
 Becomes after regs = (k : ℕ) → after k ≡ regs k
 
--- What the rows ask besides the registers: how many bytes of a size's slot and of a slot are usable, and what was done
+-- What the rows need besides the registers: how many bytes of a size's slot and of a slot are usable, and what was done
 -- with each cell.
 pub record Facts : Type 0 where
   pub usable_of : ℕ → ℕ
@@ -102,7 +102,7 @@ WriteRow Freed regs answer after = (answer ≡ StaleUse None) × Becomes after r
 WriteRow Cleared regs answer after = (answer ≡ StaleUse None) × Becomes after regs
 
 -- A read through a handle to slot s. A word that isn't inside the usable bytes is out of range; else the slot is looked
--- at, and the read is dangling where it was freed. What value is read stands in the contents.
+-- at, and the read is dangling if it was freed. Which value is read is a matter of the contents.
 abbrev pub ReadFromRow : SlotName → Facts → Regs → ℕ → Answer → Regs → Type 0
 ReadFromRow s facts regs place answer after =
     Becomes after regs
@@ -156,7 +156,7 @@ AllRegs = ℕ → Regs
 abbrev pub with_thread : AllRegs → ℕ → Regs → AllRegs
 with_thread all thread regs t = if t == thread then regs else all t
 
--- record by record, each answer is the one that the registers ask for, and leads to the next registers
+-- record by record, each answer is the one that the registers require, and leads to the next registers
 abbrev pub RowsTo : Facts → AllRegs → List Played → AllRegs → Type 0
 RowsTo facts all [] after = after ≡ all
 RowsTo facts all (p ∷ ps) after =
@@ -186,18 +186,18 @@ made_of (Full entry) = None
 made_of (Swapped entry) = None
 made_of (Purged slots) = None
 
--- the usable number of slot s where this made it, else another number
+-- the usable number of slot s if this made it, else another number
 abbrev pub usable_or : Option (SlotName × ℕ) → SlotName → ℕ → ℕ
 usable_or None s other = other
 usable_or (Some m) s other = if same_slot m.0 s then m.1 else other
 
--- the usable number of slot s that the first record says which made it, and 0 where none did
+-- the usable number of slot s by the first record that made it, and 0 if none did
 abbrev pub usable_in : List Played → SlotName → ℕ
 usable_in [] s = 0
 usable_in (p ∷ ps) s = usable_or (made_of p.answer) s (usable_in ps s)
 
--- Every answer and every register is the one that the rows ask for. The usable number of a slot for a size is given; that
--- of a slot is what the first record says which made it.
+-- Every answer and every register is the one that the rows require. The usable number of a slot for a size is given; that
+-- of a slot is the one in the first record that made it.
 abbrev pub AreRegisters : (ℕ → ℕ) → (ℕ → List CellEntry) → List Played → Type 0
 AreRegisters usable_of cells ps =
     (after : AllRegs) × RowsTo (record { usable_of = usable_of; usable_at = usable_in ps; cells = cells }) no_regs ps after

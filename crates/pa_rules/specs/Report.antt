@@ -23,7 +23,7 @@ use Rattle.pa_rules.specs.Caches.{Caches, CachesTo, no_caches, IsOfClass, listed
 abbrev pub until : ℕ → List Played → List Played
 until phase ps = filter (λ (x : Played). nat_le x.phase phase) ps
 
--- the slot is partition p's, and has so many bytes
+-- the slot is partition p's, and has this many bytes
 abbrev pub HasSize : Journals → ℕ → SlotName → ℕ → Type 0
 HasSize roots p s len =
     ((class : ℕ) × IsOfClass roots s p class × (len ≡ slot_of class))
@@ -38,7 +38,7 @@ last_word u (v ∷ vs) = last_word v vs
 abbrev pub HasWord : List Played → SlotName → ℕ → Type 0
 HasWord ps s w = (vs : List ℕ) × IsRunFrom (marks_of ps) s 0 vs × (w ≡ last_word 0 vs)
 
--- the slots of partition p whose words after these records are so: these, each once
+-- these are the slots of partition p whose words after these records meet the condition, each once
 pub record AreSlots (P : ℕ → Type 0) (roots : Journals) (ps : List Played) (p : ℕ) (slots : List SlotName) (sizes : List ℕ) : Type 0 where
   pub once : AllPairs ◌≢◌ slots
   pub all : (s : SlotName) → Contains slots s ↔ ((len w : ℕ) × HasSize roots p s len × HasWord ps s w × P w)
@@ -63,7 +63,7 @@ abbrev pub cached_bytes : Caches → ℕ → ℕ → ℕ
 cached_bytes all p zero = 0
 cached_bytes all p (suc t) = listed_bytes (λ class. length (all t p class)) 0 class_count + cached_bytes all p t
 
--- the caches after these records hold so much of partition p
+-- the caches after these records hold this tally of partition p
 abbrev pub IsCached : ℕ → ℕ → Journals → List Played → ℕ → Tally → Type 0
 IsCached partitions threads roots ps p tally =
     (all : Caches) × CachesTo partitions roots no_caches ps all × (tally.slots ≡ cached_slots all p threads)

@@ -40,7 +40,7 @@ abbrev pub MakesFull : List PoolEntry → ℕ → Option ℕ → ℕ → Op → 
 MakesFull pools p None asked op = (size : ℕ) × AsksForMap op p size × FoundNone pools asked (shape_of size).supers
 MakesFull pools p (Some class) asked op = AsksForClass op p class
 
--- The op makes such an entry of partition p's journal: an allocation fills from its class, maps the shape of its size or
+-- The op makes this entry of partition p's journal: an allocation fills from its class, maps the shape of its size or
 -- finds no room for them; a free or a reset gives back; a purge gives back and purges.
 abbrev pub MakesEntry : List PoolEntry → ℕ → RootAct → Op → Type 0
 MakesEntry pools p (Fill class asked slots) op = AsksForClass op p class
@@ -57,9 +57,9 @@ IsFull act = (class : Option ℕ) × (asked : ℕ) × (act ≡ Full class asked)
 -- The journals are those of the records.
 --   journals: each is one of a root, replayed with the pool's entries
 --   lines: each entry's line is an op that makes it
---   order: the entries of a journal stand in the order of their records
+--   order: the entries of a journal are in the order of their records
 --   none_past: there are none past the trace's
---   refusals: a record that is full names a Full of its line
+--   refusals: a record with the answer Full names a Full of its line
 pub record AreRoots (partitions : ℕ) (ps : List Played) (pools : List PoolEntry) (roots : Journals) : Type 0 where
   pub journals : (p : ℕ) → IsJournal pools (roots p)
   pub lines : (p j : ℕ) (e : RootEntry) → IsEntry roots p j e → (x : Played) × IsOfLine ps e.line x × MakesEntry pools p e.act x.op
@@ -75,8 +75,8 @@ Names roots p i j = (e : RootEntry) × IsEntry roots p i e × (asked_by e.act �
 -- The pool's entries are those of the records.
 --   fits: each take and give fits the pool after those before it
 --   named: each entry is named by a journal entry, which is of its partition and line; once: and by no other. A journal
---     entry that names one which isn't there is no matter of the pool's entries
---   order: they stand in the order of their records
+--     entry that names one which isn't there is checked by the journals and not here
+--   order: they are in the order of their records
 pub record IsPoolOf (supers : ℕ) (ps : List Played) (pools : List PoolEntry) (roots : Journals) : Type 0 where
   pub fits : IsPool supers pools
   pub named : (j : ℕ) (e : PoolEntry) → slice_get pools j ≡ Some e

@@ -1,4 +1,4 @@
--- What a thread has seen: no record finds an older number of a slot than one that stands before it left.
+-- What a thread has seen: no record finds an older number of a slot than one before it left.
 use Rattle.std.specs.Prelude.{◌≡◌, ◌≢◌, ℕ, ◌+◌, ◌≤◌, if◌then◌else◌, List, Some, is_some, Contains}
 use Rattle.pa_machine.specs.Count.{number_of}
 use Rattle.pa_machine.specs.Run.{Mark}

@@ -5,7 +5,7 @@ use Rattle.pa_buckets.specs.Table.{rows, slot_of}
 use Rattle.pa_buckets.specs.Classes.{IsClassOf}
 use Rattle.pa_direct.specs.Shapes.{shape_of, IsDirectSize}
 
--- the slot of a request: that of the first class whose slots are large enough, and of a direct map where there is none
+-- the slot of a request: that of the first class whose slots are large enough, and of a direct map if there is none
 unfoldable pub slot_size_for : ℕ → ℕ
 slot_size_for size = option_map_or (λ r. r.slot) (find (λ r. nat_le (max size 1 + 8) r.slot) rows) (shape_of size).slot
 

@@ -1,4 +1,4 @@
--- What a run tells, as lists.
+-- What a run contains, as lists.
 use Rattle.std.specs.Prelude.{ℕ, List}
 use Rattle.pa_trace.specs.declared.script.Trace.{Trace}
 use Rattle.pa_record.specs.declared.entry.Entry.{Entry}
@@ -24,6 +24,6 @@ pub record Told : Type 0 where
 abbrev pub told_by : Run → Told
 told_by r = record { entries = r.entries.items; roots = journal_of r; pools = r.pool.items; cells = history_of r; report = r.report.items }
 
--- its records beside the ops of the trace
+-- its records with the ops of the trace
 abbrev pub records_of : Trace → Told → List Played
 records_of t r = played t.lines r.entries

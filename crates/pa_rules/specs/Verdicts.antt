@@ -1,4 +1,4 @@
--- What each clause asks of each place of a run's text, where it fails, and what a run's verdict is.
+-- What each clause requires of each place of a run's text, at which line it fails, and what a run's verdict is.
 use Rattle.std.specs.Prelude.{◌≡◌, ℕ, ◌<◌}
 use Rattle.pa_trace.specs.declared.script.Trace.{Trace}
 use Rattle.pa_record.specs.declared.run.Run.{Run}

@@ -15,18 +15,18 @@ pub fn worked_caches_fit()
     ensures { PurgeIsCached }
 {}
 
-/// The law that a slot stands in the caches, was issued or came back to the root as often as it left the root and was
+/// The law that a slot is in the caches, was issued or came back to the root as often as it left the root and was
 /// returned.
 pub fn caches_keep()
     ensures { CachesKeep }
 {}
 
-/// The law that a slot was issued as often as it was returned, and once more where it isn't free.
+/// The law that a slot was issued as often as it was returned, and once more if it isn't free.
 pub fn issues_return()
     ensures { IssuesReturn }
 {}
 
-/// The law that a run's records, where they are those due, stand beside the ops of all of the trace's lines, none left out.
+/// The law that a run's records, if they are those due, are paired with the ops of all of the trace's lines, none left out.
 pub fn records_are_lines()
     ensures { RecordsAreLines }
 {}
@@ -47,7 +47,7 @@ pub fn report_adds_up()
     ensures { ReportAddsUp }
 {}
 
-/// The law that the records up to the end of a phase have one run for each slot, where all records have and none of a
+/// The law that the records up to the end of a phase have one run for each slot, if all records have and none of a
 /// later phase found a lower number than one of an earlier phase left.
 pub fn runs_until()
     ensures { RunsUntil }

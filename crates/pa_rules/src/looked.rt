@@ -5,7 +5,7 @@ ghost use Rattle.pa_rules.specs.Nexts.{looked_free, looked_read, looked_write};
 use pa_machine::held;
 use pa_record::{Answer, Seen};
 
-/// The answer of a free through a `raw_ptr`: a second free where the slot was freed before, else one by who isn't the owner.
+/// The answer of a free through a `raw_ptr`: a second free if the slot was freed before, else a free by a non-owner.
 pub fn looked_free(seen: Seen) -> Answer
     ensures { result ≡ looked_free seen }
 {
@@ -16,7 +16,7 @@ pub fn looked_free(seen: Seen) -> Answer
     }
 }
 
-/// The answer of a write through a `raw_ptr`: a stale use where the slot was freed, else one by who isn't the owner.
+/// The answer of a write through a `raw_ptr`: a stale use if the slot was freed, else a write by a non-owner.
 pub fn looked_write(seen: Seen) -> Answer
     ensures { result ≡ looked_write seen }
 {
@@ -27,7 +27,7 @@ pub fn looked_write(seen: Seen) -> Answer
     }
 }
 
-/// The answer of a read of this value: dangling where the slot was freed.
+/// The answer of a read of this value: dangling if the slot was freed.
 pub fn looked_read(seen: Seen, value: u64) -> Answer
     ensures { result ≡ looked_read seen value }
 {

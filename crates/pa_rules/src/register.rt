@@ -4,7 +4,7 @@ ghost use Rattle.pa_rules.specs.Nexts.{HasSomeHandle, copy_next, free_next, read
 use pa_record::Answer;
 use std::alloc::AllocError;
 
-/// What a register of a thread holds. A handle names the object: to the rules by its slot, to a player as it likes.
+/// What a register of a thread holds. A handle names the object: to the rules by its slot, to a player in its own way.
 #[derive(Copy, Debug, PartialEq, Eq)]
 pub enum Register<H> {
     /// Nothing yet.
@@ -51,7 +51,7 @@ impl<H: Copy> Register<H> {
         }
     }
 
-    /// Of which handle a copy makes its step, or with which answer it is refused. Where the second register has a handle,
+    /// The handle on which a copy makes its step, or the answer with which it is refused. If the second register has a handle,
     /// it is refused too.
     pub fn for_copy(self) -> Result<H, Answer>
         ensures { result ≡ copy_next self }
@@ -63,7 +63,7 @@ impl<H: Copy> Register<H> {
         }
     }
 
-    /// Of which handle a reset makes its step, or with which answer it is refused.
+    /// The handle on which a reset makes its step, or the answer with which it is refused.
     pub fn for_reset(self) -> Result<H, Answer>
         ensures { result ≡ reset_next self }
     {
@@ -88,7 +88,7 @@ impl<H: Copy> Register<H> {
         }
     }
 
-    /// What a write through it does. Where a `raw_ptr` points to the slot, its step is refused too.
+    /// What a write through it does. If a `raw_ptr` points to the slot, its step is refused too.
     pub fn for_write(self) -> Next<H>
         ensures { result ≡ write_next self }
     {
@@ -100,8 +100,8 @@ impl<H: Copy> Register<H> {
         }
     }
 
-    /// Of which handle a read looks at the slot, or with which answer it is refused. A word that isn't the slot's is out
-    /// of range besides.
+    /// The handle whose slot a read looks at, or the answer with which it is refused. A word that isn't the slot's is out
+    /// of range as well.
     pub fn for_read(self) -> Result<H, Answer>
         ensures { result ≡ read_next self }
     {

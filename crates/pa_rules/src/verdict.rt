@@ -25,7 +25,7 @@ pub enum Verdict {
 /// A place of a run's text, which has one line.
 #[derive(Clone, Copy, Debug, PartialEq, Eq)]
 pub enum Place {
-    /// The record of this index; behind the last one, the line after the records.
+    /// The record of this index; after the last one, the line after the records.
     Record(u32),
     /// An entry of a root's journal, by its partition and index.
     Root(u32, u32),
@@ -33,6 +33,6 @@ pub enum Place {
     Pool(u32),
     /// An exchange, by its cell and its index in the cell's history.
     Cell(u32, u32),
-    /// A line of the report, by its index; behind the last one, the line that ends the run.
+    /// A line of the report, by its index; after the last one, the line that ends the run.
     Report(u32),
 }

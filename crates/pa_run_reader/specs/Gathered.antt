@@ -19,7 +19,7 @@ pub record Gathered : Type 0 where
   pub cells : List (List CellEntry)
   pub report : List ReportLine
 
--- with the item behind the others of its list
+-- with the item appended to its list
 abbrev pub gathered_with : Item → Gathered → Gathered
 gathered_with Head g = g
 gathered_with (Record entry) g = record g { entries = g.entries ++ entry ∷ [] }
@@ -51,7 +51,7 @@ pub record IsUngathered (g : Gathered) : Type 0 where
   pub cells : All (λ history. history ≡ []) g.cells
   pub report : g.report ≡ []
 
--- the run tells these lists
+-- the run has these lists
 pub record TellsGathered (g : Gathered) (r : Run) : Type 0 where
   pub entries : r.entries.items ≡ g.entries
   pub roots : r.roots.items ≡ g.roots

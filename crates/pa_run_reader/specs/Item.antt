@@ -27,7 +27,7 @@ FitsItem (Cell cell index entry) = (cell < cell_count) × CellInBits entry
 FitsItem (Report line) = ReportInBits line
 FitsItem End = Unit {0}
 
--- the item's index, which is 0 where it has none
+-- the item's index, which is 0 if it has none
 abbrev pub index_of : Item → ℕ
 index_of (Root partition index entry) = index
 index_of (Pool index entry) = index

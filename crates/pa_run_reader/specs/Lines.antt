@@ -37,7 +37,7 @@ given_back_in bytes = do
 unfoldable pub pool_act_in : List ℕ → Option (PoolAct × List ℕ)
 pool_act_in bytes = either (after_word (codes "take ") bytes) take_in (either (after_word (codes "give ") bytes) given_back_in None)
 
--- after_word `p `: index and entry, and the LF
+-- after `p `: index and entry, and the LF
 unfoldable pub pool_in : List ℕ → Option (Item × List ℕ)
 pool_in bytes = do
   index ← below_at 4294967296 bytes
@@ -66,7 +66,7 @@ own_or_ref_in bytes =
     either (after_word (codes "-") bytes) (λ rest. Some (handles.Nothing, rest)) (either (after_word (codes "own:") bytes) own_in
     (either (after_word (codes "ref:") bytes) ref_in None))
 
--- after_word `c `: cell, index and exchange, and the LF
+-- after `c `: cell, index and exchange, and the LF
 unfoldable pub cell_in : List ℕ → Option (Item × List ℕ)
 cell_in bytes = do
   cell ← below_at cell_count bytes
@@ -94,7 +94,7 @@ PlacesFit p = Is32 p.phase × Is32 p.partition × TallyInBits p.live × TallyInB
 abbrev pub StatesFit : States → Type 0
 StatesFit s = Is32 s.full × Is32 s.active × Is32 s.empty × Is32 s.decommitted
 
--- the parts' texts, and what stands after_word them
+-- the parts' texts, and what follows them
 abbrev pub places_before : Places → List ℕ → List ℕ
 places_before p x =
     decimal p.phase ++ (codes " " ++ (decimal p.partition ++ (tally_text (codes " live ") p.live
@@ -151,7 +151,7 @@ report_of p committed reserved s = record {
   decommitted = s.decommitted;
 }
 
--- after_word `s `: the line, and the LF
+-- after `s `: the line, and the LF
 unfoldable pub report_in : List ℕ → Option (ReportLine × List ℕ)
 report_in bytes = do
   places ← places_in bytes
@@ -173,7 +173,7 @@ report_item_in bytes = do
   line ← report_in bytes
   Some (items.Report line.0, line.1)
 
--- the line in front of the bytes, its LF with it
+-- the first line of the bytes, with its LF
 unfoldable pub item_in : List ℕ → Option (Item × List ℕ)
 item_in bytes =
     either (after_word (codes "e ") bytes) record_item_in (either (after_word (codes "r ") bytes) root_in

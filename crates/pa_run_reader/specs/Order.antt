@@ -1,4 +1,4 @@
--- Which lines make a run's text: the order in which items stand, and the first line that is outside the grammar.
+-- Which lines make a run's text: the order of the items, and the first line that is outside the grammar.
 use Rattle.std.specs.Prelude.{◌≡◌, ℕ, ◌+◌, ◌<◌, ◌⊎◌, List, [], ◌∷◌, ◌++◌, map, Option, Some, None}
 use Rattle.pa_record.specs.declared.run.Run.{Run}
 use Rattle.pa_run_reader.specs.declared.item.Item.{Item}
@@ -7,7 +7,7 @@ use Rattle.pa_run_reader.specs.declared.place.Place.{Place}
 use Rattle.pa_run_reader.specs.declared.place.Place.TheVariants.{Head, Record, Root, Pool, Cell, Report, End}
 use Rattle.pa_run_reader.specs.Item.{FitsItem, item_text}
 
--- where an item stands: its kind, and its list and index where it has them
+-- the position of an item: its kind, and its list and index if it has them
 abbrev pub item_place : Item → Place
 item_place items.Head = Head
 item_place (items.Record entry) = Record
@@ -37,11 +37,11 @@ Begins (Cell cell index) = index ≡ 0
 Begins Report = Unit {0}
 Begins End = Unit {0}
 
--- the second entry stands right behind the first: the next of one list, or the first of a later one
+-- the second entry comes right after the first: the next of one list, or the first of a later one
 abbrev pub IsNextOf : ℕ → ℕ → ℕ → ℕ → Type 0
 IsNextOf list index later next = ((later ≡ list) × (next ≡ index + 1)) ⊎ ((list < later) × (next ≡ 0))
 
--- the second may stand right behind the first, which is of its kind
+-- the second may come right after the first, which is of its kind
 abbrev pub Continues : Place → Place → Type 0
 Continues Record Record = Unit {0}
 Continues (Root partition index) (Root later next) = IsNextOf partition index later next
@@ -50,16 +50,16 @@ Continues (Cell cell index) (Cell later next) = IsNextOf cell index later next
 Continues Report Report = Unit {0}
 Continues last next = ⊥
 
--- the second may stand right behind the first
+-- the second may come right after the first
 abbrev pub StandsBehind : Place → Place → Type 0
 StandsBehind last next = ((kind last < kind next) × Begins next) ⊎ Continues last next
 
--- the item may stand right behind the last one; first stands the head
+-- the item may come right after the last one; the head comes first
 abbrev pub Follows : Option Item → Item → Type 0
 Follows None next = next ≡ items.Head
 Follows (Some last) next = StandsBehind (item_place last) (item_place next)
 
--- line m is the first bad one of these, of which the first is line n and stands behind the last item: it is the text of no item
+-- line m is the first bad one of these, of which the first is line n and comes after the last item: it isn't the text of an item
 -- that may follow, or there is none where one is due
 abbrev pub IsFirstBad : ℕ → Option Item → List (List ℕ) → ℕ → Type 0
 IsFirstBad n last [] m = (m ≡ n) × (last ≡ Some items.End → ⊥)
@@ -69,7 +69,7 @@ IsFirstBad n last (line ∷ lines) m =
 
 -- ---- the items of a run
 
--- the items of a list, of which the first has number n
+-- the items of a list, of which the first has index n
 abbrev pub numbered_items : {A : Type 0} → (ℕ → A → Item) → ℕ → List A → List Item
 numbered_items at n [] = []
 numbered_items at n (x ∷ xs) = at n x ∷ numbered_items at (n + 1) xs
@@ -79,14 +79,14 @@ abbrev pub listed_items : {A : Type 0} → (ℕ → ℕ → A → Item) → ℕ 
 listed_items at p [] = []
 listed_items at p (xs ∷ lists) = numbered_items (at p) 0 xs ++ listed_items at (p + 1) lists
 
--- the items that the lines of a run's text tell, in their order
+-- the items that the lines of a run's text contain, in their order
 abbrev pub items_of : Run → List Item
 items_of r =
     items.Head ∷ [] ++ map (λ e. items.Record e) r.entries.items ++ listed_items (λ p j e. items.Root p j e) 0 r.roots.items
     ++ numbered_items (λ j e. items.Pool j e) 0 r.pool.items ++ listed_items (λ k j e. items.Cell k j e) 0 r.cells.items
     ++ map (λ l. items.Report l) r.report.items ++ items.End ∷ []
 
--- each of these items follows the one before, the first of them the last one, and behind them none is due
+-- each of these items follows the one before, the first of them the last one, and none is due after them
 abbrev pub AreInOrder : Option Item → List Item → Type 0
 AreInOrder last [] = last ≡ Some items.End
 AreInOrder last (i ∷ is) = FitsItem i × Follows last i × AreInOrder (Some i) is

@@ -25,7 +25,7 @@ some_seen_in bytes = do
 unfoldable pub seen_if_in : List ℕ → Option (Option Seen × List ℕ)
 seen_if_in bytes = either (after_word (codes " ") bytes) (λ rest. some_seen_in bytes) (Some (None, bytes))
 
--- after_word the answer's name: what it tells
+-- after the answer's name: its fields
 unfoldable pub made_in : List ℕ → Option (Answer × List ℕ)
 made_in bytes = do
   rest ← after_word (codes " ") bytes
@@ -71,7 +71,7 @@ shared_in bytes = do
   seen ← seen_in bytes
   Some (Shared seen.0, seen.1)
 
--- the answers that name a slot, those that are a word, and those that tell a number
+-- the answers that name a slot, those that are a word, and those that have a number
 unfoldable pub slot_answer_in : List ℕ → Option (Answer × List ℕ)
 slot_answer_in bytes =
     either (after_word (codes "made") bytes) made_in (either (after_word (codes "done") bytes) done_in
@@ -101,7 +101,7 @@ counted_answer_in bytes =
 unfoldable pub answer_in : List ℕ → Option (Answer × List ℕ)
 answer_in bytes = first_read (slot_answer_in bytes) (first_read (plain_answer_in bytes) (counted_answer_in bytes))
 
--- after_word `e `: the record, and the LF
+-- after `e `: the record, and the LF
 unfoldable pub record_in : List ℕ → Option (Entry × List ℕ)
 record_in bytes = do
   line ← below_at 4294967296 bytes

@@ -10,7 +10,7 @@ use Rattle.pa_run_reader.specs.declared.item.Item.{Item}
 use Rattle.pa_run_reader.specs.declared.item.Item.TheVariants as items
 use Rattle.pa_run_reader.specs.Reading.{after_word, either, below_at, below_in, wide_in, slot_in}
 
--- a word that stands for no number, or a number below the limit
+-- a word in place of a number, or a number below the limit
 abbrev pub some_below_at : ℕ → List ℕ → Option (Option ℕ × List ℕ)
 some_below_at limit bytes = do
   x ← below_at limit bytes
@@ -26,12 +26,12 @@ numbered_in bytes = do
   number ← wide_in (codes "@") slot.1
   Some (record { slot = slot.0; number = number.0 }, number.1)
 
--- a slot in front of others
+-- a slot before others
 abbrev pub slot_before : Numbered → Option (List Numbered × List ℕ) → Option (List Numbered × List ℕ)
 slot_before slot None = None
 slot_before slot (Some x) = Some (slot ∷ x.0, x.1)
 
--- ` SLOT@K` for each of at most so many slots
+-- ` SLOT@K` for each of at most that many slots
 unfoldable pub slots_in : ℕ → List ℕ → Option (List Numbered × List ℕ)
 slots_in zero bytes = Some ([], bytes)
 slots_in (suc k) bytes =
@@ -46,7 +46,7 @@ batch_in bytes = do
   x ← slots_in 16 bytes
   if_any x
 
--- after_word the act's name: what it tells
+-- after the act's name: its fields
 unfoldable pub fill_in : List ℕ → Option (RootAct × List ℕ)
 fill_in bytes = do
   class ← below_at class_count bytes
@@ -88,7 +88,7 @@ root_act_in bytes =
     (either (after_word (codes "give") bytes) give_in (either (after_word (codes "unmap ") bytes) unmap_in
     (either (after_word (codes "purge") bytes) (λ rest. Some (acts.Purge, rest)) None)))))
 
--- after_word `r `: partition, index and entry, and the LF
+-- after `r `: partition, index and entry, and the LF
 unfoldable pub root_in : List ℕ → Option (Item × List ℕ)
 root_in bytes = do
   partition ← below_at most_partitions bytes

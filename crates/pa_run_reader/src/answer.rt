@@ -37,7 +37,7 @@ fn seen_if(bytes: &[u8]) -> Option<(Option<Seen>, &[u8])>
     Some((Some(seen), rest))
 }
 
-// What stands behind `made`.
+// What follows `made`.
 #[tactic(auto, unfolding(crate::specs::Records::made_in))]
 fn made(bytes: &[u8]) -> Option<(Answer, &[u8])>
     ensures read { Yields {Y = Answer × List ℕ} (λ x. (x.0, x.1.now)) result (made_in bytes.now) }
@@ -52,7 +52,7 @@ fn made(bytes: &[u8]) -> Option<(Answer, &[u8])>
     Some((Answer::Made { seen, usable }, rest))
 }
 
-// What stands behind `word`.
+// What follows `word`.
 #[tactic(auto, unfolding(crate::specs::Records::value_in))]
 fn value(bytes: &[u8]) -> Option<(Answer, &[u8])>
     ensures read { Yields {Y = Answer × List ℕ} (λ x. (x.0, x.1.now)) result (value_in bytes.now) }
@@ -63,7 +63,7 @@ fn value(bytes: &[u8]) -> Option<(Answer, &[u8])>
     Some((Answer::Value { seen, value }, rest))
 }
 
-// What stands behind `dangling`.
+// What follows `dangling`.
 #[tactic(auto, unfolding(crate::specs::Records::dangling_in))]
 fn dangling(bytes: &[u8]) -> Option<(Answer, &[u8])>
     ensures read { Yields {Y = Answer × List ℕ} (λ x. (x.0, x.1.now)) result (dangling_in bytes.now) }
@@ -74,7 +74,7 @@ fn dangling(bytes: &[u8]) -> Option<(Answer, &[u8])>
     Some((Answer::Dangling { seen, value }, rest))
 }
 
-// What stands behind `done`.
+// What follows `done`.
 #[tactic(auto, unfolding(crate::specs::Records::done_in))]
 fn done(bytes: &[u8]) -> Option<(Answer, &[u8])>
     ensures read { Yields {Y = Answer × List ℕ} (λ x. (x.0, x.1.now)) result (done_in bytes.now) }
@@ -84,7 +84,7 @@ fn done(bytes: &[u8]) -> Option<(Answer, &[u8])>
     Some((Answer::Done { seen }, rest))
 }
 
-// What stands behind `second-free`.
+// What follows `second-free`.
 #[tactic(auto, unfolding(crate::specs::Records::second_free_in))]
 fn second_free(bytes: &[u8]) -> Option<(Answer, &[u8])>
     ensures read { Yields {Y = Answer × List ℕ} (λ x. (x.0, x.1.now)) result (second_free_in bytes.now) }
@@ -94,7 +94,7 @@ fn second_free(bytes: &[u8]) -> Option<(Answer, &[u8])>
     Some((Answer::SecondFree { seen }, rest))
 }
 
-// What stands behind `not-owner`.
+// What follows `not-owner`.
 #[tactic(auto, unfolding(crate::specs::Records::not_owner_in))]
 fn not_owner(bytes: &[u8]) -> Option<(Answer, &[u8])>
     ensures read { Yields {Y = Answer × List ℕ} (λ x. (x.0, x.1.now)) result (not_owner_in bytes.now) }
@@ -104,7 +104,7 @@ fn not_owner(bytes: &[u8]) -> Option<(Answer, &[u8])>
     Some((Answer::NotOwner { seen }, rest))
 }
 
-// What stands behind `stale-use`.
+// What follows `stale-use`.
 #[tactic(auto, unfolding(crate::specs::Records::stale_use_in))]
 fn stale_use(bytes: &[u8]) -> Option<(Answer, &[u8])>
     ensures read { Yields {Y = Answer × List ℕ} (λ x. (x.0, x.1.now)) result (stale_use_in bytes.now) }
@@ -114,7 +114,7 @@ fn stale_use(bytes: &[u8]) -> Option<(Answer, &[u8])>
     Some((Answer::StaleUse { seen }, rest))
 }
 
-// What stands behind `shared`.
+// What follows `shared`.
 #[tactic(auto, unfolding(crate::specs::Records::shared_in))]
 fn shared(bytes: &[u8]) -> Option<(Answer, &[u8])>
     ensures read { Yields {Y = Answer × List ℕ} (λ x. (x.0, x.1.now)) result (shared_in bytes.now) }
@@ -184,7 +184,7 @@ fn plain_answer(bytes: &[u8]) -> Option<(Answer, &[u8])>
     None
 }
 
-// An answer that tells a number.
+// An answer that has a number.
 #[tactic(auto, unfolding(crate::specs::Records::counted_answer_in))]
 fn counted_answer(bytes: &[u8]) -> Option<(Answer, &[u8])>
     ensures read { Yields {Y = Answer × List ℕ} (λ x. (x.0, x.1.now)) result (counted_answer_in bytes.now) }

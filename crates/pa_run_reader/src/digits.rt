@@ -4,7 +4,7 @@ ghost use Rattle.pa_text.specs.Hex.{hex};
 ghost use Rattle.pa_text.specs.Reading.{digit_at, digits_from, hex_at, hexes_at};
 ghost use Rattle.pa_run_reader.specs.Reading.{Yields, narrowed, wide_at, below_at};
 
-// The number in front, where it has at most 64 bits, and the bytes behind its last digit.
+// The number at the start, if it has at most 64 bits, and the bytes after its last digit.
 #[tactic(auto, unfolding(crate::specs::Reading::wide_at, pa_text::specs::Reading::number_at))]
 pub fn number(bytes: &[u8]) -> Option<(u64, &[u8])>
     ensures read { Yields {Y = ℕ × List ℕ} (λ x. (x.0, x.1.now)) result (wide_at bytes.now) }
@@ -16,7 +16,7 @@ pub fn number(bytes: &[u8]) -> Option<(u64, &[u8])>
     digits(first, rest)
 }
 
-// The number in front, where it is below the limit, and the bytes behind its last digit.
+// The number at the start, if it is below the limit, and the bytes after its last digit.
 #[tactic(auto, unfolding(crate::specs::Reading::below_at))]
 pub fn below(limit: u64, bytes: &[u8]) -> Option<(u32, &[u8])>
     requires { limit ≤ 4294967296 }
@@ -30,7 +30,7 @@ pub fn below(limit: u64, bytes: &[u8]) -> Option<(u32, &[u8])>
     }
 }
 
-// The digit in front, and the bytes behind it.
+// The first digit, and the bytes after it.
 fn digit(bytes: &[u8]) -> Option<(u64, &[u8])>
     ensures read { Yields {Y = ℕ × List ℕ} (λ x. (x.0, x.1.now)) result (digit_at bytes.now) }
     ensures small { IfSome result (λ x. x.0 < 10) }
@@ -41,7 +41,7 @@ fn digit(bytes: &[u8]) -> Option<(u64, &[u8])>
     }
 }
 
-// The number that the digits in front write after a first one, where it has at most 64 bits, and the bytes behind them.
+// The number that the leading digits spell after a first one, if it has at most 64 bits, and the bytes after them.
 fn digits(first: u64, bytes: &[u8]) -> Option<(u64, &[u8])>
     ensures read { Yields {Y = ℕ × List ℕ} (λ x. (x.0, x.1.now)) result (narrowed (digits_from first bytes.now)) }
 {
@@ -57,7 +57,7 @@ fn digits(first: u64, bytes: &[u8]) -> Option<(u64, &[u8])>
     Some((value, rest))
 }
 
-// The number that so many hexadecimal digits in front write, and the bytes behind them.
+// The number that this many hexadecimal digits spell, and the bytes after them.
 pub fn hexes(count: u32, bytes: &[u8]) -> Option<(u64, &[u8])>
     requires { count ≤ 16 }
     ensures read { Yields {Y = ℕ × List ℕ} (λ x. (x.0, x.1.now)) result (hexes_at count bytes.now) }
@@ -75,7 +75,7 @@ pub fn hexes(count: u32, bytes: &[u8]) -> Option<(u64, &[u8])>
     Some((value, rest))
 }
 
-// The hexadecimal digit in front, and the bytes behind it.
+// The first hexadecimal digit, and the bytes after it.
 fn hex_digit(bytes: &[u8]) -> Option<(u64, &[u8])>
     ensures read { Yields {Y = ℕ × List ℕ} (λ x. (x.0, x.1.now)) result (hex_at bytes.now) }
     ensures small { IfSome result (λ x. x.0 < 16) }

@@ -55,7 +55,7 @@ impl Draft {
         })
     }
 
-    // Puts the item behind the others of its list, which is there.
+    // Appends the item to its list, which must be there.
     pub fn put(&mut self, item: Item) -> Result<(), OutOfMemory>
         requires { HasListOf item self.old }
         ensures { OnOk result (self.new ≡ gathered_with item self.old) }

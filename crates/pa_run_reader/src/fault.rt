@@ -5,12 +5,12 @@ use pa_machine::OutOfMemory;
 use std::error::Error;
 use std::fmt;
 
-/// Why a text is no run. Lines count from 1.
+/// Why a text isn't a run. Lines count from 1.
 #[derive(Clone, Copy, Debug, PartialEq, Eq)]
 pub enum RunFault {
-    /// This line is the first bad one: it isn't the line that may stand there, or it isn't there where one is due.
+    /// This line is the first bad one: it isn't a line that may come there, or it is missing where one is due.
     BadLine(u32),
-    /// Memory was wanting.
+    /// Memory ran out.
     OutOfMemory,
 }
 

@@ -11,7 +11,7 @@ use pa_machine::SlotName;
 // One more than the greatest number of 32 bits.
 pub const NUMBERS: u64 = 1 << 32;
 
-// The bytes behind a word that stands in front.
+// The bytes after a word with which they begin.
 #[tactic(auto, using(crate::proofs::Fields::behind_takes))]
 pub fn behind<'a>(word: &[u8], bytes: &'a [u8]) -> Option<&'a [u8]>
     ensures read { Yields (λ x. x.now) result (after_word word.now bytes.now) }
@@ -28,7 +28,7 @@ fn rest_behind<'a>(word: &[u8], bytes: &'a [u8]) -> Option<&'a [u8]>
     pa_text::behind(word, bytes)
 }
 
-// The number in front, where it is below the limit.
+// The number at the start, if it is below the limit.
 #[tactic(auto, using(crate::proofs::Fields::below_takes))]
 pub fn small(limit: u64, bytes: &[u8]) -> Option<(u32, &[u8])>
     requires { limit ≤ 4294967296 }
@@ -38,7 +38,7 @@ pub fn small(limit: u64, bytes: &[u8]) -> Option<(u32, &[u8])>
     below(limit, bytes)
 }
 
-// A word, and the number behind it, which is below the limit.
+// A word, and the number after it, which is below the limit.
 #[tactic(auto, unfolding(crate::specs::Reading::below_in))]
 pub fn field<'a>(word: &[u8], limit: u64, bytes: &'a [u8]) -> Option<(u32, &'a [u8])>
     requires { limit ≤ 4294967296 }
@@ -49,7 +49,7 @@ pub fn field<'a>(word: &[u8], limit: u64, bytes: &'a [u8]) -> Option<(u32, &'a [
     small(limit, rest)
 }
 
-// A word, and the number of at most 64 bits behind it.
+// A word, and the number of at most 64 bits after it.
 #[tactic(auto, unfolding(crate::specs::Reading::wide_in), using(crate::proofs::Fields::wide_takes))]
 pub fn wide<'a>(word: &[u8], bytes: &'a [u8]) -> Option<(u64, &'a [u8])>
     ensures read { Yields {Y = ℕ × List ℕ} (λ x. (x.0, x.1.now)) result (wide_in word.now bytes.now) }
@@ -59,7 +59,7 @@ pub fn wide<'a>(word: &[u8], bytes: &'a [u8]) -> Option<(u64, &'a [u8])>
     number(rest)
 }
 
-// A space, and the sixteen hexadecimal digits behind it.
+// A space, and the sixteen hexadecimal digits after it.
 #[tactic(auto, unfolding(crate::specs::Reading::hexes_in), using(crate::proofs::Fields::hexes_taken))]
 pub fn word(bytes: &[u8]) -> Option<(u64, &[u8])>
     ensures read { Yields {Y = ℕ × List ℕ} (λ x. (x.0, x.1.now)) result (hexes_in bytes.now) }

@@ -1,6 +1,6 @@
 use pa_record::{CellEntry, Entry, PoolEntry, ReportLine, RootEntry};
 
-/// What one line of a run's text tells. Indices count from 0.
+/// What one line of a run's text contains. Indices count from 0.
 #[derive(Debug, Drop, PartialEq, Eq)]
 pub enum Item {
     /// The first line, `run 1`.

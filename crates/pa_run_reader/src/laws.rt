@@ -19,7 +19,7 @@ pub fn one_bad_line()
     ensures { (bytes : List ℕ) (m n : ℕ) → IsFirstBad 1 None (lines_of bytes) m → IsFirstBad 1 None (lines_of bytes) n → m ≡ n }
 {}
 
-/// A run's text is the lines of its items, and these stand in order from the head to `end`.
+/// A run's text is the lines of its items, and these are in order from the head to `end`.
 pub fn runs_are_in_order()
     ensures text { (r : Run) → run_text r ≡ flat_map item_text (items_of r) }
     ensures order { (r : Run) (bytes : List ℕ) → IsRunText r bytes → AreInOrder None (items_of r) }

@@ -1,4 +1,4 @@
-//! Reading the text of a run: each line as the item that it tells, and the run of the items.
+//! Reading the text of a run: each line as the item that it contains, and the run that the items make.
 #![tactic(auto)]
 
 mod answer;

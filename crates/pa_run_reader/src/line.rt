@@ -11,8 +11,8 @@ use crate::item::Item;
 use crate::other::{cell, pool, report};
 use crate::root::root;
 
-/// The item whose line stands in front of the bytes, and the bytes behind that line's LF. `None` exactly where the bytes
-/// don't begin with the line of an item: where the first line is outside the grammar, or has no LF.
+/// The item whose line comes first in the bytes, and the bytes after that line's LF. `None` exactly when the bytes
+/// don't begin with the line of an item: if the first line is outside the grammar, or has no LF.
 #[tactic(auto, using(crate::proofs::AgainLines::no_item))]
 pub fn line_at(bytes: &[u8]) -> Option<(Item, &[u8])>
     ensures fits { IfSome result (λ x. ItemInBits x.0) }

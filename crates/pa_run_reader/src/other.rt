@@ -18,7 +18,7 @@ use crate::root::number_or;
 use pa_record::{CellEntry, Held, PoolAct, PoolEntry, ReportLine, Tally};
 use pa_trace::CELLS;
 
-// What stands behind `take`.
+// What follows `take`.
 #[tactic(auto, unfolding(crate::specs::Lines::take_in))]
 fn take(bytes: &[u8]) -> Option<(PoolAct, &[u8])>
     ensures read { Yields {Y = PoolAct × List ℕ} (λ x. (x.0, x.1.now)) result (take_in bytes.now) }
@@ -30,7 +30,7 @@ fn take(bytes: &[u8]) -> Option<(PoolAct, &[u8])>
     Some((PoolAct::Take { count, first }, rest))
 }
 
-// What stands behind `give`.
+// What follows `give`.
 #[tactic(auto, unfolding(crate::specs::Lines::given_back_in))]
 fn back(bytes: &[u8]) -> Option<(PoolAct, &[u8])>
     ensures read { Yields {Y = PoolAct × List ℕ} (λ x. (x.0, x.1.now)) result (given_back_in bytes.now) }
@@ -75,7 +75,7 @@ pub fn pool(bytes: &[u8]) -> Option<(Item, &[u8])>
     Some((Item::Pool { index, entry }, rest))
 }
 
-// What stands behind `own:`.
+// What follows `own:`.
 #[tactic(auto, unfolding(crate::specs::Lines::own_in))]
 fn own_handle(bytes: &[u8]) -> Option<(Held, &[u8])>
     ensures read { Yields {Y = Held × List ℕ} (λ x. (x.0, x.1.now)) result (own_in bytes.now) }
@@ -85,7 +85,7 @@ fn own_handle(bytes: &[u8]) -> Option<(Held, &[u8])>
     Some((Held::Own(slot), rest))
 }
 
-// What stands behind `ref:`.
+// What follows `ref:`.
 #[tactic(auto, unfolding(crate::specs::Lines::ref_in))]
 fn ref_handle(bytes: &[u8]) -> Option<(Held, &[u8])>
     ensures read { Yields {Y = Held × List ℕ} (λ x. (x.0, x.1.now)) result (ref_in bytes.now) }

@@ -3,7 +3,7 @@ ghost use Rattle.pa_run_reader.specs.Order.{kind, item_place, Begins, IsNextOf, 
 
 use crate::Item;
 
-// Where an item stands in a run's text: its kind, and its list and index where it has them.
+// The position of an item in a run's text: its kind, and its list and index if it has them.
 #[derive(Clone, Copy, Debug, PartialEq, Eq)]
 pub enum Place {
     Head,
@@ -15,7 +15,7 @@ pub enum Place {
     End,
 }
 
-// The place of the item.
+// The position of the item.
 pub fn place_of(item: &Item) -> Place
     ensures { result ≡ item_place item.now }
 {
@@ -40,7 +40,7 @@ pub fn place_of(item: &Item) -> Place
     }
 }
 
-// The number of the kind in their order.
+// The rank of the kind in their order.
 fn kind(place: Place) -> u32
     ensures { result ≡ kind place }
 {
@@ -74,7 +74,7 @@ fn is_next(index: u32, next: u32) -> bool
     next > 0 && next - 1 == index
 }
 
-// Whether the second entry, of this list, stands right behind the first.
+// Whether the second entry, of this list, comes right after the first.
 fn is_next_of(list: u32, index: u32, later: u32, next: u32) -> bool
     ensures { IsTrue result ↔ IsNextOf list index later next }
 {
@@ -85,7 +85,7 @@ fn is_next_of(list: u32, index: u32, later: u32, next: u32) -> bool
     }
 }
 
-// Whether the second may stand right behind the first, which is of its kind.
+// Whether the second may come right after the first, which is of its kind.
 fn continues(last: Place, next: Place) -> bool
     ensures { IsTrue result ↔ Continues last next }
 {
@@ -111,7 +111,7 @@ fn continues(last: Place, next: Place) -> bool
     }
 }
 
-// Whether the second may stand right behind the first.
+// Whether the second may come right after the first.
 pub fn stands_behind(last: Place, next: Place) -> bool
     ensures { IsTrue result ↔ StandsBehind last next }
 {

@@ -16,9 +16,9 @@ use pa_dense::DenseRun;
 use pa_record::Run;
 use std::alloc::Global;
 
-/// The run that the bytes are the text of, with 4 journals and 64 histories, some of them empty. `BadLine(n)` names the first
-/// line, counted from 1, that isn't the line of an item that may stand there; n is one more than the number of lines where
-/// all of them may and `end` is wanting. There are fewer than 2^32 - 1 bytes.
+/// Reads a run from its text, with 4 journals and 64 histories, some of them empty. `BadLine(n)` names the first
+/// line, counted from 1, that isn't the line of an item that may come there; n is one more than the number of lines where
+/// each of them may and `end` is missing. There are fewer than 2^32 - 1 bytes.
 pub fn read_run(alloc: Global, bytes: &[u8]) -> Result<Run, RunFault>
     requires { length bytes.now < 2 ^ 32 - 1 }
     ensures found { IfOk result (λ r. IsRunText r bytes.now) }
@@ -40,7 +40,7 @@ pub fn read_dense_run(alloc: Global, bytes: &[u8]) -> Result<DenseRun, RunFault>
     Ok(draft.into_dense())
 }
 
-// What a run tells whose text the bytes are.
+// What the run contains whose text the bytes are.
 fn read_draft(alloc: Global, bytes: &[u8]) -> Result<Draft, RunFault>
     requires { length bytes.now < 2 ^ 32 - 1 }
     ensures found { IfOk result (λ d. (r : Told) → TellsGathered d r → IsRunText r bytes.now) }
@@ -54,7 +54,7 @@ fn read_draft(alloc: Global, bytes: &[u8]) -> Result<Draft, RunFault>
     read_items(alloc, rest)
 }
 
-// The same where the head was read, which is line 1.
+// The same, after the head, which is line 1.
 fn read_items(alloc: Global, bytes: &[u8]) -> Result<Draft, RunFault>
     requires { length bytes.now < 2 ^ 32 - 2 }
     ensures found { IfOk result (λ d. (r : Told) → TellsGathered d r → IsRunText r (codes "run 1\n" ++ bytes.now)) }

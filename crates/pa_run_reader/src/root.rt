@@ -21,7 +21,7 @@ use pa_trace::MOST_PARTITIONS;
 // The most slots of a batch.
 const BATCH: u32 = 16;
 
-// A number, or a word where there is none.
+// A number, or a word if there is none.
 #[tactic(auto, unfolding(crate::specs::Roots::number_or_in))]
 pub fn number_or<'a>(word: &[u8], bytes: &'a [u8]) -> Option<(Option<u32>, &'a [u8])>
     ensures read { Yields {Y = Option ℕ × List ℕ} (λ x. (x.0, x.1.now)) result (number_or_in word.now 4294967296 bytes.now) }
@@ -94,7 +94,7 @@ fn batch(bytes: &[u8]) -> Option<(Batch, &[u8])>
     }
 }
 
-// What stands behind `fill`.
+// What follows `fill`.
 #[tactic(auto, unfolding(crate::specs::Roots::fill_in))]
 fn fill(bytes: &[u8]) -> Option<(RootAct, &[u8])>
     ensures read { Yields {Y = RootAct × List ℕ} (λ x. (x.0, x.1.now)) result (fill_in bytes.now) }
@@ -109,7 +109,7 @@ fn fill(bytes: &[u8]) -> Option<(RootAct, &[u8])>
     Some((RootAct::Fill { class, pool, slots }, rest))
 }
 
-// What stands behind `map`.
+// What follows `map`.
 #[tactic(auto, unfolding(crate::specs::Roots::map_act_in))]
 fn map(bytes: &[u8]) -> Option<(RootAct, &[u8])>
     ensures read { Yields {Y = RootAct × List ℕ} (λ x. (x.0, x.1.now)) result (map_act_in bytes.now) }
@@ -123,7 +123,7 @@ fn map(bytes: &[u8]) -> Option<(RootAct, &[u8])>
     Some((RootAct::Map { pool, slot, len }, rest))
 }
 
-// What stands behind `full`.
+// What follows `full`.
 #[tactic(auto, unfolding(crate::specs::Roots::full_in))]
 fn full(bytes: &[u8]) -> Option<(RootAct, &[u8])>
     ensures read { Yields {Y = RootAct × List ℕ} (λ x. (x.0, x.1.now)) result (full_in bytes.now) }
@@ -137,7 +137,7 @@ fn full(bytes: &[u8]) -> Option<(RootAct, &[u8])>
     Some((RootAct::Full { class, pool }, rest))
 }
 
-// What stands behind `give`.
+// What follows `give`.
 #[tactic(auto, unfolding(crate::specs::Roots::give_in))]
 fn give(bytes: &[u8]) -> Option<(RootAct, &[u8])>
     ensures read { Yields {Y = RootAct × List ℕ} (λ x. (x.0, x.1.now)) result (give_in bytes.now) }
@@ -148,7 +148,7 @@ fn give(bytes: &[u8]) -> Option<(RootAct, &[u8])>
     Some((RootAct::Give { slots }, rest))
 }
 
-// What stands behind `unmap`.
+// What follows `unmap`.
 #[tactic(auto, unfolding(crate::specs::Roots::unmap_in))]
 fn unmap(bytes: &[u8]) -> Option<(RootAct, &[u8])>
     ensures read { Yields {Y = RootAct × List ℕ} (λ x. (x.0, x.1.now)) result (unmap_in bytes.now) }

@@ -1,4 +1,4 @@
--- When bytes are the text of what was told so far.
+-- When bytes are the text of what was reported so far.
 use Rattle.std.specs.Prelude.{◌≡◌, ℕ, ◌+◌, List, [], ◌∷◌, ◌++◌, codes, length}
 use Rattle.std.specs.List.{AllByRecursion, flat_map}
 use Rattle.pa_record.specs.declared.entry.Entry.{Entry}
@@ -16,7 +16,7 @@ pub record OneJournal : Type 0 where
   pub partition : ℕ
   pub entries : List RootEntry
 
--- the bytes are the lines of this journal, which has so many entries
+-- the bytes are the lines of this journal, which has that many entries
 pub record IsJournalText (journal : OneJournal) (len : ℕ) (bytes : List ℕ) : Type 0 where
   pub fits : AllByRecursion RootInBits journal.entries
   pub count : length journal.entries ≡ len

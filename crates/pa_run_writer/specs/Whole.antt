@@ -1,4 +1,4 @@
--- When bytes are the text of a run that tells some lists.
+-- When bytes are the text of a run with some given lists.
 use Rattle.std.specs.Prelude.{◌≡◌, ℕ, List}
 use Rattle.pa_record.specs.declared.entry.Entry.{Entry}
 use Rattle.pa_record.specs.declared.history.CellEntry.{CellEntry}

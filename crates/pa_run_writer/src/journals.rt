@@ -31,7 +31,7 @@ impl Model for Journals {
 }
 
 impl Journals {
-    /// So many journals with no entries.
+    /// That many journals with no entries.
     pub fn new(alloc: Global, partitions: u32) -> Result<Journals, OutOfMemory>
         ensures none { IfOk result (λ journals. journals ≡ replicate partitions []) }
     {
@@ -42,7 +42,7 @@ impl Journals {
         Ok(Journals { of })
     }
 
-    /// Puts an entry behind the others of a partition, and tells its place there. After want of memory that journal has no
+    /// Appends an entry to the journal of a partition, and returns its range there. If memory runs out, that journal has no
     /// entries.
     #[inline(always)]
     pub fn push(&mut self, partition: u32, entry: &LentEntry<'_>) -> Result<u32, OutOfMemory>

@@ -1,5 +1,5 @@
-//! The text of a run as it grows: each record and each entry of a journal is printed when it is told, and its place is all
-//! that is kept of it. In the end the rest is put behind them.
+//! The text of a run as it grows: each record and each entry of a journal is printed when it is reported, and its range is all
+//! that is kept of it. In the end the rest is appended.
 #![tactic(auto)]
 
 mod journals;

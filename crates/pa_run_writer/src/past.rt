@@ -1,11 +1,11 @@
-// A list that only proofs read. It takes no memory, and its calls do nothing when they run.
+// A list that only proofs read. It needs no memory, and its calls do nothing when they run.
 ghost use Rattle.std.specs.Prelude.{◌≡◌, List, [], ◌∷◌, ◌++◌};
 ghost use Rattle.std.specs.Borrow.{ftrue};
 
 use pa_record::{LentEntry, RootEntry};
 use std::marker::{Model, PhantomData};
 
-// What was told so far. A clause reads it as `items`.
+// What was reported so far. A clause reads it as `items`.
 #[derive(Drop)]
 pub(crate) struct Past<A> {
     of: PhantomData<A>,
@@ -24,7 +24,7 @@ impl<A> Past<A> {
         Past { of: PhantomData }
     }
 
-    // The same, and one more behind it.
+    // The same, with one more at its end.
     pub(crate) fn and(&self, item: &A) -> Past<A>
         ensures { result.items ≡ self.now.items ++ item.now ∷ [] }
     {

@@ -8,7 +8,7 @@ use pa_text::{Text, push_bytes};
 use std::alloc::Global;
 use std::marker::Model;
 
-// The bytes of a record's line, for the room that is taken ahead: few are longer.
+// The bytes of a record's line, for the memory that is reserved ahead: few are longer.
 const LINE_BYTES: usize = 72;
 
 /// The records of a run so far, kept as their text. They are seen as the list of them.
@@ -32,7 +32,7 @@ impl Model for Records {
 }
 
 impl Records {
-    /// No records. Room is taken for those of so many lines.
+    /// No records. Memory is reserved for those of that many lines.
     pub fn new(alloc: Global, lines: usize) -> Result<Records, OutOfMemory>
         ensures none { IfOk result (λ records. records ≡ []) }
     {
@@ -44,7 +44,7 @@ impl Records {
         })
     }
 
-    /// Puts a record behind the others. After want of memory they are as before.
+    /// Appends a record. If memory runs out, the records are as before.
     pub fn push(&mut self, entry: Entry) -> Result<(), OutOfMemory>
         ensures pushed { OnOk result (self.new ≡ self.old ++ entry ∷ []) }
         ensures kept { OnErr result (self.new ≡ self.old) }

@@ -1,4 +1,4 @@
--- What is known of the records so far, where they left this.
+-- What is known of the records so far, if they left this state.
 use Rattle.std.specs.Prelude.{◌≡◌, ℕ, ◌+◌, ◌<◌, ◌≤◌, List, [], ◌∷◌, length, Contains}
 use Rattle.pa_machine.specs.declared.word.SlotName.{SlotName}
 use Rattle.pa_machine.specs.Count.{number_of, held_of}
@@ -22,11 +22,11 @@ use Rattle.pa_rules.specs.Sizes.{usable_of}
 use Rattle.pa_legal.specs.Known.{FindsInUse}
 use Rattle.pa_slot_effects.specs.Shown.{Shown, IsUsed, AreHandles}
 
--- what the rows ask, by the usable numbers of slots and the histories so far
+-- what the rows need, by the usable numbers of slots and the histories so far
 abbrev pub facts_of : (SlotName → ℕ) → (ℕ → List CellEntry) → Facts
 facts_of usable cells = record { usable_of = usable_of; usable_at = usable; cells = cells }
 
--- Each answer is the one that the rows ask for, and leads to the next registers; before each, the thread's registers name
+-- Each answer is the one that the rows require, and leads to the next registers; before each, the thread's registers name
 -- slots that were stepped on by now.
 abbrev pub RowsNamed : (SlotName → ℕ) → (SlotName → ℕ) → (ℕ → List CellEntry) → AllRegs → List Played → AllRegs → Type 0
 RowsNamed word usable cells all [] end = end ≡ all
@@ -43,7 +43,7 @@ abbrev pub chain_end : Held → List CellEntry → Held
 chain_end held [] = held
 chain_end held (e ∷ es) = chain_end e.gave es
 
--- The exchanges on the lines before this one, where the cells hold this: each cell's stand in the order of their lines.
+-- The exchanges on the lines before this one, if the cells hold this: each cell's are in the order of their lines.
 pub record HasExchanged (cells : ℕ → List CellEntry) (held : ℕ → Held) (ps : List Played) (line : ℕ) : Type 0 where
   pub chain : (k : ℕ) → IsChain Nothing (cells k)
   pub ends : (k : ℕ) → chain_end Nothing (cells k) ≡ held k
@@ -54,9 +54,9 @@ pub record HasExchanged (cells : ℕ → List CellEntry) (held : ℕ → Held) (
   pub answers : (x : Played) (k reg : ℕ) → Contains ps x → x.op ≡ ops.Swap k reg
       → (j : ℕ) × (e : CellEntry) × (x.answer ≡ Swapped j) × IsExchange cells k j e × (e.line ≡ x.line)
 
--- A slot's number is how many of its steps stand before, also for each later line.
+-- A slot's number is how many of its steps come before, also for each later line.
 --   found, order: each number found was the slot's then
---   few: a line makes one step at most
+--   few: a line makes at most one step
 pub record HasNumbers (ms : List Mark) (line : ℕ) (word : SlotName → ℕ) : Type 0 where
   pub rising : (m : Mark) → Contains ms m → m.line < line
   pub counts : (s : SlotName) (l : ℕ) → line ≤ l → number_of (word s) ≡ steps_before s l ms
@@ -69,7 +69,7 @@ pub record HasContents (ps : List Played) (word content : SlotName → ℕ) : Ty
   pub held : (s : SlotName) → held_of (word s) ≡ 1 → IsContent ps s (number_of (word s)) (content s)
   pub read : AreExactContents ps
 
--- These are the records of the lines so far, of so many threads, and this is what they left. The next line's number is
+-- These are the records of the lines so far, of that many threads, and this is what they left. The next line's number is
 -- `length ls + 2`, and its phase `phases_in ls`.
 pub record IsToldTo (threads : ℕ) (ls : List Line) (ps : List Played) (a : Shown) : Type 0 where
   pub lines : AreLines ls ps

@@ -36,7 +36,7 @@ nothing_shown = record { regs = no_regs; held = λ k. Nothing; cells = λ k. [];
 abbrev pub StartsTold : Type 0
 StartsTold = (threads : ℕ) → IsToldTo threads [] [] nothing_shown
 
--- what is the same to the eye was left by the same records
+-- what looks the same was left by the same records
 abbrev pub LikeIsTold : Type 0
 LikeIsTold = (threads : ℕ) (ls : List Line) (ps : List Played) (a b : Shown) → IsToldTo threads ls ps a → IsLike a b →
     IsToldTo threads ls ps b
@@ -46,7 +46,7 @@ abbrev pub PhaseGoesOn : Type 0
 PhaseGoesOn = (threads : ℕ) (ls : List Line) (ps : List Played) (a : Shown) → IsToldTo threads ls ps a →
     IsToldTo threads (ls ++ Phase ∷ []) ps a
 
--- an op that is refused, or gives back the slots of its caches: it tells of no slot, and is no exchange
+-- an op that is refused, or gives back the slots of its caches: it reports no slot, and is no exchange
 abbrev pub NoneGoesOn : Type 0
 NoneGoesOn =
     (threads : ℕ) (ls : List Line) (ps : List Played) (a : Shown) (thread : ℕ) (op : Op) (answer : Answer) →
@@ -96,7 +96,7 @@ FreeGoesOn =
     reg < register_count → a.regs thread reg ≡ Own seen.slot → seen.found.0 ≡ a.word seen.slot →
     LeadsTo threads ls ps thread (ops.Free reg) (Done seen) (after_free a thread reg seen)
 
--- a write by the owner, where no raw_ptr points to the slot
+-- a write by the owner, if no raw_ptr points to the slot
 abbrev pub WriteGoesOn : Type 0
 WriteGoesOn =
     (threads : ℕ) (ls : List Line) (ps : List Played) (a : Shown) (thread reg value : ℕ) (seen : Seen) → CanPlay threads ls ps a thread →

@@ -31,7 +31,7 @@ with_held held cell h k = if k == cell then h else held k
 abbrev pub with_entry : (ℕ → List CellEntry) → ℕ → CellEntry → ℕ → List CellEntry
 with_entry cells cell e k = if k == cell then cells k ++ e ∷ [] else cells k
 
--- The same to the eye: a content counts while the slot is held, and a usable number once the slot was stepped on.
+-- They look the same: a content counts while the slot is held, and a usable number once the slot was stepped on.
 pub record IsLike (a b : Shown) : Type 0 where
   pub regs : (t r : ℕ) → b.regs t r ≡ a.regs t r
   pub held : (k : ℕ) → b.held k ≡ a.held k
@@ -40,7 +40,7 @@ pub record IsLike (a b : Shown) : Type 0 where
   pub content : (s : SlotName) → held_of (a.word s) ≡ 1 → b.content s ≡ a.content s
   pub usable : (s : SlotName) → 0 < a.word s → b.usable s ≡ a.usable s
 
--- 1 where the register owns the slot; 1 where it is a raw_ptr to it
+-- 1 if the register owns the slot; 1 if it is a raw_ptr to it
 abbrev pub owns : SlotName → Reg → ℕ
 owns s Empty = 0
 owns s (Own t) = if same_slot t s then 1 else 0
@@ -60,7 +60,7 @@ abbrev pub over : ℕ → (ℕ → ℕ) → ℕ
 over zero f = 0
 over (suc n) f = over n f + f n
 
--- what the registers of so many threads and the cells have, each by itself
+-- what the registers of that many threads and the cells have, each by itself
 abbrev pub amount : ℕ → (Reg → ℕ) → AllRegs → (ℕ → Held) → ℕ
 amount threads f regs held = over threads (λ t. over register_count (λ r. f (regs t r))) + over cell_count (λ k. f (reg_of (held k)))
 

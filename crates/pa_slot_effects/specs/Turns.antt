@@ -1,4 +1,4 @@
--- What each op's turn leaves, and what it asks.
+-- What each op's turn leaves, and what it requires.
 use Rattle.std.specs.Prelude.{◌≡◌, ℕ, ◌+◌, ◌<◌, ◌≤◌, List, [], ◌∷◌, ◌++◌, length, Some, None}
 use Rattle.pa_machine.specs.declared.word.SlotName.{SlotName}
 use Rattle.pa_machine.specs.declared.word.Step.TheVariants as steps
@@ -23,7 +23,7 @@ use Rattle.pa_slot_effects.specs.Known.{IsToldTo}
 abbrev pub played_at : List Line → ℕ → Op → Answer → Played
 played_at ls thread op answer = record { line = length ls + 2; thread = thread; phase = phases_in ls; op = op; answer = answer }
 
--- with this op and answer more the records leave this
+-- with one more op and answer the records leave this
 abbrev pub LeadsTo : ℕ → List Line → List Played → ℕ → Op → Answer → Shown → Type 0
 LeadsTo threads ls ps thread op answer after = IsToldTo threads (ls ++ Do thread op ∷ []) (ps ++ played_at ls thread op answer ∷ []) after
 
@@ -93,7 +93,7 @@ after_swap a line thread cell reg = record a {
   cells = with_entry a.cells cell (exchange_of a line thread cell reg);
 }
 
--- an answer that tells of no slot
+-- an answer that reports no slot
 abbrev pub TellsNone : Answer → Type 0
 TellsNone (Made seen usable) = ⊥
 TellsNone (Done seen) = ⊥

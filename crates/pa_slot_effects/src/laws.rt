@@ -1,12 +1,12 @@
 ghost use Rattle.pa_slot_effects.specs.Laws.{CopyGoesOn, EndsRight, FreeGoesOn, HandleLets, LikeIsTold, LookGoesOn, MadeGoesOn, NoneGoesOn, PhaseGoesOn, ResetGoesOn, StartsTold, SwapGoesOn, WriteGoesOn};
 ghost use Rattle.pa_slot_effects.specs.Worked.{WorkedTurns};
 
-/// The law that before the first line nothing is told.
+/// The law that before the first line nothing is reported.
 pub fn starts_told()
     ensures { StartsTold }
 {}
 
-/// The law that what is the same to the eye was left by the same records.
+/// The law that two states that look the same were left by the same records.
 pub fn like_is_told()
     ensures { LikeIsTold }
 {}
@@ -16,7 +16,7 @@ pub fn phase_goes_on()
     ensures { PhaseGoesOn }
 {}
 
-/// The law that an op that tells of no slot changes nothing.
+/// The law that an op that reports no slot changes nothing.
 pub fn none_goes_on()
     ensures { NoneGoesOn }
 {}
@@ -61,12 +61,12 @@ pub fn handle_lets()
     ensures { HandleLets }
 {}
 
-/// The law that what was told so far is as the rules ask.
+/// The law that what was reported so far is as the rules require.
 pub fn ends_right()
     ensures { EndsRight }
 {}
 
-/// The law that the turns of a slot which is made, pointed to, freed and left go on one after the other.
+/// The law that the turns of a slot which is made, pointed to, freed and reset go on one after the other.
 pub fn worked_turns()
     ensures { WorkedTurns }
 {}

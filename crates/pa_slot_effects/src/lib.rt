@@ -1,5 +1,5 @@
-//! What a line more of a trace does to the records, the registers and the cells, and to each slot's word, content and
-//! number, by the names of slots: an op owes what it found, and all else is its law. Laws alone; nothing here runs.
+//! What one more line of a trace does to the records, the registers and the cells, and to each slot's word, content and
+//! number, by the names of slots: an op shows what it found, and the law gives all else. Laws alone; nothing here runs.
 #![tactic(auto)]
 
 mod laws;

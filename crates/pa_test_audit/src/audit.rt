@@ -9,7 +9,7 @@ use pa_run_reader::read_run;
 use pa_trace::read_trace;
 use std::alloc::Global;
 
-// The verdict on a run of a trace; none where one of the texts isn't read, or there was no memory.
+// The verdict on a run of a trace; none if one of the texts isn't read, or there was no memory.
 fn tell(alloc: Global, trace: &[u8], run: &[u8]) -> Option<Verdict> {
     let Ok(trace) = read_trace(alloc, trace) else {
         return None;
@@ -29,7 +29,7 @@ fn tell(alloc: Global, trace: &[u8], run: &[u8]) -> Option<Verdict> {
     }
 }
 
-// Whether each list of the run has less than 1,000 members.
+// Whether each list of the run has fewer than 1,000 members.
 fn is_short(run: &Run) -> bool
     requires roots { length run.now.roots.items ≡ 4 }
     requires cells { length run.now.cells.items ≡ 64 }

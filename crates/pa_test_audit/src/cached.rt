@@ -14,7 +14,7 @@ use pa_trace::{Line, Op};
 use std::alloc::Global;
 use std::test::Fail;
 
-// What the checker finds, of the lists of two threads in two partitions; none where the lists are none that it takes.
+// What the checker finds, of the lists of two threads in two partitions; none if it doesn't take the lists.
 fn found_in(
     alloc: Global,
     lines: &[Line],
@@ -49,7 +49,7 @@ fn pair() -> Batch {
 }
 
 // Thread 0 makes a slot of partition 0, for which eight go out, and thread 1 one of partition 1, for which two do. Two phases
-// on, thread 0 frees its slot, and in the phase behind that it purges, which gives the eight back.
+// on, thread 0 frees its slot, and in the phase after that it purges, which gives the eight back.
 fn journals(alloc: Global) -> Result<Vec<DenseJournal>, Fail> {
     let class = Class::of(0).ok_or("no such class")?;
     let mut first = Vec::new(alloc);
@@ -86,7 +86,7 @@ fn line(thread: u32, op: Op) -> Line {
     Line::Do { thread, op }
 }
 
-// The purge says that so many slots went back.
+// The purge says that this many slots went back.
 fn entries(slots: u32) -> [Entry; 4] {
     [
         entry(2, 0, made(0x4000, 0, 0)),
@@ -104,7 +104,7 @@ fn entry(line: u32, thread: u32, answer: Answer) -> Entry {
     }
 }
 
-// So many slots of 16 bytes of partition 0, and so many of partition 1.
+// That many slots of 16 bytes of partition 0, and of partition 1.
 fn listed(first: u64, second: u64) -> [Tally; 4]
     requires first { first < 65 }
     requires second { second < 65 }
@@ -134,7 +134,7 @@ fn what_the_lists_have_at_the_end_of_each_phase(rt: HostRuntime) -> Result<(), F
     Ok(())
 }
 
-// Only the first two phases are asked for: the records behind them are played all the same, and the purge says a slot less.
+// Only the first two phases are asked for: the records after them are played all the same, and the purge reports one slot less.
 #[test]
 fn a_record_behind_the_last_phase_that_is_asked_for(rt: HostRuntime) -> Result<(), Fail> {
     let alloc = rt.alloc();

@@ -19,12 +19,12 @@ use pa_trace::Op;
 use std::alloc::Global;
 use std::test::Fail;
 
-// What the checker tells: the first record that doesn't meet its demand.
+// What the checker returns: the first record that doesn't meet its demand.
 #[derive(Clone, Copy, Debug, PartialEq, Eq)]
 enum First {
     Nowhere,
     Record(u32),
-    // The lists are none that the checker takes.
+    // The checker doesn't take these lists.
     Unfit,
 }
 
@@ -70,7 +70,7 @@ fn is_within(found: Played) -> bool
     }
 }
 
-// Whether each journal has less than 1,000 entries.
+// Whether each journal has fewer than 1,000 entries.
 pub(crate) fn are_short(roots: &[DenseJournal]) -> bool
     ensures { IsTrue result → (p : ℕ) → length (journal_at roots.now p) < 4294967296 }
 {
@@ -268,7 +268,7 @@ pub(crate) fn row(number: u64, second: u32) -> Batch {
 }
 
 // A slot of a fill of eight is made, freed and goes back with the others in a purge; the next allocation fills again. The
-// second slot that goes back starts at `second`; an entry more stands on line `more`.
+// second slot that goes back starts at `second`; one more entry is on line `more`.
 fn purge_roots(alloc: Global, second: u32, more: u32) -> Result<Vec<DenseJournal>, Fail> {
     let class = Class::of(0).ok_or("no such class")?;
     let mut entries = Vec::new(alloc);
@@ -302,7 +302,7 @@ fn a_purge_gives_all_back(rt: HostRuntime) -> Result<(), Fail> {
     Ok(())
 }
 
-// A purge that says one slot less than its lists had.
+// A purge that reports one slot less than its lists had.
 #[test]
 fn a_purge_of_seven(rt: HostRuntime) -> Result<(), Fail> {
     let alloc = rt.alloc();

@@ -83,7 +83,7 @@ fn names_registers(op: Op) -> bool
     }
 }
 
-// Whether each record is of a thread and of registers that there are.
+// Whether each record is of a thread and of registers that exist.
 pub(crate) fn all_within(records: &[Played]) -> bool
     ensures { OnTrue result (All IsPlayedWithin records.now) }
 {
@@ -95,7 +95,7 @@ pub(crate) fn all_within(records: &[Played]) -> bool
     true
 }
 
-// The first record that read what it may not give. The greatest number where a clause before contents isn't met.
+// The first record that read what it may not report. The greatest number if a clause before contents isn't met.
 fn contents_of(
     alloc: Global,
     lines: &[Line],
@@ -267,7 +267,7 @@ fn shared_entries(read: u64) -> [Entry; 5] {
     ]
 }
 
-// What a run with these lines tells, in which thread 1 read poison: the record of the line before the free is this one.
+// What a run with these lines reports, in which thread 1 read poison: the record of the line before the free is this one.
 fn shared_told(
     alloc: Global,
     before_free: Line,

@@ -14,14 +14,14 @@ use pa_trace::Op;
 use std::alloc::Global;
 use std::test::Fail;
 
-// What the checkers tell, one clause after another: the first place that doesn't meet its demand.
+// What the checkers return, one clause after another: the first place that doesn't meet its demand.
 #[derive(Clone, Copy, Debug, PartialEq, Eq)]
 pub(crate) enum First {
     Nowhere,
     Pool(u32),
     Record(u32),
     Root(u32, u32),
-    // The lists are none that the checkers take.
+    // The checkers don't take these lists.
     Unfit,
 }
 
@@ -42,7 +42,7 @@ pub(crate) fn first_of(
     }
 }
 
-// What the walk over the journals finds, where the clauses before it hold.
+// What the walk over the journals finds, if the clauses before it hold.
 fn journals_of(
     alloc: Global,
     supers: u32,
@@ -81,7 +81,7 @@ fn are_rising(records: &[Played]) -> bool
     true
 }
 
-// Whether each journal has less than 1,000 entries.
+// Whether each journal has fewer than 1,000 entries.
 fn are_short(roots: &[DenseJournal]) -> bool
     ensures { IsTrue result → (p : ℕ) → length (journal_at roots.now p) < 2 ^ 32 }
 {
@@ -203,7 +203,7 @@ pub(crate) fn roots_of(
     Ok(roots)
 }
 
-// Its journal, where the third entry's slot starts there and the last one names this entry of the pool.
+// Its journal; the third entry's slot starts there, and the last one names this entry of the pool.
 fn map_roots(alloc: Global, start: u32, last: u32) -> Result<Vec<DenseJournal>, OutOfMemory> {
     let mut entries = Vec::new(alloc);
     entries.push(mapped(2, 0, name(0x4000, 0)))?;
@@ -230,7 +230,7 @@ fn direct_maps_meet_all(rt: HostRuntime) -> Result<(), Fail> {
     Ok(())
 }
 
-// What a root has that has so many direct maps of the worked run.
+// What a root has with that many direct maps of the worked run.
 fn with_maps(maps: u64) -> Census
     requires { maps ≤ 1 }
 {
@@ -245,7 +245,7 @@ fn with_maps(maps: u64) -> Census
     }
 }
 
-// Its censuses, where the phases end behind the lines 3, 7, 8 and 9, and one more has no op. The journal of partition 1 isn't
+// Its censuses, if the phases end after the lines 3, 7, 8 and 9, and one more has no op. The journal of partition 1 isn't
 // there.
 #[test]
 fn the_censuses_of_direct_maps(rt: HostRuntime) -> Result<(), Fail> {
@@ -271,7 +271,7 @@ fn the_censuses_of_direct_maps(rt: HostRuntime) -> Result<(), Fail> {
     Ok(())
 }
 
-// A take that finds none where there is one.
+// A take that finds none when there is one.
 #[test]
 fn a_take_that_is_no_lowest_one(rt: HostRuntime) -> Result<(), Fail> {
     let alloc = rt.alloc();
@@ -295,7 +295,7 @@ fn a_give_of_another_partition(rt: HostRuntime) -> Result<(), Fail> {
     Ok(())
 }
 
-// An entry that two of the journal name, and one that none does behind it.
+// An entry that two of the journal name, and one after it that none does.
 #[test]
 fn an_entry_that_is_named_twice(rt: HostRuntime) -> Result<(), Fail> {
     let alloc = rt.alloc();
@@ -305,7 +305,7 @@ fn an_entry_that_is_named_twice(rt: HostRuntime) -> Result<(), Fail> {
     Ok(())
 }
 
-// An entry of a line that stands before that of the entry before it.
+// An entry of a line that comes before that of the entry before it.
 #[test]
 fn an_entry_that_comes_too_late(rt: HostRuntime) -> Result<(), Fail> {
     let alloc = rt.alloc();
@@ -329,7 +329,7 @@ fn a_refusal_that_names_no_full(rt: HostRuntime) -> Result<(), Fail> {
     Ok(())
 }
 
-// A direct map that doesn't stand in what the pool gave.
+// A direct map that doesn't lie in what the pool gave.
 #[test]
 fn a_map_in_another_place(rt: HostRuntime) -> Result<(), Fail> {
     let alloc = rt.alloc();

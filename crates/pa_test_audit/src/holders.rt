@@ -14,12 +14,12 @@ use pa_trace::{Line, Op};
 use std::alloc::Global;
 use std::test::Fail;
 
-// What the checker tells: the first place that doesn't meet its demand.
+// What the checker returns: the first place that doesn't meet its demand.
 #[derive(Clone, Copy, Debug, PartialEq, Eq)]
 enum First {
     Nowhere,
     At(Place),
-    // The lists are none that the checker takes.
+    // The checker doesn't take these lists.
     Unfit,
 }
 
@@ -79,7 +79,7 @@ fn again_entries(thread: u32) -> [Entry; 3] {
     ]
 }
 
-// One journal, with a fill on line 2 of slots of which the first has this number, and one entry more.
+// One journal, with a fill on line 2 of slots of which the first has this number, and one more entry.
 fn filled(alloc: Global, number: u64, more: Option<RootEntry>) -> Result<Vec<DenseJournal>, Fail> {
     let class = Class::of(0).ok_or("no such class")?;
     let mut entries = Vec::new(alloc);
@@ -93,7 +93,7 @@ fn filled(alloc: Global, number: u64, more: Option<RootEntry>) -> Result<Vec<Den
     Ok(roots)
 }
 
-// What is told where line 4 is this thread's and the journal has this entry more.
+// What is returned if line 4 is this thread's and the journal has this entry more.
 fn again(alloc: Global, thread: u32, more: Option<RootEntry>) -> Result<First, Fail> {
     let roots = filled(alloc, 0, more)?;
     let first = first_of(alloc, &again_lines(thread), &again_entries(thread), &roots)?;
@@ -125,7 +125,7 @@ fn a_fill_of_a_slot_that_a_thread_has(rt: HostRuntime) -> Result<(), Fail> {
     Ok(())
 }
 
-// A thread gives back what another one has: the slot is the root's from then on, and the record stands above the entry.
+// A thread gives back what another one has: the slot is the root's from then on, and the record comes above the entry.
 #[test]
 fn a_give_by_another_thread(rt: HostRuntime) -> Result<(), Fail> {
     let first = again(rt.alloc(), 1, Some(give(4, single(2))))?;
@@ -177,7 +177,7 @@ fn unmap(line: u32, number: u64) -> RootEntry {
     }
 }
 
-// A direct map is made and goes back on line 3; the journal has these entries behind it.
+// A direct map is made and goes back on line 3; the journal has these entries after it.
 fn mapped(alloc: Global, more: Option<RootEntry>) -> Result<Vec<DenseJournal>, Fail> {
     let mut entries = Vec::new(alloc);
     entries.push(map(2))?;
@@ -191,7 +191,7 @@ fn mapped(alloc: Global, more: Option<RootEntry>) -> Result<Vec<DenseJournal>, F
     Ok(roots)
 }
 
-// It was made and freed, and no more.
+// It was made and freed once.
 #[test]
 fn a_direct_map_goes_back(rt: HostRuntime) -> Result<(), Fail> {
     let alloc = rt.alloc();
@@ -206,7 +206,7 @@ fn a_direct_map_goes_back(rt: HostRuntime) -> Result<(), Fail> {
     Ok(())
 }
 
-// It is made again where it was gone for good.
+// It is made again after it was gone for good.
 #[test]
 fn a_direct_map_that_comes_again(rt: HostRuntime) -> Result<(), Fail> {
     let alloc = rt.alloc();

@@ -1,4 +1,4 @@
-//! What is told of each kind of broken run, and of faults in each part of the input.
+//! What is reported of each kind of broken run, and of faults in each part of the input.
 use pa_audit_input::judge;
 use pa_rules::{Clause, Verdict};
 use pa_trace::TraceFault;
@@ -25,7 +25,7 @@ s 1 0 live 0 0 quarantined 0 0 cached 8 128 root 248 3968 committed 4096 reserve
 
 const END: &[u8] = b"end\n";
 
-// These parts, one behind the other.
+// These parts, one after the other.
 fn joined(alloc: Global, parts: &[&[u8]]) -> Result<Vec<u8>, Fail> {
     let mut input = Vec::new(alloc);
     for part in parts {
@@ -34,7 +34,7 @@ fn joined(alloc: Global, parts: &[&[u8]]) -> Result<Vec<u8>, Fail> {
     Ok(input)
 }
 
-// What is told of these parts, one behind the other.
+// What is reported of these parts, one after the other.
 fn told(alloc: Global, parts: &[&[u8]]) -> Result<Result<Verdict, TraceFault>, Fail> {
     let input = joined(alloc, parts)?;
     if input.len() > 10000 {

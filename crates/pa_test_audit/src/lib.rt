@@ -1,4 +1,4 @@
-//! The tests of the crates that audit: for each clause of a legal run, which place is told, and which verdict.
+//! The tests of the crates that audit: for each clause of a legal run, which place is returned, and which verdict.
 #![tactic(auto)]
 
 #[cfg(test)]

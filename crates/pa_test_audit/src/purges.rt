@@ -99,7 +99,7 @@ fn slots_that_cannot_come_back(rt: HostRuntime) -> Result<(), Fail> {
     Ok(())
 }
 
-// A fill whose last slot is another one.
+// A fill whose last slot is a wrong one.
 #[test]
 fn a_fill_of_another_slot(rt: HostRuntime) -> Result<(), Fail> {
     let alloc = rt.alloc();

@@ -74,7 +74,7 @@ fn names_registers(op: Op) -> bool
     }
 }
 
-// Whether each record is of a thread and of registers that there are.
+// Whether each record is of a thread and of registers that exist.
 fn all_within(records: &[Played]) -> bool
     ensures { OnTrue result (All IsPlayedWithin records.now) }
 {
@@ -86,7 +86,7 @@ fn all_within(records: &[Played]) -> bool
     true
 }
 
-// The first record whose answer its registers don't ask for.
+// The first record whose answer its registers don't require.
 fn registers_of(
     alloc: Global,
     lines: &[Line],

@@ -1,7 +1,7 @@
 use pa_audit_report::first_other;
 use pa_record::{ReportLine, Tally};
 
-// A line of a heap in which nothing is.
+// A line of a heap that has nothing.
 fn line_of(phase: u32, partition: u32, slots: u64) -> ReportLine {
     let none = Tally { slots: 0, bytes: 0 };
     let bytes = 0;

@@ -11,7 +11,7 @@ use pa_trace::{Line, Op};
 use std::alloc::Global;
 use std::test::Fail;
 
-// The first record that is before itself, or finds too low a number. The greatest number where the cells don't hold.
+// The first record that is before itself, or finds too low a number. The greatest number if the cells don't hold.
 fn seen_of(
     alloc: Global,
     lines: &[Line],
@@ -64,7 +64,7 @@ fn seen_tells_a_thread_that_finds_less_than_it_left(rt: HostRuntime) {
     assert!(rt; seen_of(rt.alloc(), &lines, &entries, &[]) == Ok(Some(2)));
 }
 
-// Thread 1 finds the number 0 of a slot that thread 0 issued, and this line stands between.
+// Thread 1 finds the number 0 of a slot that thread 0 issued, with this line between them.
 fn apart_told(alloc: Global, between: Line) -> Result<Option<u32>, OutOfMemory> {
     let lines = [line(0, ALLOC), between, line(1, READ)];
     let read = entry(4, 1, value(1, 0));
@@ -112,7 +112,7 @@ fn chain_entries(word: u64) -> [Entry; 6] {
     ]
 }
 
-// What is told of them, where the first exchange gives this.
+// What is returned of them, if the first exchange gives this.
 fn chain_told(alloc: Global, given: Held, word: u64) -> Result<Option<u32>, OutOfMemory> {
     let first = [gave(3, given, Held::Nothing), gave(4, Held::Nothing, given)];
     let second = [

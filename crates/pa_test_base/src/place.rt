@@ -9,14 +9,14 @@ use pa_record::{Census, Tally};
 use std::process::Abort;
 use std::test::Fail;
 
-// What a fill has to do: the entry of the pool that it makes, and where its slots start.
+// What a fill must do: the entry of the pool that it makes, and where its slots start.
 #[derive(Clone, Copy)]
 struct Expected<'a> {
     pool: Option<u32>,
     starts: &'a [u32],
 }
 
-// A fill of `want` slots of the class. At most so many steps were made before.
+// A fill of `want` slots of the class. At most that many steps were made before.
 fn fill(
     rt: &impl Abort,
     placement: &mut Placement,
@@ -44,7 +44,7 @@ fn fill(
     Ok(())
 }
 
-// The slot that starts there is returned. At most so many steps were made before.
+// The slot that starts there is returned. At most that many steps were made before.
 fn give(rt: &impl Abort, placement: &mut Placement, steps: u32, start: u32) -> Result<(), Fail>
     requires turn { placement.old.turn ≤ 32 * steps }
     requires maps { placement.old.maps ≡ [] }
@@ -60,7 +60,7 @@ fn give(rt: &impl Abort, placement: &mut Placement, steps: u32, start: u32) -> R
     Ok(())
 }
 
-// A direct map of 2,002,944 bytes at the start of the region, by this entry of the pool, or none where there is no room.
+// A direct map of 2,002,944 bytes at the start of the region, by this entry of the pool, or none if there is no room.
 fn map(
     rt: &impl Abort,
     placement: &mut Placement,
@@ -224,7 +224,7 @@ fn a_direct_map_again(rt: HostRuntime) -> Result<(), Fail> {
     Ok(())
 }
 
-// A fill of seven slots of 16,384 bytes, which has so many to give. At most so many steps were made before.
+// A fill of seven slots of 16,384 bytes, which has that many to give. At most that many steps were made before.
 fn fill_pages(
     rt: &impl Abort,
     placement: &mut Placement,
@@ -259,7 +259,7 @@ fn as_many_spans_as_there_are(rt: HostRuntime) -> Result<(), Fail> {
     Ok(())
 }
 
-// A direct map in a super page of its own, or none where there is no room.
+// A direct map in a super page of its own, or none if there is no room.
 fn map_one(
     rt: &impl Abort,
     placement: &mut Placement,
@@ -291,8 +291,8 @@ fn as_many_direct_maps_as_there_are(rt: HostRuntime) -> Result<(), Fail> {
     Ok(())
 }
 
-// A take of `want` slots of the class, all of which there are, with room that is made before. What it makes begins at these
-// bytes, so many slots each. At most so many steps were made before.
+// A take of `want` slots of the class, all of which exist, with room that is made before. What it makes begins at these
+// bytes, that many slots each. At most that many steps were made before.
 fn take(
     rt: &impl Abort,
     root: &mut PlainRoot,

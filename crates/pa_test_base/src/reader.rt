@@ -1,7 +1,7 @@
 use pa_record::{Answer, Entry, PoolAct, PoolEntry};
 use pa_run_reader::{Item, line_at};
 
-// The item of a line is told, and the bytes behind its LF are left.
+// The item of a line is returned, and the bytes after its LF are left.
 #[test]
 fn items_are_told(rt: HostRuntime) {
     let entry = Entry {
@@ -50,7 +50,7 @@ fn lines_are_read(rt: HostRuntime) {
     }
 }
 
-// What is a little beside the grammar isn't read.
+// What is a little outside the grammar isn't read.
 #[test]
 fn lines_are_refused(rt: HostRuntime) {
     let refused: [&[u8]; 14] = [

@@ -40,7 +40,7 @@ fn texts_are_read_and_written_again(rt: HostRuntime) -> Result<(), Fail> {
     Ok(())
 }
 
-// Entries stand in the lists of their partitions and cells.
+// Entries are in the lists of their partitions and cells.
 #[test]
 fn entries_stand_in_their_lists(rt: HostRuntime) -> Result<(), Fail> {
     let run = read_run(rt.alloc(), GAPS)?;
@@ -66,7 +66,7 @@ fn fault_of(alloc: Global, text: &[u8]) -> Option<RunFault> {
     }
 }
 
-// The first bad line of each of these is named: by what it is, or by where it stands.
+// The first bad line of each of these is named: by its content, or by where it is.
 #[test]
 fn bad_lines_are_named(rt: HostRuntime) {
     let texts: [(&[u8], u32); 34] = [

@@ -18,7 +18,7 @@ fn name(start: u32) -> SlotName {
     SlotName { start, born: 0 }
 }
 
-// The slot at `start`, where this word was found.
+// The slot at `start`, in which this word was found.
 fn seen(start: u32, found: u64) -> Seen {
     let slot = name(start);
     Seen {
@@ -48,7 +48,7 @@ fn done(start: u32, found: u64) -> Answer {
     Answer::Done { seen }
 }
 
-// The batch with one slot more.
+// The batch with one more slot.
 fn with(batch: Batch, start: u32, number: u64) -> Batch
     requires { length batch < 16 }
     ensures { length result ≡ length batch + 1 }

@@ -1,4 +1,4 @@
-// Texts of runs, as they stand in cases/, and one that leaves partitions and cells out.
+// Texts of runs, as they are in cases/, and one that leaves partitions and cells out.
 
 pub const HEAD_ALONE: &[u8] = b"run 1
 s 1 0 live 0 0 quarantined 0 0 cached 0 0 root 0 0 committed 0 reserved 0 full 0 active 0 empty 0 decommitted 0

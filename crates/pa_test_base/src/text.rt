@@ -68,7 +68,7 @@ fn numbers_of_each_length_are_spelled(rt: HostRuntime) -> Result<(), Fail> {
     Ok(())
 }
 
-// Sixteen digits are read, whatever stands behind them, and fewer or others are not.
+// Sixteen digits are read, whatever follows them, and fewer or others are not.
 #[test]
 fn words_are_read(rt: HostRuntime) {
     let read: [(&[u8], u64, &[u8]); 5] = [

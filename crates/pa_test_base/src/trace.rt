@@ -92,7 +92,7 @@ const OVER: [&str; 16] = [
     "0 X c0 r64\n",
 ];
 
-// Heads that are no head, or no whole line.
+// Lines that are no head, or no whole line.
 const BAD_HEADS: [&str; 22] = [
     "",
     "\n",
@@ -186,7 +186,7 @@ fn reads_and_writes_each_line(rt: HostRuntime) -> Result<(), Fail> {
     Ok(())
 }
 
-// A head alone is a trace, with no line behind it.
+// A head alone is a trace, with no line after it.
 #[test]
 fn reads_heads(rt: HostRuntime) -> Result<(), Fail> {
     for (text, head) in [
@@ -220,7 +220,7 @@ fn fault_of_parts(
     Ok(fault_of(alloc, &text))
 }
 
-// The fault of a head comes before every fault behind it.
+// The fault of a head comes before every fault after it.
 #[test]
 fn names_faults_of_heads(rt: HostRuntime) -> Result<(), Fail> {
     for text in BAD_HEADS {
@@ -257,8 +257,8 @@ fn fault_at(n: u32, limit: bool) -> TraceFault {
     }
 }
 
-// Whether a faulty line is the one that is named: as line 2, as line 13, and in front of another faulty line; and
-// whether that one is named where it stands in front.
+// Whether a faulty line is the one that is named: as line 2, as line 13, and before another faulty line; and
+// whether that one is named if it comes first.
 fn is_named(
     alloc: Global,
     line: &str,

@@ -6,12 +6,12 @@ use Rattle.std.specs.List.{AllByRecursion}
 abbrev pub IsDigit : ℕ → Type 0
 IsDigit d = (48 ≤ d) × (d ≤ 57)
 
--- the number that digits write after those that wrote n
+-- the number that digits spell after those that spelled n
 abbrev pub value_after : ℕ → List ℕ → ℕ
 value_after n [] = n
 value_after n (d ∷ ds) = value_after (10 * n + (d - 48)) ds
 
--- the text spells the number n: at least one digit, and a `0` in front stands alone
+-- the text spells the number n: at least one digit, and a leading `0` is the only digit
 pub record IsNumeral (n : ℕ) (text : List ℕ) : Type 0 where
   pub digits : AllByRecursion IsDigit text
   pub written : text ≡ [] → ⊥

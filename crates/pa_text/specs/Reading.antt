@@ -1,4 +1,4 @@
--- Numbers and words in front of bytes, and how they are read.
+-- Numbers and words at the start of bytes, and how they are read.
 use Rattle.std.specs.Prelude.{◌≡◌, ℕ, zero, suc, ◌+◌, ◌-◌, ◌*◌, ◌==◌, ◌&&◌, nat_le, nat_lt, if◌then◌else◌, Bool, false, List, [], ◌∷◌, ◌++◌, Option, Some, None, is_some}
 use Rattle.pa_text.specs.Numeral.{IsNumeral}
 
@@ -6,7 +6,7 @@ use Rattle.pa_text.specs.Numeral.{IsNumeral}
 abbrev pub is_digit : ℕ → Bool
 is_digit d = nat_le 48 d && nat_le d 57
 
--- no digit stands in front
+-- the bytes don't begin with a digit
 abbrev pub IsStop : List ℕ → Type 0
 IsStop [] = Unit {0}
 IsStop (c ∷ cs) = is_digit c ≡ false
@@ -17,32 +17,32 @@ abbrev pub ◌>>=◌ : {A B : Type 0} → Option A → (A → Option B) → Opti
 None >>= f = None
 (Some x) >>= f = f x
 
--- the digits in front of the bytes, all of them, spell the number n, and the rest stands behind them
+-- all the leading digits of the bytes spell the number n, and the rest follows them
 pub record BeginsWith (bytes : List ℕ) (n : ℕ) (rest : List ℕ) : Type 0 where
   pub digits : List ℕ
   pub numeral : IsNumeral n digits
   pub parts : bytes ≡ digits ++ rest
   pub stop : IsStop rest
 
--- the number where it has 32 bits
+-- the number if it has 32 bits
 abbrev pub fit : ℕ → Option ℕ
 fit n = if nat_lt n 4294967296 then Some n else None
 
--- a number that was read, with its value only where it has 32 bits
+-- a number that was read, with its value only if it has 32 bits
 abbrev pub fitted : ℕ × List ℕ → Option ℕ × List ℕ
 fitted x = (fit x.0, x.1)
 
--- the digit in front, and the bytes behind it
+-- the first digit, and the bytes after it
 abbrev pub digit_at : List ℕ → Option (ℕ × List ℕ)
 digit_at [] = None
 digit_at (c ∷ cs) = if is_digit c then Some (c - 48, cs) else None
 
--- the number that the digits in front write after those that wrote n, and the bytes behind them
+-- the number that the leading digits spell after those that spelled n, and the bytes after them
 unfoldable pub digits_from : ℕ → List ℕ → ℕ × List ℕ
 digits_from n [] = (n, [])
 digits_from n (c ∷ cs) = if is_digit c then digits_from (10 * n + (c - 48)) cs else (n, c ∷ cs)
 
--- the number in front, and the bytes behind it; a `0` in front of a digit is no number
+-- the number at the start, and the bytes after it; a `0` before a digit is no number
 unfoldable pub number_at : List ℕ → Option (ℕ × List ℕ)
 number_at bytes = do
   first ← digit_at bytes
@@ -52,14 +52,14 @@ number_at bytes = do
 abbrev pub hex_value : ℕ → Option ℕ
 hex_value c = if is_digit c then Some (c - 48) else (if nat_le 97 c && nat_le c 102 then Some (c - 87) else None)
 
--- the hexadecimal digit in front, and the bytes behind it
+-- the first hexadecimal digit, and the bytes after it
 abbrev pub hex_at : List ℕ → Option (ℕ × List ℕ)
 hex_at [] = None
 hex_at (c ∷ cs) = do
   digit ← hex_value c
   Some (digit, cs)
 
--- the number that the first k bytes write, each a hexadecimal digit, and the bytes behind them
+-- the number that the first k bytes spell, each a hexadecimal digit, and the bytes after them
 unfoldable pub hexes_at : ℕ → List ℕ → Option (ℕ × List ℕ)
 hexes_at zero bytes = Some (0, bytes)
 hexes_at (suc k) bytes = do

@@ -6,11 +6,11 @@ ghost use Rattle.pa_text.specs.Reading.{BeginsWith, IsStop, fit, fitted, digit_a
 ghost use Rattle.pa_text.specs.Hex.{SlotFits, hex, slot_text};
 ghost use Rattle.pa_machine.specs.declared.word.SlotName.{SlotName};
 
-// A number from here on has no 32 bits.
+// Numbers from here on don't fit in 32 bits.
 const TOO_LARGE: u64 = 1 << 32;
 
-/// The number in front of the bytes and the bytes behind its last digit. A number of any length is read; `None` stands
-/// for its value where it has more than 32 bits. Nothing is read where no digit stands in front, or a `0` before a digit.
+/// The number with which the bytes begin, and the bytes after its last digit. A number of any length is read; its value is
+/// `None` if it has more than 32 bits. Nothing is read if the bytes don't begin with a digit, or begin with `0` and a digit.
 pub fn number_at(bytes: &[u8]) -> Option<(Option<u32>, &[u8])>
     ensures found { IfSome result (λ x. (n : ℕ) × BeginsWith bytes.now n x.1.now × (x.0 ≡ fit n)) }
     ensures none { IfNone result ((n : ℕ) (rest : List ℕ) → BeginsWith bytes.now n rest → ⊥) }
@@ -18,7 +18,7 @@ pub fn number_at(bytes: &[u8]) -> Option<(Option<u32>, &[u8])>
     number_of(bytes)
 }
 
-/// The bytes behind a word that stands in front. Nothing is read where it doesn't stand there.
+/// The bytes after a word with which they begin. Nothing is read if they don't begin with it.
 #[inline(always)]
 pub fn behind<'a>(word: &[u8], bytes: &'a [u8]) -> Option<&'a [u8]>
     ensures found { IfSome result (λ x. bytes.now ≡ word.now ++ x.now) }
@@ -38,11 +38,11 @@ pub fn behind<'a>(word: &[u8], bytes: &'a [u8]) -> Option<&'a [u8]>
 pub fn one_spelling()
     ensures spelling { (n : ℕ) (a b : List ℕ) → IsNumeral n a → IsNumeral n b → a ≡ b }
     ensures number { (m n : ℕ) (text : List ℕ) → IsNumeral m text → IsNumeral n text → m ≡ n }
-    // What is printed of a number spells it.
+    // The printed form of a number spells it.
     ensures printed { (n : ℕ) → n < 2 ^ 64 → IsNumeral n (decimal n) }
 {}
 
-/// What is printed of a number, a word or a slot's name, with no digit behind it, tells it and what stands behind it.
+/// The printed form of a number, a word or a slot's name, if no digit follows it, determines it and what follows it.
 pub fn one_front()
     ensures number { (m n : ℕ) (x y : List ℕ) → m < 2 ^ 64 → n < 2 ^ 64 → IsStop x → IsStop y → decimal m ++ x ≡ decimal n ++ y → (m ≡ n)
         × (x ≡ y) }
@@ -63,7 +63,7 @@ fn number_of(bytes: &[u8]) -> Option<(Option<u32>, &[u8])>
     Some(digits_from(first, rest))
 }
 
-// The digit in front, and the bytes behind it.
+// The first digit, and the bytes after it.
 #[inline(always)]
 fn digit_at(bytes: &[u8]) -> Option<(u64, &[u8])>
     ensures digit { option_map {U = ℕ × List ℕ} (λ x. (x.0, x.1.now)) result ≡ digit_at bytes.now }
@@ -75,7 +75,7 @@ fn digit_at(bytes: &[u8]) -> Option<(u64, &[u8])>
     }
 }
 
-// The number that the digits in front write after a first one, and the bytes behind them.
+// The number that the leading digits spell after a first one, and the bytes after them.
 fn digits_from(first: u64, bytes: &[u8]) -> (Option<u32>, &[u8])
     requires { first < 10 }
     ensures value { result.0 ≡ fit (digits_from first bytes.now).0 }

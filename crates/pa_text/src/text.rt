@@ -4,16 +4,16 @@ use pa_machine::OutOfMemory;
 use std::alloc::Global;
 use std::marker::Model;
 
-// By so many bytes more than are asked for the spare ones grow.
+// The spare bytes grow by this many more than are needed.
 const SPARE: usize = 4096;
 
-/// A text that grows at its end. It keeps spare bytes behind its end, which are filled already, so that to append a few
+/// A text that grows at its end. It keeps spare bytes after its end, which are filled already, so that to append a few
 /// bytes is a test for room and a store, with no call.
 #[derive(Drop)]
 pub struct Text {
-    // The text, and behind it the spare bytes.
+    // The text, followed by the spare bytes.
     bytes: Vec<u8>,
-    // So many bytes are the text.
+    // The length of the text.
     len: usize,
 }
 
@@ -28,7 +28,7 @@ impl Model for Text {
 }
 
 impl Text {
-    /// A text of no bytes.
+    /// An empty text.
     pub fn new(alloc: Global) -> Text
         ensures empty { result ≡ [] }
     {
@@ -38,7 +38,7 @@ impl Text {
         }
     }
 
-    /// A text of no bytes, with room for so many.
+    /// An empty text, with room for `capacity` bytes.
     pub fn with_capacity(alloc: Global, capacity: usize) -> Result<Text, OutOfMemory>
         ensures empty { IfOk result (λ text. text ≡ []) }
     {
@@ -62,7 +62,7 @@ impl Text {
         self.bytes.as_slice().split_at(self.len).0
     }
 
-    /// Keeps the first bytes, so many at most.
+    /// Keeps the first bytes, at most `len`.
     pub fn truncate(&mut self, len: usize)
         ensures cut { self.new ≡ take len self.old }
     {
@@ -80,7 +80,7 @@ impl Text {
         bytes
     }
 
-    /// Appends the bytes. After want of memory none of them stands there.
+    /// Appends the bytes. If memory runs out, none of them is appended.
     #[inline(always)]
     pub fn push(&mut self, bytes: &[u8]) -> Result<(), OutOfMemory>
         ensures pushed { OnOk result (self.new ≡ self.old ++ bytes.now) }
@@ -104,7 +104,7 @@ impl Text {
     }
 }
 
-// Sees to room for so many bytes behind the first `len`, which stay.
+// Makes room for `count` bytes after the first `len`, which stay.
 #[inline(always)]
 fn make_room(bytes: &mut Vec<u8>, len: usize, count: usize) -> Result<(), OutOfMemory>
     requires within { len ≤ vec_len bytes.old }

@@ -3,8 +3,8 @@ ghost use Rattle.std.specs.Option.{option_map};
 ghost use Rattle.pa_text.specs.Hex.{hex};
 ghost use Rattle.pa_text.specs.Reading.{hex_at, hex_value};
 
-/// The word that the sixteen digits in front write, hexadecimal and in lower case, and the bytes behind them. Nothing is
-/// read where fewer than sixteen such digits stand in front.
+/// The word that the first sixteen bytes spell, as lower-case hexadecimal digits, and the bytes after them. Nothing is
+/// read if the bytes begin with fewer than sixteen such digits.
 pub fn word_at(bytes: &[u8]) -> Option<(u64, &[u8])>
     ensures found { IfSome result (λ x. (x.0 < 18446744073709551616) × (bytes.now ≡ hex 16 x.0 ++ x.1.now)) }
     ensures none { IfNone result ((n : ℕ) (rest : List ℕ) → n < 18446744073709551616 → bytes.now ≡ hex 16 n ++ rest → ⊥) }
@@ -19,7 +19,7 @@ pub fn word_at(bytes: &[u8]) -> Option<(u64, &[u8])>
     Some((value, rest))
 }
 
-// The hexadecimal digit in front, and the bytes behind it.
+// The first hexadecimal digit, and the bytes after it.
 fn hex_at(bytes: &[u8]) -> Option<(u64, &[u8])>
     ensures digit { option_map {U = ℕ × List ℕ} (λ x. (x.0, x.1.now)) result ≡ hex_at bytes.now }
     ensures small { IfSome result (λ x. x.0 < 16) }

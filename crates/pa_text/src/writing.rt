@@ -6,7 +6,7 @@ ghost use Rattle.pa_text.specs.Hex.{hex, slot_text};
 use crate::text::Text;
 use pa_machine::{OutOfMemory, SlotName};
 
-/// Appends the bytes. After want of memory none of them stands there.
+/// Appends the bytes. If memory runs out, none of them is appended.
 #[inline(always)]
 pub fn push_bytes(out: &mut Text, bytes: &[u8]) -> Result<(), OutOfMemory>
     ensures pushed { OnOk result (out.new ≡ out.old ++ bytes.now) }
@@ -15,7 +15,7 @@ pub fn push_bytes(out: &mut Text, bytes: &[u8]) -> Result<(), OutOfMemory>
     out.push(bytes)
 }
 
-/// Appends the byte. After want of memory it doesn't stand there.
+/// Appends the byte. If memory runs out, it isn't appended.
 #[inline(always)]
 pub fn push_byte(out: &mut Text, byte: u8) -> Result<(), OutOfMemory>
     ensures pushed { OnOk result (out.new ≡ out.old ++ byte ∷ []) }
@@ -24,7 +24,7 @@ pub fn push_byte(out: &mut Text, byte: u8) -> Result<(), OutOfMemory>
     out.push(&[byte])
 }
 
-/// Appends the number in decimal. After want of memory none of its digits stands there.
+/// Appends the number in decimal. If memory runs out, none of its digits is appended.
 #[tactic(auto, using(crate::proofs::Digits::one))]
 pub fn push_number(out: &mut Text, n: u64) -> Result<(), OutOfMemory>
     ensures pushed { OnOk result (out.new ≡ out.old ++ decimal n) }
@@ -49,7 +49,7 @@ fn push_many(out: &mut Text, n: u64) -> Result<(), OutOfMemory>
     push_bytes(out, digits.format(n).as_bytes())
 }
 
-// Appends the number, which has two to five digits, as most numbers of a run have. So few are written in place, with no copy.
+// Appends the number, which has two to five digits, as most numbers of a run have. They are written in place, with no copy.
 #[tactic(auto, using(crate::proofs::Digits::two, crate::proofs::Digits::three, crate::proofs::Digits::four, crate::proofs::Digits::five))]
 #[inline(always)]
 fn push_few(out: &mut Text, n: u32) -> Result<(), OutOfMemory>
@@ -87,7 +87,7 @@ fn digit(n: u32) -> u8
     b'0' + (n % 10) as u8
 }
 
-/// Appends the word as sixteen lower-case hexadecimal digits. After want of memory none of them stands there.
+/// Appends the word as sixteen lower-case hexadecimal digits. If memory runs out, none of them is appended.
 #[tactic(auto, using(crate::proofs::Hex::word_digits))]
 pub fn push_word(out: &mut Text, w: u64) -> Result<(), OutOfMemory>
     ensures pushed { OnOk result (out.new ≡ out.old ++ hex 16 w) }
@@ -98,7 +98,7 @@ pub fn push_word(out: &mut Text, w: u64) -> Result<(), OutOfMemory>
     push_bytes(out, &digits)
 }
 
-/// Appends the slot's name, as `00004000.0`. After want of memory a first part of it may stand there.
+/// Appends the slot's name, as `00004000.0`. If memory runs out, a first part of it may have been appended.
 #[tactic(auto, using(crate::proofs::Hex::start_digits, crate::proofs::Joining::slot_joined, crate::proofs::Joining::starts_more))]
 pub fn push_slot(out: &mut Text, s: SlotName) -> Result<(), OutOfMemory>
     ensures pushed { OnOk result (out.new ≡ out.old ++ slot_text s) }

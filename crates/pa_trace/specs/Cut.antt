@@ -1,4 +1,4 @@
--- What the parts of the reader and the writer tell of lines.
+-- What the parts of the reader and the writer say of lines.
 use Rattle.std.specs.Prelude.{◌≡◌, ℕ, ◌++◌, List}
 use Rattle.std.specs.List.{AllByRecursion}
 use Rattle.pa_text.specs.Numeral.{IsNumeral}
@@ -11,12 +11,12 @@ use Rattle.pa_trace.specs.declared.field.LineFault.TheVariants.{Outside, Past}
 abbrev pub IsOneLine : List ℕ → Type 0
 IsOneLine bytes = AllByRecursion (λ b. b ≡ 10 → ⊥) bytes
 
--- how the fault of line n is told, where the line is not past
+-- how the fault of line n is reported, if the line isn't past the limits
 abbrev pub told : ℕ → LineFault → TraceFault
 told n Outside = BadLine n
 told n Past = Limit n
 
--- new is old and behind it a text of this kind
+-- new is old followed by a text of this kind
 abbrev pub Appends : (List ℕ → Type 0) → List ℕ → List ℕ → Type 0
 Appends IsText old new = (text : List ℕ) × IsText text × (new ≡ old ++ text)
 

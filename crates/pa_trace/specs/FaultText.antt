@@ -1,4 +1,4 @@
--- How a fault is told.
+-- How a fault is printed.
 use Rattle.std.specs.Prelude.{ℕ, List, ◌++◌, codes}
 use Rattle.std.specs.Fmt.{decimal}
 use Rattle.pa_trace.specs.declared.fault.TraceFault.{TraceFault}

@@ -6,7 +6,7 @@ use Rattle.pa_trace.specs.declared.script.Line.{Line}
 use Rattle.pa_trace.specs.Grammar.{IsHeadText, IsLineText}
 use Rattle.pa_trace.specs.Limits.{IsHeadWithin, IsLineWithin, most_lines, most_bytes}
 
--- a byte in front of lines: an LF is a line there, any other byte begins the first line
+-- a byte before lines: an LF is a line of its own, any other byte begins the first line
 abbrev pub with_front : ℕ → List (List ℕ) → List (List ℕ)
 with_front b [] = (b ∷ []) ∷ []
 with_front b (line ∷ lines) = if b == 10 then (b ∷ []) ∷ line ∷ lines else (b ∷ line) ∷ lines
@@ -16,7 +16,7 @@ unfoldable pub lines_of : List ℕ → List (List ℕ)
 lines_of [] = []
 lines_of (b ∷ bytes) = with_front b (lines_of bytes)
 
--- line n, behind so many bytes, is line 65,537 or contains byte 4,194,305, or stands behind such a line
+-- line n, after that many bytes, is line 65,537 or contains byte 4,194,305, or comes after such a line
 abbrev pub IsPast : ℕ → ℕ → List ℕ → Type 0
 IsPast n before line = (most_lines < n) ⊎ (most_bytes < before + length line)
 
@@ -24,18 +24,18 @@ IsPast n before line = (most_lines < n) ⊎ (most_bytes < before + length line)
 abbrev pub IsHeadLine : ℕ → ℕ → ℕ → List ℕ → Type 0
 IsHeadLine region partitions threads line = (text : List ℕ) × IsHeadText region partitions threads text × (line ≡ text ++ 10 ∷ [])
 
--- the line is the text of a line behind the head, and an LF
+-- the line is the text of a line after the head, and an LF
 abbrev pub IsBodyLine : Line → List ℕ → Type 0
 IsBodyLine l line = (text : List ℕ) × IsLineText l text × (line ≡ text ++ 10 ∷ [])
 
--- the line is outside the grammar or has no LF, as a head and as a line behind a head
+-- the line is outside the grammar or has no LF, as a head and as a line after a head
 abbrev pub IsBadHead : List ℕ → Type 0
 IsBadHead line = (region partitions threads : ℕ) → IsHeadLine region partitions threads line → ⊥
 
 abbrev pub IsBadLine : List ℕ → Type 0
 IsBadLine line = (l : Line) → IsBodyLine l line → ⊥
 
--- the line is in the grammar and a number passes its limit, as a head and as a line behind a head
+-- the line is in the grammar and a number passes its limit, as a head and as a line after a head
 abbrev pub IsHeadOverLimit : List ℕ → Type 0
 IsHeadOverLimit line =
     (region partitions threads : ℕ) × IsHeadLine region partitions threads line × (IsHeadWithin region partitions threads → ⊥)
@@ -43,13 +43,13 @@ IsHeadOverLimit line =
 abbrev pub IsLineOverLimit : ℕ → ℕ → List ℕ → Type 0
 IsLineOverLimit partitions threads line = (l : Line) × IsBodyLine l line × (IsLineWithin partitions threads l → ⊥)
 
--- the fault of line n by what it is: past first, then bad, then over a limit
+-- the fault of line n: past first, then bad, then over a limit
 abbrev pub IsFaultOf : ℕ → Type 0 → Type 0 → Type 0 → TraceFault → Type 0
 IsFaultOf n past bad over (BadLine m) = (m ≡ n) × (past → ⊥) × bad
 IsFaultOf n past bad over (Limit m) = (m ≡ n) × (past ⊎ over)
 IsFaultOf n past bad over OutOfMemory = ⊥
 
--- the first faulty one of the lines behind a head, of which the first is line n and stands behind so many bytes:
+-- the first faulty line after a head: the first of these lines is line n, and comes after that many bytes:
 -- it is faulty itself, or it is in the grammar and the limits and a later one is the first faulty one
 abbrev pub IsFirstBehind : ℕ → ℕ → ℕ → ℕ → List (List ℕ) → TraceFault → Type 0
 IsFirstBehind partitions threads n before [] e = ⊥
@@ -58,7 +58,7 @@ IsFirstBehind partitions threads n before (line ∷ lines) e =
     ⊎ ((l : Line) × IsBodyLine l line × IsLineWithin partitions threads l × (IsPast n before line → ⊥)
     × IsFirstBehind partitions threads (n + 1) (before + length line) lines e)
 
--- the first faulty one of all lines; where there is none, line 1 is bad
+-- the first faulty one of all lines; if there is none, line 1 is bad
 abbrev pub IsFirstOf : List (List ℕ) → TraceFault → Type 0
 IsFirstOf [] e = e ≡ BadLine 1
 IsFirstOf (line ∷ lines) e =

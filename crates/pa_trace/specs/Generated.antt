@@ -12,12 +12,12 @@ use Rattle.pa_trace.specs.declared.script.Op.TheVariants.{Alloc, Copy, Reset, Fr
 abbrev pub drawn_words : ℕ → ℕ → List ℕ
 drawn_words key n = first_words pcg32 n (started 64 multiplier_64 key (increment_of 64 1))
 
--- the parts from 0 to n - 1, one behind the other
+-- the parts from 0 to n - 1, one after the other
 abbrev pub parts : (ℕ → List Line) → ℕ → List Line
 parts part zero = []
 parts part (suc n) = parts part n ++ part n
 
--- A round draws 32 words: 8 for each thread, 2 for each of its objects. These are the places of an object's two words, counted
+-- A round draws 32 words: 8 for each thread, 2 for each of its objects. These are the indices of an object's two words, counted
 -- from 0: its size is made of the first, and its value is the second.
 abbrev pub size_place : ℕ → ℕ → ℕ → ℕ
 size_place round thread object = 32 * round + 8 * thread + 2 * object
@@ -60,27 +60,27 @@ thread_lines words round thread = parts (drawn_object words round thread) 4 ++ p
 abbrev pub round_lines : List ℕ → ℕ → List Line
 round_lines words round = parts (thread_lines words round) 4
 
--- between two rounds stands `phase`
+-- a `phase` separates two rounds
 abbrev pub phase_before : ℕ → List Line
 phase_before zero = []
 phase_before (suc round) = Phase ∷ []
 
--- the lines behind the head
+-- the lines after the head
 abbrev pub generated_lines : List ℕ → ℕ → List Line
 generated_lines words rounds = parts (λ round. phase_before round ++ round_lines words round) rounds
 
--- the trace of so many rounds that is made of the drawn words
+-- the trace of that many rounds that is made of the drawn words
 pub record IsGeneratedOf (words : List ℕ) (rounds : ℕ) (trace : Trace) : Type 0 where
   pub region : trace.region ≡ 8
   pub partitions : trace.partitions ≡ 4
   pub threads : trace.threads ≡ 4
   pub lines : trace.lines ≡ generated_lines words rounds
 
--- the generated trace of so many rounds and this key
+-- the generated trace of that many rounds and this key
 abbrev pub IsGenerated : ℕ → ℕ → Trace → Type 0
 IsGenerated rounds key trace = IsGeneratedOf (drawn_words key (32 * rounds)) rounds trace
 
--- how many phases are over before the line at place k
+-- how many phases are over before the line with index k
 abbrev pub phases_over : List Line → ℕ → ℕ
 phases_over [] k = 0
 phases_over (l ∷ ls) zero = 0

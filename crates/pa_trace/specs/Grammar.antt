@@ -1,4 +1,4 @@
--- The text of a trace, as a relation by cases on its lines. Numbers are of any length here; the limits stand apart.
+-- The text of a trace, as a relation by cases on its lines. Numbers are of any length here; the limits are stated apart.
 use Rattle.std.specs.Prelude.{◌≡◌, ℕ, ◌<◌, List, [], ◌∷◌, ◌++◌, codes}
 use Rattle.pa_text.specs.Numeral.{IsNumeral}
 use Rattle.pa_text.specs.Hex.{hex}
@@ -43,7 +43,7 @@ abbrev pub IsTraceText : Trace → List ℕ → Type 0
 IsTraceText t text =
     (head rest : List ℕ) × IsHeadText t.region t.partitions t.threads head × AreLinesText t.lines rest × (text ≡ head ++ 10 ∷ rest)
 
--- two traces are the same by what their texts tell
+-- two traces are the same, compared by their heads and lines
 pub record IsSameTrace (s t : Trace) : Type 0 where
   pub region : s.region ≡ t.region
   pub partitions : s.partitions ≡ t.partitions

@@ -23,7 +23,7 @@ most_partitions = 4
 abbrev pub most_threads : ℕ
 most_threads = 16
 
--- an op of a trace with so many partitions: registers and cells are 0 to 63, a partition is one of the trace's, sizes
+-- an op of a trace with that many partitions: registers and cells are 0 to 63, a partition is one of the trace's, sizes
 -- and numbers of words have 32 bits
 abbrev pub IsOpWithin : ℕ → Op → Type 0
 IsOpWithin partitions (Alloc reg partition size) = (reg < register_count) × (partition < partitions) × (size ≤ 4294967295)
@@ -35,7 +35,7 @@ IsOpWithin partitions (Read reg place) = (reg < register_count) × (place ≤ 42
 IsOpWithin partitions (Swap cell reg) = (cell < cell_count) × (reg < register_count)
 IsOpWithin partitions Purge = Unit {0}
 
--- a line of a trace with so many partitions and threads: its thread is one of the trace's
+-- a line of a trace with that many partitions and threads: its thread is one of the trace's
 abbrev pub IsLineWithin : ℕ → ℕ → Line → Type 0
 IsLineWithin partitions threads Phase = Unit {0}
 IsLineWithin partitions threads (Do thread op) = (thread < threads) × IsOpWithin partitions op

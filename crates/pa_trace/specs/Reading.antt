@@ -1,4 +1,4 @@
--- Reading a line from left to right. A number is handed on with its value where it has 32 bits.
+-- Reading a line from left to right. A number is handed on with its value if it has 32 bits.
 use Rattle.std.specs.Prelude.{◌≡◌, ℕ, ◌==◌, ◌&&◌, nat_eq, nat_lt, nat_le, if◌then◌else◌, List, [], ◌∷◌, length, take, drop, codes, Option, Some, None, Result, Ok, Err}
 use Rattle.std.specs.Cmp.Lexicographic.{pointwise}
 use Rattle.pa_layout.specs.Limits.{most_supers}
@@ -23,25 +23,25 @@ abbrev pub Gives : {X Y : Type 0} → (X → Y) → Result X LineFault → Resul
 Gives view (Ok x) read = read ≡ Ok (view x)
 Gives view (Err e) read = read ≡ Err e
 
--- the bytes behind a word that stands in front
+-- the bytes after a word with which they begin
 unfoldable pub behind : List ℕ → List ℕ → Result (List ℕ) LineFault
 behind word bytes = if pointwise nat_eq (take (length word) bytes) word then Ok (drop (length word) bytes) else Err Outside
 
--- nothing there is a line outside the grammar
+-- no result is a line outside the grammar
 abbrev pub or_outside : {A : Type 0} → Option A → Result A LineFault
 or_outside None = Err Outside
 or_outside (Some x) = Ok x
 
--- what is handed on of a number that was read
+-- what is passed on of a number that was read
 abbrev pub hand_on : Option (ℕ × List ℕ) → Result (Option ℕ × List ℕ) LineFault
 hand_on None = Err Outside
 hand_on (Some x) = Ok (fitted x)
 
--- the number in front and the bytes behind it
+-- the number at the start, and the bytes after it
 unfoldable pub number_in : List ℕ → Result (Option ℕ × List ℕ) LineFault
 number_in bytes = hand_on (number_at bytes)
 
--- a word and the number behind it
+-- a word and the number after it
 unfoldable pub field_in : List ℕ → List ℕ → Result (Option ℕ × List ℕ) LineFault
 field_in word bytes = do
   rest ← behind word bytes
@@ -51,7 +51,7 @@ field_in word bytes = do
 abbrev pub ended : List ℕ → Result (Unit {0}) LineFault
 ended bytes = if length bytes == 0 then Ok tt else Err Outside
 
--- the word that sixteen hexadecimal digits in front write, and the bytes behind it
+-- the word that the first sixteen hexadecimal digits spell, and the bytes after it
 unfoldable pub word_in : List ℕ → Result (ℕ × List ℕ) LineFault
 word_in bytes = or_outside (hexes_at 16 bytes)
 
@@ -86,7 +86,7 @@ field_and_word_in bytes first = do
   end ← ended value.1
   Ok (a.0, value.0)
 
--- the number where it is below the limit, has 32 bits, or is 1 to the most
+-- the number, if it is below the limit, has 32 bits, or is from 1 to the most
 abbrev pub below : Option ℕ → ℕ → Result ℕ LineFault
 below None limit = Err Past
 below (Some n) limit = if nat_lt n limit then Ok n else Err Past
@@ -181,6 +181,6 @@ do_in partitions threads bytes = do
   number ← below thread.0 threads
   Ok (Do number op)
 
--- a line behind the head, without its LF
+-- a line after the head, without its LF
 unfoldable pub line_in : ℕ → ℕ → List ℕ → Result Line LineFault
 line_in partitions threads bytes = if pointwise nat_eq bytes (codes "phase") then Ok Phase else do_in partitions threads bytes

@@ -1,4 +1,4 @@
--- How far a trace's text has been read, and what the next step comes to.
+-- How far a trace's text has been read, and what the next step returns.
 use Rattle.std.specs.Prelude.{◌≡◌, ℕ, ◌+◌, ◌-◌, ◌<◌, ◌≤◌, List, [], ◌∷◌, ◌++◌, length}
 use Rattle.std.specs.List.{AllByRecursion}
 use Rattle.pa_trace.specs.declared.fault.TraceFault.{TraceFault}
@@ -9,7 +9,7 @@ use Rattle.pa_trace.specs.Grammar.{AreLinesText, IsTraceText}
 use Rattle.pa_trace.specs.Limits.{IsHeadWithin, IsLineWithin, IsInput, most_lines, most_bytes}
 use Rattle.pa_trace.specs.Faults.{lines_of, IsFirstBehind, IsFirstFault, IsFault}
 
--- The head, which is read; the bytes that aren't read yet, how many may still come, and the number of the line in front of them.
+-- The head, which is read; the bytes that aren't read yet, how many may still come, and the number of the next line.
 pub record Unread : Type 0 where
   pub head : Head
   pub rest : List ℕ
@@ -20,8 +20,8 @@ pub record Unread : Type 0 where
 abbrev pub trace_with : Head → List Line → Trace
 trace_with head ls = record { region = head.region; partitions = head.partitions; threads = head.threads; lines = ls }
 
--- Of these bytes the head and these lines are read, all within the limits, and this is unread: lines whose text the rest is make
--- up, behind those, a trace whose text the bytes are, and the first faulty line of the rest is that of the bytes.
+-- Of these bytes the head and these lines are read, all within the limits, and this is unread: whichever lines the rest is the
+-- text of, the bytes are the text of the trace with those lines appended; and the first faulty line of both is the same.
 pub record IsReadUpTo (bytes : List ℕ) (ls : List Line) (u : Unread) : Type 0 where
   pub head : IsHeadWithin u.head.region u.head.partitions u.head.threads
   pub lines : AllByRecursion (IsLineWithin u.head.partitions u.head.threads) ls

@@ -6,14 +6,14 @@ use std::alloc::{AllocError, AllocFailed};
 use std::error::Error;
 use std::fmt;
 
-/// Why a text is no trace. Lines count from 1.
+/// Why a text isn't a trace. Lines count from 1.
 #[derive(Clone, Copy, Debug, PartialEq, Eq)]
 pub enum TraceFault {
     /// This line is the first faulty one, and it is outside the grammar or has no LF.
     BadLine(u32),
     /// This line is the first faulty one, and it passes a limit.
     Limit(u32),
-    /// Memory was wanting.
+    /// Memory ran out.
     OutOfMemory,
 }
 

@@ -10,7 +10,7 @@ pub enum LineFault {
     Past,
 }
 
-// The bytes behind a word that stands in front.
+// The bytes after a word with which they begin.
 #[tactic(auto, unfolding(crate::specs::Reading::behind), using(pa_text::proofs::Fronts::front_found, pa_text::proofs::Fronts::front_none))]
 #[inline(always)]
 pub fn behind<'a>(word: &[u8], bytes: &'a [u8]) -> Result<&'a [u8], LineFault>
@@ -22,7 +22,7 @@ pub fn behind<'a>(word: &[u8], bytes: &'a [u8]) -> Result<&'a [u8], LineFault>
     }
 }
 
-// The number in front and the bytes behind it. `None` stands for a number of more than 32 bits.
+// The number at the start, and the bytes after it. It is `None` if it has more than 32 bits.
 #[inline(always)]
 pub fn number_in(bytes: &[u8]) -> Result<(Option<u32>, &[u8]), LineFault>
     ensures { Gives {Y = Option ℕ × List ℕ} (λ x. (x.0, x.1.now)) result (number_in bytes.now) }
@@ -33,7 +33,7 @@ pub fn number_in(bytes: &[u8]) -> Result<(Option<u32>, &[u8]), LineFault>
     }
 }
 
-// A word and the number behind it.
+// A word and the number after it.
 #[tactic(auto, unfolding(crate::specs::Reading::field_in))]
 #[inline(always)]
 fn field_in<'a>(word: &[u8], bytes: &'a [u8]) -> Result<(Option<u32>, &'a [u8]), LineFault>
@@ -43,7 +43,7 @@ fn field_in<'a>(word: &[u8], bytes: &'a [u8]) -> Result<(Option<u32>, &'a [u8]),
     number_in(rest)
 }
 
-// The word that sixteen digits in front write, and the bytes behind them.
+// The word that the first sixteen digits spell, and the bytes after them.
 fn word_in(bytes: &[u8]) -> Result<(u64, &[u8]), LineFault>
     ensures { Gives {Y = ℕ × List ℕ} (λ x. (x.0, x.1.now)) result (word_in bytes.now) }
 {
@@ -119,7 +119,7 @@ pub fn number_and_word(bytes: &[u8], first: &[u8]) -> Result<(Option<u32>, u64),
     Ok((one, value))
 }
 
-// The number where it is below the limit.
+// The number if it is below the limit.
 #[inline(always)]
 pub fn below(number: Option<u32>, limit: u32) -> Result<u32, LineFault>
     ensures { result ≡ below number limit }
@@ -130,7 +130,7 @@ pub fn below(number: Option<u32>, limit: u32) -> Result<u32, LineFault>
     }
 }
 
-// The number where it has 32 bits.
+// The number if it has 32 bits.
 #[inline(always)]
 pub fn within(number: Option<u32>) -> Result<u32, LineFault>
     ensures { result ≡ within number }

@@ -22,8 +22,8 @@ const LINES: usize = 81;
 // The number of the random numbers' stream.
 const STREAM: u64 = 1;
 
-/// The generated trace of so many rounds, by the random numbers of this key. In a round each of four threads allocates four
-/// objects, points to one of them, hands a `raw_ptr` on through a cell, reads what it freed, and frees all.
+/// The generated trace of that many rounds, by the random numbers of this key. In a round each of four threads allocates four
+/// objects, points to one of them, passes a `raw_ptr` on through a cell, reads what it freed, and frees all.
 pub fn generate(alloc: Global, rounds: u32, key: u64) -> Result<Trace, OutOfMemory>
     requires some { 1 ≤ rounds }
     requires few { rounds ≤ 800 }

@@ -6,25 +6,25 @@ ghost use Rattle.pa_trace.specs.Limits.{IsWithinLimits, IsInput};
 ghost use Rattle.pa_trace.specs.Faults.{IsFirstFault, IsFault};
 ghost use Rattle.pa_trace.specs.Generated.{drawn_words, IsGeneratedOf, KeepsCellsApart};
 
-/// A trace has one text, and a text belongs to one trace, also where numbers pass their limits.
+/// A trace has one text, and a text belongs to one trace, even if numbers pass their limits.
 pub fn one_text()
     ensures text { (t : Trace) (a b : List ℕ) → IsTraceText t a → IsTraceText t b → a ≡ b }
     ensures trace { (s t : Trace) (text : List ℕ) → IsTraceText s text → IsTraceText t text → IsSameTrace s t }
 {}
 
-/// Bytes are an input, or they have one first fault: which line it is, and by what it is faulty, is certain.
+/// Bytes are an input, or they have one first fault: its line and its cause are determined.
 pub fn one_answer()
     ensures none { (t : Trace) (bytes : List ℕ) (e : TraceFault) → IsInput t bytes → IsFirstFault e bytes → ⊥ }
     ensures one { (d e : TraceFault) (bytes : List ℕ) → IsFirstFault d bytes → IsFirstFault e bytes → d ≡ e }
     ensures some { (bytes : List ℕ) → ((t : Trace) → IsInput t bytes → ⊥) → (e : TraceFault) × IsFirstFault e bytes }
 {}
 
-/// The first 4,194,305 bytes have the fault of the whole: no more of them have to be read.
+/// The first 4,194,305 bytes have the fault of the whole: no more of the text has to be read.
 pub fn early_fault()
     ensures { (e : TraceFault) (bytes more : List ℕ) → length bytes ≡ 4194305 → IsFault e bytes → IsFault e (bytes ++ more) }
 {}
 
-/// The text of a trace within the limits is an input, so what is written is read again.
+/// The text of a trace within the limits is an input, so what is written can be read again.
 pub fn short_text()
     ensures { (t : Trace) (text : List ℕ) → IsWithinLimits t → IsTraceText t text → IsInput t text }
 {}

@@ -22,7 +22,7 @@ pub struct Head {
     pub threads: u32,
 }
 
-// The number where it is 1 to the most.
+// The number, if it is from 1 to the given most.
 fn count_in(number: Option<u32>, most: u32) -> Result<u32, LineFault>
     ensures { result ≡ count_in number most }
 {
@@ -61,7 +61,7 @@ fn head_of(
     })
 }
 
-// A line behind the head, without its LF.
+// A line after the head, without its LF.
 #[tactic(auto, unfolding(crate::specs::Reading::line_in))]
 #[inline(always)]
 pub fn line_in(head: Head, bytes: &[u8]) -> Result<Line, LineFault>

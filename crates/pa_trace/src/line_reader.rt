@@ -95,7 +95,7 @@ impl<'a> LineReader<'a> {
     }
 }
 
-/// The first line without its LF, and the bytes behind the LF. `None` where there is no LF.
+/// The first line without its LF, and the bytes after the LF. `None` if there is no LF.
 pub fn cut_line(bytes: &[u8]) -> Option<(&[u8], &[u8])>
     ensures { MatchOption result (IsOneLine bytes.now) (λ x. IsOneLine x.0.now × (bytes.now ≡ x.0.now ++ 10 ∷ x.1.now)) }
 {
@@ -109,14 +109,14 @@ pub fn cut_line(bytes: &[u8]) -> Option<(&[u8], &[u8])>
     None
 }
 
-// Whether line n, which has so many bytes where so many may still come, is one line or one byte too many.
+// Whether line n is one line too many, or is a byte too long for the bytes that may still come.
 fn is_past(n: u32, length: usize, room: usize) -> bool
     ensures { IsTrue result ↔ ((most_lines < n) ⊎ (room < length)) }
 {
     n > MOST_LINES || length > room
 }
 
-// The fault of line n, which is not past.
+// The fault of line n, if the line isn't past the limits.
 fn fault_at(n: u32, fault: LineFault) -> TraceFault
     ensures { result ≡ told n fault }
 {
@@ -126,7 +126,7 @@ fn fault_at(n: u32, fault: LineFault) -> TraceFault
     }
 }
 
-// The fault of line n, which has so many bytes where so many may still come, and no LF.
+// The fault of line n, which has no LF: its length, and how many bytes may still come, are given.
 fn without_end(n: u32, length: usize, room: usize) -> TraceFault
     ensures past { (most_lines < n) ⊎ (room < length) → result ≡ faults.Limit n }
     ensures bad { n ≤ most_lines → length ≤ room → result ≡ faults.BadLine n }

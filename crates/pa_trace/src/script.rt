@@ -15,7 +15,7 @@ pub struct Trace {
 /// One line after the head.
 #[derive(Clone, Copy, Debug, PartialEq, Eq)]
 pub enum Line {
-    /// A new phase begins: what stands before it is over for every thread.
+    /// A new phase begins: what comes before it is over for every thread.
     Phase,
     /// What one thread does. Threads are numbered from 0.
     Do { thread: u32, op: Op },

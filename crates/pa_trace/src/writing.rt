@@ -9,7 +9,7 @@ use pa_machine::OutOfMemory;
 use pa_text::{Text, push_byte, push_bytes, push_number, push_word};
 use std::alloc::Global;
 
-// About as many bytes as a line has.
+// The bytes of a line, estimated.
 const LINE: usize = 16;
 
 /// The text of the trace, which is within the limits. It has at most 4,194,304 bytes, so `read_trace` reads it again.
@@ -104,7 +104,7 @@ fn push_op(out: &mut Text, op: Op) -> Result<(), OutOfMemory>
     }
 }
 
-// Appends a word and the number behind it.
+// Appends a word and the number after it.
 fn push_field(out: &mut Text, word: &[u8], n: u32) -> Result<(), OutOfMemory>
     ensures { OnOk result (Appends (IsField word.now n) out.old out.new) }
 {

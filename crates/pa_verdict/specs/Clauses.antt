@@ -1,4 +1,4 @@
--- For each clause of a legal run, that it holds exactly where each place of the run meets what the clause asks of it.
+-- A clause of a legal run holds if and only if each place of the run meets what the clause requires of it.
 use Rattle.std.specs.Prelude.{◌↔◌}
 use Rattle.pa_trace.specs.declared.script.Trace.{Trace}
 use Rattle.pa_machine.specs.Run.{Slots}
@@ -19,11 +19,11 @@ use Rattle.pa_rules.specs.Sizes.{usable_of}
 use Rattle.pa_rules.specs.Legal.{phases_in}
 use Rattle.pa_rules.specs.Verdicts.{Demand}
 
--- each place meets what the clause asks of it
+-- each place meets what the clause requires of it
 abbrev pub IsMet : Clause → Trace → Told → Type 0
 IsMet c t r = (place : Place) → Demand c t r place
 
--- the clauses that ask for nothing of those before them
+-- the clauses that need nothing of those before them
 abbrev pub LinesArePlaces : Type 0
 LinesArePlaces = (t : Trace) (r : Told) → AreDue t.lines r.entries ↔ IsMet clauses.Lines t r
 
@@ -44,7 +44,7 @@ ReportIsPlaces =
     (t : Trace) (r : Told) →
     IsReport (phases_in t.lines) t.partitions t.threads (records_of t r) r.pools r.roots r.report ↔ IsMet clauses.Report t r
 
--- the clauses that ask for the lines alone
+-- the clauses that need the lines alone
 abbrev pub CellsArePlaces : Type 0
 CellsArePlaces = (t : Trace) (r : Told) → AreDue t.lines r.entries → AreCells r.cells (records_of t r) ↔ IsMet clauses.Cells t r
 
@@ -61,14 +61,14 @@ RootsArePlaces =
     (t : Trace) (r : Told) → AreDue t.lines r.entries →
     AreRoots t.partitions (records_of t r) r.pools r.roots ↔ IsMet clauses.Roots t r
 
--- Titles of the journals up to each line are those of the whole journals. Where the journals and the pool's entries are
+-- Titles of the journals up to each line are those of the whole journals. If the journals and the pool's entries are
 -- right, so are they at each place: the clause is never the first that fails.
 pub record TitlesArePlaces : Type 0 where
   pub whole : (t : Trace) (r : Told) → IsMet clauses.Titles t r → AreAllTitles r.pools r.roots
   pub met : (t : Trace) (r : Told) → AreRoots t.partitions (records_of t r) r.pools r.roots
       → IsPoolOf t.region (records_of t r) r.pools r.roots → IsMet clauses.Titles t r
 
--- the clause that asks for the lines and the slots, by which a free slot has one first holder
+-- the clause that needs the lines and the slots, by which a free slot has one first holder
 abbrev pub HoldersArePlaces : Type 0
 HoldersArePlaces =
     (t : Trace) (r : Told) → AreDue t.lines r.entries → Slots (marks_of (records_of t r)) →

@@ -1,4 +1,4 @@
--- A run is legal exactly where each clause holds at each of its places; the clause of the titles is never the first that
+-- A run is legal if and only if each clause holds at each of its places; the clause of the titles is never the first that
 -- fails; and a run has one verdict.
 use Rattle.std.specs.Prelude.{◌≡◌, ◌<◌, ◌↔◌}
 use Rattle.pa_trace.specs.declared.script.Trace.{Trace}
@@ -12,7 +12,7 @@ use Rattle.pa_rules.specs.Verdicts.{Holds, IsVerdict, turn}
 abbrev pub LegalIs : Type 0
 LegalIs = (t : Trace) (r : Run) → IsLegal t r ↔ ((c : Clause) → Holds c t r)
 
--- where the clauses before it hold, the clause of the titles holds
+-- if the clauses before it hold, the clause of the titles holds
 abbrev pub TitlesNeverFail : Type 0
 TitlesNeverFail = (t : Trace) (r : Run) → ((d : Clause) → turn d < turn clauses.Titles → Holds d t r) → Holds clauses.Titles t r
 

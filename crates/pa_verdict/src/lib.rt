@@ -1,4 +1,4 @@
-//! What ties each clause of a legal run to what it asks of each place of the run. Laws alone; nothing here runs.
+//! What ties each clause of a legal run to what it requires of each place of the run. Laws alone; nothing here runs.
 #![tactic(auto)]
 
 mod laws;

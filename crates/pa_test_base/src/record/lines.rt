@@ -116,7 +116,7 @@ end
     Ok(())
 }
 
-// Each number of a line of the report stands behind its word.
+// Each number of a line of the report comes after its word.
 #[test]
 fn the_report_is_printed(rt: HostRuntime) -> Result<(), Fail> {
     let line = ReportLine {
