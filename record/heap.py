@@ -88,7 +88,7 @@ class Heap:
         self.asked += size - old
 
     def take_super_pages(self, count):
-        """The lowest run of free super pages, in a region that grows where there is none."""
+        """The lowest run of free super pages, in a region that grows if there is none."""
         while (first := self.pool.lowest(count)) is None:
             self.pool.taken.append(None)
         self.pool.taken[first : first + count] = [self] * count

@@ -1,4 +1,4 @@
-"""Which objects of a program go into a trace, where not all fit: whole classes, or a hash of the objects."""
+"""Which objects of a program go into a trace, if not all fit: whole classes, or a hash of the objects."""
 
 from heap import ALLOCATE, FREE, RESIZE, size_class, slot_size
 
@@ -18,7 +18,7 @@ class Room:
         return [have / max(need, 1) for have, need in zip((self.live, self.events, self.size), needs)]
 
     def less(self, name):
-        """A tenth less of one measure, where a trace came out too large."""
+        """A tenth less of one measure, after a trace came out too large."""
         setattr(self, name, getattr(self, name) * 9 // 10)
 
 

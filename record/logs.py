@@ -1,5 +1,5 @@
 """Reads the log of a program's allocations: heaptrack's raw text, valgrind's, glibc's mtrace's, ltrace's, that of `record.c`, and
-one text for all others, which README.md tells. What comes out is what the program did, in the log's order."""
+one text for all others, which README.md describes. What comes out is what the program did, in the log's order."""
 
 import gzip
 import os
@@ -42,7 +42,7 @@ class Program:
         self.live[address] = self.made(thread, size)
 
     def made(self, thread, size):
-        """A new object, or none where it passes what a direct map may have."""
+        """A new object, or none if it passes what a direct map may have."""
         if size > GREATEST:
             self.too_large += 1
             return None

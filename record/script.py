@@ -33,7 +33,7 @@ def with_refs(events, every, delay):
 
 
 class Script:
-    """The lines so far, and where each handle is. The first threads are the program's own; those behind them are banks: registers, and
+    """The lines so far, and where each handle is. The first threads are the program's own; those after them are banks: registers, and
     no ops but exchanges, so their caches stay empty."""
 
     def __init__(self, events):
@@ -94,7 +94,7 @@ class Script:
         return self.ends.get(handle, (NEVER, None))
 
     def boundary(self, thread, asked):
-        """One phase ends: handles move, all gives before it and all takes behind. Boundaries use the two halves of the cells by turns,
+        """One phase ends: handles move, all gives before it and all takes after it. Boundaries use the two halves of the cells by turns,
         so a cell has one exchange a phase."""
         room = [len(free) for free in self.free]
         moves = self.moves_out(thread, room) if room[thread] < 2 else {}

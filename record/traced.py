@@ -33,7 +33,7 @@ def most_live(events):
 
 
 def filled(events):
-    """The heap behind these events. An object to which a raw_ptr points goes back when this is reset."""
+    """The heap after these events. An object that a raw_ptr points to goes back when the raw_ptr is reset."""
     heap, pointed, waiting = Heap(), {}, set()
     for act, thread, made, size in events:
         if act == COPY:
@@ -90,7 +90,7 @@ def assumed(events, refs):
 
 
 def chosen(program, policy, refs):
-    """The trace by this policy; without one all objects where they fit, else whole classes."""
+    """The trace by this policy; without one all objects if they fit, else whole classes."""
     if policy in (None, "all"):
         try:
             return made_of(program, None, "all objects", refs)

@@ -59,7 +59,7 @@ class Refused(Exception):
 
 
 def first_fault(data):
-    """The first fault of these bytes, or none: of a trace, or of a trace and behind it its run."""
+    """The first fault of these bytes, or none: of a trace, or of a trace followed by its run."""
     text = data.decode("latin-1")
     lines = text.split("\n")
     unended = lines.pop()
@@ -162,7 +162,7 @@ MEANINGS = {"rI": "register", "rJ": "register", "pJ": "partition", "cK": "cell",
 
 
 def run_fault(lines, unended, start, before):
-    """The first fault of a run whose line `run 1` is first of these, behind so many lines and bytes."""
+    """The first fault of a run that begins these lines with `run 1`, after this many lines and bytes."""
     reached = None
     for n, line in enumerate([*lines, *([unended] if unended else [])], start + 1):
         whole = n <= start + len(lines)
@@ -355,7 +355,7 @@ def word(name, column, text, form):
 
 
 def slot(due, column, text, form):
-    """The text is a slot, `00004000.0`, or with a number behind an `@`; its numbers."""
+    """The text is a slot, `00004000.0`, or with a number after an `@`; its numbers."""
     name, at, behind = text.partition("@")
     found = re.fullmatch(r"[0-9a-f]{8}\.(.*)", name)
     if found is None:

@@ -13,7 +13,7 @@ BEFORE = ("fill", "map", "full")
 
 
 def is_step(record):
-    """Whether the record tells a counted step, and not a look."""
+    """Whether the record reports a counted step, and not a look."""
     return record.answer in ("made", "done")
 
 

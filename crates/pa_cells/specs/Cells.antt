@@ -53,7 +53,7 @@ cell_history histories k = slice_index_or histories k []
 abbrev pub cell_holds : List (Option ParkedHandle) → ℕ → Option ParkedHandle
 cell_holds parked k = slice_index_or parked k None
 
--- the histories with one entry more, at the end of that of cell k
+-- the histories with one more entry, at the end of that of cell k
 abbrev pub pushed_at : ℕ → CellEntry → List (List CellEntry) → List (List CellEntry)
 pushed_at k e histories = slice_set histories k (cell_history histories k ++ e ∷ [])
 

@@ -16,7 +16,7 @@ use Rattle.pa_rules.specs.Legal.{IsLegal}
 use Rattle.pa_examples.specs.Worked.{IsRunOf, IsTold, seen_at, tally, report_line, two_threads_journal, two_threads_pool, two_threads_census}
 
 -- Two threads: one gives the other a raw_ptr through a cell. The other reads the slot, gives the raw_ptr back through another
--- cell, and only then does the first one free the slot. Yet the read finds poison: the clause of contents asks for a free by
+-- cell, and only then does the first one free the slot. Yet the read finds poison: the clause of contents requires a free by
 -- another thread in the same phase, and not that the read may come after it.
 abbrev pub early_read_trace : Trace
 early_read_trace =

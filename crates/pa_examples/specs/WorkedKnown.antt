@@ -1,4 +1,4 @@
--- What is asked of a run to be legal is known of two that were worked out by hand.
+-- What is required of a run to be legal is known of two that were worked out by hand.
 use Rattle.std.specs.Prelude.{[], ◌∷◌, map}
 use Rattle.pa_record.specs.declared.run.Run.{Run}
 use Rattle.pa_record.specs.Worked.{direct_map_again_pool, direct_map_again_journal}

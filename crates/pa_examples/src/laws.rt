@@ -66,8 +66,8 @@ pub fn worked_words_are_held()
     ensures map { MapIsHeld }
 {}
 
-/// All that is asked of a run to be shown legal is known of two worked runs, one with direct maps that come and go and one
-/// of two threads: so the laws that take it speak of something.
+/// All that is required of a run to be shown legal is known of two worked runs, one with direct maps that come and go and one
+/// of two threads: so the laws that need it aren't about nothing.
 pub fn worked_runs_are_known()
     ensures direct_maps { DirectMapIsKnown }
     ensures threads { TwoThreadsAreKnown }
@@ -93,63 +93,63 @@ pub fn astray_fails()
     ensures { AstrayFails }
 {}
 
-/// A run of two threads, which was worked out by hand, meets all that is asked of annotated records to be shown legal: one thread
+/// A run of two threads, which was worked out by hand, meets all that is required of annotated records to be shown legal: one thread
 /// gives the other a raw_ptr through a cell and frees the slot, while the other reads it and finds poison.
 pub fn two_threads_are_told()
     ensures { TwoThreadsArePlayedOut }
 {}
 
-/// A run of one thread with a purge, which was worked out by hand, meets all that is asked of annotated records: a slot is freed,
+/// A run of one thread with a purge, which was worked out by hand, meets all that is required of annotated records: a slot is freed,
 /// goes back with the purge and is taken again.
 pub fn purge_is_told()
     ensures { PurgeIsPlayedOut }
 {}
 
-/// A run of one thread with direct maps, which was worked out by hand, meets all that is asked of annotated records: one map goes
+/// A run of one thread with direct maps, which was worked out by hand, meets all that is required of annotated records: one map goes
 /// back as it is freed, one with the reset of its raw_ptr, and for one there is no room.
 pub fn direct_map_is_told()
     ensures { DirectMapIsPlayedOut }
 {}
 
-/// The lists of the run of two threads meet what is asked of lists, of exchanges and of their answers.
+/// The lists of the run of two threads meet what is required of lists, of exchanges and of their answers.
 pub fn two_threads_have_lists()
     ensures { TwoThreadsHaveLists }
 {}
 
-/// The lists of the run with a purge meet what is asked of lists.
+/// The lists of the run with a purge meet what is required of lists.
 pub fn purge_has_lists()
     ensures { PurgeHasLists }
 {}
 
-/// The lists of the run with direct maps meet what is asked of lists.
+/// The lists of the run with direct maps meet what is required of lists.
 pub fn direct_map_has_lists()
     ensures { DirectMapHasLists }
 {}
 
-/// The read of the two threads may give the content, or find the slot freed: what is asked of logs and of what was seen is met
+/// The read of the two threads may give the content, or find the slot freed: what is required of logs and of what was seen is met
 /// by both.
 pub fn other_reads_fit()
     ensures { OtherReadsFit }
 {}
 
-/// The run of two threads, with each of the three answers that its read may give, meets at once what all layers are asked.
+/// The run of two threads, with each of the three answers that its read may give, meets the obligations of all layers at once.
 pub fn threads_say()
     ensures { ThreadsSay }
 {}
 
-/// So all that is asked of annotated records is met with each of them, and each is legal: poison while the free is under way, the
+/// So all that is required of annotated records is met with each of them, and each is legal: poison while the free is under way, the
 /// content, and that the slot was freed.
 pub fn other_reads_are_legal()
     ensures { OtherReadsAreLegal }
 {}
 
-/// The seat that closes the run of two threads is what it is asked to be, with each answer of the read; so the words at the end
+/// The seat that closes the run of two threads is as required, with each answer of the read; so the words at the end
 /// hold the run.
 pub fn threads_close()
     ensures { ThreadsClose }
 {}
 
-/// The run with a purge meets at once what all layers are asked, and the seat that closes it is what it is asked to be: it owns
+/// The run with a purge meets the obligations of all layers at once, and the seat that closes it is as required: it owns
 /// the slot that was taken again, and has the others free. So the words at the end hold the run.
 pub fn purge_closes()
     ensures { PurgeIsClosed }

@@ -1,4 +1,4 @@
--- The small execution meets all that is asked of an execution.
+-- The small execution meets all that is required of an execution.
 use Rattle.std.proofs.Common.{◌≡◌, ℕ, ◌<◌, ◌≤◌, List, [], ◌∷◌, ltb, eqb, map, filter, replicate, refl, sym, ◌∙◌, ap, subst, arith, inl, inr, append-nil}
 use Rattle.std.specs.Prelude.{◌+◌, Contains}
 use Rattle.std.proofs.lemmas.Bool.{cases_Bool, cases_lt, cases_eq}

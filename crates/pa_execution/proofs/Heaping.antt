@@ -1,4 +1,4 @@
--- An execution says what is asked of the ops of workers, and of the runner.
+-- An execution says what is required of the ops of workers, and of the runner.
 use Rattle.std.proofs.Common.{◌≡◌, ℕ, zero, suc, leb, ◌-◌, ◌<◌, ◌≤◌, Bool, List, [], ◌∷◌, ◌++◌, filter, refl, sym, ◌∙◌, ap, subst, arith, inl, inr}
 use Rattle.std.specs.Prelude.{Contains}
 use Rattle.std.proofs.lemmas.Bool.{cases_Bool, cases_lt, lt-ltb, le-ltb}

@@ -1,4 +1,4 @@
--- An execution says what is asked of the pool, the roots and the cells.
+-- An execution says what is required of the pool, the roots and the cells.
 use Rattle.std.proofs.Common.{◌≡◌, ℕ, suc, ◌≤◌, true, eqb, List, [], ◌∷◌, ◌++◌, length, map, filter, refl, sym, ◌∙◌, ap, subst, arith, inl, inr, slice_index}
 use Rattle.std.specs.Prelude.{Contains}
 use Rattle.std.proofs.lemmas.List.{append_assoc}

@@ -42,12 +42,12 @@ pub fn courses_tell_lines()
     ensures { CoursesTellLines }
 {}
 
-/// The law that each worker has the records of its thread, in order, and that only titles which go back are uncut.
+/// Each worker has the records of its thread, in order, and only titles which go back are uncut.
 pub fn workers_have_theirs()
     ensures { WorkersHaveTheirs }
 {}
 
-/// The law that an execution leaves the list of a partition past the trace's empty.
+/// An execution leaves the list of a partition past the trace's empty.
 pub fn courses_leave_none_past()
     ensures { CoursesLeaveNonePast }
 {}

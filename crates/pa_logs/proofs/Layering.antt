@@ -1,4 +1,4 @@
--- The clauses of the pool and of the roots, and what the closing seat is asked, from what each layer says.
+-- The clauses of the pool and of the roots, and what the closing seat must satisfy, from what each layer says.
 use Rattle.std.proofs.Common.{◌≡◌, ℕ, ◌<◌, List, [], slice_get, Some, sym, ◌∙◌, ap, subst, arith, inl, inr}
 use Rattle.std.specs.Prelude.{Contains}
 use Rattle.std.proofs.lemmas.Bool.{cases_lt}

@@ -1,4 +1,4 @@
--- A run of which all this is known is legal.
+-- A run is legal if all this is known of it.
 use Rattle.std.proofs.Common.{ℕ, List, sym, ◌∙◌, ap, subst, inr}
 use Rattle.std.specs.Prelude.{Contains}
 use Rattle.pa_machine.specs.declared.word.SlotName.{SlotName}

@@ -1,4 +1,4 @@
--- The records that were worked out by hand meet what the laws of steps and reads ask.
+-- The records that were worked out by hand meet what the law of steps and reads requires.
 use Rattle.std.proofs.Common.{◌≡◌, ℕ, zero, suc, ◌+◌, ◌<◌, ◌≤◌, Bool, true, false, List, [], ◌∷◌, length, map, lit≤, refl, sym, ◌∙◌, ap, subst, arith, inl, inr, eqb, ltb}
 use Rattle.std.specs.Prelude.{Contains, if◌then◌else◌}
 use Rattle.std.specs.List.{AllByRecursion as Each}

@@ -16,7 +16,7 @@ use Rattle.pa_logs.specs.Told.{ToldRecord}
 use Rattle.pa_logs.specs.Listed.{line_of, IsListOf, AreRising, IsJournalOf, IsPoolList}
 use Rattle.pa_logs.specs.Swaps.{SwapMade, is_of_cell, AreSwaps}
 
--- The entry m is in the list with this many before it. A call says it of the entry that it made: the list that its seat has
+-- The entry m is in the list with this many before it. The call that made it ensures this: the list that its seat has
 -- seen then ends with the entry, its answer is how many are before it, and that list is a beginning of what the list became.
 pub record StandsAt (list : List Made) (m : Made) (index : ℕ) : Type 0 where
   pub older : List Made
@@ -33,7 +33,7 @@ pub record IsFullAt (list : List Made) (x : ToldRecord) (index : ℕ) : Type 0 w
   pub line : entry.line ≡ x.played.line
   pub full : IsFull entry.act
 
--- An exchange with cell k: the exchanges that its seat has seen then end with its own, it answers how many of them before it
+-- An exchange with cell k: the exchanges that its seat has seen then end with its own, its answer is how many of them before it
 -- are of that cell, and they are a beginning of all.
 pub record IsSwapAt (swaps : List SwapMade) (x : ToldRecord) (k : ℕ) : Type 0 where
   pub older : List SwapMade

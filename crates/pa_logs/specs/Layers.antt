@@ -1,4 +1,4 @@
--- The clauses of the pool and of the roots, and what is asked of the closing seat, put together from what each layer says.
+-- The clauses of the pool and of the roots, and what is required of the closing seat, put together from what each layer says.
 use Rattle.std.specs.Prelude.{◌≡◌, ℕ, ◌<◌, ◌≤◌, List, [], Contains}
 use Rattle.pa_machine.specs.declared.word.SlotName.{SlotName}
 use Rattle.pa_trace.specs.declared.script.Op.TheVariants.{Alloc}
@@ -50,7 +50,7 @@ pub record RootsSay (partitions : ℕ) (lists : ℕ → List Made) (pools : List
   pub refused : (x : ToldRecord) (j reg p size : ℕ) → Contains ts x → x.played.answer ≡ Full j → x.played.op ≡ Alloc reg p size →
       (p < most_partitions) × IsFullAt (lists p) x j
 
--- What the closing seat is asked, from the journals, the logs and what it has.
+-- What the closing seat must satisfy, from the journals, the logs and what it has.
 pub record SeatSays (supers partitions threads : ℕ) (sizes : SlotName → ℕ) (lists : ℕ → List Made) (r : Told) (ts : List ToldRecord)
     (all : Caches) (v : View) : Type 0 where
   pub lists_are : AreLists lists r.pools r.roots ts
@@ -59,7 +59,7 @@ pub record SeatSays (supers partitions threads : ℕ) (sizes : SlotName → ℕ)
   pub has : HasFree supers partitions threads sizes r.pools r.roots ts all v
   pub clean : unclean_of v ≡ 0
 
--- Then the clauses hold, and the closing seat is what it is asked to be.
+-- Then the clauses hold, and the closing seat is as required.
 pub record LayersFollow : Type 0 where
   pub pool : (supers : ℕ) (lists : ℕ → List Made) (pools : List PoolEntry) (roots : Journals) (ts : List ToldRecord) →
       PoolSays supers lists pools roots ts → IsPoolOf supers (played_in ts) pools roots

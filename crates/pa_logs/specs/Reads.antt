@@ -27,7 +27,7 @@ pub record KnowsAll (v : View) (ts : List ToldRecord) : Type 0 where
 abbrev pub HaveEnds : List ToldRecord → Type 0
 HaveEnds ts = (x : ToldRecord) → Contains ts x → (v : View) × KnowsAll v (told_until x.played.phase ts)
 
--- What is known of a run's log segments: each is what its answer asks for; at the end and at the end of each phase a view knows
+-- What is known of a run's log segments: each is what its answer requires; at the end and at the end of each phase a view knows
 -- all logs; and no record of a later phase found a lower number of a slot than one of an earlier phase left there.
 pub record IsReadOff (sizes : SlotName → ℕ) (v : View) (ts : List ToldRecord) : Type 0 where
   pub told : AreTold sizes ts

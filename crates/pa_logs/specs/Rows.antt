@@ -17,12 +17,12 @@ is_by_thread k x = x.thread == k
 abbrev pub records_by : ℕ → List Played → List Played
 records_by k ps = filter (is_by_thread k) ps
 
--- record by record of one thread, each answer is the one that its registers ask for
+-- record by record of one thread, each answer is the one that its registers require
 abbrev pub HasRows : Facts → Regs → List Played → Type 0
 HasRows facts regs [] = Unit {0}
 HasRows facts regs (p ∷ ps) = (next : Regs) × Row facts p.op regs p.answer next × HasRows facts next ps
 
--- the entries of their lines are those that its lists ask for
+-- the entries of their lines are those that its lists require
 abbrev pub HasCacheRows : ℕ → Journals → Cache → List Played → Type 0
 HasCacheRows partitions roots cache [] = Unit {0}
 HasCacheRows partitions roots cache (x ∷ xs) =

@@ -1,5 +1,5 @@
 -- What each layer says of a run that was played in a region, all at once; and what follows: that the run is legal, and that the
--- closed region holds it. Each layer is asked for what it alone can say, and nothing is asked twice.
+-- closed region holds it. Each layer has to say what only it can say, and nothing is required twice.
 use Rattle.std.specs.Prelude.{◌≡◌, ℕ, ◌+◌, ◌-◌, ◌<◌, ◌≤◌, List, [], ◌∷◌, Bool, true, map, filter, length, Contains}
 use Rattle.std.specs.List.{AllByRecursion as Each}
 use Rattle.pa_machine.specs.declared.title.Title.{Title}
@@ -102,7 +102,7 @@ pub record RunnerSays (t : Trace) (r : Told) (v : View) (ts : List ToldRecord) (
 
 -- ---- the pool, the roots and the cells
 
--- What the pool's type keeps, and its calls say.
+-- What the pool's type keeps, and its calls ensure.
 --   list, fits: its list in numbers is its entries, and each take and give fits the pool after those before it
 --   asked: a record asked it at most once, and the journal entry that it then made names the pool's
 pub record PoolTells (t : Trace) (r : Told) (v : View) (ts : List ToldRecord) : Type 0 where
@@ -110,12 +110,12 @@ pub record PoolTells (t : Trace) (r : Told) (v : View) (ts : List ToldRecord) : 
   pub fits : IsPool t.region r.pools
   pub asked : AreAsked (list_of 4 v) ts
 
--- What the roots' types keep, and their calls say.
+-- What the roots' types keep, and their calls ensure.
 --   lists, journals: each list in numbers is its journal, which replays with the pool's entries
 --   none_past: a partition past the trace's has no journal
 --   makes: what a record entered in a journal is an entry that its op makes
 --   refused: a record that is full names its entry by the index
---   numbers, unmaps: a root hands a slot out at the number at which it has it; a direct map that goes back is named at the number
+--   numbers, unmaps: a root gives a slot out at the number at which it has it; a direct map that goes back is named at the number
 --     that the step which returned it left
 pub record RootsTell (t : Trace) (r : Told) (v : View) (ts : List ToldRecord) : Type 0 where
   pub lists : (p : ℕ) → p < most_partitions → IsJournalOf (list_of p v) (r.roots p)
@@ -132,7 +132,7 @@ pub record RootsTell (t : Trace) (r : Told) (v : View) (ts : List ToldRecord) : 
 -- What the cells' type keeps, and their calls ensure.
 --   swaps_are, chain: the list's entries are the exchanges, and each of these found what the one before gave
 --   one_each, only: a record entered at most one, and it was an exchange
---   answers: an exchange answers where it is among those of its cell
+--   answers: an exchange's answer is its place among those of its cell
 --   gives: and hands on what its entry carries
 pub record CellsTell (r : Told) (v : View) (ts : List ToldRecord) (swaps : List SwapMade) : Type 0 where
   pub swaps_are : AreSwaps (list_of 5 v) r.cells swaps
@@ -164,13 +164,13 @@ abbrev pub ReadsIts : (SlotName → ℕ) → Regs → Op → ToldRecord → Type
 ReadsIts sizes regs (ops.Read reg place) x = IsReadThrough sizes (regs reg) x
 ReadsIts sizes regs op x = Unit {0}
 
--- record by record of one thread, each answer is the one that its registers ask for, and so are reads
+-- record by record of one thread, each answer is the one that its registers require, and so are reads
 abbrev pub HasToldRows : (SlotName → ℕ) → Facts → Regs → List ToldRecord → Type 0
 HasToldRows sizes facts regs [] = Unit {0}
 HasToldRows sizes facts regs (x ∷ xs) =
     (next : Regs) × Row facts x.played.op regs x.played.answer next × ReadsIts sizes regs x.played.op x × HasToldRows sizes facts next xs
 
--- what the rows ask besides registers: the usable bytes of a slot are all but 8 of its length
+-- what the transitions require besides registers: the usable bytes of a slot are all but 8 of its length
 abbrev pub facts_in : Trace → Told → Facts
 facts_in t r = record { usable_of = usable_of; usable_at = λ s. sizes_in t r s - 8; cells = r.cells }
 
@@ -187,8 +187,8 @@ pub record HaveSeen (ts : List ToldRecord) : Type 0 where
 
 -- What the ops of workers ensure for their own seats; `lists` are those of all threads at the phases' ends.
 --   told, lines: each log segment is what its answer requires, and entered only what is of its line
---   rows: the rows of each thread's registers; seen: what its seat had seen
---   caches: and the lists to which its rows lead at each phase's end
+--   rows: the transitions of each thread's registers; seen: what its seat had seen
+--   caches: and the lists to which these lead at each phase's end
 pub record HeapTells (t : Trace) (r : Told) (ts : List ToldRecord) (lists : ℕ → Caches) : Type 0 where
   pub told : AreTold (sizes_in t r) ts
   pub lines : (q : ℕ) → q < 6 → AreOfLines q ts

@@ -45,7 +45,7 @@ pub record Unmaps (x : ToldRecord) (t : Title) : Type 0 where
 abbrev pub OnlyUnmapsUncut : List ToldRecord → Type 0
 OnlyUnmapsUncut ts = (x : ToldRecord) (t : Title) → Contains ts x → Contains x.stretch (Uncut t) → Unmaps x t
 
--- Then no log says of a title that stands that it was uncut.
+-- Then, if a title stands, no log says that it was uncut.
 abbrev pub StandsUncut : Type 0
 StandsUncut =
     (supers partitions p : ℕ) (lists : ℕ → List Made) (pools : List PoolEntry) (roots : Journals) (ts : List ToldRecord) (v : View)

@@ -118,7 +118,7 @@ IsToldBy sizes op (answers.StaleUse seen) es = IsSeenTold sizes seen es
 IsToldBy sizes op (answers.Shared seen) es = IsSeenTold sizes (Some seen) es
 IsToldBy sizes op answer es = touches es ≡ []
 
--- each record's log segment is what its answer asks for
+-- each record's log segment is what its answer requires
 abbrev pub IsTold : (SlotName → ℕ) → ToldRecord → Type 0
 IsTold sizes x = IsToldBy sizes x.played.op x.played.answer x.stretch
 

@@ -1,5 +1,5 @@
 -- Four records of two threads that were worked out by hand: a slot is made and pointed to by thread 0, read by thread 1, and
--- freed by thread 0. What the laws of steps, of reads and of what was seen ask is met by them.
+-- freed by thread 0. They meet what the laws of steps, of reads and of what was seen require.
 use Rattle.std.specs.Prelude.{ℕ, List, [], ◌∷◌, map, false, if◌then◌else◌}
 use Rattle.pa_machine.specs.declared.title.Title.{Title}
 use Rattle.pa_machine.specs.declared.word.SlotName.{SlotName}

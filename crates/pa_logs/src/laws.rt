@@ -18,7 +18,7 @@ ghost use Rattle.pa_logs.specs.Viewed.{SeenFollows};
 ghost use Rattle.pa_logs.specs.Whole.{LegalIsTold};
 ghost use Rattle.pa_logs.specs.Worked.{WorkedIsReadOff, WorkedIsSeen};
 
-/// The law that what is weighed over the logs of a view with every stake is weighed over the records.
+/// What is weighed over the logs of a view with every stake is weighed over the records.
 pub fn logs_are_told()
     ensures { LogsAreTold }
 {}
@@ -38,7 +38,7 @@ pub fn slots_follow()
     ensures { SlotsFollow }
 {}
 
-/// The law that the content of a slot at a number is that of its history.
+/// The content of a slot at a number is that of its history.
 pub fn content_follows()
     ensures { ContentFollows }
 {}
@@ -48,27 +48,27 @@ pub fn reads_follow()
     ensures { ReadsFollow }
 {}
 
-/// The law that the contents are those of a legal run, from what each read gave.
+/// The contents are those of a legal run, from what each read gave.
 pub fn contents_follow()
     ensures { ContentsFollow }
 {}
 
-/// The law that no record is before itself, and that none finds a lower number of a slot than one before it left.
+/// No record is before itself, and none finds a lower number of a slot than one before it left.
 pub fn seen_follows()
     ensures { SeenFollows }
 {}
 
-/// The law that each entry of a keeper's list is one of a record, and that those of a line are what its record entered.
+/// Each entry of a keeper's list is one of a record, and those of a line are what its record entered.
 pub fn lines_have_theirs()
     ensures { LinesHaveTheirs }
 {}
 
-/// The law that the entries of a list are in the order of a thread's lines, and in that of the phases.
+/// The entries of a list are in the order of a thread's lines, and in that of the phases.
 pub fn entries_in_order()
     ensures { EntriesInOrder }
 {}
 
-/// The law that the acts of a line in a journal are those that its record entered.
+/// The acts of a line in a journal are those that its record entered.
 pub fn acts_are_theirs()
     ensures { ActsAreTheirs }
 {}
@@ -78,7 +78,7 @@ pub fn legal_is_told()
     ensures { LegalIsTold }
 {}
 
-/// Four records of two threads, with a read in between, meet what the laws of steps and reads ask.
+/// Four records of two threads, with a read in between, meet what the laws of steps and reads require.
 pub fn worked_is_read_off()
     ensures { WorkedIsReadOff }
 {}
@@ -88,12 +88,12 @@ pub fn held_follows()
     ensures { HeldFollows }
 {}
 
-/// The law that the entries of journals and of the pool are in the order of their threads' lines and of the phases.
+/// The entries of journals and of the pool are in the order of their threads' lines and of the phases.
 pub fn orders_follow()
     ensures { OrdersFollow }
 {}
 
-/// The law that exchanges have one order, that of the cells' list, in which what was seen rises.
+/// Exchanges have one order, that of the cells' list, in which what was seen rises.
 pub fn swaps_follow()
     ensures { SwapsFollow }
 {}
@@ -103,22 +103,22 @@ pub fn threads_merge()
     ensures { ThreadsMerge }
 {}
 
-/// The law that the usable bytes of a slot that was stepped on are all but its count word.
+/// The usable bytes of a slot that was stepped on are all but its count word.
 pub fn usable_follows()
     ensures { UsableFollows }
 {}
 
-/// The law that a seat with every stake knows all logs of the records, and that what it has seen of a list is theirs.
+/// A seat with every stake knows all logs of the records, and what it has seen of a list is theirs.
 pub fn seats_know()
     ensures { SeatsKnow }
 {}
 
-/// What the seats of those records had seen meets what the law of it asks.
+/// What the seats of those records had seen meets what the law of it requires.
 pub fn worked_is_seen()
     ensures { WorkedIsSeen }
 {}
 
-/// The law that the cells are those of a legal run, from the cells' list and the answers.
+/// The cells are those of a legal run, from the cells' list and the answers.
 pub fn cells_follow()
     ensures { CellsFollow }
 {}
@@ -129,38 +129,38 @@ pub fn closes_holding()
     ensures { ClosesHolding }
 {}
 
-/// The law that an entry's index is the length of its list before it, and that each entry of the pool is named once.
+/// An entry's index is the length of its list before it, and each entry of the pool is named once.
 pub fn indices_follow()
     ensures { IndicesFollow }
 {}
 
-/// The law that the journals give each slot one length, and each title that was made that of its slot.
+/// The journals give each slot one length, and each title that was made that of its slot.
 pub fn lengths_follow()
     ensures { LengthsFollow }
 {}
 
-/// The law that the report is right, from what threads, roots and lists say at the end of each phase.
+/// The report is right, from what threads, roots and lists say at the end of each phase.
 pub fn report_follows()
     ensures { ReportFollows }
 {}
 
-/// The law that no log says of a title that stands that it was uncut.
+/// If a title stands, no log says that it was uncut.
 pub fn stands_uncut()
     ensures { StandsUncut }
 {}
 
-/// The law that the closing seat holds each title that stands and that no log names: it is with its root, or on a thread's list.
+/// The closing seat holds each title that stands and that no log names: it is with its root, or on a thread's list.
 pub fn stands_held()
     ensures { StandsHeld }
 {}
 
-/// The law that the clauses of the pool and of the roots hold, and that the closing seat is what it is asked to be, from what
+/// The clauses of the pool and of the roots hold, and the closing seat is as required, from what
 /// each layer says.
 pub fn layers_follow()
     ensures { LayersFollow }
 {}
 
-/// The law that each slot which a record stepped on or looked at has a partition and a length, by the journals.
+/// Each slot which a record stepped on or looked at has a partition and a length, by the journals.
 pub fn homes_follow()
     ensures { HomesFollow }
 {}

@@ -1,4 +1,4 @@
--- What an op entered in the lists of roots, pool and cells, as the lists say that its seat has seen then.
+-- What an op entered in the lists of roots, pool and cells, by the lists that its seat has seen then.
 use Rattle.std.specs.Prelude.{◌≡◌, ℕ, ◌<◌, ◌≤◌, ◌⊎◌, List, [], ◌∷◌, ◌++◌, length, Contains}
 use Rattle.pa_machine.specs.declared.title.Title.{Title}
 use Rattle.pa_trace.specs.declared.script.Op.{Op}
@@ -18,8 +18,8 @@ use Rattle.pa_logs.specs.Indices.{Enters, AskedNone, AskedOnce, IsFullAt}
 use Rattle.pa_logs.specs.Standing.{Unmaps}
 use Rattle.pa_op_specs.specs.Stocks.{StockValue}
 
--- An exchange with cell k made one entry in the cells' list, which is of its line, and returns how many exchanges of the cell
--- are before it.
+-- An exchange with cell k made one entry in the cells' list, which is of its line, and its answer is how many exchanges of the
+-- cell are before it.
 pub record EntersExchange (list : List Made) (x : ToldRecord) (k : ℕ) : Type 0 where
   pub older : List Made
   pub rest : List Made
@@ -31,7 +31,7 @@ pub record EntersExchange (list : List Made) (x : ToldRecord) (k : ℕ) : Type 0
   pub answer : x.played.answer ≡ answers.Swapped (length (made_with_cell k older))
   pub entered : entered_in 5 x.stretch ≡ made ∷ []
 
--- of all ops an exchange alone enters something there
+-- of all ops only an exchange enters something there
 abbrev pub EntersCells : Op → List Made → ToldRecord → Type 0
 EntersCells (ops.Alloc reg partition size) list x = entered_in 5 x.stretch ≡ []
 EntersCells (ops.Copy from to) list x = entered_in 5 x.stretch ≡ []
@@ -56,7 +56,7 @@ pub record EntersOwn (lists : ℕ → List Made) (x : ToldRecord) : Type 0 where
   pub uncuts : (t : Title) → Contains x.stretch (Uncut t) → Unmaps x t
   pub cells : EntersCells x.played.op (lists 5) x
 
--- The view has seen an entry of list q; and what it has seen there of the stake's is what that's log entered.
+-- The view has seen an entry of list q; and what it has seen there that the stake made is what the stake's log entered.
 pub record HasSeenSome (stake q : ℕ) (v : View) : Type 0 where
   pub some : (m : Made) × Contains (list_of q v) m
   pub own : made_with stake (list_of q v) ≡ entered_in q (log_of stake v)

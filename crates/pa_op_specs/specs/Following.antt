@@ -1,5 +1,5 @@
--- What follows of ops that a worker played one after the other: in every run that fits, the rows of its registers and of its
--- lists, that each log segment is what its answer asks for, and what it counted.
+-- What follows from ops that a worker played one after the other: in every run that fits, the transitions of its registers and
+-- of its lists, that each log segment is what its answer requires, and what it counted.
 use Rattle.std.specs.Prelude.{◌≡◌, ℕ, List, ◌++◌, Contains}
 use Rattle.pa_region.specs.declared.view.View.{View}
 use Rattle.pa_logs.specs.Told.{ToldRecord, played_in}

@@ -1,4 +1,4 @@
--- What a run became, and what of it somebody has seen on the way.
+-- What a run became, and what of it a seat has seen on the way.
 use Rattle.std.specs.Prelude.{◌≡◌, ℕ, ◌-◌, ◌<◌, ◌≤◌, List, [], ◌∷◌, ◌++◌, map, length, Option, Some, Contains, slice_get}
 use Rattle.pa_machine.specs.declared.title.Title.{Title}
 use Rattle.pa_machine.specs.declared.word.SlotName.{SlotName}

@@ -62,12 +62,12 @@ pub record AnswersIn (o : Outcome) (before after : StockValue) (x : ToldRecord) 
 
 -- What an op did with the worker's thread state, and the annotated record that it is.
 --   thread, same: the record is of the worker's thread
---   stakes: which stays
---   logs: the log of its stake has the log segment more, and no other log
+--   stakes: it has the same stakes
+--   logs: the log of its thread's stake has one more log segment, and no other log does
 --   lists: it forgets nothing of any list
 --   seen, enters: what its seat had seen, and what it entered
---   homes: in the list of a partition past the run's nothing, or its seat had seen an entry there before
---   answers: in every run that fits, all is as the rules ask
+--   homes: nothing in the list of a partition past the run's, or its seat had seen an entry there before
+--   answers: in every run that fits, all is as the rules require
 pub record Does (before after : StockValue) (x : ToldRecord) : Type 0 where
   pub thread : x.played.thread ≡ before.thread
   pub same : (after.thread ≡ before.thread) × (after.partitions ≡ before.partitions)

@@ -27,13 +27,13 @@ pub record IsWorker (w : WorkerValue) : Type 0 where
 abbrev pub HasItsStake : StockValue → Type 0
 HasItsStake s = 0 < stake_of s.view s.thread
 
--- it can play an op: it isn't stopped, it has its stake, and there is room for one record more
+-- it can play an op: it isn't stopped, it has its stake, and there is room for one more record
 pub record CanPlayOp (w : WorkerValue) : Type 0 where
   pub going : w.stopped ≡ false
   pub stake : HasItsStake w.stock
   pub room : length w.records < w.room
 
--- After an op that didn't run out of memory it isn't stopped, has its stake and one record more, and room for as many in all as
+-- After an op that didn't run out of memory it isn't stopped, has its stake and one more record, and room for as many in all as
 -- before.
 pub record KeepsOn (before after : WorkerValue) : Type 0 where
   pub going : after.stopped ≡ false

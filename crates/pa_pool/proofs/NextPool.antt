@@ -1,4 +1,4 @@
--- What the type keeps, after one entry more.
+-- What the type keeps, after one more entry.
 use Rattle.std.proofs.Common.{◌≡◌, ℕ, ◌+◌, ◌<◌, ◌≤◌, List, [], ◌∷◌, ◌++◌, map, Option, Some, length, length-append, refl, sym, ◌∙◌, ap, subst}
 use Rattle.std.proofs.lemmas.List.{map-append, length-map}
 use Rattle.std.specs.Prelude.{slice_get}
@@ -17,7 +17,7 @@ use Rattle.pa_pool.proofs.Runs.{same_supers}
 use Rattle.pa_pool.specs.Pools.{PoolValue, pool_after, IsFreeByte, IsEntryOut, IsPoolSound, HasNoMore}
 use Rattle.pa_lists.proofs.Indexed.{slice_get_at}
 
--- the list with the entry more, in numbers
+-- the list with the additional entry, in numbers
 pub list_grows : (es : List PoolEntry) (e : PoolEntry) (before after : List Made) (m : Made) → map (λ (x : Made). x.numbers) before ≡ map pool_numbers es → after ≡ before ++ m ∷ [] → m.numbers ≡ pool_numbers e →
     map (λ (x : Made). x.numbers) after ≡ map pool_numbers (es ++ e ∷ [])
 list_grows es e before after m same is says =

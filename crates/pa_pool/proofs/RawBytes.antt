@@ -69,7 +69,7 @@ given_other first count index v b out =
     let y = sum_same (λ (r : RawRange). one (has_byte r b)) (λ (r : RawRange). amount (RawByte b) (raw_piece r)) (inside a e v.raws) (λ r. refl) in
     omega arith
 
--- the note has what is asked of it
+-- the note has what is required of it
 pub given_raw : (first count index floor b : ℕ) (v : View) → IsByteOf first count b → 0 < low_of v b floor → 0 < low_of (given_after (run_parcel first count index) v) b floor
 given_raw first count index floor b v within has = let e = given_low first count index b floor v within in omega arith
 

@@ -107,7 +107,7 @@ idle_here Copy t words after views i v w k at_i has can owns few held some_idle 
     ]) in
     absurd (omega arith)
 
--- the logs of the view after a counted step have its entry more
+-- the logs of the view after a counted step have one more entry
 count_logged : (step : Step) (t : Title) (word : ℕ) (v : View) → HasStake v → (weight : Entry → ℕ) →
     logged_of (after_count step t word v) weight ≡ logged_of v weight + weight (entry_of step t word v)
 count_logged step t word v has weight =

@@ -40,7 +40,7 @@ module _ {A : Type 0} where
       go true again = (h x e.0, e.1)
       go false again = (e.0, again)
 
--- what a log entered, with one entry more
+-- what a log entered, with one more entry
 pub entered_more : (k : ℕ) (log : List Entry) (e : Entry) → entered_in k (log ++ e ∷ []) ≡ entered_in k log ++ entry_in k e
 entered_more k [] e = append_nil (entry_in k e)
   where

@@ -17,7 +17,7 @@ use Rattle.pa_region.specs.Moves.{noted, changed}
 use Rattle.pa_region.proofs.Adding.{sum_set, one_eq}
 use Rattle.pa_region.proofs.Entering.{least_there, with_entry_last}
 
--- an entry more makes one pair more, with the entry that was the last
+-- one more entry makes one pair more, with the entry that was the last
 pub pairs_more : (weight : Entry → Entry → ℕ) (log : List Entry) (e : Entry) → pairs weight (log ++ e ∷ []) ≡ pairs weight log + weight_after weight (last_entry log) e
 pairs_more weight [] e = refl
 pairs_more weight (a ∷ []) e = omega arith

@@ -19,7 +19,7 @@ use Rattle.pa_legal.specs.Numbers.{is_of, moves_of, at_end, at_after, HasAt, IsN
 use Rattle.pa_legal.proofs.Growing.{numbers_grow}
 use Rattle.pa_root.specs.Handing.{numbered_by}
 
--- the slot's moves in a journal with an entry more: those before, and those of the entry
+-- the slot's moves in a journal with one more entry: those before, and those of the entry
 pub moves_more : (journal : List RootEntry) (e : RootEntry) (name : SlotName) →
     moves_of (journal ++ e ∷ []) name ≡ moves_of journal name ++ filter (is_of name) (moves_by e.line e.act)
 moves_more journal e name =

@@ -59,7 +59,7 @@ MadeIsWhole = (r : Root) (t : Title) → IsSound r → IsMade r t → IsWellForm
 abbrev pub after_entry : View → RootEntry → RootState → RootState
 after_entry x e s = record { view = x; journal = s.journal ++ e ∷ []; root = root_next (pools_seen x) e.act s.root }
 
--- the list of keeper p has the entry more, in numbers
+-- the list of keeper p has the additional entry, in numbers
 abbrev pub HasEntryMore : ℕ → RootEntry → View → View → Type 0
 HasEntryMore p e v x = (m : Made) × (list_of p x ≡ list_of p v ++ m ∷ []) × (m.numbers ≡ root_numbers e)
 

@@ -44,7 +44,7 @@ fn a_slot_is_issued_and_pointed_to(rt: HostRuntime) -> Result<(), Fail> {
     Ok(())
 }
 
-// A reset by whoever has the seat, which is handed on.
+// A reset with the seat of the caller, which is handed on.
 fn reset_by(region: &Region, seat: Seat, title: Title) -> (Seat, (Word, Fate))
     requires region { seat.region ≡ region.now }
     requires able { CanCount Reset title seat.view }

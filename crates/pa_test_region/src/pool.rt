@@ -40,7 +40,7 @@ const OTHERS: [Mark; 21] = [
     Mark::Keeper(5),
 ];
 
-// What a run of calls answered: the entries and first super pages of its takes, and the entries that gave or refused.
+// What a series of calls returned: the entries and first super pages of its takes, and the entries that gave or refused.
 #[derive(Clone, Copy)]
 struct Answers {
     one: (u32, u32),

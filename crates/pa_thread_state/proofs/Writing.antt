@@ -30,7 +30,7 @@ filled_view v t value word = after_count steps.Write t word (filled t value v)
 abbrev pub filled_stock : StockValue → Handle → ℕ → ℕ → StockValue
 filled_stock s h value word = record s { view = filled_view s.view h.title value word }
 
--- what is asked of the step
+-- what is required of the step
 pub can_tell : StatesAreOwns → OwnsChange → FilledWords → (n : ℕ) (s : StockValue) (value : ℕ) (h : Handle) → IsStock s → HasItsStake s → 0 < s.view.budget →
     IsWellFormed n h.title → length s.view.words ≡ n → CanFill h s → CanCount steps.Write h.title (filled h.title value s.view)
 can_tell states owns fills n s value h is stake budget well long can =

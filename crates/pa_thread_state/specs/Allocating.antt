@@ -100,7 +100,7 @@ pub record MapsTitle (line p len : ℕ) (t : Title) (before after : StockValue) 
   pub long : length asked.words ≡ length note.words
   pub after_is : after ≡ record before { view = united asked note }
 
--- What a root that gives nothing says to a seat: entry j of its journal says that there's no room; or there was no memory, and
+-- What a root that gives nothing says to a seat: entry j of its journal says that there's no room; or it ran out of memory, and
 -- nothing changed.
 abbrev pub GivesNone : (r line p count : ℕ) → Option ℕ → (before after : Share) → FillFault → Type 0
 GivesNone r line p count class before after (Full j) = IsFullFor j r p line count class before.view after.view

@@ -1,4 +1,4 @@
--- What single calls of a worker's seat make of its thread state.
+-- How single calls of a worker's seat change its thread state.
 use Rattle.std.specs.Prelude.{◌≡◌, ℕ, ◌+◌, ◌<◌, ◌≤◌, Bool, true, false, List, ◌∷◌, length, Some, Contains, slice_set}
 use Rattle.pa_machine.specs.declared.title.Title.{Title}
 use Rattle.pa_machine.specs.declared.word.Step.{Step}

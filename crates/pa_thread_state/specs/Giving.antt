@@ -1,4 +1,4 @@
--- Titles that go back to the root of their partition: what that leaves of a worker's thread state, and what was entered for it.
+-- Titles that go back to the root of their partition: how that changes a worker's thread state, and what was entered for it.
 use Rattle.std.specs.Prelude.{◌≡◌, ℕ, ◌<◌, ◌≤◌, ◌==◌, ◌&&◌, ◌++◌, List, [], ◌∷◌, map, take, drop, Contains, if◌then◌else◌}
 use Rattle.pa_machine.specs.declared.title.Title.{Title}
 use Rattle.pa_machine.specs.Titles.{IsWellFormed}

@@ -1,4 +1,4 @@
--- What a reset or a free makes of a thread state, with what becomes of a slot that its step returns.
+-- How a reset or a free changes a thread state, and what becomes of a slot that its step returns.
 use Rattle.std.specs.Prelude.{◌≡◌, ℕ, ◌⊎◌, true}
 use Rattle.pa_machine.specs.declared.word.Step.{Step}
 use Rattle.pa_machine.specs.Run.{IsReturning}

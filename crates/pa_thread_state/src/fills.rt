@@ -26,7 +26,7 @@ use pa_root::FillFault;
 use std::sync::Wait;
 
 impl<N: Name> Stock<N> {
-    /// Fills the empty list of a partition and a class, on this line, from its root. The first title that it brings is answered,
+    /// Fills the empty list of a partition and a class, on this line, from its root. It returns the first title that came,
     /// and the others are the list then. If it runs out of memory, nothing changed.
     pub fn fill_list<R: Wait>(
         &mut self,

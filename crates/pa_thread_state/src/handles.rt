@@ -41,7 +41,7 @@ impl<N: Name> Stock<N> {
         }
     }
 
-    /// Reads a word of the slot, by its number from 0, right after a look at it.
+    /// Reads a word of the slot, by its index from 0, right after a look at it.
     pub fn read_word(
         &mut self,
         region: &Region,

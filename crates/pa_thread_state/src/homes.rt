@@ -138,7 +138,7 @@ impl<N: Name> Stock<N> {
         to_root(rt, heap, &mut self.seat, line, note, handle)
     }
 
-    // Takes a note with free titles alone.
+    // Takes in a note that has free titles and nothing else.
     fn take_back(&mut self, heap: &Heap<N>, note: Note)
         requires note { note.region ≡ N.region }
         requires has { (ts : List Title) × HasOnly ts note.view }

@@ -41,7 +41,7 @@ impl<N: Name> Stock<N> {
         self.caches[place].len()
     }
 
-    // Whether the list of a partition and a class has room for one title more.
+    // Whether the list of a partition and a class has room for one more title.
     pub(crate) fn room(&self, partition: u32, class: Class) -> bool
         requires { partition < most_partitions }
         ensures room { IsTrue result ↔ (length (titles_in self.now.caches partition class) < limit_of class) }
@@ -101,7 +101,7 @@ impl<N: Name> Stock<N> {
     }
 }
 
-// The class of this number.
+// The class with this number.
 pub(crate) fn class_numbered(number: u32) -> Class
     requires { number < class_count }
     ensures { result ≡ number }

@@ -15,7 +15,7 @@ use pa_region::{Name, Region, counted_steps_leave, filled_words_have_the_value};
 use pa_rules::Register;
 
 impl<N: Name> Stock<N> {
-    /// Takes the front of the list of a partition and a class off it. `None` if and only if it is empty.
+    /// Takes the front title off the list of a partition and a class, or returns `None` if and only if the list is empty.
     pub fn pop(&mut self, region: &Region, partition: u32, class: Class) -> Option<Title>
         requires region { region.now ≡ N.region }
         requires partition { partition < most_partitions }

@@ -1,4 +1,4 @@
--- The worked run of two threads, with each of the three answers of its read, meets at once what all layers are asked.
+-- The worked run of two threads, with each of the three answers of its read, meets the obligations of all layers at once.
 use Rattle.std.proofs.Common.{◌≡◌, ℕ, ◌<◌, ◌≤◌, false, List, [], rules, refl, sym, ap, subst, arith, inl, inr}
 use Rattle.std.specs.Prelude.{Some, None, ◌++◌, take, drop, Contains}
 use Rattle.std.specs.List.{AllByRecursion as Each}
@@ -54,7 +54,7 @@ pub record IsCounted (ps : List Played) (n : ℕ) (live quarantined : Tally) : T
   pub lives : (homes sizes : SlotName → ℕ) → homes the_slot ≡ 0 → sizes the_slot ≡ 16 → IsLeftBy issues frees homes sizes 0 2 (until n ps) live
   pub waits : (homes sizes : SlotName → ℕ) → homes the_slot ≡ 0 → sizes the_slot ≡ 16 → IsLeftBy enters leaves homes sizes 0 2 (until n ps) quarantined
 
--- What is asked of the answer of the read: its log segment, what seats had seen, what is known at each phase's end, its rows, and the
+-- What is required of the answer of the read: its log segment, what seats had seen, what is known at each phase's end, its rows, and the
 -- counts of steps.
 pub record ReadFits (answer : Answer) (word value after : ℕ) (ts : List ToldRecord) : Type 0 where
   pub told : (sizes : SlotName → ℕ) → sizes the_slot ≡ 16 → IsTold sizes (told_record (so_read answer word value after))
@@ -239,7 +239,7 @@ module _ (answer : Answer) (word value after : ℕ) (fits : ReadFits answer word
 abbrev IsLook : Answer → ℕ → Type 0
 IsLook answer word = mark_of (record { line = 8; thread = 1; phase = 2; op = ops.Read 0 0; answer = answer }) ≡ Some (record { line = 8; slot = the_slot; found = word; step = None })
 
--- What is asked of the answer by itself: it is a look, and in a register's row and in the lists it changes nothing. The rest follows
+-- What is required of the answer by itself: it is a look, and in a register's row and in the lists it changes nothing. The rest follows
 -- from what is known of logs and of what was seen.
 pub fits : (answer : Answer) (word value after : ℕ) → IsLook answer word →
     ((sizes : SlotName → ℕ) → sizes the_slot ≡ 16 → IsTold sizes (told_record (so_read answer word value after))) →

@@ -1,4 +1,4 @@
--- The worked run of two threads is closed: its seat is what it is asked to be, so the words at the end hold the run.
+-- The worked run of two threads is closed: its seat is as required, so the words at the end hold the run.
 use Rattle.std.proofs.Common.{◌≡◌, ℕ, zero, suc, ◌<◌, List, [], ◌∷◌, map, refl, sym, ◌∙◌, ap, subst, arith, inl, inr}
 use Rattle.std.specs.Prelude.{Contains}
 use Rattle.std.proofs.lemmas.Bool.{cases_eq}

@@ -1,4 +1,4 @@
--- The lists of a worked run meet what is asked of lists, by tests that compute.
+-- The lists of a worked run meet what is required of lists, by tests that compute.
 use Rattle.std.proofs.Common.{◌≡◌, ℕ, zero, suc, ◌<◌, ◌≤◌, ◌⊎◌, Bool, true, eqb, ltb, List, [], ◌∷◌, ◌++◌, filter, map, Some, lit<, refl, sym, ◌∙◌, ap, subst, arith, inl, inr}
 use Rattle.std.specs.Prelude.{◌≢◌}
 use Rattle.std.specs.List.{list_all}

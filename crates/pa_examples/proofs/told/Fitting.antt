@@ -1,4 +1,4 @@
--- The lists of the worked runs meet what is asked of lists.
+-- The lists of the worked runs meet what is required of lists.
 use Rattle.std.proofs.Common.{◌≡◌, ℕ, zero, suc, ◌<◌, ◌≤◌, eqb, List, [], ◌∷◌, filter, map, slice_get, Some, None, length, lit≤, lit<, refl, sym, ◌∙◌, ap, subst, arith, inl, inr}
 use Rattle.std.specs.Prelude.{Contains, take, drop}
 use Rattle.std.proofs.lemmas.Bool.{cases_Bool, cases_eq, ne_eqb}

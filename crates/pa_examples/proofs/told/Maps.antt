@@ -1,4 +1,4 @@
--- The worked run of direct maps meets all that is asked of annotated records.
+-- The worked run of direct maps meets all that is required of annotated records.
 use Rattle.std.proofs.Common.{◌≡◌, ℕ, ◌<◌, Bool, false, ◌⊎◌, List, [], ◌∷◌, map, lit<, lit≤, refl, sym, ◌∙◌, ap, subst, arith, inl, inr}
 use Rattle.std.specs.Prelude.{Contains, if◌then◌else◌}
 use Rattle.pa_machine.specs.declared.title.Title.{Title}

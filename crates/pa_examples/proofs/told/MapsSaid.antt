@@ -1,4 +1,4 @@
--- The worked run of direct maps meets at once what all layers are asked.
+-- The worked run of direct maps meets the obligations of all layers at once.
 use Rattle.std.proofs.Common.{◌≡◌, ℕ, ◌<◌, ◌≤◌, List, [], ◌∷◌, filter, map, take, drop, None, lit<, lit≤, refl, rules, sym, ◌∙◌, subst, arith, inl, inr}
 use Rattle.std.specs.Prelude.{◌==◌, if◌then◌else◌, Contains}
 use Rattle.std.specs.List.{AllByRecursion as Each}

@@ -1,4 +1,4 @@
--- The worked run with a purge meets all that is asked of annotated records.
+-- The worked run with a purge meets all that is required of annotated records.
 use Rattle.std.proofs.Common.{◌≡◌, ℕ, ◌<◌, Bool, false, List, [], ◌∷◌, map, lit<, refl, sym, ◌∙◌, ap, subst, arith}
 use Rattle.std.specs.Prelude.{Contains}
 use Rattle.pa_machine.specs.declared.title.Title.{Title}

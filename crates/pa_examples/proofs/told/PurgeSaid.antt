@@ -1,4 +1,4 @@
--- The worked run with a purge meets at once what all layers are asked.
+-- The worked run with a purge meets the obligations of all layers at once.
 use Rattle.std.proofs.Common.{◌≡◌, ℕ, ◌<◌, ◌≤◌, [], ◌∷◌, filter, take, drop, lit<, lit≤, refl, rules, sym, subst, arith, inl, inr}
 use Rattle.std.specs.Prelude.{Contains}
 use Rattle.std.specs.List.{AllByRecursion as Each}

@@ -1,4 +1,4 @@
--- The worked run of two threads meets all that is asked of annotated records.
+-- The worked run of two threads meets all that is required of annotated records.
 use Rattle.std.proofs.Common.{◌≡◌, ℕ, zero, suc, ◌<◌, ◌⊎◌, Bool, true, false, ◌&&◌, eqb, List, [], ◌∷◌, map, lit<, lit≤, add-one, refl, sym, ◌∙◌, ap, subst, arith, inl, inr}
 use Rattle.std.proofs.lemmas.Bool.{true≢false, eqb-true, eq-eqb, and_from, cases_lt, cases_Bool}
 use Rattle.pa_machine.specs.declared.title.Title.{Title}
@@ -47,7 +47,7 @@ use Rattle.pa_examples.proofs.told.Alone.{of_run}
 use Rattle.pa_examples.proofs.told.Knowing.{below, of_thread, IsOfOne, knows_one}
 use Rattle.pa_examples.proofs.told.Seen.{viewed}
 
--- each log segment is what its answer asks for
+-- each log segment is what its answer requires
 told : AreTold sixteen threads_told
 told x among = each (IsTold sixteen) threads_told (
   (([], tt, refl), refl),

@@ -1,4 +1,4 @@
--- The looks of the worked runs of direct maps and of two threads find words in use, so what is asked of a run is known of both.
+-- The looks of the worked runs of direct maps and of two threads find words in use, so what is required of a run is known of both.
 use Rattle.std.proofs.Common.{◌≡◌, ℕ, ◌+◌, Bool, true, List, Option, Some, None, map, refl, sym, ◌∙◌, ap, subst}
 use Rattle.std.specs.Prelude.{Contains, nat_lt}
 use Rattle.std.specs.List.{list_all}

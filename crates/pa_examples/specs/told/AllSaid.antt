@@ -1,4 +1,4 @@
--- The worked run of two threads, with each of the three answers that its read may give, meets at once what all layers are asked.
+-- The worked run of two threads, with each of the three answers that its read may give, meets the obligations of all layers at once.
 use Rattle.std.specs.Prelude.{ℕ, suc, ◌+◌, ◌*◌, List, [], ◌∷◌, ◌++◌, ◌==◌, map, take, drop, if◌then◌else◌}
 use Rattle.pa_machine.specs.declared.title.Title.{Title}
 use Rattle.pa_region.specs.declared.view.Made.{Made}

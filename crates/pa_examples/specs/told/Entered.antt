@@ -1,4 +1,4 @@
--- The lists of the worked runs, and that they meet what is asked of lists.
+-- The lists of the worked runs, and that they meet what is required of lists.
 use Rattle.std.specs.Prelude.{ℕ, ◌<◌, List, [], ◌∷◌, map, slice_index_or}
 use Rattle.pa_record.specs.declared.history.CellEntry.{CellEntry}
 use Rattle.pa_record.specs.declared.pool.PoolEntry.{PoolEntry}
@@ -28,7 +28,7 @@ in_pool e = record { stake = 0; numbers = pool_numbers e; seen = [] }
 abbrev pub lists_of : List RootEntry → List PoolEntry → List Made → ℕ → List Made
 lists_of journal pools swaps q = slice_index_or (map in_root journal ∷ [] ∷ [] ∷ [] ∷ map in_pool pools ∷ swaps ∷ []) q []
 
--- The lists of a run meet what is asked of them.
+-- The lists of a run meet what is required of them.
 --   lists_are: each is that of the records, and in numbers the journal of its partition, or the pool's entries
 --   cuts: at each phase's end it was a beginning, and that of the records so far
 --   asked: each record asked the pool at most once, and then names its entry there by the index
@@ -53,7 +53,7 @@ threads_lists = lists_of two_threads_journal two_threads_pool (map (λ (s : Swap
 abbrev pub threads_cells : ℕ → List CellEntry
 threads_cells = history_at (two_threads_history ∷ [])
 
--- the lists of the run of two threads, and what is asked of the cells' list besides
+-- the lists of the run of two threads, and what is required of the cells' list besides
 pub record TwoThreadsHaveLists : Type 0 where
   pub lists : ListsFit threads_lists two_threads_pool (journal_at (two_threads_journal ∷ [])) threads_told
   pub swapped : AreSwapped (threads_lists 5) threads_cells threads_swaps threads_told

@@ -1,5 +1,5 @@
--- The worked runs of one thread, with a purge and with direct maps, meet at once what all layers are asked; and the seats that close
--- them are what they are asked to be.
+-- The worked runs of one thread, with a purge and with direct maps, meet the obligations of all layers at once; and the seats that close
+-- them are as required.
 use Rattle.std.specs.Prelude.{ℕ, List, [], ◌∷◌, map, false}
 use Rattle.pa_machine.specs.declared.title.Title.{Title}
 use Rattle.pa_machine.specs.declared.title.OwnState.TheVariants.{Clean}

@@ -1,5 +1,5 @@
 -- The worked run of two threads with each of the other two answers that its read may give: the content, and that the slot was
--- freed. What is asked of logs and of what was seen is met by both.
+-- freed. Both meet what is required of logs and of what was seen.
 use Rattle.std.specs.Prelude.{ℕ, List, [], ◌∷◌, ◌++◌, take, drop, false}
 use Rattle.pa_region.specs.declared.view.Entry.{Entry}
 use Rattle.pa_region.specs.declared.view.Entry.TheVariants.{Looked, Read}
@@ -39,7 +39,7 @@ freed_read = read_with (answers.Dangling (seen_at 16384 0 0x3000002) poison) (re
 abbrev pub reading_so : Worked → List ToldRecord
 reading_so read = told_records (take 5 threads_worked ++ (read ∷ drop 6 threads_worked))
 
--- What is asked of logs and of what was seen is met by these records.
+-- These records meet what is required of logs and of what was seen.
 pub record LogsFit (ts : List ToldRecord) : Type 0 where
   pub told : AreTold sixteen ts
   pub last : KnowsAll (view_of ts) ts
