@@ -21,7 +21,7 @@ pub record IsWholeRun (t : Trace) (r : Told) (c : Course) (v : View) (xs : List 
   pub closes : Closes (c.seats (phases_in t.lines)) v
   pub left : IsLeftBehind t r v (told_in t c) xs
 
--- Then each layer meets its obligations.
+-- Then each layer meets its obligations: the ops of workers, the runner, the pool, the roots and the cells.
 abbrev pub CoursesTellHeap : Type 0
 CoursesTellHeap =
     (t : Trace) (r : Told) (c : Course) (v : View) (xs : List Exchange) → IsWholeRun t r c v xs →

@@ -36,7 +36,7 @@ use Rattle.pa_heap.proofs.Looking.{looked_does}
 use Rattle.pa_op_specs.proofs.Quiet.{quiet_does}
 use Rattle.pa_thread_state.proofs.Writing.{can_tell, filled_stock, filled_view}
 
--- an owner may write where a look found no raw_ptr
+-- an owner may write if a look found no raw_ptr
 pub can_fill : LookLeaves → OwnsChange → (s : StockValue) (reg word : ℕ) (h : Handle) → IsStock s → HasItsStake s → reg < 64 →
     register_in s.registers reg ≡ Own h → refs_of word ≡ 0 → CanFill h (record s { view = after_look h.title word s.view })
 can_fill looks owns s reg word h is stake below own none =

@@ -27,7 +27,7 @@ taken_stays : (p : ℕ) (v x : View) (t : Title) → SeesMore v x →
     (first : ℕ) × (t.start ≡ page_place first 1) × HasSeenTake p t.born first (supers_for t.len) x
 taken_stays p v x t more (first, start, seen) = (first, start, seen_stays p t.born first (supers_for t.len) v x more.pool seen)
 
--- An entry goes on where its seat sees more, each direct map stays mapped or was uncut, and what the entry maps is mapped; and what is
+-- An entry goes on if its seat sees more, each direct map stays mapped or was uncut, and what the entry maps is mapped; and what is
 -- mapped besides has its take.
 pub maps_go_on : (p : ℕ) (s : RootState) (x : View) (e : RootEntry) (after : Root) → KnowsMaps p s → SeesMore s.view x →
     ((t : Title) → Contains s.root.maps t → Contains after.maps t ⊎ (0 < undone_of x t)) →

@@ -70,7 +70,7 @@ tell_more k before now first seat next d w telling few has is' none took' aware 
       };
     }
 
--- what the next worker needs to tell
+-- what the next worker needs to hand its stake over
 pub tell_ready : (k : ℕ) (before now : List WorkerValue) (first seat : View) (d : WorkerValue) → IsTelling k before now first seat → k < length before → HaveStakes before →
     0 < stake_of (get_or now k d).stock.view (get_or now k d).stock.thread
 tell_ready k before now first seat d telling few has =
@@ -124,7 +124,7 @@ hear_more k before now whole seat next d w hearing few is' lists' left =
       };
     }
 
--- what the next worker needs to hear
+-- what the next worker needs to get its stake back
 pub hear_ready : (k : ℕ) (before now : List WorkerValue) (whole seat : View) (d : WorkerValue) → IsHearing k before now whole seat → k < length before → length before ≤ 16 → HasEveryStake whole →
     HaveNone before → ((get_or now k d).stock.thread ≡ k) × (0 < stake_of seat k) × ((j : ℕ) → stake_of (get_or now k d).stock.view j ≡ 0)
 hear_ready k before now whole seat d hearing few small every none =

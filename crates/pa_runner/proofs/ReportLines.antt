@@ -76,7 +76,7 @@ module _ (threads : ℕ) (workers others : ℕ → WorkerValue) (same : HaveTheS
     root = line.root;
   }
 
--- workers that told have the same as before
+-- workers that handed their stakes over have the same as before
 told_same : (threads : ℕ) (ends after : List WorkerValue) → HaveTold threads ends after → HaveTheSame threads (worker_in after) (worker_in ends)
 told_same threads ends after told = record {
   counts = λ k low. sym (ap (λ (w : WorkerValue). w.counts) (told.told k low));

@@ -31,7 +31,7 @@ pub record HasPlayed (t : Trace) (workers : List WorkerValue) (seat : View) (rep
   pub places : map (λ (l : ReportLine). (l.phase, l.partition)) report ≡ phases_of t.partitions 1 (phases_in t.lines)
   pub right : (l : ReportLine) → Contains report l → IsLineFor l.phase t.threads (course.ends l.phase) (course.seats l.phase) l
 
--- The run is a legal run of the trace, the closed region holds it, whose words are all those of its super pages, and it can be
+-- The run is a legal run of the trace, the words are all those of the closed region's super pages and hold the run, and it can be
 -- printed.
 pub record IsHeldRun (t : Trace) (run : Run) (words : List ℕ) : Type 0 where
   pub legal : IsLegal t run

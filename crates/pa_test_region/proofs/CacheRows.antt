@@ -41,7 +41,7 @@ row_new n v c row there =
     let below : 16384 + 16 * n < 16384 + 16 * n = All-contains (λ (t : Title). t.start < 16384 + 16 * n) c.titles (row_slot n) row.before there in
     omega arith
 
--- the row after it was cut and put in front
+-- the row after one more was cut and put at the front
 pub row_next : (n : ℕ) (v : View) (c : CacheList) → IsRowCut n v c → IsRowCut (n + 1) (after_cut (row_slot n) v) (record { class = c.class; titles = row_slot n ∷ c.titles })
 row_next n v c row = record {
   class = row.class;

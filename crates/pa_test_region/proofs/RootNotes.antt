@@ -91,7 +91,7 @@ mapped_back r p line len v after now note own t s s_now told shown =
       );
     }
 
--- all that neither the root's seat nor the pool's has; who gets it can lend a stake
+-- all that neither the root's seat nor the pool's has; a seat that gets it can lend a stake
 abbrev pub others : List Mark
 others =
     Stake 0 ∷ Stake 1 ∷ Stake 2 ∷ Stake 3 ∷ Stake 4 ∷ Stake 5 ∷ Stake 6 ∷ Stake 7 ∷ Stake 8 ∷ Stake 9 ∷ Stake 10 ∷ Stake 11 ∷ Stake 12 ∷ Stake 13 ∷ Stake 14 ∷ Stake 15 ∷ Keeper 1 ∷ Keeper 2 ∷ Keeper 3

@@ -1,4 +1,4 @@
--- The exchange of a cell, behind its lock.
+-- The exchange of a cell, under its lock.
 use Rattle.std.proofs.Common.{◌≡◌, ℕ, [], ◌∷◌, length, Option, refl, sym, ◌∙◌, ap, subst}
 use Rattle.pa_region.specs.declared.view.Entry.TheVariants.{Entered}
 use Rattle.pa_region.specs.declared.view.View.{View}
@@ -10,7 +10,7 @@ use Rattle.pa_cells.specs.Cells.{CellsHeld, MakesExchange, cell_holds, exchange_
 use Rattle.pa_op_specs.specs.Stocks.{StockValue}
 use Rattle.pa_thread_state.specs.Exchanging.{SwapsHandles}
 
--- the exchange behind the lock, by what the call of the cells says
+-- the exchange under the lock, by what the call of the cells says
 pub exchanges_is : {old new : CellsHeld} → (line cell index : ℕ) (given found : Option ParkedHandle) (s : StockValue) (w : View) → least_stake s.view.stakes ≡ s.thread →
     MakesExchange line cell given s.view w old new → index ≡ length (made_with_cell cell (list_of 5 old.view)) → found ≡ cell_holds old.parked cell →
     SwapsHandles line cell given found index s (record s { view = w })
