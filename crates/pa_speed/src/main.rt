@@ -44,7 +44,7 @@ fn measured(rt: &HostRuntime) -> Option<u64> {
     }
 }
 
-// Reads the trace this many times. Tells the bytes that were read.
+// Reads the trace this many times. Returns how many bytes were read.
 fn read_again(alloc: Global, bytes: &[u8], times: u32) -> Option<u64>
     ensures { IfSome result (λ total. total ≡ times * length bytes.now) }
 {
@@ -56,7 +56,7 @@ fn read_again(alloc: Global, bytes: &[u8], times: u32) -> Option<u64>
     Some(total)
 }
 
-// Writes the trace this many times. Tells the bytes that were written.
+// Writes the trace this many times. Returns how many bytes were written.
 fn write_again(alloc: Global, trace: &Trace, times: u32) -> Option<u64>
     requires { IsWithinLimits trace.now }
     ensures { IfSome result (λ total. (text : List ℕ) → IsTraceText trace.now text → total ≡ times * length text) }
@@ -71,7 +71,7 @@ fn write_again(alloc: Global, trace: &Trace, times: u32) -> Option<u64>
     Some(total)
 }
 
-// Plays the trace, and writes the text of its run this many times. Tells the bytes that were written.
+// Plays the trace, and writes the text of its run this many times. Returns how many bytes were written.
 fn write_run_again(alloc: Global, trace: &Trace, times: u32) -> Option<u64>
     requires { IsWithinLimits trace.now }
 {
