@@ -19,7 +19,7 @@ use Rattle.pa_rules.specs.Places.{line_at}
 use Rattle.pa_rules.specs.Verdicts.{Demand, FailsAt, Holds, IsVerdict}
 use Rattle.pa_dense.specs.Lists.{HasListsOf}
 
--- what is told is made of the lists
+-- what is reported is made of the lists
 abbrev told_of : List Entry → List (List RootEntry) → List PoolEntry → List (List CellEntry) → List ReportLine → Told
 told_of es rs ps cs ls = record { entries = es; roots = λ p. slice_index_or rs p []; pools = ps; cells = λ k. slice_index_or cs k []; report = ls }
 

@@ -17,7 +17,7 @@ use Rattle.pa_rules.specs.Verdicts.{Demand}
 use Rattle.pa_audit.specs.Lined.{TellsLine}
 use Rattle.pa_audit.specs.Placed.{IsThere, Precedes, TellsPlace}
 
--- ---- places in lists one behind the other
+-- ---- places in lists one after the other
 
 -- the list of a place is there
 pub list_there : {A : Type 0} (xs : List (List A)) (p j : ℕ) → j < length (get_or xs p []) → p < length xs
@@ -33,7 +33,7 @@ within_all xs p j less = let most = sum_by_more_le length xs p [] (list_there xs
 sum_up : {A : Type 0} (xs : List (List A)) (p q : ℕ) → p ≤ q → sum_by length (take p xs) ≤ sum_by length (take q xs)
 sum_up xs p q less = subst (λ zs. sum_by length zs ≤ sum_by length (take q xs)) (take-take p q xs less) (sum_by-take-le length (take q xs) p)
 
--- what stands on a lower line stands above
+-- what is on a lower line comes above
 pub above_at : {A : Type 0} (xs : List (List A)) (q i p j : ℕ) → i < length (get_or xs q []) → j < length (get_or xs p []) →
     sum_by length (take q xs) + i < sum_by length (take p xs) + j → IsAbove q i p j
 above_at xs q i p j there there' less = elim (cases_order q p) [

@@ -65,7 +65,7 @@ pool_told supers ps pools roots None tells = all_told (PoolDemand supers ps pool
   report = λ i. tt;
 })
 
--- ---- cells: of records, and of exchanges behind them
+-- ---- cells: of records, and of exchanges after them
 
 pub swap_told : (cells : ℕ → List CellEntry) (ps : List Played) (at : ℕ) → TellsFirst (λ i. CellsDemand cells ps (places.Record i)) (Some at) → TellsPlace (CellsDemand cells ps) (Some (places.Record at))
 swap_told cells ps at (unmet, before) = (unmet, above_record (CellsDemand cells ps) at before)
@@ -91,7 +91,7 @@ exchanges_all cells ps records tells = all_told (CellsDemand cells ps) (record {
   report = λ i. tt;
 })
 
--- ---- roots: of records, and of the journals' entries behind them
+-- ---- roots: of records, and of the journals' entries after them
 
 pub refusal_told : (partitions : ℕ) (ps : List Played) (pools : List PoolEntry) (roots : Journals) (at : ℕ) → TellsFirst (λ i. RootsDemand partitions ps pools roots (places.Record i)) (Some at) →
     TellsPlace (RootsDemand partitions ps pools roots) (Some (places.Record at))

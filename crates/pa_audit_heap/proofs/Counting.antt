@@ -101,7 +101,7 @@ counted_more phases ps pools es e x censuses h of = record {
   all = h.all;
 }
 
--- all phases are over behind the last entry
+-- all phases are over after the last entry
 pub counted_all : (phases : ℕ) (ps : List Played) (pools : List PoolEntry) (es : List RootEntry) (last : ℕ) (before after : List Census) (c : Census)
     → AreCounted phases ps pools es last before → AreFilledUp c phases before after → c ≡ census (root_replayed pools es new_root)
     → AreCounted phases ps pools es (max last (phases + 1)) after × (length after ≡ phases)

@@ -124,7 +124,7 @@ meets_alone partitions ps pools roots es p j same demand =
 pub meets_past : (partitions : ℕ) (ps : List Played) (pools : List PoolEntry) (roots : Journals) (p j : ℕ) → length (roots p) ≤ j → RootsDemand partitions ps pools roots (places.Root p j)
 meets_past partitions ps pools roots p j past e is = absurd (none_past (roots p) j e past is)
 
--- a journal behind the last one has no entry
+-- a journal after the last one has no entry
 pub none_behind : (partitions : ℕ) (ps : List Played) (pools : List PoolEntry) (roots : List (List RootEntry)) (p j : ℕ) → length roots ≤ p
     → RootsDemand partitions ps pools (journal_at roots) (places.Root p j)
 none_behind partitions ps pools roots p j past e is = absurd ((all_journals roots).above p past j e is)

@@ -75,7 +75,7 @@ naming_more roots q n j f (Once partition line) is asks (i, e, above, is', asked
 naming_more roots q n j f Again is asks (p, i, s, k, first, second, differ) =
     (p, i, s, k, (above_more p i q n first.0, first.1), (above_more s k q n second.0, second.1), differ)
 
--- the first entry of the next journal stands behind all of this one
+-- the first entry of the next journal comes after all of this one
 pub naming_next : (roots : Journals) (q n j : ℕ) (naming : Naming) → length (roots q) ≤ n → IsNaming roots q n j naming → IsNaming roots (q + 1) 0 j naming
 naming_next roots q n j naming past h = naming_same roots q n (q + 1) 0 j naming
     (λ p i names. (elim names.0 [ inl less ↦ inl (omega arith) | inr (same, less) ↦ inl (omega arith) ], names.1))
@@ -124,7 +124,7 @@ namings_next roots q n size namings past h = record {
   each = λ j within. naming_next roots q n j (get_or namings j Nobody) past (h.each j within);
 }
 
--- an entry of the pool is named as it says exactly where its naming is that
+-- an entry of the pool is named as it says exactly when its naming is that
 pub record HasAll (roots : Journals) (q : ℕ) : Type 0 where
   pub above : (p : ℕ) → q ≤ p → (i : ℕ) (e : RootEntry) → IsEntry roots p i e → ⊥
 
@@ -156,6 +156,6 @@ naming_is roots q j e (Once partition line) all (i, f, above, is, asked, on, onl
     ap (λ s. Once s line) (sym p) ∙ ap (Once e.partition) l
 naming_is roots q j e Again all (p, i, s, k, first, second, differ) named = absurd (differ (named.once p s i k first.1 second.1))
 
--- behind the last journal there are none
+-- after the last journal there are none
 pub all_journals : (roots : List (List RootEntry)) → HasAll (journal_at roots) (length roots)
 all_journals roots = record { above = λ p past i e at. not_some e (subst (λ es. slice_get es i ≡ Some e) (get_or_past roots p [] past) at) }

@@ -36,7 +36,7 @@ order_skips ps lines j n o h at none = record {
   at_phase = elim h.at_phase [ inl zero ↦ inl zero | inr (x, among, phase) ↦ inr (x, among_more ps lines j x among, phase) ];
 }
 
--- a record that is behind the last one
+-- a record that is after the last one
 set_cases : (xs : List ℕ) (i t a : ℕ) → i < length xs → ((t ≡ i) × (get_or (set xs i a) t 0 ≡ a)) ⊎ ((t ≢ i) × (get_or (set xs i a) t 0 ≡ get_or xs t 0))
 set_cases xs i t a within = elim (cases_eq t i) [
   | inl same ↦ inl (same, ap (λ k. get_or (set xs i a) k 0) same ∙ get_or-set_same xs i a 0 within)
@@ -83,7 +83,7 @@ order_enters ps lines j n o x few h at (is, one) behind =
       at_phase = inr (x, itself, refl);
     }
 
--- an entry of a record behind the last one comes in order, and so does one of no record
+-- an entry of a record after the last one comes in order, and so does one of no record
 pub order_met : (ps : List Played) (lines : List ℕ) (j n : ℕ) (o : Order) (x : Played) → HasSeen ps lines j o → slice_get lines j ≡ Some n → IsTheRecord ps n (Some x) → IsBehind o x
     → ComesInOrder ps lines j
 order_met ps lines j n o x h at (is, one) behind i m n' y z at' at'' less among is' among' is'' before =
@@ -101,7 +101,7 @@ order_met ps lines j n o x h at (is, one) behind i m n' y z at' at'' less among 
 pub order_met_none : (ps : List Played) (lines : List ℕ) (j n : ℕ) → slice_get lines j ≡ Some n → ((x : Played) → IsOfLine ps n x → ⊥) → ComesInOrder ps lines j
 order_met_none ps lines j n at none i m n' y z at' at'' less among is' among' is'' before = none z (among', is'' ∙ one_at lines j n' n at'' at)
 
--- one of a record that isn't behind the last one doesn't
+-- one of a record that isn't after the last one doesn't
 pub order_unmet : (ps : List Played) (lines : List ℕ) (j n : ℕ) (o : Order) (x : Played) → HasSeen ps lines j o → slice_get lines j ≡ Some n → IsOfLine ps n x → (IsBehind o x → ⊥)
     → ComesInOrder ps lines j → ⊥
 order_unmet ps lines j n o x h at is ahead met =

@@ -28,7 +28,7 @@ abbrev pub no_played : Played
 no_played =
     record { line = 0; thread = 0; phase = 0; op = ops.Alloc 0 0 0; answer = answers.Made (record { slot = record { start = 0; born = 0 }; found = record { 0 = 0 } }) 0 }
 
--- what the clause asks of a record, and what the test says of it
+-- what the clause requires of a record, and what the test says of it
 abbrev pub NamesFullAt : Journals → List Played → ℕ → Type 0
 NamesFullAt roots ps i = (x : Played) → slice_get ps i ≡ Some x → NamesFull roots x
 

@@ -160,7 +160,7 @@ pub played_all : (partitions : ℕ) (roots : Journals) (ps : List Played) (all :
 played_all partitions roots ps all end None past h = caches_all partitions roots ps all end past h
 played_all partitions roots ps all end (Some i) past h = h
 
--- where none fails they are played
+-- if none fails they are played
 pub played_none : (partitions : ℕ) (roots : Journals) (ps : List Played) (all : Caches) (end : ℕ) (o : Option ℕ) → (IsSome o → ⊥)
     → TellsPlayed partitions roots ps all end o → CachesSoFar partitions roots ps all end
 played_none partitions roots ps all end None none h = h

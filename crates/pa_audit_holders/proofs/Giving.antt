@@ -22,7 +22,7 @@ drop_past xs k past = drop_of_length-le xs past
 pub gives_none : (xs : List Numbered) (k : ℕ) → length xs ≤ k → gives (drop k xs) ≡ []
 gives_none xs k past = ap gives (drop_of_length-le xs past)
 
--- the next batch of a list, and what is left behind it
+-- the next batch of a list, and what is left after it
 pub batch_at : (xs : List Numbered) (from to : ℕ) → from < length xs → to ≡ min (length xs) (from + 16) → gives (drop from xs) ≡ Give (take (to - from) (drop from xs)) ∷ gives (drop to xs)
 batch_at xs from to below is =
     let long = length-drop from xs in
@@ -41,7 +41,7 @@ batch_at xs from to below is =
 
 -- ---- one batch after the other
 
--- From the place `at` on the entries give all slots back exactly where from `next` on they give back those from `from` on.
+-- From the place `at` on the entries give all slots back exactly when from `next` on they give back those from `from` on.
 pub record IsStripped (acts : List RootAct) (at : ℕ) (xs : List Numbered) (from next : ℕ) : Type 0 where
   pub within : next ≤ length acts
   pub onto : (rest : List RootAct) → drop at acts ≡ gives xs ++ rest → drop next acts ≡ gives (drop from xs) ++ rest

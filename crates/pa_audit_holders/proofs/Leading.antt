@@ -25,7 +25,7 @@ use Rattle.pa_audit_holders.specs.Rows.{BackRow, ClassRow, TellsFilled, TellsNex
 same_as : (after cache : Cache) → after ≡ cache → SameLists after cache
 same_as after cache e = λ p c. ap (λ (z : Cache). z p c) e
 
--- a test of the entries alone, where the lists stay
+-- a test of the entries alone, if the lists stay
 pub row_stays : (Row : Cache → Type 0) (May : Type 0) (cache : Cache) (b : Bool) → IsTrue b ↔ May → (May → Row cache) → ((next : Cache) → Row next → May) → TellsRow Row cache b
 row_stays Row May cache true test onto back = onto (test.0 refl)
 row_stays Row May cache false test onto back = λ next row. false≢true (test.1 (back next row))

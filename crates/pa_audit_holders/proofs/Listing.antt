@@ -40,7 +40,7 @@ with_again cache before after p class xs ys first second = second ∙ (λ i q c.
 pub listed : (lists : List (List Numbered)) (p c : ℕ) → c < 59 → cache_in lists p c ≡ get_or lists (59 * p + c) []
 listed lists p c less = rw (lt-ltb c 59 less) refl
 
--- a partition's lists stand in the table
+-- a partition's lists are in the table
 pub listed_within : (lists : List (List Numbered)) (p c : ℕ) → length lists ≡ 236 → p < 4 → c < 59 → 59 * p + c < length lists
 listed_within lists p c many low real = omega (arith, many, low, real)
 

@@ -16,8 +16,8 @@ cancel {X = X} (x ∷ xs) ys zs e = let one : ◌≡◌ {A = List X} (x ∷ (xs 
 
 -- ---- a partition
 
--- From the place `at` on the entries purge the lists from class k on, of which there are n, exactly where all of them purge the
--- partition; and so many slots are left to be counted.
+-- From the place `at` on the entries purge the lists from class k on, of which there are n, exactly when all of them purge the
+-- partition; and that many slots are left to be counted.
 pub record IsPurging (acts : List RootAct) (lists : ℕ → List Numbered) (slots k n at left : ℕ) : Type 0 where
   pub within : at ≤ length acts
   pub low : left ≤ slots

@@ -1,11 +1,11 @@
--- Lists that are gone through until no slot is left in those behind.
+-- Lists that are gone through until no slot is left in those after.
 use Rattle.std.proofs.Common.{◌≡◌, ℕ, zero, suc, ◌+◌, ◌-◌, ◌<◌, ◌≤◌, List, [], length, refl, sym, ◌∙◌, ap, arith, inl, inr}
 use Rattle.std.proofs.lemmas.Bool.{cases_eq}
 use Rattle.std.proofs.lemmas.List.{nil_from_length}
 use Rattle.pa_record.specs.declared.numbered.Numbered.{Numbered}
 use Rattle.pa_rules.specs.Caches.{listed_slots}
 
--- from class k on there are n lists, and they have so many slots
+-- from class k on there are n lists, and they have that many slots
 pub record AreLeft (lists : ℕ → List Numbered) (k n rest : ℕ) : Type 0 where
   pub classes : k + n ≡ 59
   pub slots : rest ≡ listed_slots lists k n
@@ -13,7 +13,7 @@ pub record AreLeft (lists : ℕ → List Numbered) (k n rest : ℕ) : Type 0 whe
 pub left_start : (lists : ℕ → List Numbered) (rest : ℕ) → rest ≡ listed_slots lists 0 59 → AreLeft lists 0 59 rest
 left_start lists rest is = record { classes = refl; slots = is }
 
--- where there are slots there is a list
+-- if there are slots there is a list
 pub left_some : (lists : ℕ → List Numbered) (k n rest : ℕ) → AreLeft lists k n rest → 0 < rest → k < 59
 left_some lists k zero rest h some = let none = h.slots in absurd (omega (arith, none, some))
 left_some lists k (suc n) rest h some = let all = h.classes in omega (arith, all)
@@ -39,7 +39,7 @@ none_from lists k (suc n) none c low high =
       | inr other ↦ none_from lists (k + 1) n (omega (arith, here)) c (omega (arith, low, other)) (omega (arith, high))
     ]
 
--- where no slot is left the lists are empty
+-- if no slot is left the lists are empty
 pub left_none : (lists : ℕ → List Numbered) (k n rest c : ℕ) → AreLeft lists k n rest → rest ≡ 0 → k ≤ c → c < 59 → lists c ≡ []
 left_none lists k n rest c h none low high =
     let all = h.classes in

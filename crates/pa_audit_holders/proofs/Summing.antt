@@ -227,7 +227,7 @@ summed_set lists sums p class xs sum after low real h few there is = record {
           (sum_there (cache_in lists) next p q class xs (get_or sums q no_slots) other becomes (h.each q small))
     ]
 
--- what `set` knows: the class by its number, and how long the list is that stands there
+-- what `set` knows: the class by its number, and how long the list is that is there
 pub part_there : (lists : List (List Numbered)) (sums : List Tally) (p class number before after : ℕ) → AreSummed lists sums → p < 4 → number ≡ class → number < 59 → before ≡ length (get_or lists (59 * p + number) []) → after ≤ 64
     → HasPart (get_or sums p no_slots) class before after
 part_there lists sums p class number before after h low is real long few =

@@ -65,7 +65,7 @@ of_first es j i e less at =
     let long = length-take j es in
     slice_get-get_or (take j es) i e (omega (arith, within, long, less)) ∙ ap Some (get_or-take j es i e less ∙ get_or_from_slice_get es i e e at)
 
--- what the clause asks of an entry
+-- what the clause requires of an entry
 pub entry_demand : (ps : List Played) (roots : Journals) (p j : ℕ) → EntryMovesFitAt ps (roots p) j ↔ ((e : RootEntry) → slice_get (roots p) j ≡ Some e → MovesOfEntryFit ps roots p j e)
 entry_demand ps roots p j = (
   λ each e at. record {

@@ -45,7 +45,7 @@ listed_count at p (xs ∷ lists) =
     let sums = sum_by-cons length xs lists in
     omega (arith, rest, first, long, sums)
 
--- the last one, its end, is the line behind the report
+-- the last one, its end, is the line after the report
 items_count : (r : Run) → length (items_of r) ≡ report_at r + length r.report.items
 items_count r =
     let entries = map (λ e. items.Record e) r.entries.items in

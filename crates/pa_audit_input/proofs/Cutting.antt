@@ -18,7 +18,7 @@ use Rattle.pa_audit_input.specs.Input.{run_line, BeginsRun, IsParted}
 use Rattle.pa_audit_input.specs.Cutting.{joined, IsBehindLine, IsCutAt, IsLastCut}
 use Rattle.pa_audit_input.proofs.Lined.{lines_taken}
 
--- behind an LF, and behind a line that has none
+-- after an LF, and after a line that has none
 pub behind_cut : (bytes line rest : List ℕ) → IsOneLine line → bytes ≡ line ++ 10 ∷ rest → IsBehindLine bytes rest
 behind_cut bytes line rest one e = record {
   line = line ++ 10 ∷ [];
@@ -72,7 +72,7 @@ begins_is : (rest : List ℕ) (r : Bool) → r ≡ starts_with eqb rest run_line
     → (r ≡ true → rest ≡ run_line ++ drop 6 rest) × ((w : List ℕ) → rest ≡ run_line ++ w → r ≡ true)
 begins_is rest r e = starts_is Decides-eqb rest run_line r e
 
--- a text with `run 1` in front, and a text of nothing, begins with the run or has no lines
+-- a text with `run 1` at the start, and a text of nothing, begins with the run or has no lines
 pub text_begins : (rest w : List ℕ) → rest ≡ run_line ++ w → BeginsRun (lines_of rest)
 text_begins rest w e = subst (λ (z : List ℕ). BeginsRun (lines_of z)) (sym e) (subst BeginsRun (sym (item_lines items.Head w)) refl)
 
@@ -115,7 +115,7 @@ pub cut_count : (P : List ℕ → Type 0) (bytes rest front : List ℕ) (n : ℕ
     → n ≡ length (lines_of front)
 cut_count P bytes rest front n c e = c.count ∙ ap length (sym (cut_front P bytes rest front n c e))
 
--- where the rest begins with the run, or is none, these are the parts
+-- if the rest begins with the run, or is none, these are the parts
 pub cut_parted : (bytes rest front back : List ℕ) (n : ℕ) → IsCutAt (λ line. line ≡ run_line → ⊥) bytes rest n → front ≡ take (length bytes - length rest) bytes
     → back ≡ drop (length bytes - length rest) bytes → BeginsRun (lines_of rest) → IsParted front back bytes
 cut_parted bytes rest front back n c e f begins =
@@ -129,7 +129,7 @@ cut_parted bytes rest front back n c e f begins =
       behind = subst (λ (z : List ℕ). BeginsRun (lines_of z)) (sym second) begins;
     }
 
--- where nothing stands behind its line, the rest is the last line
+-- if nothing comes after its line, the rest is the last line
 pub last_at : (bytes rest after whole : List ℕ) (n : ℕ) → IsCutAt (λ line. Unit {0}) bytes rest n → IsBehindLine rest after → after ≡ []
     → whole ≡ take (length bytes - length rest) bytes → IsLastCut bytes whole rest n
 last_at bytes rest after whole n c b none e =

@@ -35,7 +35,7 @@ prefix_of (y ∷ a) b (x ∷ c) d e short =
     let first : y ≡ x = cc in
     (rest.0, ap (λ (z : ℕ). z ∷ a) first ∙ ap (λ (z : List ℕ). x ∷ z) rest.1)
 
--- so many bytes of a text that has as many
+-- that many bytes of a text that has as many
 cut_to : (n : ℕ) (a : List ℕ) → n ≤ length a → (p : List ℕ) × (z : List ℕ) × (a ≡ p ++ z) × (length p ≡ n)
 cut_to zero a short = ([], a, refl, refl)
 cut_to (suc n) [] short = absurd (omega (arith, short))
@@ -45,7 +45,7 @@ cut_to (suc n) (x ∷ a) short =
 
 -- ---- the run's part
 
--- the first line of a text of one line, with more behind it, is at least as long
+-- the first line of a text of one line, with more after it, is at least as long
 abbrev Grows : List ℕ → List ℕ → Type 0
 Grows x more = (y : List ℕ) × (ys : List (List ℕ)) × (lines_of (x ++ more) ≡ y ∷ ys) × (length x ≤ length y)
 
@@ -57,7 +57,7 @@ front_some b (line ∷ lines) =
       | inr other ↦ (b ∷ line, lines, other_front b line lines other, omega arith)
     ]
 
--- a byte that is no LF in front of a line that grows
+-- a byte that is no LF before a line that grows
 front_grows : (b : ℕ) (x more : List ℕ) → (b ≡ 10 → ⊥) → Grows x more → Grows (b ∷ x) more
 unfolding lines_of
 front_grows b x more other h = (b ∷ h.0, h.1, ap (with_front b) h.2 ∙ other_front b h.0 h.1 other, omega (arith, h.3))
@@ -69,7 +69,7 @@ last_stays n before last x y ys e full longer (inl h) = inl (omega (arith, full,
 last_stays n before last x y ys e full longer (inr (inl h)) = absurd (let s = h.0 in omega (arith, s, full))
 last_stays n before last x y ys e full longer (inr (inr h)) = absurd (let s = h.0 in omega (arith, s, full))
 
--- a line that stands before others
+-- a line that comes before others
 later_stays : (n before : ℕ) (last : Option Item) (x : List ℕ) (lines others : List (List ℕ)) (e : TraceFault) → IsFirstOfRun n before last (x ∷ lines) e
     → ((k : Option Item) → before + length x ≤ most_audited → IsFirstOfRun (n + 1) (before + length x) k lines e
     → IsFirstOfRun (n + 1) (before + length x) k others e) → IsFirstOfRun n before last (x ∷ others) e
@@ -77,7 +77,7 @@ later_stays n before last x lines others e (inl h) rest = inl h
 later_stays n before last x lines others e (inr (inl h)) rest = inr (inl h)
 later_stays n before last x lines others e (inr (inr h)) rest = inr (inr (h.0, h.1, h.2, h.3, h.4, rest (Some h.1) h.0 h.5))
 
--- an LF in front is a line
+-- an LF at the start is a line
 lf_splits : (b : ℕ) (lines : List (List ℕ)) (c : ℕ) (x : List ℕ) → b ≡ 10 → with_front b lines ≡ (b ∷ c ∷ x) ∷ [] → ⊥
 lf_splits b lines c x lf e =
     let split : (10 ∷ []) ∷ lines ≡ (b ∷ c ∷ x) ∷ [] = sym (lf_front lines) ∙ ap (λ (z : ℕ). with_front z lines) (sym lf) ∙ e in
@@ -96,7 +96,7 @@ unfolding lines_of
 more_grows b c x more (inl lf) one rest = absurd (lf_splits b (lines_of (c ∷ x)) c x lf one)
 more_grows b c x more (inr other) one rest = front_grows b (c ∷ x) more other (rest (other_whole b (c ∷ x) (lines_of (c ∷ x)) other (λ none. let long : suc (length x) ≡ 0 = ap length (sym (lines_joined (c ∷ x)) ∙ ap joined none) in omega (arith, long)) one))
 
--- a text that is one line, with more behind it
+-- a text that is one line, with more after it
 line_grows : (x more : List ℕ) → lines_of x ≡ x ∷ [] → Grows x more
 unfolding lines_of
 line_grows [] more one = absurd cc
@@ -133,7 +133,7 @@ run_stays (x ∷ w ∷ lines) bytes more n before last e same room full h =
 
 -- ---- all of it
 
--- where the run's part has begun, its fault stays
+-- if the run's part has begun, its fault stays
 begun_fault : (e : TraceFault) (front back more : List ℕ) → length (front ++ back) ≡ most_audited + 1 → IsFirstOfParts e front back
     → IsFirstOfParts e front (back ++ more)
 begun_fault e front back more full (inl h) = inl h

@@ -40,7 +40,7 @@ there_within r (places.Pool j) there = omega (arith, there)
 there_within r (places.Cell k j) there = let bound = within_all r.cells.items k j there in omega (arith, bound)
 there_within r (places.Report i) there = omega (arith, there)
 
--- where nothing is asked of places that aren't there, a place that doesn't meet its demand is there
+-- if nothing is asked of places that aren't there, a place that doesn't meet its demand is there
 asked_within : (c : Clause) (t : Trace) (r : Run) (place : Place) → AsksThere c t r → (Demand c t (told_by r) place → ⊥)
     → line_at r place ≤ last_line r
 asked_within c t r place rest unmet = elim (cases_lt (last_line r) (line_at r place)) [

@@ -32,7 +32,7 @@ none_taken bytes ys e = (no_lines, ap lines_of (ap joined (sym e) ∙ lines_join
 lf_taken : (lines : List (List ℕ)) (x : List ℕ) (xs ys : List (List ℕ)) → with_front 10 lines ≡ x ∷ xs ++ ys → (x ≡ 10 ∷ []) × (lines ≡ xs ++ ys)
 lf_taken lines x xs ys e = let split : (10 ∷ []) ∷ lines ≡ x ∷ xs ++ ys = sym (lf_front lines) ∙ e in (cc, cc)
 
--- the same behind a byte that is no LF
+-- the same after a byte that is no LF
 other_taken : (b : ℕ) (lines : List (List ℕ)) (x : List ℕ) (xs ys : List (List ℕ)) → (b ≡ 10 → ⊥) → with_front b lines ≡ x ∷ xs ++ ys
     → ((zs : List (List ℕ)) → lines ≡ zs ++ ys → AreCut zs ys) → AreCut (x ∷ xs) ys
 unfolding lines_of
@@ -47,7 +47,7 @@ other_taken b (line ∷ lines) x xs ys other e cut =
     let rest = cut (line ∷ xs) (ap (λ (z : List (List ℕ)). line ∷ z) (cc)) in
     (rw first (ap (with_front b) rest.0 ∙ other_front b line xs other), rest.1)
 
--- the cut of a text is that of the text with a byte in front, where the texts of one line less are cut so
+-- the cut of a text is that of the text with a byte at the start, if the texts of one line less are cut so
 byte_taken : (b : ℕ) (bytes : List ℕ) (lines : List (List ℕ)) (x : List ℕ) (xs ys : List (List ℕ)) → with_front b lines ≡ x ∷ xs ++ ys
     → ((zs : List (List ℕ)) → lines ≡ zs ++ ys → AreCut zs ys) → AreCut (x ∷ xs) ys
 unfolding lines_of
@@ -66,9 +66,9 @@ lines_taken bytes [] ys e = none_taken bytes ys e
 lines_taken [] (x ∷ xs) ys e = absurd cc
 lines_taken (b ∷ bytes) (x ∷ xs) ys e = byte_taken b bytes (lines_of bytes) x xs ys e (λ zs same. lines_taken bytes zs ys same)
 
--- ---- a text that ends with its line may have any text behind it
+-- ---- a text that ends with its line may have any text after it
 
--- a byte that is no LF in front of all of them
+-- a byte that is no LF before all of them
 other_cut : (x : ℕ) (L M N C : List (List ℕ)) (line : List ℕ) (lines : List (List ℕ)) → (x ≡ 10 → ⊥) → (L ≡ [] → M ≡ line ∷ lines)
     → with_front x M ≡ with_front x L ++ line ∷ lines → (M ≡ L ++ line ∷ lines → N ≡ L ++ C) → with_front x N ≡ with_front x L ++ C
 other_cut x [] [] N C line lines other none e cut = absurd cc
@@ -95,7 +95,7 @@ other_cut x (l ∷ L) (m ∷ M) N C line lines other none e cut =
 no_bytes : (a : List ℕ) → lines_of a ≡ [] → a ≡ []
 no_bytes a e = sym (lines_joined a) ∙ ap joined e
 
--- a text whose lines stand before those of some bytes has them before those of any
+-- a text whose lines come before those of some bytes has them before those of any
 pub lines_cut : (a b c : List ℕ) (line : List ℕ) (lines : List (List ℕ)) → lines_of b ≡ line ∷ lines → lines_of (a ++ b) ≡ lines_of a ++ line ∷ lines
     → lines_of (a ++ c) ≡ lines_of a ++ lines_of c
 unfolding lines_of

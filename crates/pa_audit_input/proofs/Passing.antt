@@ -14,7 +14,7 @@ use Rattle.pa_run_reader.proofs.TextLines.{lines_joined}
 use Rattle.pa_audit_input.specs.Input.{most_audited, IsFirstOfRun}
 use Rattle.pa_audit_input.specs.Cutting.{joined, IsLastCut}
 
--- the first bad line is one of these or the one behind them
+-- the first bad line is one of these or the one after them
 pub bad_below : (m : ℕ) (last : Option Item) (lines : List (List ℕ)) (k : ℕ) → IsFirstBad m last lines k → k ≤ m + length lines
 bad_below m last [] k h = omega (arith, h.0)
 bad_below m last (line ∷ lines) k (inl h) = omega (arith, h.0)
@@ -38,7 +38,7 @@ bad_within d m before last (line ∷ lines) k short (inr h) =
       subst (λ (x : ℕ). IsFirstOfRun x (before + length line) (Some h.0) lines (BadLine (d + k))) next rest,
     ))
 
--- and so with other lines behind them, where it isn't the one behind them
+-- and so with other lines after them, if it isn't the one after them
 bad_before : (d m before : ℕ) (last : Option Item) (lines more : List (List ℕ)) (k : ℕ) → before + length (joined lines) ≤ most_audited
     → k < m + length lines → IsFirstBad m last lines k → IsFirstOfRun (d + m) before last (lines ++ more) (BadLine (d + k))
 bad_before d m before last [] more k short less h = absurd (omega (arith, h.0, less))
@@ -75,7 +75,7 @@ good_of_run r bytes h =
     let lines : lines_of bytes ≡ map item_text (items_of r) = ap lines_of (h.text ∙ items_text r) ∙ items_lines (items_of r) in
     subst (λ (z : List (List ℕ)). AreGood None z) (sym lines) (good_of_items None (items_of r) (items_ordered r bytes h))
 
--- behind good lines that end early, one that doesn't is the first faulty one
+-- after good lines that end early, one that doesn't is the first faulty one
 limit_behind : (n before : ℕ) (last : Option Item) (lines : List (List ℕ)) (line : List ℕ) → before + length (joined lines) ≤ most_audited
     → most_audited < before + length (joined lines) + length line → AreGood last lines
     → IsFirstOfRun n before last (lines ++ line ∷ []) (Limit (n + length lines))

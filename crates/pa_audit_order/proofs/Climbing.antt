@@ -39,7 +39,7 @@ none_exchanged cells none k i e at = elim (cases_lt k (length cells)) [
   | inr past ↦ not_some e (subst (λ es. slice_get es i ≡ Some e) (get_or_past cells k _ past) at)
 ]
 
--- ---- what stands before
+-- ---- what comes before
 
 phase_order : (ps : List Played) (i j : ℕ) (x y : Played) → RiseByPhase ps → IsRecord ps i x → IsRecord ps j y → i < j → x.phase ≤ y.phase
 phase_order ps i j x y phases at at' less =

@@ -109,7 +109,7 @@ cut_but cells ps A k marked stack floor left h = record {
   numbers = h.numbers;
 }
 
--- and where the steps to that record are in, nothing is left out
+-- and if the steps to that record are in, nothing is left out
 pub cut_all : (cells : ℕ → List CellEntry) (ps : List Played) (A : Played → Type 0) (k : ℕ) (marked : List Bool) (stack : List ℕ) (floor : ℕ) (left : ℕ → Option ℕ) → ((j : ℕ) → IsNear cells ps j k → IsTakenUp marked stack j)
     → IsGrown cells ps A k marked stack floor left → IsGrown cells ps A (length ps) marked stack floor left
 cut_all cells ps A k marked stack floor left steps h = record {

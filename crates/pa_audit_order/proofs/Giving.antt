@@ -84,7 +84,7 @@ content_may cells ps list i d rising below h demand =
     let here = here_is ps i d below in
     may_of cells ps list i (get_or ps i d) (get_or ps i d).answer rising here h (demand (get_or ps i d) here)
 
--- a value of a slot that is held, where the number is at hand
+-- a value of a slot that is held, if the number is at hand
 abbrev MayGiveAt : List Played → Regs → Played → SlotName → ℕ → ℕ → Type 0
 MayGiveAt ps regs x s k value = IsContent ps s k value ⊎ MayFindPoison ps regs x s k value
 

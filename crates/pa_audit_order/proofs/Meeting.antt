@@ -1,4 +1,4 @@
--- What the clause of the order in time asks of a record, by a walk's cut, and over the threads.
+-- What the clause of the order in time requires of a record, by a walk's cut, and over the threads.
 use Rattle.std.proofs.Common.{◌≡◌, ℕ, ◌+◌, ◌<◌, ◌≤◌, Bool, true, List, [], get_or, length, Option, Some, None, min, refl, sym, ◌∙◌, ap, subst, arith, inl, inr}
 use Rattle.std.specs.Prelude.{All, Contains, slice_get}
 use Rattle.std.proofs.lemmas.Bool.{cases_lt}

@@ -66,7 +66,7 @@ found_at kind ps f s a b q i d start most h at from below =
       here = here_is ps i d less;
     }
 
--- where no key stands, no record did so
+-- if there is no key, no record did so
 none_at : (kind : Kind) (ps : List Played) (f : ℕ → Option ℕ) (s : SlotName) (low high m j : ℕ) (y : Played) → AreByNumber kind ps f (length ps) → HasNoKey f low high → low ≤ word_key s m → word_key s m < high → IsRecord ps j y
     → DoesAt kind y s m → ⊥
 none_at kind ps f s low high m j y h none from below at does =

@@ -26,7 +26,7 @@ pub record DueSoFar (ls : List Line) (es : List Entry) (rest : List Line) (n at 
 pub due_start : (ls : List Line) (es : List Entry) → DueSoFar ls es ls 2 0
 due_start ls es = record { phase = 1; met = λ j below. absurd (omega (arith, below)); asks = λ j. ap (slice_get (due 2 1 ls)) (omega arith) }
 
--- the line at a place and those behind it
+-- the line at a place and those after it
 line_here : (ls : List Line) (i : ℕ) (l : Line) → i < length ls → get_or ls i Phase ≡ l → drop i ls ≡ l ∷ drop (i + 1) ls
 line_here ls i l below is = drop_more ls i Phase below ∙ ap (λ z. z ∷ drop (i + 1) ls) is
 

@@ -98,7 +98,7 @@ fits_exchange cells ps known last phase given k j e lines latest was here h =
     f : CellEntry → ℕ
     f z = z.line
 
-    -- no record of an exchange so far stands behind that of this one
+    -- no record of an exchange so far comes after that of this one
     stands : (x y : Played) → Contains ps x → x.line ≡ e.line → IsEarlier ps (cells k) j y → StandsBefore x y → ⊥
     stands x y among line (i, g, less, at, among', line') before = h.order i g.line e.line y x (at_map f (cells k) i g at) (at_map f (cells k) j e here) less among' line' among line before
 

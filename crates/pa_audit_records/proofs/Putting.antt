@@ -34,7 +34,7 @@ same_key s t within within' same =
 
 -- ---- the first usable numbers
 
--- a record that made a slot, in front of others
+-- a record that made a slot, before others
 used_front : (x : Played) (rest : List Played) (seen : Seen) (usable : ℕ) (f g : ℕ → Option ℕ) → x.answer ≡ Made seen usable → seen.slot.start < 4294967296 → Puts f g (name_key seen.slot) usable → AreUsables rest f →
     AreUsables (x ∷ rest) g
 used_front x rest seen usable f g is start puts h s within =

@@ -18,11 +18,11 @@ in_order ps rising i j d order below = elim (cases_lt i j) [
   | inr most ↦ let same : i ≡ j = omega (arith, order, most) in omega (arith, ap (λ k. (get_or ps k d).line) same)
 ]
 
--- so those before a line stand before the others
+-- so those before a line come before the others
 pub lines_parted : (ps : List Played) (line : ℕ) → RiseByLine ps → IsPartitionedBy (λ x. ltb x.line line) ps
 lines_parted ps line rising = IsPartitionedBy-ltb (λ x. x.line) ps line (in_order ps rising)
 
--- where they end stands the line's record, or there is none
+-- the line's record is where they end, or there is none
 pub seek_none : (ps : List Played) (line at : ℕ) → RiseByLine ps → IsPartitionPoint (λ x. ltb x.line line ≡ true) (λ x. ltb x.line line ≡ false) ps at → (IsOnLine ps line at → ⊥) → NoneOnLine ps line
 seek_none ps line at rising (before, behind) other i (x, here, mine) =
     let below : i < length ps = slice_get_within ps i x here in

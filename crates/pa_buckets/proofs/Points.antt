@@ -34,11 +34,11 @@ in_order : IsNonDecreasingBy (λ r. r.slot) ROWS
 in_order i j d order real =
     omega (arith, table_slot i d (omega arith), table_slot j d real, slot_of-in_order i j order real)
 
--- so those below a raw size stand before the others
+-- so those below a raw size come before the others
 pub table_parted : (raw : ℕ) → IsPartitionedBy (λ r. ltb r.slot raw) ROWS
 table_parted raw = IsPartitionedBy-ltb (λ r. r.slot) ROWS raw in_order
 
--- where they end stands the class of the raw size
+-- the class of the raw size is where they end
 pub class_at : (raw i : ℕ) → IsPartitionPoint (λ r. ltb r.slot raw ≡ true) (λ r. ltb r.slot raw ≡ false) ROWS i → i < 59 → IsClassOf raw i
 class_at raw i point real = record {
   real = real;
@@ -50,7 +50,7 @@ class_at raw i point real = record {
 pub class_in_range : (raw c : ℕ) → IsClassOf raw c → raw ≤ 917504
 class_in_range raw c class = omega (arith, class.fits, (IsRow-of c class.real).greatest_slot)
 
--- where all are below it, it is above the greatest slot
+-- if all are below it, it is above the greatest slot
 pub no_class_at : (raw i : ℕ) → IsPartitionPoint (λ r. ltb r.slot raw ≡ true) (λ r. ltb r.slot raw ≡ false) ROWS i → 59 ≤ i → 917504 < raw
 no_class_at raw i point past =
     omega (arith, ltb-true _ _ (point.0 58 zeros (omega arith) (omega arith)), table_slot 58 zeros (omega arith), slot_of-58)

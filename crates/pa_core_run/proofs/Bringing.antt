@@ -95,7 +95,7 @@ module _ (a : Parts) (before rest : List Played) (x : Played) (h : IsFiled a) (p
         },
       )
 
-  -- Titles of which the thread's lists had more before than after go to actor 0, where registers, words and contents stay.
+  -- Titles of which the thread's lists had more before than after go to actor 0, if registers, words and contents stay.
   pub titles_go : (from last : Standing) (ts : List Title) (mid : State) → IsShown (titles_in a (root_at a x.line)) (a.threads + 1) (2097152 * a.supers) (ledger_of a.partitions from) mid →
       ((g : Reg → ℕ) (k : ℕ) → in_registers g last k ≡ in_registers g from k) → ((y : SlotName) → last.word y ≡ from.word y) → ((y : SlotName) → last.content y ≡ from.content y) → ((t : Title) → Contains ts t → MadeIn a t) →
       ((y : SlotName) → in_lists a.partitions last y (suc x.thread) + named_in y ts ≤ in_lists a.partitions from y (suc x.thread)) →

@@ -164,7 +164,7 @@ module _ (a : Parts) (before rest : List Played) (x : Played) (h : IsFiled a) (p
         )
   ]
 
-  -- its slot stands in front of a list while it comes
+  -- its slot comes before a list while it comes
   abbrev pub list_mapped : Cache
   list_mapped = with_list (st.caches x.thread) p 0 (record { slot = slot; number = 0 } ∷ st.caches x.thread p 0)
 

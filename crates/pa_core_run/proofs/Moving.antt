@@ -54,7 +54,7 @@ turn_change s after actor t lost gained w es good has held out into turn = recor
           content = λ i below. turn.others (content_place u i) (away s t u (content_place u i) good held before ne (omega arith, omega arith));
         }
 
--- a thread's turn, where the ledger pays for it
+-- a thread's turn, if the ledger pays for it
 pub turn_shown : (names : Titles) (actors bytes : ℕ) (b next : Ledger) (s after : State) (actor : ℕ) (t : Title) (lost gained : List Piece) (w : ℕ) (es : List Event) →
     IsShown names actors bytes b s → 0 < actor → actor < actors → IsTitleHeld (total_of s) t → ArePieces t lost → ArePieces t gained →
     IsTurn s actor t lost gained w es after → IsPaid names.Made b next (of_actor actor lost) (of_actor actor gained) t w →

@@ -120,7 +120,7 @@ module _ (a : Parts) (before rest : List Played) (x : Played) (h : IsFiled a) (p
       ap (λ es. root_replayed a.pools es new_root) cut
       ∙ (root_parts a.pools (below entry_line x.line (a.roots p)) (on entry_line x.line (a.roots p)) new_root ∙ replayed_acts a.pools (on entry_line x.line (a.roots p)) (root_at a x.line p))
 
-  -- where the line's one entry is a refusal, the roots stay
+  -- if the line's one entry is a refusal, the roots stay
   pub roots_refused : (p : ℕ) (class : Option ℕ) (asked : ℕ) → OnlyActs a.roots x.line p (Full class asked ∷ []) → root_at a (x.line + 1) ≡ root_at a x.line
   roots_refused p class asked only = λ i q. each q i
     where

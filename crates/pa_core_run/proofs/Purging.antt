@@ -36,7 +36,7 @@ use Rattle.pa_core_run.proofs.Titled.{lists_known, AreTitlesOf, titles_for, name
 
 -- ---- the slots of a thread's lists
 
--- of so many classes of a partition, from one on; of the first partitions
+-- of that many classes of a partition, from one on; of the first partitions
 abbrev pub slots_from : (ℕ → List Numbered) → ℕ → ℕ → List Numbered
 slots_from lists class zero = []
 slots_from lists class (suc n) = lists class ++ slots_from lists (class + 1) n
@@ -57,7 +57,7 @@ all_stand y cache (suc p) =
     let ih = all_stand y cache p in
     omega arith
 
--- each stands in a list
+-- each is in a list
 slot_among : (lists : ℕ → List Numbered) (class n : ℕ) (m : Numbered) → Contains (slots_from lists class n) m → (c : ℕ) × Contains (lists c) m
 slot_among lists class zero m among = absurd (not_in_none m among)
 slot_among lists class (suc n) m among = elim (Contains-append_cases (lists class) (slots_from lists (class + 1) n) m among) [

@@ -59,7 +59,7 @@ module _ (a : Parts) (before rest : List Played) (x : Played) (h : IsFiled a) (p
   pub few : x.thread + 1 < a.threads + 1
   few = let low = All-contains (λ (y : Played). y.thread < a.threads) a.ps x h.few (among a before rest x h parts st f) in omega arith
 
-  -- where the roots stay
+  -- if the roots stay
   pub shows_next : (content : SlotName → ℕ) (next : State) → root_at a (x.line + 1) ≡ root_at a x.line →
       ((y : SlotName) → held_of (word_after (before ++ x ∷ []) y) ≡ 1 → IsContent a.ps y (number_of (word_after (before ++ x ∷ []) y)) (content y)) →
       IsShown (titles_in a (root_at a x.line)) (a.threads + 1) (2097152 * a.supers) (ledger_of a.partitions (after_record a before x st (regs_left a before rest x h parts st f) (cache_left a before rest x h parts st f) content)) next →

@@ -1,4 +1,4 @@
--- A reset or a free that returned its slot: the core plays its step, and shows then the thread's lists with the slot in front of one
+-- A reset or a free that returned its slot: the core plays its step, and shows then the thread's lists with the slot before one
 -- of them. What follows on its line gives slots, or a direct map, back to the roots.
 use Rattle.std.proofs.Common.{◌≡◌, ℕ, zero, suc, ◌+◌, ◌*◌, ◌<◌, ◌≤◌, List, ◌∷◌, ◌++◌, Some, refl, sym, ◌∙◌, ap, subst, arith, inl, inr}
 use Rattle.std.specs.Prelude.{Contains}
@@ -48,7 +48,7 @@ module _ (a : Parts) (before rest : List Played) (x : Played) (h : IsFiled a) (p
   abbrev pub Grows : Cache → SlotName → Type 0
   Grows list slot = (y : SlotName) → in_lists a.partitions (listing a before rest x h parts st f s shown list) y (suc x.thread) ≤ in_lists a.partitions st y (suc x.thread) + once y slot
 
-  -- a slot in front of a list is one more of it
+  -- a slot before a list is one more of it
   pub one_more : (p class : ℕ) (slot : Numbered) → class < 59 → Grows (with_list (st.caches x.thread) p class (slot ∷ st.caches x.thread p class)) slot.slot
   one_more p class slot real y =
       let cache = st.caches x.thread in
@@ -135,7 +135,7 @@ module _ (a : Parts) (before rest : List Played) (x : Played) (h : IsFiled a) (p
       registers g zero = refl
       registers g (suc k) = refl
 
-  -- where the core comes to show the next roots and the record's lists, the record is played
+  -- if the core comes to show the next roots and the record's lists, the record is played
   pub given_plays : (list : Cache) (mid after : State) → IsGivenBack a before rest x h parts st f s shown list mid →
       IsReached (names_next a before rest x h parts st f s shown) (a.threads + 1) (2097152 * a.supers) (ledger_of a.partitions (given_st a before rest x h parts st f s shown (cache_left a before rest x h parts st f))) mid (suc x.thread) after →
       Outcome a before rest x h parts st f s shown

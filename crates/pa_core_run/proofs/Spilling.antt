@@ -47,7 +47,7 @@ module _ (a : Parts) (before rest : List Played) (x : Played) (h : IsFiled a) (p
   abbrev back : List Numbered
   back = spilled class list
 
-  -- the thread's lists with the slot in front of its list, before it spills
+  -- the thread's lists with the slot before its list, before it spills
   abbrev pub list_full : Cache
   list_full = with_list (st.caches x.thread) p class list
 

@@ -82,7 +82,7 @@ module _ (a : Parts) (before rest : List Played) (x : Played) (h : IsFiled a) (p
   Turned t p lost gained first content k =
       (after : State) × IsDone s k t p lost gained first after × IsShown names_here (a.threads + 1) bytes_here (ledger_of a.partitions (next_st content)) after
 
-  -- is the record's, where it has no entry
+  -- is the record's, if it has no entry
   pub turned_plays : (m : Mark) (p : Step) (t : Title) (lost gained : List Piece) (first : ℕ → List Event) (content : SlotName → ℕ) → mark_of x ≡ Some m → m.step ≡ Some p → read_by x.op x.answer ≡ None →
       MadeIn a t → name_of t ≡ m.slot → count_word s.words t ≡ st.word (name_of t) → ((k : ℕ) → AreBeside k (first k)) → NoActs a.roots x.line →
       ((y : SlotName) → held_of (word_after (before ++ x ∷ []) y) ≡ 1 → IsContent a.ps y (number_of (word_after (before ++ x ∷ []) y)) (content y)) →
@@ -129,7 +129,7 @@ module _ (a : Parts) (before rest : List Played) (x : Played) (h : IsFiled a) (p
 
   -- ---- a reset and a free
 
-  -- what stands after the record, where the thread's lists are these
+  -- the state after the record, if the thread's lists are these
   abbrev pub given_st : Cache → Standing
   given_st list = after_record a before x st (regs_left a before rest x h parts st f) list st.content
 
@@ -215,7 +215,7 @@ module _ (a : Parts) (before rest : List Played) (x : Played) (h : IsFiled a) (p
       (content_goes m Free is refl (λ e. absurd cc) (λ seen2 usable e. (let both : answers.Done seen ≡ answers.Made seen2 usable = sym answer ∙ e in absurd cc)) (λ r v e. (let both : ops.Free reg ≡ ops.Write r v = sym op ∙ e in absurd cc))))
       turned
 
-  -- where the line has no entry nothing follows
+  -- if the line has no entry nothing follows
   pub given_stays : (mid : State) → NoActs a.roots x.line → IsGivenBack (cache_left a before rest x h parts st f) mid → Outcome a before rest x h parts st f s shown
   given_stays mid none given =
       (mid, given.plays [] mid (run_start mid given.now.good) tt, shows_next a before rest x h parts st f s shown st.content mid (roots_left a before rest x h parts st f none) given.right given.now)

@@ -60,7 +60,7 @@ piece_at f k r ps thing x same j = elim (cases_eq j k) [
 ]
 
 module _ (names : Titles) (actors bytes : ℕ) (unique : HaveNames names.Made) where
-  -- where nothing goes the ledger asks no more than before
+  -- if nothing goes the ledger asks no more than before
   stays : (b next : Ledger) (s : State) (r : Reg) (from to : ℕ) → IsShown names actors bytes b s → ((x : SlotName) → owns x r ≡ 0) → ((x : SlotName) → points x r ≡ 0) → IsGone b next r from to → IsShown names actors bytes next s
   stays b next s r from to h no_owner no_pointer g = record {
     good = h.good;

@@ -43,7 +43,7 @@ module _ (a : Parts) (before rest : List Played) (x : Played) (h : IsFiled a) (p
       let (after, reached) = map_goes a before rest x h parts st f s shown p asked len slot only mapped same mid given.now in
       given_plays a before rest x h parts st f s shown list mid after given reached
 
-  -- where the line has the entry, a step was made that returned the map
+  -- if the line has the entry, a step was made that returned the map
   pub map_plays : (p asked : ℕ) (slot : Numbered) → Contains (acts_of a.roots x.line p) (Unmap asked slot) → Outcome a before rest x h parts st f s shown
   map_plays p asked slot entry =
       let (e, member, line, is) = act_entry a.roots x.line p (Unmap asked slot) entry in

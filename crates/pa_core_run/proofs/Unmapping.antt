@@ -103,7 +103,7 @@ module _ (a : Parts) (before rest : List Played) (x : Played) (h : IsFiled a) (p
         )
   ]
 
-  -- ---- the thread's lists: the slot stands in front of one until its title goes
+  -- ---- the thread's lists: the slot comes before one until its title goes
 
   abbrev pub list_back_with : Cache
   list_back_with = with_list (st.caches x.thread) p 0 (record { slot = slot.slot; number = 0 } ∷ st.caches x.thread p 0)

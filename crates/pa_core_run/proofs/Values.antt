@@ -28,7 +28,7 @@ use Rattle.pa_core_run.proofs.Acting.{HasHandle, handle_held}
 use Rattle.pa_core_run.proofs.Stepping.{own_some}
 use Rattle.pa_core_run.proofs.NextFronts.{among}
 
--- where all together have an Own, someone has it in some state
+-- if all together have an Own, someone has it in some state
 all_own : (t : Title) (hs : List (List Piece)) → 0 < held_by_all hs (OwnOf t) → (a : OwnState) × (0 < held_by_all hs (OwnAs t a))
 all_own t [] some = absurd (omega arith)
 all_own t (ps ∷ hs) some =
@@ -70,7 +70,7 @@ module _ (names : Titles) (actors bytes : ℕ) (b : Ledger) (s : State) (shown :
 
 -- ---- how long a slot is
 
--- a record that made the slot, with the usable number that is told of it
+-- a record that made the slot, with the usable number that is reported of it
 abbrev pub HasUsable : List Played → SlotName → ℕ → Type 0
 HasUsable ps y n = (q : Played) × (seen : Seen) × Contains ps q × (q.answer ≡ answers.Made seen n) × (seen.slot ≡ y)
 

@@ -32,7 +32,7 @@ played_run Made x s next events good p =
     let run = run_join s p.mid next p.first (told_events x p.title ++ p.last) good p.prepares (run_join p.mid p.after next (told_events x p.title) p.last good2 p.tells p.clears) in
     subst (λ es. IsRunTo s es next) (sym p.parts) run
 
--- where no entry and no exchange stands between two lines, the later one has the same before it
+-- if no entry and no exchange comes between two lines, the later one has the same before it
 front_later : (a : Parts) (n m : ℕ) (before rest : List Played) (s : State) → IsFiled a → IsCut a n before rest → n ≤ m → ((x : Played) → Contains rest x → m ≤ x.line) →
     ShowsFront a n before rest s → ShowsFront a m before rest s
 front_later a n m before rest s h cut up late shows =
@@ -75,7 +75,7 @@ walked a n before (x ∷ rest) s h cut each shows =
       plays = (events, next, more.events, refl, played, more.plays);
     }
 
--- where each record can be played, the run has a run of the core
+-- if each record can be played, the run has a run of the core
 pub walks_whole : PlayedRecordsMakeARun
 walks_whole t r limits filed_run each =
     let told = told_by r in

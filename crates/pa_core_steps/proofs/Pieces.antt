@@ -15,7 +15,7 @@ abbrev pub taken_out : Thing → List Piece → List Piece
 taken_out x [] = []
 taken_out x (p ∷ ps) = cond (eqb (amount x p) 0) (p ∷ taken_out x ps) ps
 
--- where only one kind of piece counts as the thing, one such piece is gone
+-- if only one kind of piece counts as the thing, one such piece is gone
 pub taken_out_has : (x : Thing) (q : Piece) → ((p : Piece) → 0 < amount x p → p ≡ q) → (ps : List Piece) → 0 < held_in ps x →
     (y : Thing) → held_in (taken_out x ps) y + amount y q ≡ held_in ps y
 taken_out_has x q only [] has y = absurd (omega arith)
@@ -73,7 +73,7 @@ raw_cases b start len = elim (cases_lt b start) [
       ]
 ]
 
--- what is left of a raw piece below a range, and behind it
+-- what is left of a raw piece below a range, and after it
 abbrev left_below : ℕ → ℕ → ℕ → Piece
 left_below a b m = RawPiece b (m - ((b + m) - a))
 
@@ -193,7 +193,7 @@ cut_others a e x none (RefPiece t ∷ ps) =
     let again = cut_others a e x none ps in
     omega (arith, sum_by-cons (amount x) (RefPiece t) (cut_out a e ps), sum_by-cons (amount x) (RefPiece t) ps)
 
--- where each byte of the range is held once, the range is gone and all else is as before
+-- if each byte of the range is held once, the range is gone and all else is as before
 pub cut_out_has : (a n : ℕ) (ps : List Piece) → ((c : ℕ) → a ≤ c → c < a + n → held_in ps (RawByte c) ≡ 1) →
     (y : Thing) → held_in (cut_out a (a + n) ps) y + amount y (RawPiece a n) ≡ held_in ps y
 cut_out_has a n ps once (RawByte c) = elim (raw_cases c a n) [

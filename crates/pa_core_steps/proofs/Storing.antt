@@ -39,7 +39,7 @@ one_stored s after t i value well below words k inside why =
       | inr other ↦ content_other s.words t value i k other ∙ elim why [ inl same ↦ absurd (other same) | inr had ↦ had ]
     ]
 
--- the words after one, where the word after it is stored
+-- the words after one, if the word after it is stored
 next_stored : (s mid after : State) (t : Title) (i value : ℕ) →
     ((k : ℕ) → k < content_count t → (k ≡ i) ⊎ (content_at s.words t k ≡ value) → content_at mid.words t k ≡ value) →
     IsStored mid after t (i + 1) value → IsStored s after t i value
@@ -72,7 +72,7 @@ own_store s actor t a i value good has holds alone below =
       one_stored s r.0 t i value well below r.1.words,
     )
 
--- and so many
+-- and that many
 own_stores : (n : ℕ) (s : State) (actor : ℕ) (t : Title) (a : OwnState) (i value : ℕ) → IsGoodState s → HasActor s actor → HoldsOpen s actor t a →
     refs_of (count_word s.words t) ≡ 0 → i + suc n ≡ content_count t →
     (after : State) × IsTurn s actor t (OwnPiece t a ∷ []) (OwnPiece t Dirty ∷ []) (count_word s.words t) (stores (suc n) i actor t value) after

@@ -15,7 +15,7 @@ use Rattle.pa_core_steps.proofs.Joining.{run_one, run_join, run_good}
 use Rattle.pa_core_steps.proofs.Exchanging.{exchanges_then}
 use Rattle.pa_core_steps.proofs.Possible.{CanLose, after_of}
 
--- a turn after a turn, where the second loses what the first gained
+-- a turn after a turn, if the second loses what the first gained
 pub turn_then : (s mid after : State) (actor : ℕ) (t : Title) (lost gained last : List Piece) (v w : ℕ) (es fs : List Event) → IsGoodState s →
     IsTurn s actor t lost gained v es mid → IsTurn mid actor t gained last w fs after → IsTurn s actor t lost last w (es ++ fs) after
 turn_then s mid after actor t lost gained last v w es fs good a b = record {

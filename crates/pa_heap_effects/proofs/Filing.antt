@@ -87,7 +87,7 @@ before_is_less : (ls : List Line) (ps : List Played) (x y : Played) → AreLines
 before_is_less ls ps x y lines first second (inl same) = same.1
 before_is_less ls ps x y lines first second (inr earlier) = phases_rise ls ps x y lines first second earlier
 
--- where the lines stand in order, the lesser line stands before
+-- if the lines are in order, the lesser line comes before
 sorted_before : {A : Type 0} (line : A → ℕ) (xs : List A) (i j : ℕ) (a b : A) → IsNonDecreasingBy line xs → slice_get xs i ≡ Some a → slice_get xs j ≡ Some b → line a < line b → i < j
 sorted_before line xs i j a b h first second less = elim (cases_lt i j) [
   | inl before ↦ before

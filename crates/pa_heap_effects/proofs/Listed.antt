@@ -95,7 +95,7 @@ module _ (supers partitions n : ℕ) (ls : List Line) (ps : List Played) (pools 
   are_pool : IsPoolOf supers ps pools roots
   are_pool = (placed_are_roots supers partitions n ls ps pools roots all h.lines h.placed h.pooled).1
 
-  -- a slot that left a root stands in the lists or is in use, once, or it is in the root
+  -- a slot that left a root is in the lists or is in use, once, or it is in the root
   pub stands_once : (p t : ℕ) (s : SlotName) (w : ℕ) → p < partitions → HasLeft roots p s → HasWord ps s w →
       IsOnce (root_at pools roots p) s (cached_times s all p (max (t + 1) (threads_of ps)) + busy w)
   stands_once p t s w below left word =
@@ -150,7 +150,7 @@ module _ (supers partitions n : ℕ) (ls : List Line) (ps : List Played) (pools 
   known_class : (t p class : ℕ) (m : Numbered) → Contains (all t p class) m → IsOfClass roots m.slot p class
   known_class t p class m among = all_known partitions roots ps no_caches all (λ u q c k none. absurd (not_in_none k none)) h.placed.caches t p class m among
 
-  -- a slot of a list is out, and stands in no other
+  -- a slot of a list is out, and is in no other
   listed_out : (t p class : ℕ) (m : Numbered) → Contains (all t p class) m → IsOut (root_at pools roots p) m.slot × (listed_times m.slot (all t p) 0 59 ≤ 1)
   listed_out t p class m among =
       let of = known_class t p class m among in

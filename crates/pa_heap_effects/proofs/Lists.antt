@@ -18,7 +18,7 @@ use Rattle.pa_rules.proofs.Totals.{some_times}
 use Rattle.pa_heap_effects.specs.Ops.{AreOut, PartsAreOut, all_of}
 use Rattle.pa_lists.proofs.Elements.{all_front, all_from_members}
 
--- ---- slots that differ, by how often each stands in the list
+-- ---- slots that differ, by how often each is in the list
 
 pub times_append : (s : SlotName) (xs ys : List SlotName) → times s (xs ++ ys) ≡ times s xs + times s ys
 times_append s [] ys = omega arith

@@ -66,7 +66,7 @@ left_or_back pools journal s h = elim (out_is_left pools journal s h) [
   | inr (in', same) ↦ (omega arith, omega arith)
 ]
 
--- where the root has the slot there is a number
+-- if the root has the slot there is a number
 had_some : (at : Option ℕ) → had at ≡ 1 → (k : ℕ) × (at ≡ Some k)
 had_some None e = absurd (omega arith)
 had_some (Some k) e = (k, refl)

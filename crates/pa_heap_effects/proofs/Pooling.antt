@@ -17,7 +17,7 @@ use Rattle.pa_heap_effects.specs.Laws.{PoolExtends}
 use Rattle.pa_heap_effects.proofs.Growing.{sorted_push}
 use Rattle.pa_lists.proofs.Indexed.{at_in, slice_get_at}
 
--- an element of two lists is one of the first, or stands behind it
+-- an element of two lists is one of the first, or comes after it
 pub get_cases : {A : Type 0} (xs ys : List A) (i : ℕ) (x : A) → slice_get (xs ++ ys) i ≡ Some x → (slice_get xs i ≡ Some x) ⊎ ((k : ℕ) × (i ≡ length xs + k) × (slice_get ys k ≡ Some x))
 get_cases [] ys i x e = inr (i, omega arith, e)
 get_cases (y ∷ xs) ys zero x e = inl e

@@ -59,7 +59,7 @@ frees_by ops.Purge step w is returning = absurd (not_some step is)
 give_makes : (pools : List PoolEntry) (p : ℕ) (op : Op) (a : RootAct) → IsFreeing op ⊎ (op ≡ ops.Purge) → IsGive a → MakesEntry pools p a op
 give_makes pools p op a frees (slots, is) = subst (λ z. MakesEntry pools p z op) (sym is) frees
 
--- the list of what is out, with the slot in front
+-- the list of what is out, with the slot at the start
 front_out : (r : Root) (slot : Numbered) (xs : List Numbered) → IsOut r slot.slot → times slot.slot (names xs) ≡ 0 → AreOut r xs → AreOut r (slot ∷ xs)
 front_out r slot xs out none (others, differ) = (
   All-cons (IsOut r) slot.slot (names xs) out others,

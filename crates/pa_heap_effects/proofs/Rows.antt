@@ -55,7 +55,7 @@ module _ (partitions : ℕ) (roots grows : Journals) where
       inl (p, class, xs, rest, asks, filled_stays x.line p class (cache p class) xs h filled, front, becomes)
   made_stays x seen cache after h (inr (p, size, asked, len, asks, only, becomes)) = inr (p, size, asked, len, asks, only_stays x.line p _ h only, becomes)
 
-  -- a row asks of the journals what its line did, and what its slot is
+  -- a row requires of the journals what its line did, and what its slot is
   pub row_stays : (x : Played) (a : Answer) (cache after : Cache) → Stays roots grows x.line → CacheRow partitions roots x a cache after → CacheRow partitions grows x a cache after
   row_stays x (answers.Made seen usable) cache after h row = made_stays x seen cache after h row
   row_stays x (answers.Done seen) cache after h row = done_stays x (step_of x.op) seen cache after h row

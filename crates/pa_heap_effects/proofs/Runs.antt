@@ -44,7 +44,7 @@ step_of_pool supers pools before e es parts h fits = record {
   acts = fits_before supers before (e ∷ es) e.partition e.act h (subst (λ z. PoolActFits z e.partition e.act (pool_at supers before)) parts fits.0);
 }
 
--- and those behind it fit one after the other
+-- and those after it fit one after the other
 rest_of : (supers : ℕ) (pools before : List PoolEntry) (e : PoolEntry) (es : List PoolEntry) → PoolReplays pools (e ∷ es) (pool_at supers before) → PoolReplays pools es (pool_at supers (before ++ e ∷ []))
 rest_of supers pools before e es fits = subst (λ s. PoolReplays pools es s) (sym (pool_grows.next supers before e)) fits.1
 

@@ -1,4 +1,4 @@
--- Titles that are there at once stand in runs of super pages that are taken, so no two share a byte.
+-- Titles that are there at once are in runs of super pages that are taken, so no two share a byte.
 use Rattle.std.proofs.Common.{◌≡◌, ◌≢◌, ℕ, ◌+◌, ◌*◌, ◌≤◌, List, [], ◌∷◌, ◌++◌, refl, sym, ◌∙◌, ap, subst, arith, ◌⊎◌, inl, inr, Some}
 use Rattle.std.specs.Prelude.{Contains, AllPairs, slice_get}
 use Rattle.std.proofs.lemmas.Bool.{cases_lt}
@@ -80,7 +80,7 @@ map_end : (first len start : ℕ) → start ≡ page_place first 1 → start + l
 map_end first len start e = omega arith
 
 module _ (supers : ℕ) (pools : List PoolEntry) (roots : Journals) (h : SharePool supers pools roots) where
-  -- the title stands in a run that is taken, by an entry of the pool of partition p
+  -- the title is in a run that is taken, by an entry of the pool of partition p
   record StandsIn (p : ℕ) (t : Title) (first count : ℕ) : Type 0 where
     taken : Contains (pool_at supers pools).taken (run_of t.born first count)
     from : 2097152 * first ≤ t.start

@@ -45,7 +45,7 @@ pub record IsOneAct (partitions n p : ℕ) (x : Played) (pools more : List PoolE
   pub leaves : (s : SlotName) → LeavesAt (roots p) act s
   pub unmaps : UnmapsNext (grown roots n (only_in p (act ∷ []))) x
 
--- the entry of the act stands behind all others
+-- the entry of the act comes after all others
 act_entry : (n p : ℕ) (roots : Journals) (act : RootAct) → IsEntry (grown roots n (only_in p (act ∷ []))) p (length (roots p)) (record { line = n; act = act })
 act_entry n p roots act =
     subst (λ z. slice_get (roots p ++ entries_at n z) (length (roots p)) ≡ Some (record { line = n; act = act })) (sym (only_here p (act ∷ [])))

@@ -7,7 +7,7 @@ use Rattle.std.proofs.lemmas.List.Sums.{sum_by_push}
 use Rattle.pa_rules.specs.Holders.{Holder, InRoot, WithThread, Way, Out, Back}
 use Rattle.pa_legal.specs.Turns.{Turn, is_out, is_with, needs, makes, Alternate, TurnsFit, holder_after, has, takes_of, backs_of, NoneLoses, HoldersBalance}
 
--- 1 where the numbers are one
+-- 1 if the numbers are one
 abbrev is_one : ℕ → ℕ → ℕ
 is_one u t = cond {A = ℕ} (u == t) 1 0
 

@@ -35,7 +35,7 @@ use Rattle.pa_legal.proofs.flow.Counts.{is_back}
 abbrev pub counted : (Way → Bool) → List Move → ℕ
 counted w ms = count_by (λ (m : Move). w m.way) ms
 
--- 1 where the root has it
+-- 1 if the root has it
 abbrev pub had : Option ℕ → ℕ
 had None = 0
 had (Some n) = 1

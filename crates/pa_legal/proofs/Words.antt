@@ -39,7 +39,7 @@ same_word ms s u (v ∷ vs) x y (m, p, at, can, is, rest) first second e =
       ]
     ]
 
--- where a step was made at a word of the run, the next word is one of the run
+-- if a step was made at a word of the run, the next word is one of the run
 pub goes_on : (ms : List Mark) (s : SlotName) (u : ℕ) (vs : List ℕ) (w : ℕ) (m : Mark) (p : Step) → AllPairs OtherLine ms → IsRunFrom ms s u vs → Contains (u ∷ vs) w → IsFirstAt ms s w m p → CanStep p w →
     Contains (u ∷ vs) (stepped p w)
 goes_on ms s u [] w m p h run among first can =
@@ -91,7 +91,7 @@ only_issue Reset w can held refs = let some = can.0 in absurd (omega arith)
 only_issue Free w can held refs = let some = can.0 in absurd (omega arith)
 only_issue Write w can held refs = let some = can.0.0 in absurd (omega arith)
 
--- a step was made at a word of the run behind which there is another
+-- a step was made at a word of the run after which there is another
 pub goes_past : (ms : List Mark) (s : SlotName) (u : ℕ) (vs : List ℕ) (w v : ℕ) → IsRunFrom ms s u vs → Contains (u ∷ vs) w → Contains (u ∷ vs) v → number_of w < number_of v →
     (m : Mark) × (p : Step) × IsFirstAt ms s w m p × CanStep p w
 goes_past ms s u [] w v run first second less =

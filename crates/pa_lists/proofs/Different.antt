@@ -43,7 +43,7 @@ passing_most test (suc n) =
     let ih = passing_most test n in
     elim (cases_Bool (test n)) [ inl hit ↦ rw hit (omega arith) | inr miss ↦ rw miss (omega arith) ]
 
--- where one below n doesn't pass, fewer than n do
+-- if one below n doesn't pass, fewer than n do
 pub passing_less : (test : ℕ → Bool) (n k : ℕ) → k < n → test k ≡ false → passing test n < n
 passing_less test zero k below fails = absurd (omega arith)
 passing_less test (suc n) k below fails = elim (cases_eq k n) [
@@ -105,7 +105,7 @@ length_is (x ∷ xs) n once below =
     (or_left _ _ (eq-eqb x x refl)) (λ i ne. sym (or_second (eqb i x) (has i xs) (ne_eqb i x ne))) in
     omega arith
 
--- where one number below n isn't in it, it is shorter
+-- if one number below n isn't in it, it is shorter
 pub length_less : (xs : List ℕ) (n k : ℕ) → AllPairs ◌≢◌ xs → ((i : ℕ) → Contains xs i → i < n) → k < n → (Contains xs k → ⊥) → length xs < n
 length_less xs n k once below less away =
     let e = length_is xs n once below in

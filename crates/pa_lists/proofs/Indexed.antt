@@ -1,4 +1,4 @@
--- The members of a list by their places, and lists that agree place by place.
+-- The members of a list by their places, and lists that agree index by index.
 use Rattle.std.proofs.Common.{◌≡◌, ℕ, zero, suc, List, [], ◌∷◌, ◌++◌, take, drop, map, Option, Some, None, refl, sym, ◌∙◌, ap, subst, inl, inr, length, ◌≤◌, ◌+◌}
 use Rattle.std.specs.Prelude.{Contains, slice_get, option_map}
 use Rattle.std.proofs.lemmas.Option.{slice_get-map, slice_get_past}
@@ -16,7 +16,7 @@ in_at (y ∷ ys) x among = elim (in_cases y x ys among) [
   | inr rest ↦ let (i, at) = in_at ys x rest in (suc i, at)
 ]
 
--- lists are one where they agree place by place
+-- lists are one if they agree index by index
 pub same_lists : {A : Type 0} (xs ys : List A) → ((i : ℕ) → slice_get xs i ≡ slice_get ys i) → xs ≡ ys
 same_lists [] [] same = refl
 same_lists [] (y ∷ ys) same = absurd (not_some y (same 0))
@@ -25,7 +25,7 @@ same_lists (x ∷ xs) (y ∷ ys) same =
     let rest = same_lists xs ys (λ i. same (suc i)) in
     ap (λ z. z ∷ xs) (of_some x y (same 0)) ∙ ap (λ zs. y ∷ zs) rest
 
--- what stands at a place of a mapped list
+-- what is at a place of a mapped list
 pub option_cases : {A B : Type 0} (f : A → B) (o : Option A) (y : B) → option_map f o ≡ Some y → (x : A) × (o ≡ Some x) × (f x ≡ y)
 option_cases f None y e = absurd (not_some y e)
 option_cases f (Some x) y e = (x, refl, of_some (f x) y e)
@@ -57,7 +57,7 @@ end_of x (y ∷ ys) =
     let rest = end_of y ys in
     record { place = suc rest.place; last = rest.last; at = rest.at; parts = ap (λ zs. x ∷ zs) rest.parts }
 
--- the parts of a list before and behind a place
+-- the parts of a list before and after a place
 pub cut_at : {A : Type 0} (xs : List A) (i : ℕ) (x : A) → slice_get xs i ≡ Some x → xs ≡ take i xs ++ x ∷ drop (suc i) xs
 cut_at [] i x at = absurd (not_some x at)
 cut_at (y ∷ ys) zero x at = ap (λ z. z ∷ ys) (of_some y x at)

@@ -23,7 +23,7 @@ of_some x y e = ap (λ o. unwrap_or o x) e
 pub not_some : {A : Type 0} (x : A) → None ≡ Some x → ⊥
 not_some x e = true≢false (sym (ap is_some e))
 
--- what `find` gives is a member that passes, and where it gives nothing none passes
+-- what `find` gives is a member that passes, and if it gives nothing none passes
 pub find_is : {A : Type 0} (test : A → Bool) (xs : List A) (x : A) → find test xs ≡ Some x → Contains xs x × (test x ≡ true)
 find_is test [] x e = absurd (not_some x e)
 find_is test (y ∷ ys) x e = elim (cases_Bool (test y)) [

@@ -1,4 +1,4 @@
--- The parts of a list: what stands before a member and behind it, and pairs across two parts.
+-- The parts of a list: what comes before a member and after it, and pairs across two parts.
 use Rattle.std.proofs.Common.{◌≡◌, List, [], ◌∷◌, ◌++◌, map, refl, ◌∙◌, ap, subst, inl, inr}
 use Rattle.std.specs.Prelude.{Contains, AllPairs}
 use Rattle.std.proofs.lemmas.List.Elements.{Contains-append_right}

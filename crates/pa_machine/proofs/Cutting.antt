@@ -51,7 +51,7 @@ raw_alone n total b d raw = elim (cases_lt b (8 * n)) [
   | inr past ↦ let z = d.outside b past in absurd (omega arith)
 ]
 
--- What a cut asks of the title and of the bytes, said of what all actors hold.
+-- What a cut requires of the title and of the bytes, said of what all actors hold.
 pub record IsCutOut (words : List ℕ) (total : Thing → ℕ) (t : Title) : Type 0 where
   pub raw : (b : ℕ) → t.start ≤ b → b < t.start + t.len → 0 < total (RawByte b)
   pub start_aligned : t.start % 8 ≡ 0

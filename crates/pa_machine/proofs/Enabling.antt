@@ -209,7 +209,7 @@ open_either c actor t h = elim h.1.0 [
   | inr e ↦ inr (subst (λ (s : OwnState). Holds (state_of c) actor (OwnAs t s)) e h.1.1)
 ]
 
--- what a step asks of its actor makes the title a held one
+-- what a step requires of its actor makes the title a held one
 pub well_counted : (c : Tables) (actor : ℕ) (t : Title) (p : Step) → AreSound c → CanCount p (state_of c) actor t → IsWellFormed (length c.words.items) t
 well_counted c actor t Issue sound can = well_free c actor t sound can.0
 well_counted c actor t Copy sound can = elim can [ inl o ↦ well_own c actor t Clean sound o | inr r ↦ well_ref c actor t sound r ]

@@ -27,7 +27,7 @@ IsCutOf (Hand from to item) u = ⊥
 IsCutOf (Cut actor t) u = t ≡ u
 IsCutOf (Uncut actor t) u = ⊥
 
--- where what is gained is none of the title's, it was held before
+-- if what is gained is none of the title's, it was held before
 gained_back : (total later : Thing → ℕ) (lost gained : List Piece) (u : Title) → Changes total lost gained later → IsNoneOf gained u → IsTitleHeld later u → IsTitleHeld total u
 gained_back total later lost gained u c g held =
     let a = c (FreeTitle u) in let b = c (OwnOf u) in let e = c (RefOf u) in

@@ -71,7 +71,7 @@ change_noted s after last later t lost gained p v g k words held c same here = a
       (change_untouched s.words (total_of s) (total_of after) t lost gained p v g.divided held c u n.1 (omega arith)))
 ]))
 
--- where nothing is noted, the values stay
+-- if nothing is noted, the values stay
 other_value : (t u : Title) (a b : ℕ) → (t ≡ u → ⊥) → cond (same_title t u) a b ≡ b
 other_value t u a b ne = elim (title_tells t u) [ inl y ↦ absurd (ne y.1) | inr n ↦ rw n.0 refl ]
 

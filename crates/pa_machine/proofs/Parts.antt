@@ -83,7 +83,7 @@ pub untouched_held : (words : List ℕ) (total : Thing → ℕ) (words_after : L
 untouched_held words total words_after after t u held =
     let a = u.free in let b = u.own in let c = u.ref in omega arith
 
--- a core is good where its bytes are divided well, and each held title was good and is untouched, or is good
+-- a core is good if its bytes are divided well, and each held title was good and is untouched, or is good
 pub good_by : (words : List ℕ) (total : Thing → ℕ) (words_after : List ℕ) (after : Thing → ℕ) →
     IsGood words total → IsDivided (length words_after) after →
     ((t : Title) → IsTitleHeld after t → IsUntouched words total words_after after t ⊎ IsTitleGood words_after after t) →
@@ -130,7 +130,7 @@ pub apart_words : (n : ℕ) (total : Thing → ℕ) (t u : Title) (q : ℕ) → 
 apart_words n total t u q d held other ne within inside =
     ne (d.apart t u (8 * q) held other (word_covered n t q (d.well t held) within) (word_covered n u q (d.well u other) inside))
 
--- a title is untouched by a write to a word that isn't its own, where its handles stay
+-- a title is untouched by a write to a word that isn't its own, if its handles stay
 pub untouched_by_write : (words : List ℕ) (total after : Thing → ℕ) (u : Title) (p v : ℕ) → (IsWordOf u p → ⊥) →
     after (FreeTitle u) ≡ total (FreeTitle u) → after (OwnOf u) ≡ total (OwnOf u) → after (RefOf u) ≡ total (RefOf u) →
     ((a : OwnState) → after (OwnAs u a) ≡ total (OwnAs u a)) → IsUntouched words total (set words p v) after u
@@ -199,7 +199,7 @@ change_untouched words total after t lost gained p v d held c u ne other =
     (let a = c.changes (RefOf u) in let l = (c.lost_here u ne).ref in let g = (c.gained_here u ne).ref in omega arith)
     (λ s. let a = c.changes (OwnAs u s) in let l = (c.lost_here u ne).state s in let g = (c.gained_here u ne).state s in omega arith)
 
--- another title is held after it exactly where it was held before
+-- another title is held after it exactly when it was held before
 pub change_held : (words : List ℕ) (total after : Thing → ℕ) (t : Title) (lost gained : List Piece) (p : ℕ) →
     IsChangeAt words total after t lost gained p → (u : Title) → (t ≡ u → ⊥) →
     after (FreeTitle u) + after (OwnOf u) + after (RefOf u) ≡ total (FreeTitle u) + total (OwnOf u) + total (RefOf u)
@@ -213,7 +213,7 @@ change_held words total after t lost gained p c u ne =
     let g1 = g.free in let g2 = g.own in let g3 = g.ref in
     omega arith
 
--- the core stays good where the title itself does, which is held before and after
+-- the core stays good if the title itself does, which is held before and after
 pub change_good : (words : List ℕ) (total after : Thing → ℕ) (t : Title) (lost gained : List Piece) (p v : ℕ) →
     IsGood words total → IsTitleHeld total t → IsTitleHeld after t → IsChangeAt words total after t lost gained p →
     IsTitleGood (set words p v) after t → IsGood (set words p v) after

@@ -39,7 +39,7 @@ tables_exchange holders later slots p new actors lost gained inside each =
           omega arith,
     )
 
--- the same where only an entry changes
+-- the same if only an entry changes
 pub slot_exchange : (holders : List (Option ℕ)) (slots : List Place) (p : ℕ) (new : Place) (actors : ℕ) (lost gained : ℕ → List Piece) → p < length slots →
     ((actor : ℕ) (x : Thing) → actor < actors →
     held_in (place_pieces actor new) x + held_in (lost actor) x ≡ held_in (place_pieces actor (get_or slots p None)) x + held_in (gained actor) x) →
@@ -47,7 +47,7 @@ pub slot_exchange : (holders : List (Option ℕ)) (slots : List Place) (p : ℕ)
 slot_exchange holders slots p new actors lost gained inside each =
     tables_exchange holders holders slots p new actors lost gained inside (λ actor x has. let e = each actor x has in omega arith)
 
--- and where only holders of bytes change
+-- and if only holders of bytes change
 pub raw_exchange : (holders later : List (Option ℕ)) (slots : List Place) (actors : ℕ) (lost gained : ℕ → List Piece) →
     ((actor : ℕ) (x : Thing) → actor < actors →
     held_in (raw_pieces actor 0 later) x + held_in (lost actor) x ≡ held_in (raw_pieces actor 0 holders) x + held_in (gained actor) x) →
@@ -220,7 +220,7 @@ placed_next c after p old new sound ch words title free own i = rw (words, ch.ac
   | inr ne ↦ rw (get_or-set_other c.slots.items p i (Some new) None ne) (sound.placed i)
 ])
 
--- the tables stay sound where the state stays good, entries stay in place, and a title that is held was held before
+-- the tables stay sound if the state stays good, entries stay in place, and a title that is held was held before
 pub sound_next : (c after : Tables) → AreSound c → length after.words.items ≡ length c.words.items → length after.holders.items ≡ length c.holders.items →
     length after.slots.items ≡ length c.slots.items → after.homes.items ≡ c.homes.items →
     ((i : ℕ) → IsPlaced (length after.words.items) after.actors i (get_or after.slots.items i None)) →

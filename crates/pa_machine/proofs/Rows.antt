@@ -44,7 +44,7 @@ kept_value t b o is = elim (title_tells b.value.title t) [
 entry_is : (c : Tables) (t : Title) (b : Box Slot Global) (o : Slot) → get_or c.slots.items (t.start / 8) None ≡ Some b → slot_at c.slots.items t ≡ Some o → b.value ≡ o
 entry_is c t b o was is = kept_value t b o (subst (λ (q : Place). kept_as t q ≡ Some o) was is)
 
--- what the entry says, where its title is held free, owned or pointed to
+-- what the entry says, if its title is held free, owned or pointed to
 pub entry_free : (c : Tables) (k : ℕ) (t : Title) (b : Box Slot Global) → AreSound c → k < c.actors → Holds (state_of c) k (FreeTitle t) →
     get_or c.slots.items (t.start / 8) None ≡ Some b → (b.value.title ≡ t) × (b.value.free ≡ Some k) × (slot_at c.slots.items t ≡ Some b.value)
 entry_free c k t b sound has h was =
@@ -100,7 +100,7 @@ row_sound e c after p old new sound can uncut ch words title free own h =
     (λ t held. elim (held_back e (state_of c) (state_of after) can h t held) [ inl was ↦ was | inr cut ↦ absurd (uncut t cut) ])
     (happens_good e (state_of c) (state_of after) sound.good can h)
 
--- the step that gives the title back does so where bit and count are 0 after it
+-- the step that gives the title back does so if bit and count are 0 after it
 abbrev pub back_after : ℕ → Bool
 back_after v = eqb (held_of v) 0 && eqb (refs_of v) 0
 
@@ -226,7 +226,7 @@ same_row c after p old new sound ch words n =
     placed_at_place : IsPlaced (length c.words.items) c.actors p (Some old)
     placed_at_place = subst (λ (q : Place). IsPlaced (length c.words.items) c.actors p q) ch.was (sound.placed p)
 
--- a title's entry stands at its place
+-- a title's entry is at its place
 kept_there : (t : Title) (q : Place) (o : Slot) (P : Slot → Type 0) → kept_as t q ≡ Some o → P o → (b : Box Slot Global) × (q ≡ Some b) × P b.value
 kept_there t None o P is h = absurd (none_some o is)
 kept_there t (Some b) o P is h = (b, refl, subst P (sym (kept_value t b o is)) h)

@@ -17,7 +17,7 @@ slot_parts s t a b =
     let g : ℕ → SlotName = λ y. record { start = t.start; born = y } in
     ap f a ∙ ap g b
 
--- two names are one where the test says so, and only there
+-- two names are one if the test says so, and only there
 pub same_slot_cases : (s t : SlotName) → (s ≡ t) ⊎ (s ≡ t → ⊥)
 same_slot_cases s t = elim (cases_eq s.start t.start) [
   | inl a ↦ elim (cases_eq s.born t.born) [

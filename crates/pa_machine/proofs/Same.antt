@@ -24,7 +24,7 @@ title_tells_by t u a b c e (inl y) (inr n) r = inr (rw (e, y.0, n.0) refl, λ s.
 title_tells_by t u a b c e (inl y) (inl z) (inr n) = inr (rw (e, y.0, z.0, n.0) refl, λ s. n.1 (ap (λ (x : Title). x.born) s))
 title_tells_by t u a b c e (inl y) (inl z) (inl w) = inl (rw (e, y.0, z.0, w.0) refl, title_is t u y.1 z.1 w.1)
 
--- the test is true exactly where the titles are one
+-- the test is true exactly when the titles are one
 pub title_tells : (t u : Title) → ((same_title t u ≡ true) × (t ≡ u)) ⊎ ((same_title t u ≡ false) × (t ≡ u → ⊥))
 title_tells t u =
     title_tells_by t u (eqb t.start u.start) (eqb t.len u.len) (eqb t.born u.born) refl

@@ -1,4 +1,4 @@
--- The tables at the start are sound, and stand for the start.
+-- The tables at the start are sound, and represent the start.
 use Rattle.std.proofs.Common.{◌≡◌, ℕ, zero, suc, ◌+◌, ◌-◌, ◌*◌, ◌/◌, ◌%◌, ◌<◌, ◌≤◌, List, [], ◌∷◌, Some, None, length, get_or, replicate, refl, sym, ◌∙◌, ap, subst, arith, ◌⊎◌, inl, inr}
 use Rattle.std.specs.List.{sum_by}
 use Rattle.std.proofs.lemmas.List.{get_or-replicate, length-replicate}
@@ -20,7 +20,7 @@ use Rattle.pa_machine.proofs.Tabled.{held_tables, raw_titles}
 use Rattle.pa_machine.proofs.Reading.{raw_is}
 use Rattle.pa_machine.proofs.Handing.{one_of, none_of}
 
--- a sum is its members, place by place
+-- a sum is its members, index by index
 sum_spread : {A : Type 0} (f : A → ℕ) (d : A) (xs : List A) → sum_by f xs ≡ spread (λ i. f (get_or xs i d)) xs
 sum_spread f d [] = refl
 sum_spread f d (x ∷ xs) = let e = sum_by-cons f x xs in let again = sum_spread f d xs in omega arith

@@ -22,7 +22,7 @@ spread-one (x ∷ xs) f (suc a) v h z l =
     let e = spread-one xs (λ i. f (suc i)) a v h (λ i ne. z (suc i) (λ q. ne (omega arith))) (omega arith) in
     let e0 = z 0 (λ q. omega arith) in omega arith
 
--- where each member's amount with what is lost is the old one with what is gained, the sums are so too
+-- if each member's amount with what is lost is the old one with what is gained, the sums are so too
 pub sum-exchange : {A : Type 0} (f : A → ℕ) (d : A) (xs ys : List A) (l g : ℕ → ℕ) → length ys ≡ length xs
     → ((i : ℕ) → i < length xs → f (get_or ys i d) + l i ≡ f (get_or xs i d) + g i)
     → sum_by f ys + spread l xs ≡ sum_by f xs + spread g xs

@@ -1,4 +1,4 @@
--- What the state that the tables stand for says of each actor and thing, read off the tables.
+-- What the state that the tables represent says of each actor and thing, read off the tables.
 use Rattle.std.proofs.Common.{◌≡◌, ℕ, zero, suc, ◌+◌, ◌-◌, ◌*◌, ◌/◌, ◌%◌, ◌<◌, ◌≤◌, Bool, true, false, cond, eqb, List, [], ◌∷◌, ◌++◌, Option, Some, None, get_or, refl, sym, ◌∙◌, ap, arith, ◌⊎◌, inl, inr}
 use Rattle.std.specs.List.{sum_by, slice_index_or, flat_map}
 use Rattle.std.proofs.lemmas.List.Sums.{sum_by-cons, sum_by-append}
@@ -183,7 +183,7 @@ slot_none actor o u ne =
     owns None = nil_none u
     owns (Some w) = none_if (eqb w.actor actor) (OwnPiece o.title w.state ∷ []) u (own_none o.title u w.state ne)
 
--- a sum in which one place alone counts
+-- a sum in which one index alone counts
 sum_at : {A : Type 0} (f : A → ℕ) (d : A) (xs : List A) (k : ℕ) → f d ≡ 0 → ((i : ℕ) → (i ≡ k → ⊥) → f (get_or xs i d) ≡ 0) → sum_by f xs ≡ f (get_or xs k d)
 sum_at f d [] k z h = sym z
 sum_at f d (x ∷ xs) zero z h =

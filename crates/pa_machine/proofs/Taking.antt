@@ -48,7 +48,7 @@ unheld_zero c actor p t x sound has about none = elim (cases_eq p (t.start / 8))
   | inr ne ↦ about (place_pieces actor (get_or c.slots.items p None)) (place_none actor (length c.words.items) c.actors p (get_or c.slots.items p None) t (sound.placed p) ne)
 ]
 
--- nobody holds a title that stands where the bytes are raw
+-- nobody holds a title that is where the bytes are raw
 none_held : (c : Tables) (k p : ℕ) (t u : Title) → AreSound c → IsEnabled (Cut k t) (state_of c) → p ≡ t.start / 8 → u.start / 8 ≡ p →
     total_of (state_of c) (FreeTitle u) + total_of (state_of c) (OwnOf u) + total_of (state_of c) (RefOf u) ≡ 0
 none_held c k p t u sound can place e = elim (cases_lt 0 (total_of (state_of c) (FreeTitle u) + total_of (state_of c) (OwnOf u) + total_of (state_of c) (RefOf u))) [

@@ -20,9 +20,9 @@ use Rattle.pa_one_run.proofs.placing.Placing.{placed_alike, lines_alike, other_a
 use Rattle.pa_one_run.proofs.Reports.{one_report}
 use Rattle.pa_one_run.proofs.lines.Cuts.{cut_start, IsCut, cut_next, IsRecorded, recorded_cases, cut_here, entries_recorded, pool_recorded, cells_recorded}
 
--- ---- what stands before a line, where nothing stands between
+-- ---- what comes before a line, if nothing comes between
 
--- two runs that agree before a line agree before a later one, where no record stands between
+-- two runs that agree before a line agree before a later one, if no record comes between
 agrees_later : (a b : Parts) (n m : ℕ) (before rest rest' : List Played) → IsFiled a → IsFiled b → IsCut a n before rest → IsCut b n before rest' → n ≤ m →
     ((x : Played) → Contains rest x → m ≤ x.line) → ((x : Played) → Contains rest' x → m ≤ x.line) → Agrees n a b → Agrees m a b
 agrees_later a b n m before rest rest' h k here here' up late late' agrees =
@@ -62,7 +62,7 @@ pub record IsOne (a b : Parts) (rest rest' : List Played) : Type 0 where
   pub pool : a.pools ≡ b.pools
   pub exchanges : (c : ℕ) → a.cells c ≡ b.cells c
 
--- where no record is left, all stands before the line
+-- if no record is left, all comes before the line
 all_below : (a : Parts) (n : ℕ) (before : List Played) → IsCut a n before [] → (line : ℕ) → IsRecorded a line → line < n
 all_below a n before cut line of = elim (recorded_cases a n (line + 1) before [] cut (λ x among. absurd (not_in_none x among)) line of) [
   | inl less ↦ less

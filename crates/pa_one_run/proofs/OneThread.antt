@@ -1,4 +1,4 @@
--- In a legal run by one thread all stands in the order of the lines.
+-- In a legal run by one thread all is in the order of the lines.
 use Rattle.std.proofs.Common.{◌≡◌, ℕ, ◌+◌, ◌<◌, ◌≤◌, List, [], ◌∷◌, ◌++◌, Some, refl, sym, ◌∙◌, ap, subst, arith, ◌⊎◌, inl, inr}
 use Rattle.std.specs.Prelude.{Contains, AllPairs}
 use Rattle.std.specs.List.Sorted.{IsNonDecreasingBy}

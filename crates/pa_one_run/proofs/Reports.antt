@@ -38,7 +38,7 @@ one_tally a P xs p t u h (slots, sizes, are, count, bytes) (others', more, are',
 
 -- ---- the caches after some records
 
--- the caches are one after records of the run, where they were before them
+-- the caches are one after records of the run, if they were before them
 caches_one : (a : Parts) (xs : List Played) (all all' after after' : Caches) → IsFiled a → ((x : Played) → Contains xs x → Contains a.ps x) → all ≡ all' → CachesTo a.partitions a.roots all xs after →
     CachesTo a.partitions a.roots all' xs after' → after ≡ after'
 caches_one a [] all all' after after' h members same to to' = to ∙ same ∙ sym to'

@@ -16,7 +16,7 @@ few_bytes c real = let b = IsRow-of c real in let p = b.few_pages in omega arith
 pub few_slots : (c : ℕ) → c < 59 → slots_of c ≤ 1024
 few_slots c real = let b = IsRow-of c real in let p = b.few_slots in omega arith
 
--- so many of its slots lie in a span
+-- that many of its slots lie in a span
 pub slots_inside : (c n : ℕ) → c < 59 → n ≤ slots_of c → slot_of c * n ≤ 16384 * pages_of c
 slots_inside c n real below =
     let b = IsRow-of c real in

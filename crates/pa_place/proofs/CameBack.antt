@@ -1,4 +1,4 @@
--- How often a number stands in a list, and which numbers a span's list has.
+-- How often a number is in a list, and which numbers a span's list has.
 use Rattle.std.proofs.Common.{◌≡◌, ℕ, suc, ◌+◌, ◌-◌, ◌<◌, ◌≤◌, max, List, [], ◌∷◌, ◌++◌, length, get_or, refl, sym, ◌∙◌, ap, subst, arith, inl, inr}
 use Rattle.std.specs.Prelude.{Contains}
 use Rattle.std.proofs.lemmas.Bool.{cases_eq, cases_lt, eq-eqb, ne_eqb}
@@ -39,14 +39,14 @@ times_listed n (x ∷ xs) among = elim (cases_eq x n) [
   ]
 ]
 
--- a number's count is below how long the list is, also where it has no place
+-- a number's count is below how long the list is, also if it has no place
 pub times_below : (times xs : List ℕ) (n most : ℕ) → AreTimes times xs → length xs < most → get_or times n 0 < most
 times_below times xs n most h few = elim (cases_lt n (length times)) [
   | inl low ↦ let e = h n low in let k = times_few n xs in omega (arith, e, k, few)
   | inr past ↦ let e = get_or_past times n 0 past in omega (arith, e, few)
 ]
 
--- ---- the list of a span: what came back, and behind it the numbers from one on up to another
+-- ---- the list of a span: what came back, and after it the numbers from one on up to another
 
 pub numbers_step : (n to : ℕ) → n < to → numbers n (to - n) ≡ n ∷ numbers (n + 1) (to - (n + 1))
 numbers_step n to less = let e : to - n ≡ suc (to - (n + 1)) = omega arith in rw e refl
@@ -66,7 +66,7 @@ none_kept xs from to low none =
     let zero' = ap length none in
     omega (arith, long, zero', low)
 
--- a number stands in the list exactly where it came back or is one from `from` on
+-- a number is in the list exactly when it came back or is one from `from` on
 pub back_listed : (xs : List ℕ) (from to n : ℕ) → Contains xs n → Contains (xs ++ numbers from (to - from)) n
 back_listed xs from to n among = in_left xs (numbers from (to - from)) n among
   where

@@ -88,7 +88,7 @@ filled_step class want r next titles good real few e ordered =
     subst (IsInPlace r) same
     (step_by r (takes class want r).root good a.sound (let p = a.settled in omega arith) (subst IsOrdered (sym same) ordered) a.supers a.maps (let p = a.turn in omega arith) a.rises)
 
--- so where the pool stays as it is, it is a step
+-- so if the pool stays as it is, it is a step
 pub in_place : (n : ℕ) (r next : Root) → IsInPlace r next → IsStep n n r next
 in_place n r next a = record { turn = a.turn; rises = a.rises; entries = omega arith; one = omega arith; born = a.born n }
 
@@ -145,7 +145,7 @@ opened_step first entry r after good few low old e =
       step = record { turn = omega arith; rises = omega arith; entries = omega arith; one = omega arith; born = λ _. b };
     })
 
--- the fill is one that asks the pool exactly where it has to
+-- the fill is one that asks the pool exactly when it has to
 filled_where : (class want entry : ℕ) (found : Option ℕ) (r : Root) → IsNone (span_for class r) → takes class want (opened_where found entry r) ≡ filled_by class want entry found r
 filled_where class want entry None r none = takes_none class want r none
 filled_where class want entry (Some first) r none = refl

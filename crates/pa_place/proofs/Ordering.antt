@@ -25,7 +25,7 @@ set_cases (z ∷ xs) (suc i) x y among = elim (in_cases z y (set xs i x) among) 
   | inr rest ↦ elim (set_cases xs i x y rest) [ inl e ↦ inl e | inr old ↦ inr (later_in z y xs old) ]
 ]
 
--- a span like another stands before the same, and behind the same
+-- a span like another comes before the same, and after the same
 before_like : (s t u : Span) → IsLike t s → IsBefore s u → IsBefore t u
 before_like s t u like (inl sooner) = let b = like.born in inl (omega arith)
 before_like s t u like (inr (same, ends)) =
@@ -69,7 +69,7 @@ newest xs a b h (k, below, e) f = elim (cases_lt k (length xs - 1)) [
       omega arith
 ]
 
--- a new span stands behind all others
+-- a new span comes after all others
 pub order_push : (class : ℕ) (r : Root) (at : SuperPage) → IsSound r → IsOrdered r → current r ≡ Some at → IsOrdered (with_span (new_span class at r.page) r)
 order_push class r at sound h now =
     let s = new_span class at r.page in

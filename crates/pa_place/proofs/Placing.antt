@@ -37,7 +37,7 @@ put_set s t (x ∷ ts) (suc i) h e same = elim (cases_Bool (same_place x s)) [
     joined : (x s t : Span) → same_place x s ≡ true → same_place s t ≡ true → same_place x t ≡ true
     joined x s t a b = place_trans x s t a b
 
--- a span that enters a state in place of the one that stands there
+-- a span that enters a state in place of the one that is there
 pub entered_set : (r : Root) (i : ℕ) (s t : Span) (to : State) → IsSound r → slice_get r.spans i ≡ Some s → IsLike t s →
     entered to t r ≡ record r { spans = set r.spans i (in_state to r.turn t); turn = turn_after to r.turn t }
 entered_set r i s t to sound e like =
@@ -96,7 +96,7 @@ is_room class r at e = room_by class r (current r) at refl e
 pub current_in : (r : Root) (at : SuperPage) → current r ≡ Some at → Contains r.supers at
 current_in r at e = at_in r.supers (length r.supers - 1) at e
 
--- where a span is found, its root is ready and it has a slot left
+-- if a span is found, its root is ready and it has a slot left
 pub record IsReadyFound (f : Found) : Type 0 where
   pub ready : IsReady f.root
   pub left : f.span.allocated < slots_of f.span.class
@@ -138,7 +138,7 @@ served_root r i s u next title turn sound e served is after =
     ∙ ap (λ n. last (record r { spans = set r.spans i next; turn = n }) (Some (title_at (with_free s) served.number))) (sym after)
     ∙ ap (λ v. last (record r { spans = set r.spans i next; turn = turn }) (Some v)) (sym served.title)
 
--- who stands at a place of a list
+-- who is at a place of a list
 pub there : {A : Type 0} (xs : List A) (i : ℕ) → i < length xs → (x : A) × (slice_get xs i ≡ Some x)
 there [] i below = absurd (omega arith)
 there (x ∷ xs) zero below = (x, refl)

@@ -1,4 +1,4 @@
--- A call gives no slot exactly where the pool had no room.
+-- A call gives no slot exactly when the pool had no room.
 use Rattle.std.proofs.Common.{◌≡◌, ℕ, zero, suc, ◌<◌, ◌≤◌, List, [], length, sym, ap, subst, arith, Option, Some, None}
 use Rattle.std.specs.Prelude.{◌↔◌}
 use Rattle.pa_machine.specs.declared.title.Title.{Title}

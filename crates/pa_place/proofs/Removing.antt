@@ -62,7 +62,7 @@ without_map_is name (t ∷ ts) = elim (cases_Bool (is_named name t)) [
   | inr miss ↦ rw miss (ap (λ xs. t ∷ xs) (without_map_is name ts))
 ]
 
--- a member by its place, and none where none passes
+-- a member by its place, and none if none passes
 none_passes_from : {A : Type 0} (test : A → Bool) (n : ℕ) (xs : List A) (x : A) → position_from test n xs ≡ None → Contains xs x → test x ≡ false
 none_passes_from test n [] x e among = absurd (not_in_none x among)
 none_passes_from test n (y ∷ xs) x e among = elim (cases_Bool (test y)) [

@@ -50,7 +50,7 @@ held_tells name s h =
     let (l, u) = and_parts _ _ q in
     record { born = eqb-true _ _ p; from = leb-true _ _ l; to = ltb-true _ _ u }
 
--- a span that starts behind the slot doesn't hold it
+-- a span that starts after the slot doesn't hold it
 after_misses : (name : SlotName) (s : Span) → starts_after name s ≡ true → holds name s ≡ false
 after_misses name s h = elim (cases_Bool (holds name s)) [
   | inr miss ↦ miss
@@ -63,7 +63,7 @@ after_misses name s h = elim (cases_Bool (holds name s)) [
       ]
 ]
 
--- nor does one before another that doesn't start behind it
+-- nor does one before another that doesn't start after it
 before_misses : (name : SlotName) (u v : Span) → IsBefore u v → starts_after name v ≡ false → holds name u ≡ false
 before_misses name u v before not_after = elim (cases_Bool (holds name u)) [
   | inr miss ↦ miss

@@ -1,4 +1,4 @@
--- Where a span stands in a list that is in the order of turns.
+-- Where a span is in a list that is in the order of turns.
 use Rattle.std.proofs.Common.{◌≡◌, ◌≢◌, ◌∙◌, ℕ, zero, suc, ◌+◌, ◌<◌, ◌≤◌, false, eqb, List, [], ◌∷◌, refl, sym, ap, subst, arith, inl, inr, Some}
 use Rattle.std.specs.Prelude.{Contains, AllPairs, slice_get, remove}
 use Rattle.std.proofs.lemmas.Bool.{cases_Bool, cases_lt, eqb-true, eq-eqb}
@@ -39,7 +39,7 @@ turns_above ss turn ids m i v h e f more k j s above g q = elim (cases_lt m k) [
       omega arith
 ]
 
--- a span that is listed stands at the cut of its turn
+-- a span that is listed is at the cut of its turn
 at_cut : (ss : List Span) (ids : List ℕ) (at k count : ℕ) (s : Span) → IsInTurn ss ids → IsTurnCut ss s.turn ids count → slice_get ss at ≡ Some s → slice_get ids k ≡ Some at → k ≡ count
 at_cut ss ids at k count s h cut e f = elim (cases_lt k count) [
   | inl sooner ↦ let less = cut.before k at s sooner f e in omega arith
@@ -61,7 +61,7 @@ not_same a b other = elim (cases_Bool (eqb a b)) [
   | inr miss ↦ miss
 ]
 
--- where it stands there the list without it is the list without that place
+-- if it is there the list without it is the list without that place
 removed_at : (ids : List ℕ) (k i : ℕ) → AllPairs ◌≢◌ ids → slice_get ids k ≡ Some i → remove ids k ≡ without_index i ids
 removed_at [] k i once e = absurd (not_some i e)
 removed_at (j ∷ ids) zero i once e = rw (eq-eqb j i (of_some j i e)) refl
@@ -72,7 +72,7 @@ removed_at (j ∷ ids) (suc k) i once e =
 pub removed_cut : (ss : List Span) (ids : List ℕ) (k i : ℕ) → IsInTurn ss ids → slice_get ids k ≡ Some i → remove ids k ≡ without_index i ids
 removed_cut ss ids k i h e = removed_at ids k i (once_in_turn ss ids h) e
 
--- and where another does it isn't listed
+-- and if another does it isn't listed
 absent_without : (i : ℕ) (ids : List ℕ) → (Contains ids i → ⊥) → ids ≡ without_index i ids
 absent_without i [] away = refl
 absent_without i (k ∷ ids) away = elim (cases_Bool (eqb k i)) [

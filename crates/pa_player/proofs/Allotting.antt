@@ -34,7 +34,7 @@ use Rattle.pa_player.proofs.GoingBack.{entries_are, listed_len, list_counted}
 use Rattle.pa_player.proofs.FromRoot.{taken_len, taken_free}
 use Rattle.pa_player.proofs.Issuable.{IsIssuable, IsFillable, issue_new, front_issued, fillable_put, fillable_asked, table_asked}
 
--- what is told is no matter
+-- what is reported is no matter
 fillable_acted : (thread q class at k : ℕ) (acts : List RootAct) (s : Player) → IsFillable thread q class at s → IsFillable thread q class at (acted k acts s)
 fillable_acted thread q class at k acts s h = record {
   threads = h.threads;

@@ -1,4 +1,4 @@
--- A slot that is in use is out of its root, and in no list; and so is one of a list, which stands there once.
+-- A slot that is in use is out of its root, and in no list; and so is one of a list, which is there once.
 use Rattle.std.proofs.Common.{◌≡◌, ℕ, zero, suc, ◌+◌, ◌<◌, ◌≤◌, inl, inr, List, [], ◌∷◌, map, max, length, Option, Some, None, refl, sym, ap, ◌∙◌, subst, arith, true}
 use Rattle.std.specs.Prelude.{Contains, nat_lt}
 use Rattle.std.proofs.lemmas.Bool.{cases_eq, lt-ltb}
@@ -92,7 +92,7 @@ module _ (region partitions threads : ℕ) (ls : List Line) (p : Player) (h : Is
       let here = ap (λ (z : Slot). z.word.0) (slot_here p.table (named_at p.table i) i h.slots.apart (low, refl)) in
       subst (λ w. HasWord h.ps (named_at p.table i) w) here ((ends_right threads ls h.ps (shown p) h.told).words (named_at p.table i))
 
-  -- a slot stands in the lists or is in use, once, or it is in the root
+  -- a slot is in the lists or is in use, once, or it is in the root
   is_once : (i t : ℕ) → i < length p.table → IsOnce (root_at p.told.pools (journals p) (slot_at p.table i).partition) (named_at p.table i)
       (cached_times (named_at p.table i) (caches p) (slot_at p.table i).partition (max (t + 1) (threads_of h.ps)) + busy (slot_at p.table i).word.0)
   is_once i t low =
@@ -172,7 +172,7 @@ module _ (region partitions threads : ℕ) (ls : List Line) (p : Player) (h : Is
       let b = stands_here i t q class inside real among in
       omega arith
 
-  -- in no other list, and behind the front of a list it doesn't stand again
+  -- in no other list, and after the front of a list it doesn't stand again
   pub listed_once : (i t q class u k c : ℕ) → t < threads → q < partitions → class < 59 → u < threads → k < partitions → c < 59
       → Contains (list_at p t q class) i → Contains (list_at p u k c) i → (t ≡ u) × (q ≡ k) × (class ≡ c)
   listed_once i t q class u k c below inside real lower within known there here =

@@ -147,7 +147,7 @@ module _ (region partitions threads : ℕ) (ls : List Line) (p : Player) (h : Is
         omega (arith, t.bytes, all_bytes_few (caches p) q threads (λ u c lt. list_short u q c lt low), few),
       )
 
-  -- where a list stands
+  -- the index of a list
   pub place_among : (t q class : ℕ) → t < threads → q < partitions → class < 59 → list_place p.partitions t q class < length p.caches
   place_among t q class below low real =
       let same : list_place p.partitions t q class ≡ list_place partitions t q class = ap (λ n. list_place n t q class) h.shaped.many in

@@ -13,7 +13,7 @@ use Rattle.pa_player.specs.Changes.{tallied_more, tallied_less}
 
 -- ---- one tally
 
--- so many slots and bytes more in partition q
+-- that many slots and bytes more in partition q
 pub record IsMoreBy (q count size k : ℕ) (before after : Tally) : Type 0 where
   pub slots : after.slots ≡ before.slots + (if q == k then count else 0)
   pub bytes : after.bytes ≡ before.bytes + (if q == k then size else 0)
@@ -172,7 +172,7 @@ unfolding totals
 totals_bytes all k zero = refl
 totals_bytes all k (suc n) = let a = levels_bytes (all n k) 0 59 in let b = totals_bytes all k n in omega arith
 
--- what the lists of all threads have, where one list is changed
+-- what the lists of all threads have, if one list is changed
 pub cached_slots_set : (all : Caches) (threads t q class k : ℕ) (xs : List Numbered) → t < threads → class < 59
     → cached_slots (with_cache all t (with_list (all t) q class xs)) k threads + (if q == k then length (all t q class) else 0)
     ≡ cached_slots all k threads + (if q == k then length xs else 0)

@@ -17,7 +17,7 @@ empties xs h i = elim (cases_lt i (length xs)) [
 pub are_empty : {X : Type 0} (n : ℕ) (xs : List (List X)) → length xs ≡ n → All (λ h. h ≡ []) xs → AreEmpty n xs
 are_empty n xs many h = record { count = many; empty = empties xs h }
 
--- so many roots without a span
+-- that many roots without a span
 pub are_new : (n : ℕ) (xs : List Root) → length xs ≡ n → All (λ r. r ≡ new_root) xs → AreNew n xs
 are_new n xs many h = record {
   count = many;

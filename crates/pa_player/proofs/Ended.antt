@@ -1,4 +1,4 @@
--- The end of the run: what was told is the trace's run in the order of its lines.
+-- The end of the run: what was reported is the trace's run in the order of its lines.
 use Rattle.std.proofs.Common.{◌≡◌, ℕ, ◌+◌, List, [], length, get_or, sym, ap, ◌∙◌, subst, arith, inl, inr}
 use Rattle.std.specs.Prelude.{All, Contains}
 use Rattle.std.specs.List.{AllByRecursion}
@@ -75,7 +75,7 @@ module _ (region partitions threads n phase : ℕ) (ps : List Played) (pools : L
     root = subst (λ (c : Census). HasCensus ps pools roots l.phase l.partition c) (sym t.census) (at_end.census l.partition);
   }
 
--- ---- what is told
+-- ---- what is reported
 
 -- the lists as a run tells them
 abbrev pub lists_of : Lists → Told

@@ -202,7 +202,7 @@ module _ (p : Player) (thread reg q size class : ℕ) (none : HasNone (register_
     lists_are : lists ≡ set p.caches at rest
     lists_are = ap (λ zs. set zs at rest) u.set_lists ∙ set-set p.caches at (list_in p at ++ u.places) rest
 
-    -- the slot isn't behind itself, and in no other list
+    -- the slot isn't after itself, and in no other list
     once : Contains rest i → ⊥
     once among =
         let differ : AllPairs ◌≢◌ (names (map (numbered_at table) (i ∷ rest))) = subst (λ z. AllPairs ◌≢◌ (names z)) numbers (subst (λ ss. AllPairs ◌≢◌ ss) u.named (map_once titles taken.differ)) in
@@ -330,7 +330,7 @@ module _ (p : Player) (thread reg q size class : ℕ) (none : HasNone (register_
         (record { many = λ k fit. (h.tallied k fit).many; bytes = λ k fit. (h.tallied k fit).bytes }) lists_then retallied)
         lists_then
 
-    -- the same where the slot's word and its content are set one after the other
+    -- the same if the slot's word and its content are set one after the other
     pub fill_goes : (r : Player) (answer : Answer) → (r ≡ issued thread reg i (cached_less q 1 (slot_at filled.table i).title.len (listed at rest filled))) × (answer ≡ made_at filled i)
         → IsPlaying region partitions threads (ls ++ Do thread (ops.Alloc reg q size) ∷ []) (answered thread answer r)
     fill_goes r answer (is, says) =

@@ -33,7 +33,7 @@ use Rattle.pa_player.specs.Playing.{home_in, len_in, IsLetOut, AreAllSlots}
 use Rattle.pa_player.proofs.Slots.{IsPlaceOf, slot_cases}
 use Rattle.pa_player.proofs.Shows.{gain, IsTallyMore}
 
--- ---- sizes, and where a slot that has one stands
+-- ---- sizes, and where a slot that has one is
 
 pub let_out_sized : (roots : Journals) (x : Slot) (class : Option ℕ) → IsLetOut roots x class → HasSize roots x.partition (name_of x.title) x.title.len
 let_out_sized roots x (Some class) of = inl (class, of.1, of.2)

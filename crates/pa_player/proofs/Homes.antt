@@ -41,7 +41,7 @@ homed_set slots home i x lt e h = record {
 pub homed_names : (slots : List Slot) (home : ℕ → Option ℕ) → IsHomed slots home → AreNamed slots
 homed_names slots home h i j li lj e = some_same i j (sym (h.leads i li) ∙ ap (λ n. home (key_of n)) e ∙ h.leads j lj)
 
--- a slot more behind the others, whose name none of them has
+-- a slot more after the others, whose name none of them has
 key_start : (a b c d : ℕ) → a < 4294967296 → c < 4294967296 → a + 4294967296 * b ≡ c + 4294967296 * d → (a ≡ c) × (b ≡ d)
 key_start a b c d l m e = (omega (arith, l, m, e), omega (arith, l, m, e))
 

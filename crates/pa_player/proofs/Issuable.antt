@@ -71,7 +71,7 @@ front_issued thread reg q class at s regs four real h = record {
 
 -- ---- a list that is filled
 
--- a slot that stands in the table stays as it is
+-- a slot that is in the table stays as it is
 home_slot : (before after : List Slot) (new : Slot) (place i : ℕ) → IsHome before after new place → i < length before → slot_at after i ≡ slot_at before i
 home_slot before after new place i (inl h) low = ap (λ zs. slot_at zs i) h.0
 home_slot before after new place i (inr h) low = ap (λ zs. slot_at zs i) h.0 ∙ get_or_append_left before (new ∷ []) no_slot i low
@@ -92,7 +92,7 @@ issuable_same before after q class i same longer h = record {
   home = ap (λ (x : Slot). x.partition) same ∙ h.home;
 }
 
--- a slot that stands behind the others is new
+-- a slot that comes after the others is new
 issuable_new : (before : List Slot) (t : Title) (q class : ℕ) → t.len ≡ slot_of class → IsIssuable (before ++ new_slot t q (Some class) ∷ []) q class (length before)
 issuable_new before t q class len =
     let new = new_slot t q (Some class) in
@@ -168,7 +168,7 @@ fillable_put thread q class at (t ∷ ts) s r xs h fine (after, place, rest, hom
     (λ u among. fine_home s.table after t u q class place first (fine u (later_in t u ts among)) home)
     put
 
--- where the call asked the pool
+-- if the call asked the pool
 pub fillable_asked : (thread q class at : ℕ) (s : Player) (after : Root) (plan : PoolState) (titles : List Title) (asked : Option ℕ) → IsFillable thread q class at s
     → IsFillable thread q class at (asked_in q 1 titles asked (placed_in q after plan s))
 fillable_asked thread q class at s after plan titles None h = record {

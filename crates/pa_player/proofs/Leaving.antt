@@ -1,4 +1,4 @@
--- An act that lets slots out of its root, and what is told with it.
+-- An act that lets slots out of its root, and what is reported with it.
 use Rattle.std.proofs.Common.{◌≡◌, ℕ, List, [], ◌∷◌, ◌++◌, set, Option, Some, None, ap}
 use Rattle.std.specs.Prelude.{Contains}
 use Rattle.pa_machine.specs.declared.word.SlotName.{SlotName}

@@ -63,7 +63,7 @@ write_looks p thread reg value i answer is (inr (free, says)) =
     (subst (λ z. WriteRow (reg_of p.table z) ((shown p).regs thread) (answers.StaleUse (Some seen)) ((shown p).regs thread)) (sym is)
     (seen, refl, λ k. refl, inr (not_held seen.found.0 free, refl))))
 
--- a write by the owner, where raw_ptrs point to the slot
+-- a write by the owner, if raw_ptrs point to the slot
 pub write_shared : (p : Player) (thread reg value i : ℕ) → register_at p thread reg ≡ Own i → 0 < refs_of (slot_at p.table i).word.0
     → Plays p thread (ops.Write reg value) p (answers.Shared (seen_at p.table i))
 write_shared p thread reg value i is some =

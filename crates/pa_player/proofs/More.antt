@@ -62,7 +62,7 @@ module _ (region partitions threads : ℕ) (ls : List Line) (p q : Player) (h : 
   next_line : length ls + 2 + 1 ≡ length (ls ++ Do thread op ∷ []) + 2
   next_line = omega (arith, longer)
 
-  -- what is said of the entries and the acts of the line, said of what is told then
+  -- what is said of the entries and the acts of the line, said of what is reported then
   told_then : (P : List PoolEntry → Journals → Type 0) → P (p.told.pools ++ m.more) (grown (journals p) (length ls + 2) m.acts) → P q.told.pools (journals q)
   told_then P d =
       let J : journals q ≡ grown (journals p) (length ls + 2) m.acts = fun_ext m.told.journals in
@@ -91,7 +91,7 @@ module _ (region partitions threads : ℕ) (ls : List Line) (p q : Player) (h : 
       map-append entry_of h.ps (x ∷ []) ∙ ap (λ zs. zs ++ entry_of x ∷ []) h.entries ∙ ap e at
       ∙ ap (λ zs. zs ++ record { line = q.told.line; thread = thread; answer = answer } ∷ []) (sym m.told.entries)
 
-  -- a slot with a size stands where it stood
+  -- a slot with a size is where it stood
   same_homes : AreSameHomes p.table q.table (marks_of h.ps)
   same_homes mark among =
       let (i, at) = sized_place partitions p.table p.told.pools (journals p) (root_of p) (home_in p.table mark.slot) mark.slot (len_in p.table mark.slot) h.slots (h.marked mark among) in

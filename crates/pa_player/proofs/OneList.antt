@@ -32,7 +32,7 @@ same_place partitions t q class u k c low high real within e =
     let (threads, partition) = same_row partitions t u q k low high rows in
     (threads, partition, classes)
 
--- a list stands among all
+-- a list is among all
 pub place_below : (partitions threads t q class : ℕ) → t < threads → q < partitions → class < 59 → list_place partitions t q class < threads * partitions * 59
 place_below partitions threads t q class below low real =
     let more : suc t * partitions ≤ threads * partitions = mul-le-mul_right partitions below in

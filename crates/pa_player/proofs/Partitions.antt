@@ -16,7 +16,7 @@ purged_none : (thread q : ℕ) (p : Player) → purged_from thread q 0 p ≡ p
 unfolding purged_from
 purged_none thread q p = refl
 
--- The first n partitions were purged, and gave back so many slots: with the rest, all are.
+-- The first n partitions were purged, and gave back that many slots: with the rest, all are.
 pub record IsPurgedTo (thread n : ℕ) (p s : Player) (slots : ℕ) : Type 0 where
   pub many : s.partitions ≡ p.partitions
   pub rest : purged_from thread n (p.partitions - n) s ≡ purged_from thread 0 p.partitions p

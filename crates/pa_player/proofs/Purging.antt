@@ -63,7 +63,7 @@ given_none : (thread q class : ℕ) (p : Player) → given_from thread q class 0
 unfolding given_from
 given_none thread q class p = refl
 
--- The lists of the first n classes went back, which had so many slots: with the rest, all do.
+-- The lists of the first n classes went back, which had that many slots: with the rest, all do.
 pub record IsGivenTo (thread q n : ℕ) (p s : Player) (slots : ℕ) : Type 0 where
   pub many : s.partitions ≡ p.partitions
   pub lists : (class : ℕ) → n ≤ class → list_in s (list_place p.partitions thread q class) ≡ list_in p (list_place p.partitions thread q class)

@@ -20,7 +20,7 @@ use Rattle.pa_player.proofs.Slots.{named_home, home_place}
 use Rattle.pa_player.proofs.Changing.{IsRetallied}
 
 -- The titles were put into a list from m on, which led to r.
---   news: the slots that came behind the others
+--   news: the slots that came after the others
 --   places: where each of the titles stands
 pub record IsPutIn (q at class len : ℕ) (ts : List Title) (m r : Player) (xs : List Numbered) : Type 0 where
   pub news : List Slot
@@ -39,11 +39,11 @@ pub record IsPutIn (q at class len : ℕ) (ts : List Title) (m r : Player) (xs :
   pub same_length : length cached ≡ length m.cached.of
   pub retallied : IsRetallied q 0 (length ts) 0 (len * length ts) m.cached.of cached
 
--- a place keeps its number where slots come behind the others
+-- a place keeps its number where slots come after the others
 numbered_more : (slots news : List Slot) (i : ℕ) → i < length slots → numbered_at (slots ++ news) i ≡ numbered_at slots i
 numbered_more slots news i low = ap (λ (z : Slot). numbered_at (z ∷ []) 0) (get_or_append_left slots news no_slot i low)
 
--- what came behind the others when one title got its home
+-- what came after the others when one title got its home
 home_news : (before after : List Slot) (new : Slot) (place : ℕ) → IsHome before after new place → (news : List Slot) × (after ≡ before ++ news) × (length news ≤ 1) × ((x : Slot) → Contains news x → x ≡ new)
 home_news before after new place (inl h) = ([], h.0 ∙ sym (append-nil before), omega arith, λ x among. absurd (not_in_none x among))
 home_news before after new place (inr h) = (new ∷ [], h.0, omega arith, λ x among. elim (in_cases new x [] among) [ inl e ↦ sym e | inr none ↦ absurd (not_in_none x none) ])

@@ -46,7 +46,7 @@ use Rattle.pa_player.proofs.Shows.{TellsMore, HasHeap, CountsMore, IsTallyMore, 
 use Rattle.pa_player.proofs.Counting.{cached_slots_same, cached_bytes_same}
 use Rattle.pa_player.proofs.More.{playing_more}
 
--- what is told is the same but for the histories, and so are roots and pool
+-- what is reported is the same but for the histories, and so are roots and pool
 pub record IsStill (p q : Player) : Type 0 where
   pub entries : q.told.entries ≡ p.told.entries
   pub report : q.told.report ≡ p.told.report
@@ -192,7 +192,7 @@ can_play region partitions threads ls thread op p can = record {
   short = omega (arith, can.short);
 }
 
--- the player stays, where the mark is a look at a slot of the table, or none
+-- the player stays, if the mark is a look at a slot of the table, or none
 same_quiet : (region partitions threads : ℕ) (ls : List Line) (p : Player) (h : IsPlaying region partitions threads ls p) (thread : ℕ) (op : Op) (answer : Answer) → KeepsLists op answer
     → LeadsTo threads ls h.ps thread op answer (shown p) → AddsNone (mark_of (played_at ls thread op answer))
     → ((m : Mark) → mark_of (played_at ls thread op answer) ≡ Some m → (i : ℕ) × IsPlaceOf p.table m.slot i)

@@ -1,4 +1,4 @@
--- What each op of the code asks of the player: all follows where the line can be played.
+-- What each op of the code requires of the player: all follows if the line can be played.
 use Rattle.std.proofs.Common.{◌≡◌, ℕ, ◌+◌, ◌<◌, max, List, length, set, refl, sym, subst, arith}
 use Rattle.pa_machine.specs.declared.word.Step.TheVariants as steps
 use Rattle.pa_machine.specs.Count.{stepped}

@@ -166,7 +166,7 @@ module _ (p : Player) (thread reg q size class : ℕ) (none : HasNone (register_
           ap (λ (z : Slot). z.title.len) e ∙ taken.len t member
     ]
 
-    -- a slot that came behind the others had no name among them
+    -- a slot that came after the others had no name among them
     none_before : (j : ℕ) → length p.table ≤ j → j < length table → NoneNamed p.table (named_at table j)
     none_before j past low l there e =
         let keeps = keeps_grown p.table table u.news grown_by in

@@ -41,7 +41,7 @@ lines_until n phase (Phase ∷ ls) a c = lines_until (n + 1) (phase + 1) ls a c
 lines_until n phase (Do t o ∷ ls) a (zero, c, e) = omega (arith, phase_on phase ls, ap (λ (x : OpLine). x.phase) e)
 lines_until n phase (Do t o ∷ ls) a (suc i, c, e) = lines_until (n + 1) phase ls a (i, omega (arith, c), e)
 
--- the records so far stand in the phases so far
+-- the records so far are in the phases so far
 played_until : (ls : List Line) (ps : List Played) → AreLines ls ps → (x : Played) → Contains ps x → x.phase ≤ phases_in ls
 played_until ls ps lines x (i, lt, e) =
     let among : Contains (map op_line_of ps) (op_line_of x) = (i, omega (arith, lt, length-map ps op_line_of), get_or-map op_line_of ps i x (op_line_of x) lt ∙ ap op_line_of e) in
@@ -79,7 +79,7 @@ told_all : (P : ReportLine → Type 0) (p : Player) (q n : ℕ) → ((k : ℕ) �
 told_all P p q zero h = All-nil P
 told_all P p q (suc n) h = All-cons P (report_line p q) (report_lines p (q + 1) n) (h q (omega arith)) (told_all P p (q + 1) n (λ k lt. h k (omega (arith, lt))))
 
--- what was told stays so on later lines and in later phases
+-- what was reported stays so on later lines and in later phases
 pub told_stays : (partitions threads n m phase next : ℕ) (ps : List Played) (pools : List PoolEntry) (roots : Journals) (l : ReportLine) → n ≤ m → phase ≤ next
     → IsToldLine partitions threads n phase ps pools roots l → IsToldLine partitions threads m next ps pools roots l
 told_stays partitions threads n m phase next ps pools roots l le on t = record {
@@ -106,7 +106,7 @@ told_stays partitions threads n m phase next ps pools roots l le on t = record {
 }
 
 module _ (region partitions threads : ℕ) (ls : List Line) (p : Player) (h : IsPlaying region partitions threads ls p) where
-  -- the line of a partition that is told now
+  -- the line of a partition that is reported now
   told_now : (q : ℕ) → q < partitions → IsToldLine partitions threads (length ls + 2) (p.phase + 1) h.ps p.told.pools (journals p) (report_line p q)
   told_now q low =
       let t = h.tallied q low in

@@ -36,7 +36,7 @@ use Rattle.pa_player.proofs.Returning.{IsReturn}
 use Rattle.pa_player.proofs.Spilling.{back_played}
 use Rattle.pa_player.proofs.Unmaps.{unmapped_played}
 
--- ---- a free by the owner, where no raw_ptr points to the slot
+-- ---- a free by the owner, if no raw_ptr points to the slot
 
 module _ (p : Player) (thread reg i : ℕ) (own : register_at p thread reg ≡ Own i) (some : 1 ≤ (tally_at p.live.of (slot_at p.table i).partition).slots)
     (many : (slot_at p.table i).title.len ≤ (tally_at p.live.of (slot_at p.table i).partition).bytes) (none : refs_of (slot_at p.table i).word.0 ≡ 0) where

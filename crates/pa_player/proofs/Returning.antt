@@ -60,7 +60,7 @@ use Rattle.pa_player.proofs.Stepping.{changed_at, in_table, in_use, lists_kept}
 
 -- ---- slots that go back to a root
 
--- what is told, and the roots, after slots went back to the root of partition q on line n
+-- what is reported, and the roots, after slots went back to the root of partition q on line n
 pub record IsBackIn (p m : Player) (n q : ℕ) (xs : List Numbered) : Type 0 where
   pub entries : m.told.entries ≡ p.told.entries
   pub report : m.told.report ≡ p.told.report
@@ -224,7 +224,7 @@ module _ (region partitions threads : ℕ) (ls : List Line) (p : Player) (thread
     abbrev pub old : List ℕ
     old = list_at p thread home class
 
-    -- its list, with it in front
+    -- its list, with it at the start
     pub front : map (numbered_at table) (i ∷ old) ≡ returned_by seen ∷ caches p thread home class
     front =
         let inner : home < p.partitions = subst (λ z. home < z) (sym h.shaped.many) low in

@@ -18,7 +18,7 @@ use Rattle.pa_player.specs.Changes.{registered, listed}
 use Rattle.pa_player.proofs.Slots.{KeepsSlots}
 use Rattle.pa_player.proofs.OneList.{same_place}
 
--- what stands in a place of a list in which one was set
+-- what is in a place of a list in which one was set
 pub set_cases : {X : Type 0} (xs : List X) (i j : ℕ) (y d : X) → ((j ≡ i) × (get_or (set xs i y) j d ≡ y)) ⊎ (get_or (set xs i y) j d ≡ get_or xs j d)
 set_cases {X} xs i j y d = elim (cases_lt i (length xs)) [
   | inl low ↦ elim (cases_eq j i) [
@@ -48,7 +48,7 @@ in_longer n m Freed low among = tt
 in_longer n m Cleared low among = tt
 
 module _ (partitions threads : ℕ) (p : Player) (h : AreShaped partitions threads p) where
-  -- the table of slots, where those that were there stay
+  -- the table of slots, if those that were there stay
   pub shaped_table : (slots : List Slot) → KeepsSlots p.table slots → AreShaped partitions threads (record p { table = slots })
   shaped_table slots keeps = record {
     many = h.many;
@@ -237,7 +237,7 @@ module _ (partitions threads : ℕ) (p : Player) (h : AreShaped partitions threa
     cached = four;
   }
 
-  -- what is told, and the roots and the pool
+  -- what is reported, and the roots and the pool
   pub shaped_told : (told : Lists) → length told.journals ≡ length p.told.journals → length told.histories ≡ length p.told.histories
       → AreShaped partitions threads (record p { told = told })
   shaped_told told journals histories = record {

@@ -39,7 +39,7 @@ pub record TellsMore (p q : Player) (n : ℕ) (more : List PoolEntry) (acts : Ac
   pub few : (k : ℕ) → length (acts k) ≤ 512
   pub printable : (k : ℕ) (a : RootAct) → Contains (acts k) a → NamesSlots a
 
--- The roots and the pool are those of what is told then.
+-- The roots and the pool are those of what is reported then.
 pub record HasHeap (region : ℕ) (p q : Player) (n : ℕ) (more : List PoolEntry) (acts : Acts) : Type 0 where
   pub roots : (k : ℕ) → root_of q k ≡ root_at (p.told.pools ++ more) (grown (journals p) n acts) k
   pub plan : q.heap.pool ≡ pool_at region (p.told.pools ++ more)

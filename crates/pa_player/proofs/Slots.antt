@@ -15,7 +15,7 @@ use Rattle.pa_player.proofs.Homes.{named_set}
 
 -- ---- a slot by its name
 
--- the slot of that name stands there
+-- the slot of that name is there
 abbrev pub IsPlaceOf : List Slot → SlotName → ℕ → Type 0
 IsPlaceOf slots s i = (i < length slots) × (named_at slots i ≡ s)
 
@@ -55,7 +55,7 @@ slot_cases (x ∷ xs) s = elim (same_slot_cases (name_of x.title) s) [
 
 -- ---- slots that stay
 
--- The slots of a table stand in the one after it, in the same places, with their titles, partitions and classes.
+-- The slots of a table are in the one after it, in the same places, with their titles, partitions and classes.
 pub record KeepsSlots (before after : List Slot) : Type 0 where
   pub longer : length before ≤ length after
   pub title : (i : ℕ) → i < length before → (slot_at after i).title ≡ (slot_at before i).title

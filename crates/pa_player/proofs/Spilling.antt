@@ -78,7 +78,7 @@ module _ (region partitions threads : ℕ) (ls : List Line) (p : Player) (thread
   abbrev at : ℕ
   at = list_place p.partitions thread home class
 
-  -- the player with the slot in front of its list
+  -- the player with the slot before its list
   abbrev put : Player
   put = put_front home at i stepped
 
@@ -226,7 +226,7 @@ module _ (region partitions threads : ℕ) (ls : List Line) (p : Player) (thread
           (retallied_both home (slot_of class) (length (caches p thread home class)) (length (drop half whole)) (length (map (numbered_at table) (take half whole)))
           (slot_of class * length (caches p thread home class)) p.cached.of four_tallies (omega arith) (omega arith) refl (omega arith)))
 
-  -- a list with the slot in front, of which what doesn't stay goes back
+  -- a list with the slot at the start, of which what doesn't stay goes back
   pub back_played : IsPlayed region partitions threads ls p (spilled_if class home at put) can.playing thread op (Done (seen_at p.table i))
   back_played =
       let e : length whole ≡ suc (length old) = ap length whole_is in

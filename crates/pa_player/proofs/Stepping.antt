@@ -39,7 +39,7 @@ use Rattle.pa_player.proofs.Known.{mapped_used, all_slots_set}
 use Rattle.pa_player.proofs.Shows.{CountsMore}
 use Rattle.pa_player.proofs.Quiet.{IsQuiet, can_play, cache_same}
 
--- ---- the lists, where the numbers of their slots stay
+-- ---- the lists, if the numbers of their slots stay
 
 pub map_on : {X Y : Type 0} (f g : X → Y) (xs : List X) → ((x : X) → Contains xs x → g x ≡ f x) → map g xs ≡ map f xs
 map_on f g [] same = refl
@@ -142,7 +142,7 @@ module _ (region partitions threads : ℕ) (ls : List Line) (p : Player) (thread
   pub lists_kept : (y : Slot) (t k class : ℕ) → caches (record p { table = set p.table i y }) t k class ≡ caches p t k class
   lists_kept y t k class = caches_kept partitions threads p (set p.table i y) h.shaped (unmoved y) t k class
 
--- what a player shows after a step, where a register was set: its registers, cells and usable numbers
+-- what a player shows after a step, if a register was set: its registers, cells and usable numbers
 pub record ShowsStep (p : Player) (i t r : ℕ) (x : Handle) (y : Slot) (q : Player) : Type 0 where
   pub regs : (u k : ℕ) → (shown q).regs u k ≡ with_reg (shown p).regs t r (reg_of p.table x) u k
   pub held : (k : ℕ) → (shown q).held k ≡ (shown p).held k

@@ -28,7 +28,7 @@ use Rattle.pa_player.proofs.Shaping.{set_cases, shaped_told, shaped_celled, shap
 use Rattle.pa_player.proofs.Showing.{regs_registered, with_reg_same}
 use Rattle.pa_player.proofs.Quiet.{quiet_plays, can_play, counts_still, none_adds, none_not_some, cache_same}
 
--- ---- handles, and what is told of them
+-- ---- handles, and what is reported of them
 
 told_handle : (slots : List Slot) (x : Handle) → told_of slots (handle_in x) ≡ handle_of (reg_of slots x)
 told_handle slots Empty = refl

@@ -16,7 +16,7 @@ use Rattle.pa_record.specs.Laws.{CallsFit}
 use Rattle.pa_lists.proofs.Members.{not_some}
 use Rattle.pa_lists.proofs.Indexed.{slice_get_at}
 
--- the pool's entry behind all others
+-- the pool's entry after all others
 last_act : (pools : List PoolEntry) (e : PoolEntry) (a : PoolAct) → e.act ≡ a → act_at (pools ++ e ∷ []) (length pools) ≡ Some a
 last_act pools e a same = ap (λ o. option_map (λ (x : PoolEntry). x.act) o) (slice_get_at pools [] e) ∙ ap Some same
 
@@ -24,7 +24,7 @@ opened_same : (pools : List PoolEntry) (e : PoolEntry) (first : ℕ) (r : Root) 
     opened (super_of (act_at (pools ++ e ∷ []) (length pools))) (length pools) r ≡ opened first (length pools) r
 opened_same pools e first r same = ap (λ a. opened (super_of a) (length pools) r) (last_act pools e _ same)
 
--- an entry that a list has stands below its length
+-- an entry that a list has is below its length
 pub act_low : (pools : List PoolEntry) (j : ℕ) (a : PoolAct) → act_at pools j ≡ Some a → j < length pools
 act_low [] j a e = absurd (not_some a e)
 act_low (x ∷ pools) zero a e = omega arith

@@ -214,7 +214,7 @@ entered_empties r s t to sound among like =
     let e : one_if (is_in state.Empty u) ≡ one_if (same_state to state.Empty) = ap (λ a. one_if (same_state a state.Empty)) (in_state_is to r.turn t) in
     omega arith
 
--- the span stands there, and the others stay
+-- the span is there, and the others stay
 pub entered_there : (r : Root) (s t : Span) (to : State) → Contains r.spans s → IsLike t s → Contains (entered to t r).spans (in_state to r.turn t)
 entered_there r s t to among like =
     let u = in_state to r.turn t in

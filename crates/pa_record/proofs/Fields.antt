@@ -1,4 +1,4 @@
--- The fields of a line, each with what stands behind it.
+-- The fields of a line, each with what follows it.
 use Rattle.std.proofs.Common.{◌≡◌, ℕ, List, [], ◌∷◌, ◌++◌, codes, Option, Some, None, get_or, refl, sym, ap, ◌∙◌, append_assoc, arith}
 use Rattle.std.specs.List.{AllByRecursion}
 use Rattle.std.specs.Option.{IfSome}
@@ -18,7 +18,7 @@ use Rattle.pa_record.specs.Bits.{Is32, Is64, IsClass, SeenInBits, NumberedInBits
 use Rattle.pa_record.specs.Text.{seen_text, seen_text_if, number_or, numbered_text, slots_text, held_text}
 use Rattle.pa_record.proofs.Same.{same_seen, same_numbered}
 
--- ---- a text of several parts, with more behind it
+-- ---- a text of several parts, with more after it
 
 pub cut3 : (a b c x : List ℕ) → (a ++ b ++ c) ++ x ≡ a ++ (b ++ (c ++ x))
 cut3 a b c x = simp append_assoc
@@ -38,7 +38,7 @@ cut7 a b c d f g h x = simp append_assoc
 pub cut8 : (a b c d f g h k x : List ℕ) → (a ++ b ++ c ++ d ++ f ++ g ++ h ++ k) ++ x ≡ a ++ (b ++ (c ++ (d ++ (f ++ (g ++ (h ++ (k ++ x)))))))
 cut8 a b c d f g h k x = simp append_assoc
 
--- ---- names, which are told apart by four of their letters
+-- ---- names, which differ in four of their letters
 pub record Letters (u v : List ℕ) : Type 0 where
   pub first : get_or u 0 0 ≡ get_or v 0 0
   pub second : get_or u 1 0 ≡ get_or v 1 0
@@ -53,7 +53,7 @@ letters u v e = record {
   seventh = ap (λ (w : List ℕ). get_or w 6 0) e;
 }
 
--- ---- one field and the byte behind it
+-- ---- one field and the byte after it
 
 pub wide : (n : ℕ) → Is32 n → Is64 n
 wide n h = omega arith
@@ -64,7 +64,7 @@ class_wide n h = omega arith
 pub same_rest : (c : ℕ) (x y : List ℕ) → c ∷ x ≡ c ∷ y → x ≡ y
 same_rest c x y e = cc
 
--- a number, and the space or the LF behind it
+-- a number, and the space or the LF after it
 pub spaced_number : (m n : ℕ) (x y : List ℕ) → Is64 m → Is64 n → decimal m ++ 32 ∷ x ≡ decimal n ++ 32 ∷ y → (m ≡ n) × (x ≡ y)
 spaced_number m n x y hm hn e =
     let p = split_number m n (32 ∷ x) (32 ∷ y) hm hn refl refl e in
@@ -75,7 +75,7 @@ last_number m n x y hm hn e =
     let p = split_number m n (10 ∷ x) (10 ∷ y) hm hn refl refl e in
     (p.0, same_rest 10 x y p.1)
 
--- a slot's name, and the space or the `@` behind it
+-- a slot's name, and the space or the `@` after it
 pub spaced_slot : (s t : SlotName) (x y : List ℕ) → SlotFits s → SlotFits t → slot_text s ++ 32 ∷ x ≡ slot_text t ++ 32 ∷ y → (s ≡ t) × (x ≡ y)
 spaced_slot s t x y hs ht e =
     let p = split_slot s t (32 ∷ x) (32 ∷ y) hs ht refl refl e in
@@ -113,7 +113,7 @@ split_numbered m n x y hm hn sx sy e =
     let number = split_number m.number n.number x y hm.1 hn.1 sx sy slot.1 in
     (same_numbered m n slot.0 number.0, number.1)
 
--- behind a slot stands a space or an LF
+-- after a slot comes a space or an LF
 pub slots_stop : (s : List Numbered) (x : List ℕ) → IsStop (slots_text s ++ 10 ∷ x)
 slots_stop [] x = refl
 slots_stop (m ∷ s) x = refl

@@ -297,7 +297,7 @@ takes_filled class (suc want) r sound real = elim (take_cases class r sound real
       subst (λ z. IsFilled class (suc want) r z) (sym (and_then_some t (takes class want) g.title g.gives)) (more_filled class want r t g (takes class want t.root) f)
 ]
 
--- a fill gives a slot exactly where its first take finds a span
+-- a fill gives a slot exactly when its first take finds a span
 pub takes_some : (class want : ℕ) (r : Root) → IsSound r → class < 59 → IsSome (span_for class r) → 1 ≤ length (takes class (suc want) r).titles
 takes_some class want r sound real some = elim (take_cases class r sound real) [
   | inl none ↦ absurd (true≢false (sym some ∙ ap is_some none))

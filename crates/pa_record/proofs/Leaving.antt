@@ -1,4 +1,4 @@
--- A slot is out of a root exactly where it left it once more than it came back.
+-- A slot is out of a root exactly when it left it once more than it came back.
 use Rattle.std.proofs.Common.{◌≡◌, ◌≢◌, ℕ, ◌+◌, ◌<◌, true, ◌&&◌, cond, eqb, List, [], ◌∷◌, map, refl, sym, ◌∙◌, ap, subst, arith, ◌⊎◌, inl, inr, Some, None}
 use Rattle.std.specs.Prelude.{Contains, AllPairs}
 use Rattle.std.proofs.lemmas.Bool.{cases_Bool, both_ways}
@@ -28,7 +28,7 @@ use Rattle.pa_record.proofs.Mapping.{OtherBorn, without_map_in, born_more}
 use Rattle.pa_record.proofs.Stepping.{next_is}
 use Rattle.pa_record.proofs.Titles.{new_sound, new_born, rise_parts}
 
--- a name stands once in a list of different names, or not at all
+-- a name is once in a list of different names, or not at all
 pub once_or_not : (name : SlotName) (xs : List SlotName) → AllPairs ◌≢◌ xs → (Contains xs name × (times name xs ≡ 1)) ⊎ ((Contains xs name → ⊥) × (times name xs ≡ 0))
 once_or_not name [] h = inr (λ among. not_in_none name among, refl)
 once_or_not name (x ∷ xs) h =

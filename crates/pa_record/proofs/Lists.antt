@@ -1,14 +1,14 @@
--- The lines of lists tell the lists, where each line tells what it is printed of.
+-- The lines of lists tell the lists, if each line tells what it is printed of.
 use Rattle.std.proofs.Common.{◌≡◌, ℕ, zero, suc, ◌+◌, ◌<◌, ◌≤◌, ◌^◌, List, [], ◌∷◌, ◌++◌, length, get_or, refl, sym, ap, ◌∙◌, append_assoc, arith}
 use Rattle.std.specs.List.{AllByRecursion, flat_map}
 use Rattle.pa_record.specs.Text.{lines_from}
 use Rattle.pa_lists.proofs.Elements.{same_cons}
 
--- a first part, and what stands behind it
+-- a first part, and what follows it
 behind_first : (a r x b q y : List ℕ) → (a ++ r) ++ x ≡ (b ++ q) ++ y → a ++ (r ++ x) ≡ b ++ (q ++ y)
 behind_first a r x b q y e = sym (append_assoc a r x) ∙ e ∙ append_assoc b q y
 
--- ---- letters in front
+-- ---- letters at the start
 
 -- the text doesn't begin with this letter and a space
 abbrev pub Avoids : ℕ → List ℕ → Type 0
@@ -18,7 +18,7 @@ Avoids c text = (rest : List ℕ) → text ≡ c ∷ 32 ∷ rest → ⊥
 abbrev pub Begins : {A : Type 0} → ℕ → (ℕ → A → List ℕ) → Type 0
 Begins {A} c f = (n : ℕ) (a : A) → (rest : List ℕ) × (f n a ≡ c ∷ 32 ∷ rest)
 
--- no line stands in front of such a text
+-- no line comes before such a text
 abbrev pub Ends : {A : Type 0} → (A → List ℕ) → List ℕ → Type 0
 Ends {A} f text = (a : A) (rest : List ℕ) → text ≡ f a ++ rest → ⊥
 
@@ -79,7 +79,7 @@ split_placed P c f xs ys u v splits begins au av hx hy e =
 abbrev pub nested : {A : Type 0} → (ℕ → ℕ → A → List ℕ) → ℕ → List (List A) → List ℕ
 nested f p lists = lines_from (λ q. lines_from (f q) 0) p lists
 
--- what is known of the lines of lists: what a line tells, where the place is the same; the place; and the first letter
+-- what is known of the lines of lists: what a line tells, if the place is the same; the place; and the first letter
 pub record AreNested {A : Type 0} (P : A → Type 0) (c : ℕ) (f : ℕ → ℕ → A → List ℕ) : Type 0 where
   pub splits : (p j : ℕ) → Splits P (f p j)
   pub place : (p q j i : ℕ) (a b : A) (x y : List ℕ) → p < 2 ^ 64 → q < 2 ^ 64 → f p j a ++ x ≡ f q i b ++ y → p ≡ q
@@ -91,7 +91,7 @@ avoid_nested c d P f p (xs ∷ lists) u other known avoids = λ rest e.
     avoid_lines c d (f p) 0 xs (nested f (p + 1) lists ++ u) other (known.begins p) (avoid_nested c d P f (p + 1) lists u other known avoids) rest
     (sym (append_assoc (lines_from (f p) 0 xs) (nested f (p + 1) lists) u) ∙ e)
 
--- no line of a place stands in front of the lines of later places
+-- no line of a place comes before the lines of later places
 later : {A : Type 0} (P : A → Type 0) (c : ℕ) (f : ℕ → ℕ → A → List ℕ) (p q : ℕ) (lists : List (List A)) (u : List ℕ) → AreNested P c f → Avoids c u → p < q → q + length lists ≤ 100
     → (j : ℕ) → Ends (f p j) (nested f q lists ++ u)
 later P c f p q [] u known avoids order few j = ends_at c (f p) j u (known.begins p) avoids
@@ -121,7 +121,7 @@ same_at : {A : Type 0} (x y : List A) (xs ys : List (List A)) → x ≡ y → ((
 same_at x y xs ys e h zero = e
 same_at x y xs ys e h (suc i) = h i
 
--- two lists of lists with the same lines have the same lists, where one that isn't there is empty
+-- two lists of lists with the same lines have the same lists, if one that isn't there is empty
 pub split_nested : {A : Type 0} (P : A → Type 0) (c : ℕ) (f : ℕ → ℕ → A → List ℕ) (p : ℕ) (xs ys : List (List A)) (u v : List ℕ) → AreNested P c f → Avoids c u → Avoids c v
     → AllByRecursion (AllByRecursion P) xs → AllByRecursion (AllByRecursion P) ys → p + length xs ≤ 100 → p + length ys ≤ 100
     → nested f p xs ++ u ≡ nested f p ys ++ v → ((i : ℕ) → get_or xs i [] ≡ get_or ys i []) × (u ≡ v)

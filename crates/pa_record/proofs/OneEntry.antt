@@ -15,7 +15,7 @@ use Rattle.pa_record.proofs.Same.{same_numbered, same_root, same_pool, same_cell
 use Rattle.pa_record.specs.Numbers.{option_numbers, numbered_numbers, batch_numbers, root_act_numbers, root_numbers, pool_act_numbers, pool_numbers, held_numbers, cell_numbers}
 use Rattle.pa_machine.proofs.Runs.{slot_parts}
 
--- an Option, and what stands behind it
+-- an Option, and what follows it
 one_option : (p q : Option ℕ) (x y : List ℕ) → option_numbers p ++ x ≡ option_numbers q ++ y → (p ≡ q) × (x ≡ y)
 one_option None None x y e = (refl, cc)
 one_option (Some m) (Some n) x y e = (cc, cc)
@@ -72,7 +72,7 @@ one_turn a b e = absurd cc
 pub one_pool : (a b : PoolEntry) → pool_numbers a ≡ pool_numbers b → a ≡ b
 one_pool a b e = same_pool a b (cc) (cc) (one_turn a.act b.act cc)
 
--- a handle, and what stands behind it
+-- a handle, and what follows it
 one_held : (a b : Held) (x y : List ℕ) → held_numbers a ++ x ≡ held_numbers b ++ y → (a ≡ b) × (x ≡ y)
 one_held handles.Nothing handles.Nothing x y e = (refl, cc)
 one_held (handles.Own s) (handles.Own t) x y e =

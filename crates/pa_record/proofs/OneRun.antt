@@ -12,7 +12,7 @@ use Rattle.pa_record.proofs.OtherLines.{split_root, root_place, split_pool, spli
 use Rattle.pa_record.proofs.Lists.{Avoids, Begins, AreNested, avoid_flat, avoid_lines, avoid_nested, split_flat, split_placed, split_nested, same_nested}
 use Rattle.pa_lists.proofs.Tests.{greater_apart}
 
--- ---- the letters in front of the lines
+-- ---- the letters before the lines
 
 entry_begins : Begins 101 (λ _. entry_text)
 entry_begins n e = (_, refl)
@@ -40,7 +40,7 @@ cells_known = record { splits = split_cell; place = cell_place; begins = cell_be
 apart : (c d : ℕ) → c < d → c ≡ d → ⊥
 apart c d order e = absurd (omega arith)
 
--- ---- what stands behind the lines of each kind
+-- ---- what follows the lines of each kind
 
 behind_cells : Run → List ℕ
 behind_cells r = flat_map report_text r.report.items ++ codes "end\n"
@@ -75,7 +75,7 @@ entries_avoid r =
     avoid_nested 101 114 RootInBits root_text 0 r.roots.items (behind_roots r) (apart 101 114 (omega arith)) roots_known
     (roots_avoid 101 r (apart 101 112 (omega arith)) (greater_apart 101 99 (omega arith)) (apart 101 115 (omega arith)))
 
--- each kind's letter, behind the lines of that kind
+-- each kind's letter, after the lines of that kind
 roots_avoid_root : (r : Run) → Avoids 114 (behind_roots r)
 roots_avoid_root r = roots_avoid 114 r (greater_apart 114 112 (omega arith)) (greater_apart 114 99 (omega arith)) (apart 114 115 (omega arith))
 

@@ -1,4 +1,4 @@
--- The lines of journals, of the pool, of cells and of the report tell what they are printed of, and what stands behind.
+-- The lines of journals, of the pool, of cells and of the report tell what they are printed of, and what follows.
 use Rattle.std.proofs.Common.{◌≡◌, ℕ, List, [], ◌∷◌, ◌++◌, codes, Option, refl, sym, ap, ◌∙◌, arith}
 use Rattle.std.specs.Fmt.{decimal}
 use Rattle.std.proofs.lemmas.List.{append_cancel_left, append_assoc}
@@ -146,7 +146,7 @@ cell_place k l j i a b x y hk hl e =
 
 -- ---- the report
 
--- a word and a tally, and the space behind it
+-- a word and a tally, and the space after it
 split_tally : (w : List ℕ) (s t : Tally) (x y : List ℕ) → TallyInBits s → TallyInBits t → tally_text w s ++ 32 ∷ x ≡ tally_text w t ++ 32 ∷ y → (s ≡ t) × (x ≡ y)
 split_tally w s t x y hs ht e =
     let cut = sym (cut3 w (decimal s.slots) (field_text (codes " ") s.bytes) (32 ∷ x)) ∙ e ∙ cut3 w (decimal t.slots) (field_text (codes " ") t.bytes) (32 ∷ y) in
@@ -181,7 +181,7 @@ split_places s t x y hs ht e =
     let root = split_tally (codes "root ") s.root t.root x y hs.root ht.root cached.1 in
     (record { phase = phase.0; partition = partition.0; live = live.0; quarantined = quarantined.0; cached = cached.0; root = root.0 }, root.1)
 
--- behind the places
+-- after the places
 tail_cut : (s : ReportLine) (x : List ℕ) → bytes_text s ++ (spans_text s ++ x)
     ≡ codes " committed " ++ (decimal s.committed ++ (codes " reserved " ++ (decimal s.reserved ++ (codes " full " ++ (decimal s.full ++ (codes " active " ++ (decimal s.active
     ++ (codes " empty " ++ (decimal s.empty ++ (codes " decommitted " ++ (decimal s.decommitted ++ x)))))))))))

@@ -40,7 +40,7 @@ opened_taken pools j first r run h = record {
   maps = h.maps;
 }
 
--- a fill, where it asked and where it didn't
+-- a fill, if it asked and if it didn't
 filled_taken : (pools : List PoolEntry) (class n : ℕ) (asked : Option ℕ) (r : Root) → IsSound r → IsBornBelow n r → AsksFrom n asked → class < 59 → Asked pools class asked r →
     IsTakenBy pools r → IsTakenBy pools (takes class (fill_of class) (opened_by pools asked r)).root
 filled_taken pools class n None r sound old asks real fits h =

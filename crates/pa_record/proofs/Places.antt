@@ -7,7 +7,7 @@ use Rattle.pa_record.specs.Spans.{Span, same_place, put}
 use Rattle.pa_lists.proofs.Members.{not_in_none, first_in, later_in, in_cases}
 use Rattle.pa_lists.proofs.Pairs.{pairs_cons, pairs_tail, pairs_head}
 
--- the spans stand in different places
+-- the spans are in different places
 abbrev pub IsElsewhere : Span → Span → Type 0
 IsElsewhere s t = same_place s t ≡ false
 
@@ -75,7 +75,7 @@ put_keeps s u (t ∷ ts) among far = elim (cases_Bool (same_place t s)) [
   ]
 ]
 
--- where a span was in the place of s, s is there
+-- if a span was in the place of s, s is there
 pub put_there : (s t : Span) (ts : List Span) → Contains ts t → same_place t s ≡ true → Contains (put s ts) s
 put_there s t [] among same = absurd (not_in_none t among)
 put_there s t (u ∷ ts) among same = elim (cases_Bool (same_place u s)) [

@@ -36,7 +36,7 @@ kept_trans r after last a b = record {
 pub kept_same : (r : Root) → IsSound r → TakesNothing r r
 kept_same r sound = record { sound = sound; rises = omega arith; supers = refl; maps = refl; keeps = λ t made. made; only = λ name out. out }
 
--- where what is out of t was out of s, nothing else comes out when t enters a state in place of s
+-- if what is out of t was out of s, nothing else comes out when t enters a state in place of s
 entered_only : (r : Root) (s t : Span) (to : State) (name : SlotName) → IsSound r → Contains r.spans s → IsLike t s →
     ((n : ℕ) → n < t.provisioned → (Contains t.free n → ⊥) → (n < s.provisioned) × (Contains s.free n → ⊥)) →
     IsOut (entered to t r) name → IsOut r name

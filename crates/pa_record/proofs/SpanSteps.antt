@@ -17,7 +17,7 @@ use Rattle.pa_lists.specs.Numbers.{numbers}
 enough_pages : (size committed provisioned : ℕ) → size * (provisioned + 1) ≤ 4096 * max (committed + 1) ((size * (provisioned + 1) + 4095) / 4096)
 enough_pages size committed provisioned = omega arith
 
--- where not all slots are provisioned, not all pages are committed
+-- if not all slots are provisioned, not all pages are committed
 some_pages : (size slots system committed provisioned : ℕ) → 0 < size → slots * size ≤ 4096 * system → provisioned < slots →
     provisioned ≡ min (4096 * committed / size) slots → committed + 1 ≤ system
 some_pages size slots system committed provisioned some fit below is = elim (cases_lt committed system) [
@@ -41,7 +41,7 @@ size_some c real = let b = IsRow-of c real in let p = b.least_slot in omega arit
 size_fits : (c : ℕ) → c < 59 → slots_of c * slot_of c ≤ 4096 * system_of c
 size_fits c real = let b = IsRow-of c real in let p = b.filled in omega arith
 
--- where not all slots are provisioned, one more is after it
+-- if not all slots are provisioned, one more is after it
 pub more_than : (s : Span) → IsCounted s → s.provisioned < slots_of s.class → s.provisioned + 1 ≤ more_slots s
 more_than s h below =
     let size = slot_of s.class in
@@ -114,7 +114,7 @@ without_front_counted s number rest h e = record {
   most = h.most;
 }
 
--- where one of its slots is out, some are
+-- if one of its slots is out, some are
 pub some_out : (s : Span) (number : ℕ) → IsCounted s → number < s.provisioned → (Contains s.free number → ⊥) → 1 ≤ s.allocated
 some_out s number h below out =
     let less = length_less s.free s.provisioned number h.once h.numbers below out in

@@ -159,7 +159,7 @@ is_full-true pools (Some class) asked r h =
     let (none, refused) = and_parts (not (is_some (span_for class r))) (is_refused (act_at pools asked) 1) h in
     (not-true _ none, is_refused-true _ _ refused)
 
--- the slot stands behind the first guard of the super pages that an entry found
+-- the slot comes after the first guard of the super pages that an entry found
 abbrev pub stands_in : Option PoolAct → ℕ → ℕ → Bool
 stands_in (Some (pool.Take count (Some first))) wanted start = eqb count wanted && eqb start (page_place first 1)
 stands_in (Some (pool.Give count first)) wanted start = eqb count wanted && eqb start (page_place first 1)

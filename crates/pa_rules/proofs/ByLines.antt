@@ -76,7 +76,7 @@ over_hit f e (y ∷ ys) x h among same = elim (in_cases y x ys among) [
       omega arith
 ]
 
--- the entries of a list have the line of one of these records each, those behind it of none
+-- the entries of a list have the line of one of these records each, those after it of none
 by_lines : (f : RootAct → ℕ) (es rest : List RootEntry) (xs : List Played) → AllPairs OtherRecord xs → ((e : RootEntry) → Contains es e → (x : Played) × Contains xs x × (e.line ≡ x.line))
     → ((e : RootEntry) (x : Played) → Contains rest e → Contains xs x → e.line ≡ x.line → ⊥) → over (λ line. weigh f (acts_at (es ++ rest) line)) xs ≡ weight f es
 by_lines f [] [] xs h each none = over_none (λ line. 0) xs (λ x among. refl)
@@ -99,7 +99,7 @@ same_record xs x y h first second e = one_by (λ (z : Played). z.line) xs x y h 
 abbrev pub is_until : ℕ → Played → Bool
 is_until phase x = nat_le x.phase phase
 
--- the entries on the lines of some records stand in front of a journal, the others behind them
+-- the entries on the lines of some records come before a journal, the others after them
 pub record IsFront (xs : List Played) (journal front : List RootEntry) : Type 0 where
   pub rest : List RootEntry
   pub parts : journal ≡ front ++ rest

@@ -1,4 +1,4 @@
--- How often a slot stands in lists of numbered slots, in a thread's lists and in those of all threads.
+-- How often a slot is in lists of numbered slots, in a thread's lists and in those of all threads.
 use Rattle.std.proofs.Common.{◌≡◌, ℕ, zero, suc, ◌+◌, ◌<◌, ◌≤◌, cond, List, [], ◌∷◌, ◌++◌, take, drop, length, refl, sym, ◌∙◌, ap, arith, inl, inr}
 use Rattle.std.specs.Prelude.{nat_lt}
 use Rattle.std.proofs.lemmas.Bool.{cases_Bool, cases_eq, eq-eqb, ne_eqb}

@@ -32,7 +32,7 @@ use Rattle.pa_rules.specs.Once.{once}
 use Rattle.pa_rules.proofs.Known.{IsKnown, FirstKeeps, first_keeps, entry_of_act, known_with, row_known}
 use Rattle.pa_rules.proofs.Counted.{stands, times_cons, stands_kept, back_gives, left_gives, back_purge, left_purge, listed_agree, listed_none, list_of_another, listed_changed, cached_changed}
 
--- 1 where there is a mark that passes
+-- 1 if there is a mark that passes
 abbrev marked : (Mark → Bool) → Option Mark → ℕ
 marked test None = 0
 marked test (Some m) = cond (test m) 1 0
@@ -139,7 +139,7 @@ fill_real pools (f ∷ es) r e class asked slots fits among act = elim (in_cases
 pub class_real : (pools : List PoolEntry) (roots : Journals) (t : SlotName) (q class : ℕ) → IsJournal pools (roots q) → IsOfClass roots t q class → class < 59
 class_real pools roots t q class j (e, asked, slots, among, act, member) = fill_real pools (roots q) new_root e class asked slots j.replays among act
 
--- a slot that a step returned, where its mark is one return and no issue
+-- a slot that a step returned, if its mark is one return and no issue
 return_keeps : (s : SlotName) (p : ℕ) (pools : List PoolEntry) (roots : Journals) (x : Played) (slot : Numbered) (mark : Option Mark) (cache after : Cache) → ((q : ℕ) → IsJournal pools (roots q)) → IsOnlyOf roots p s → marked (is_issue_of s) mark ≡ 0 → marked (is_return_of s) mark ≡ once s slot.slot → ReturnRow roots x slot cache after → Flows s p (acts_of roots x.line p) mark cache after
 return_keeps s p pools roots x slot mark cache after journals own i o (inl (q, class, of, only, becomes)) =
     let list = slot ∷ cache q class in

@@ -39,8 +39,8 @@ use Rattle.pa_rules.proofs.ByLines.{IsFront, is_until, until_front, same_record,
 use Rattle.pa_rules.proofs.Phases.{runs_until}
 use Rattle.pa_rules.proofs.Totals.{total_add, total_same, total_ones, times_in, times_out, total_times, total_cached, some_cached}
 
--- what the places of slots after some records stand on: the journals and the pool, those records with a line each, the
--- entries on their lines, which stand in front of partition p's journal, and the caches after them
+-- what the places of slots after some records rest on: the journals and the pool, those records with a line each, the
+-- entries on their lines, which come before partition p's journal, and the caches after them
 pub record Given (supers partitions threads p : ℕ) (ps : List Played) (pools : List PoolEntry) (roots : Journals) (xs : List Played) (front : List RootEntry) (all : Caches) : Type 0 where
   pub are_roots : AreRoots partitions ps pools roots
   pub are_pool : IsPoolOf supers ps pools roots
@@ -62,7 +62,7 @@ IsOnce r s n = (IsNameOut r s × (n ≡ 1)) ⊎ ((IsNameOut r s → ⊥) × (n �
 front_is : (pools : List PoolEntry) (xs : List Played) (journal front : List RootEntry) → IsJournal pools journal → IsFront xs journal front → IsJournal pools front
 front_is pools xs journal front h u = journal_front pools front u.rest (subst (λ z. IsJournal pools z) u.parts h)
 
--- where a slot that left stands after some records: its times in the caches and in use
+-- where a slot that left is after some records: its times in the caches and in use
 pub slot_once : (supers partitions threads p : ℕ) (ps : List Played) (pools : List PoolEntry) (roots : Journals) (xs : List Played) (front : List RootEntry) (all : Caches) (s : SlotName) (w : ℕ) →
     Given supers partitions threads p ps pools roots xs front all → HasLeft roots p s → HasWord xs s w → IsOnce (root_replayed pools front new_root) s (cached_times s all p threads + busy w)
 slot_once supers partitions threads p ps pools roots xs front all s w g (e, among, leaves) word =
@@ -198,7 +198,7 @@ out_adds supers partitions threads p ps pools roots xs front all lives quarantin
     let k = total_ones ss in
     omega arith
 
--- ---- one list of entries stands before the end of a phase
+-- ---- one list of entries comes before the end of a phase
 
 not_both : (ps : List Played) (phase : ℕ) (e : RootEntry) → AllPairs OtherRecord ps → InPhases ps phase e → PastPhases ps phase e → ⊥
 not_both ps phase e h (x, of, low) (y, of', high) =

@@ -1,4 +1,4 @@
--- An entry of the pool that an entry of a journal names is there, where the journal's entry fits.
+-- An entry of the pool that an entry of a journal names is there, if the journal's entry fits.
 use Rattle.std.proofs.Common.{◌≡◌, ℕ, zero, suc, List, [], ◌∷◌, Option, Some, None, refl, ap, ◌∙◌, subst}
 use Rattle.std.specs.Prelude.{slice_get, option_map}
 use Rattle.pa_record.specs.declared.pool.PoolEntry.{PoolEntry}

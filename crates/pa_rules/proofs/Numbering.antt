@@ -1,4 +1,4 @@
--- The records of a trace's lines stand in the order of the lines, and have a line each.
+-- The records of a trace's lines are in the order of the lines, and have a line each.
 use Rattle.std.proofs.Common.{◌≡◌, ◌≢◌, ℕ, ◌+◌, ◌<◌, ◌≤◌, List, [], ◌∷◌, map, sym, ap, subst, arith, inl, inr}
 use Rattle.std.specs.Prelude.{Contains, AllPairs}
 use Rattle.pa_trace.specs.declared.script.Line.{Line}

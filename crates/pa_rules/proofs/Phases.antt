@@ -1,4 +1,4 @@
--- The records up to the end of a phase have one run for each slot, where no later phase finds less than an earlier one left.
+-- The records up to the end of a phase have one run for each slot, if no later phase finds less than an earlier one left.
 use Rattle.std.proofs.Common.{◌≡◌, ℕ, ◌+◌, ◌<◌, ◌≤◌, List, [], ◌∷◌, Option, Some, None, refl, sym, ◌∙◌, ap, subst, arith, ◌⊎◌, inl, inr}
 use Rattle.std.specs.Prelude.{Contains, AllPairs}
 use Rattle.std.proofs.lemmas.Bool.{cases_lt, le-leb, leb-true}

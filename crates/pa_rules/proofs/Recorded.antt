@@ -1,4 +1,4 @@
--- The records beside their ops are the trace's op lines and the run's records, where those are due.
+-- The records beside their ops are the trace's op lines and the run's records, if those are due.
 use Rattle.std.proofs.Common.{◌≡◌, ℕ, ◌+◌, List, [], ◌∷◌, map, refl, sym, ◌∙◌, ap, drop, get_or}
 use Rattle.std.specs.Prelude.{zip}
 use Rattle.pa_record.specs.declared.entry.Entry.{Entry}
@@ -6,7 +6,7 @@ use Rattle.pa_rules.specs.declared.played.Played.{Played}
 use Rattle.pa_rules.specs.Played.{OpLine, op_lines, op_line_of, entry_of, beside, key_of_line, key_of_entry}
 use Rattle.pa_rules.specs.Laws.{RecordsAreLines}
 
--- the lists have the same keys, place by place
+-- the lists have the same keys, index by index
 abbrev HaveKeys : List OpLine → List Entry → Type 0
 HaveKeys os es = map key_of_entry es ≡ map key_of_line os
 

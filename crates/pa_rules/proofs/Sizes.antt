@@ -20,7 +20,7 @@ find_nowhere : {A : Type 0} (test : A → Bool) (xs : List A) (d : A) → ((j : 
 find_nowhere test [] d none = refl
 find_nowhere test (x ∷ xs) d none = rw (none 0 (omega arith)) (find_nowhere test xs d (λ j less. none (suc j) (omega arith)))
 
--- the rows stand by their classes
+-- the rows are by their classes
 row_count : length rows ≡ 59
 unfolding rows
 row_count = refl

@@ -1,4 +1,4 @@
--- Sums over different slots of how often each stands in some lists.
+-- Sums over different slots of how often each is in some lists.
 use Rattle.std.proofs.Common.{◌≡◌, ◌≢◌, ℕ, zero, suc, ◌+◌, ◌<◌, ◌≤◌, List, [], ◌∷◌, length, refl, sym, ap, subst, arith, inl, inr}
 use Rattle.std.specs.Prelude.{Contains, AllPairs}
 use Rattle.std.proofs.lemmas.Bool.{cases_eq}
@@ -111,7 +111,7 @@ some_listed s lists c from (suc k) low high some = elim (cases_eq from c) [
   | inr other ↦ let ih = some_listed s lists c (from + 1) k (omega arith) (omega arith) some in omega arith
 ]
 
--- a slot that stands in a list is cached
+-- a slot that is in a list is cached
 pub some_cached : (all : Caches) (p threads t c : ℕ) (m : Numbered) → t < threads → c < 59 → Contains (all t p c) m → 1 ≤ cached_times m.slot all p threads
 some_cached all p zero t c m below real among = absurd (omega arith)
 some_cached all p (suc u) t c m below real among = elim (cases_eq u t) [

@@ -94,7 +94,7 @@ line_again e rest fits =
     let told : List ℕ = decimal e.line ++ (codes " " ++ (decimal e.thread ++ (codes " " ++ (answer_text e.answer ++ 10 ∷ rest)))) in
     ap record_line_in (entry_cut e rest) ∙ rw (behind_again (codes "e ") told, record_again e rest fits) refl
 
--- where nothing is read no record's line stands in front
+-- if nothing is read no record's line comes first
 pub no_record : (bytes : List ℕ) → record_line_in bytes ≡ None → (e : Entry) (rest : List ℕ) → EntryInBits e → bytes ≡ entry_text e ++ rest → ⊥
 no_record bytes none e rest fits same =
     let read : record_line_in bytes ≡ Some (e, rest) = ap record_line_in same ∙ line_again e rest fits in

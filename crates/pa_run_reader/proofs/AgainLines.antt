@@ -106,7 +106,7 @@ item_again (items.Cell k j e) rest bits = ap item_in (cell_cut k j e rest) ∙ r
 item_again (items.Report s) rest bits = ap item_in (report_cut s rest) ∙ rw (report_again s rest bits.0) refl
 item_again items.End rest bits = refl
 
--- where nothing is read no item's line stands in front
+-- if nothing is read no item's line comes first
 pub no_item : (bytes : List ℕ) → item_in bytes ≡ None → (i : Item) (rest : List ℕ) → ItemInBits i → bytes ≡ item_text i ++ rest → ⊥
 no_item bytes e i rest bits same =
     let read : item_in bytes ≡ Some (i, rest) = ap item_in same ∙ item_again i rest bits in

@@ -13,7 +13,7 @@ use Rattle.pa_text.proofs.Words.{hexes_take, hexes_again, some_bind}
 use Rattle.pa_run_reader.specs.Reading.{after_word, narrowed, wide_at, below_at, below_in, wide_in, hexes_in, slot_in}
 use Rattle.pa_lists.proofs.Options.{if_some}
 
--- ---- a word in front
+-- ---- a word at the start
 
 pub behind_takes : (word bytes rest : List ℕ) → after_word word bytes ≡ Some rest → bytes ≡ word ++ rest
 unfolding after_word

@@ -63,7 +63,7 @@ one_item i j hi hj e =
 some_same : (i j : Item) → ◌≡◌ {A = Option Item} (Some i) (Some j) → i ≡ j
 some_same i j e = cc
 
--- ---- after_word an item
+-- ---- after an item
 
 bad_lines : (n : ℕ) (last : Item) (rest : List ℕ) (lines : List (List ℕ)) → lines_of rest ≡ lines → index_of last + 1 < 2 ^ 32
     → ((i : Item) (x : List ℕ) → ItemInBits i → rest ≡ item_text i ++ x → ⊥) → (rest ≡ [] → last ≡ items.End → ⊥) → IsFirstBad n (Some last) lines n
@@ -71,7 +71,7 @@ bad_lines n last rest [] e few none end = (refl, λ same. end (sym (lines_joined
 bad_lines n last rest (line ∷ lines) e few none end =
     inl (refl, λ i fits follows same. none i (joined lines) (fits, omega (arith, next_index last i follows, few)) (first_line rest line lines e ∙ ap (λ (w : List ℕ). w ++ joined lines) same))
 
--- no item's line stands in front, and it isn't the end of the text
+-- no item's line comes first, and it isn't the end of the text
 pub not_read : (n : ℕ) (last : Item) (rest : List ℕ) → index_of last + 1 < 2 ^ 32 → ((i : Item) (x : List ℕ) → ItemInBits i → rest ≡ item_text i ++ x → ⊥)
     → (rest ≡ [] → last ≡ items.End → ⊥) → IsFirstBad n (Some last) (lines_of rest) n
 not_read n last rest few none end = bad_lines n last rest (lines_of rest) refl few none end
@@ -79,7 +79,7 @@ not_read n last rest few none end = bad_lines n last rest (lines_of rest) refl f
 lines_here : (i : Item) (rest after : List ℕ) → rest ≡ item_text i ++ after → item_text i ∷ lines_of after ≡ lines_of rest
 lines_here i rest after e = sym (ap lines_of e ∙ item_lines i after)
 
--- an item stands in front that may not follow
+-- an item comes first that may not follow
 pub misplaced : (n : ℕ) (last i : Item) (rest after : List ℕ) → index_of last + 1 < 2 ^ 32 → ItemInBits i → rest ≡ item_text i ++ after → (Follows (Some last) i → ⊥)
     → IsFirstBad n (Some last) (lines_of rest) n
 misplaced n last i rest after few bits e other =
@@ -91,7 +91,7 @@ misplaced n last i rest after few bits e other =
           other (subst (λ (k : Item). Follows (Some last) k) (sym one) follows),
     ))
 
--- an item stands in front that may follow
+-- an item comes first that may follow
 pub followed : (n m : ℕ) (last i : Item) (rest after : List ℕ) → FitsItem i → Follows (Some last) i → rest ≡ item_text i ++ after
     → IsFirstBad (n + 1) (Some i) (lines_of after) m → IsFirstBad n (Some last) (lines_of rest) m
 followed n m last i rest after fits follows e h =

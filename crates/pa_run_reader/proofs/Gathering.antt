@@ -1,4 +1,4 @@
--- What is gathered behind an item: its text, item by item.
+-- What is gathered after an item: its text, item by item.
 use Rattle.std.proofs.Common.{◌≡◌, ℕ, ◌+◌, ◌<◌, List, [], ◌∷◌, ◌++◌, codes, length, get_or, set, inl, inr, refl, sym, ap, ◌∙◌, append_assoc, append-nil, arith}
 use Rattle.std.specs.List.{flat_map}
 use Rattle.pa_record.specs.declared.root.RootEntry.{RootEntry}
@@ -13,7 +13,7 @@ use Rattle.pa_run_reader.specs.Order.{item_place, StandsBehind}
 use Rattle.pa_run_reader.specs.Gathered.{Gathered, gathered_with}
 use Rattle.pa_run_reader.proofs.Grown.{flat_push, lines_push, nested_none, nested_push}
 
--- ---- what stands nowhere yet
+-- ---- what is nowhere yet
 
 -- the journal of partition q has nothing at this place; nor has the pool, the history of cell q, the report
 abbrev pub IsBeforeRoot : Place → ℕ → Type 0
@@ -56,7 +56,7 @@ pub record Stands (l : Place) (g : Gathered) : Type 0 where
   pub report : IsBeforeReport l → g.report ≡ []
   pub count : IsCounted l g
 
--- ---- what is known in front of an item, by its kind
+-- ---- what is known before an item, by its kind
 
 pub record InFrontOfPool (g : Gathered) : Type 0 where
   pub cells : (q : ℕ) → get_or g.cells q [] ≡ []
@@ -162,7 +162,7 @@ tail3 x p c s d e f = tail2 (x ++ p) c s e f ∙ tail1 x p d
 pub tail4 : (x r p c s : List ℕ) → r ≡ [] → p ≡ [] → c ≡ [] → s ≡ [] → x ++ r ++ p ++ c ++ s ≡ x
 tail4 x r p c s b d e f = tail3 (x ++ r) p c s d e f ∙ tail1 x r b
 
--- more of the last part, and nothing behind it
+-- more of the last part, and nothing after it
 more : (h e f t : List ℕ) → f ≡ e ++ t → h ++ f ≡ (h ++ e) ++ t
 more h e f t same = ap (λ (w : List ℕ). h ++ w) same ∙ sym (append_assoc h e t)
 
@@ -175,7 +175,7 @@ cells_none g none = nested_none cell_text 0 g.cells none
 pub pool_none : (g : Gathered) → g.pool ≡ [] → pools_text g.pool ≡ []
 pool_none g e = ap pools_text e
 
--- nothing stands behind the end
+-- nothing comes after the end
 not_end : (l p : Place) (g : Gathered) → StandsBehind l p → told_to l g ≡ told g
 not_end End p g (inr h) = absurd h
 not_end End Head g (inl h) = absurd (omega (arith, h.0))
@@ -187,7 +187,7 @@ not_end End Report g (inl h) = absurd (omega (arith, h.0))
 not_end End End g (inl h) = absurd (omega (arith, h.0))
 not_end l p g h = refl
 
--- the head stands behind nothing
+-- the head comes after nothing
 pub no_head : (l : Place) → StandsBehind l Head → ⊥
 no_head l (inl h) = absurd (omega (arith, h.0))
 no_head Head (inr h) = h

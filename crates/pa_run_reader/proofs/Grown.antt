@@ -48,7 +48,7 @@ nested_step f s (suc p) t (xs ∷ lists) x lt e none =
     ap (λ (w : List ℕ). lines_from (f s) 0 xs ++ w) (nested_step f (s + 1) p t lists x (omega arith) (omega (arith, e)) (λ q order. none (suc q) (omega (arith, order))))
     ∙ sym (append_assoc (lines_from (f s) 0 xs) (nested f (s + 1) lists) (f t (length (get_or lists p [])) x))
 
--- one more in list p, behind which no list has anything
+-- one more in list p, after which no list has anything
 pub nested_push : {A : Type 0} (f : ℕ → ℕ → A → List ℕ) (p j : ℕ) (lists : List (List A)) (x : A) → p < length lists → length (get_or lists p []) ≡ j → ((q : ℕ) → p < q → get_or lists q [] ≡ [])
     → nested f 0 (set lists p (get_or lists p [] ++ x ∷ [])) ≡ nested f 0 lists ++ f p j x
 nested_push f p j lists x lt e none =

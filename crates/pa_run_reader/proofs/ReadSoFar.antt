@@ -1,4 +1,4 @@
--- The reader behind an item: what is read, and the bad line of the rest.
+-- The reader after an item: what is read, and the bad line of the rest.
 use Rattle.std.proofs.Common.{◌≡◌, ℕ, ◌+◌, ◌-◌, ◌<◌, ◌≤◌, ◌^◌, List, [], ◌++◌, codes, length, Some, refl, sym, ap, subst, ◌∙◌, append_assoc, append-nil, length-append, arith}
 use Rattle.std.proofs.lemmas.List.{length_push}
 use Rattle.pa_trace.specs.Faults.{lines_of}
@@ -16,7 +16,7 @@ use Rattle.pa_run_reader.proofs.FirstBad.{next_index, not_read, misplaced, follo
 use Rattle.pa_run_reader.proofs.Gathering.{Stands, told, told_to, told_more}
 use Rattle.pa_run_reader.proofs.Keeping.{Kept, stands_next, kept_next, stands_first, kept_first, told_first, run_told}
 
--- Line n begins the rest. The lines behind the head up to there tell what is gathered, and the last of them is an item's at this
+-- Line n begins the rest. The lines after the head up to there tell what is gathered, and the last of them is an item's at this
 -- place; the bad line of the rest is that of all.
 pub record IsReadTo (l : Place) (n : ℕ) (g : Gathered) (rest bytes : List ℕ) : Type 0 where
   pub item : Item
@@ -40,7 +40,7 @@ reads_first g bytes u = record {
   fault = λ m h. h;
 }
 
--- what stands behind the place stands behind the item
+-- what follows the place comes after the item
 behind_item : (item : Item) (l p : Place) → item_place item ≡ l → StandsBehind l p → StandsBehind (item_place item) p
 behind_item item l p e h = subst (λ (x : Place). StandsBehind x p) (sym e) h
 
@@ -65,14 +65,14 @@ reads_next l n g i rest after bytes r bits h e =
       fault = λ m bad. r.fault m (followed n m r.item i rest after bits.0 follows e bad);
     }
 
--- the item in front may not stand there
+-- the first item may not come there
 pub reads_misplaced : (l : Place) (n : ℕ) (g : Gathered) (i : Item) (rest after bytes : List ℕ) → length bytes < 2 ^ 32 - 2 → IsReadTo l n g rest bytes → ItemInBits i → rest ≡ item_text i ++ after
     → (StandsBehind l (item_place i) → ⊥) → IsFirstBad 2 (Some items.Head) (lines_of bytes) n
 reads_misplaced l n g i rest after bytes short r bits e other =
     r.fault n (misplaced n r.item i rest after (omega (arith, short, r.index, r.lines)) bits e
     (λ h. other (subst (λ (x : Place). StandsBehind x (item_place i)) r.place h)))
 
--- no item stands in front
+-- no item comes first
 pub reads_bad : (l : Place) (n : ℕ) (g : Gathered) (rest bytes : List ℕ) → length bytes < 2 ^ 32 - 2 → IsReadTo l n g rest bytes
     → ((i : Item) (x : List ℕ) → ItemInBits i → rest ≡ item_text i ++ x → ⊥) → (rest ≡ [] → l ≡ End → ⊥) → IsFirstBad 2 (Some items.Head) (lines_of bytes) n
 reads_bad l n g rest bytes short r none other =

@@ -54,7 +54,7 @@ places_of s = record { phase = s.phase; partition = s.partition; live = s.live; 
 pub states_of : ReportLine → States
 states_of s = record { full = s.full; active = s.active; empty = s.empty; decommitted = s.decommitted }
 
--- the line behind its `s `
+-- the line after its `s `
 abbrev pub line_before : Places → ℕ → ℕ → States → List ℕ → List ℕ
 line_before p committed reserved s x = places_before p (codes " committed " ++ (decimal committed ++ (codes " reserved " ++ (decimal reserved ++ states_before s x))))
 

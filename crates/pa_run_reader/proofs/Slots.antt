@@ -8,7 +8,7 @@ use Rattle.pa_record.proofs.Fields.{cut3}
 use Rattle.pa_run_reader.specs.Reading.{after_word}
 use Rattle.pa_run_reader.specs.Roots.{slot_before, numbered_in, slots_in}
 
--- slots in front of others
+-- slots before others
 abbrev pub with_slots : List Numbered → Option (List Numbered × List ℕ) → Option (List Numbered × List ℕ)
 with_slots batch None = None
 with_slots batch (Some x) = Some (batch ++ x.0, x.1)
@@ -60,7 +60,7 @@ slots_more i batch slot rest front after bytes lt e parts f fits spelled so_far 
       text = so_far.text ∙ ap (λ (w : List ℕ). slots_text batch ++ w) (parts ∙ ap (λ (w : List ℕ). codes " " ++ w) spelled) ∙ text_push batch slot after;
     }
 
--- where no space follows, or so many are read, the batch ends
+-- if no space follows, or that many are read, the batch ends
 pub no_more : (k : ℕ) (rest : List ℕ) → after_word (codes " ") rest ≡ None → slots_in k rest ≡ Some ([], rest)
 unfolding slots_in
 no_more zero rest e = refl

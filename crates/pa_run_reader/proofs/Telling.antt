@@ -62,7 +62,7 @@ items_text r =
 
 -- ---- the order
 
--- the last of these may be the last behind which those stand
+-- the last of these may be the last after which those stand
 abbrev Goes : (Item → Type 0) → List Item → Type 0
 Goes Behind tail = (last : Item) → Behind last → AreInOrder (Some last) tail
 
@@ -118,8 +118,8 @@ pool_goes es tail fits goes last h = pool_rest 0 es tail fits goes last (omega (
 
 -- ---- items in lists
 
--- The items of lists: what may stand in front of list p, and behind all of them. `at` makes the item, and `Up p` says that the last one
--- stands in front of list p.
+-- The items of lists: what may come before list p, and after all of them. `at` makes the item, and `Up p` says that the last one
+-- comes before list p.
 record AreLists {A : Type 0} (P : A → Type 0) (most : ℕ) (at : ℕ → ℕ → A → Item) (Up : ℕ → Item → Type 0) : Type 0 where
   fits : (p j : ℕ) (x : A) → p < most → P x → FitsItem (at p j x)
   first : (p : ℕ) (last : Item) (x : A) → Up p last → Follows (Some last) (at p 0 x)
@@ -142,7 +142,7 @@ module _ {A : Type 0} (P : A → Type 0) (most : ℕ) (at : ℕ → ℕ → A �
       subst (λ is. AreInOrder (Some last) is) (sym (append_assoc (numbered_items (at p) 0 xs) (listed_items at (p + 1) lists) tail))
       (list_rest p 0 xs (listed_items at (p + 1) lists ++ tail) (omega arith) fits.0 rest last (known.later p last h) (λ x. known.first p last x h))
 
--- in front of the journal of partition p
+-- before the journal of partition p
 abbrev IsUpToRoot : ℕ → Item → Type 0
 IsUpToRoot p (items.Root q j e) = q < p
 IsUpToRoot p i = IsUpTo 1 i
@@ -195,7 +195,7 @@ roots_listed = record {
   later = root_later;
 }
 
--- in front of the history of cell k
+-- before the history of cell k
 abbrev IsUpToCell : ℕ → Item → Type 0
 IsUpToCell k (items.Cell q j e) = q < k
 IsUpToCell k i = IsUpTo 3 i
@@ -258,7 +258,7 @@ all_both P Q (xs ∷ lists) p q = (all_pairs P Q xs p.0 q.0, all_both P Q lists 
 items_cut : (a b c d f g h : List Item) → a ++ b ++ c ++ d ++ f ++ g ++ h ≡ a ++ (b ++ (c ++ (d ++ (f ++ (g ++ h)))))
 items_cut a b c d f g h = simp append_assoc
 
--- the items of a run stand in order
+-- the items of a run are in order
 pub items_ordered : (r : Run) (bytes : List ℕ) → IsRunText r bytes → AreInOrder None (items_of r)
 items_ordered r bytes h =
     let entries = map (λ e. items.Record e) r.entries.items in

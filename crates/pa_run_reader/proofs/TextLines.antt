@@ -8,7 +8,7 @@ use Rattle.pa_run_reader.specs.declared.item.Item.{Item}
 use Rattle.pa_run_reader.specs.Item.{item_text}
 use Rattle.pa_run_reader.proofs.OneLine.{item_line}
 
--- lines, one behind the other
+-- lines, one after the other
 abbrev pub joined : List (List ℕ) → List ℕ
 joined lines = flat_map (λ line. line) lines
 
@@ -27,7 +27,7 @@ unfolding lines_of
 lines_joined [] = refl
 lines_joined (b ∷ bytes) = front_joined b (lines_of bytes) ∙ ap (λ (w : List ℕ). b ∷ w) (lines_joined bytes)
 
--- the first line stands in front
+-- the first line comes first
 pub first_line : (bytes line : List ℕ) (lines : List (List ℕ)) → lines_of bytes ≡ line ∷ lines → bytes ≡ line ++ joined lines
 first_line bytes line lines e = sym (lines_joined bytes) ∙ ap joined e
 

@@ -34,13 +34,13 @@ all_read value first rest bytes e same small =
     let last : digits_from first bytes ≡ (value, rest) = sym same ∙ digit_last value rest e in
     ap narrowed last ∙ rw (lt-ltb value 18446744073709551616 small) refl
 
--- where one of so many digits is none
+-- if one of the digits is none
 pub hexes_end : (count k value : ℕ) (bytes rest : List ℕ) → hexes_at k bytes ≡ Some (value, rest) → hex_at rest ≡ None → k < count → hexes_at count bytes ≡ None
 hexes_end count k value bytes rest e none lt =
     let least : (count - (k + 1)) + (k + 1) ≡ count = omega arith in
     subst (λ (m : ℕ). hexes_at m bytes ≡ None) least (hexes_none (k + 1) (count - (k + 1)) bytes (hexes_stop k value bytes rest e none))
 
--- so many digits write no more
+-- that many digits write no more
 pub hexes_bound : (k value : ℕ) (bytes rest : List ℕ) → hexes_at k bytes ≡ Some (value, rest) → value < 16 ^ k
 hexes_bound k value bytes rest e = (hexes_take k bytes (value, rest) e).1
 

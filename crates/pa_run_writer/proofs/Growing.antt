@@ -30,7 +30,7 @@ one_more p len es more e bytes bytes' h fits is told =
       text = rw is text;
     }
 
--- where a journal stands tells its partition
+-- the index of a journal determines its partition
 pub from_at : (p i : ℕ) (js : List OneJournal) (d : OneJournal) → AreFrom p js → i < length js → (get_or js i d).partition ≡ p + i
 from_at p i [] d h low = absurd (omega arith)
 from_at p zero (j ∷ js) d h low = h.0 ∙ sym (add-zero p)
@@ -53,7 +53,7 @@ entries_at [] i d low = absurd (omega arith)
 entries_at (j ∷ js) zero d low = refl
 entries_at (j ∷ js) (suc i) d low = entries_at js i d (omega arith)
 
--- the entries of the journals, where one of them has others now
+-- the entries of the journals, if one of them has others now
 pub entries_set : (js : List OneJournal) (now : List (List RootEntry)) (i : ℕ) (j : OneJournal) (es : List RootEntry) → map (λ (j : OneJournal). j.entries) js ≡ now → j.entries ≡ es
     → map (λ (j : OneJournal). j.entries) (set js i j) ≡ set now i es
 entries_set js now i j es is has = map-set (λ (j : OneJournal). j.entries) js i j ∙ ap (λ (z : List (List RootEntry)). set z i j.entries) is ∙ ap (λ (z : List RootEntry). set now i z) has

@@ -70,7 +70,7 @@ written_below : (ps : List Played) (word : SlotName → ℕ) → HasRuns (marks_
 written_below ps word runs s n value h =
     counted ps word runs h.0 h.1 steps.Write s n h.3 (written_mark h.0 s n value (h.1, h.2, h.4, h.5, h.6, h.7)) h.6 h.7
 
--- The content at a number is that at a later one, where no record more finds a number below this one, and none at all
+-- The content at a number is that at a later one, if no record more finds a number below this one, and none at all
 -- one from the first number on.
 pub record IsQuiet (ps qs : List Played) (s : SlotName) (k l : ℕ) : Type 0 where
   pub up : k ≤ l

@@ -32,7 +32,7 @@ use Rattle.pa_slot_effects.proofs.Rows.{rows_end, usable_made}
 use Rattle.pa_slot_effects.proofs.Words.{used_made}
 use Rattle.pa_rules.proofs.Phases.{mark_in}
 
--- one mark's part of how many steps stand before a line
+-- one mark's part of how many steps come before a line
 one : SlotName → ℕ → Mark → ℕ
 one s l m = cond {A = ℕ} (is_step_before s l m) 1 0
 
@@ -48,7 +48,7 @@ none_before : (s : SlotName) (l : ℕ) (m : Mark) → l ≤ m.line → one s l m
 none_before s l m le =
     one_is s l m false (and_right (same_slot m.slot s) _ (and_left (ltb m.line l) (is_some m.step) (le-ltb m.line l le)))
 
--- no fewer stand before a later line
+-- no fewer come before a later line
 one_on : (s : SlotName) (l k : ℕ) (m : Mark) → l ≤ k → one s l m ≤ one s k m
 one_on s l k m le = elim (cases_lt m.line l) [
   | inl lt ↦

@@ -59,7 +59,7 @@ row_one f regs thread reg x lt =
     let one : over 64 new + old reg ≡ over 64 old + new reg = over_one 64 reg old new lt (λ j ne. ap f (at_other regs thread reg x j ne)) in
     omega (arith, one, ap f (at_reg regs thread reg x))
 
--- what all have, where one register is changed
+-- what all have, if one register is changed
 pub amount_reg : (threads : ℕ) (f : Reg → ℕ) (regs : AllRegs) (held : ℕ → Held) (thread reg : ℕ) (x : Reg) → thread < threads → reg < 64
     → amount threads f (with_reg regs thread reg x) held + f (regs thread reg) ≡ amount threads f regs held + f x
 amount_reg threads f regs held thread reg x ht hr =
@@ -75,7 +75,7 @@ at_held held cell h = rw (eq-eqb cell cell refl) refl
 pub at_held_other : (held : ℕ → Held) (cell : ℕ) (h : Held) (k : ℕ) → (k ≡ cell → ⊥) → with_held held cell h k ≡ held k
 at_held_other held cell h k ne = rw (ne_eqb k cell ne) refl
 
--- and where one cell is
+-- and if one cell is
 pub amount_cell : (threads : ℕ) (f : Reg → ℕ) (regs : AllRegs) (held : ℕ → Held) (cell : ℕ) (h : Held) → cell < 64
     → amount threads f regs (with_held held cell h) + f (reg_of (held cell)) ≡ amount threads f regs held + f (reg_of h)
 amount_cell threads f regs held cell h lt =

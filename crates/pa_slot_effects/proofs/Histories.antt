@@ -192,7 +192,7 @@ exchanged_more cells after held next ps line x cell reg entry h g found gives ke
       ];
     }
 
--- the exchanges of a cell stand in the order of their lines
+-- the exchanges of a cell are in the order of their lines
 pub exchanged_order : (cells : ℕ → List CellEntry) (held : ℕ → Held) (ps : List Played) (line : ℕ) → HasExchanged cells held ps line
     → (k : ℕ) → IsStrictlyIncreasing (map (λ e. e.line) (cells k))
 exchanged_order cells held ps line h k i lt =
@@ -205,7 +205,7 @@ exchanged_order cells held ps line h k i lt =
     let up = h.rising k i (i + 1) (get_or (cells k) i d) (get_or (cells k) (i + 1) d) (slice_get-get_or (cells k) i d low) (slice_get-get_or (cells k) (i + 1) d high) (omega arith) in
     omega (arith, e1, e2, up)
 
--- all that the rules ask of the exchanges, where records of earlier phases have smaller lines
+-- all that the rules require of the exchanges, if records of earlier phases have smaller lines
 pub exchanged_cells : (cells : ℕ → List CellEntry) (held : ℕ → Held) (ps : List Played) (line : ℕ) → HasExchanged cells held ps line
     → ((p q : Played) → Contains ps p → Contains ps q → p.phase < q.phase → p.line < q.line) → AreCells cells ps
 exchanged_cells cells held ps line h phases = record {

@@ -112,7 +112,7 @@ look_mark line op a s (Full entry) h = absurd h
 look_mark line op a s (Swapped entry) h = absurd h
 look_mark line op a s (Purged slots) h = absurd h
 
--- what a look read, where the slot's content is this
+-- what a look read, if the slot's content is this
 look_read : (ps : List Played) (a : Shown) (s : Seen) (answer : Answer) → Looks a s answer
     → (held_of s.found.0 ≡ 1 → IsContent ps s.slot (number_of s.found.0) (a.content s.slot)) → IsReadExact ps answer
 look_read ps a s (Made seen n) h is = absurd h

@@ -13,7 +13,7 @@ use Rattle.pa_record.specs.declared.entry.Answer.TheVariants.{Made, Done, Value,
 use Rattle.pa_rules.specs.declared.played.Played.{Played}
 use Rattle.pa_rules.specs.Played.{step_of, mark_at, look_at, mark_of, mark_of_answer, marks_of}
 
--- the line of a mark, where there is one
+-- the line of a mark, if there is one
 abbrev pub line_or : ℕ → Option Mark → ℕ
 line_or line None = line
 line_or line (Some m) = m.line
@@ -22,7 +22,7 @@ look_line : (line : ℕ) (seen : Option Seen) → line_or line (look_at line see
 look_line line None = refl
 look_line line (Some seen) = refl
 
--- what an answer tells of a slot stands on its line
+-- what an answer tells of a slot is on its line
 pub answer_line : (line : ℕ) (op : Op) (a : Answer) → line_or line (mark_of_answer line op a) ≡ line
 answer_line line op (Made seen usable) = refl
 answer_line line op (Done seen) = refl

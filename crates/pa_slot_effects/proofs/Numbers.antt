@@ -1,4 +1,4 @@
--- A slot's number is how many of its steps stand before: kept by each line.
+-- A slot's number is how many of its steps come before: kept by each line.
 use Rattle.std.proofs.Common.{◌≡◌, ℕ, ◌+◌, ◌<◌, ◌≤◌, inl, inr, List, [], ◌∷◌, ◌++◌, true, false, cond, Option, Some, None, is_some, Contains, refl, sym, ap, ◌∙◌, subst, arith, ltb}
 use Rattle.std.proofs.lemmas.Bool.{lt-ltb, le-ltb, and_left, and_right, and_from}
 use Rattle.std.proofs.lemmas.List.Sums.{sum_by_push}
@@ -11,7 +11,7 @@ use Rattle.pa_machine.proofs.Runs.{same_slot_cases, same_slot_yes, same_slot_no,
 use Rattle.pa_rules.specs.FileOrder.{is_step_before, steps_before, AreNumbersInFileOrder}
 use Rattle.pa_slot_effects.specs.Known.{HasNumbers}
 
--- how many steps stand before a line, with a mark more
+-- how many steps come before a line, with a mark more
 steps_push : (ms : List Mark) (n : Mark) (s : SlotName) (l : ℕ) → steps_before s l (ms ++ n ∷ []) ≡ steps_before s l ms + cond (is_step_before s l n) 1 0
 steps_push ms n s l = sum_by_push (λ m. cond (is_step_before s l m) 1 0) ms n
 

@@ -15,7 +15,7 @@ use Rattle.pa_rules.specs.Cells.{IsExchange}
 use Rattle.pa_slot_effects.specs.Shown.{IsUsed}
 use Rattle.pa_slot_effects.specs.Known.{facts_of, RowsNamed, AreSized}
 
--- slots that were stepped on stay so and keep their usable numbers, and each exchange stands where it stood
+-- slots that were stepped on stay so and keep their usable numbers, and each exchange is where it stood
 pub record GoesOn (word next usable later : SlotName → ℕ) (cells after : ℕ → List CellEntry) : Type 0 where
   pub used : (s : SlotName) → 0 < word s → 0 < next s
   pub sizes : (s : SlotName) → 0 < word s → later s ≡ usable s

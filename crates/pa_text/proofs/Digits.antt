@@ -6,7 +6,7 @@ use Rattle.std.proofs.lemmas.Fmt.{decimal_digit, decimal_step}
 pub one : (n : ℕ) → n < 10 → decimal n ≡ (48 + n % 10) ∷ []
 one n less = decimal_digit n less ∙ ap (λ d. (48 + d) ∷ []) (omega arith)
 
--- the last digit stands behind those of a tenth of the number
+-- the last digit comes after those of a tenth of the number
 digit_more : (n : ℕ) (ds : List ℕ) → 10 ≤ n → n < 100000 → decimal (n / 10) ≡ ds → decimal n ≡ ds ++ (48 + n % 10) ∷ []
 digit_more n ds more few e = decimal_step n more (omega arith) ∙ ap (λ xs. xs ++ (48 + n % 10) ∷ []) e
 

@@ -1,4 +1,4 @@
--- A word in front of bytes: by a test of their first bytes, and by its parts.
+-- A word at the start of bytes: by a test of their first bytes, and by its parts.
 use Rattle.std.proofs.Common.{◌≡◌, ℕ, true, false, List, ◌++◌, length, take, drop, refl, sym, ap, ◌∙◌}
 use Rattle.std.specs.Prelude.{nat_eq}
 use Rattle.std.specs.Cmp.Lexicographic.{pointwise}
@@ -11,12 +11,12 @@ use Rattle.std.proofs.lemmas.List.{take-append-drop, take_at, drop_at}
 pub word_same : (a b : List ℕ) → pointwise nat_eq a b ≡ true → a ≡ b
 word_same a b e = (slice_eq-Decides Decides-eqb a b _ refl).0 e
 
--- bytes that pass the test are the word and what stands behind it
+-- bytes that pass the test are the word and what follows it
 pub front_parts : (word bytes : List ℕ) → pointwise nat_eq (take (length word) bytes) word ≡ true → bytes ≡ word ++ drop (length word) bytes
 front_parts word bytes e =
     sym (take-append-drop (length word) bytes) ∙ ap (λ (x : List ℕ). x ++ drop (length word) bytes) (word_same (take (length word) bytes) word e)
 
--- a word and what stands behind it pass the test
+-- a word and what follows it pass the test
 pub front_found : (word bytes rest : List ℕ) → bytes ≡ word ++ rest
     → (pointwise nat_eq (take (length word) bytes) word ≡ true) × (drop (length word) bytes ≡ rest)
 front_found word bytes rest e =

@@ -28,7 +28,7 @@ agree_at (suc n) d h lt =
 lower_digit : (d : ℕ) → d < 16 → slice_index lower_digits d ≡ hex_digit d
 lower_digit d lt = agree_at 16 d refl lt
 
--- what stands above k digits, without its lowest digit
+-- what is above k digits, without its lowest digit
 above_next : (k n : ℕ) → n / 16 ^ suc k ≡ n / 16 ^ k / 16
 above_next k n = ap (λ m. n / m) (pow-suc 16 k) ∙ sym (div-div-eq-div-mul n (16 ^ k) 16)
 
@@ -36,7 +36,7 @@ above_next k n = ap (λ m. n / m) (pow-suc 16 k) ∙ sym (div-div-eq-div-mul n (
 above_first : (k n : ℕ) → n / 16 / 16 ^ k ≡ n / 16 ^ suc k
 above_first k n = div-div-eq-div-mul n 16 (16 ^ k) ∙ ap (λ m. n / m) (sym (pow-succ' 16 k))
 
--- one more digit stands in front
+-- one more digit comes first
 hex_front : (k n : ℕ) → hex (suc k) n ≡ hex_digit (n / 16 ^ k % 16) ∷ hex k n
 unfolding hex
 hex_front zero n = ap (λ m. hex_digit (m % 16) ∷ []) (sym (div-one n))
@@ -44,7 +44,7 @@ hex_front (suc k) n =
     ap (λ xs. xs ++ hex_digit (n % 16) ∷ []) (hex_front k (n / 16))
     ∙ ap (λ m. hex_digit (m % 16) ∷ hex (suc k) n) (above_first k n)
 
--- two more digits stand in front
+-- two more digits come first
 hex_two_in_front : (k n : ℕ)
     → hex (suc (suc k)) n ≡ hex_digit (n / 16 ^ k / 16 % 16) ∷ hex_digit (n / 16 ^ k % 16) ∷ hex k n
 hex_two_in_front k n =

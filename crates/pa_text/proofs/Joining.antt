@@ -4,7 +4,7 @@ use Rattle.std.proofs.lemmas.List.{append_assoc, take-append-drop}
 use Rattle.std.proofs.Math.Seq.{take-append_seam}
 use Rattle.std.specs.Io.{StartsWith}
 
--- a text with more behind it starts with that text
+-- a text with more after it starts with that text
 pub starts_more : (xs ys : List ℕ) → StartsWith (xs ++ ys) xs
 starts_more xs ys = take-append_seam xs ys
 

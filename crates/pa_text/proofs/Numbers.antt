@@ -9,7 +9,7 @@ pub cond_is_none : {A : Type 0} (b : Bool) (x : A) → ◌≡◌ {A = Option A} 
 cond_is_none true x e = absurd cc
 cond_is_none false x e = refl
 
--- the digit in front is read first
+-- the leading digit is read first
 pub digit_first : (n d : ℕ) (bytes rest : List ℕ) → digit_at bytes ≡ Some (d, rest) → digits_from n bytes ≡ digits_from (10 * n + d) rest
 unfolding digits_from
 digit_first n d [] rest e = absurd cc
@@ -17,7 +17,7 @@ digit_first n d (c ∷ cs) rest e =
     let t = if_some (is_digit c) (c - 48, cs) (d, rest) e in
     rw t.0 (cc (ap (λ (x : ℕ × List ℕ). digits_from (10 * n + x.0) x.1) t.1))
 
--- where no digit stands in front the number ends
+-- if no digit comes first the number ends
 pub digit_last : (n : ℕ) (bytes : List ℕ) → digit_at bytes ≡ None → digits_from n bytes ≡ (n, bytes)
 unfolding digits_from
 digit_last n [] e = refl
@@ -27,7 +27,7 @@ digit_last n (c ∷ cs) e = rw (cond_is_none (is_digit c) (c - 48, cs) e) refl
 abbrev pub StandsFor : ℕ → ℕ → Type 0
 StandsFor value n = (value ≡ n) ⊎ ((4294967296 ≤ value) × (4294967296 ≤ n))
 
--- the digits read so far write a number that the value stands for, and the rest is still to be read
+-- the digits read so far write a number that the value represents, and the rest is still to be read
 pub record ReadsOn (value : ℕ) (rest : List ℕ) (first : ℕ) (bytes : List ℕ) : Type 0 where
   pub number : ℕ
   pub stands : StandsFor value number
@@ -52,7 +52,7 @@ skips_on value d first rest after bytes e large read = record {
   goes_on = sym (digit_first read.number d rest after e) ∙ read.goes_on;
 }
 
--- what the value stands for is handed on alike
+-- what the value represents is handed on alike
 fit_stands : (value n : ℕ) → StandsFor value n → fit value ≡ fit n
 fit_stands value n (inl same) = ap fit same
 fit_stands value n (inr past) = rw (le-ltb value 4294967296 past.0, le-ltb n 4294967296 past.1) refl

@@ -1,4 +1,4 @@
--- What is read in front of bytes is a numeral, a numeral is read in front of them, and a number has one numeral.
+-- What is read at the start of bytes is a numeral, a numeral there is read, and a number has one numeral.
 use Rattle.std.proofs.Common.{◌≡◌, ℕ, zero, suc, ◌+◌, ◌-◌, ◌*◌, ◌/◌, ◌%◌, ◌<◌, ◌≤◌, Bool, true, false, cond, eqb, ◌&&◌, List, [], ◌∷◌, ◌++◌, length, take, drop, Option, Some, None, is_some, Bor, inl, inr, refl, sym, ap, subst, ◌∙◌, arith}
 use Rattle.std.specs.List.{AllByRecursion}
 use Rattle.std.specs.Option.{option_map, IfSome, IfNone}
@@ -20,18 +20,18 @@ digit_true d h = and_from _ _ (le-leb 48 d h.0) (le-leb d 57 h.1)
 digit_from : (d : ℕ) → is_digit d ≡ true → IsDigit d
 digit_from d e = let p = and_parts _ _ e in (leb-true 48 d p.0, leb-true d 57 p.1)
 
--- where a stop stands in front there is no digit
+-- if a stop comes first there is no digit
 stop_none : (bytes : List ℕ) → IsStop bytes → digit_at bytes ≡ None
 stop_none [] h = refl
 stop_none (c ∷ cs) h = rw h refl
 
--- a digit in front is read
+-- a digit at the start is read
 digit_some : (d : ℕ) (rest : List ℕ) → IsDigit d → digit_at (d ∷ rest) ≡ Some (d - 48, rest)
 digit_some d rest h = rw (digit_true d h) refl
 
--- ---- the digits in front
+-- ---- the leading digits
 
--- what was taken: digits, all that stand in front
+-- what was taken: digits, all that come first
 pub record TakesDigits (n : ℕ) (bytes : List ℕ) (v : ℕ) (rest : List ℕ) : Type 0 where
   digits : List ℕ
   all : AreDigits digits
@@ -83,11 +83,11 @@ none_from_some : {A : Type 0} (o : Option A) → is_some o ≡ false → o ≡ N
 none_from_some None e = refl
 none_from_some (Some x) e = absurd cc
 
--- a `0` in front that is read stands before no digit
+-- a `0` at the start that is read comes before no digit
 alone_stops : (c : ℕ) (cs : List ℕ) → (eqb (c - 48) 0 && is_some (digit_at cs)) ≡ false → c ≡ 48 → digit_at cs ≡ None
 alone_stops c cs test zero' = none_from_some (digit_at cs) (sym (ap (λ (x : ℕ). eqb (x - 48) 0 && is_some (digit_at cs)) zero') ∙ test)
 
--- a digit that stands in front of a stop is no digit
+-- a digit that comes before a stop is no digit
 no_digits : (ds rest : List ℕ) → AreDigits ds → digit_at (ds ++ rest) ≡ None → ds ≡ []
 no_digits [] rest all e = refl
 no_digits (d ∷ ds) rest all e = let one = digit_some d (ds ++ rest) all.0 in absurd cc
@@ -150,7 +150,7 @@ AreDigits-take zero ds h = tt
 AreDigits-take (suc k) [] h = tt
 AreDigits-take (suc k) (d ∷ ds) h = (h.0, AreDigits-take k ds h.1)
 
--- zeros in front of further digits are no numeral
+-- zeros before further digits are no numeral
 no_zeros : (front back : List ℕ) → 0 ≡ value_after 0 front → AreDigits front → ((rest : List ℕ) → front ++ back ≡ 48 ∷ rest → rest ≡ []) → (back ≡ [] → ⊥) → front ≡ []
 no_zeros [] back e all canonical some' = refl
 no_zeros (c ∷ cs) back e all canonical some' =
@@ -220,7 +220,7 @@ decimal_numeral n lt = decimal_by_steps (λ m ds. IsNumeral m ds) one_digit one_
 
 -- ---- what the reader of bytes answers
 
--- a number that stands in front is what is read
+-- a number that comes first is what is read
 pub begins_read : (bytes : List ℕ) (n : ℕ) (rest : List ℕ) → BeginsWith bytes n rest → number_at bytes ≡ Some (n, rest)
 begins_read bytes n rest h = ap number_at h.parts ∙ number_again n h.digits rest h.numeral h.stop
 

@@ -1,4 +1,4 @@
--- What is printed of a number, a word or a slot's name tells it, and what stands behind it.
+-- What is printed of a number, a word or a slot's name tells it, and what follows it.
 use Rattle.std.proofs.Common.{◌≡◌, ℕ, ◌^◌, ◌<◌, List, ◌∷◌, ◌++◌, sym, ap, ◌∙◌, append_assoc, arith}
 use Rattle.std.specs.Fmt.{decimal}
 use Rattle.std.proofs.lemmas.Option.{some_pair_parts}
@@ -9,13 +9,13 @@ use Rattle.pa_text.proofs.Numerals.{number_again, decimal_numeral}
 use Rattle.pa_text.proofs.Words.{hexes_again}
 use Rattle.pa_machine.proofs.Runs.{slot_parts}
 
--- a number with no digit behind it
+-- a number with no digit after it
 pub split_number : (m n : ℕ) (x y : List ℕ) → m < 2 ^ 64 → n < 2 ^ 64 → IsStop x → IsStop y → decimal m ++ x ≡ decimal n ++ y → (m ≡ n) × (x ≡ y)
 split_number m n x y hm hn sx sy e =
     some_pair_parts m n x y
     (sym (number_again m (decimal m) x (decimal_numeral m hm) sx) ∙ ap number_at e ∙ number_again n (decimal n) y (decimal_numeral n hn) sy)
 
--- so many hexadecimal digits
+-- that many hexadecimal digits
 split_hex : (k m n : ℕ) (x y : List ℕ) → m < 16 ^ k → n < 16 ^ k → hex k m ++ x ≡ hex k n ++ y → (m ≡ n) × (x ≡ y)
 split_hex k m n x y hm hn e =
     some_pair_parts m n x y (sym (hexes_again k m x hm) ∙ ap (hexes_at k) e ∙ hexes_again k n y hn)

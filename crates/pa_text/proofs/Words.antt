@@ -1,4 +1,4 @@
--- Sixteen hexadecimal digits in front of bytes: what is read is what is printed, and what is printed is read.
+-- Sixteen hexadecimal digits at the start of bytes: what is read is what is printed, and what is printed is read.
 use Rattle.std.proofs.Common.{◌≡◌, ℕ, zero, suc, ◌+◌, ◌-◌, ◌*◌, ◌/◌, ◌%◌, ◌^◌, ◌<◌, ◌≤◌, Bool, true, false, cond, leb, ◌&&◌, List, [], ◌∷◌, ◌++◌, Option, Some, None, refl, sym, ap, subst, ◌∙◌, append_assoc, pow-suc, inl, inr, arith}
 use Rattle.std.specs.Option.{IfNone}
 use Rattle.std.proofs.lemmas.Bool.{cases_lt, lt-ltb, le-ltb, leb-true, le-leb, lt-leb, and_parts, and_from, and_right}
@@ -56,7 +56,7 @@ value_again d lt =
           ) (ap (λ (n : ℕ). Some n) (omega arith))
     ]
 
--- the digit in front
+-- the leading digit
 hex_takes : (bytes : List ℕ) (x : ℕ × List ℕ) → hex_at bytes ≡ Some x → (bytes ≡ hex_digit x.0 ∷ x.1) × (x.0 < 16)
 hex_takes [] x e = absurd cc
 hex_takes (c ∷ cs) x e =
@@ -68,9 +68,9 @@ hex_takes (c ∷ cs) x e =
 hex_again : (d : ℕ) (rest : List ℕ) → d < 16 → hex_at (hex_digit d ∷ rest) ≡ Some (d, rest)
 hex_again d rest lt = rw (value_again d lt) refl
 
--- ---- so many digits
+-- ---- that many digits
 
--- one more digit stands at the end
+-- one more digit is at the end
 pub hex_end : (k n d : ℕ) → d < 16 → hex (suc k) (16 * n + d) ≡ hex k n ++ hex_digit d ∷ []
 unfolding hex
 hex_end k n d lt =
@@ -78,7 +78,7 @@ hex_end k n d lt =
     let low : (16 * n + d) % 16 ≡ d = omega arith in
     rw (high, low) refl
 
--- what is read is so many digits of a number that has no more
+-- what is read is that many digits of a number that has no more
 pub hexes_take : (k : ℕ) (bytes : List ℕ) (x : ℕ × List ℕ) → hexes_at k bytes ≡ Some x → (bytes ≡ hex k x.0 ++ x.1) × (x.0 < 16 ^ k)
 unfolding hexes_at
 hexes_take zero bytes x e =
@@ -97,7 +97,7 @@ hexes_take (suc k) bytes x e =
     let pair : ◌≡◌ {A = ℕ × List ℕ} (16 * a.0.0 + b.0.0, b.0.1) x = cc in
     subst (λ (y : ℕ × List ℕ). (bytes ≡ hex (suc k) y.0 ++ y.1) × (y.0 < 16 ^ suc k)) pair (parts, small)
 
--- so many digits of a number that has no more are read as that number
+-- that many digits of a number that has no more are read as that number
 pub hexes_again : (k n : ℕ) (rest : List ℕ) → n < 16 ^ k → hexes_at k (hex k n ++ rest) ≡ Some (n, rest)
 unfolding hexes_at hex
 hexes_again zero n rest lt = let none : 0 ≡ n = omega arith in ap (λ (m : ℕ). Some (m, rest)) none
@@ -108,7 +108,7 @@ hexes_again (suc k) n rest lt =
     let whole : 16 * (n / 16) + n % 16 ≡ n = omega arith in
     rw (regrouped, front, last, whole) refl
 
--- what does not begin with so many digits does not begin with more
+-- what does not begin with that many digits does not begin with more
 pub hexes_none : (k j : ℕ) (bytes : List ℕ) → hexes_at k bytes ≡ None → hexes_at (j + k) bytes ≡ None
 unfolding hexes_at
 hexes_none k zero bytes e = let same : 0 + k ≡ k = omega arith in rw same e
@@ -148,7 +148,7 @@ hexes_small k value bytes rest e lt =
 pub word_found : (value : ℕ) (bytes rest : List ℕ) → hexes_at 16 bytes ≡ Some (value, rest) → (value < 18446744073709551616) × (bytes ≡ hex 16 value ++ rest)
 word_found value bytes rest e = let t = hexes_take 16 bytes (value, rest) e in (t.1, t.0)
 
--- where nothing is read no word's digits stand in front
+-- if nothing is read no word's digits come first
 pub word_none : (k value : ℕ) (bytes rest : List ℕ) → hexes_at k bytes ≡ Some (value, rest) → hex_at rest ≡ None → k < 16
     → (n : ℕ) (more : List ℕ) → n < 18446744073709551616 → bytes ≡ hex 16 n ++ more → ⊥
 word_none k value bytes rest e none lt n more small parts =

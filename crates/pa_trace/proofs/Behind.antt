@@ -34,7 +34,7 @@ head_text region partitions threads line h = subst (λ (x : List ℕ). IsHeadTex
 pub cut_of : (bytes line after : List ℕ) → IsOneLine line → bytes ≡ line ++ 10 ∷ after → lines_of bytes ≡ (line ++ 10 ∷ []) ∷ lines_of after
 cut_of bytes line after one e = ap lines_of e ∙ cut_lines line after one
 
--- ---- lines behind a head
+-- ---- lines after a head
 
 module _ (partitions threads : ℕ) where
   -- a line that is past
@@ -79,7 +79,7 @@ module _ (partitions threads : ℕ) where
       subst (λ (x : List (List ℕ)). IsFirstBehind partitions threads n before x (BadLine n)) (sym (last_line line one some'))
       (inl (refl, (λ past. elim past [ inl many ↦ omega arith | inr long ↦ omega arith ]), bad_end line one))
 
-  -- a last line without an LF, and what is told of it
+  -- a last line without an LF, and what is reported of it
   pub first_end : (n before : ℕ) (line : List ℕ) (e : TraceFault) → IsOneLine line → (line ≡ [] → ⊥)
       → ((65536 < n) ⊎ (4194304 < before + length line) → e ≡ Limit n) → (n ≤ 65536 → before + length line ≤ 4194304 → e ≡ BadLine n)
       → IsFirstBehind partitions threads n before (lines_of line) e

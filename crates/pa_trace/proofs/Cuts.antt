@@ -51,7 +51,7 @@ lf_front (line ∷ lines) = refl
 pub other_front : (b : ℕ) (line : List ℕ) (lines : List (List ℕ)) → (b ≡ 10 → ⊥) → with_front b (line ∷ lines) ≡ (b ∷ line) ∷ lines
 other_front b line lines other = rw (ne_eqb b 10 other) refl
 
--- a line with its LF stands in front of the lines behind it
+-- a line with its LF comes before the lines after it
 pub cut_lines : (line after : List ℕ) → IsOneLine line → lines_of (line ++ 10 ∷ after) ≡ (line ++ 10 ∷ []) ∷ lines_of after
 unfolding lines_of
 cut_lines [] after one = lf_front (lines_of after)

@@ -7,7 +7,7 @@ use Rattle.rand_pcg.specs.Pcg.{pcg32}
 use Rattle.pa_trace.specs.declared.script.Line.{Line}
 use Rattle.pa_trace.specs.Generated.{parts, phase_before, round_lines, generated_lines}
 
--- one word more, where some are left
+-- one word more, if some are left
 drawn_next : (words all : List ℕ) (n : ℕ) (g : Lcg) → words ++ first_words pcg32 (suc n) g ≡ all
     → (words ++ (pcg32 g).0 ∷ []) ++ first_words pcg32 n (pcg32 g).1 ≡ all
 unfolding first_words
@@ -26,13 +26,13 @@ unfolding first_words
 drawn_all words all zero g none e = sym (append-nil words) ∙ e
 drawn_all words all (suc n) g none e = absurd (omega arith)
 
--- so many words are drawn
+-- that many words are drawn
 pub drawn_length : (n : ℕ) (g : Lcg) → length (first_words pcg32 n g) ≡ n
 unfolding first_words
 drawn_length zero g = refl
 drawn_length (suc n) g = ap suc (drawn_length n (pcg32 g).1)
 
--- all parts, and what stands behind them
+-- all parts, and what follows them
 pub behind_parts : (part : ℕ → List Line) (n m : ℕ) (old a b last : List Line) → n ≡ m → a ≡ old ++ parts part n → b ≡ a ++ last
     → b ≡ old ++ (parts part m ++ last)
 behind_parts part n m old a b last all e f =

@@ -14,7 +14,7 @@ Extends (x ∷ []) (y ∷ ys) = length x ≤ length y
 Extends (x ∷ w ∷ xs) [] = ⊥
 Extends (x ∷ w ∷ xs) (y ∷ ys) = (x ≡ y) × Extends (w ∷ xs) ys
 
--- so many bytes in all
+-- that many bytes in all
 abbrev total : List (List ℕ) → ℕ
 total [] = 0
 total (x ∷ xs) = length x + total xs
@@ -36,7 +36,7 @@ unfolding lines_of
 lines_total [] = refl
 lines_total (b ∷ bytes) = front_total b (lines_of bytes) ∙ omega (arith, lines_total bytes)
 
--- ---- a byte in front of both
+-- ---- a byte before both
 
 some_extended : (x : List ℕ) (xs : List (List ℕ)) → Extends (x ∷ xs) [] → ⊥
 some_extended x [] h = h

@@ -23,7 +23,7 @@ if_ok : {A : Type 0} (b : Bool) (d : LineFault) (x y : A) → cond b (Ok x) (Err
 if_ok true d x y e = (refl, cc)
 if_ok false d x y e = absurd cc
 
--- ---- a word in front
+-- ---- a word at the start
 
 pub behind_takes : (word bytes rest : List ℕ) → behind word bytes ≡ Ok rest → bytes ≡ word ++ rest
 unfolding behind
@@ -37,7 +37,7 @@ behind_again word rest =
     let front = front_found word (word ++ rest) rest refl in
     rw (front.0, front.1) refl
 
--- ---- the number in front, with its value whatever its length
+-- ---- the number at the start, with its value whatever its length
 
 unfoldable pub field_at : List ℕ → List ℕ → Result (ℕ × List ℕ) LineFault
 field_at word bytes = do
@@ -48,7 +48,7 @@ or_outside_ok : {A : Type 0} (o : Option A) (x : A) → or_outside o ≡ Ok x �
 or_outside_ok None x e = absurd cc
 or_outside_ok (Some y) x e = cc
 
--- a word, a numeral and what stands behind it
+-- a word, a numeral and what follows it
 pub record TakesField (word bytes : List ℕ) (n : ℕ) (rest : List ℕ) : Type 0 where
   pub numeral : List ℕ
   pub spelled : IsNumeral n numeral
@@ -238,7 +238,7 @@ pub number_none : (bytes : List ℕ) → ((n : ℕ) (rest : List ℕ) → Begins
 unfolding number_in
 number_none bytes none = none_in bytes (number_at bytes) refl none
 
--- a number and the bytes behind it
+-- a number and the bytes after it
 abbrev pub handed : ℕ × List ℕ → Result (Option ℕ × List ℕ) LineFault
 handed x = Ok (fit x.0, x.1)
 

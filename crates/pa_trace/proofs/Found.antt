@@ -32,7 +32,7 @@ cut_at [] = inl tt
 cut_at (b ∷ bytes) =
     elim (cases_eq b 10) [ inl lf ↦ inr ([], bytes, tt, ap (λ (x : ℕ). x ∷ bytes) lf) | inr other ↦ cut_more b bytes other (cut_at bytes) ]
 
--- ---- the lines behind a head
+-- ---- the lines after a head
 
 module _ (partitions threads : ℕ) (few : partitions ≤ 4294967296) (few_threads : threads ≤ 4294967296) where
   -- all lines are read, or one is the first faulty one

@@ -76,7 +76,7 @@ abbrev SwapsInTurn : ℕ → Line → Type 0
 SwapsInTurn phase (Do thread (Swap cell reg)) = (cell ≡ (thread + phase) % 4) × (thread < 4)
 SwapsInTurn phase l = Unit {0}
 
--- each line, of which the first stands in this phase
+-- each line, of which the first is in this phase
 abbrev AllInTurn : ℕ → List Line → Type 0
 AllInTurn phase [] = Unit {0}
 AllInTurn phase (Phase ∷ ls) = AllInTurn (suc phase) ls
@@ -92,7 +92,7 @@ pub record Turns (phase over : ℕ) (ls : List Line) : Type 0 where
   all : AllInTurn phase ls
   many : phases ls ≡ over
 
--- lines behind lines: the phase in which they begin, and how many phases end in all
+-- lines after lines: the phase in which they begin, and how many phases end in all
 turns_append : (p q m n s : ℕ) (a b : List Line) → q ≡ p + m → s ≡ m + n → Turns p m a → Turns q n b → Turns p s (a ++ b)
 turns_append p q m n s [] b e f ha hb = record {
   all = subst (λ (x : ℕ). AllInTurn x b) (omega (arith, ha.many)) hb.all;

@@ -16,7 +16,7 @@ use Rattle.pa_trace.proofs.Limits.{head_read, head_not_read, line_read, line_not
 use Rattle.pa_trace.proofs.Behind.{first_past, first_unread, first_later, first_end, first_is_fault, head_unread, head_later, over_room, in_room, under_room}
 use Rattle.pa_trace.proofs.Texts.{lines_more, lines_join, all_push}
 
--- line n, which has so many bytes where so many may still come, is one line or one byte too many
+-- line n is one line too many, or is a byte too long for the bytes that may still come
 abbrev IsOver : ℕ → ℕ → ℕ → Type 0
 IsOver n len left = (65536 < n) ⊎ (left < len)
 
@@ -64,7 +64,7 @@ module _ (u : Unread) (line after : List ℕ) (one : IsOneLine line) (parts : u.
         (first_unread u.head.partitions u.head.threads u.number (4194304 - u.left) u.rest line after d one parts room.0 (omega (arith, most, room.1)) unread))
 
     module _ (l : Line) (is : line_in u.head.partitions u.head.threads line ≡ Ok l) where
-      -- what is unread behind the line
+      -- what is unread after the line
       abbrev behind_it : Unread
       behind_it = record { head = u.head; rest = after; left = u.left - (length line + 1); number = u.number + 1 }
 

@@ -16,7 +16,7 @@ pub field_written : (word : List ℕ) (n : ℕ) (old mid new : List ℕ) → n <
 field_written word n old mid new small e f =
     (word ++ decimal n, (decimal n, decimal_numeral n (omega arith), refl), f ∙ ap (λ (x : List ℕ). x ++ decimal n) e ∙ append_assoc old word (decimal n))
 
--- two and three texts, one behind the other
+-- two and three texts, one after the other
 join_two : (old a b s t : List ℕ) → a ≡ old ++ s → b ≡ a ++ t → b ≡ old ++ (s ++ t)
 join_two old a b s t e f = f ∙ ap (λ (x : List ℕ). x ++ t) e ∙ append_assoc old s t
 

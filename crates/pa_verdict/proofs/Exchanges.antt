@@ -17,7 +17,7 @@ use Rattle.pa_verdict.specs.Clauses.{IsMet, CellsArePlaces}
 use Rattle.pa_lists.proofs.Indexed.{at_in, in_at}
 use Rattle.pa_verdict.proofs.Ordering.{due_differ, order_meets, order_whole}
 
--- what the exchange before the one of this index gave, where the first one finds what the cell held
+-- what the exchange before the one of this index gave, if the first one finds what the cell held
 abbrev GivenFrom : Held → List CellEntry → ℕ → Held → Type 0
 GivenFrom held es zero found = found ≡ held
 GivenFrom held es (suc j) found = (e : CellEntry) × (slice_get es j ≡ Some e) × (found ≡ e.gave)

@@ -1,4 +1,4 @@
--- The moves of a journal at a slot and a number, each with its entry and what stands before it there.
+-- The moves of a journal at a slot and a number, each with its entry and what comes before it there.
 use Rattle.std.proofs.Common.{◌≡◌, ℕ, zero, suc, ◌⊎◌, Bool, true, List, [], ◌∷◌, ◌++◌, take, drop, filter, flat_map, refl, subst, sym, ◌∙◌, ap, append_assoc, inl, inr, Some}
 use Rattle.std.specs.Prelude.{slice_get}
 use Rattle.std.proofs.lemmas.Bool.{cases_Bool}
@@ -13,7 +13,7 @@ use Rattle.pa_rules.specs.Holders.{Move, moves_by, is_move_of, moves_at}
 filter_hit : {A : Type 0} (test : A → Bool) (x : A) (xs : List A) → test x ≡ true → filter test (x ∷ xs) ≡ x ∷ filter test xs
 filter_hit test x xs hit = rw hit refl
 
--- a member of a filtered list, and what stands before it
+-- a member of a filtered list, and what comes before it
 record IsFiltered {A : Type 0} (test : A → Bool) (xs pre : List A) (x : A) : Type 0 where
   before : List A
   after : List A

@@ -14,11 +14,11 @@ use Rattle.pa_rules.proofs.Numbering.{lines_differ}
 use Rattle.pa_rules.proofs.Recorded.{records_are_lines}
 use Rattle.pa_lists.proofs.Indexed.{map_at, at_map, one_at}
 
--- where the records are those due, each has a line of its own
+-- if the records are those due, each has a line of its own
 pub due_differ : (t : Trace) (r : Told) → AreDue t.lines r.entries → AllPairs OtherRecord (records_of t r)
 due_differ t r due = lines_differ t.lines (records_of t r) (records_are_lines.lines t.lines r.entries due)
 
--- a record doesn't stand before itself
+-- a record doesn't come before itself
 pub not_before : (x y : Played) → x ≡ y → StandsBefore x y → ⊥
 not_before x y same (inl (thread, less)) = let e : x.line ≡ y.line = ap (λ (z : Played). z.line) same in omega arith
 not_before x y same (inr less) = let e : x.phase ≡ y.phase = ap (λ (z : Played). z.phase) same in omega arith
@@ -27,7 +27,7 @@ not_before x y same (inr less) = let e : x.phase ≡ y.phase = ap (λ (z : Playe
 abbrev pub IsAt : List Played → ℕ → Played → Type 0
 IsAt ps line x = Contains ps x × (x.line ≡ line)
 
--- the entries of a list stand in the order of their records
+-- the entries of a list are in the order of their records
 abbrev pub AreInOrder : {A : Type 0} → List Played → (A → ℕ) → List A → Type 0
 AreInOrder {A} ps f xs =
     (i j : ℕ) (e g : A) (x y : Played) → slice_get xs i ≡ Some e → slice_get xs j ≡ Some g → IsAt ps (f e) x → IsAt ps (f g) y → StandsBefore x y → i < j

@@ -33,7 +33,7 @@ same_run ms s u w (v ∷ vs) (x ∷ xs) h e (m, p, first, can, is, rest) (n, q, 
     let more = same_run ms s v x vs xs h next rest rest' in
     ap (λ z. z ∷ vs) next ∙ ap (λ zs. x ∷ zs) more
 
--- what the clause asks of a mark
+-- what the clause requires of a mark
 abbrev MarkFits : List Mark → Mark → Type 0
 MarkFits ms m =
     (vs : List ℕ) × IsRunFrom ms m.slot 0 vs × Contains (0 ∷ vs) m.found

@@ -1,4 +1,4 @@
--- A run is legal exactly where each clause holds at each place, and it has one verdict.
+-- A run is legal exactly when each clause holds at each place, and it has one verdict.
 use Rattle.std.proofs.Common.{◌≡◌, ℕ, List, [], ◌∷◌, get_or, refl, sym, ◌∙◌, ap, subst, arith, inl, inr}
 use Rattle.std.proofs.lemmas.Bool.{cases_order}
 use Rattle.pa_trace.specs.declared.script.Trace.{Trace}

@@ -1,4 +1,4 @@
--- How often a slot stands in lists at a number, and how often entries take it out of the root and give it back there.
+-- How often a slot is in lists at a number, and how often entries take it out of the root and give it back there.
 use Rattle.std.proofs.Common.{◌≡◌, ℕ, zero, suc, ◌+◌, ◌<◌, ◌≤◌, Bool, not, ◌&&◌, cond, List, [], ◌∷◌, ◌++◌, take, drop, length, refl, sym, ◌∙◌, ap, arith, inl, inr}
 use Rattle.std.specs.Prelude.{count_by, nat_lt, ◌==◌}
 use Rattle.std.proofs.lemmas.Bool.{cases_Bool, cases_eq}
@@ -27,7 +27,7 @@ hits s k n = same_slot s n.slot && (n.number == k)
 abbrev pub hit_once : SlotName → ℕ → Numbered → ℕ
 hit_once s k n = cond (hits s k n) 1 0
 
--- how often the slot stands in a list at the number, and in the lists of `n` classes from one on
+-- how often the slot is in a list at the number, and in the lists of `n` classes from one on
 abbrev pub at_in : SlotName → ℕ → List Numbered → ℕ
 at_in s k xs = count_by (hits s k) xs
 

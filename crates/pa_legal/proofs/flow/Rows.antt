@@ -1,4 +1,4 @@
--- What a record does with a slot at a number: as often as its thread got it there, it stands in the thread's lists, was issued or went back.
+-- What a record does with a slot at a number: as often as its thread got it there, it is in the thread's lists, was issued or went back.
 use Rattle.std.proofs.Common.{◌≡◌, ℕ, ◌+◌, ◌<◌, Bool, true, false, ◌&&◌, cond, List, [], ◌∷◌, filter, Option, Some, None, refl, sym, ◌∙◌, ap, subst, arith, inl, inr}
 use Rattle.std.specs.Prelude.{Contains, ◌==◌}
 use Rattle.std.proofs.lemmas.Bool.{cases_Bool, cases_eq, eqb-true}
@@ -38,7 +38,7 @@ is_issue_at s k m = is_issue_of s m && (number_of m.found == k)
 abbrev pub is_return_at : SlotName → ℕ → Mark → Bool
 is_return_at s k m = is_return_of s m && (number_of m.found + 1 == k)
 
--- 1 where there is a mark that passes
+-- 1 if there is a mark that passes
 abbrev pub marked : (Mark → Bool) → Option Mark → ℕ
 marked test None = 0
 marked test (Some m) = cond (test m) 1 0
@@ -135,7 +135,7 @@ module _ (s : SlotName) (k p : ℕ) (roots : Journals) where
               omega arith
         ])
 
-    -- a slot that a step returned, where its mark is one return and no issue
+    -- a slot that a step returned, if its mark is one return and no issue
     return_flows : (pools : List PoolEntry) (x : Played) (slot : Numbered) (mark : Option Mark) (cache after : Cache) → ((q : ℕ) → IsJournal pools (roots q)) →
         ((q asked : ℕ) (n : Numbered) (e : RootEntry) → Contains (roots q) e → e.line ≡ x.line → e.act ≡ Unmap asked n → n.number ≡ slot.number) →
         marked (is_issue_at s k) mark ≡ 0 → marked (is_return_at s k) mark ≡ hit_once s k slot → ReturnRow roots x slot cache after → Flows (acts_of roots x.line p) mark cache after

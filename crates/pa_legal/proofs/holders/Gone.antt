@@ -30,7 +30,7 @@ use Rattle.pa_legal.proofs.holders.Maps.{new_map}
 use Rattle.pa_legal.proofs.holders.Records.{ReturnsMap, unmap_returns, issue_makes}
 use Rattle.pa_lists.proofs.Indexed.{at_in}
 
--- an entry, and those behind it
+-- an entry, and those after it
 behind : {A : Type 0} (xs : List A) (i j : ℕ) (e f : A) → slice_get xs i ≡ Some e → slice_get xs j ≡ Some f → i < j → (before rest : List A) × (xs ≡ before ++ e ∷ rest) × Contains rest f
 behind [] i j e f at at' less = let low = slice_get_within [] i e at in absurd (omega arith)
 behind (x ∷ xs) zero zero e f at at' less = absurd (omega arith)

@@ -111,7 +111,7 @@ module _ (supers partitions : ℕ) (ps : List Played) (pools : List PoolEntry) (
         (subst (λ b. Alternate b (map (turn_of (thread_at ps)) (moves_at (roots p) s k))) (sym (first_away h s k ps first.first)) (turns_alternate p s k))
         (none_loses h first)
 
-    -- where nobody returned the slot at the number, no entry names it there
+    -- if nobody returned the slot at the number, no entry names it there
     never_moved : IsNever ps s k → (ms : List Move) → moves_at (roots p) s k ≡ ms → ms ≡ []
     never_moved never [] is = refl
     never_moved never (m ∷ ms) is =

@@ -1,4 +1,4 @@
--- The moves of a journal: which op makes each, and that those of one thread stand in the order of its lines.
+-- The moves of a journal: which op makes each, and that those of one thread are in the order of its lines.
 use Rattle.std.proofs.Common.{◌≡◌, ℕ, List, [], ◌∷◌, map, flat_map, Some, sym, ◌∙◌, ap, subst, arith, ◌⊎◌, inl, inr, get_or}
 use Rattle.std.specs.Prelude.{Contains, AllPairs}
 use Rattle.std.proofs.lemmas.Option.{slice_get-get_or}
@@ -52,7 +52,7 @@ entry_move pools p line (Give slots) op m (inr purge) among = slots_move line op
 entry_move pools p line (Unmap asked slot) op m freeing among = slots_move line op Back (slot ∷ []) m (freeing_back op freeing) among
 entry_move pools p line Purge op m makes among = absurd (not_in_none m among)
 
--- two moves stand in the order of their records
+-- two moves are in the order of their records
 abbrev pub InOrder : List Played → Move → Move → Type 0
 InOrder ps m n = (x y : Played) → IsOfLine ps m.line x → IsOfLine ps n.line y → StandsBefore y x → ⊥
 

@@ -1,4 +1,4 @@
--- The records of a run cut before a line: which stand on each side, the records of entries and exchanges, and the caches at the cut.
+-- The records of a run cut before a line: which are on each side, the records of entries and exchanges, and the caches at the cut.
 use Rattle.std.proofs.Common.{◌≡◌, ℕ, ◌+◌, ◌<◌, ◌≤◌, ◌⊎◌, List, [], ◌∷◌, ◌++◌, refl, sym, ◌∙◌, ap, subst, arith, inl, inr, append_assoc}
 use Rattle.std.specs.Prelude.{Contains, AllPairs}
 use Rattle.std.proofs.lemmas.List.Elements.{Contains-append_cases}
@@ -61,7 +61,7 @@ module _ (a : Parts) (before rest : List Played) (x : Played) (h : IsFiled a) (p
     late = λ y among. let less = later y among in omega arith;
   }
 
--- a record of a lesser line stands before
+-- a record of a lesser line comes before
 pub early_in : (a : Parts) (n : ℕ) (before rest : List Played) (q : Played) → IsCut a n before rest → Contains a.ps q → q.line < n → Contains before q
 early_in a n before rest q cut among less = elim (Contains-append_cases before rest q (subst (λ z. Contains z q) cut.parts among)) [
   | inl first ↦ first
@@ -72,7 +72,7 @@ early_in a n before rest q cut among less = elim (Contains-append_cases before r
 pub same_played : (a : Parts) (x y : Played) → IsFiled a → Contains a.ps x → Contains a.ps y → x.line ≡ y.line → x ≡ y
 same_played a x y h first second e = same_record a.ps x y (rising_differ a.ps h.rising) first second e
 
--- ---- each entry and exchange stands on the line of a record
+-- ---- each entry and exchange is on the line of a record
 
 -- the record of an entry's line makes it
 pub entry_made : (a : Parts) (p : ℕ) (e : RootEntry) → IsFiled a → Contains (a.roots p) e → (x : Played) × IsOfLine a.ps e.line x × MakesEntry a.pools p e.act x.op

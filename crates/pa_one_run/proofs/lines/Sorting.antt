@@ -1,4 +1,4 @@
--- Lists in the order of their lines: what stands before a line, on it and past it.
+-- Lists in the order of their lines: what comes before a line, on it and past it.
 use Rattle.std.proofs.Common.{◌≡◌, ℕ, zero, suc, ◌+◌, ◌<◌, ◌≤◌, List, [], ◌∷◌, ◌++◌, length, map, drop, get_or, Some, refl, sym, ◌∙◌, ap, subst, arith, inl, inr, ◌⊎◌}
 use Rattle.std.specs.Prelude.{Contains, ◌==◌, nat_lt, slice_get}
 use Rattle.std.specs.List.Sorted.{IsNonDecreasingBy, IsStrictlyIncreasing}
@@ -13,7 +13,7 @@ use Rattle.pa_one_run.specs.Before.{below, on, past}
 use Rattle.pa_lists.proofs.Elements.{both_parts}
 use Rattle.pa_lists.proofs.Indexed.{in_at, at_in}
 
--- a list whose lines don't fall: the first has none greater behind it
+-- a list whose lines don't fall: the first has none greater after it
 pub rising_tail : {A : Type 0} (f : A → ℕ) (x : A) (xs : List A) → IsNonDecreasingBy f (x ∷ xs) → IsNonDecreasingBy f xs
 rising_tail f x xs h i j d low below' = h (suc i) (suc j) d (omega arith) (omega arith)
 
@@ -48,7 +48,7 @@ past_all f n xs h = filter_all (λ y. nat_lt n (f y)) xs (λ x among. lt-ltb _ _
 
 -- ---- in the order of the lines
 
--- a list is what stands before a line, what stands on it, and what stands past it
+-- a list is what comes before a line, what is on it, and what comes past it
 pub below_on_past : {A : Type 0} (f : A → ℕ) (n : ℕ) (xs : List A) → IsNonDecreasingBy f xs → xs ≡ below f n xs ++ on f n xs ++ past f n xs
 below_on_past f n [] h = refl
 below_on_past f n (x ∷ xs) h = elim (cases_lt (f x) n) [
@@ -68,7 +68,7 @@ below_on_past f n (x ∷ xs) h = elim (cases_lt (f x) n) [
       ]
 ]
 
--- what stands before the next line
+-- what comes before the next line
 pub below_next : {A : Type 0} (f : A → ℕ) (n m : ℕ) (xs : List A) → n < m → ((x : A) → Contains xs x → n < f x → m ≤ f x) → IsNonDecreasingBy f xs → below f m xs ≡ below f n xs ++ on f n xs
 below_next f n m [] less gap h = refl
 below_next f n m (x ∷ xs) less gap h =
@@ -122,7 +122,7 @@ on_one f n (x ∷ xs) e d (suc k) h one at same =
           rw (lt-ltb (f x) n (omega arith)) (ap suc place, it)
     ]
 
--- an entry that stands before a line has its place in what does
+-- an entry that comes before a line has its place in what does
 pub get_below : {A : Type 0} (f : A → ℕ) (n : ℕ) (xs : List A) (j : ℕ) (e : A) → IsNonDecreasingBy f xs → slice_get xs j ≡ Some e → f e < n → slice_get (below f n xs) j ≡ Some e
 get_below f n [] j e h at less = at
 get_below f n (x ∷ xs) zero e h at less =
@@ -184,7 +184,7 @@ next_below f n xs ys h k same now =
 abbrev pub HasGap : {A : Type 0} → (A → ℕ) → ℕ → ℕ → List A → Type 0
 HasGap f n m xs = (x : _) → Contains xs x → (f x < n) ⊎ (m ≤ f x)
 
--- so as much stands before m as before n
+-- so as much comes before m as before n
 pub below_gap : {A : Type 0} (f : A → ℕ) (n m : ℕ) (xs : List A) → n ≤ m → HasGap f n m xs → below f n xs ≡ below f m xs
 below_gap f n m [] up gap = refl
 below_gap f n m (x ∷ xs) up gap =
@@ -196,7 +196,7 @@ below_gap f n m (x ∷ xs) up gap =
 
 -- ---- lists whose lines don't fall
 
--- a list whose lines don't fall: each of a lesser line stands before
+-- a list whose lines don't fall: each of a lesser line comes before
 pub sorted_by : {A : Type 0} (f : A → ℕ) (xs : List A) → ((i j : ℕ) (e g : A) → slice_get xs i ≡ Some e → slice_get xs j ≡ Some g → f e < f g → i < j) → IsNonDecreasingBy f xs
 sorted_by f xs h i j d up few = elim (cases_lt (f (get_or xs j d)) (f (get_or xs i d))) [
   | inl less ↦ let back = h j i (get_or xs j d) (get_or xs i d) (slice_get-get_or xs j d few) (slice_get-get_or xs i d (omega arith)) less in absurd (omega arith)

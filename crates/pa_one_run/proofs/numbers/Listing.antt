@@ -1,4 +1,4 @@
--- Where a slot stands in the caches after one thread's lists changed, and how often.
+-- Where a slot is in the caches after one thread's lists changed, and how often.
 use Rattle.std.proofs.Common.{◌≡◌, ℕ, ◌+◌, ◌<◌, ◌⊎◌, List, [], ◌∷◌, sym, ap, subst, arith, inl, inr}
 use Rattle.std.specs.Prelude.{Contains}
 use Rattle.std.proofs.lemmas.Bool.{cases_eq, eq-eqb, ne_eqb}
@@ -13,7 +13,7 @@ use Rattle.pa_rules.specs.Once.{once}
 use Rattle.pa_rules.proofs.Counted.{stands, times_cons, stands_kept, listed_none, listed_changed, cached_changed}
 use Rattle.pa_rules.proofs.Totals.{some_cached, some_listed, some_times}
 
--- m is of slot s and stands in a list of partition p of one of the threads
+-- m is of slot s and is in a list of partition p of one of the threads
 pub record Stands (all : Caches) (s : SlotName) (p threads : ℕ) (m : Numbered) : Type 0 where
   pub thread : ℕ
   pub class : ℕ
@@ -22,7 +22,7 @@ pub record Stands (all : Caches) (s : SlotName) (p threads : ℕ) (m : Numbered)
   pub among : Contains (all thread p class) m
   pub slot : m.slot ≡ s
 
--- it stands nowhere where it is counted never, nor in one list
+-- it is nowhere where it is counted never, nor in one list
 pub nowhere : (all : Caches) (s : SlotName) (p threads : ℕ) (m : Numbered) → cached_times s all p threads ≡ 0 → Stands all s p threads m → ⊥
 nowhere all s p threads m none at =
     let some = some_cached all p threads at.thread at.class m at.few at.real at.among in

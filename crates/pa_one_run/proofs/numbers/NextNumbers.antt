@@ -43,7 +43,7 @@ use Rattle.pa_one_run.proofs.lines.Cuts.{cut_here, cut_next, IsCut}
 use Rattle.pa_one_run.proofs.numbers.Numbering.{number_after, IsApart, StepsOn, apart_number, step_found, step_word, step_number, step_busy, step_away, step_enabled}
 use Rattle.pa_lists.proofs.Elements.{in_middle, drop_in, in_one}
 
--- a slot of a class stands in one list or is in use, or neither
+-- a slot of a class is in one list or is in use, or neither
 at_most_once : (a : Parts) (n p class : ℕ) (before rest : List Played) (all : Caches) (s : SlotName) → IsFiled a → IsCut a n before rest → CachesTo a.partitions a.roots no_caches before all →
     p < a.partitions → IsOfClass a.roots s p class → cached_times s all p a.threads + busy (word_after before s) ≤ 1
 at_most_once a n p class before rest all s h cut caches few of =
@@ -139,7 +139,7 @@ module _ (a : Parts) (before rest : List Played) (x : Played) (all : Caches) (ne
   quiet : IsApart x s → ((k : ℕ) → ways_of s k On ≡ []) → ((m : Numbered) → Next m → Listed m) → AreNumberedAfter a before x all next s p
   quiet apart none old = subst (λ k. AreNumbered (Before ++ On) s k Next) (sym (apart_number before x s apart)) (still Before On s number Listed Next are none old)
 
-  -- it steps on the slot, which it doesn't issue: the slot is listed nowhere then but where it is listed now
+  -- it steps on the slot, which it doesn't issue: the slot is listed nowhere then but if it is listed now
   stepped_on : (m : Mark) (step : Step) (Later : Numbered → Type 0) → StepsOn x s m step → is_issue (Some step) ≡ false →
       ((y : Numbered) → Later y → Listed y ⊎ (y.number ≡ number + 1)) → AreNumbered Before s later_number Later
   stepped_on m step Later on none new =

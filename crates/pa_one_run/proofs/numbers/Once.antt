@@ -1,4 +1,4 @@
--- Before each line a slot that left its root is out of it and stands in one cache or in use, or is back and does neither.
+-- Before each line a slot that left its root is out of it and is in one cache or in use, or is back and does neither.
 use Rattle.std.proofs.Common.{ℕ, ◌+◌, ◌<◌, List, ◌++◌, append_assoc, sym, ◌∙◌, subst, arith, inl, inr}
 use Rattle.std.specs.Prelude.{Contains, All, AllPairs, nat_lt}
 use Rattle.std.proofs.lemmas.Bool.{ltb-true}

@@ -39,7 +39,7 @@ abbrev pub ways_of : SlotName → ℕ → List RootAct → List Way
 ways_of s k [] = []
 ways_of s k (a ∷ acts) = ways_by s k a ++ ways_of s k acts
 
--- whether a slot is away from the root after these ways, where it was so before them
+-- whether a slot is away from the root after these ways, if it was so before them
 abbrev pub away_after : Bool → List Way → Bool
 away_after b [] = b
 away_after b (w ∷ ws) = away_after (is_out w) ws

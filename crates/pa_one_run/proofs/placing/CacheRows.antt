@@ -147,7 +147,7 @@ made_or_full a b before x v seen cache next next' h (inr (p, size, i, m, asks, o
     let (e, f) = map_once x.op q p size' size asks' asks in
     map_or_full a b before x v p size i j m seen.slot h asks only (subst (λ z. OnlyActs b.roots x.line z (Full None j ∷ [])) e only')
 
--- where a record says that there is no room, its entry is the line's only one
+-- if a record says that there is no room, its entry is the line's only one
 full_place : (a : Parts) (x : Played) (cache next : Cache) (j : ℕ) → IsFiled a → Contains a.ps x → x.answer ≡ answers.Full j → FullRow a.roots x cache next →
     (p reg size : ℕ) × (x.op ≡ ops.Alloc reg p size) × (j ≡ length (below entry_line x.line (a.roots p)))
 full_place a x cache next j h among is (inl (p, class, i, (reg, size, op, of), empty, only, becomes)) =

@@ -1,4 +1,4 @@
--- What a line asks of a root and of the pool is answered the same in two runs that agree before it.
+-- What a line requires of a root and of the pool is answered the same in two runs that agree before it.
 use Rattle.std.proofs.Common.{◌≡◌, ℕ, List, [], ◌∷◌, ◌++◌, map, Option, Some, None, refl, sym, ◌∙◌, ap, subst, arith, inl, inr}
 use Rattle.std.specs.Prelude.{Contains}
 use Rattle.std.proofs.lemmas.Bool.{cases_eq, true≢false}
@@ -42,7 +42,7 @@ pub record IsAlike (a b : Parts) (n : ℕ) : Type 0 where
   pub acts : (p : ℕ) → acts_of a.roots n p ≡ acts_of b.roots n p
   pub pool : on pool_line n a.pools ≡ on pool_line n b.pools
 
--- x is the record behind `before` in the run a, and in the run b there is one of its line and op with the answer v
+-- x is the record after `before` in the run a, and in the run b there is one of its line and op with the answer v
 pub record Beside (a b : Parts) (before : List Played) (x : Played) (v : Answer) : Type 0 where
   pub filed : IsFiled a
   pub filed' : IsFiled b

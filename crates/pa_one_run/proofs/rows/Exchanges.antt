@@ -23,7 +23,7 @@ chain_found : (held : Held) (xs ys : List CellEntry) (e : CellEntry) → IsChain
 chain_found held [] ys e h = h.0
 chain_found held (x ∷ xs) ys e h = chain_found x.gave xs ys e h.1
 
--- a cell's exchanges stand in the order of their lines
+-- a cell's exchanges are in the order of their lines
 pub cell_steady : (a : Parts) (k : ℕ) → IsFiled a → IsNonDecreasingBy cell_line (a.cells k)
 cell_steady a k h = rising_strictly cell_line (a.cells k) (h.order.exchanges k)
 
@@ -76,7 +76,7 @@ exchange_none a x k h among other = on_none cell_line x.line (a.cells k) (λ e m
 
 -- ---- two runs
 
--- an exchange before the line stands in the other run where it stands in this one
+-- an exchange before the line is in the other run where it is in this one
 pub exchange_kept : (a b : Parts) (n k j : ℕ) (e : CellEntry) → IsFiled a → IsFiled b → Agrees n a b → slice_get (a.cells k) j ≡ Some e → e.line < n → slice_get (b.cells k) j ≡ Some e
 exchange_kept a b n k j e h g agrees at less =
     let front = get_below cell_line n (a.cells k) j e (cell_steady a k h) at less in

@@ -102,7 +102,7 @@ usable_front (p ∷ before) more other s (q, seen, usable, among, is, slot) = el
 
 -- ---- what an answer saw
 
--- the slot and the word, where the answer has them
+-- the slot and the word, if the answer has them
 abbrev pub seen_of : Answer → Option Seen
 seen_of (Made seen usable) = Some seen
 seen_of (Done seen) = Some seen

@@ -79,7 +79,7 @@ word_other before x m s is other = ap (λ ms. word_from ms s 0) (marks_more befo
 pub word_here : (before : List Played) (x : Played) (m : Mark) → mark_of x ≡ Some m → word_after (before ++ x ∷ []) m.slot ≡ stepped_by m.step (word_after before m.slot)
 word_here before x m is = ap (λ ms. word_from ms m.slot 0) (marks_more before x m is) ∙ word_at (marks_of before) m
 
--- where a slot has a first holder at a number, the word that a record finds with that number is free
+-- if a slot has a first holder at a number, the word that a record finds with that number is free
 pub held_free : (a : Parts) (s : SlotName) (k : ℕ) (holder : Holder) (n : Mark) → IsFiled a → IsFirstHolder a.ps s k holder → Contains (marks_of a.ps) n → n.slot ≡ s → number_of n.found ≡ k →
     (held_of n.found ≡ 0) × (refs_of n.found ≡ 0)
 held_free a s k holder n h first among slot number =

@@ -185,7 +185,7 @@ steps_at ms front back m rises parts =
       | inr rest ↦ let less = pairs_head Rises m k back (pairs_after Rises front (m ∷ back) cut) rest in omega arith
     ])
 
--- where the numbers are those of the steps on lesser lines, each mark finds the word left
+-- if the numbers are those of the steps on lesser lines, each mark finds the word left
 pub finds_by_numbers : (ms : List Mark) (slots : Slots ms) → AllPairs Rises ms → AreNumbersInFileOrder ms → FindsLeft ms slots
 finds_by_numbers ms slots rises numbers front back m parts h =
     let (vs, run, one) = slots m.slot in

@@ -1,4 +1,4 @@
--- The marks of a run stand in the order of their lines, and a slot's words are told by their numbers.
+-- The marks of a run are in the order of their lines, and a slot's words are told by their numbers.
 use Rattle.std.proofs.Common.{◌≡◌, ℕ, ◌<◌, List, ◌∷◌, arith}
 use Rattle.std.specs.Prelude.{Contains, AllPairs}
 use Rattle.pa_machine.specs.declared.word.SlotName.{SlotName}
@@ -24,7 +24,7 @@ marks_rise ps h = marks_pairs Earlier Rises (λ x y m n less is is'. let a = mar
 pub one_step : (ms : List Mark) (s : SlotName) (u : ℕ) (m n : Mark) (p q : Step) → AllPairs Rises ms → IsFirstAt ms s u m p → IsFirstAt ms s u n q → m ≡ n
 one_step ms s u m n p q h f g = one_mark ms s u m n p q (λ i j d low inside same. let up = h i j d low inside in omega arith) f g
 
--- where a step was made at a word of the run, the next word is one of the run
+-- if a step was made at a word of the run, the next word is one of the run
 pub goes_on : (ms : List Mark) (s : SlotName) (u : ℕ) (vs : List ℕ) (w : ℕ) (m : Mark) (p : Step) → AllPairs Rises ms → IsRunFrom ms s u vs → Contains (u ∷ vs) w → IsFirstAt ms s w m p → CanStep p w →
     Contains (u ∷ vs) (stepped p w)
 goes_on ms s u vs w m p h = goes_on_by_lines ms s u vs w m p (λ i j d low inside same. let up = h i j d low inside in omega arith)

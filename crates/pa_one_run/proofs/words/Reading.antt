@@ -23,7 +23,7 @@ use Rattle.pa_legal.proofs.Words.{same_word}
 use Rattle.pa_one_run.specs.Parts.{Parts}
 use Rattle.pa_one_run.proofs.lines.Cuts.{same_played, early_in, cut_here}
 
--- ---- a record that found a lesser number of the slot stands before
+-- ---- a record that found a lesser number of the slot comes before
 
 no_less : (a b c d : Bool) → (b ≡ true → d ≡ true) → cond {A = ℕ} (a && (b && c)) 1 0 ≤ cond {A = ℕ} (a && (d && c)) 1 0
 no_less false b c d h = omega arith

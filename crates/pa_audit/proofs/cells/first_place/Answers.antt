@@ -16,7 +16,7 @@ Swaps cells ps o = TellsFirst (λ i. CellsDemand (history_at cells) ps (places.R
 abbrev Exchanges : List (List CellEntry) → List Played → Option (ℕ × ℕ) → Type 0
 Exchanges cells ps o = TellsPair (λ k j. CellsDemand (history_at cells) ps (places.Cell k j)) o
 
--- what is told of the histories is told of the run's
+-- what is reported of the histories is reported of the run's
 exchanges_of : (cells own : List (List CellEntry)) (ps : List Played) (o p : Option (ℕ × ℕ)) → cells ≡ own → o ≡ p → Exchanges cells ps o → Exchanges own ps p
 exchanges_of cells own ps o p same is tells = subst (λ cs. Exchanges cs ps p) same (subst (λ q. Exchanges cells ps q) is tells)
 

@@ -25,7 +25,7 @@ use Rattle.pa_audit.proofs.heap.pool_fails.Goals as goal
 abbrev Entries : ℕ → List Played → List PoolEntry → List (List RootEntry) → Option ℕ → Type 0
 Entries supers ps pools roots o = TellsFirst (λ j. PoolDemand supers ps pools (journal_at roots) (places.Pool j)) o
 
--- what is told of these records, entries and journals is told of the run's places
+-- what is reported of these records, entries and journals is reported of the run's places
 places_of : (t : Trace) (r : Run) (ps : List Played) (pools : List PoolEntry) (roots : List (List RootEntry)) (o : Option ℕ) → AreRecordsOf t r ps → pools ≡ r.pool.items → roots ≡ r.roots.items →
     Entries t.region ps pools roots o → TellsPlace (Demand clauses.Pool t (told_by r)) (option_map places.Pool o)
 places_of t r ps pools roots o records same is tells =

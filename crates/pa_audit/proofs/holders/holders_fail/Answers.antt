@@ -17,7 +17,7 @@ use Rattle.pa_audit.proofs.Placing.{place_there, place_told}
 use Rattle.pa_audit.proofs.Telling.{holders_told}
 use Rattle.pa_audit.proofs.holders.holders_fail.Goals as goal
 
--- what is told of these records and journals is told of the run's places
+-- what is reported of these records and journals is reported of the run's places
 places_of : (t : Trace) (r : Run) (ps : List Played) (roots : List (List RootEntry)) (o : Option Place) → AreRecordsOf t r ps → roots ≡ r.roots.items → TellsHolders ps (journal_at roots) o →
     TellsPlace (Demand clauses.Holders t (told_by r)) o
 places_of t r ps roots o records is tells =

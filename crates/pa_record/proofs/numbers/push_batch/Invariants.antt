@@ -4,7 +4,7 @@ use Rattle.arrayvec.specs.ArrayVec.{array_vec_len}
 use Rattle.pa_record.specs.Numbers.{numbered_numbers}
 use Rattle.pa_record.proofs.numbers.push_batch.Given as goal
 
--- the slots so far stand behind the length
+-- the slots so far come after the length
 abbrev pub invariant-loop-slot : goal.invariant-loop-slot
 invariant-loop-slot l = record {
   pushed : l.numbers.items ≡ l.fn.numbers.items ++ length l.slots ∷ flat_map numbered_numbers (take l.slot-index l.slots);

@@ -3,6 +3,6 @@ use Rattle.std.specs.List.{flat_map}
 use Rattle.pa_record.specs.Text.{report_text}
 use Rattle.pa_record.proofs.report_lines.push_report.Given as goal
 
--- what was told so far stands behind what was there
+-- what was reported so far comes after what was there
 abbrev pub invariant-loop-line : goal.invariant-loop-line
 invariant-loop-line l = l.out ≡ l.fn.out ++ flat_map report_text (take l.line-index l.report)

@@ -3,6 +3,6 @@ use Rattle.std.specs.List.{flat_map}
 use Rattle.pa_record.specs.Text.{numbered_text}
 use Rattle.pa_record.proofs.root_lines.push_slots.Given as goal
 
--- what was told so far stands behind what was there
+-- what was reported so far comes after what was there
 abbrev pub invariant-loop-slot : goal.invariant-loop-slot
 invariant-loop-slot l = l.out ≡ l.fn.out ++ flat_map (λ n. codes " " ++ numbered_text n) (take l.slot-index l.slots)

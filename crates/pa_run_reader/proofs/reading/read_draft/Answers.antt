@@ -7,7 +7,7 @@ use Rattle.pa_run_reader.specs.Faults.{IsFaultFrom, IsRunFault}
 use Rattle.pa_run_reader.proofs.FirstBad.{no_head, head_followed}
 use Rattle.pa_run_reader.proofs.reading.read_draft.Goals as goal
 
--- the fault of the lines behind the head is that of all
+-- the fault of the lines after the head is that of all
 fault_of_all : (bytes rest : List ℕ) (r : Result Gathered RunFault) → bytes ≡ codes "run 1\n" ++ rest → IfErr r (IsFaultFrom 2 (Some items.Head) rest) → IfErr r (IsRunFault bytes)
 fault_of_all bytes rest (Ok draft) e h = tt
 fault_of_all bytes rest (Err (BadLine m)) e h = head_followed m bytes rest e h

@@ -2,6 +2,6 @@ use Rattle.std.proofs.Common.{◌≡◌, [], length}
 use Rattle.std.specs.List.{All}
 use Rattle.pa_audit_holders.proofs.lists.ThreadLists.new.Given as goal
 
--- so many lists are empty
+-- that many lists are empty
 abbrev pub invariant-loop : goal.invariant-loop
 invariant-loop l = (length l.lists.items ≡ l.counter) × All (λ h. h ≡ []) l.lists.items

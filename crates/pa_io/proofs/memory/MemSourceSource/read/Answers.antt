@@ -4,7 +4,7 @@ use Rattle.std.proofs.lemmas.List.{take-append-drop, drop-drop, nil_from_length}
 use Rattle.pa_io.proofs.Moves.{moves_front}
 use Rattle.pa_io.proofs.memory.MemSourceSource.read.Goals as goal
 
--- what was copied from the place on, and what stands behind it, is all from the place on
+-- what was copied from the place on, and what follows it, is all from the place on
 copied-append-drop : (bytes lent copied : List ℕ) (place n : ℕ) → lent ≡ bytes → copied ≡ take (place + n - place) (drop place lent) → drop place bytes ≡ copied ++ drop (place + n) bytes
 copied-append-drop bytes lent copied place n e f =
     let k : place + n - place ≡ n = omega arith in

@@ -3,6 +3,6 @@ use Rattle.std.specs.List.{All}
 use Rattle.pa_player.specs.declared.handle.Handle.TheVariants.{Empty}
 use Rattle.pa_player.proofs.registers.Registers.new.Given as goal
 
--- so many threads have empty registers
+-- that many threads have empty registers
 abbrev pub invariant-loop : goal.invariant-loop
 invariant-loop l = (length l.of.items ≡ l.counter) × All (λ row. row ≡ replicate 64 Empty) l.of.items

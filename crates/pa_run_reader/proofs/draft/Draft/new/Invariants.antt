@@ -2,7 +2,7 @@ use Rattle.std.proofs.Common.{◌≡◌, [], length}
 use Rattle.std.specs.List.{All}
 use Rattle.pa_run_reader.proofs.draft.Draft.new.Given as goal
 
--- so many journals and histories are empty
+-- that many journals and histories are empty
 abbrev pub invariant-loop : goal.invariant-loop
 invariant-loop l = (length l.roots.items ≡ l.counter) × All (λ journal. journal ≡ []) l.roots.items
 
