@@ -22,7 +22,7 @@ IsNaming roots q n j (Once partition line) =
 IsNaming roots q n j Again =
     (p i r k : ℕ) × NamesAbove roots q n p i j × NamesAbove roots q n r k j × ((p ≡ r) × (i ≡ k) → ⊥)
 
--- so for each of the pool's first entries
+-- the same for each of the pool's first entries
 pub record AreNamings (roots : Journals) (q n size : ℕ) (namings : List Naming) : Type 0 where
   pub many : length namings ≡ size
   pub each : (j : ℕ) → j < size → IsNaming roots q n j (slice_index_or namings j Nobody)

@@ -35,7 +35,7 @@ pub record IsListed (threads : ℕ) (all : Caches) (p : ℕ) (tally : Tally) : T
   pub slots : tally.slots ≡ cached_slots all p threads
   pub bytes : tally.bytes ≡ cached_bytes all p threads
 
--- so for each of four partitions
+-- the same for each of four partitions
 pub record HaveListed (threads : ℕ) (all : Caches) (tallies : List Tally) : Type 0 where
   pub many : length tallies ≡ most_partitions
   pub each : (p : ℕ) → p < most_partitions → IsListed threads all p (slice_index_or tallies p no_slots)

@@ -36,7 +36,7 @@ pub record KnowsJournal (ps : List Played) (journal : List RootEntry) (t : Table
   pub owners : HasOwners ps (all_moves journal) (value_at t.owners)
   pub gone : HasGone journal (value_at t.gone)
 
--- so for each journal
+-- the same for each journal
 pub record HaveTables (ps : List Played) (roots : List (List RootEntry)) (tables : List Table) : Type 0 where
   pub many : length tables ≡ length roots
   pub each : (p : ℕ) (d : Table) → p < length tables → KnowsJournal ps (journal_at roots p) (slice_index_or tables p d)

@@ -32,7 +32,7 @@ pub record HasOneHome (roots : Journals) (s : SlotName) : Type 0 where
   pub direct : (p q : ℕ) → IsDirect roots s p → IsDirect roots s q → p ≡ q
   pub either : (p q c : ℕ) → IsOfClass roots s p c → IsDirect roots s q → ⊥
 
--- so it is if the clauses of the pool and the roots hold
+-- each slot of the journals has one home, if the clauses of the pool and the roots hold
 abbrev pub OneHome : Type 0
 OneHome =
     (supers partitions : ℕ) (ps : List Played) (pools : List PoolEntry) (roots : Journals) (s : SlotName) →

@@ -26,7 +26,7 @@ pub record ArePlacesOf (journal : List RootEntry) (places : List ℕ) (acts : Li
 abbrev pub AreOnLines : List RootEntry → ℕ → List (List ℕ) → Type 0
 AreOnLines journal count table = (l : ℕ) → l < count → ArePlacesOf journal (slice_index_or table l []) (acts_on journal l)
 
--- so for each journal
+-- the same for each journal
 pub record HaveLines (roots : List (List RootEntry)) (count : ℕ) (tables : List (List (List ℕ))) : Type 0 where
   pub many : length tables ≡ length roots
   pub each : (p : ℕ) → p < length roots → AreOnLines (journal_at roots p) count (slice_index_or tables p [])

@@ -50,7 +50,7 @@ TellsOwner ps own s k Nobody = (last : Holder) → HolderNow ps own s k last →
 TellsOwner ps own s k Root = HolderNow ps own s k InRoot
 TellsOwner ps own s k (Thread t) = HolderNow ps own s k (WithThread t)
 
--- the table has the owner of each slot at each number of which there is a move
+-- the table has the owner of each slot at each number at which it is moved
 pub record HasOwners (ps : List Played) (ms : List Move) (at : ℕ → Option Owner) : Type 0 where
   pub hit : (s : SlotName) (k : ℕ) (o : Owner) → IsSized s k → at (word_key s k) ≡ Some o
       → TellsOwner ps (filter (is_move_of s k) ms) s k o × (filter (is_move_of s k) ms ≡ [] → ⊥)
@@ -78,7 +78,7 @@ abbrev pub MoveFits : List Played → List Move → Move → Type 0
 MoveFits ps ms m =
     (x : Played) × IsOfLine ps m.line x × HolderNow ps (filter (is_move_of m.slot m.number) ms) m.slot m.number (needed_by m.way x)
 
--- so for one after the other
+-- the same for one move after the other
 abbrev pub AllFit : List Played → List Move → List Move → Type 0
 AllFit ps ms [] = Unit {0}
 AllFit ps ms (m ∷ rest) = MoveFits ps ms m × AllFit ps (ms ++ m ∷ []) rest

@@ -14,7 +14,7 @@ abbrev pub TellsRow : (Cache → Type 0) → Cache → Bool → Type 0
 TellsRow Row after true = Row after
 TellsRow Row after false = (next : Cache) → Row next → ⊥
 
--- this is the list that is asked for; or there is none
+-- this is the list that is required; or there is none
 abbrev pub TellsFilled : (List Numbered → Type 0) → List Numbered → Bool → Type 0
 TellsFilled IsAsked xs true = IsAsked xs
 TellsFilled IsAsked xs false = (ys : List Numbered) → IsAsked ys → ⊥

@@ -135,7 +135,7 @@ fn enter(
     Ok(())
 }
 
-/// The home of a slot, where the table has one.
+/// The home of a slot, if the table has one.
 pub fn found_home(homes: &ByKey<Home>, slot: SlotName) -> Option<Home>
     ensures { result ≡ home_at (value_at homes.now) slot }
 {

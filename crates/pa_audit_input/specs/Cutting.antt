@@ -30,7 +30,7 @@ pub record IsLastCut (bytes before last : List ℕ) (lines : ℕ) : Type 0 where
   pub some : 0 < length last
   pub count : lines ≡ length (lines_of before)
 
--- the last bytes are those after that many lines of the first, of each of which this holds
+-- the last bytes are those after that many lines of the first, and this holds of each of these lines
 pub record IsCutAt (P : List ℕ → Type 0) (bytes rest : List ℕ) (n : ℕ) : Type 0 where
   pub before : List (List ℕ)
   pub parts : bytes ≡ joined before ++ rest

@@ -20,7 +20,7 @@ ReadsRaw regs op s = (reg place : ℕ) × (op ≡ ops.Read reg place) × (regs r
 abbrev pub IsOther : Played → Played → Type 0
 IsOther y x = (y.thread ≢ x.thread) × (y.phase ≡ x.phase)
 
--- the next free of slot s from number k on is such a one
+-- the next free of slot s from number k on is another thread's than x, in its phase
 abbrev pub IsFreedMeanwhile : List Played → Played → SlotName → ℕ → Type 0
 IsFreedMeanwhile ps x s k = (y : Played) × IsNextFree ps s k y × IsOther y x
 

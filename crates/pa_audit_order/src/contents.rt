@@ -68,7 +68,7 @@ fn needs_no_content(answer: Answer) -> bool
     }
 }
 
-// Whether the answer of each record is such a one.
+// Whether each record has an answer that doesn't depend on a content.
 fn need_no_content(records: &[Played]) -> bool
     ensures { IsTrue result ↔ All (λ x. NeedsNoContent x.answer) records.now }
 {
@@ -139,7 +139,7 @@ fn is_other(free: Played, told: Played) -> bool
     free.thread != told.thread && free.phase == told.phase
 }
 
-// Whether the next free of the slot from the number on is such a one.
+// Whether the next free of the slot from the number on is another thread's than the record's, in its phase.
 fn is_freed_meanwhile(
     frees: &BTreeMap<u128, u32>,
     records: &[Played],

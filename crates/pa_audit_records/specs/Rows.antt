@@ -78,7 +78,7 @@ AnswersOwnWrite s answer =
 abbrev pub AnswersWrite : Reg → Answer → Type 0
 AnswersWrite holds answer = AnswersNext AnswersOwnWrite (IsLookedAt looked_write) (write_next holds) answer
 
--- a read of a word of slot s, of which that many bytes are usable
+-- a read of a word of slot s, if that many of its bytes are usable
 abbrev pub AnswersReadFrom : SlotName → ℕ → ℕ → Answer → Type 0
 AnswersReadFrom s usable place answer =
     ((usable ≤ 8 * place) × (answer ≡ OutOfRange))

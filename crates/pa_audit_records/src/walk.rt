@@ -71,7 +71,7 @@ fn usables_to_read(alloc: Global, salt: Salt, records: &[Played]) -> Result<ByKe
     }
 }
 
-// The usable number of a slot, by the records of which the table was made.
+// The usable number of a slot, by the records from which the table was made.
 fn usable_at(usables: &ByKey<u32>, slot: SlotName) -> u32
     ensures { (ps : List Played) → AreUsables ps (value_at usables.now) → result ≡ usable_in ps slot }
 {

@@ -8,7 +8,7 @@ use crate::spans::SpanShape;
 use crate::table::{CLASSES, ROWS};
 use std::marker::Model;
 
-// A thread requests its cache limit divided by this many slots at once.
+// A thread requests at once as many slots as its cache limit divided by this.
 const BATCH_RATIO: u32 = 8;
 
 /// A size class, 0 to 58: a bucket of PartitionAlloc.md. It is seen as its number.

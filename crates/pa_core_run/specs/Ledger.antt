@@ -47,7 +47,7 @@ pub record IsShown (names : Titles) (actors bytes : ℕ) (b : Ledger) (s : State
   pub there : (t : Title) → IsTitleHeld (total_of s) t → names.There t
 
 -- What each actor is to hold of the titles that are made after these pieces were lost and gained is no more than before, with
--- what was gained and without what was lost; and only one slot's word and content change, of which the word becomes this.
+-- what was gained and without what was lost; and only one slot's word and content change: its word becomes this.
 pub record IsPaid (Made : Title → Type 0) (b next : Ledger) (lost gained : ℕ → List Piece) (t : Title) (word : ℕ) : Type 0 where
   pub own : (k : ℕ) (u : Title) → Made u → next.own k (name_of u) + held_in (lost k) (OwnOf u) ≤ b.own k (name_of u) + held_in (gained k) (OwnOf u)
   pub ref : (k : ℕ) (u : Title) → Made u → next.ref k (name_of u) + held_in (lost k) (RefOf u) ≤ b.ref k (name_of u) + held_in (gained k) (RefOf u)

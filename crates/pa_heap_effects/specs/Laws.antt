@@ -1,4 +1,4 @@
--- The laws of lines: the run with a line more, and what the run so far says of journals and pool.
+-- The laws of lines: the run with one more line, and what the run so far says of journals and pool.
 use Rattle.std.specs.Prelude.{◌≡◌, ℕ, ◌+◌, List, [], ◌∷◌, ◌++◌}
 use Rattle.pa_trace.specs.declared.script.Line.{Line}
 use Rattle.pa_record.specs.declared.pool.PoolEntry.{PoolEntry}
@@ -23,7 +23,7 @@ LineExtends =
     IsPlacedTo partitions n ps pools roots all → IsDeed partitions n x pools more roots acts (all x.thread) next →
     IsPlacedTo partitions (n + 1) (ps ++ x ∷ []) (pools ++ more) (grown roots n acts) (with_cache all x.thread next)
 
--- the pool with the entries of a line more
+-- the pool with the entries of one more line
 abbrev pub PoolExtends : Type 0
 PoolExtends =
     (supers n : ℕ) (pools more : List PoolEntry) (roots : Journals) (acts : Acts) → IsPooledTo supers n pools roots →

@@ -21,7 +21,7 @@ pub record GoesOn (n : ℕ) (ps later : List Played) (pools more : List PoolEntr
   pub grown : (p : ℕ) → grows p ≡ roots p ++ journals p
   pub below : (p : ℕ) (e : RootEntry) → Contains (journals p) e → n ≤ e.line
 
--- a run goes on from itself, and with a line more
+-- a run continues itself, and goes on with one more line
 pub record RunGoesOn : Type 0 where
   pub here : (n : ℕ) (ps : List Played) (pools : List PoolEntry) (roots : Journals) → GoesOn n ps ps pools pools roots roots
   pub line : (n m : ℕ) (ps later : List Played) (x : Played) (pools more made : List PoolEntry) (roots grows : Journals) (acts : Acts) →

@@ -13,7 +13,7 @@ pub fn line_extends()
     ensures { LineExtends }
 {}
 
-/// The law that the pool with the entries of a line more is the pool before the next line.
+/// The law that the pool with the entries of one more line is the pool before the next line.
 pub fn pool_extends()
     ensures { PoolExtends }
 {}
@@ -83,7 +83,7 @@ pub fn purge_is_done()
     ensures { PurgeIsDone }
 {}
 
-/// The law that a run goes on from itself, and with a line more.
+/// The law that a run continues itself, and goes on with one more line.
 pub fn run_goes_on()
     ensures { RunGoesOn }
 {}

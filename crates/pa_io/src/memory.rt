@@ -74,7 +74,7 @@ impl Model for MemSource {
 }
 
 impl MemSource {
-    /// A source of these bytes, of which no call gives more than `piece`. The calls whose numbers, from 0, are in
+    /// A source of these bytes; no call gives more than `piece` of them. The calls whose numbers, from 0, are in
     /// `fails` fail, and no others.
     pub fn new(
         alloc: Global,

@@ -27,13 +27,13 @@ is_of s m = same_slot m.slot s
 abbrev pub moves_of : List RootEntry → SlotName → List Move
 moves_of journal s = filter (is_of s) (all_moves journal)
 
--- If the root has the slot at the number, or has it out: it hands the slot out at the number at which it has it, and takes
+-- `at` is the number at which the root has the slot, none while it is out: the root hands the slot out at that number, and takes
 -- it back while it is out.
 abbrev pub HasAt : Option ℕ → Way → ℕ → Type 0
 HasAt at Out n = at ≡ Some n
 HasAt at Back n = at ≡ None
 
--- where it has it then: at the number at which it came back
+-- the number at which it has the slot after a move: the one at which it came back, none while it is out
 abbrev pub at_after : Way → ℕ → Option ℕ
 at_after Out n = None
 at_after Back n = Some n
@@ -42,7 +42,7 @@ abbrev pub IsNumbered : Option ℕ → List Move → Type 0
 IsNumbered at [] = Unit {0}
 IsNumbered at (m ∷ ms) = HasAt at m.way m.number × IsNumbered (at_after m.way m.number) ms
 
--- where it has it after these moves
+-- the number at which it has the slot after these moves
 abbrev pub at_end : Option ℕ → List Move → Option ℕ
 at_end at [] = at
 at_end at (m ∷ ms) = at_end (at_after m.way m.number) ms
@@ -70,7 +70,7 @@ pub record IsCachedOut (pools : List PoolEntry) (roots : Journals) (threads p : 
   pub free : busy w ≡ 0
   pub once : cached_times s all p threads ≡ 1
 
--- So it is for each slot of a list at the end of a run whose records each have a line of its own.
+-- This holds for each slot of a list at the end of a run whose records each have a line of its own.
 abbrev pub CachedOut : Type 0
 CachedOut =
     (supers partitions threads p t class w : ℕ) (ps : List Played) (pools : List PoolEntry) (roots : Journals) (all : Caches)

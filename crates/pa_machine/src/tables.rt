@@ -41,7 +41,7 @@ impl Tables {
         })
     }
 
-    // Whether there is such an actor.
+    // Whether the actor exists.
     pub fn has_actor(&self, actor: u32) -> bool
         ensures { IsTrue result ↔ HasActor (state_of self.now) actor }
     {

@@ -6,7 +6,7 @@ use Rattle.pa_buckets.specs.declared.spans.State.TheVariants as state
 use Rattle.pa_buckets.specs.Limits.{class_count}
 use Rattle.pa_record.specs.Spans.{Span, bytes_of, title_at, with_free, without_front}
 
--- a span of the class in no place, of which nothing is committed
+-- a span of the class that has no place yet, nothing of which is committed
 abbrev pub blank_span : ℕ → Span
 blank_span class =
     record { place = 0; born = 0; class = class; state = state.None; turn = 0; allocated = 0; provisioned = 0; committed = 0; made = 0; free = [] }

@@ -23,7 +23,7 @@ use pa_record::Census;
 use std::alloc::Global;
 use std::marker::Model;
 
-/// The root of one partition, as lists. It is seen as that root, which is sound, and of which at most 16 spans are empty.
+/// The root of one partition, as lists. It is seen as that root, which is sound and has at most 16 empty spans.
 /// A list that would have more than 2,147,483,647 members is refused as out of memory.
 #[derive(Drop)]
 pub struct Placement {

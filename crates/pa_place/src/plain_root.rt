@@ -23,7 +23,7 @@ use std::mem;
 
 /// The root of one partition, as lists, for a caller that asks the pool of super pages itself. `ready` makes room; after it the
 /// pool may be asked if `asks` says so, and `open` and `take` can't fail; `ready_map` makes room for `map`. It is seen as
-/// the root, which is sound, and of which at most 16 spans are empty, with the room that there is. The other calls that
+/// the root, which is sound and has at most 16 empty spans, with the room that was made. The other calls that
 /// change it may use up the room. A list that would have more than 2,147,483,647 members is refused as out of memory.
 #[derive(Drop)]
 pub struct PlainRoot {

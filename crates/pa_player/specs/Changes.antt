@@ -141,7 +141,7 @@ gave_back q xs p =
 abbrev pub given : ℕ → ℕ → ℕ → Player → Player
 given q at keep p = listed at (take keep (list_in p at)) (gave_back q (drop keep (list_in p at)) p)
 
--- a slot of the class becomes the front of its list, of which half the limit stays if that is then too long
+-- a slot of the class becomes the front of its list; if the list is then too long, half its limit stays
 abbrev pub put_front : ℕ → ℕ → ℕ → Player → Player
 put_front q at i p = cached_more q (slot_at p.table i).title.len (listed at (i ∷ list_in p at) p)
 

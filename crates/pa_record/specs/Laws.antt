@@ -49,7 +49,7 @@ pub record OutIsOut : Type 0 where
   pub one : (r : Root) (t u : Title) → IsSound r → IsTitleOut r t → IsTitleOut r u → name_of t ≡ name_of u → t ≡ u
 
 -- A fill of a sound root: the slots were not out before, are different, and are out after it. It gives at least one exactly
--- when its first take finds a span, which it does where it got a new super page; else it changes nothing.
+-- when its first take finds a span, which it does if it got a new super page; else it changes nothing.
 pub record FillKeeps : Type 0 where
   pub filled : (class want : ℕ) (r : Root) → IsSound r → class < class_count → IsFilled class want r (takes class want r)
   pub opens : (number born : ℕ) (r : Root) → IsSound r → IsBornBelow born r → IsSound (opened number born r)
@@ -82,7 +82,7 @@ abbrev pub JournalLeaves : Type 0
 JournalLeaves = (pools : List PoolEntry) (journal : List RootEntry) → IsJournal pools journal →
     IsLeft pools journal (root_replayed pools journal new_root)
 
--- A journal that fits goes on fitting while its pool gets entries, and with one entry more that fits.
+-- A journal that fits goes on fitting while its pool gets entries, and with one more entry that fits.
 pub record JournalGrows : Type 0 where
   pub pool_more : (pools more : List PoolEntry) (journal : List RootEntry) → IsJournal pools journal → IsJournal (pools ++ more) journal
   pub pool_same : (pools more : List PoolEntry) (journal : List RootEntry) → IsJournal pools journal →

@@ -255,7 +255,7 @@ asked_by Purge = None
 abbrev pub all_asked : List RootEntry → List ℕ
 all_asked es = filter_map (λ (e : RootEntry). asked_by e.act) es
 
--- rising numbers, of which the first is at least `least`
+-- rising numbers, the first of which is at least `least`
 abbrev pub RiseFrom : ℕ → List ℕ → Type 0
 RiseFrom least [] = Unit {0}
 RiseFrom least (n ∷ ns) = (least ≤ n) × RiseFrom (n + 1) ns

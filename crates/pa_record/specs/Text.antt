@@ -131,7 +131,7 @@ spans_text s = field_text (codes " full ") s.full ++ field_text (codes " active 
 abbrev pub report_text : ReportLine → List ℕ
 report_text s = places_text s ++ bytes_text s ++ spans_text s ++ 10 ∷ []
 
--- what f gives for each member and its index, where the first has index n
+-- what f gives for each member and its index, if the first has index n
 abbrev pub lines_from : {A : Type 0} → (ℕ → A → List ℕ) → ℕ → List A → List ℕ
 lines_from f n [] = []
 lines_from f n (x ∷ xs) = f n x ++ lines_from f (n + 1) xs

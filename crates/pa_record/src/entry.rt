@@ -19,7 +19,7 @@ pub struct Seen {
 /// The answer of one op. They are numbered from 1 in this order.
 #[derive(Clone, Copy, Debug, PartialEq, Eq)]
 pub enum Answer {
-    /// An allocation got this slot, of which `usable` bytes are the object's.
+    /// An allocation got this slot; `usable` bytes of it are the object's.
     Made { seen: Seen, usable: u32 },
     /// A copy, reset, free or write was made.
     Done { seen: Seen },
@@ -51,6 +51,6 @@ pub enum Answer {
     Full { entry: u32 },
     /// An exchange with a cell: its entry in the cell's history.
     Swapped { entry: u32 },
-    /// A purge, which gave back so many slots.
+    /// A purge, which gave back this many slots.
     Purged { slots: u32 },
 }

@@ -22,7 +22,7 @@ pub fn pool_is_sound()
     ensures { PoolIsSound }
 {}
 
-/// The law that a list of the pool's entries fits with one entry more that fits the pool after it.
+/// The law that a list of the pool's entries fits with one more entry that fits the pool after it.
 pub fn pool_grows()
     ensures { PoolGrows }
 {}
@@ -67,7 +67,7 @@ pub fn journal_leaves()
     ensures { JournalLeaves }
 {}
 
-/// The law that a journal goes on fitting while its pool gets entries, and with one entry more that fits.
+/// The law that a journal goes on fitting while its pool gets entries, and with one more entry that fits.
 pub fn journal_grows()
     ensures { JournalGrows }
 {}

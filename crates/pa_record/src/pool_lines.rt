@@ -31,7 +31,7 @@ fn push_turn(out: &mut Text, index: u64, entry: &PoolEntry) -> Result<(), OutOfM
     push_byte(out, b'\n')
 }
 
-// Appends `take COUNT FIRST`, where the first may be `none`, or `give COUNT FIRST`.
+// Appends `take COUNT FIRST`, whose first may be `none`, or `give COUNT FIRST`.
 fn push_act(out: &mut Text, act: PoolAct) -> Result<(), OutOfMemory>
     ensures pushed { OnOk result (out.new ≡ out.old ++ pool_act_text act) }
 {

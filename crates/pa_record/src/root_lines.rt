@@ -93,7 +93,7 @@ fn push_map(out: &mut Text, pool: u32, slot: SlotName, len: u32) -> Result<(), O
     push_field(out, b"@0 ", u64::from(len))
 }
 
-// Appends `full CLASS POOL`, where the class may be `direct`.
+// Appends `full CLASS POOL`, whose class may be `direct`.
 fn push_full(out: &mut Text, class: Option<Class>, pool: u32) -> Result<(), OutOfMemory>
     ensures pushed { OnOk result (out.new ≡ out.old ++ root_act_text (acts.Full class pool)) }
 {

@@ -8,7 +8,7 @@ use crate::{Answer, Entry, Seen};
 use pa_machine::OutOfMemory;
 use pa_text::{Text, push_byte, push_bytes, push_number, push_slot, push_word};
 
-/// Appends the line of the record, with its LF. After want of memory a first part of it may stand there.
+/// Appends the line of the record, with its LF. If memory runs out, a first part of it may have been appended.
 pub fn push_entry(out: &mut Text, entry: &Entry) -> Result<(), OutOfMemory>
     ensures pushed { OnOk result (out.new ≡ out.old ++ entry_text entry.now) }
     ensures kept { OnErr result (StartsWith out.new out.old) }

@@ -43,7 +43,7 @@ PlacesAddUp =
     l.live.slots + l.quarantined.slots + l.cached.slots + l.root.slots
     ≡ slots_made (root_replayed pools before new_root) + length (root_replayed pools before new_root).maps
 
--- So they do in every line of a legal run's report.
+-- The counts of every line of a legal run's report add up.
 abbrev pub ReportAddsUp : Type 0
 ReportAddsUp =
     (t : Trace) (r : Told) (l : ReportLine) → IsWithinLimits t → IsLegalTold t r → Contains r.report l →

@@ -50,7 +50,7 @@ free_next (Ref h) = Look h
 free_next Freed = Refused (SecondFree None)
 free_next Cleared = Refused (StaleUse None)
 
--- and so a write
+-- a write on that of an owner; through a raw_ptr it only looks
 abbrev pub write_next : {H : Type 0} → Register H → Next H
 write_next Empty = Refused Nothing
 write_next (Own h) = Step h

@@ -89,7 +89,7 @@ FreeRow (Ref s) regs reg answer after =
 FreeRow Freed regs reg answer after = (answer ≡ SecondFree None) × Becomes after regs
 FreeRow Cleared regs reg answer after = (answer ≡ StaleUse None) × Becomes after regs
 
--- a write, by what its register holds; an owner writes only where no raw_ptr points to the slot
+-- a write, by what its register holds; an owner writes only if no raw_ptr points to the slot
 abbrev pub WriteRow : Reg → Regs → Answer → Regs → Type 0
 WriteRow Empty regs answer after = (answer ≡ Nothing) × Becomes after regs
 WriteRow (Own s) regs answer after =

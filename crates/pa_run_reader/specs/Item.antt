@@ -1,4 +1,4 @@
--- The lines of a run's text, each as the item that it tells.
+-- The lines of a run's text, each as the item that it contains.
 use Rattle.std.specs.Prelude.{ℕ, ◌<◌, List, codes}
 use Rattle.pa_record.specs.Bits.{Is32, EntryInBits, RootInBits, PoolInBits, CellInBits, ReportInBits}
 use Rattle.pa_record.specs.RunText.{NamesSlots}

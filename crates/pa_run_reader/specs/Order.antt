@@ -69,12 +69,12 @@ IsFirstBad n last (line ∷ lines) m =
 
 -- ---- the items of a run
 
--- the items of a list, of which the first has index n
+-- the items of a list, the first of which has index n
 abbrev pub numbered_items : {A : Type 0} → (ℕ → A → Item) → ℕ → List A → List Item
 numbered_items at n [] = []
 numbered_items at n (x ∷ xs) = at n x ∷ numbered_items at (n + 1) xs
 
--- the items of lists, of which the first is list p
+-- the items of lists, the first of which is list p
 abbrev pub listed_items : {A : Type 0} → (ℕ → ℕ → A → Item) → ℕ → List (List A) → List Item
 listed_items at p [] = []
 listed_items at p (xs ∷ lists) = numbered_items (at p) 0 xs ++ listed_items at (p + 1) lists

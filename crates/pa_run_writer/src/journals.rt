@@ -42,7 +42,7 @@ impl Journals {
         Ok(Journals { of })
     }
 
-    /// Appends an entry to the journal of a partition, and returns its range there. If memory runs out, that journal has no
+    /// Appends an entry to the journal of a partition, and returns its index there. If memory runs out, that journal has no
     /// entries.
     #[inline(always)]
     pub fn push(&mut self, partition: u32, entry: &LentEntry<'_>) -> Result<u32, OutOfMemory>

@@ -1,4 +1,4 @@
-//! The text of a run as it grows: each record and each entry of a journal is printed when it is reported, and its range is all
+//! The text of a run as it grows: each record and each entry of a journal is printed when it is reported, and its index is all
 //! that is kept of it. In the end the rest is appended.
 #![tactic(auto)]
 

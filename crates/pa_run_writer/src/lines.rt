@@ -42,7 +42,7 @@ impl Lines {
         }
     }
 
-    // Appends an entry, and returns its range. If memory runs out, there are none.
+    // Appends an entry, and returns its index. If memory runs out, there are none.
     #[inline(always)]
     pub(crate) fn push(&mut self, entry: &LentEntry<'_>) -> Result<u32, OutOfMemory>
         requires few { length self.old.entries < 2 ^ 32 }

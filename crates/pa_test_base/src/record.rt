@@ -113,7 +113,7 @@ fn tally(slots: u64, bytes: u64) -> Tally {
     Tally { slots, bytes }
 }
 
-// The report's line of a partition that nothing was asked of.
+// The report's line of a partition from which nothing was requested.
 fn nothing(phase: u32, partition: u32) -> ReportLine {
     let none = tally(0, 0);
     ReportLine {

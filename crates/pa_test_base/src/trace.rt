@@ -326,7 +326,7 @@ fn limits_by_the_head(rt: HostRuntime) -> Result<(), Fail> {
     Ok(())
 }
 
-// A number of 200 digits is read to its end: it passes each limit, and with a zero in front it is no number.
+// A number of 200 digits is read to its end: it passes each limit, and with a leading zero it is no number.
 #[test]
 fn reads_long_numbers(rt: HostRuntime) -> Result<(), Fail> {
     let digits = "1234567890".repeat(rt.alloc(), 20)?;
