@@ -185,7 +185,7 @@ records_all ps roots n end h j = elim (cases_lt j n) [
   | inr past ↦ λ x at. let within = slice_get_within ps j x at in absurd (omega (arith, within, past, end))
 ]
 
--- ---- what a record tells of a slot
+-- ---- what a record reports of a slot
 
 pub slot_told : (x : Played) (n : Numbered) → Some n ≡ option_map slot_by (mark_of x) → IsOfSlot x n.slot n.number
 slot_told x n is = by_mark (mark_of x) refl is

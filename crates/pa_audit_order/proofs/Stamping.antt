@@ -51,7 +51,7 @@ keys_apart k q apart = elim (cases_lt k q) [
 pub put_key : (f g : ℕ → Option ℕ) (k v : ℕ) → g k ≡ Some v → ((q : ℕ) → is_eq (nat_cmp k q) ≡ false → g q ≡ f q) → Puts f g k v
 put_key f g k v here other = record { here = here; other = λ q apart. other q (keys_apart k q (λ e. apart (sym e))) }
 
--- ---- who fills or frees a slot makes a step
+-- ---- an op that fills or frees a slot makes a step
 
 record IsMarked (line : ℕ) (op : Op) (answer : Answer) (seen : Seen) : Type 0 where
   mark : Mark

@@ -94,7 +94,7 @@ slot_fits ps firsts reached i at d same rising f r all below asks =
 
 -- ---- the walk over the records
 
--- the table has the first word of each slot of which a record so far tells
+-- the table has the first word of each slot that a record so far reports
 abbrev pub HasSlotsBelow : List Played → (ℕ → Option ℕ) → ℕ → Type 0
 HasSlotsBelow ps at n = (i : ℕ) (x : Played) (m : Mark) → i < n → IsRecord ps i x → mark_of x ≡ Some m → IsSome (at (word_key m.slot 0))
 

@@ -26,7 +26,7 @@ use Rattle.pa_audit_report.specs.Sized.{home_in, partition_by, bytes_by, size_in
 use Rattle.pa_audit_report.proofs.Counting.{one_weight, weight_first}
 use Rattle.pa_audit_report.proofs.Sizing.{size_known, sized_there}
 
--- the journals handed the slot out, by the table; a record that tells of another slot is left out
+-- the journals handed the slot out, by the table; a record that reports another slot is left out
 abbrev homed : (ℕ → Option Home) → SlotName → Bool
 homed at s = is_some (home_at at s)
 

@@ -1,4 +1,4 @@
--- What stands after one record more.
+-- The state after one record more.
 use Rattle.std.proofs.Common.{◌≡◌, ℕ, zero, suc, ◌+◌, ◌<◌, ◌≤◌, List, [], ◌∷◌, ◌++◌, Option, Some, None, refl, sym, ◌∙◌, ap, subst, arith, ◌⊎◌, inl, inr, ◌==◌, map, filter}
 use Rattle.std.specs.Prelude.{Contains}
 use Rattle.std.proofs.lemmas.Bool.{cases_eq, cases_lt, eq-eqb, ne_eqb}
@@ -48,7 +48,7 @@ pub replayed_acts : (pools : List PoolEntry) (es : List RootEntry) (r : Root) �
 replayed_acts pools [] r = refl
 replayed_acts pools (e ∷ es) r = replayed_acts pools es (root_next pools e.act r)
 
--- what stands after a record that left these registers and lists of its thread, with these contents
+-- the state after a record that left these registers and lists of its thread, with these contents
 abbrev pub after_record : Parts → List Played → Played → Standing → Regs → Cache → (SlotName → ℕ) → Standing
 after_record a before x st regs cache content = record {
   regs = with_thread st.regs x.thread regs;

@@ -38,7 +38,7 @@ points_piece Made t u one m n = elim (title_tells t u) [
 
 -- ---- one register changes, and the thread's lists
 
--- What stands after thread k's register `reg` became `new`; of the lists only the thread's may change, and of the slots one.
+-- The state after thread k's register `reg` became `new`; of the lists only the thread's may change, and of the slots one.
 pub record IsSet (partitions : ℕ) (st next : Standing) (k reg : ℕ) (new : Reg) (x : SlotName) (word : ℕ) : Type 0 where
   pub few : reg < 64
   pub here : (r : ℕ) → next.regs k r ≡ with (st.regs k) reg new r

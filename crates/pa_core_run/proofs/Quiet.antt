@@ -83,7 +83,7 @@ module _ (a : Parts) (before rest : List Played) (x : Played) (h : IsFiled a) (s
   cache_as : (answer : Answer) → x.answer ≡ answer → CacheRow a.partitions a.roots x answer old_cache new_cache
   cache_as answer is = subst (λ z. CacheRow a.partitions a.roots x z old_cache new_cache) is (cache_row a before rest x h parts st f)
 
-  -- an answer that tells of no slot
+  -- an answer that reports no slot
   quiet : (answer : Answer) → x.answer ≡ answer → mark_of_answer x.line x.op answer ≡ None → SameLists new_cache old_cache → ((k r : ℕ) → x.op ≡ ops.Swap k r → ⊥) → Becomes new_regs (st.regs x.thread) → Plays_it
   quiet answer is unmarked lists other becomes =
       none_plays a before rest x h parts st f s shown (ap (λ z. mark_of_answer x.line x.op z) is ∙ unmarked) becomes lists other (roots_left a before rest x h parts st f none)

@@ -1,4 +1,4 @@
--- Records without an entry of a journal: what tells of no slot, looks, and counted steps.
+-- Records without an entry of a journal: what reports no slot, looks, and counted steps.
 use Rattle.std.proofs.Common.{◌≡◌, ℕ, zero, suc, ◌+◌, ◌*◌, ◌<◌, List, [], ◌∷◌, ◌++◌, Some, None, refl, sym, ◌∙◌, ap, subst, arith, ◌⊎◌, inl, inr}
 use Rattle.pa_machine.specs.declared.word.SlotName.{SlotName}
 use Rattle.pa_machine.specs.declared.title.Title.{Title}
@@ -52,7 +52,7 @@ shown_alike names actors bytes b next s h own ref free word content = record {
 
 module _ (a : Parts) (before rest : List Played) (x : Played) (h : IsFiled a) (parts : a.ps ≡ before ++ x ∷ rest) (st : Standing) (f : IsFrontOf a x.line before (x ∷ rest) st) (s : State)
     (shown : IsShown (titles_in a (root_at a x.line)) (a.threads + 1) (2097152 * a.supers) (ledger_of a.partitions st) s) where
-  -- the record is played, and the core shows what stands after it
+  -- the record is played, and the core shows the state after it
   abbrev pub Outcome : Type 0
   Outcome = (next : State) × Plays (MadeIn a) x s next × ShowsFront a (x.line + 1) (before ++ x ∷ []) rest next
 
@@ -85,7 +85,7 @@ module _ (a : Parts) (before rest : List Played) (x : Played) (h : IsFiled a) (p
       registers g zero = over_same 64 _ _ (λ c. ap (λ v. g (reg_of v)) (cells_left a before rest x h parts st f other c))
       registers g (suc j) = over_same 64 _ _ (λ r. ap g (regs_same a before rest x h parts st f regs j r))
 
-  -- a record that tells of no slot
+  -- a record that reports no slot
   pub none_plays : mark_of x ≡ None → Becomes (regs_left a before rest x h parts st f) (st.regs x.thread) → SameLists (cache_left a before rest x h parts st f) (st.caches x.thread) →
       ((k r : ℕ) → x.op ≡ ops.Swap k r → ⊥) → root_at a (x.line + 1) ≡ root_at a x.line → Outcome
   none_plays unmarked regs lists other none =

@@ -1,4 +1,4 @@
--- The counted ops, one whole: the core can play each, and shows what stands after it.
+-- The counted ops, one whole: the core can play each, and shows the state after it.
 use Rattle.std.proofs.Common.{◌≡◌, ℕ, suc, ◌+◌, ◌<◌, ◌≤◌, List, [], ◌∷◌, ◌++◌, get_or, refl, sym, ◌∙◌, ap, subst, arith, ◌⊎◌, inl, inr}
 use Rattle.std.proofs.lemmas.List.Sums.{sum_by-cons}
 use Rattle.pa_machine.specs.declared.word.SlotName.{SlotName}
@@ -46,7 +46,7 @@ pub done_turn : (s after : State) (actor : ℕ) (t : Title) (p : Step) (lost gai
     IsTurn s actor t lost gained (stepped p (count_word s.words t)) (first ++ Count actor t p ∷ []) after
 done_turn s after actor t p lost gained first good d = turn_then s d.mid after actor t lost d.between gained _ _ first (Count actor t p ∷ []) good d.prepares d.steps
 
--- who has an Own has it in some state
+-- an actor that has an Own has it in some state
 pub own_some : (t : Title) (ps : List Piece) → 0 < held_in ps (OwnOf t) → (a : OwnState) × (0 < held_in ps (OwnAs t a))
 own_some t [] some = absurd (omega arith)
 own_some t (RawPiece start len ∷ ps) some =

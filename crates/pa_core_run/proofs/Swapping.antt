@@ -193,7 +193,7 @@ module _ (names : Titles) (actors bytes : ℕ) (unique : HaveNames names.Made) w
 
 -- ---- the two hands of an exchange
 
--- What stands after an exchange of register `reg` of thread k and a cell.
+-- The state after an exchange of register `reg` of thread k and a cell.
 pub record IsExchanged (partitions : ℕ) (st next : Standing) (k reg cell : ℕ) : Type 0 where
   pub few : reg < 64
   pub few_cells : cell < 64

@@ -48,7 +48,7 @@ use Rattle.pa_rules.proofs.Marking.{not_look}
 
 -- ---- who steps
 
--- an answer that tells of a step made the slot, or did the op
+-- an answer that reports a step made the slot, or did the op
 abbrev Steps : Answer → Mark → Type 0
 Steps answer m = ((seen : Seen) × (usable : ℕ) × (answer ≡ answers.Made seen usable) × (seen.slot ≡ m.slot)) ⊎ ((seen : Seen) × (answer ≡ answers.Done seen) × (seen.slot ≡ m.slot))
 

@@ -1,4 +1,4 @@
--- The super pages of a direct map that is mapped are taken: who gave them would have unmapped it.
+-- The super pages of a direct map that is mapped are taken: an entry that gave them would have unmapped it.
 use Rattle.std.proofs.Common.{◌≡◌, ℕ, zero, suc, ◌+◌, ◌<◌, ◌≤◌, List, [], ◌∷◌, ◌++◌, length, Option, Some, None, refl, sym, ◌∙◌, ap, subst, arith, inl, inr, append_assoc, length-append}
 use Rattle.std.specs.Prelude.{Contains, slice_get, option_map}
 use Rattle.std.proofs.lemmas.List.{append-nil}

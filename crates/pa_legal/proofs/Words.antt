@@ -1,4 +1,4 @@
--- The words of a slot's run are told by their numbers, and so are its steps.
+-- The words of a slot's run are determined by their numbers, and so are its steps.
 use Rattle.std.proofs.Common.{◌≡◌, ℕ, ◌+◌, ◌<◌, List, [], ◌∷◌, Some, refl, sym, ◌∙◌, ap, subst, arith, inl, inr}
 use Rattle.std.specs.Prelude.{Contains, AllPairs}
 use Rattle.pa_machine.specs.declared.word.SlotName.{SlotName}

@@ -56,7 +56,7 @@ map_one f [] y e = absurd cc
 map_one f (x ∷ []) y e = (x, refl, cc)
 map_one f (x ∷ z ∷ zs) y e = absurd cc
 
--- lists of the same values are the same if a value tells the element
+-- lists of the same values are the same if a value determines the element
 pub map_tells : {A B : Type 0} (f : A → B) (xs ys : List A) → ((x y : A) → Contains xs x → Contains ys y → f x ≡ f y → x ≡ y) → map f xs ≡ map f ys → xs ≡ ys
 map_tells f [] [] tells e = refl
 map_tells f [] (y ∷ ys) tells e = absurd cc

@@ -1,4 +1,4 @@
--- Options: what a Some tells.
+-- Options: what a Some says.
 use Rattle.std.proofs.Common.{ℕ, Some, ◌≡◌, Bool, cond, None, true, refl, false}
 
 pub some_same : (a b : ℕ) → Some a ≡ Some b → a ≡ b

@@ -1,4 +1,4 @@
--- The tests on titles and states tell them apart.
+-- The tests on titles and states distinguish them.
 use Rattle.std.proofs.Common.{◌≡◌, ℕ, ◌+◌, ◌<◌, ◌≤◌, Bool, true, false, ◌&&◌, refl, ◌∙◌, ap, ◌⊎◌, inl, inr, eqb}
 use Rattle.std.proofs.lemmas.Bool.Decides.{eqb_tells}
 use Rattle.pa_machine.specs.declared.title.Title.{Title}

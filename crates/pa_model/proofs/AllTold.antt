@@ -1,4 +1,4 @@
--- What is told at the end.
+-- What is reported at the end.
 use Rattle.pa_trace.specs.declared.script.Trace.{Trace}
 use Rattle.pa_trace.specs.Limits.{IsWithinLimits}
 use Rattle.pa_record.specs.declared.run.Run.{Run}
@@ -11,7 +11,7 @@ use Rattle.pa_player.specs.Playing.{IsPlaying}
 use Rattle.pa_player.specs.Told.{IsToldRun}
 use Rattle.pa_player.proofs.Ended.{ends_filed, ends_printed}
 
--- what is reported at the end is what a run of the trace tells
+-- what is reported at the end is what a run of the trace contains
 pub all_told : (t : Trace) (p : Player) → IsWithinLimits t → IsPlaying t.region t.partitions t.threads t.lines p → IsAllTold t (phase_ended p).told
 all_told t p within playing =
     let filed : (r : Run) → IsToldRun (phase_ended p).told r → IsFileRun t r = λ r told. ends_filed t p r playing told in

@@ -65,7 +65,7 @@ without_pairs R i (k ∷ ids) h = elim (cases_Bool (eqb k i)) [
       (without_pairs R i ids (pairs_tail R k ids h)))
 ]
 
--- it doesn't stand twice
+-- it isn't there twice
 absent : (R : ℕ → ℕ → Type 0) (i j : ℕ) (ids : List ℕ) → AllPairs R ids → (R i i → ⊥) → Contains (without_index i ids) j → j ≢ i
 absent R i j [] h once among e = not_in_none j among
 absent R i j (k ∷ ids) h once among e = elim (cases_Bool (eqb k i)) [

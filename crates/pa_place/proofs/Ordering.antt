@@ -16,7 +16,7 @@ use Rattle.pa_record.proofs.Taking.{front_from}
 use Rattle.pa_place.specs.Served.{IsServed}
 use Rattle.pa_place.specs.Order.{IsBefore, IsOlder, IsOrdered}
 
--- who is in a list after one member was set
+-- what is in a list after one member was set
 pub set_cases : {A : Type 0} (xs : List A) (i : ℕ) (x y : A) → Contains (set xs i x) y → (y ≡ x) ⊎ Contains xs y
 set_cases [] i x y among = inr among
 set_cases (z ∷ xs) zero x y among = elim (in_cases x y xs among) [ inl e ↦ inl (sym e) | inr rest ↦ inr (later_in z y xs rest) ]

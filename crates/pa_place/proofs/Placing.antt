@@ -22,7 +22,7 @@ use Rattle.pa_place.specs.Served.{blank_span, IsLow, IsServed}
 use Rattle.pa_place.specs.Store.{IsReady, FindsPlace, HasBlanks, room_for}
 use Rattle.pa_lists.proofs.Indexed.{at_in, slice_get_at}
 
--- a span in place of the one in its place, by where it stands
+-- a span in place of the one in its place, by where it is
 pub put_set : (s t : Span) (ts : List Span) (i : ℕ) → AllPairs IsElsewhere ts → slice_get ts i ≡ Some t → same_place t s ≡ true → put s ts ≡ set ts i s
 put_set s t [] i h e same = absurd (not_some t e)
 put_set s t (x ∷ ts) zero h e same =
@@ -138,7 +138,7 @@ served_root r i s u next title turn sound e served is after =
     ∙ ap (λ n. last (record r { spans = set r.spans i next; turn = n }) (Some (title_at (with_free s) served.number))) (sym after)
     ∙ ap (λ v. last (record r { spans = set r.spans i next; turn = turn }) (Some v)) (sym served.title)
 
--- who is at a place of a list
+-- what is at an index of a list
 pub there : {A : Type 0} (xs : List A) (i : ℕ) → i < length xs → (x : A) × (slice_get xs i ≡ Some x)
 there [] i below = absurd (omega arith)
 there (x ∷ xs) zero below = (x, refl)

@@ -172,7 +172,7 @@ module _ (region partitions threads : ℕ) (ls : List Line) (p : Player) (h : Is
       let b = stands_here i t q class inside real among in
       omega arith
 
-  -- in no other list, and after the front of a list it doesn't stand again
+  -- in no other list, and after the front of a list it isn't there again
   pub listed_once : (i t q class u k c : ℕ) → t < threads → q < partitions → class < 59 → u < threads → k < partitions → c < 59
       → Contains (list_at p t q class) i → Contains (list_at p u k c) i → (t ≡ u) × (q ≡ k) × (class ≡ c)
   listed_once i t q class u k c below inside real lower within known there here =

@@ -77,7 +77,7 @@ module _ (region partitions threads n phase : ℕ) (ps : List Played) (pools : L
 
 -- ---- what is reported
 
--- the lists as a run tells them
+-- the lists as a run has them
 abbrev pub lists_of : Lists → Told
 lists_of t = record { entries = t.entries; roots = journal_at t.journals; pools = t.pools; cells = λ k. get_or t.histories k []; report = t.report }
 

@@ -36,7 +36,7 @@ out_last at (z ∷ y ∷ ms) m outs among = out_last (at_after z.way z.number) (
 pub none_some : (k : ℕ) → None ≡ Some k → ⊥
 none_some k e = cc
 
--- What is told then, but for the answer.
+-- What is reported then, but for the answer.
 pub record IsToldOn (p : Player) (told : Lists) (more : List PoolEntry) (q : ℕ) (act : RootAct) : Type 0 where
   pub entries : told.entries ≡ p.told.entries
   pub report : told.report ≡ p.told.report

@@ -11,7 +11,7 @@ use Rattle.pa_player.specs.Player.{Player}
 use Rattle.pa_player.specs.Playing.{numbered_at, list_place, list_at, caches}
 use Rattle.pa_player.specs.Changes.{listed, list_in}
 
--- ---- where lists stand
+-- ---- where lists are
 
 same_row : (partitions t u q r : ℕ) → q < partitions → r < partitions → t * partitions + q ≡ u * partitions + r → (t ≡ u) × (q ≡ r)
 same_row partitions t u q r low high e = elim (cases_eq t u) [

@@ -1,4 +1,4 @@
--- The lines of the report at the end of a phase are told one after the other.
+-- The lines of the report at the end of a phase are reported one after the other.
 use Rattle.std.proofs.Common.{◌≡◌, ℕ, suc, ◌+◌, ◌-◌, ◌<◌, List, [], ◌∷◌, ◌++◌, refl, sym, ap, ◌∙◌, subst, arith, append_assoc}
 use Rattle.std.proofs.lemmas.List.{append-nil}
 use Rattle.pa_record.specs.declared.report.ReportLine.{ReportLine}
@@ -9,7 +9,7 @@ use Rattle.pa_player.specs.Changes.{report_line, report_lines}
 abbrev pub with_report : Player → List ReportLine → Player
 with_report p report = record p { told = record p.told { report = report } }
 
--- The lines of the first n partitions were told: with the rest, all are.
+-- The lines of the first n partitions were reported: with the rest, all are.
 pub record IsToldFor (n : ℕ) (p s : Player) : Type 0 where
   pub same : s ≡ with_report p s.told.report
   pub rest : s.told.report ++ report_lines p n (p.partitions - n) ≡ p.told.report ++ report_lines p 0 p.partitions

@@ -53,7 +53,7 @@ map_placed q len supers asked place p taken r placed title ts table h first asks
       acted = is ∙ ap (λ (z : Player). record (acted q (Map asked (name_of title) title.len ∷ []) z) { table = table }) e;
     }
 
--- A list was filled, where the slots that the root gave were put into it and that was told.
+-- A list was filled if the slots that the root gave were put into it and that was reported.
 pub filled_told : (q at class want : ℕ) (p told r : Player) (plan : PoolState) (roots : List Root) (placed : Placed) → want ≡ fill_of class
     → FillDid class want p.heap.pool plan (root_of p q) (slice_index_or roots q new_root) placed → roots ≡ slice_set p.heap.roots q (slice_index_or roots q new_root)
     → told ≡ asked_in q 1 placed.titles.items placed.pool (record p { heap = record { pool = plan; roots = roots } })
@@ -73,7 +73,7 @@ filled_told q at class want p told r plan roots placed many did others asked som
       acted = h.acted;
     }
 
--- There was no room for a slot, where the root gave none and that was told.
+-- There was no room for a slot if the root gave none and that was reported.
 pub unfilled_told : (q class want asked entry : ℕ) (p told : Player) (after : Lists) (plan : PoolState) (roots : List Root) (placed : Placed) → want ≡ fill_of class
     → FillDid class want p.heap.pool plan (root_of p q) (slice_index_or roots q new_root) placed → roots ≡ slice_set p.heap.roots q (slice_index_or roots q new_root)
     → told ≡ asked_in q 1 placed.titles.items placed.pool (record p { heap = record { pool = plan; roots = roots } })

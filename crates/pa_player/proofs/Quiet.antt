@@ -216,7 +216,7 @@ same_quiet region partitions threads ls p h thread op answer keeps turn adds mar
 pub none_not_some : (m : Mark) → None ≡ Some m → ⊥
 none_not_some m e = cc
 
--- an answer that tells of no slot, without an act
+-- an answer that reports no slot, without an act
 pub none_plays_by : (p : Player) (thread : ℕ) (op : Op) (answer : Answer) → TellsNone answer → KeepsLists op answer → ((cell reg : ℕ) → op ≡ ops.Swap cell reg → ⊥)
     → ((region partitions threads : ℕ) (ls : List Line) → IsPlaying region partitions threads ls p → Row (facts_of (shown p).usable (shown p).cells) op ((shown p).regs thread) answer ((shown p).regs thread))
     → Plays p thread op p answer

@@ -27,7 +27,7 @@ use Rattle.pa_player.specs.Tallies.{tally_at}
 use Rattle.pa_player.specs.Playing.{shown, journals, caches, root_of, home_in, len_in, AreAllSlots, AreShaped, IsPlaying}
 use Rattle.pa_player.proofs.Slots.{KeepsSlots, IsPlaceOf}
 
--- What is told goes on by these entries of the pool and these acts, on line n: the rest is as before, but for the histories.
+-- What is reported goes on by these entries of the pool and these acts, on line n: the rest is as before, but for the histories.
 pub record TellsMore (p q : Player) (n : ℕ) (more : List PoolEntry) (acts : Acts) : Type 0 where
   pub entries : q.told.entries ≡ p.told.entries
   pub report : q.told.report ≡ p.told.report

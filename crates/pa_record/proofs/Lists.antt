@@ -1,4 +1,4 @@
--- The lines of lists tell the lists, if each line tells what it is printed of.
+-- The lines of lists determine the lists, if each line determines what it is printed of.
 use Rattle.std.proofs.Common.{◌≡◌, ℕ, zero, suc, ◌+◌, ◌<◌, ◌≤◌, ◌^◌, List, [], ◌∷◌, ◌++◌, length, get_or, refl, sym, ap, ◌∙◌, append_assoc, arith}
 use Rattle.std.specs.List.{AllByRecursion, flat_map}
 use Rattle.pa_record.specs.Text.{lines_from}
@@ -38,7 +38,7 @@ avoid_lines c d f n (x ∷ xs) u other begins avoids = λ rest e.
 
 -- ---- lines with their places
 
--- a line of f tells what it is printed of
+-- a line of f determines what it is printed of
 abbrev pub Splits : {A : Type 0} → (A → Type 0) → (A → List ℕ) → Type 0
 Splits {A} P f = (a b : A) (x y : List ℕ) → P a → P b → f a ++ x ≡ f b ++ y → (a ≡ b) × (x ≡ y)
 

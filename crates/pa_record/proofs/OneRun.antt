@@ -110,7 +110,7 @@ one_run a b text ha hb =
 joined : (a b b' c c' d d' f f' g g' h : List ℕ) → b ≡ b' → c ≡ c' → d ≡ d' → f ≡ f' → g ≡ g' → a ++ b ++ c ++ d ++ f ++ g ++ h ≡ a ++ b' ++ c' ++ d' ++ f' ++ g' ++ h
 joined a b b' c c' d d' f f' g g' h e1 e2 e3 e4 e5 = cc
 
--- runs that tell the same have one text
+-- runs with the same contents have one text
 pub one_text : (a b : Run) (s t : List ℕ) → IsRunText a s → IsRunText b t → IsSameRun a b → s ≡ t
 one_text a b s t ha hb same =
     ha.text

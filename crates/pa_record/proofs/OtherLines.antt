@@ -1,4 +1,4 @@
--- The lines of journals, of the pool, of cells and of the report tell what they are printed of, and what follows.
+-- The lines of journals, of the pool, of cells and of the report determine what they are printed of, and what follows.
 use Rattle.std.proofs.Common.{◌≡◌, ℕ, List, [], ◌∷◌, ◌++◌, codes, Option, refl, sym, ap, ◌∙◌, arith}
 use Rattle.std.specs.Fmt.{decimal}
 use Rattle.std.proofs.lemmas.List.{append_cancel_left, append_assoc}

@@ -61,7 +61,7 @@ put_cases s u (t ∷ ts) h among = elim (cases_Bool (same_place t s)) [
   ]
 ]
 
--- who was elsewhere stays
+-- a span that was elsewhere stays
 pub put_keeps : (s u : Span) (ts : List Span) → Contains ts u → same_place u s ≡ false → Contains (put s ts) u
 put_keeps s u [] among far = absurd (not_in_none u among)
 put_keeps s u (t ∷ ts) among far = elim (cases_Bool (same_place t s)) [

@@ -309,7 +309,7 @@ module _ (up down : Step → ℕ → Bool) (level : ℕ → ℕ) (even : Balance
       ]) in
       omega arith
 
-  -- so the level of its last word is told by how many there are of both
+  -- so the level of its last word is determined by how many there are of both
   pub run_levels : (ms : List Mark) (s : SlotName) (vs : List ℕ) → AllPairs OtherLine ms → IsRunFrom ms s 0 vs → IsOneRun ms s (0 ∷ vs) →
       count_by (steps_so up s) ms + level 0 ≡ count_by (steps_so down s) ms + level (last_word 0 vs)
   run_levels ms s vs h run one =

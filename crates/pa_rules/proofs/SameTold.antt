@@ -1,4 +1,4 @@
--- What is told is its lists.
+-- What is reported is its lists.
 use Rattle.pa_rules.specs.Told.{Told}
 use Rattle.std.proofs.Common.{List, ℕ, ap, ◌≡◌, ◌∙◌}
 use Rattle.pa_record.specs.declared.entry.Entry.{Entry}
@@ -7,7 +7,7 @@ use Rattle.pa_record.specs.declared.pool.PoolEntry.{PoolEntry}
 use Rattle.pa_record.specs.declared.history.CellEntry.{CellEntry}
 use Rattle.pa_record.specs.declared.report.ReportLine.{ReportLine}
 
--- two that tell the same
+-- two that have the same contents
 pub same_lists : (a b : Told) → a.entries ≡ b.entries → a.roots ≡ b.roots → a.pools ≡ b.pools → a.cells ≡ b.cells → a.report ≡ b.report → a ≡ b
 same_lists a b entries roots pools cells report =
     let first : List Entry → Told = λ x. record a { entries = x } in

@@ -47,7 +47,7 @@ pub from_more : (p : ℕ) (js : List OneJournal) (j : OneJournal) → AreFrom p 
 from_more p [] j h is = (is ∙ add-zero p, tt)
 from_more p (k ∷ js) j h is = (h.0, from_more (p + 1) js j h.1 (is ∙ omega arith))
 
--- the entries of a journal, by where it stands
+-- the entries of a journal, by where it is
 pub entries_at : (js : List OneJournal) (i : ℕ) (d : OneJournal) → i < length js → get_or (map (λ (j : OneJournal). j.entries) js) i [] ≡ (get_or js i d).entries
 entries_at [] i d low = absurd (omega arith)
 entries_at (j ∷ js) zero d low = refl

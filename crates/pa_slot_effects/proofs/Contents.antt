@@ -46,7 +46,7 @@ written_cases ps x s n value h = elim (Contains-push_cases ps x h.0 h.3) [
   | inr e ↦ inr (h.1, h.2, ap (λ (y : Played). y.op) e ∙ h.4, ap (λ (y : Played). y.answer) e ∙ h.5, h.6, h.7)
 ]
 
--- what such a record tells of the slot
+-- what such a record reports of the slot
 pub made_mark : (x : Played) (s : SlotName) (n : ℕ) → (h : IsMadeBy x s n) → mark_of x ≡ Some (mark_at x.line h.0 (Some steps.Issue))
 made_mark x s n h = ap (λ a. mark_of_answer x.line x.op a) h.2
 

@@ -1,4 +1,4 @@
--- The turns of ops that change nothing: looks, and answers that tell of no slot.
+-- The turns of ops that change nothing: looks, and answers that report no slot.
 use Rattle.std.proofs.Common.{◌≡◌, ℕ, ◌+◌, ◌<◌, List, [], ◌∷◌, ◌++◌, length, Some, None, refl, sym, ap, ◌∙◌, subst}
 use Rattle.pa_machine.specs.Count.{held_of, refs_of, number_of}
 use Rattle.pa_machine.specs.Run.{Mark}

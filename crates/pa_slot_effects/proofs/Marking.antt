@@ -1,4 +1,4 @@
--- The records and what they tell of the slots.
+-- The records and what they report of the slots.
 use Rattle.std.proofs.Common.{◌≡◌, ℕ, ◌+◌, List, [], ◌∷◌, ◌++◌, Option, Some, None, Contains, refl, sym, ap, ◌∙◌, arith, add-one, zero, suc, append-nil}
 use Rattle.std.specs.List.{cons_option}
 use Rattle.std.proofs.lemmas.List.Elements.{filter_map-append}
@@ -22,7 +22,7 @@ look_line : (line : ℕ) (seen : Option Seen) → line_or line (look_at line see
 look_line line None = refl
 look_line line (Some seen) = refl
 
--- what an answer tells of a slot is on its line
+-- what an answer reports of a slot is on its line
 pub answer_line : (line : ℕ) (op : Op) (a : Answer) → line_or line (mark_of_answer line op a) ≡ line
 answer_line line op (Made seen usable) = refl
 answer_line line op (Done seen) = refl
@@ -62,7 +62,7 @@ told_first : (o : Option Mark) (m : Mark) (ms : List Mark) → o ≡ Some m → 
 told_first None m ms e = absurd cc
 told_first (Some n) m ms e = (0, omega arith, some_mark n m e)
 
--- the record that tells of a mark
+-- the record that reports a mark
 abbrev pub IsTold : List Played → Mark → Type 0
 IsTold ps m = (p : Played) × Contains ps p × (mark_of p ≡ Some m)
 

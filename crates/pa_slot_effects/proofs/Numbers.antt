@@ -64,7 +64,7 @@ numbers_none line le = record {
   few = λ s. omega arith;
 }
 
--- a line that tells of no slot
+-- a line that reports no slot
 pub numbers_later : (ms : List Mark) (line : ℕ) (word : SlotName → ℕ) → HasNumbers ms line word → HasNumbers ms (line + 1) word
 numbers_later ms line word h = record {
   rising = λ m c. omega (arith, h.rising m c);

@@ -29,7 +29,7 @@ use Rattle.pa_slot_effects.proofs.Numbers.{numbers_later, numbers_look, numbers_
 use Rattle.pa_slot_effects.proofs.Contents.{StepsTo}
 use Rattle.pa_slot_effects.proofs.Rows.{rows_on, rows_push, used_on}
 
--- what a line tells of a slot: nothing, a look at a word that is in use, or a step
+-- what a line reports of a slot: nothing, a look at a word that is in use, or a step
 abbrev pub TellsBy : Option Step → Mark → (SlotName → ℕ) → (SlotName → ℕ) → Type 0
 TellsBy None m word after = (m.found ≡ word m.slot) × (0 < held_of m.found + refs_of m.found) × (after ≡ word)
 TellsBy (Some p) m word after = StepsTo m.slot p m.found word after
@@ -94,7 +94,7 @@ looks_used (Some n) word after t m e none =
     let P : Mark → Type 0 = λ k. k.step ≡ None → 0 < held_of k.found + refs_of k.found in
     (subst P same (λ z. looks_by n.step n word after t z)) none
 
--- What the record x of the next line does. Its exchange, if it is one, and its contents are told of all records so far.
+-- What the record x of the next line does. Its exchange, if it is one, and its contents are stated for all records so far.
 pub record IsTurn (threads : ℕ) (ps : List Played) (x : Played) (a b : Shown) : Type 0 where
   pub row : Row (facts_of a.usable b.cells) x.op (a.regs x.thread) x.answer (b.regs x.thread)
   pub regs : b.regs ≡ with_thread a.regs x.thread (b.regs x.thread)

@@ -1,4 +1,4 @@
--- What is printed of a number, a word or a slot's name tells it, and what follows it.
+-- The printed form of a number, a word or a slot's name determines it, and what follows it.
 use Rattle.std.proofs.Common.{◌≡◌, ℕ, ◌^◌, ◌<◌, List, ◌∷◌, ◌++◌, sym, ap, ◌∙◌, append_assoc, arith}
 use Rattle.std.specs.Fmt.{decimal}
 use Rattle.std.proofs.lemmas.Option.{some_pair_parts}

@@ -141,7 +141,7 @@ module _ (supers partitions : ℕ) (ps : List Played) (pools : List PoolEntry) (
   pub moves_hold : (p : ℕ) (s : SlotName) (k : ℕ) → HasHolders ps s k (moves_at (roots p) s k)
   moves_hold p s k = holders_of p s k (moves_at (roots p) s k) refl
 
-  -- who issues a slot holds it
+  -- the thread that issues a slot holds it
   pub issuer_holds : (s : SlotName) (k p : ℕ) (x : Played) → HasLeft roots p s → Contains ps x → issues_at s k x ≡ 1 →
       (h : Holder) × IsFirstHolder ps s k h × HolderAfter ps h (moves_at (roots p) s k) (WithThread x.thread)
   issuer_holds s k p x left among one =

@@ -38,7 +38,7 @@ unlisted cache s p c m none real among same = elim (cases_eq (stands s (cache p 
   | inr some ↦ let times = some_listed s (cache p) c 0 59 (omega arith) (omega arith) (omega arith) in omega arith
 ]
 
--- ---- where it stands
+-- ---- where it is
 
 with_cases : (all : Caches) (thread : ℕ) (next : Cache) (t p c : ℕ) (m : Numbered) → Contains (with_cache all thread next t p c) m → ((t ≡ thread) × Contains (next p c) m) ⊎ Contains (all t p c) m
 with_cases all thread next t p c m among = elim (cases_eq t thread) [

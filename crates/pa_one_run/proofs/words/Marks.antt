@@ -1,4 +1,4 @@
--- The marks of a run are in the order of their lines, and a slot's words are told by their numbers.
+-- The marks of a run are in the order of their lines, and a slot's words are determined by their numbers.
 use Rattle.std.proofs.Common.{◌≡◌, ℕ, ◌<◌, List, ◌∷◌, arith}
 use Rattle.std.specs.Prelude.{Contains, AllPairs}
 use Rattle.pa_machine.specs.declared.word.SlotName.{SlotName}

@@ -59,7 +59,7 @@ returns-clause-line c =
     (subst (λ (rs : List (List RootEntry)). TellsFirst (λ i. CachesDemand t.partitions (journal_at rs) c.args.records.now (places.Record i)) at)
     c.roots-2.ensures.roots misfit)))
 
--- if no line is told there was no misfit
+-- if no line is reported there was no misfit
 no_misfit : (o : Option ℕ) → option_map (λ i. 2 + i) o ≡ None → o ≡ None
 no_misfit None e = refl
 no_misfit (Some i) e = absurd (not_some (2 + i) (sym e))
