@@ -1,6 +1,7 @@
-ghost use Rattle.std.specs.Prelude.{◌≡◌, ℕ, ◌<◌, length};
+ghost use Rattle.std.specs.Prelude.{◌≡◌, ℕ, ◌*◌, ◌<◌, length};
 ghost use Rattle.pa_machine.specs.declared.title.Title.{Title};
-ghost use Rattle.pa_region.specs.Views.{stake_of};
+ghost use Rattle.pa_machine.specs.Holdings.{RawByte};
+ghost use Rattle.pa_region.specs.Views.{held_of_view, stake_of};
 ghost use Rattle.pa_region.specs.Waiting.{poisoned_of, unclean_of};
 ghost use Rattle.pa_region.specs.Hands.{CanHand, IsParted, left_after, given_after, united};
 ghost use Rattle.pa_region.specs.Aware.{IsAware};
@@ -39,11 +40,12 @@ impl Note {
         seat
     }
 
-    /// What the rule says of the note's view; its list of words is as long as the region's. It costs nothing: it hands
-    /// on what the note's type keeps.
+    /// What the rule says of the note's view; its list of words is as long as the region's, and its raw bytes lie in the
+    /// region. It costs nothing: it hands on what the note's type keeps.
     pub fn aware(&self)
         ensures aware { IsAware self.now.view }
         ensures long { length self.now.view.words ≡ byte_word_count self.now.region }
+        ensures raw { (b : ℕ) → 0 < held_of_view self.now.view (RawByte b) → b < 8 * byte_word_count self.now.region }
     {
         self.seat.aware();
     }

@@ -2,7 +2,8 @@ ghost use Rattle.std.specs.Prelude.{◌≡◌, ℕ, ◌-◌, ◌*◌, ◌<◌, �
 ghost use Rattle.atomic_table.specs.Seated.{TableId};
 ghost use Rattle.pa_machine.specs.Titles.{IsWellFormed, count_place, content_count, content_place};
 ghost use Rattle.pa_layout.specs.Limits.{most_supers, most_words};
-ghost use Rattle.pa_region.specs.Views.{HasTitle, HasStake, HasEveryStake, least_stake};
+ghost use Rattle.pa_machine.specs.Holdings.{RawByte};
+ghost use Rattle.pa_region.specs.Views.{held_of_view, HasTitle, HasStake, HasEveryStake, least_stake};
 ghost use Rattle.pa_region.specs.Moves.{CanCount};
 ghost use Rattle.pa_region.specs.Marks.{AreStakes};
 ghost use Rattle.pa_region.specs.Aware.{IsAware};
@@ -78,11 +79,12 @@ impl Seat {
 }
 
 impl Seat {
-    /// What the rule says of the seat's view; its list of words is as long as the region's. It costs nothing: it hands
-    /// on what the seat's type keeps.
+    /// What the rule says of the seat's view; its list of words is as long as the region's, and its raw bytes lie in the
+    /// region. It costs nothing: it hands on what the seat's type keeps.
     pub fn aware(&self)
         ensures aware { IsAware self.now.view }
         ensures long { length self.now.view.words ≡ byte_word_count self.now.region }
+        ensures raw { (b : ℕ) → 0 < held_of_view self.now.view (RawByte b) → b < 8 * byte_word_count self.now.region }
     {
         let _ = &self.seat;
     }
