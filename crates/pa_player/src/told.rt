@@ -13,6 +13,7 @@ use pa_record::{
     Act, Answer, CellEntry, Entry, Held, History, LentEntry, PoolAct, PoolEntry, ReportLine, Run,
 };
 use pa_run_writer::run_text;
+use pa_trace::CELLS;
 use std::alloc::Global;
 use std::marker::Model;
 
@@ -49,8 +50,8 @@ impl<O: Output> Told<O> {
         requires journals { (q : ℕ) → slice_index_or (O.books output).journals q [] ≡ [] }
         ensures { IfOk result (IsUntold (length (O.books output).journals)) }
     {
-        let mut histories = Vec::with_capacity(alloc, 64)?;
-        for _ in 0..64_u32 {
+        let mut histories = Vec::with_capacity(alloc, CELLS as usize)?;
+        for _ in 0..CELLS {
             histories.push(History::new(alloc))?;
         }
         Ok(Told {
