@@ -16,7 +16,8 @@ use Rattle.pa_rules.specs.Report.{HasSize, HasWord, IsTally}
 use Rattle.pa_rules.specs.Roots.{Journals}
 use Rattle.pa_rules.proofs.Phases.{mark_in}
 use Rattle.pa_rules.proofs.Running.{mark_from}
-use Rattle.pa_legal.specs.Tallies.{AreHomes, IsLeft, IsTallied, WentIn, bytes_of, enters, frees, issues, leaves, one_of, weight_of}
+use Rattle.pa_machine.specs.Kinds.{enters, frees, issues, leaves}
+use Rattle.pa_legal.specs.Tallies.{AreHomes, IsLeft, IsTallied, WentIn, bytes_of, one_of, weight_of}
 use Rattle.pa_legal.proofs.tallies.Adding.{tallies_follow}
 use Rattle.pa_audit_holders.specs.declared.homes.Home.{Home}
 use Rattle.pa_audit_report.specs.declared.counts.InUse.{InUse}

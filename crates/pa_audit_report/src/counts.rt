@@ -2,7 +2,7 @@ ghost use Rattle.std.specs.Prelude.{◌≡◌, ℕ, ◌+◌, ◌<◌, ◌≤◌,
 ghost use Rattle.pa_trace.specs.Limits.{most_partitions};
 ghost use Rattle.pa_audit_records.specs.ByKeys.{value_at};
 ghost use Rattle.pa_machine.specs.declared.word.Step.TheVariants as steps;
-ghost use Rattle.pa_legal.specs.Tallies.{leaves};
+ghost use Rattle.pa_machine.specs.Kinds.{leaves};
 ghost use Rattle.pa_audit_holders.specs.declared.homes.Home.{Home as SlotHome};
 ghost use Rattle.pa_audit_records.specs.Cuts.{AreRecordCuts};
 ghost use Rattle.pa_audit_report.specs.Counts.{DoesNothing, HasCounted, HasRoom, HaveUses, IsBytesOf, IsDoneOf, IsOfOther, IsStepOf, MovesNothing, less_of, raised_by, tally_more};

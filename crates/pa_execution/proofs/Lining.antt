@@ -14,7 +14,8 @@ use Rattle.pa_rules.specs.Played.{marks_of}
 use Rattle.pa_rules.specs.Caches.{Cache, listed_slots}
 use Rattle.pa_rules.specs.Report.{listed_bytes, cached_slots, cached_bytes, until}
 use Rattle.pa_rules.specs.Told.{Told}
-use Rattle.pa_legal.specs.Tallies.{issues, frees, enters, leaves, weight_of, one_of, bytes_of}
+use Rattle.pa_machine.specs.Kinds.{issues, frees, enters, leaves}
+use Rattle.pa_legal.specs.Tallies.{weight_of, one_of, bytes_of}
 use Rattle.pa_logs.specs.Told.{played_in}
 use Rattle.pa_logs.specs.Rows.{records_by}
 use Rattle.pa_logs.specs.Reported.{counted_by, IsLeftBy}

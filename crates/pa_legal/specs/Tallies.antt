@@ -1,9 +1,8 @@
 -- The tallies of live and quarantined slots, as sums over the steps of some records.
-use Rattle.std.specs.Prelude.{◌≡◌, ◌≢◌, ℕ, ◌+◌, ◌≤◌, ◌==◌, ◌&&◌, Bool, true, false, not, if◌then◌else◌, List, Contains, AllPairs, sum_by}
+use Rattle.std.specs.Prelude.{◌≡◌, ◌≢◌, ℕ, ◌+◌, ◌≤◌, ◌==◌, Bool, if◌then◌else◌, List, Contains, AllPairs, sum_by}
 use Rattle.pa_machine.specs.declared.word.SlotName.{SlotName}
 use Rattle.pa_machine.specs.declared.word.Step.{Step}
-use Rattle.pa_machine.specs.declared.word.Step.TheVariants.{Issue, Copy, Reset, Free, Write}
-use Rattle.pa_machine.specs.Count.{held_of, refs_of}
+use Rattle.pa_machine.specs.Kinds.{issues, frees, enters, leaves}
 use Rattle.pa_machine.specs.Run.{Mark, Slots, IsLive, IsQuarantined}
 use Rattle.pa_record.specs.declared.pool.PoolEntry.{PoolEntry}
 use Rattle.pa_record.specs.declared.report.Tally.{Tally}
@@ -12,36 +11,6 @@ use Rattle.pa_rules.specs.Played.{marks_of}
 use Rattle.pa_rules.specs.Roots.{Journals, AreRoots, IsPoolOf}
 use Rattle.pa_rules.specs.Report.{HasSize, IsTally}
 use Rattle.pa_rules.specs.Flow.{at_step}
-
--- the steps that make a slot live, and those that end that
-abbrev pub issues : Step → ℕ → Bool
-issues Issue w = true
-issues Copy w = false
-issues Reset w = false
-issues Free w = false
-issues Write w = false
-
-abbrev pub frees : Step → ℕ → Bool
-frees Issue w = false
-frees Copy w = false
-frees Reset w = false
-frees Free w = true
-frees Write w = false
-
--- a free that finds raw_ptrs quarantines a slot, and the last reset of a freed one ends that
-abbrev pub enters : Step → ℕ → Bool
-enters Issue w = false
-enters Copy w = false
-enters Reset w = false
-enters Free w = not (refs_of w == 0)
-enters Write w = false
-
-abbrev pub leaves : Step → ℕ → Bool
-leaves Issue w = false
-leaves Copy w = false
-leaves Reset w = (held_of w == 0) && (refs_of w == 1)
-leaves Free w = false
-leaves Write w = false
 
 -- the total weight of the slots of those marks whose step passes the test
 abbrev pub weight_of : (Step → ℕ → Bool) → (SlotName → ℕ) → List Mark → ℕ

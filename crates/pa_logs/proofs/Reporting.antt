@@ -28,7 +28,8 @@ use Rattle.pa_rules.specs.Roots.{Journals}
 use Rattle.pa_rules.specs.Caches.{Cache, Caches, CachesTo, with_cache, no_caches, listed_slots}
 use Rattle.pa_rules.specs.Report.{InPhases, PastPhases, HasCensus, IsReportLine, IsCached, listed_bytes, cached_slots, cached_bytes, census_of, until}
 use Rattle.pa_rules.proofs.Phases.{runs_until, within as until_mark}
-use Rattle.pa_legal.specs.Tallies.{issues, frees, enters, leaves, weight_of, one_of, bytes_of, AreHomes, IsLeft, WentIn, IsTallied}
+use Rattle.pa_machine.specs.Kinds.{issues, frees, enters, leaves}
+use Rattle.pa_legal.specs.Tallies.{weight_of, one_of, bytes_of, AreHomes, IsLeft, WentIn, IsTallied}
 use Rattle.pa_legal.proofs.tallies.Adding.{tallies_follow}
 use Rattle.pa_logs.specs.Told.{ToldRecord, played_in, is_until, told_until}
 use Rattle.pa_logs.specs.Listed.{first_of, line_of, is_on, AreRising}

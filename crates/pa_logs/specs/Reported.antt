@@ -18,7 +18,8 @@ use Rattle.pa_rules.specs.Flow.{IsInPhases}
 use Rattle.pa_rules.specs.Roots.{Journals, AreRoots, IsPoolOf}
 use Rattle.pa_rules.specs.Caches.{Cache, Caches, CacheRow, no_caches}
 use Rattle.pa_rules.specs.Report.{HasCensus, IsReport, IsReportLine, cached_slots, cached_bytes, census_of, phases_of, until}
-use Rattle.pa_legal.specs.Tallies.{issues, frees, enters, leaves, weight_of, one_of, bytes_of, AreHomes}
+use Rattle.pa_machine.specs.Kinds.{issues, frees, enters, leaves}
+use Rattle.pa_legal.specs.Tallies.{weight_of, one_of, bytes_of, AreHomes}
 use Rattle.pa_logs.specs.Told.{ToldRecord, played_in, told_until}
 use Rattle.pa_logs.specs.Listed.{IsListOf, IsJournalOf, IsPoolList}
 use Rattle.pa_logs.specs.Rows.{records_by}

@@ -48,7 +48,7 @@ use Rattle.pa_rules.specs.Held.{IsHeldIn}
 use Rattle.pa_rules.specs.Legal.{phases_in, IsLegalTold}
 use Rattle.pa_legal.specs.Known.{UnmapsNext}
 use Rattle.pa_legal.specs.Numbers.{AreNumbered}
-use Rattle.pa_legal.specs.Tallies.{issues, frees, enters, leaves}
+use Rattle.pa_machine.specs.Kinds.{issues, frees, enters, leaves}
 use Rattle.pa_logs.specs.Told.{ToldRecord, played_in, is_of_thread, log_of, told_until}
 use Rattle.pa_logs.specs.Touches.{title_of, AreTold}
 use Rattle.pa_logs.specs.Listed.{IsJournalOf, IsPoolList}

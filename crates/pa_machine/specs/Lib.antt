@@ -2,6 +2,7 @@ pub mod Count
 pub mod Events
 pub mod Good
 pub mod Holdings
+pub mod Kinds
 pub mod Run
 pub mod Runs
 pub mod Tables

@@ -10,7 +10,8 @@ use Rattle.pa_record.specs.declared.report.Tally.{Tally}
 use Rattle.pa_trace.specs.Limits.{most_partitions}
 use Rattle.pa_rules.specs.declared.played.Played.{Played}
 use Rattle.pa_rules.specs.Played.{marks_of}
-use Rattle.pa_legal.specs.Tallies.{issues, frees, enters, leaves, weight_of, one_of, bytes_of}
+use Rattle.pa_machine.specs.Kinds.{issues, frees, enters, leaves}
+use Rattle.pa_legal.specs.Tallies.{weight_of, one_of, bytes_of}
 use Rattle.pa_cells.specs.declared.handle.Handle.{Handle}
 use Rattle.pa_op_specs.specs.declared.counts.Count.{Count}
 use Rattle.pa_rules.specs.declared.register.Register.TheVariants.{Empty, Own, Ref, Freed, Cleared}

@@ -8,7 +8,7 @@ use Rattle.pa_trace.specs.declared.script.Op.TheVariants as ops
 use Rattle.pa_trace.specs.declared.script.Line.TheVariants.{Do}
 use Rattle.pa_record.specs.declared.entry.Answer.TheVariants as answers
 use Rattle.pa_rules.specs.Played.{mark_at}
-use Rattle.pa_legal.specs.Tallies.{issues, frees, enters, leaves}
+use Rattle.pa_machine.specs.Kinds.{issues, frees, enters, leaves}
 use Rattle.pa_slot_effects.specs.Turns.{after_free, after_write}
 use Rattle.pa_slot_effects.proofs.Ops.{free_goes_on, write_goes_on}
 use Rattle.pa_player.specs.declared.handle.Handle.TheVariants.{Own, Freed}

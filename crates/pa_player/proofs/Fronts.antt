@@ -25,7 +25,7 @@ use Rattle.pa_rules.specs.Caches.{with_list, with_cache}
 use Rattle.pa_rules.specs.Report.{cached_slots, cached_bytes}
 use Rattle.pa_rules.specs.Sizes.{usable_of}
 use Rattle.pa_rules.proofs.Sizes.{sizes_fit}
-use Rattle.pa_legal.specs.Tallies.{issues, frees, enters, leaves}
+use Rattle.pa_machine.specs.Kinds.{issues, frees, enters, leaves}
 use Rattle.pa_heap_effects.proofs.Acting.{front_leaves}
 use Rattle.pa_slot_effects.specs.Turns.{LeadsTo, played_at, after_made}
 use Rattle.pa_slot_effects.proofs.Ops.{made_goes_on}

@@ -33,7 +33,7 @@ use Rattle.pa_rules.specs.Holders.{Out, Move, moves_by}
 use Rattle.pa_rules.specs.Roots.{Journals, journal_at}
 use Rattle.pa_rules.specs.Sizes.{usable_of}
 use Rattle.pa_legal.specs.Numbers.{all_moves, is_of, moves_of, at_end}
-use Rattle.pa_legal.specs.Tallies.{issues, frees, enters, leaves}
+use Rattle.pa_machine.specs.Kinds.{issues, frees, enters, leaves}
 use Rattle.pa_legal.proofs.Growing.{numbers_grow}
 use Rattle.pa_heap_effects.specs.Deeds.{entries_at, grown, root_at, IsPlacedTo}
 use Rattle.pa_heap_effects.specs.Ops.{only_in, IsCalled}

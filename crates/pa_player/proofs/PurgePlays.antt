@@ -31,7 +31,7 @@ use Rattle.pa_heap_effects.specs.Ops.{AreOut, all_of, purge_in}
 use Rattle.pa_heap_effects.proofs.Acting.{only_here, only_else}
 use Rattle.pa_heap_effects.proofs.Listed.{lists_are_out}
 use Rattle.pa_heap_effects.proofs.Returned.{purge_is_done}
-use Rattle.pa_legal.specs.Tallies.{issues, frees, enters, leaves}
+use Rattle.pa_machine.specs.Kinds.{issues, frees, enters, leaves}
 use Rattle.pa_slot_effects.specs.Shown.{IsLike}
 use Rattle.pa_slot_effects.specs.Turns.{played_at}
 use Rattle.pa_slot_effects.proofs.Looking.{none_goes_on, none_mark}

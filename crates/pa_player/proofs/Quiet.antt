@@ -23,7 +23,8 @@ use Rattle.pa_rules.specs.Played.{mark_at, mark_of}
 use Rattle.pa_rules.specs.Roots.{Journals, journal_at}
 use Rattle.pa_rules.specs.Registers.{Row}
 use Rattle.pa_rules.specs.Caches.{Cache, Caches, with_cache}
-use Rattle.pa_legal.specs.Tallies.{issues, frees, enters, leaves, one_of, bytes_of}
+use Rattle.pa_machine.specs.Kinds.{issues, frees, enters, leaves}
+use Rattle.pa_legal.specs.Tallies.{one_of, bytes_of}
 use Rattle.pa_heap_effects.specs.Deeds.{grown, root_at}
 use Rattle.pa_heap_effects.specs.Pooled.{pool_at, IsDone}
 use Rattle.pa_heap_effects.specs.Ops.{no_acts, KeepsLists}

@@ -9,7 +9,7 @@ use Rattle.pa_trace.specs.declared.script.Line.{Line}
 use Rattle.pa_trace.specs.declared.script.Line.TheVariants.{Do}
 use Rattle.pa_record.specs.declared.entry.Answer.TheVariants.{Done}
 use Rattle.pa_rules.specs.Played.{mark_at}
-use Rattle.pa_legal.specs.Tallies.{issues, frees, enters, leaves}
+use Rattle.pa_machine.specs.Kinds.{issues, frees, enters, leaves}
 use Rattle.pa_legal.proofs.Words.{leaves_free}
 use Rattle.pa_slot_effects.specs.Turns.{after_free, after_reset}
 use Rattle.pa_slot_effects.proofs.Ops.{free_goes_on, reset_goes_on}

@@ -29,7 +29,7 @@ use Rattle.pa_record.proofs.Lawful.{journal_leaves}
 use Rattle.pa_rules.specs.declared.played.Played.{Played}
 use Rattle.pa_rules.specs.Played.{step_of, mark_at, mark_of}
 use Rattle.pa_rules.specs.Caches.{with_list, with_cache, gives, kept, spilled}
-use Rattle.pa_legal.specs.Tallies.{issues, frees, enters, leaves}
+use Rattle.pa_machine.specs.Kinds.{issues, frees, enters, leaves}
 use Rattle.pa_heap_effects.specs.Deeds.{grown, root_at}
 use Rattle.pa_heap_effects.specs.Pooled.{pool_at}
 use Rattle.pa_heap_effects.specs.Ops.{only_in, IsCalled, returned_by, Returns, AreOut}

@@ -16,7 +16,8 @@ use Rattle.pa_rules.specs.Played.{mark_of}
 use Rattle.pa_rules.specs.Caches.{Cache, with_cache}
 use Rattle.pa_rules.specs.Flow.{at_step}
 use Rattle.pa_rules.specs.Report.{cached_slots, cached_bytes}
-use Rattle.pa_legal.specs.Tallies.{issues, frees, enters, leaves, one_of, bytes_of}
+use Rattle.pa_machine.specs.Kinds.{issues, frees, enters, leaves}
+use Rattle.pa_legal.specs.Tallies.{one_of, bytes_of}
 use Rattle.pa_heap_effects.specs.Deeds.{Acts, grown, root_at}
 use Rattle.pa_heap_effects.specs.Pooled.{pool_at, IsDone}
 use Rattle.pa_slot_effects.specs.Shown.{Shown, IsLike}

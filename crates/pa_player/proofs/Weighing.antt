@@ -10,7 +10,8 @@ use Rattle.pa_machine.specs.Run.{Mark, IsReturning}
 use Rattle.pa_record.specs.declared.entry.Seen.{Seen}
 use Rattle.pa_record.specs.declared.report.Tally.{Tally}
 use Rattle.pa_rules.specs.Played.{mark_at}
-use Rattle.pa_legal.specs.Tallies.{enters, leaves, one_of, bytes_of}
+use Rattle.pa_machine.specs.Kinds.{enters, leaves}
+use Rattle.pa_legal.specs.Tallies.{one_of, bytes_of}
 use Rattle.pa_player.specs.declared.table.Slot.{Slot}
 use Rattle.pa_player.specs.Playing.{home_in, len_in}
 use Rattle.pa_player.proofs.Shows.{IsTallyMore, gain}

@@ -28,7 +28,8 @@ use Rattle.pa_rules.specs.Caches.{Caches, IsOfClass}
 use Rattle.pa_rules.specs.Report.{cached_slots, cached_bytes, census_of, phases_of}
 use Rattle.pa_rules.specs.Legal.{phases_in}
 use Rattle.pa_legal.specs.Numbers.{moves_of, at_end}
-use Rattle.pa_legal.specs.Tallies.{issues, frees, enters, leaves, AreHomes, IsLeft}
+use Rattle.pa_machine.specs.Kinds.{issues, frees, enters, leaves}
+use Rattle.pa_legal.specs.Tallies.{AreHomes, IsLeft}
 use Rattle.pa_heap_effects.specs.Deeds.{root_at, IsPlacedTo}
 use Rattle.pa_heap_effects.specs.Pooled.{pool_at, IsPooledTo}
 use Rattle.pa_heap_effects.specs.Onward.{GoesOn}

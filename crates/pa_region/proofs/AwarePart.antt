@@ -1,9 +1,10 @@
 -- What the rule says of one view is true of each part of it that a hand makes.
-use Rattle.std.proofs.Common.{◌≡◌, ℕ, ◌+◌, ◌<◌, ◌≤◌, Bool, true, false, List, [], ◌∷◌, length, refl, sym, ap, subst, arith, ◌⊎◌, inl, inr, eqb}
-use Rattle.std.specs.Prelude.{not, cond}
+use Rattle.std.proofs.Common.{◌≡◌, ℕ, ◌+◌, ◌<◌, ◌≤◌, Bool, true, false, List, [], ◌∷◌, length, refl, sym, ◌∙◌, ap, subst, arith, ◌⊎◌, inl, inr, eqb}
+use Rattle.std.specs.Prelude.{not, cond, if◌then◌else◌}
 use Rattle.std.specs.List.{sum_by, filter}
 use Rattle.std.proofs.lemmas.List.Sums.{sum_by-cons}
 use Rattle.std.proofs.lemmas.Bool.{cases_lt}
+use Rattle.std.proofs.lemmas.Bool.Decides.{eqb_tells}
 use Rattle.pa_machine.specs.declared.title.Title.{Title}
 use Rattle.pa_machine.specs.Count.{number_of}
 use Rattle.pa_machine.specs.Titles.{IsWellFormed, poison}
@@ -15,11 +16,12 @@ use Rattle.pa_region.specs.declared.view.View.{View}
 use Rattle.pa_region.specs.Views.{held_of_view, free_of, own_of, ref_of, stake_of, logged_of, names, uncuts, undone_of, unseen_by, HasTitle, HasEveryStake}
 use Rattle.pa_region.specs.History.{IsChained}
 use Rattle.pa_region.specs.Contents.{content_at_number}
-use Rattle.pa_region.specs.Pairs.{pairs, amount_by}
+use Rattle.pa_region.specs.Pairs.{pairs, amount_by, logged_of_by}
 use Rattle.pa_region.specs.Waiting.{gave_no_poison, quiet_read, IsFreedElsewhere}
 use Rattle.pa_region.specs.AllReads.{HasAllLogs}
 use Rattle.pa_region.specs.Lists.{keeper_of, lease_of, list_of, made_with, entered_in}
 use Rattle.pa_region.specs.Hands.{Parcel, CanHand, left_after, given_after}
+use Rattle.pa_region.specs.Totals.{owes_as, added_as}
 use Rattle.pa_region.specs.Aware.{IsAware}
 use Rattle.pa_region.proofs.Adding.{one_eq}
 use Rattle.pa_region.proofs.Pieces.{frees_have, owns_have, refs_have}
@@ -34,6 +36,7 @@ record IsShareOf (v w : View) : Type 0 where
   logs : (weight : Entry → ℕ) → logged_of w weight ≤ logged_of v weight
   some_stakes : (test : ℕ → Bool) × (w.stakes ≡ filter (λ (s : Stake). test s.number) v.stakes)
   some_keepers : (test : ℕ → Bool) × (w.keepers ≡ filter (λ (q : Keeper). test q.number) v.keepers)
+  covered : (r q : ℕ) → logged_of_by v r (added_as q) ≤ logged_of_by v r (owes_as q) → logged_of_by w r (added_as q) ≤ logged_of_by w r (owes_as q)
   whole : HasEveryStake w → w.stakes ≡ v.stakes
   words : w.words ≡ v.words
   seen : w.seen ≡ v.seen
@@ -86,6 +89,7 @@ share_aware v w h a = record {
   makers = λ k. rw h.lists (a.makers k);
   follows = λ k. rw (h.lists, h.seen) (a.follows k);
   handles = λ t has. rw h.seen (a.handles t (let o = owns t in let r = refs t in omega arith));
+  covered = λ r q. h.covered r q (a.covered r q);
   all_logs = λ every. same_logs v w (h.whole every) h.words (a.all_logs (back every));
   all_seen = λ every t. rw (h.seen, h.whole every) (a.all_seen (back every) t);
 }
@@ -135,6 +139,52 @@ others_none v w u a parts every = no_stakes u.stakes none
           | inr n ↦ elim (cases_lt 0 (stake_of v k)) [ inl z ↦ let s = a.stake_small k z in absurd (omega arith) | inr z ↦ omega arith ]
         ]
 
+-- of the stakes of a number a test of numbers leaves all or none
+filter_by : (test : ℕ → Bool) (amount : List Entry → ℕ) (r : ℕ) (ss : List Stake) →
+    sum_by (amount_by r amount) (filter (λ (s : Stake). test s.number) ss) ≡ (if test r then sum_by (amount_by r amount) ss else 0)
+filter_by test amount r [] = go (test r)
+  where
+    go : (b : Bool) → sum_by (amount_by r amount) [] ≡ (if b then sum_by (amount_by r amount) [] else 0)
+    go true = refl
+    go false = refl
+filter_by test amount r (s ∷ ss) = elim (eqb_tells s.number r) [
+  | inl y ↦ subst (λ (n : ℕ). sum_by (amount_by n amount) (filter (λ (x : Stake). test x.number) (s ∷ ss)) ≡ (if test n then sum_by (amount_by n amount) (s ∷ ss) else 0)) y.1
+      (here (test s.number)
+      (subst (λ (n : ℕ). sum_by (amount_by n amount) (filter (λ (x : Stake). test x.number) ss) ≡ (if test n then sum_by (amount_by n amount) ss else 0)) (sym y.1)
+      (filter_by test amount r ss)))
+  | inr n ↦
+      let zero : amount_by r amount s ≡ 0 = rw n.0 refl in
+      let rest : sum_by (amount_by r amount) (s ∷ ss) ≡ sum_by (amount_by r amount) ss = let c = sum_by-cons (amount_by r amount) s ss in omega arith in
+      left_out (test s.number) zero ∙ (filter_by test amount r ss ∙ ap (λ (n : ℕ). if test r then n else 0) (sym rest))
+]
+  where
+    here : (b : Bool) →
+        sum_by (amount_by s.number amount) (filter (λ (x : Stake). test x.number) ss) ≡ (if b then sum_by (amount_by s.number amount) ss else 0) →
+        sum_by (amount_by s.number amount) (cond b (s ∷ filter (λ (x : Stake). test x.number) ss) (filter (λ (x : Stake). test x.number) ss))
+        ≡ (if b then sum_by (amount_by s.number amount) (s ∷ ss) else 0)
+    here true e =
+        let f = sum_by-cons (amount_by s.number amount) s (filter (λ (x : Stake). test x.number) ss) in
+        let g = sum_by-cons (amount_by s.number amount) s ss in
+        omega arith
+    here false e = e
+
+    left_out : (b : Bool) → amount_by r amount s ≡ 0 →
+        sum_by (amount_by r amount) (cond b (s ∷ filter (λ (x : Stake). test x.number) ss) (filter (λ (x : Stake). test x.number) ss))
+        ≡ sum_by (amount_by r amount) (filter (λ (x : Stake). test x.number) ss)
+    left_out true z = let f = sum_by-cons (amount_by r amount) s (filter (λ (x : Stake). test x.number) ss) in omega arith
+    left_out false z = refl
+
+-- so no stake's log of the rest added more than it owes
+part_covered : (test : ℕ → Bool) (ss : List Stake) (r q : ℕ) →
+    sum_by (amount_by r (sum_by (added_as q))) ss ≤ sum_by (amount_by r (sum_by (owes_as q))) ss →
+    sum_by (amount_by r (sum_by (added_as q))) (filter (λ (s : Stake). test s.number) ss)
+    ≤ sum_by (amount_by r (sum_by (owes_as q))) (filter (λ (s : Stake). test s.number) ss)
+part_covered test ss r q less = rw (filter_by test (sum_by (added_as q)) r ss, filter_by test (sum_by (owes_as q)) r ss) (go (test r))
+  where
+    go : (b : Bool) → (if b then sum_by (amount_by r (sum_by (added_as q))) ss else 0) ≤ (if b then sum_by (amount_by r (sum_by (owes_as q))) ss else 0)
+    go true = less
+    go false = omega arith
+
 not_twice : (b : Bool) → b ≡ not (not b)
 not_twice true = refl
 not_twice false = refl
@@ -151,6 +201,7 @@ left_aware p v can a =
       logs = λ weight. let e = parts.logs weight in omega arith;
       some_stakes = ((λ k. not (p.stakes k)), refl);
       some_keepers = ((λ k. not (p.keepers k)), refl);
+      covered = λ r q. part_covered (λ k. not (p.stakes k)) v.stakes r q;
       whole = λ every. filter_all (λ (s : Stake). not (p.stakes s.number)) (λ (s : Stake). p.stakes s.number) v.stakes (λ s. not_twice (p.stakes s.number))
           (others_none v (left_after p v) (given_after p v) a (λ k. parts.stakes k) every);
       words = refl;
@@ -171,6 +222,7 @@ given_aware p v can a =
       logs = λ weight. let e = parts.logs weight in omega arith;
       some_stakes = (p.stakes, refl);
       some_keepers = (p.keepers, refl);
+      covered = λ r q. part_covered p.stakes v.stakes r q;
       whole = λ every. filter_all (λ (s : Stake). p.stakes s.number) (λ (s : Stake). not (p.stakes s.number)) v.stakes (λ s. refl)
           (others_none v (given_after p v) (left_after p v) a (λ k. let e = parts.stakes k in omega arith) every);
       words = refl;

@@ -39,6 +39,7 @@ use Rattle.pa_region.proofs.ListFacts.{each_map, each_both, each_left}
 use Rattle.pa_region.proofs.JoinLists.{longer_is, among_beginning, beginnings_order}
 use Rattle.pa_region.proofs.Shown.{put_there}
 use Rattle.pa_region.proofs.Ends.{all_logs, knows_logs}
+use Rattle.pa_region.proofs.OneLog.{covered_of}
 
 -- one note more makes what is seen of a list no shorter
 among_more : (k : ℕ) (n : SeenList) (ns : List SeenList) → length (list_among k ns) ≤ length (list_among k (n ∷ ns))
@@ -119,6 +120,7 @@ aware_of words views i v k at_i = record {
   makers = λ q. each_left (λ m. m.stake < 16) (list_of q v) (begins q).0 (subst (λ (ms : List Made). Each (λ m. m.stake < 16) ms) (begins q).1 (k.lists.makers q));
   follows = (k.lists.each_view i v at_i).follows;
   handles = (k.lists.each_view i v at_i).handles;
+  covered = λ r q. covered_of views i v at_i (k.logs.each_stake) r q k.totals.covered;
   all_logs = knows_logs words views i v k at_i;
   all_seen = λ every t.
       let within = seen_within views i v (logged_in views) (unseen_in views) at_i k.seen t in

@@ -44,6 +44,7 @@ use Rattle.pa_region.proofs.ReadsCount.{reads_count}
 use Rattle.pa_region.proofs.CountEvent.{count_event, count_content}
 use Rattle.pa_region.proofs.CountValues.{count_values}
 use Rattle.pa_region.proofs.CountLists.{count_lists}
+use Rattle.pa_region.proofs.TotalsPart.{bytes_stay, totals_other, owes_few}
 
 -- the step over all views
 count_step_of : (step : Step) (t : Title) (words : List ℕ) (views : List View) (i : ℕ) (v : View) → IsKept words views → get_elem? views i ≡ some v → CanCount step t v →
@@ -175,6 +176,10 @@ count_keeps step t words views i v k at_i can =
           (happens_good (CountEvent i t step) (shown words views) (shown (set words (count_place t) (stepped step word)) (set views i w)) k.holders.good event.0 event.1)
           (rw at_place (count_values step t words views i v k at_i can)) at_place;
       undone = undone_set views i v w at_i (moved_uncut step t word v) (λ u. let m = more (uncuts u) in omega arith) k.undone;
+      totals = totals_other words (set words (count_place t) (stepped step word)) views i v w (entry_of step t word v) at_i
+          (rw (moved_stakes step t word v) refl) can.1 k.totals
+          (bytes_stay words (count_place t) (stepped step word) (place_below words views t k held)) more (λ n. refl) (λ q. refl)
+          (owes_few words t step word (value_of step t v) (k.holders.good.divided.well t held) k.totals.small);
     }
   where
     fresh : (n a : ℕ) → n ≤ a → one (ltb a n) ≡ 0

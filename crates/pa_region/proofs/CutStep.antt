@@ -36,6 +36,7 @@ use Rattle.pa_region.proofs.Entering.{logged_grows}
 use Rattle.pa_region.proofs.Stays.{low_held, stakes_set, undone_set}
 use Rattle.pa_region.proofs.Parting.{raws_part}
 use Rattle.pa_region.proofs.Cutting.{outside_none, inside_none, titled_low, low_more, counted_names, uncut_names}
+use Rattle.pa_region.proofs.TotalsPart.{words_stay, totals_stay}
 
 -- each byte of the title is raw in the view, once
 cut_raw : (t : Title) (words : List ℕ) (views : List View) (i : ℕ) (v : View) (b : ℕ) → IsKept words views → get_elem? views i ≡ some v → CanCut t v → Covers t b →
@@ -196,6 +197,7 @@ cut_keeps t words views i v k at_i can zero =
           (let c = sum_set unseen_of views i v w at_i in omega arith);
       lists = lists_grown k.list views i v w at_i k.lists (record { keepers = refl; leases = refl; lists = refl; stakes = inl refl; seen = λ u. omega arith; handles = λ u has. inl has }) free_seen;
       undone = undone_set views i v w at_i refl (λ u. let l = logs (uncuts u) in omega arith) k.undone;
+      totals = totals_stay words words views i v w at_i refl k.totals (words_stay words);
     }
   where
     changes : Changes (total_of (shown words views)) (RawPiece t.start t.len ∷ []) (FreePiece t ∷ []) (total_of (shown words (set views i (titled t v))))

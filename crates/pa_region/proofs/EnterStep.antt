@@ -29,6 +29,7 @@ use Rattle.pa_region.proofs.Shown.{map_same}
 use Rattle.pa_region.proofs.Stays.{low_set, stakes_set, undone_set}
 use Rattle.pa_region.proofs.EntryReads.{entry_reads}
 use Rattle.pa_region.proofs.SeatStakes.{SameStakes}
+use Rattle.pa_region.proofs.TotalsPart.{words_stay, totals_other}
 use Rattle.pa_region.proofs.EnterLists.{list_with, enter_lists}
 
 -- the core that is shown stays
@@ -80,6 +81,7 @@ enter_keeps k numbers words views i v r at_i can =
           (let c = sum_set unseen_of views i v w at_i in let d = logged (unseen_by v.seen) in omega arith);
       lists = enter_lists r.list k numbers views i v at_i can once r.lists;
       undone = undone_set views i v w at_i refl (λ u. let m = more (uncuts u) in omega arith) r.undone;
+      totals = totals_other words words views i v w e at_i refl stake r.totals (words_stay words) more (λ n. refl) (λ q. refl) (λ q. omega arith);
     }
   where
     once : (n : ℕ) → stakes_in views n ≤ 1

@@ -1,8 +1,11 @@
+pub mod AddCalls
+pub mod AddStep
 pub mod Adding
 pub mod Allowed
 pub mod AtNumber
 pub mod AwarePart
 pub mod Awareness
+pub mod ByNumber
 pub mod Bytes
 pub mod Closing
 pub mod CountEvent
@@ -70,6 +73,7 @@ pub mod Stays
 pub mod StoreStep
 pub mod TakeLaws
 pub mod ValuePart
+pub mod TotalsPart
 pub mod UncutStep
 pub mod Waitings
 pub mod WholeReads

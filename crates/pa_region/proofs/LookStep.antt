@@ -38,6 +38,7 @@ use Rattle.pa_region.proofs.Stays.{low_set, stakes_set, undone_set, low_raw}
 use Rattle.pa_region.proofs.ReadsSame.{reads_look}
 use Rattle.pa_region.proofs.ValuePart.{values_same}
 use Rattle.pa_region.proofs.CountLists.{look_lists}
+use Rattle.pa_region.proofs.TotalsPart.{words_stay, totals_other}
 
 -- and no piece
 look_piece : (word : ℕ) (o : OwnTitle) → own_piece (idle_if word o) ≡ own_piece o
@@ -158,6 +159,7 @@ look_keeps t words views i v k at_i mine has =
           k.seen;
       lists = look_lists t word words views i v k at_i;
       undone = undone_set views i v w at_i refl (λ u. let m = more (uncuts u) in omega arith) k.undone;
+      totals = totals_other words words views i v w (Looked t word) at_i refl has k.totals (words_stay words) more (λ n. refl) (λ q. refl) (λ q. omega arith);
     }
   where
     fresh : (n a : ℕ) → n ≤ a → one (ltb a n) ≡ 0

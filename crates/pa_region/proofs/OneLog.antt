@@ -1,5 +1,5 @@
 -- All logs of a view's least stake are the one that it has.
-use Rattle.std.proofs.Common.{◌≡◌, ℕ, suc, ◌<◌, List, [], ◌∷◌, refl, ◌∙◌, ap, arith, inl, inr, eqb}
+use Rattle.std.proofs.Common.{◌≡◌, ℕ, suc, ◌<◌, ◌≤◌, List, [], ◌∷◌, refl, ◌∙◌, ap, arith, inl, inr, eqb, ltb}
 use Rattle.std.specs.List.{sum_by}
 use Rattle.std.proofs.lemmas.List.Sums.{sum_by-cons}
 use Rattle.std.proofs.lemmas.Bool.{cases_lt}
@@ -12,7 +12,8 @@ use Rattle.pa_region.specs.declared.view.Stake.{Stake}
 use Rattle.pa_region.specs.declared.view.View.{View}
 use Rattle.pa_region.specs.Views.{stake_of, stakes_in, least_stake, HasStake}
 use Rattle.pa_region.specs.Pairs.{amount_by, log_among, least_log, logged_of_by, logged_by}
-use Rattle.pa_region.proofs.Adding.{sum_alone, sum_pair, sum_part}
+use Rattle.pa_region.specs.Totals.{owes_as, added_as}
+use Rattle.pa_region.proofs.Adding.{sum_alone, sum_pair, sum_part, one_lt}
 use Rattle.pa_region.proofs.Entering.{least_there}
 use Rattle.pa_region.proofs.PairSums.{by_none}
 
@@ -57,6 +58,30 @@ stake_alone views i j v u at_i at_j ne has once =
     let there = least_there v.stakes has in
     let pair = sum_pair (λ w. stake_of w (least_stake v.stakes)) views i j v u at_i at_j ne in
     omega arith
+
+-- where a view has the only stake of a number, all logs of the number are in it
+pub number_log : (weight : Entry → ℕ) (views : List View) (i : ℕ) (v : View) (r : ℕ) → get_elem? views i ≡ some v → stakes_in views r ≤ 1 → 0 < stake_of v r →
+    logged_by views r weight ≡ logged_of_by v r weight
+number_log weight views i v r at_i once has =
+    sum_alone (λ u. logged_of_by u r weight) views i v at_i
+    (λ j u at_j ne. by_none (sum_by weight) r u.stakes (let pair = sum_pair (λ w. stake_of w r) views i j v u at_i at_j ne in omega arith))
+
+-- what no log of a number passes, no log of the view's stakes of it does
+pub covered_of : (views : List View) (i : ℕ) (v : View) → get_elem? views i ≡ some v → ((k : ℕ) → stakes_in views k ≡ one (ltb k 16)) → (r q : ℕ) →
+    ((n p : ℕ) → logged_by views n (added_as p) ≤ logged_by views n (owes_as p)) → logged_of_by v r (added_as q) ≤ logged_of_by v r (owes_as q)
+covered_of views i v at_i each r q covered = elim (cases_lt 0 (stake_of v r)) [
+  | inl y ↦
+      let a = number_log (added_as q) views i v r at_i once y in
+      let b = number_log (owes_as q) views i v r at_i once y in
+      let c = covered r q in
+      omega arith
+  | inr n ↦
+      let a = by_none (sum_by (added_as q)) r v.stakes (omega arith) in
+      omega arith
+]
+  where
+    once : stakes_in views r ≤ 1
+    once = let e = each r in elim (one_lt r 16) [ inl y ↦ let z = y.0 in omega arith | inr m ↦ let z = m.0 in omega arith ]
 
 -- so all its logs are in the view
 pub own_log : (weight : Entry → ℕ) (views : List View) (i : ℕ) (v : View) → get_elem? views i ≡ some v → HasStake v → stakes_in views (least_stake v.stakes) ≡ 1 →

@@ -1,6 +1,7 @@
 -- The table that a region is opened with meets the rule.
 use Rattle.std.proofs.Common.{◌≡◌, ℕ, zero, suc, ◌+◌, ◌-◌, ◌*◌, ◌<◌, ◌≤◌, true, List, [], ◌∷◌, length, take, replicate, refl, sym, ◌∙◌, ap, subst, arith, inl, inr}
 use Rattle.std.specs.Prelude.{slice_index}
+use Rattle.std.specs.List.{sum_by}
 use Rattle.std.proofs.lemmas.Bool.{cases_lt}
 use Rattle.std.proofs.lemmas.List.{length-take-le, length-replicate}
 use mathlib.Core.Option.{some, some-injective, some-ne-none}
@@ -14,7 +15,11 @@ use Rattle.pa_machine.specs.Events.{total_of}
 use Rattle.pa_machine.proofs.Totals.{tally_of}
 use Rattle.pa_machine.proofs.Cutting.{covered_raw, uncovered_raw}
 use Rattle.pa_region.specs.declared.view.View.{View}
-use Rattle.pa_region.specs.Views.{held_of_view, byte_words, shown}
+use Rattle.pa_region.specs.declared.view.Entry.{Entry}
+use Rattle.pa_region.specs.declared.view.Stake.{Stake}
+use Rattle.pa_region.specs.Views.{held_of_view, byte_words, shown, logged_in}
+use Rattle.pa_region.specs.Pairs.{amount_by, logged_by}
+use Rattle.pa_region.specs.Totals.{owes_as, added_as, added_to, total_place}
 use Rattle.pa_region.specs.Rule.{IsKept}
 use Rattle.pa_region.specs.Shares.{IsSeatSound, byte_word_count}
 use Rattle.pa_region.specs.Aware.{IsAware}
@@ -22,7 +27,7 @@ use Rattle.pa_region.proofs.Awareness.{aware_of}
 use Rattle.pa_region.specs.Marks.{AreStakes}
 use Rattle.pa_region.specs.Start.{blank, first_view}
 use Rattle.pa_region.proofs.Adding.{one_lt}
-use Rattle.pa_region.proofs.ReadsFirst.{reads_first}
+use Rattle.pa_region.proofs.ReadsFirst.{first_all, no_amount, reads_first}
 use Rattle.pa_region.proofs.SeatStakes.{first_stakes}
 use Rattle.pa_region.proofs.FirstLists.{blank_at, stake_count, first_lists}
 
@@ -45,6 +50,12 @@ zero_at (suc n) zero i = refl
 zero_at (suc n) (suc m) zero = refl
 zero_at (suc n) (suc m) (suc i) = zero_at n m i
 
+-- so of all of them
+zero_of : (m i : ℕ) → slice_index (zeros m) i ≡ 0
+zero_of zero i = refl
+zero_of (suc m) zero = refl
+zero_of (suc m) (suc i) = zero_of m i
+
 -- as many as the region has
 pub blank_long : (n : ℕ) → length (blank n) ≡ n
 unfolding blank
@@ -52,8 +63,8 @@ blank_long zero = refl
 blank_long (suc n) = ap suc (blank_long n)
 
 -- the rule holds at the start, if the words are 0
-pub opens : (words budget : ℕ) → budget ≤ 65536 → IsKept (replicate (words + 16) 0) (first_view words budget ∷ [])
-opens words budget few = record {
+pub opens : (words budget : ℕ) → words ≤ 4194304 → budget ≤ 65536 → IsKept (replicate (words + 16) 0) (first_view words budget ∷ [])
+opens words budget enough few = record {
   history = λ t. [];
   list = λ k. [];
   holders = record {
@@ -113,6 +124,13 @@ opens words budget few = record {
   };
   lists = first_lists words budget;
   undone = λ t. omega arith;
+  totals = record {
+    wide = let l = all_long in omega arith;
+    small = let l = all_long in omega arith;
+    sums = λ k small. zero_of (words + 16) (total_place all_words k) ∙ sym (none (added_to k));
+    covered = λ r q. let a = none_by r (added_as q) in omega arith;
+    bounded = λ q. let a = none (owes_as q) in omega arith;
+  };
 }
   where
     all_words : List ℕ
@@ -120,6 +138,15 @@ opens words budget few = record {
 
     views : List View
     views = first_view words budget ∷ []
+
+    all_long : length all_words ≡ words + 16
+    all_long = length-replicate (words + 16) 0
+
+    none : (weight : Entry → ℕ) → logged_in views weight ≡ 0
+    none weight = first_all (λ (s : Stake). sum_by weight s.log) words budget (λ n. refl)
+
+    none_by : (r : ℕ) (weight : Entry → ℕ) → logged_by views r weight ≡ 0
+    none_by r weight = first_all (amount_by r (sum_by weight)) words budget (λ n. no_amount r n (sum_by weight) refl)
 
     long : length (byte_words all_words) ≡ words
     long = let a : length all_words ≡ words + 16 = length-replicate (words + 16) 0 in
@@ -148,9 +175,9 @@ first_sound region words budget e small = record {
 }
 
 -- the same, with the words as the code makes them
-pub opens_with : (supers budget : ℕ) (words : List ℕ) → budget ≤ 65536 → words ≡ replicate (supers * 262144 + 16) 0 →
+pub opens_with : (supers budget : ℕ) (words : List ℕ) → supers ≤ 16 → budget ≤ 65536 → words ≡ replicate (supers * 262144 + 16) 0 →
     IsKept words (first_view (supers * 262144) budget ∷ [])
-opens_with supers budget words few z = rw z (opens (supers * 262144) budget few)
+opens_with supers budget words few enough z = rw z (opens (supers * 262144) budget (omega arith) enough)
 
 -- what the first seat's type keeps
 pub first_keeps : (supers budget : ℕ) (words : List ℕ) (table region : TableId) (me : Me (Unit {0}) View) → supers ≤ 16 → budget ≤ 65536 →
@@ -164,5 +191,5 @@ first_keeps supers budget words table region me few enough z long same is_first 
       subst (λ (v : View). IsSeatSound region v) (sym view) (first_sound region (supers * 262144) budget (omega arith) (omega arith)),
       subst (λ (v : View). AreStakes (replicate 16 true) v) (sym view) (first_stakes (supers * 262144) budget),
       subst (λ (v : View). IsAware v) (sym view)
-          (aware_of words (first_view (supers * 262144) budget ∷ []) 0 (first_view (supers * 262144) budget) (opens_with supers budget words enough z) refl),
+          (aware_of words (first_view (supers * 262144) budget ∷ []) 0 (first_view (supers * 262144) budget) (opens_with supers budget words few enough z) refl),
     )

@@ -110,7 +110,7 @@ by_same amount views i v w at_i stakes =
     omega arith
 
 -- the amount by one number is within that of all
-by_within : (r : ℕ) (amount : List Entry → ℕ) (s : Stake) → amount_by r amount s ≤ amount s.log
+pub by_within : (r : ℕ) (amount : List Entry → ℕ) (s : Stake) → amount_by r amount s ≤ amount s.log
 by_within r amount s = go (eqb s.number r)
   where
     go : (b : Bool) → (if b then amount s.log else 0) ≤ amount s.log

@@ -39,6 +39,7 @@ use Rattle.pa_region.proofs.ReadsSame.{each_set, none_more, stake_noted}
 use Rattle.pa_region.proofs.ReadsCount.{last_within}
 use Rattle.pa_region.proofs.OneLog.{own_log}
 use Rattle.pa_region.proofs.ReadStep.{user_in_all, word_read}
+use Rattle.pa_region.proofs.TotalsPart.{words_stay, totals_other}
 
 -- the entry of a read that gave the value of its word
 abbrev pub read_entry : Title → ℕ → ℕ → View → Entry
@@ -176,4 +177,5 @@ read_keeps words views i v t place k at_i has stake below =
         handles = λ u has. inl has;
       }) (k.lists.free_seen i v at_i);
       undone = undone_set views i v w at_i refl (λ u. let m = more (uncuts u) in omega arith) k.undone;
+      totals = totals_other words words views i v w e at_i refl stake k.totals (words_stay words) more (λ n. refl) (λ q. refl) (λ q. omega arith);
     }

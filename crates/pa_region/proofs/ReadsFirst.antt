@@ -28,14 +28,14 @@ first_sum amount from (suc count) none =
     omega (arith, sum_by-cons amount (record { number = from; log = [] }) (stakes_from (suc from) count))
 
 -- over all views
-first_all : (amount : Stake → ℕ) (words budget : ℕ) → ((n : ℕ) → amount (record { number = n; log = [] }) ≡ 0) →
+pub first_all : (amount : Stake → ℕ) (words budget : ℕ) → ((n : ℕ) → amount (record { number = n; log = [] }) ≡ 0) →
     sum_by (λ (v : View). sum_by amount v.stakes) (first_view words budget ∷ []) ≡ 0
 first_all amount words budget none =
     let z = first_sum amount 0 16 none in
     omega (arith, sum_by-cons (λ (v : View). sum_by amount v.stakes) (first_view words budget) [])
 
 -- an amount of no entry
-no_amount : (r n : ℕ) (amount : List Entry → ℕ) → amount [] ≡ 0 → amount_by r amount (record { number = n; log = [] }) ≡ 0
+pub no_amount : (r n : ℕ) (amount : List Entry → ℕ) → amount [] ≡ 0 → amount_by r amount (record { number = n; log = [] }) ≡ 0
 no_amount r n amount none = elim (cases_Bool (eqb n r)) [ inl y ↦ rw y none | inr m ↦ rw m refl ]
 
 -- so there is no read

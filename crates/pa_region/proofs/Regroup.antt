@@ -30,6 +30,7 @@ use Rattle.pa_region.proofs.HolderPart.{holders_same}
 use Rattle.pa_region.proofs.NamePart.{named_same}
 use Rattle.pa_region.proofs.SeenPart.{logged_mono}
 use Rattle.pa_region.proofs.SeenJoin.{seen_left, seen_right, unseen_grown}
+use Rattle.pa_region.proofs.TotalsPart.{totals_same}
 
 -- the same is had, by all views together; that no Ref is left may be forgotten
 pub record IsRegrouped (before after : List View) : Type 0 where
@@ -102,6 +103,7 @@ kept_regrouped words before after k g values listed free readers =
         free_seen = free;
       };
       undone = λ t. let a = g.undone t in let b = g.logs (uncuts t) in let c = k.undone t in omega arith;
+      totals = totals_same words before after g.logs g.logs_by k.totals;
     }
 
 -- how many times a view that doesn't have stake k has the title's Own poisoned

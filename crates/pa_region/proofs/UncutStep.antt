@@ -41,6 +41,7 @@ use Rattle.pa_region.proofs.Entering.{noted_logs, noted_stakes, logged_set}
 use Rattle.pa_region.proofs.Idle.{idle_within}
 use Rattle.pa_region.proofs.Stays.{low_raw, stakes_set}
 use Rattle.pa_region.proofs.Parting.{has_byte}
+use Rattle.pa_region.proofs.TotalsPart.{words_stay, totals_other}
 
 -- what an uncut changes of what the view holds
 pub uncut_changes : (t : Title) (v : View) → 0 < free_of v t → Changes (held_of_view v) (FreePiece t ∷ []) (RawPiece t.start t.len ∷ []) (held_of_view (after_uncut t v))
@@ -141,6 +142,7 @@ uncut_keeps t words views i v k at_i can =
           let m = more (uncuts u) in
           let b = k.undone u in
           omega arith;
+      totals = totals_other words words views i v w e at_i refl can.1 k.totals (words_stay words) more (λ n. refl) (λ q. refl) (λ q. omega arith);
     }
   where
     changes : Changes (total_of (shown words views)) (FreePiece t ∷ []) (RawPiece t.start t.len ∷ []) (total_of (shown words (set views i (after_uncut t v))))

@@ -32,6 +32,7 @@ use Rattle.pa_region.proofs.Bytes.{bytes_set, bytes_length, held_in_all}
 use Rattle.pa_region.proofs.ListPart.{IsGrown, lists_grown}
 use Rattle.pa_region.proofs.Stays.{low_set, stakes_set, undone_set}
 use Rattle.pa_region.proofs.ValuePart.{ShownGood, knows_apart, values_step}
+use Rattle.pa_region.proofs.TotalsPart.{bytes_stay, totals_stay}
 
 -- The view v knows the word p, which is no held title's count word, and becomes w: it knows the value x there, and holds
 -- the same but for the states of its Owns: what was poisoned stays so, and only with a stake is one unclean.
@@ -127,6 +128,7 @@ write_keeps words views i v w p x k at_i h good content =
           let n : number_of (count_word w.words t) ≡ number_of (count_word v.words t) = ap number_of same in
           omega arith);
       undone = undone_set views i v w at_i h.uncut (λ u. let l = logs (uncuts u) in omega arith) k.undone;
+      totals = totals_stay words (set words p x) views i v w at_i h.stakes k.totals (bytes_stay words p x h.below);
     }
   where
     back : (t : Title) → IsTitleHeld (total_of (shown (set words p x) (set views i w))) t → IsTitleHeld (total_of (shown words views)) t

@@ -8,13 +8,16 @@ use Rattle.pa_machine.specs.Holdings.{RawByte}
 use Rattle.pa_region.specs.declared.view.View.{View}
 use Rattle.pa_region.specs.Views.{held_of_view, free_of, own_of, ref_of, uncut_of, undone_of, stake_of, seen_of, unseen_of, logged_of, counted_on, HasTitle, HasEveryStake}
 use Rattle.pa_region.specs.Lists.{keeper_of, lease_of, list_of, made_with, entered_in, IsBeginning, IsKnownTo, Rises, HasSeenHandles}
+use Rattle.pa_region.specs.Pairs.{logged_of_by}
 use Rattle.pa_region.specs.AllReads.{HasAllLogs}
+use Rattle.pa_region.specs.Totals.{added_as, owes_as}
 
 -- The view has each thing, stake, keeper and lease at most once. A free title isn't used besides, its titles share no byte, and
 -- none is raw or was uncut, by its logs or its own list. It has seen what its own logs say, the number of each title it holds
 -- free, and the issue of each title that it has a handle of.
 -- Each note of a keeper's list is a beginning of what it has seen of the list, and its own keepers' lists are all of it. What
 -- its stakes made there is what their logs entered; makers had stakes; what they had seen rises, and the view has seen it too.
+-- By its logs no stake added more bytes to the totals words of a kind than its steps of that kind weigh.
 -- And if it has every stake, its logs are all logs, and it has seen no more than they say.
 pub record IsAware (v : View) : Type 0 where
   pub raw_once : (b : ℕ) → held_of_view v (RawByte b) ≤ 1
@@ -38,5 +41,6 @@ pub record IsAware (v : View) : Type 0 where
   pub makers : (k : ℕ) → Each (λ m. m.stake < 16) (list_of k v)
   pub follows : (k : ℕ) → Each (λ m. IsKnownTo v.seen m) (list_of k v)
   pub handles : HasSeenHandles v
+  pub covered : (r q : ℕ) → logged_of_by v r (added_as q) ≤ logged_of_by v r (owes_as q)
   pub all_logs : HasEveryStake v → HasAllLogs v
   pub all_seen : HasEveryStake v → (t : Title) → seen_of v t ≤ logged_of v (counted_on t)

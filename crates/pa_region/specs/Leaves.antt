@@ -11,7 +11,7 @@ use Rattle.pa_machine.specs.Titles.{same_title, content_place, count_word, count
 use Rattle.pa_machine.specs.Holdings.{one}
 use Rattle.pa_region.specs.declared.view.OwnTitle.{OwnTitle}
 use Rattle.pa_region.specs.declared.view.Entry.{Entry}
-use Rattle.pa_region.specs.declared.view.Entry.TheVariants.{Counted, Looked, Entered}
+use Rattle.pa_region.specs.declared.view.Entry.TheVariants.{Counted, Looked, Added, Entered}
 use Rattle.pa_region.specs.declared.view.View.{View}
 use Rattle.pa_region.specs.Views.{free_of, own_of, own_as, ref_of, idle_of, stake_of, seen_of, logged_of, least_stake, HasStake}
 use Rattle.pa_region.specs.Moves.{HasHandle, CanCount, is_back, is_own_of, changed, filled_with, noted, value_of, after_count, after_look}
@@ -22,6 +22,7 @@ use Rattle.pa_region.specs.Entries.{new_entry, CanEnter, after_enter}
 use Rattle.pa_region.specs.Shares.{Share, IsStepMade}
 use Rattle.pa_region.specs.Start.{blank}
 use Rattle.pa_region.specs.Takes.{log_of}
+use Rattle.pa_region.specs.Totals.{after_add, CanAdd}
 
 -- How an entry changes logs: the least stake's log has it at its end, the others are as before, and so are the stakes.
 pub record LeavesEntry (e : Entry) (v w : View) : Type 0 where
@@ -133,6 +134,10 @@ pub record LeavesEnter (k : ℕ) (numbers : List ℕ) (v w : View) : Type 0 wher
 
 abbrev pub EnterLeaves : Type 0
 EnterLeaves = (k : ℕ) (numbers : List ℕ) (v : View) → CanEnter k v → LeavesEnter k numbers v (after_enter k numbers v)
+
+-- an addition to a totals word leaves one entry in the least stake's log, and all else but what was done since
+abbrev pub AddLeaves : Type 0
+AddLeaves = (k bytes : ℕ) (v : View) → CanAdd k bytes v → LeavesEntry (Added k bytes) v (after_add k bytes v)
 
 -- an Own in some state is an Own
 abbrev pub StatesAreOwns : Type 0

@@ -22,5 +22,6 @@ pub mod Start
 pub mod Stores
 pub mod Takes
 pub mod Tells
+pub mod Totals
 pub mod Views
 pub mod Waiting

@@ -16,7 +16,9 @@ use Rattle.pa_region.specs.Views.{byte_words, shown, Knows, idle_in, budget_in, 
 use Rattle.pa_region.specs.Waiting.{Reads}
 use Rattle.pa_region.specs.History.{Done, reached, content_of, IsChained}
 use Rattle.pa_region.specs.Waiting.{Reads}
+use Rattle.pa_region.specs.Pairs.{logged_by}
 use Rattle.pa_region.specs.Lists.{Lists}
+use Rattle.pa_region.specs.Totals.{Totals}
 
 -- The first part: the core that is shown is good. If a view knows that a title has no Ref
 -- left, its count is 0. The steps that may still be made and those that were made are at most 65,536, also with
@@ -61,7 +63,7 @@ pub record Seen (logs : (Entry → ℕ) → ℕ) (ahead : Title → ℕ → ℕ)
   pub numbers : (t : Title) → ahead t (logs (counted_on t)) ≡ 0
   pub own_logs : unseen ≡ 0
 
--- The rule, in five parts, each over what it reads. Each title has a history, and each keeper a list. The third part also
+-- The rule, in six parts, each over what it reads. Each title has a history, and each keeper a list. The third part also
 -- says that the content of each clean Own is that of its title's history, and the rest of an Own that is being poisoned
 -- while there are Refs; and what reads gave. And what a view's own list says was uncut, some log says too.
 pub record IsKept (words : List ℕ) (views : List View) : Type 0 where
@@ -77,3 +79,4 @@ pub record IsKept (words : List ℕ) (views : List View) : Type 0 where
   pub seen : Seen (logged_in views) (ahead_in views) (unseen_in views)
   pub lists : Lists list views
   pub undone : (t : Title) → undone_in views t ≤ uncut_in views t
+  pub totals : Totals words (logged_in views) (logged_by views)

@@ -1,5 +1,5 @@
 -- What the rule says, for any number of seats.
-use Rattle.std.specs.Prelude.{◌≡◌, ℕ, ◌+◌, ◌/◌, ◌%◌, ◌<◌, ◌≤◌, List, [], ◌∷◌, ◌++◌, slice_set, length, replicate}
+use Rattle.std.specs.Prelude.{◌≡◌, ℕ, ◌+◌, ◌/◌, ◌%◌, ◌<◌, ◌≤◌, List, [], ◌∷◌, ◌++◌, slice_index, slice_set, length, replicate}
 use mathlib.Core.Option.{some}
 use lib.ListN.{get_elem?}
 use Rattle.pa_machine.specs.declared.title.Title.{Title}
@@ -22,6 +22,7 @@ use Rattle.pa_region.specs.Hands.{Parcel, CanHand, CanTake, IsParted, left_after
 use Rattle.pa_region.specs.Shares.{IsUser, count_offset}
 use Rattle.pa_region.specs.Loads.{after_read, content_offset, IsPlain}
 use Rattle.pa_region.specs.Start.{first_view}
+use Rattle.pa_region.specs.Totals.{owes_as, added_as, total_place, after_add, CanAdd}
 
 -- the word that is shown for a title
 abbrev pub word_shown : List ℕ → Title → ℕ
@@ -96,10 +97,10 @@ ReadKeeps =
     (slice_set views i (after_read t place (content_at (byte_words words) t place) v)) ×
     IsKept words (slice_set views i (after_read t place (content_at (byte_words words) t place) v))
 
--- the rule holds for a new region's words, which are 0, and the first seat's view
+-- the rule holds for a new region's words, which are 0 and at most 4,194,304 beside the totals words, and the first seat's view
 abbrev pub StartKeeps : Type 0
 StartKeeps =
-    (words budget : ℕ) → budget ≤ 65536 → IsKept (replicate (words + 16) 0) (first_view words budget ∷ [])
+    (words budget : ℕ) → words ≤ 4194304 → budget ≤ 65536 → IsKept (replicate (words + 16) 0) (first_view words budget ∷ [])
 
 -- under the rule the core that is shown is good
 abbrev pub ShowsGood : Type 0
@@ -138,6 +139,24 @@ EnterKeeps =
     (k : ℕ) (numbers : List ℕ) (words : List ℕ) (views : List View) (i : ℕ) (v : View) → IsKept words views → get_elem? views i ≡ some v →
     CanEnter k v →
     IsKept words (slice_set views i (after_enter k numbers v))
+
+-- An addition to a totals word by any one seat whose stake owes as much keeps it. The word is then the sum, which fits 64
+-- bits, and no other word changes.
+abbrev pub AddKeeps : Type 0
+AddKeeps =
+    (k bytes : ℕ) (words : List ℕ) (views : List View) (i : ℕ) (v : View) → IsKept words views → get_elem? views i ≡ some v →
+    CanAdd k bytes v →
+    (slice_index words (total_place words k) + bytes < 18446744073709551616) ×
+    IsKept (slice_set words (total_place words k) (slice_index words (total_place words k) + bytes)) (slice_set views i (after_add k bytes v))
+
+-- Under the rule the four totals words of a kind are together what all logs added to words of that kind, which isn't above the
+-- bytes of the steps of that kind in all logs.
+abbrev pub KindsAreOwed : Type 0
+KindsAreOwed =
+    (words : List ℕ) (views : List View) (q : ℕ) → IsKept words views → q < 4 →
+    (slice_index words (total_place words q) + slice_index words (total_place words (4 + q))
+    + slice_index words (total_place words (8 + q)) + slice_index words (total_place words (12 + q)) ≡ logged_in views (added_as q)) ×
+    (logged_in views (added_as q) ≤ logged_in views (owes_as q))
 
 -- a cut by view number i, of a title with a count word that it knows to be 0, is a cut by the core's actor i, and keeps the
 -- rule; no view has seen a step on the title

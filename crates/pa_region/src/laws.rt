@@ -1,6 +1,6 @@
 //! What the region's rule says for any number of seats, as laws: calls that do nothing, but have proved clauses.
 ghost use Rattle.pa_region.specs.Ends.{UnnamedEndsNew};
-ghost use Rattle.pa_region.specs.Says.{CountKeeps, CountIsEvent, LookKeeps, LookIsLoad, StoreKeeps, PoisonKeeps, PlainIsLoad, ReadKeeps, HandKeeps, JoinKeeps, EnterKeeps, CutKeeps, UncutKeeps, StartKeeps, ShowsGood, FindsEachNumberOnce, UnnamedIsNew, NamedAreOne};
+ghost use Rattle.pa_region.specs.Says.{CountKeeps, CountIsEvent, LookKeeps, LookIsLoad, StoreKeeps, PoisonKeeps, PlainIsLoad, ReadKeeps, HandKeeps, JoinKeeps, EnterKeeps, AddKeeps, KindsAreOwed, CutKeeps, UncutKeeps, StartKeeps, ShowsGood, FindsEachNumberOnce, UnnamedIsNew, NamedAreOne};
 
 /// Each counted step keeps the rule.
 pub fn counted_steps_keep_the_rule()
@@ -65,6 +65,16 @@ pub fn cuts_keep_the_rule()
 /// Each uncut is an enabled event of the core that is shown, and keeps the rule.
 pub fn uncuts_keep_the_rule()
     ensures { UncutKeeps }
+{}
+
+/// Each addition to a totals word keeps the rule, and its sum fits the word.
+pub fn additions_keep_the_rule()
+    ensures { AddKeeps }
+{}
+
+/// Under the rule the totals words of a kind are what was added to them, which isn't above the bytes of the steps of the kind.
+pub fn totals_are_owed()
+    ensures { KindsAreOwed }
 {}
 
 /// A new region meets the rule.

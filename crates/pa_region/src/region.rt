@@ -3,7 +3,7 @@ ghost use Rattle.atomic_table.specs.Seated.{TableId};
 ghost use Rattle.pa_machine.specs.Titles.{IsWellFormed, count_place, content_count, content_place};
 ghost use Rattle.pa_layout.specs.Limits.{most_supers, most_words};
 ghost use Rattle.pa_machine.specs.Holdings.{RawByte};
-ghost use Rattle.pa_region.specs.Views.{held_of_view, HasTitle, HasStake, HasEveryStake, least_stake};
+ghost use Rattle.pa_region.specs.Views.{held_of_view, logged_of, HasTitle, HasStake, HasEveryStake, least_stake};
 ghost use Rattle.pa_region.specs.Moves.{CanCount};
 ghost use Rattle.pa_region.specs.Marks.{AreStakes};
 ghost use Rattle.pa_region.specs.Aware.{IsAware};
@@ -11,11 +11,12 @@ ghost use Rattle.pa_region.specs.Shares.{Share, IsSeatSound, IsStepMade, byte_wo
 ghost use Rattle.pa_region.specs.Loads.{CanLoad, LoadTells};
 ghost use Rattle.pa_region.specs.Stores.{CanStore, after_store, StoreTells, CanPoison, after_poison};
 ghost use Rattle.pa_region.specs.Start.{first_view};
+ghost use Rattle.pa_region.specs.Totals.{added_to, after_add, CanAdd};
 ghost use Rattle.pa_region.specs.Ends.{IsEnd};
 
 use crate::closed::Closed;
 use crate::marks::{Stakes, least};
-use crate::rule::{Opening, Words, add_as, load_as, poison_as, store_as};
+use crate::rule::{Opening, Words, add_as, load_as, poison_as, store_as, total_as};
 use crate::view::View;
 use atomic_table::Table;
 use pa_machine::{OutOfMemory, Step, Title, Word};
@@ -34,7 +35,7 @@ impl Model for Region {
 
     ghost view = { λ r. r.table.shared.table_id };
 
-    ghost invariant = { λ r. (r.table.shared.table_id.slots ≡ 0) × (0 < r.table.shared.table_id.words) };
+    ghost invariant = { λ r. (r.table.shared.table_id.slots ≡ 0) × (16 ≤ r.table.shared.table_id.words) };
 }
 
 /// A share of a region: what its holder has of it and knows of it. It has no bytes of the region. Contracts see
@@ -161,6 +162,31 @@ impl Region {
         let _ = &seat.seat;
         let place = content_index(title, word);
         poison_as::<Brand>(&self.table, &mut seat.seat, place, title, word)
+    }
+
+    /// Adds so many bytes to the totals word of this number, from 0. The seat's least stake owes as much to the words of that
+    /// kind. The sum fits the word.
+    pub fn add_total(&self, seat: &mut Seat, word: u32, bytes: u64)
+        requires region { seat.old.region ≡ self.now }
+        requires able { CanAdd word bytes seat.old.view }
+        ensures region { seat.new.region ≡ seat.old.region }
+        ensures view { seat.new.view ≡ after_add word bytes seat.old.view }
+    {
+        let _ = &seat.seat;
+        let place = self.table.word_count() - 16 + word as usize;
+        total_as::<Brand>(&self.table, &mut seat.seat, place, word, bytes);
+    }
+
+    /// The totals word of this number, from 0, in bytes. Who has every stake knows that it is the sum of what was added to it.
+    pub fn read_total(&self, seat: &mut Seat, word: u32) -> u64
+        requires region { seat.old.region ≡ self.now }
+        requires word { word < 16 }
+        ensures seat { seat.new ≡ seat.old }
+        ensures sum { HasEveryStake seat.old.view → result ≡ logged_of seat.old.view (added_to word) }
+    {
+        let _ = &seat.seat;
+        let place = self.table.word_count() - 16 + word as usize;
+        load_as::<Brand>(&self.table, &mut seat.seat, place, word)
     }
 
     /// The region's words at the end, once all stakes are back in one seat.

@@ -115,6 +115,24 @@ pub fn enter_as<T: Telling>(table: &Words, seat: &mut Seat<(), View>, _keeper: u
     table.shared.load::<Told<T>>(seat, 0);
 }
 
+// One `fetch_add` on the totals word of that number, which is this word of the table.
+pub fn total_as<T: Telling>(
+    table: &Words,
+    seat: &mut Seat<(), View>,
+    place: usize,
+    _word: u32,
+    bytes: u64,
+) -> u64
+    requires region { (seat.old.table_id ≡ table.now.shared.table_id) × (place < table.now.shared.table_id.words) }
+    requires allowed { Allows (λ (s : TableState (Unit {0}) View). IsKept s.words s.views)
+        table.now.shared.table_id.slots seat.old.id seat.old.me place (λ n. (n + bytes) % 2 ^ 64) (T.then seat.old.me) }
+    ensures seat { (seat.new.table_id ≡ seat.old.table_id) × (seat.new.id ≡ seat.old.id) }
+    ensures told { T.then seat.old.me result seat.new.me }
+    ensures aware { IsAware seat.new.me.0 }
+{
+    table.shared.fetch_add::<Told<T>>(seat, place, bytes)
+}
+
 // One store to the word at that offset in bytes.
 pub fn store_as<T: Telling>(
     table: &Words,

@@ -1,5 +1,5 @@
 //! How each step changes a seat's view, as laws: calls that do nothing, but have proved clauses.
-ghost use Rattle.pa_region.specs.Leaves.{EntryLeaves, CountLeaves, ReleaseLeaves, LookLeaves, StoreLeaves, EnterLeaves, StatesAreOwns, OwnsChange, FilledWords, NewWordsAreZero};
+ghost use Rattle.pa_region.specs.Leaves.{EntryLeaves, CountLeaves, ReleaseLeaves, LookLeaves, StoreLeaves, EnterLeaves, AddLeaves, StatesAreOwns, OwnsChange, FilledWords, NewWordsAreZero};
 
 /// An entry is at the end of the least stake's log, and other logs are as before.
 pub fn entries_stand_in_logs()
@@ -29,6 +29,11 @@ pub fn stores_leave()
 /// An entry in a keeper's list is at its end.
 pub fn entries_stand_in_lists()
     ensures { EnterLeaves }
+{}
+
+/// An addition to a totals word leaves one entry in logs.
+pub fn additions_stand_in_logs()
+    ensures { AddLeaves }
 {}
 
 /// An Own in some state is an Own.

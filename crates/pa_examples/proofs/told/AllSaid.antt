@@ -20,7 +20,7 @@ use Rattle.pa_rules.specs.declared.played.Played.{Played}
 use Rattle.pa_rules.specs.Played.{mark_of}
 use Rattle.pa_rules.specs.Registers.{Row}
 use Rattle.pa_rules.specs.Report.{until}
-use Rattle.pa_legal.specs.Tallies.{issues, frees, enters, leaves}
+use Rattle.pa_machine.specs.Kinds.{issues, frees, enters, leaves}
 use Rattle.pa_examples.specs.Worked.{tally, report_line, seen_at, two_threads_trace, two_threads_journal, two_threads_report, two_threads_census}
 use Rattle.pa_examples.proofs.worked.Lists.{each}
 use Rattle.pa_examples.proofs.worked.OneFill.{the_slot}
@@ -274,8 +274,9 @@ pub poison_fits : ReadFits (answers.Value (seen_at 16384 0 0x2000003) poison) 0x
 poison_fits = fits (answers.Value (seen_at 16384 0 0x2000003) poison) 0x2000003 poison 2 refl
     (λ sizes long. subst (λ n. IsTold (λ s. n) (told_record the_read)) (sym long) (refl, (0, 0, false, refl, record { since = no_deeds; unclean = false; pair = refl; quiet = refl; clean = refl; in_use = omega arith })))
     (λ sizes long. held_row sizes long 0x2000003 poison refl) (none_on two_threads_journal 8 refl, λ p c. refl) seen_so
-    (record { knows = knows_one told_first steps_first of_first; own_logs = refl }) (record { knows = knows_one told_second steps_second of_second; own_logs = refl }) (record {
-      until = record { knows = knows_one threads_told steps_last of_last; own_logs = refl };
+    (record { knows = knows_one told_first steps_first of_first; own_logs = refl; adds = λ q. refl })
+    (record { knows = knows_one told_second steps_second of_second; own_logs = refl; adds = λ q. refl }) (record {
+      until = record { knows = knows_one threads_told steps_last of_last; own_logs = refl; adds = λ q. refl };
       first = ap reached (history_here threads_told steps_last of_last);
       others = history_there threads_told steps_last of_last;
     })
@@ -285,8 +286,9 @@ pub content_fits : ReadFits (answers.Value (seen_at 16384 0 0x2000003) 0) 0x2000
 content_fits = fits (answers.Value (seen_at 16384 0 0x2000003) 0) 0x2000003 0 2 refl
     (λ sizes long. subst (λ n. IsTold (λ s. n) (told_record content_read)) (sym long) (refl, (0, 0, false, refl, record { since = no_deeds; unclean = false; pair = refl; quiet = refl; clean = refl; in_use = omega arith })))
     (λ sizes long. held_row sizes long 0x2000003 0 refl) (none_on two_threads_journal 8 refl, λ p c. refl) other_reads_fit.content.viewed
-    (record { knows = knows_one told_first steps_first of_first; own_logs = refl }) (record { knows = knows_one content_second steps_second content_of_second; own_logs = refl }) (record {
-      until = record { knows = knows_one so_content steps_last content_of_last; own_logs = refl };
+    (record { knows = knows_one told_first steps_first of_first; own_logs = refl; adds = λ q. refl })
+    (record { knows = knows_one content_second steps_second content_of_second; own_logs = refl; adds = λ q. refl }) (record {
+      until = record { knows = knows_one so_content steps_last content_of_last; own_logs = refl; adds = λ q. refl };
       first = ap reached (history_here so_content steps_last content_of_last);
       others = history_there so_content steps_last content_of_last;
     })
@@ -296,8 +298,9 @@ pub freed_fits : ReadFits (answers.Dangling (seen_at 16384 0 0x3000002) poison) 
 freed_fits = fits (answers.Dangling (seen_at 16384 0 0x3000002) poison) 0x3000002 poison 3 refl
     (λ sizes long. subst (λ n. IsTold (λ s. n) (told_record freed_read)) (sym long) (refl, (0, 0, false, refl, record { since = no_deeds; unclean = false; pair = refl; quiet = refl; clean = refl; in_use = omega arith })))
     (λ sizes long. freed_row sizes long 0x3000002 poison refl) (none_on two_threads_journal 8 refl, λ p c. refl) other_reads_fit.freed.viewed
-    (record { knows = knows_one told_first steps_first of_first; own_logs = refl }) (record { knows = knows_one freed_second steps_second freed_of_second; own_logs = refl }) (record {
-      until = record { knows = knows_one so_freed steps_last freed_of_last; own_logs = refl };
+    (record { knows = knows_one told_first steps_first of_first; own_logs = refl; adds = λ q. refl })
+    (record { knows = knows_one freed_second steps_second freed_of_second; own_logs = refl; adds = λ q. refl }) (record {
+      until = record { knows = knows_one so_freed steps_last freed_of_last; own_logs = refl; adds = λ q. refl };
       first = ap reached (history_here so_freed steps_last freed_of_last);
       others = history_there so_freed steps_last freed_of_last;
     })

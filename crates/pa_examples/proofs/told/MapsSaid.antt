@@ -25,7 +25,7 @@ use Rattle.pa_rules.specs.Report.{HasSize, until}
 use Rattle.pa_rules.specs.Sizes.{slot_size_for}
 use Rattle.pa_rules.specs.Legal.{IsLegalTold}
 use Rattle.pa_legal.specs.Known.{IsKnown}
-use Rattle.pa_legal.specs.Tallies.{issues, frees, enters, leaves}
+use Rattle.pa_machine.specs.Kinds.{issues, frees, enters, leaves}
 use Rattle.pa_legal.proofs.Converse.{legal_is_known}
 use Rattle.pa_examples.specs.Worked.{seen_at, tally, report_line, direct_map_trace, direct_map_records, direct_map_report}
 use Rattle.pa_examples.proofs.worked.Lists.{each}
@@ -122,6 +122,7 @@ alone = record {
   others = λ q n0 n4. rw (ne_eqb 0 q n0, ne_eqb 4 q n4) refl;
   alone = λ k other. rw (ne_eqb 0 k other) refl;
   own_logs = refl;
+  adds = λ q. refl;
   all_seen = λ t. elim (title_tells (map_title 5) t) [
     | inl y ↦ subst IsSeen y.1 (lit≤ tt)
     | inr n ↦ elim (title_tells (map_title 2) t) [

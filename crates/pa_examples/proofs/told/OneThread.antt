@@ -9,6 +9,7 @@ use Rattle.pa_region.specs.declared.view.SeenNumber.{SeenNumber}
 use Rattle.pa_region.specs.declared.view.View.{View}
 use Rattle.pa_region.specs.Views.{seen_among, unseen_by, counted_on}
 use Rattle.pa_region.specs.Lists.{list_of, made_with, entered_in, IsKnownTo, Rises}
+use Rattle.pa_region.specs.Totals.{added_as}
 use Rattle.pa_record.specs.declared.pool.PoolEntry.{PoolEntry}
 use Rattle.pa_record.specs.declared.root.RootEntry.{RootEntry}
 use Rattle.pa_lists.proofs.Joined.{map_in}
@@ -70,6 +71,7 @@ module _ {A : Type 0} (f : A → Made) (unseen : (a : A) → (f a).seen ≡ []) 
 --   root, pool, others: what the first thread's log entered
 --   alone: no other thread has a log
 --   own_logs, all_seen: what was seen is what the logs say
+--   adds: nothing was added to a totals word
 pub record IsAlone (ts : List ToldRecord) (notes : List SeenNumber) (journal : List RootEntry) (pools : List PoolEntry) : Type 0 where
   pub knows : KnowsAll (view_of ts) ts
   pub root : entered_in 0 (log_of 0 ts) ≡ map in_root journal
@@ -77,6 +79,7 @@ pub record IsAlone (ts : List ToldRecord) (notes : List SeenNumber) (journal : L
   pub others : (q : ℕ) → (0 ≡ q → ⊥) → (4 ≡ q → ⊥) → entered_in q (log_of 0 ts) ≡ []
   pub alone : (k : ℕ) → (0 ≡ k → ⊥) → log_of k ts ≡ []
   pub own_logs : told_of ts (unseen_by notes) ≡ 0
+  pub adds : (q : ℕ) → told_of ts (added_as q) ≡ 0
   pub all_seen : (t : Title) → seen_among t notes ≤ told_of ts (counted_on t)
 
 module _ (ts : List ToldRecord) (notes : List SeenNumber) (journal : List RootEntry) (pools : List PoolEntry) (is : IsAlone ts notes journal pools) where
@@ -103,6 +106,7 @@ module _ (ts : List ToldRecord) (notes : List SeenNumber) (journal : List RootEn
     follows = list_cases ts notes lists (λ q ms. Each (λ (m : Made). IsKnownTo notes m) ms) (all_known in_root (λ e. refl) (λ e. refl) notes journal)
         (all_known in_pool (λ e. refl) (λ e. refl) notes pools) tt (λ q n0 n4 n5. tt);
     own_logs = is.own_logs;
+    adds = is.adds;
     all_seen = is.all_seen;
   }
 

@@ -7,6 +7,7 @@ use Rattle.pa_region.specs.declared.view.Made.{Made}
 use Rattle.pa_region.specs.declared.view.SeenNumber.{SeenNumber}
 use Rattle.pa_region.specs.Views.{seen_among, unseen_by, counted_on}
 use Rattle.pa_region.specs.Lists.{list_of, made_with, entered_in, IsBeginning, IsKnownTo, Rises}
+use Rattle.pa_region.specs.Totals.{added_as}
 use Rattle.pa_record.specs.declared.entry.Answer.{Answer}
 use Rattle.pa_logs.specs.Told.{ToldRecord, told_of, told_until, log_of}
 use Rattle.pa_logs.specs.Reads.{KnowsAll}
@@ -32,6 +33,7 @@ by_two P first second others k = elim (cases_eq 0 k) [
 pub record KnowsUntil (ts : List ToldRecord) (n : ℕ) : Type 0 where
   pub knows : KnowsAll (view_of (told_until n ts)) (told_until n ts)
   pub own_logs : told_of (told_until n ts) (unseen_by (seen_number (suc n))) ≡ 0
+  pub adds : (q : ℕ) → told_of (told_until n ts) (added_as q) ≡ 0
 
 -- a seat that holds nothing has all logs
 holds_none : (ts : List ToldRecord) (notes : List SeenNumber) (lists : ℕ → List Made) → FitsSeat ts notes lists → HasLogs (seat_of ts notes lists) ts
@@ -95,6 +97,7 @@ module _ (answer : Answer) (word value after : ℕ) where
     makers = all_make (told_until 1 ts) 1 (lit< tt, tt);
     follows = all_follow (told_until 1 ts) 1 (λ t. covered (seen_number 2) (seen_number 2) refl t, tt);
     own_logs = h.own_logs;
+    adds = h.adds;
     all_seen = λ t. elim (title_tells its_title t) [
       | inl y ↦ subst (λ u. seen_among u (seen_number 2) ≤ told_of (told_until 1 ts) (counted_on u)) y.1 (lit≤ tt)
       | inr none ↦ rw none.0 (omega arith)
@@ -109,6 +112,7 @@ module _ (answer : Answer) (word value after : ℕ) where
     makers = all_make (told_until 2 ts) 2 (lit< tt, (lit< tt, tt));
     follows = all_follow (told_until 2 ts) 2 (λ t. covered (seen_number 2) (seen_number 3) refl t, (λ t. covered (seen_number 2) (seen_number 3) refl t, tt));
     own_logs = h.own_logs;
+    adds = h.adds;
     all_seen = λ t. elim (title_tells its_title t) [
       | inl y ↦ subst (λ u. seen_among u (seen_number 3) ≤ told_of (told_until 2 ts) (counted_on u)) y.1 (lit≤ tt)
       | inr none ↦ rw none.0 (omega arith)
@@ -123,6 +127,7 @@ module _ (answer : Answer) (word value after : ℕ) where
     makers = all_make (told_until 3 ts) 3 (lit< tt, (lit< tt, tt));
     follows = all_follow (told_until 3 ts) 3 (λ t. covered (seen_number 2) (seen_number 4) refl t, (λ t. covered (seen_number 2) (seen_number 4) refl t, tt));
     own_logs = h.own_logs;
+    adds = h.adds;
     all_seen = λ t. elim (title_tells its_title t) [
       | inl y ↦ subst (λ u. seen_among u (seen_number 4) ≤ told_of (told_until 3 ts) (counted_on u)) y.1 (lit≤ tt)
       | inr none ↦ rw none.0 (omega arith)

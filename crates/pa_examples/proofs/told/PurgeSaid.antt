@@ -25,7 +25,7 @@ use Rattle.pa_rules.specs.Sizes.{slot_size_for}
 use Rattle.pa_rules.specs.Legal.{IsLegalTold}
 use Rattle.pa_rules.specs.Worked.{first_slot, purge_records}
 use Rattle.pa_legal.specs.Known.{IsKnown}
-use Rattle.pa_legal.specs.Tallies.{issues, frees}
+use Rattle.pa_machine.specs.Kinds.{issues, frees}
 use Rattle.pa_legal.proofs.Converse.{legal_is_known}
 use Rattle.pa_examples.specs.Worked.{tally, report_line}
 use Rattle.pa_examples.specs.WorkedPurge.{purge_trace, purge_report}
@@ -114,6 +114,7 @@ alone = record {
   others = λ q n0 n4. rw (ne_eqb 0 q n0, ne_eqb 4 q n4) refl;
   alone = λ k other. rw (ne_eqb 0 k other) refl;
   own_logs = refl;
+  adds = λ q. refl;
   all_seen = λ t. elim (title_tells its_title t) [
     | inl y ↦ subst (λ u. seen_among u (seen_number 3) ≤ told_of purge_told (counted_on u)) y.1 (lit≤ tt)
     | inr none ↦ rw none.0 (omega arith)

@@ -1,6 +1,7 @@
 -- A seat with the logs of worked records, which has seen some numbers and lists, is as a seat's type keeps it.
 use Rattle.std.proofs.Common.{◌≡◌, ℕ, ◌+◌, ◌<◌, ◌≤◌, ltb, eqb, List, [], ◌∷◌, ◌++◌, length, map, refl, sym, ◌∙◌, ap, subst, arith, inl, inr}
-use Rattle.std.specs.List.{AllByRecursion as Each}
+use Rattle.std.specs.List.{AllByRecursion as Each, sum_by}
+use Rattle.std.proofs.lemmas.List.Sums.{sum_by-le-sum_by}
 use Rattle.std.proofs.lemmas.Bool.{cases_Bool, cases_eq, ltb-true, ne_eqb}
 use Rattle.pa_machine.specs.declared.title.Title.{Title}
 use Rattle.pa_machine.specs.Count.{number_of}
@@ -13,11 +14,14 @@ use Rattle.pa_region.specs.declared.view.Stake.{Stake}
 use Rattle.pa_region.specs.declared.view.View.{View}
 use Rattle.pa_region.specs.Views.{seen_among, unseen_by, counted_on, logged_of, uncuts, stake_of, held_of_view, free_of, own_of, ref_of, undone_of, HasTitle}
 use Rattle.pa_region.specs.Lists.{list_of, longer, made_with, entered_in, IsKnownTo, Rises}
+use Rattle.pa_region.specs.Pairs.{amount_by, logged_of_by}
 use Rattle.pa_region.specs.AllReads.{HasAllLogs}
 use Rattle.pa_region.specs.Aware.{IsAware}
 use Rattle.pa_region.specs.Start.{stakes_from}
+use Rattle.pa_region.specs.Totals.{added_as}
 use Rattle.pa_region.proofs.FirstLists.{stake_count}
 use Rattle.pa_region.proofs.Adding.{sum_map}
+use Rattle.pa_region.proofs.PairSums.{by_within}
 use Rattle.pa_region.proofs.Opens.{blank_long}
 use Rattle.pa_logs.specs.Told.{ToldRecord, told_of, log_of}
 use Rattle.pa_logs.specs.Reads.{KnowsAll}
@@ -56,6 +60,7 @@ module _ (ts : List ToldRecord) (notes : List SeenNumber) (lists : ℕ → List 
 --   is: what each stake made in a list is what its log entered there
 --   rises, makers, follows: what makers had seen rises, they had stakes, and the seat has seen it
 --   own_logs, all_seen: it has seen what the logs say, and no more
+--   adds: nothing was added to a totals word
 pub record FitsSeat (ts : List ToldRecord) (notes : List SeenNumber) (lists : ℕ → List Made) : Type 0 where
   pub knows : KnowsAll (view_of ts) ts
   pub is : (q k : ℕ) → made_with k (list_of q (seat_of ts notes lists)) ≡ entered_in q (log_of k ts)
@@ -63,6 +68,7 @@ pub record FitsSeat (ts : List ToldRecord) (notes : List SeenNumber) (lists : �
   pub makers : (q : ℕ) → Each (λ m. m.stake < 16) (list_of q (seat_of ts notes lists))
   pub follows : (q : ℕ) → Each (λ m. IsKnownTo notes m) (list_of q (seat_of ts notes lists))
   pub own_logs : told_of ts (unseen_by notes) ≡ 0
+  pub adds : (q : ℕ) → told_of ts (added_as q) ≡ 0
   pub all_seen : (t : Title) → seen_among t notes ≤ told_of ts (counted_on t)
 
 -- What is computed of what the seat holds.
@@ -110,6 +116,10 @@ module _ (ts : List ToldRecord) (notes : List SeenNumber) (lists : ℕ → List 
   unfolding all_logs
   history_is long t = refl
 
+  by_number : (r : ℕ) (weight : Entry → ℕ) → logged_of_by v r weight ≤ logged_of v weight
+  by_number r weight =
+      sum_by-le-sum_by (amount_by r (sum_by weight)) (λ (s : Stake). sum_by weight s.log) v.stakes (by_within r (sum_by weight))
+
   small : (k : ℕ) → 0 < stake_of (view_of ts) k → k < 16
   small k has =
       let m = sum_map (λ (s : Stake). one (eqb s.number k)) (with_log ts) (stakes_from 0 16) in
@@ -138,6 +148,7 @@ module _ (ts : List ToldRecord) (notes : List SeenNumber) (lists : ℕ → List 
     makers = fits.makers;
     follows = fits.follows;
     handles = h.handles;
+    covered = λ r q. let a = fits.adds q in let b = weighed (added_as q) in let c = by_number r (added_as q) in omega arith;
     all_logs = λ every. all_logs h.long;
     all_seen = λ every t. let seen = fits.all_seen t in let all = weighed (counted_on t) in omega arith;
   }

@@ -20,7 +20,8 @@ use Rattle.pa_rules.specs.Flow.{steps_so}
 use Rattle.pa_rules.proofs.Running.{OtherRecord, Balances, one_if, run_levels, marks_differ}
 use Rattle.pa_rules.proofs.FourPlaces.{one_word}
 use Rattle.pa_rules.proofs.Totals.{total, total_add, total_same, total_ones}
-use Rattle.pa_legal.specs.Tallies.{issues, frees, enters, leaves, weight_of, AreHomes, IsLeft, WentIn, TalliesFollow}
+use Rattle.pa_machine.specs.Kinds.{issues, frees, enters, leaves}
+use Rattle.pa_legal.specs.Tallies.{weight_of, AreHomes, IsLeft, WentIn, TalliesFollow}
 use Rattle.pa_legal.proofs.Titling.{one_size}
 use Rattle.pa_legal.proofs.tallies.Levels.{is_live, live_balances, live_is, is_live_of, is_quarantined, quarantined_balances, quarantined_is, is_quarantined_of}
 use Rattle.pa_legal.proofs.tallies.Sums.{distinct, in_distinct, distinct_in, distinct_once, total_sum, total_filter, slot_weight, weight_times, over_names}

@@ -7,7 +7,7 @@ use Rattle.pa_machine.specs.Count.{stepped, held_of, refs_of}
 use Rattle.pa_machine.specs.Run.{IsLive, IsQuarantined}
 use Rattle.pa_machine.proofs.Arith.{stepped_is}
 use Rattle.pa_rules.proofs.Running.{Balances, one_if}
-use Rattle.pa_legal.specs.Tallies.{issues, frees, enters, leaves}
+use Rattle.pa_machine.specs.Kinds.{issues, frees, enters, leaves}
 
 -- ---- live
 

@@ -2,4 +2,4 @@ use Rattle.pa_region.proofs.Opens.{opens}
 use Rattle.pa_region.proofs.laws.a_new_region_meets_the_rule.Goals as goal
 
 pub returns : goal.returns
-returns c words budget few = opens words budget few
+returns c words budget few enough = opens words budget few enough

@@ -5,7 +5,7 @@ use Rattle.pa_region.proofs.region.Region.new.Goals as goal
 pub of_words-requires : goal.of_words-requires
 of_words-requires c =
     let zeros = c.as_slice.ensures.value ∙ c.in_ok-zeros.ensures.items_if_clones_equal (λ y e. e) in
-    opens_with c.args.supers c.args.budget c.as_slice.result.now c.requires.budget zeros
+    opens_with c.args.supers c.args.budget c.as_slice.result.now c.requires.supers.1 c.requires.budget zeros
 
 pub invariant_of-result-2 : goal.invariant_of-result-2
 invariant_of-result-2 c =

@@ -1,4 +1,4 @@
-use Rattle.std.proofs.Common.{◌≡◌, ℕ, ◌<◌, ◌∙◌, sym, ap, subst}
+use Rattle.std.proofs.Common.{◌≡◌, ℕ, ◌<◌, ◌∙◌, sym, ap, subst, arith}
 use Rattle.atomic_table.specs.Seated.{TableId}
 use Rattle.pa_machine.specs.declared.title.Title.{Title}
 use Rattle.pa_region.specs.declared.view.View.{View}
@@ -62,7 +62,7 @@ returns-clause-parted c =
 pub tell_as-requires-clause-region : goal.tell_as-requires-clause-region
 tell_as-requires-clause-region c = (
   c.take_as.ensures.seat.0 ∙ (ap (λ (h : Share). h.region) c.seat.view_is ∙ (c.requires.region.0 ∙ sym c.self.view_is)),
-  c.self.invariant.1,
+  (let w = c.self.invariant.1 in omega arith),
 )
 
 pub tell_as-requires-clause-allowed : goal.tell_as-requires-clause-allowed

@@ -1,0 +1,35 @@
+-- The kinds of steps by which tallies change.
+use Rattle.std.specs.Prelude.{ℕ, ◌==◌, ◌&&◌, Bool, true, false, not}
+use Rattle.pa_machine.specs.declared.word.Step.{Step}
+use Rattle.pa_machine.specs.declared.word.Step.TheVariants.{Issue, Copy, Reset, Free, Write}
+use Rattle.pa_machine.specs.Count.{held_of, refs_of}
+
+-- the steps that make a slot live, and those that end that, each by the word that it found
+abbrev pub issues : Step → ℕ → Bool
+issues Issue w = true
+issues Copy w = false
+issues Reset w = false
+issues Free w = false
+issues Write w = false
+
+abbrev pub frees : Step → ℕ → Bool
+frees Issue w = false
+frees Copy w = false
+frees Reset w = false
+frees Free w = true
+frees Write w = false
+
+-- a free that finds raw_ptrs quarantines a slot, and the last reset of a freed one ends that
+abbrev pub enters : Step → ℕ → Bool
+enters Issue w = false
+enters Copy w = false
+enters Reset w = false
+enters Free w = not (refs_of w == 0)
+enters Write w = false
+
+abbrev pub leaves : Step → ℕ → Bool
+leaves Issue w = false
+leaves Copy w = false
+leaves Reset w = (held_of w == 0) && (refs_of w == 1)
+leaves Free w = false
+leaves Write w = false
