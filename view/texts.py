@@ -7,7 +7,7 @@ from expected import first_fault
 
 Trace = namedtuple("Trace", "region partitions threads lines")
 Op = namedtuple("Op", "thread name fields")
-Record = namedtuple("Record", "line thread answer fields")
+Record = namedtuple("Record", "line thread answer fields given")
 RootEntry = namedtuple("RootEntry", "line act size_class pool slots len")
 PoolEntry = namedtuple("PoolEntry", "line partition act count first")
 CellEntry = namedtuple("CellEntry", "line gave found")
@@ -148,7 +148,7 @@ def read_record(run, line):
     fields = answer_fields(answer, rest)
     if fields is None or int(at) in run.records:
         return False
-    run.records[int(at)] = Record(int(at), int(thread), answer, fields)
+    run.records[int(at)] = Record(int(at), int(thread), answer, fields, given_by(answer, rest))
     return True
 
 
@@ -161,6 +161,13 @@ def answer_fields(answer, rest):
     shape = WITH_SLOT["done"] if answer in MAYBE_SLOT else WITH_SLOT.get(answer)
     found = shape.fullmatch(rest) if shape else None
     return (found[1], int(found[3 if answer == "made" else 2], 16)) if found else None
+
+
+def given_by(answer, rest):
+    """What an answer gives besides: the usable bytes of `made`, the value of a read."""
+    if answer == "made":
+        return int(rest.split()[1])
+    return int(rest.split()[2], 16) if answer in ("word", "dangling") else None
 
 
 def numbered(text):

@@ -1,0 +1,3 @@
+pub mod Places
+pub mod Having
+pub mod Refused

@@ -1,0 +1,186 @@
+-- Small runs of two threads that were worked out by hand: one that has a timeline, and three legal ones that have none.
+use Rattle.std.specs.Prelude.{ℕ, List, [], ◌∷◌, map, Some}
+use Rattle.pa_machine.specs.declared.word.SlotName.{SlotName}
+use Rattle.pa_machine.specs.Titles.{poison}
+use Rattle.pa_trace.specs.declared.script.Trace.{Trace}
+use Rattle.pa_trace.specs.declared.script.Line.{Line}
+use Rattle.pa_trace.specs.declared.script.Line.TheVariants.{Phase, Do}
+use Rattle.pa_trace.specs.declared.script.Op.TheVariants as ops
+use Rattle.pa_record.specs.declared.entry.Seen.{Seen}
+use Rattle.pa_record.specs.declared.entry.Answer.TheVariants as answers
+use Rattle.pa_record.specs.declared.history.CellEntry.{CellEntry}
+use Rattle.pa_record.specs.declared.history.Held.TheVariants as held
+use Rattle.pa_record.specs.declared.pool.PoolEntry.{PoolEntry}
+use Rattle.pa_record.specs.declared.root.RootEntry.{RootEntry}
+use Rattle.pa_record.specs.declared.report.ReportLine.{ReportLine}
+use Rattle.pa_record.specs.Worked.{slots, fill, purge, pool_take}
+use Rattle.pa_rules.specs.declared.played.Played.{Played}
+use Rattle.pa_rules.specs.Played.{entry_of}
+use Rattle.pa_rules.specs.Roots.{journal_at}
+use Rattle.pa_rules.specs.Cells.{history_at}
+use Rattle.pa_rules.specs.Told.{Told}
+use Rattle.pa_timeline.specs.Timeline.{HasTimeline}
+
+-- what a run has: its records, journals, the pool's entries and the histories of its cells, whatever its report
+abbrev pub told_as : List Played → List (List RootEntry) → List PoolEntry → List (List CellEntry) → List ReportLine → Told
+told_as records journals pools histories report =
+    record { entries = map entry_of records; roots = journal_at journals; pools = pools; cells = history_at histories; report = report }
+
+-- a trace of one super page, one partition and two threads
+abbrev pub trace_as : List Line → Trace
+trace_as lines = record { region = 1; partitions = 1; threads = 2; lines = lines }
+
+-- the two slots of the runs, and what is found in one
+abbrev pub first_slot : SlotName
+first_slot = record { start = 16384; born = 0 }
+
+abbrev pub second_slot : SlotName
+second_slot = record { start = 16400; born = 0 }
+
+abbrev pub seen_in : SlotName → ℕ → Seen
+seen_in slot word = record { slot = slot; found = record { 0 = word } }
+
+-- a fill on line 2, which asks the pool for its super page
+abbrev pub one_fill : List RootEntry
+one_fill = fill 2 0 (Some 0) (slots 0 0 (16384 ∷ 16400 ∷ 16416 ∷ 16432 ∷ 16448 ∷ 16464 ∷ 16480 ∷ 16496 ∷ [])) ∷ []
+
+abbrev pub one_take : List PoolEntry
+one_take = pool_take 2 0 1 (Some 0) ∷ []
+
+-- a raw_ptr to the slot goes through a cell, from the one line to the other
+abbrev pub handed : ℕ → ℕ → SlotName → List CellEntry
+handed from to slot =
+    record { line = from; gave = held.Ref slot; found = held.Nothing }
+    ∷ record { line = to; gave = held.Nothing; found = held.Ref slot }
+    ∷ []
+
+-- ---- one that has a timeline
+
+-- thread 0 hands a raw_ptr to thread 1 and frees the slot; the read of thread 1 finds the bit, and poison
+abbrev pub read_trace : Trace
+read_trace =
+    trace_as
+    (Do 0 (ops.Alloc 0 0 8)
+    ∷ Do 0 (ops.Copy 0 1)
+    ∷ Do 0 (ops.Swap 0 1)
+    ∷ Phase
+    ∷ Do 1 (ops.Swap 0 0)
+    ∷ Do 0 (ops.Free 0)
+    ∷ Do 1 (ops.Read 0 0)
+    ∷ [])
+
+abbrev pub read_records : List Played
+read_records =
+    record { line = 2; thread = 0; phase = 1; op = ops.Alloc 0 0 8; answer = answers.Made (seen_in first_slot 0) 8 }
+    ∷ record { line = 3; thread = 0; phase = 1; op = ops.Copy 0 1; answer = answers.Done (seen_in first_slot 0x1000001) }
+    ∷ record { line = 4; thread = 0; phase = 1; op = ops.Swap 0 1; answer = answers.Swapped 0 }
+    ∷ record { line = 6; thread = 1; phase = 2; op = ops.Swap 0 0; answer = answers.Swapped 1 }
+    ∷ record { line = 7; thread = 0; phase = 2; op = ops.Free 0; answer = answers.Done (seen_in first_slot 0x2000003) }
+    ∷ record { line = 8; thread = 1; phase = 2; op = ops.Read 0 0; answer = answers.Value (seen_in first_slot 0x2000003) poison }
+    ∷ []
+
+abbrev pub ThreadsHaveOne : Type 0
+ThreadsHaveOne =
+    (report : List ReportLine) →
+    HasTimeline read_trace (told_as read_records (one_fill ∷ []) one_take (handed 4 6 first_slot ∷ []) report)
+
+-- ---- two slots, each with its steps in an order that contradicts the other's
+
+-- Thread 0 frees the second slot and then the first, thread 1 resets its raw_ptr to the first and then that to the second. By the
+-- numbers the free of the first slot came before its reset, and the reset of the second slot before its free.
+abbrev pub two_slots_trace : Trace
+two_slots_trace =
+    trace_as
+    (Do 0 (ops.Alloc 0 0 8)
+    ∷ Do 0 (ops.Alloc 1 0 8)
+    ∷ Do 0 (ops.Copy 0 2)
+    ∷ Do 0 (ops.Copy 1 3)
+    ∷ Do 0 (ops.Swap 0 2)
+    ∷ Do 0 (ops.Swap 1 3)
+    ∷ Phase
+    ∷ Do 1 (ops.Swap 0 2)
+    ∷ Do 1 (ops.Swap 1 3)
+    ∷ Phase
+    ∷ Do 0 (ops.Free 1)
+    ∷ Do 0 (ops.Free 0)
+    ∷ Do 1 (ops.Reset 2)
+    ∷ Do 1 (ops.Reset 3)
+    ∷ [])
+
+abbrev pub two_slots_records : List Played
+two_slots_records =
+    record { line = 2; thread = 0; phase = 1; op = ops.Alloc 0 0 8; answer = answers.Made (seen_in first_slot 0) 8 }
+    ∷ record { line = 3; thread = 0; phase = 1; op = ops.Alloc 1 0 8; answer = answers.Made (seen_in second_slot 0) 8 }
+    ∷ record { line = 4; thread = 0; phase = 1; op = ops.Copy 0 2; answer = answers.Done (seen_in first_slot 0x1000001) }
+    ∷ record { line = 5; thread = 0; phase = 1; op = ops.Copy 1 3; answer = answers.Done (seen_in second_slot 0x1000001) }
+    ∷ record { line = 6; thread = 0; phase = 1; op = ops.Swap 0 2; answer = answers.Swapped 0 }
+    ∷ record { line = 7; thread = 0; phase = 1; op = ops.Swap 1 3; answer = answers.Swapped 0 }
+    ∷ record { line = 9; thread = 1; phase = 2; op = ops.Swap 0 2; answer = answers.Swapped 1 }
+    ∷ record { line = 10; thread = 1; phase = 2; op = ops.Swap 1 3; answer = answers.Swapped 1 }
+    ∷ record { line = 12; thread = 0; phase = 3; op = ops.Free 1; answer = answers.Done (seen_in second_slot 0x3000001) }
+    ∷ record { line = 13; thread = 0; phase = 3; op = ops.Free 0; answer = answers.Done (seen_in first_slot 0x2000003) }
+    ∷ record { line = 14; thread = 1; phase = 3; op = ops.Reset 2; answer = answers.Done (seen_in first_slot 0x3000002) }
+    ∷ record { line = 15; thread = 1; phase = 3; op = ops.Reset 3; answer = answers.Done (seen_in second_slot 0x2000003) }
+    ∷ []
+
+abbrev pub TwoSlotsHaveNone : Type 0
+TwoSlotsHaveNone =
+    (report : List ReportLine) →
+    HasTimeline two_slots_trace
+    (told_as two_slots_records (one_fill ∷ []) one_take (handed 6 9 first_slot ∷ handed 7 10 second_slot ∷ []) report) → ⊥
+
+-- ---- two partitions, purged in orders that contradict each other
+
+-- thread 1 purges twice: the first journal has thread 0's purge last, the second has it first
+abbrev pub purges_trace : Trace
+purges_trace = record { region = 2; partitions = 2; threads = 2; lines = Do 0 ops.Purge ∷ Do 1 ops.Purge ∷ Do 1 ops.Purge ∷ [] }
+
+abbrev pub purges_records : List Played
+purges_records =
+    record { line = 2; thread = 0; phase = 1; op = ops.Purge; answer = answers.Purged 0 }
+    ∷ record { line = 3; thread = 1; phase = 1; op = ops.Purge; answer = answers.Purged 0 }
+    ∷ record { line = 4; thread = 1; phase = 1; op = ops.Purge; answer = answers.Purged 0 }
+    ∷ []
+
+abbrev pub purged_in : ℕ → ℕ → ℕ → List RootEntry
+purged_in i j k = purge i ∷ purge j ∷ purge k ∷ []
+
+abbrev pub PurgesHaveNone : Type 0
+PurgesHaveNone =
+    (report : List ReportLine) →
+    HasTimeline purges_trace (told_as purges_records (purged_in 3 4 2 ∷ purged_in 2 3 4 ∷ []) [] [] report) → ⊥
+
+-- ---- poison before the free's line began
+
+-- thread 1 reads poison and hands its raw_ptr back to thread 0, which frees the slot only then
+abbrev pub early_trace : Trace
+early_trace =
+    trace_as
+    (Do 0 (ops.Alloc 0 0 8)
+    ∷ Do 0 (ops.Copy 0 1)
+    ∷ Do 0 (ops.Swap 0 1)
+    ∷ Phase
+    ∷ Do 1 (ops.Swap 0 0)
+    ∷ Do 1 (ops.Read 0 0)
+    ∷ Do 1 (ops.Swap 1 0)
+    ∷ Do 0 (ops.Swap 1 2)
+    ∷ Do 0 (ops.Free 0)
+    ∷ [])
+
+abbrev pub early_records : List Played
+early_records =
+    record { line = 2; thread = 0; phase = 1; op = ops.Alloc 0 0 8; answer = answers.Made (seen_in first_slot 0) 8 }
+    ∷ record { line = 3; thread = 0; phase = 1; op = ops.Copy 0 1; answer = answers.Done (seen_in first_slot 0x1000001) }
+    ∷ record { line = 4; thread = 0; phase = 1; op = ops.Swap 0 1; answer = answers.Swapped 0 }
+    ∷ record { line = 6; thread = 1; phase = 2; op = ops.Swap 0 0; answer = answers.Swapped 1 }
+    ∷ record { line = 7; thread = 1; phase = 2; op = ops.Read 0 0; answer = answers.Value (seen_in first_slot 0x2000003) poison }
+    ∷ record { line = 8; thread = 1; phase = 2; op = ops.Swap 1 0; answer = answers.Swapped 0 }
+    ∷ record { line = 9; thread = 0; phase = 2; op = ops.Swap 1 2; answer = answers.Swapped 1 }
+    ∷ record { line = 10; thread = 0; phase = 2; op = ops.Free 0; answer = answers.Done (seen_in first_slot 0x2000003) }
+    ∷ []
+
+abbrev pub ReadBeforeFreeHasNone : Type 0
+ReadBeforeFreeHasNone =
+    (report : List ReportLine) →
+    HasTimeline early_trace
+    (told_as early_records (one_fill ∷ []) one_take (handed 4 6 first_slot ∷ handed 8 9 first_slot ∷ []) report) → ⊥

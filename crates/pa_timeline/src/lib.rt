@@ -1,0 +1,10 @@
+//! What a timeline of a run is: an order of all steps in which it could have been played. Definitions, and laws of small runs that have
+//! one or have none; nothing here runs.
+#![tactic(auto)]
+
+mod laws;
+
+pub use laws::{
+    purges_have_no_timeline, read_before_free_has_no_timeline, threads_have_a_timeline,
+    two_slots_have_no_timeline,
+};
