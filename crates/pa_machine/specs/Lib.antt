@@ -3,6 +3,7 @@ pub mod Events
 pub mod Good
 pub mod Holdings
 pub mod Kinds
+pub mod Links
 pub mod Run
 pub mod Runs
 pub mod Tables
