@@ -37,9 +37,11 @@ pub swapped_twice : (n : ℕ) → n < 2 ^ 64 → swap_bytes w64 (swap_bytes w64 
 swapped_twice n small =
     let m = swap_bytes w64 n in
     let same : to_be_bytes w64 m ≡ to_le_bytes w64 n = be_bytes_8 (to_le_bytes w64 n) m refl (bytes_small 8 0 n) refl in
-    ap (from_be_bytes w64) (turned (byte_at 0 n) (byte_at 1 n) (byte_at 2 n) (byte_at 3 n) (byte_at 4 n) (byte_at 5 n) (byte_at 6 n) (byte_at 7 n)
+    ap (from_be_bytes w64) (turned (byte_at 0 n) (byte_at 1 n) (byte_at 2 n) (byte_at 3 n) (byte_at 4 n) (byte_at 5 n) (byte_at 6 n)
+    (byte_at 7 n)
     (byte_at 0 m) (byte_at 1 m) (byte_at 2 m) (byte_at 3 m) (byte_at 4 m) (byte_at 5 m) (byte_at 6 m) (byte_at 7 m) same)
-    ∙ turned_sum (byte_at 0 n) (byte_at 1 n) (byte_at 2 n) (byte_at 3 n) (byte_at 4 n) (byte_at 5 n) (byte_at 6 n) (byte_at 7 n) n (from_le_bytes-to_le_bytes_8 n small)
+    ∙ turned_sum (byte_at 0 n) (byte_at 1 n) (byte_at 2 n) (byte_at 3 n) (byte_at 4 n) (byte_at 5 n) (byte_at 6 n) (byte_at 7 n) n
+    (from_le_bytes-to_le_bytes_8 n small)
 
 -- the two halves of a number
 low_half : (low high n : ℕ) → low < 4294967296 → n ≡ low + 4294967296 * high → n % 4294967296 ≡ low
@@ -53,7 +55,8 @@ pub linked_back : (s : SlotName) → s.start < 2 ^ 32 → s.born < 2 ^ 32 → li
 unfolding link_number linked_name
 linked_back s start born =
     let whole = swapped_twice (s.start + 4294967296 * s.born) (omega arith) in
-    ap (λ n. record { start = n; born = swap_bytes w64 (swap_bytes w64 (s.start + 4294967296 * s.born)) / 4294967296 }) (low_half s.start s.born _ (omega arith) whole)
+    ap (λ n. record { start = n; born = swap_bytes w64 (swap_bytes w64 (s.start + 4294967296 * s.born)) / 4294967296 })
+    (low_half s.start s.born _ (omega arith) whole)
     ∙ ap (λ n. record { start = s.start; born = n }) (high_half s.start s.born _ (omega arith) whole)
 
 -- Where one slot gets the link to the front of another linked list, and the slots before it and those of that list keep
@@ -68,5 +71,6 @@ links_join words others (s ∷ []) ys zs x linked tail before after here = (
 )
 links_join words others (s ∷ u ∷ xs) ys zs x linked tail before after here = (
   All-head (λ y. first_word others y ≡ first_word words y) s (u ∷ xs) before ∙ linked.0,
-  links_join words others (u ∷ xs) ys zs x linked.1 tail (All-tail (λ y. first_word others y ≡ first_word words y) s (u ∷ xs) before) after here,
+  links_join words others (u ∷ xs) ys zs x linked.1 tail (All-tail (λ y. first_word others y ≡ first_word words y) s
+      (u ∷ xs) before) after here,
 )

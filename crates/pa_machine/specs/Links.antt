@@ -31,4 +31,5 @@ AreLinked words (s ∷ ss) = (first_word words s ≡ link_to (front_of ss)) × A
 
 -- a list stays linked where the first word of each of its slots is the same in other words
 abbrev pub LinksStay : Type 0
-LinksStay = (words others : List ℕ) (ss : List SlotName) → All (λ s. first_word others s ≡ first_word words s) ss → AreLinked words ss → AreLinked others ss
+LinksStay = (words others : List ℕ) (ss : List SlotName) → All (λ s. first_word others s ≡ first_word words s) ss →
+    AreLinked words ss → AreLinked others ss

@@ -1,4 +1,5 @@
 pub mod CacheRows
 pub mod CellSlots
+pub mod ChainRows
 pub mod RootScripts
 pub mod Sharing

@@ -14,6 +14,8 @@ mod heap_ops;
 #[cfg(test)]
 mod lending;
 #[cfg(test)]
+mod link;
+#[cfg(test)]
 mod pool;
 #[cfg(test)]
 mod quarantine;
