@@ -21,17 +21,17 @@ use Rattle.pa_trace.proofs.Spelled.{alloc_at, copy_at, reset_at, free_at, write_
 -- ---- tests of one number
 
 -- a number that is let through, or is past its limit
-abbrev tested : Bool → ℕ → Result ℕ LineFault
+abbrev pub tested : Bool → ℕ → Result ℕ LineFault
 tested b n = cond b (Ok n) (Err Past)
 
-below_fit : (n limit : ℕ) → limit ≤ 4294967296 → below (fit n) limit ≡ tested (ltb n limit) n
+pub below_fit : (n limit : ℕ) → limit ≤ 4294967296 → below (fit n) limit ≡ tested (ltb n limit) n
 below_fit n limit small =
     elim (cases_lt n 4294967296) [
       | inl lt ↦ rw (lt-ltb n 4294967296 lt) refl
       | inr le ↦ rw (le-ltb n 4294967296 le, le-ltb n limit (omega arith)) refl
     ]
 
-within_fit : (n : ℕ) → within (fit n) ≡ tested (ltb n 4294967296) n
+pub within_fit : (n : ℕ) → within (fit n) ≡ tested (ltb n 4294967296) n
 within_fit n =
     elim (cases_lt n 4294967296) [
       | inl lt ↦ rw (lt-ltb n 4294967296 lt) refl
@@ -218,7 +218,7 @@ head_tested true true false m n k = refl
 head_tested true false c m n k = refl
 head_tested false b c m n k = refl
 
-head_cases : (r : Result (ℕ × ℕ × ℕ) LineFault) → ((r >>= three_handed) >>= λ numbers. head_of numbers.0 numbers.1 numbers.2) ≡ (r >>= checked_head)
+pub head_cases : (r : Result (ℕ × ℕ × ℕ) LineFault) → ((r >>= three_handed) >>= λ numbers. head_of numbers.0 numbers.1 numbers.2) ≡ (r >>= checked_head)
 head_cases (Ok x) = rw (count_fit x.0 16 (omega arith), count_fit x.1 4 (omega arith), count_fit x.2 16 (omega arith)) (head_tested (leb 1 x.0 && leb x.0 16) (leb 1 x.1 && leb x.1 4) (leb 1 x.2 && leb x.2 16) x.0 x.1 x.2)
 head_cases (Err e) = refl
 
@@ -260,7 +260,7 @@ within_line : (partitions threads : ℕ) (line : Line) → IsLineWithin partitio
 within_line partitions threads Phase h = refl
 within_line partitions threads (Do thread op) h = and_from _ _ (within_op partitions op h.1) (lt-ltb thread threads h.0)
 
-head_within : (region partitions threads : ℕ) → head_ok (region, partitions, threads) ≡ true → IsHeadWithin region partitions threads
+pub head_within : (region partitions threads : ℕ) → head_ok (region, partitions, threads) ≡ true → IsHeadWithin region partitions threads
 head_within region partitions threads e =
     let p = and_parts (leb 1 region && leb region 16) ((leb 1 partitions && leb partitions 4) && (leb 1 threads && leb threads 16)) e in
     let q = and_parts (leb 1 partitions && leb partitions 4) (leb 1 threads && leb threads 16) p.1 in
@@ -269,21 +269,21 @@ head_within region partitions threads e =
     let k = and_parts (leb 1 threads) (leb threads 16) q.1 in
     ((leb-true 1 region n.0, leb-true region 16 n.1), (leb-true 1 partitions m.0, leb-true partitions 4 m.1), (leb-true 1 threads k.0, leb-true threads 16 k.1))
 
-within_head : (region partitions threads : ℕ) → IsHeadWithin region partitions threads → head_ok (region, partitions, threads) ≡ true
+pub within_head : (region partitions threads : ℕ) → IsHeadWithin region partitions threads → head_ok (region, partitions, threads) ≡ true
 within_head region partitions threads h =
     and_from _ _ (and_from _ _ (le-leb 1 region h.0.0) (le-leb region 16 h.0.1))
     (and_from _ _ (and_from _ _ (le-leb 1 partitions h.1.0) (le-leb partitions 4 h.1.1)) (and_from _ _ (le-leb 1 threads h.2.0) (le-leb threads 16 h.2.1)))
 
 -- which way a test of limits went
-let_through : {A : Type 0} (b : Bool) (x y : A) → cond b (Ok x) (Err Past) ≡ Ok y → (b ≡ true) × (x ≡ y)
+pub let_through : {A : Type 0} (b : Bool) (x y : A) → cond b (Ok x) (Err Past) ≡ Ok y → (b ≡ true) × (x ≡ y)
 let_through true x y e = (refl, cc)
 let_through false x y e = absurd cc
 
-kept_out : {A : Type 0} (b : Bool) (x : A) (d : LineFault) → cond b (Ok x) (Err Past) ≡ Err d → (b ≡ false) × (d ≡ Past)
+pub kept_out : {A : Type 0} (b : Bool) (x : A) (d : LineFault) → cond b (Ok x) (Err Past) ≡ Err d → (b ≡ false) × (d ≡ Past)
 kept_out true x d e = absurd cc
 kept_out false x d e = (refl, cc)
 
-not_both : (b : Bool) → b ≡ true → b ≡ false → ⊥
+pub not_both : (b : Bool) → b ≡ true → b ≡ false → ⊥
 not_both true e f = cc
 not_both false e f = cc
 

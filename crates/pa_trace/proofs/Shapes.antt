@@ -12,7 +12,7 @@ use Rattle.pa_trace.proofs.Fields.{field_at, one_at, two_at, three_at, field_and
 use Rattle.pa_trace.proofs.Spelled.{alloc_at, copy_at, reset_at, free_at, write_at, read_at, swap_at, op_at, do_at, line_at, head_at}
 
 -- what fails is outside the grammar
-abbrev IsShape : {A : Type 0} → Result A LineFault → Type 0
+abbrev pub IsShape : {A : Type 0} → Result A LineFault → Type 0
 IsShape (Ok x) = Unit {0}
 IsShape (Err d) = Outside ≡ d
 
@@ -56,7 +56,7 @@ two_shape bytes v w =
     then_shape (field_at w a.1) (λ b. ended b.1 >>= λ end. Ok (a.0, b.0)) (field_shape w a.1) (λ b.
     then_shape (ended b.1) (λ end. Ok (a.0, b.0)) (ended_shape b.1) (λ end. tt)))
 
-three_shape : (bytes v w y : List ℕ) → IsShape (three_at bytes v w y)
+pub three_shape : (bytes v w y : List ℕ) → IsShape (three_at bytes v w y)
 unfolding three_at
 three_shape bytes v w y =
     then_shape (field_at v bytes) (λ a. field_at w a.1 >>= λ b. field_at y b.1 >>= λ c. ended c.1 >>= λ end. Ok (a.0, b.0, c.0)) (field_shape v bytes) (λ a.
@@ -100,7 +100,7 @@ head_shape : (bytes : List ℕ) → IsShape (head_at bytes)
 unfolding head_at
 head_shape bytes = three_shape bytes (codes "trace 1 region ") (codes " partitions ") (codes " threads ")
 
-shape_of : {A : Type 0} (r : Result A LineFault) (d : LineFault) → r ≡ Err d → IsShape r → Outside ≡ d
+pub shape_of : {A : Type 0} (r : Result A LineFault) (d : LineFault) → r ≡ Err d → IsShape r → Outside ≡ d
 shape_of {A} r d e h = subst (λ (x : Result A LineFault). IsShape x) e h
 
 pub line_outside : (bytes : List ℕ) (d : LineFault) → line_at bytes ≡ Err d → Outside ≡ d

@@ -90,7 +90,7 @@ pub fn two_numbers(
     Ok((one, two))
 }
 
-// What is left of the line is three words, each with a number.
+/// What is left of the line is three words, each with a number.
 #[tactic(auto, unfolding(crate::specs::Reading::three_in))]
 pub fn three_numbers(
     bytes: &[u8],
@@ -119,7 +119,7 @@ pub fn number_and_word(bytes: &[u8], first: &[u8]) -> Result<(Option<u32>, u64),
     Ok((one, value))
 }
 
-// The number if it is below the limit.
+/// The number if it is below the limit.
 #[inline(always)]
 pub fn below(number: Option<u32>, limit: u32) -> Result<u32, LineFault>
     ensures { result ≡ below number limit }
@@ -130,7 +130,7 @@ pub fn below(number: Option<u32>, limit: u32) -> Result<u32, LineFault>
     }
 }
 
-// The number if it has 32 bits.
+/// The number if it has 32 bits.
 #[inline(always)]
 pub fn within(number: Option<u32>) -> Result<u32, LineFault>
     ensures { result ≡ within number }

@@ -13,10 +13,11 @@ mod script;
 mod writing;
 
 pub use fault::TraceFault;
+pub use field::{LineFault, below, three_numbers, within};
 pub use generator::generate;
 pub use laws::{early_fault, first_draws, generated_lines_fit, one_answer, one_text, short_text};
-pub use line::{Head, MOST_PARTITIONS, MOST_SUPER_PAGES, MOST_THREADS};
-pub use line_reader::{LineReader, MOST_BYTES, MOST_LINES, cut_line};
+pub use line::{Head, MOST_PARTITIONS, MOST_SUPER_PAGES, MOST_THREADS, head_of, line_in};
+pub use line_reader::{LineReader, MOST_BYTES, MOST_LINES, cut_line, fault_at};
 pub use op::{CELLS, REGISTERS};
 pub use reading::read_trace;
 pub use script::{Line, Lines, Op, Trace};

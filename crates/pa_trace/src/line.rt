@@ -46,8 +46,8 @@ pub fn head_in(bytes: &[u8]) -> Result<Head, LineFault>
     head_of(region, partitions, threads)
 }
 
-// The head of three numbers.
-fn head_of(
+/// The head of three numbers, each of which may be too large.
+pub fn head_of(
     region: Option<u32>,
     partitions: Option<u32>,
     threads: Option<u32>,
@@ -61,7 +61,7 @@ fn head_of(
     })
 }
 
-// A line after the head, without its LF.
+/// A line after the head, without its LF.
 #[tactic(auto, unfolding(crate::specs::Reading::line_in))]
 #[inline(always)]
 pub fn line_in(head: Head, bytes: &[u8]) -> Result<Line, LineFault>

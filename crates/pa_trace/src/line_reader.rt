@@ -116,8 +116,8 @@ fn is_past(n: u32, length: usize, room: usize) -> bool
     n > MOST_LINES || length > room
 }
 
-// The fault of line n, if the line isn't past the limits.
-fn fault_at(n: u32, fault: LineFault) -> TraceFault
+/// The fault of line `n`, which is neither one line nor one byte too many.
+pub fn fault_at(n: u32, fault: LineFault) -> TraceFault
     ensures { result ≡ told n fault }
 {
     match fault {

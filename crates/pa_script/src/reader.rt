@@ -1,0 +1,110 @@
+ghost use Rattle.std.specs.Prelude.{◌≡◌, ◌<◌, ◌≤◌, ◌⊎◌, ◌↔◌, [], IsTrue, IfOk, IfErr, MatchOption};
+ghost use Rattle.pa_trace.specs.declared.fault.TraceFault.TheVariants as faults;
+ghost use Rattle.pa_script.specs.Limits.{most_script_lines};
+ghost use Rattle.pa_script.specs.Faults.{IsScriptFault};
+ghost use Rattle.pa_script.specs.Unread.{IsScriptReadUpTo, IsScriptLineRead, IsScriptEndRead, IsScriptFaultRead};
+
+use crate::line::{script_head_in, script_line_in};
+use crate::script::ScriptLine;
+use pa_trace::{Head, MOST_BYTES, TraceFault, cut_line, fault_at};
+use std::marker::Model;
+
+/// The most lines of a script, the head included.
+pub const MOST_SCRIPT_LINES: u32 = 10_000;
+
+// Reads the text of a script, line by line. It is seen as what is unread.
+#[derive(Drop)]
+pub(crate) struct ScriptReader<'a> {
+    head: Head,
+    rest: &'a [u8],
+    left: usize,
+    number: u32,
+}
+
+impl<'a> Model for ScriptReader<'a> {
+    ghost use Rattle.pa_trace.specs.Unread.{Unread};
+
+    ghost Value = { Unread };
+
+    ghost view = { λ r. record { head = r.head; rest = r.rest.now; left = r.left; number = r.number } };
+}
+
+impl<'a> ScriptReader<'a> {
+    // Reads the head, which is line 1.
+    pub(crate) fn of(bytes: &'a [u8]) -> Result<ScriptReader<'a>, TraceFault>
+        ensures head { IfOk result (IsScriptReadUpTo bytes.now []) }
+        ensures fault { IfErr result (λ e. IsScriptFault e bytes.now) }
+    {
+        let Some((first, rest)) = cut_line(bytes) else {
+            return Err(without_end(1, bytes.len(), MOST_BYTES));
+        };
+        let length = first.len() + 1;
+        if is_past(1, length, MOST_BYTES) {
+            return Err(TraceFault::Limit(1));
+        }
+        match script_head_in(first) {
+            Ok(head) => Ok(ScriptReader {
+                head,
+                rest,
+                left: MOST_BYTES - length,
+                number: 2,
+            }),
+            Err(fault) => Err(fault_at(1, fault)),
+        }
+    }
+
+    // The numbers of the head.
+    pub(crate) fn head(&self) -> Head
+        ensures { result ≡ self.now.head }
+    {
+        self.head
+    }
+
+    // Reads the next line. `None` is the end: the bytes are a script.
+    pub(crate) fn next(&mut self) -> Result<Option<ScriptLine>, TraceFault>
+        ensures line { IfOk result (λ found. MatchOption found
+            (IsScriptEndRead self.old self.new) (λ l. IsScriptLineRead self.old l self.new)) }
+        ensures fault { IfErr result (IsScriptFaultRead self.old) }
+    {
+        let n = self.number;
+        let rest = self.rest;
+        let Some((line, after)) = cut_line(rest) else {
+            if rest.is_empty() {
+                return Ok(None);
+            }
+            return Err(without_end(n, rest.len(), self.left));
+        };
+        let length = line.len() + 1;
+        if is_past(n, length, self.left) {
+            return Err(TraceFault::Limit(n));
+        }
+        match script_line_in(self.head, line) {
+            Ok(line) => {
+                self.rest = after;
+                self.left -= length;
+                self.number = n + 1;
+                Ok(Some(line))
+            }
+            Err(fault) => Err(fault_at(n, fault)),
+        }
+    }
+}
+
+// Whether line n, which has so many bytes, and so many may still come, is one line or one byte too many.
+fn is_past(n: u32, length: usize, room: usize) -> bool
+    ensures { IsTrue result ↔ ((most_script_lines < n) ⊎ (room < length)) }
+{
+    n > MOST_SCRIPT_LINES || length > room
+}
+
+// The fault of line n, which has so many bytes, and so many may still come, and no LF.
+fn without_end(n: u32, length: usize, room: usize) -> TraceFault
+    ensures past { (most_script_lines < n) ⊎ (room < length) → result ≡ faults.Limit n }
+    ensures bad { n ≤ most_script_lines → length ≤ room → result ≡ faults.BadLine n }
+{
+    if is_past(n, length, room) {
+        TraceFault::Limit(n)
+    } else {
+        TraceFault::BadLine(n)
+    }
+}
