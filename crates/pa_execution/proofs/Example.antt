@@ -89,7 +89,7 @@ no_counts o n = record {
 -- ---- the seats
 
 seat_aware : IsAware small_seat
-seat_aware = aware_of (replicate (262144 + 16) 0) (small_seat ∷ []) 0 small_seat (opens 262144 0 (omega arith)) refl
+seat_aware = aware_of (replicate (262144 + 16) 0) (small_seat ∷ []) 0 small_seat (opens 262144 0 (omega arith) (omega arith)) refl
 
 every : HasEveryStake small_seat
 every k below = elim (stake_count 0 16 k) [ inl y ↦ let a = y.2 in omega arith | inr n ↦ absurd (n.0 (omega arith, omega arith)) ]
