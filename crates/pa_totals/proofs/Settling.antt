@@ -1,0 +1,135 @@
+-- One addition after the other.
+use Rattle.std.proofs.Common.{◌≡◌, ℕ, ◌+◌, ◌*◌, ◌%◌, ◌<◌, ◌≤◌, List, [], ◌∷◌, ◌++◌, refl, sym, ◌∙◌, ap, subst, arith, inl, inr}
+use Rattle.std.specs.Prelude.{◌==◌, if◌then◌else◌}
+use Rattle.std.specs.List.{sum_by}
+use Rattle.std.proofs.lemmas.List.{append_assoc}
+use Rattle.std.proofs.lemmas.List.Sums.{sum_by_push}
+use Rattle.std.proofs.lemmas.Bool.{lt-ltb, ne_eqb}
+use Rattle.std.proofs.lemmas.Bool.Decides.{eqb_tells}
+use Rattle.pa_region.specs.declared.view.Entry.{Entry}
+use Rattle.pa_region.specs.declared.view.Entry.TheVariants.{Added}
+use Rattle.pa_region.specs.declared.view.View.{View}
+use Rattle.pa_region.specs.Views.{HasStake, least_stake}
+use Rattle.pa_region.specs.Pairs.{log_among, least_log}
+use Rattle.pa_region.specs.Takes.{log_of}
+use Rattle.pa_region.specs.Leaves.{AddLeaves}
+use Rattle.pa_region.specs.Totals.{owes_as, added_as, added_to, after_add, CanAdd}
+use Rattle.pa_totals.specs.declared.owed.Owed.{Owed}
+use Rattle.pa_totals.specs.Settled.{owed_to, CanSettle, after_settle, LeavesSettle}
+
+-- what the least stake's log owes of kind q is at least so much
+abbrev pub HasRoom : (ℕ → ℕ) → View → Type 0
+HasRoom f v = HasStake v × ((q : ℕ) → sum_by (added_as q) (least_log v.stakes) + f q ≤ sum_by (owes_as q) (least_log v.stakes))
+
+-- an addition to word 4 p + j is one of kind j
+added_kind : (p j bytes q : ℕ) → p < 4 → j < 4 → added_as q (Added (4 * p + j) bytes) ≡ (if j == q then bytes else 0)
+added_kind p j bytes q small kind =
+    let below : 4 * p + j < 16 = omega arith in
+    let rest : (4 * p + j) % 4 ≡ j = omega arith in
+    rw (lt-ltb (4 * p + j) 16 below, rest) refl
+
+-- so it may be made, and leaves room for the other kinds
+pub can_add : (p j bytes : ℕ) (v : View) (f : ℕ → ℕ) → p < 4 → j < 4 → HasRoom f v → f j ≡ bytes → CanAdd (4 * p + j) bytes v
+can_add p j bytes v f small kind room same =
+    let rest : (4 * p + j) % 4 ≡ j = omega arith in
+    let r = room.1 j in
+    (omega arith, room.0, rw rest (omega arith))
+
+pub room_left : AddLeaves → (p j bytes : ℕ) (v : View) (f g : ℕ → ℕ) → p < 4 → j < 4 → HasRoom f v → f j ≡ bytes → ((q : ℕ) → g q + (if j == q then bytes else 0) ≤ f q) →
+    HasRoom g (after_add (4 * p + j) bytes v)
+room_left leaves p j bytes v f g small kind room same less =
+    let l = leaves (4 * p + j) bytes v (can_add p j bytes v f small kind room same) in
+    let least = l.least in
+    let has = room.0 in
+    let log : least_log (after_add (4 * p + j) bytes v).stakes ≡ least_log v.stakes ++ Added (4 * p + j) bytes ∷ [] =
+    ap (λ (n : ℕ). log_among n (after_add (4 * p + j) bytes v).stakes) least ∙ l.log in (
+      omega arith,
+      λ q. rw log (
+          let a = sum_by_push (added_as q) (least_log v.stakes) (Added (4 * p + j) bytes) in
+          let b = sum_by_push (owes_as q) (least_log v.stakes) (Added (4 * p + j) bytes) in
+          let c = added_kind p j bytes q small kind in
+          let d = less q in
+          let e = room.1 q in
+          omega arith),
+    )
+
+-- what is left owed after one addition
+less_issued : (o : Owed) (q : ℕ) → owed_to q (record o { issued = 0 }) + (if 0 == q then o.issued else 0) ≤ owed_to q o
+less_issued o q = elim (eqb_tells q 0) [
+  | inl y ↦ subst (λ (n : ℕ). owed_to n (record o { issued = 0 }) + (if 0 == n then o.issued else 0) ≤ owed_to n o) (sym y.1) (omega arith)
+  | inr n ↦ rw (n.0, ne_eqb 0 q (λ e. n.1 (sym e))) (omega arith)
+]
+
+less_freed : (o : Owed) (q : ℕ) → owed_to q (record o { freed = 0 }) + (if 1 == q then o.freed else 0) ≤ owed_to q o
+less_freed o q = elim (eqb_tells q 1) [
+  | inl y ↦ subst (λ (n : ℕ). owed_to n (record o { freed = 0 }) + (if 1 == n then o.freed else 0) ≤ owed_to n o) (sym y.1) (omega arith)
+  | inr n ↦ rw (n.0, ne_eqb 1 q (λ e. n.1 (sym e))) (omega arith)
+]
+
+less_entered : (o : Owed) (q : ℕ) → owed_to q (record o { entered = 0 }) + (if 2 == q then o.entered else 0) ≤ owed_to q o
+less_entered o q = elim (eqb_tells q 2) [
+  | inl y ↦ subst (λ (n : ℕ). owed_to n (record o { entered = 0 }) + (if 2 == n then o.entered else 0) ≤ owed_to n o) (sym y.1) (omega arith)
+  | inr n ↦ rw (n.0, ne_eqb 2 q (λ e. n.1 (sym e))) (omega arith)
+]
+
+-- each of the four additions may be made
+pub record AddsEach (p : ℕ) (o : Owed) (v : View) : Type 0 where
+  pub issued : CanAdd (4 * p) o.issued v
+  pub freed : CanAdd (4 * p + 1) o.freed (after_add (4 * p) o.issued v)
+  pub entered : CanAdd (4 * p + 2) o.entered (after_add (4 * p + 1) o.freed (after_add (4 * p) o.issued v))
+  pub left : CanAdd (4 * p + 3) o.left (after_add (4 * p + 2) o.entered (after_add (4 * p + 1) o.freed (after_add (4 * p) o.issued v)))
+
+pub adds_each : AddLeaves → (p : ℕ) (o : Owed) (v : View) → CanSettle p o v → AddsEach p o v
+adds_each leaves p o v can =
+    let first : 4 * p + 0 ≡ 4 * p = omega arith in
+    let small = can.partition in
+    let o1 : Owed = record o { issued = 0 } in
+    let o2 : Owed = record o1 { freed = 0 } in
+    let o3 : Owed = record o2 { entered = 0 } in
+    let v1 = after_add (4 * p) o.issued v in
+    let v2 = after_add (4 * p + 1) o.freed v1 in
+    let v3 = after_add (4 * p + 2) o.entered v2 in
+    let r0 : HasRoom (λ q. owed_to q o) v = (can.stake, can.covered) in
+    let r1 : HasRoom (λ q. owed_to q o1) v1 =
+    subst (λ (k : ℕ). HasRoom (λ q. owed_to q o1) (after_add k o.issued v)) first
+    (room_left leaves p 0 o.issued v (λ q. owed_to q o) (λ q. owed_to q o1) small (omega arith) r0 refl (less_issued o)) in
+    let r2 : HasRoom (λ q. owed_to q o2) v2 = room_left leaves p 1 o.freed v1 (λ q. owed_to q o1) (λ q. owed_to q o2) small (omega arith) r1 refl (less_freed o1) in
+    let r3 : HasRoom (λ q. owed_to q o3) v3 = room_left leaves p 2 o.entered v2 (λ q. owed_to q o2) (λ q. owed_to q o3) small (omega arith) r2 refl (less_entered o2) in
+    record {
+      issued = subst (λ (k : ℕ). CanAdd k o.issued v) first (can_add p 0 o.issued v (λ q. owed_to q o) small (omega arith) r0 refl);
+      freed = can_add p 1 o.freed v1 (λ q. owed_to q o1) small (omega arith) r1 refl;
+      entered = can_add p 2 o.entered v2 (λ q. owed_to q o2) small (omega arith) r2 refl;
+      left = can_add p 3 o.left v3 (λ q. owed_to q o3) small (omega arith) r3 refl;
+    }
+
+-- one entry after the other
+pub leaves_settle : AddLeaves → (p : ℕ) (o : Owed) (v : View) → CanSettle p o v → LeavesSettle p o v (after_settle p o v)
+leaves_settle leaves p o v can =
+    let each = adds_each leaves p o v can in
+    let v1 = after_add (4 * p) o.issued v in
+    let v2 = after_add (4 * p + 1) o.freed v1 in
+    let v3 = after_add (4 * p + 2) o.entered v2 in
+    let a = leaves (4 * p) o.issued v each.issued in
+    let b = leaves (4 * p + 1) o.freed v1 each.freed in
+    let c = leaves (4 * p + 2) o.entered v2 each.entered in
+    let d = leaves (4 * p + 3) o.left v3 each.left in
+    let l1 : least_stake v1.stakes ≡ least_stake v.stakes = a.least in
+    let l2 : least_stake v2.stakes ≡ least_stake v.stakes = b.least ∙ l1 in
+    let l3 : least_stake v3.stakes ≡ least_stake v.stakes = c.least ∙ l2 in
+    let w = after_settle p o v in
+    let n = least_stake v.stakes in
+    let e1 : List Entry = Added (4 * p) o.issued ∷ [] in
+    let e2 : List Entry = Added (4 * p + 1) o.freed ∷ [] in
+    let e3 : List Entry = Added (4 * p + 2) o.entered ∷ [] in
+    let e4 : List Entry = Added (4 * p + 3) o.left ∷ [] in
+    let log2 : log_of n v2 ≡ log_of n v1 ++ e2 = subst (λ (k : ℕ). log_of k v2 ≡ log_of k v1 ++ e2) l1 b.log in
+    let log3 : log_of n v3 ≡ log_of n v2 ++ e3 = subst (λ (k : ℕ). log_of k v3 ≡ log_of k v2 ++ e3) l2 c.log in
+    let log4 : log_of n w ≡ log_of n v3 ++ e4 = subst (λ (k : ℕ). log_of k w ≡ log_of k v3 ++ e4) l3 d.log in
+    let two : log_of n v2 ≡ log_of n v ++ (e1 ++ e2) = log2 ∙ (ap (λ (l : List Entry). l ++ e2) a.log ∙ append_assoc (log_of n v) e1 e2) in
+    let three : log_of n v3 ≡ log_of n v ++ ((e1 ++ e2) ++ e3) = log3 ∙ (ap (λ (l : List Entry). l ++ e3) two ∙ append_assoc (log_of n v) (e1 ++ e2) e3) in
+    record {
+      least = d.least ∙ l3;
+      log = log4 ∙ (ap (λ (l : List Entry). l ++ e4) three ∙ append_assoc (log_of n v) ((e1 ++ e2) ++ e3) e4);
+      other_logs = λ k ne. d.other_logs k (λ e. ne (e ∙ l3)) ∙ (c.other_logs k (λ e. ne (e ∙ l2)) ∙ (b.other_logs k (λ e. ne (e ∙ l1)) ∙ a.other_logs k ne));
+      stakes = λ k. d.stakes k ∙ (c.stakes k ∙ (b.stakes k ∙ a.stakes k));
+    }

@@ -1,0 +1,51 @@
+-- What a settling adds to the totals words, when a seat may make it, and what was added to a word.
+use Rattle.std.specs.Prelude.{◌≡◌, ℕ, ◌+◌, ◌*◌, ◌<◌, ◌≤◌, ◌==◌, List, [], ◌∷◌, ◌++◌, if◌then◌else◌}
+use Rattle.std.specs.List.{sum_by}
+use Rattle.pa_region.specs.declared.view.Entry.{Entry}
+use Rattle.pa_region.specs.declared.view.Entry.TheVariants.{Added}
+use Rattle.pa_region.specs.declared.view.View.{View}
+use Rattle.pa_region.specs.Views.{least_stake, stake_of, HasStake, logged_of}
+use Rattle.pa_region.specs.Pairs.{least_log}
+use Rattle.pa_region.specs.Takes.{log_of}
+use Rattle.pa_region.specs.Totals.{owes_as, added_as, added_to, after_add}
+use Rattle.pa_totals.specs.declared.owed.Owed.{Owed}
+
+-- nothing is owed
+abbrev pub nothing_owed : Owed
+nothing_owed = record { issued = 0; freed = 0; entered = 0; left = 0 }
+
+-- what is owed to the word of kind q
+abbrev pub owed_to : ℕ → Owed → ℕ
+owed_to q o = if q == 0 then o.issued else (if q == 1 then o.freed else (if q == 2 then o.entered else (if q == 3 then o.left else 0)))
+
+-- A seat with this view may settle what is owed to the words of partition p: it has a stake, and of each kind the least stake's log
+-- owes as much.
+pub record CanSettle (p : ℕ) (o : Owed) (v : View) : Type 0 where
+  pub partition : p < 4
+  pub stake : HasStake v
+  pub covered : (q : ℕ) → sum_by (added_as q) (least_log v.stakes) + owed_to q o ≤ sum_by (owes_as q) (least_log v.stakes)
+
+-- the view after it: one addition to each of the partition's words, in the order of the kinds
+abbrev pub after_settle : ℕ → Owed → View → View
+after_settle p o v =
+    after_add (4 * p + 3) o.left (after_add (4 * p + 2) o.entered (after_add (4 * p + 1) o.freed (after_add (4 * p) o.issued v)))
+
+-- what was added to word number k, in all logs of the view
+abbrev pub added_in : View → ℕ → ℕ
+added_in v k = logged_of v (added_to k)
+
+-- the four additions, as entries of a log
+abbrev pub four_added : ℕ → Owed → List Entry
+four_added p o =
+    Added (4 * p) o.issued ∷ Added (4 * p + 1) o.freed ∷ Added (4 * p + 2) o.entered ∷ Added (4 * p + 3) o.left ∷ []
+
+-- What a settling leaves of logs: the least stake's log ends with the four additions, the others are as before, and so are the
+-- stakes.
+pub record LeavesSettle (p : ℕ) (o : Owed) (v w : View) : Type 0 where
+  pub least : least_stake w.stakes ≡ least_stake v.stakes
+  pub log : log_of (least_stake v.stakes) w ≡ log_of (least_stake v.stakes) v ++ four_added p o
+  pub other_logs : (k : ℕ) → (k ≡ least_stake v.stakes → ⊥) → log_of k w ≡ log_of k v
+  pub stakes : (k : ℕ) → stake_of w k ≡ stake_of v k
+
+abbrev pub SettleLeaves : Type 0
+SettleLeaves = (p : ℕ) (o : Owed) (v : View) → CanSettle p o v → LeavesSettle p o v (after_settle p o v)

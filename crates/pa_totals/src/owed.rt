@@ -1,0 +1,35 @@
+ghost use Rattle.std.specs.Prelude.{◌≡◌};
+ghost use Rattle.pa_totals.specs.Settled.{CanSettle, nothing_owed, after_settle};
+
+use pa_region::{Region, Seat, additions_stand_in_logs};
+
+/// What a thread's steps owe to the totals words of one partition, in bytes: of slots that it issued, that it freed, that it
+/// freed into the quarantine, and that left the quarantine by its last resets.
+#[derive(Clone, Copy)]
+pub struct Owed {
+    pub issued: u64,
+    pub freed: u64,
+    pub entered: u64,
+    pub left: u64,
+}
+
+/// Adds what is owed to the partition's four totals words, by the seat's least stake; then nothing is owed.
+pub fn settle(region: &Region, seat: &mut Seat, partition: u32, owed: &mut Owed)
+    requires region { seat.old.region ≡ region.now }
+    requires able { CanSettle partition owed.old seat.old.view }
+    ensures region { seat.new.region ≡ seat.old.region }
+    ensures view { seat.new.view ≡ after_settle partition owed.old seat.old.view }
+    ensures settled { owed.new ≡ nothing_owed }
+{
+    additions_stand_in_logs();
+    region.add_total(seat, 4 * partition, owed.issued);
+    region.add_total(seat, 4 * partition + 1, owed.freed);
+    region.add_total(seat, 4 * partition + 2, owed.entered);
+    region.add_total(seat, 4 * partition + 3, owed.left);
+    *owed = Owed {
+        issued: 0,
+        freed: 0,
+        entered: 0,
+        left: 0,
+    };
+}
