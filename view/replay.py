@@ -113,6 +113,8 @@ class Heap:
             self.refuse(record.line, f"register {op.fields[0]} doesn't hold {name}")
         if found != slot.word:
             self.refuse(record.line, f"{name} has the count word {slot.word:016x}")
+        if slot in self.waiting:
+            self.quarantine[self.waiting[slot]][4].append(self.moment)
         if not is_step(record):
             if FINDS.get(record.answer, found & BIT) != found & BIT or (record.answer == "shared" and not found % ONE >> 1):
                 self.refuse(record.line, f"a look that finds {found:016x} isn't told so")
@@ -135,7 +137,7 @@ class Heap:
         bit, refs = slot.word & BIT, (slot.word % ONE) >> 1
         if op.name == "F" and refs:
             self.waiting[slot] = len(self.quarantine)
-            self.quarantine.append([slot.index, self.moment, refs, -1])
+            self.quarantine.append([slot.index, self.moment, refs, -1, []])
         if bit or refs:
             return self.move(slot, LIVE if bit else QUARANTINED, 0)
         if slot in self.waiting:

@@ -109,14 +109,20 @@ function makeQuarantine() {
   $("quarantine-sum").textContent = data.quarantine.length
     ? `${count(data.quarantine.length)} ${data.quarantine.length === 1 ? "time" : "times"}, ${count(bytes)} bytes in all; ${count(kept)} not returned at the end`
     : "";
-  const titles = ["slot", ">partition", ">bytes", ">freed at", ">raw_ptrs left", ">returned at", ">lines between", "returned by"];
+  const titles = ["slot", ">partition", ">bytes", ">freed at", ">raw_ptrs left", ">returned at", ">lines between", "used on lines", "returned by"];
   quarantined = new Rows($("quarantine"), titles, quarantineRow, "No slot was freed while a raw_ptr pointed to it.");
   for (const wide of [1, 6]) quarantined.titles.children[wide].classList.add("wide");
   quarantined.show(data.quarantine, -1);
 }
 
-// A row leads to the free, and its last three fields to the line that returned the slot.
-function quarantineRow([slot, freed, refs, returned]) {
+// The lines on which a slot was used after its free, the first of many.
+function usedOn(uses) {
+  const told = uses.slice(0, 12).map((at) => count(lineOf(at))).join(", ");
+  return uses.length > 12 ? `${told} and ${count(uses.length - 12)} more` : told || "–";
+}
+
+// A row leads to the free, its lines of use to the first of them, and the fields of the return to the line that returned the slot.
+function quarantineRow([slot, freed, refs, returned, uses]) {
   const [, partition, length] = data.slots[slot], back = returned >= 0;
   const made = make("div", "row");
   const cell = (name, text, to) => {
@@ -134,6 +140,7 @@ function quarantineRow([slot, freed, refs, returned]) {
   cell("right", count(refs), freed);
   cell("right", back ? count(lineOf(returned)) : "–", back ? returned : freed);
   cell("right wide", back ? count(returned - freed - 1) : "–", back ? returned : freed);
+  cell("", usedOn(uses), uses[0] ?? freed);
   cell("", back ? data.trace[lineOf(returned) - 1] : "still in quarantine at the end", back ? returned : freed);
   if (freed <= moment && (!back || moment < returned)) made.classList.add("now");
   if (freed > moment) made.classList.add("later");
