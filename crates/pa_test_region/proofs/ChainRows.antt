@@ -1,18 +1,16 @@
 -- The row of slots of which the tests make chains.
-use Rattle.std.proofs.Common.{◌≡◌, ℕ, ◌+◌, ◌*◌, ◌%◌, ◌^◌, ◌<◌, ◌≤◌, List, ◌∷◌, [], refl, sym, ◌∙◌, ap, subst, arith, inl, inr}
-use Rattle.std.specs.Prelude.{All, Contains, None}
+use Rattle.std.proofs.Common.{◌≡◌, ℕ, ◌+◌, ◌*◌, ◌^◌, ◌<◌, ◌≤◌, List, ◌∷◌, [], refl, sym, ◌∙◌, ap, subst, arith, inl, inr}
+use Rattle.std.specs.Prelude.{Contains, None}
 use Rattle.std.proofs.lemmas.Bool.{cases_lt}
 use Rattle.std.proofs.lemmas.List.Sums.{sum_by-cons}
 use Rattle.std.proofs.lemmas.List.Elements.{All-nil, All-cons, All-weaker, All-contains}
 use Rattle.pa_machine.specs.declared.title.Title.{Title}
 use Rattle.pa_machine.specs.Titles.{same_title}
 use Rattle.pa_machine.specs.Holdings.{one}
-use Rattle.pa_machine.specs.Links.{link_to}
 use Rattle.pa_machine.proofs.Same.{title_self}
-use Rattle.pa_record.specs.Spans.{name_of}
 use Rattle.pa_region.specs.declared.view.View.{View}
 use Rattle.pa_region.specs.Views.{free_of, HasEveryStake}
-use Rattle.pa_region.specs.Cuts.{CanCut, after_cut}
+use Rattle.pa_region.specs.Cuts.{after_cut}
 use Rattle.pa_region.specs.CutTells.{FirstCanCut, CutLeavesOthers}
 use Rattle.pa_region.specs.Start.{first_view}
 use Rattle.pa_region.proofs.FirstLists.{stake_count}
@@ -39,8 +37,11 @@ row_first law born v e = subst (IsRowOf born 0) (sym e) (record {
 pub row_more : CutLeavesOthers → (born n : ℕ) (v w : View) → IsRowOf born n v → n < 256 → w ≡ after_cut (chain_slot born n) v →
     IsRowOf born (n + 1) w
 row_more law born n v w row few e = subst (IsRowOf born (n + 1)) (sym e) (record {
-  free = λ k less. elim (cases_lt k n) [ inl below ↦ left k (row.free k below) | inr most ↦ subst (λ m. 0 < free_of (after_cut
-      (chain_slot born n) v) (chain_slot born m)) (same k less most) here ];
+  free = λ k less. elim (cases_lt k n) [
+    | inl below ↦ left k (row.free k below)
+    | inr most ↦ subst (λ m. 0 < free_of (after_cut
+        (chain_slot born n) v) (chain_slot born m)) (same k less most) here
+  ];
   can = λ k low high. law.1 (chain_slot born n) (chain_slot born k) v (row.can k (omega arith) high) (inl (omega arith));
   stakes = row.stakes;
 })
@@ -106,5 +107,5 @@ row_pushed born n from link v w c d row e push len size = record {
   chain = push row.titles row.chain (row_new born n from v c row);
   later = All-cons (λ (t : Title). 16384 + 16 * from ≤ t.start) (chain_slot born from) row.titles (omega arith)
       (All-weaker (λ (t : Title). 16384 + 16 * (from + 1) ≤ t.start) (λ (t : Title). 16384 + 16 * from ≤ t.start)
-          (λ t low. omega arith) row.titles row.later);
+      (λ t low. omega arith) row.titles row.later);
 }

@@ -1,4 +1,4 @@
-use Rattle.std.proofs.Common.{◌≡◌, ◌≤◌, ◌∙◌, ap, sym, subst, arith}
+use Rattle.std.proofs.Common.{◌∙◌, ap, sym, subst, arith}
 use Rattle.pa_region.specs.Cuts.{CanCut, after_cut}
 use Rattle.pa_test_region.proofs.ChainRows.{row_more}
 use Rattle.pa_test_region.proofs.link.cut_next.Goals as goal

@@ -1,4 +1,4 @@
-use Rattle.std.proofs.Common.{◌≡◌, ◌<◌, ◌∷◌, ◌∙◌, List, ap, sym, subst, arith}
+use Rattle.std.proofs.Common.{◌<◌, ◌∷◌, ◌∙◌, List, ap, sym, subst, arith}
 use Rattle.std.specs.Prelude.{Contains}
 use Rattle.pa_machine.specs.declared.title.Title.{Title}
 use Rattle.pa_machine.specs.Links.{link_to}
@@ -22,6 +22,6 @@ pub returns-clause-row : goal.returns-clause-row
 returns-clause-row c =
     let v = c.args.seat.now.view in let link = link_to c.args.chain.now.head in
     let push = subst (λ t. (ts : List Title) → IsChain v c.args.chain.now ts → (Contains ts t → ⊥) →
-        IsChain c.push.new.seat.view c.push.new.self (t ∷ ts)) c.slot.ensures c.push.ensures.chain in
+    IsChain c.push.new.seat.view c.push.new.self (t ∷ ts)) c.slot.ensures c.push.ensures.chain in
     row_pushed c.args.born c.args.cut c.args.number link v c.push.new.seat.view c.args.chain.now c.push.new.self c.requires.row
     (c.push.ensures.view ∙ ap (λ t. after_link t link v) c.slot.ensures) push c.push.ensures.len c.push.ensures.slot_len
