@@ -1,6 +1,6 @@
 -- A run that has a timeline: each field is tested, or follows by computing.
-use Rattle.std.proofs.Common.{◌≡◌, ℕ, zero, suc, ◌<◌, ◌&&◌, ◌||◌, not, Bool, true, false, cond, List, [], ◌∷◌, ◌++◌, ◌⊎◌, map, drop, get_or, slice_get, Option, Some, None, refl, sym, ◌∙◌, ap, subst, arith, inl, inr, append_assoc, append-nil, true≢false}
-use Rattle.std.specs.Prelude.{Contains, All, AllPairs, ◌==◌, nat_lt, slice_index_or}
+use Rattle.std.proofs.Common.{◌≡◌, ℕ, zero, suc, ◌&&◌, ◌||◌, not, Bool, true, false, List, [], ◌∷◌, ◌++◌, ◌⊎◌, map, drop, get_or, slice_get, Option, Some, None, refl, sym, ◌∙◌, ap, subst, inl, inr, append_assoc, append-nil, true≢false}
+use Rattle.std.specs.Prelude.{Contains, AllPairs, ◌==◌, nat_lt, slice_index_or}
 use Rattle.std.specs.List.{list_all}
 use Rattle.std.proofs.lemmas.Bool.{cases_eq, eq-eqb, ne_eqb, lt-ltb, eqb-true}
 use Rattle.std.proofs.lemmas.List.Elements.{All-from_recursion, All-contains}
@@ -11,7 +11,6 @@ use Rattle.pa_trace.specs.declared.script.Op.TheVariants as ops
 use Rattle.pa_record.specs.declared.entry.Seen.{Seen}
 use Rattle.pa_record.specs.declared.entry.Answer.{Answer}
 use Rattle.pa_record.specs.declared.entry.Answer.TheVariants as answers
-use Rattle.pa_record.specs.declared.report.ReportLine.{ReportLine}
 use Rattle.pa_record.specs.declared.root.RootAct.{RootAct}
 use Rattle.pa_record.specs.declared.root.RootAct.TheVariants.{Purge}
 use Rattle.pa_record.specs.declared.history.CellEntry.{CellEntry}
@@ -25,8 +24,8 @@ use Rattle.pa_rules.specs.Registers.{usable_in}
 use Rattle.pa_rules.specs.Roots.{journal_at}
 use Rattle.pa_rules.specs.Order.{StandsBefore}
 use Rattle.pa_rules.specs.Cells.{history_at}
-use Rattle.pa_timeline.specs.Timeline.{Part, Asking, Entering, Swapping, Looking, Loading, Spoiling, Counting, Moment, due_parts, parts_in, journal_made, swap_lines, counted_steps, content_after, IsTouch, GivesAt, IsTimeline}
-use Rattle.pa_timeline.specs.Worked.{read_records, one_fill, first_slot, handed, ThreadsHaveOne}
+use Rattle.pa_timeline.specs.Timeline.{Part, Asking, Entering, Swapping, Looking, Loading, Spoiling, Counting, Moment, due_parts, parts_in, journal_made, swap_lines, counted_steps, content_after, IsTouch, GivesAt}
+use Rattle.pa_timeline.specs.Worked.{read_records, one_fill, lower_slot, passed_on, ThreadsHaveOne}
 use Rattle.pa_timeline.proofs.Places.{moment}
 
 -- ---- tests
@@ -175,8 +174,8 @@ threads_have_one report = (
     ];
     pool = refl;
     exchanges = λ k. elim (cases_eq 0 k) [
-      | inl e ↦ subst (λ q. swap_lines q read_moments ≡ map (λ (d : CellEntry). d.line) (history_at (handed 4 6 first_slot ∷ []) q)) e refl
-      | inr other ↦ rw (ne_eqb 0 k other) (sym (ap (map (λ (d : CellEntry). d.line)) (past_one (handed 4 6 first_slot) [] k other)))
+      | inl e ↦ subst (λ q. swap_lines q read_moments ≡ map (λ (d : CellEntry). d.line) (history_at (passed_on 4 6 lower_slot ∷ []) q)) e refl
+      | inr other ↦ rw (ne_eqb 0 k other) (sym (ap (map (λ (d : CellEntry). d.line)) (past_one (passed_on 4 6 lower_slot) [] k other)))
     ];
     reads = λ before after m seen place value cut loads gives.
         left_is before m.x.op m.x.answer seen place value (loaded (reads_left before m.x.op m.x.answer) m.part loads (passes_after is_read [] read_moments before after m refl cut)) gives;

@@ -1,8 +1,8 @@
 -- Three runs that have no timeline.
 use Rattle.std.proofs.Common.{◌≡◌, ℕ, ◌<◌, ◌⊎◌, Bool, true, false, List, [], ◌∷◌, ◌++◌, map, length, get_or, zero, suc, Option, Some, None, refl, sym, ◌∙◌, ap, subst, arith, inl, inr}
 use Rattle.std.specs.Prelude.{Contains, ◌==◌, ◌||◌}
-use Rattle.std.specs.List.{filter_map, flat_map, list_all}
-use Rattle.std.proofs.lemmas.Bool.{cases_lt, eqb-true}
+use Rattle.std.specs.List.{flat_map, list_all}
+use Rattle.std.proofs.lemmas.Bool.{eqb-true}
 use Rattle.pa_machine.specs.declared.word.SlotName.{SlotName}
 use Rattle.pa_machine.specs.declared.word.Step.TheVariants as steps
 use Rattle.pa_machine.specs.Titles.{poison}
@@ -11,10 +11,10 @@ use Rattle.pa_record.specs.declared.entry.Answer.TheVariants as answers
 use Rattle.pa_record.specs.declared.root.RootAct.TheVariants.{Purge}
 use Rattle.pa_record.specs.declared.root.RootEntry.{RootEntry}
 use Rattle.pa_record.specs.Worked.{purge}
-use Rattle.pa_lists.proofs.Elements.{in_middle, passes}
+use Rattle.pa_lists.proofs.Elements.{passes}
 use Rattle.pa_lists.proofs.Indexed.{at_in}
 use Rattle.pa_lists.proofs.Joined.{map_in, flat_in}
-use Rattle.pa_lists.proofs.Members.{not_in_none, first_in, later_in}
+use Rattle.pa_lists.proofs.Members.{first_in, later_in}
 use Rattle.pa_rules.specs.declared.played.Played.{Played}
 use Rattle.pa_rules.specs.Played.{mark_at}
 use Rattle.pa_rules.specs.Registers.{usable_in}
@@ -23,8 +23,8 @@ use Rattle.pa_rules.specs.Order.{StandsBefore}
 use Rattle.pa_rules.proofs.Numbering.{lines_differ}
 use Rattle.pa_rules.proofs.Running.{one_by}
 use Rattle.pa_timeline.specs.Timeline.{Part, Entering, Swapping, Loading, Counting, Moment, due_parts, part_enters, part_swaps, moment_leaves, changed_to, content_after}
-use Rattle.pa_timeline.specs.Worked.{first_slot, second_slot, seen_in, one_fill, two_slots_trace, two_slots_records, TwoSlotsHaveNone, purges_trace, purges_records, purged_in, PurgesHaveNone, early_trace, early_records, ReadBeforeFreeHasNone}
-use Rattle.pa_timeline.proofs.Places.{IsAt, cut_one, one_member, in_two, in_three, by_list, part_on, parts_kept, moment, placed, by_line, by_number, step_of_record}
+use Rattle.pa_timeline.specs.Worked.{lower_slot, upper_slot, slot_seen, one_fill, two_slots_trace, two_slots_records, TwoSlotsHaveNone, purges_trace, purges_records, purged_in, PurgesHaveNone, early_trace, early_records, ReadBeforeFreeHasNone}
+use Rattle.pa_timeline.proofs.Places.{IsAt, cut_one, in_two, in_three, by_list, part_on, parts_kept, moment, placed, by_line, by_number, step_of_record}
 
 -- ---- two slots
 
@@ -44,11 +44,11 @@ two_slots_have_none report (ms, t) =
     let (l, at_l) = placed _ _ _ _ _ _ ms t differ (slots_at 11) Counting (at_in two_slots_records 11 (slots_at 11) refl) (at_in (slots_due 11) 0 Counting refl) in
     let a = by_line _ _ _ _ _ _ ms t i j (moment (slots_at 8) Counting) (moment (slots_at 9) Counting) at_i at_j (inl (refl, omega arith)) in
     let b = by_number _ _ _ _ _ _ ms t j k (moment (slots_at 9) Counting) (moment (slots_at 10) Counting)
-    (mark_at 13 (seen_in first_slot 0x2000003) (Some steps.Free)) (mark_at 14 (seen_in first_slot 0x3000002) (Some steps.Reset))
+    (mark_at 13 (slot_seen lower_slot 0x2000003) (Some steps.Free)) (mark_at 14 (slot_seen lower_slot 0x3000002) (Some steps.Reset))
     at_j at_k (inr refl) (inr refl) refl refl refl (omega arith) in
     let c = by_line _ _ _ _ _ _ ms t k l (moment (slots_at 10) Counting) (moment (slots_at 11) Counting) at_k at_l (inl (refl, omega arith)) in
     let d = by_number _ _ _ _ _ _ ms t l i (moment (slots_at 11) Counting) (moment (slots_at 8) Counting)
-    (mark_at 15 (seen_in second_slot 0x2000003) (Some steps.Reset)) (mark_at 12 (seen_in second_slot 0x3000001) (Some steps.Free))
+    (mark_at 15 (slot_seen upper_slot 0x2000003) (Some steps.Reset)) (mark_at 12 (slot_seen upper_slot 0x3000001) (Some steps.Free))
     at_l at_i (inr refl) (inr refl) refl refl refl (omega arith) in
     omega arith
 
@@ -120,7 +120,7 @@ abbrev early_moments : List Moment
 early_moments = flat_map (λ x. map (moment x) (early_due x)) early_records
 
 abbrev is_early : Moment → Bool
-is_early m = is_clean (moment_leaves first_slot 0 m) || (m.x.line == 10)
+is_early m = is_clean (moment_leaves lower_slot 0 m) || (m.x.line == 10)
 
 all_early : list_all is_early early_moments ≡ true
 all_early = refl
@@ -147,16 +147,16 @@ early_has_none report (ms, t) =
     let b = by_list (λ (m : Moment). part_swaps 1 m.x.line m.x.op m.part) ms j k (moment (early_at 5) Swapping) (moment (early_at 6) Swapping) 8 9 at_j at_k refl refl (λ e. omega arith)
     (λ us vs ws e. let (first, second) = in_two 8 9 8 9 us vs ws (sym (t.exchanges 1) ∙ e) in omega arith) in
     let (us, vs, cut, place) = cut_one ms i (moment (early_at 4) Loading) at_i in
-    let zero = content_zero first_slot us (λ m among.
+    let zero = content_zero lower_slot us (λ m among.
     let (n, at_n, low) = before_cut ms us vs m (moment (early_at 4) Loading) cut among in
     let (of, due) = step_of_record _ _ _ _ _ _ ms t m (n, at_n.0, at_n.1) in
     let there = flat_in (λ x. map (moment x) (early_due x)) early_records m.x m of (map_in (moment m.x) (early_due m.x) m.part due) in
-    elim (or_cases (is_clean (moment_leaves first_slot 0 m)) (m.x.line == 10) (passes is_early early_moments m all_early there)) [
+    elim (or_cases (is_clean (moment_leaves lower_slot 0 m)) (m.x.line == 10) (passes is_early early_moments m all_early there)) [
       | inl clean ↦ clean
       | inr last ↦
           let same : m.x ≡ early_at 7 = one_by (λ (y : Played). y.line) early_records m.x (early_at 7) differ of (at_in early_records 7 (early_at 7) refl) (eqb-true m.x.line 10 last) in
           let c = by_line _ _ _ _ _ _ ms t k n (moment (early_at 6) Swapping) m at_k at_n (subst (λ y. StandsBefore (early_at 6) y) (sym same) (inl (refl, omega arith))) in
           absurd (omega arith)
     ]) in
-    let read = t.reads us vs (moment (early_at 4) Loading) (seen_in first_slot 0x2000003) 0 poison cut refl (refl, inl refl) in
+    let read = t.reads us vs (moment (early_at 4) Loading) (slot_seen lower_slot 0x2000003) 0 poison cut refl (refl, inl refl) in
     absurd (let wrong : poison ≡ 0 = read ∙ zero in omega arith)

@@ -31,25 +31,25 @@ abbrev pub trace_as : List Line → Trace
 trace_as lines = record { region = 1; partitions = 1; threads = 2; lines = lines }
 
 -- the two slots of the runs, and what is found in one
-abbrev pub first_slot : SlotName
-first_slot = record { start = 16384; born = 0 }
+abbrev pub lower_slot : SlotName
+lower_slot = record { start = 16384; born = 0 }
 
-abbrev pub second_slot : SlotName
-second_slot = record { start = 16400; born = 0 }
+abbrev pub upper_slot : SlotName
+upper_slot = record { start = 16400; born = 0 }
 
-abbrev pub seen_in : SlotName → ℕ → Seen
-seen_in slot word = record { slot = slot; found = record { 0 = word } }
+abbrev pub slot_seen : SlotName → ℕ → Seen
+slot_seen slot word = record { slot = slot; found = record { 0 = word } }
 
 -- a fill on line 2, which asks the pool for its super page
 abbrev pub one_fill : List RootEntry
 one_fill = fill 2 0 (Some 0) (slots 0 0 (16384 ∷ 16400 ∷ 16416 ∷ 16432 ∷ 16448 ∷ 16464 ∷ 16480 ∷ 16496 ∷ [])) ∷ []
 
-abbrev pub one_take : List PoolEntry
-one_take = pool_take 2 0 1 (Some 0) ∷ []
+abbrev pub one_super_page : List PoolEntry
+one_super_page = pool_take 2 0 1 (Some 0) ∷ []
 
 -- a raw_ptr to the slot goes through a cell, from the one line to the other
-abbrev pub handed : ℕ → ℕ → SlotName → List CellEntry
-handed from to slot =
+abbrev pub passed_on : ℕ → ℕ → SlotName → List CellEntry
+passed_on from to slot =
     record { line = from; gave = held.Ref slot; found = held.Nothing }
     ∷ record { line = to; gave = held.Nothing; found = held.Ref slot }
     ∷ []
@@ -71,18 +71,18 @@ read_trace =
 
 abbrev pub read_records : List Played
 read_records =
-    record { line = 2; thread = 0; phase = 1; op = ops.Alloc 0 0 8; answer = answers.Made (seen_in first_slot 0) 8 }
-    ∷ record { line = 3; thread = 0; phase = 1; op = ops.Copy 0 1; answer = answers.Done (seen_in first_slot 0x1000001) }
+    record { line = 2; thread = 0; phase = 1; op = ops.Alloc 0 0 8; answer = answers.Made (slot_seen lower_slot 0) 8 }
+    ∷ record { line = 3; thread = 0; phase = 1; op = ops.Copy 0 1; answer = answers.Done (slot_seen lower_slot 0x1000001) }
     ∷ record { line = 4; thread = 0; phase = 1; op = ops.Swap 0 1; answer = answers.Swapped 0 }
     ∷ record { line = 6; thread = 1; phase = 2; op = ops.Swap 0 0; answer = answers.Swapped 1 }
-    ∷ record { line = 7; thread = 0; phase = 2; op = ops.Free 0; answer = answers.Done (seen_in first_slot 0x2000003) }
-    ∷ record { line = 8; thread = 1; phase = 2; op = ops.Read 0 0; answer = answers.Value (seen_in first_slot 0x2000003) poison }
+    ∷ record { line = 7; thread = 0; phase = 2; op = ops.Free 0; answer = answers.Done (slot_seen lower_slot 0x2000003) }
+    ∷ record { line = 8; thread = 1; phase = 2; op = ops.Read 0 0; answer = answers.Value (slot_seen lower_slot 0x2000003) poison }
     ∷ []
 
 abbrev pub ThreadsHaveOne : Type 0
 ThreadsHaveOne =
     (report : List ReportLine) →
-    HasTimeline read_trace (told_as read_records (one_fill ∷ []) one_take (handed 4 6 first_slot ∷ []) report)
+    HasTimeline read_trace (told_as read_records (one_fill ∷ []) one_super_page (passed_on 4 6 lower_slot ∷ []) report)
 
 -- ---- two slots, each with its steps in an order that contradicts the other's
 
@@ -109,25 +109,26 @@ two_slots_trace =
 
 abbrev pub two_slots_records : List Played
 two_slots_records =
-    record { line = 2; thread = 0; phase = 1; op = ops.Alloc 0 0 8; answer = answers.Made (seen_in first_slot 0) 8 }
-    ∷ record { line = 3; thread = 0; phase = 1; op = ops.Alloc 1 0 8; answer = answers.Made (seen_in second_slot 0) 8 }
-    ∷ record { line = 4; thread = 0; phase = 1; op = ops.Copy 0 2; answer = answers.Done (seen_in first_slot 0x1000001) }
-    ∷ record { line = 5; thread = 0; phase = 1; op = ops.Copy 1 3; answer = answers.Done (seen_in second_slot 0x1000001) }
+    record { line = 2; thread = 0; phase = 1; op = ops.Alloc 0 0 8; answer = answers.Made (slot_seen lower_slot 0) 8 }
+    ∷ record { line = 3; thread = 0; phase = 1; op = ops.Alloc 1 0 8; answer = answers.Made (slot_seen upper_slot 0) 8 }
+    ∷ record { line = 4; thread = 0; phase = 1; op = ops.Copy 0 2; answer = answers.Done (slot_seen lower_slot 0x1000001) }
+    ∷ record { line = 5; thread = 0; phase = 1; op = ops.Copy 1 3; answer = answers.Done (slot_seen upper_slot 0x1000001) }
     ∷ record { line = 6; thread = 0; phase = 1; op = ops.Swap 0 2; answer = answers.Swapped 0 }
     ∷ record { line = 7; thread = 0; phase = 1; op = ops.Swap 1 3; answer = answers.Swapped 0 }
     ∷ record { line = 9; thread = 1; phase = 2; op = ops.Swap 0 2; answer = answers.Swapped 1 }
     ∷ record { line = 10; thread = 1; phase = 2; op = ops.Swap 1 3; answer = answers.Swapped 1 }
-    ∷ record { line = 12; thread = 0; phase = 3; op = ops.Free 1; answer = answers.Done (seen_in second_slot 0x3000001) }
-    ∷ record { line = 13; thread = 0; phase = 3; op = ops.Free 0; answer = answers.Done (seen_in first_slot 0x2000003) }
-    ∷ record { line = 14; thread = 1; phase = 3; op = ops.Reset 2; answer = answers.Done (seen_in first_slot 0x3000002) }
-    ∷ record { line = 15; thread = 1; phase = 3; op = ops.Reset 3; answer = answers.Done (seen_in second_slot 0x2000003) }
+    ∷ record { line = 12; thread = 0; phase = 3; op = ops.Free 1; answer = answers.Done (slot_seen upper_slot 0x3000001) }
+    ∷ record { line = 13; thread = 0; phase = 3; op = ops.Free 0; answer = answers.Done (slot_seen lower_slot 0x2000003) }
+    ∷ record { line = 14; thread = 1; phase = 3; op = ops.Reset 2; answer = answers.Done (slot_seen lower_slot 0x3000002) }
+    ∷ record { line = 15; thread = 1; phase = 3; op = ops.Reset 3; answer = answers.Done (slot_seen upper_slot 0x2000003) }
     ∷ []
 
 abbrev pub TwoSlotsHaveNone : Type 0
 TwoSlotsHaveNone =
     (report : List ReportLine) →
     HasTimeline two_slots_trace
-    (told_as two_slots_records (one_fill ∷ []) one_take (handed 6 9 first_slot ∷ handed 7 10 second_slot ∷ []) report) → ⊥
+    (told_as two_slots_records (one_fill ∷ []) one_super_page (passed_on 6 9 lower_slot ∷ passed_on 7 10 upper_slot ∷ []) report) →
+    ⊥
 
 -- ---- two partitions, purged in orders that contradict each other
 
@@ -169,18 +170,18 @@ early_trace =
 
 abbrev pub early_records : List Played
 early_records =
-    record { line = 2; thread = 0; phase = 1; op = ops.Alloc 0 0 8; answer = answers.Made (seen_in first_slot 0) 8 }
-    ∷ record { line = 3; thread = 0; phase = 1; op = ops.Copy 0 1; answer = answers.Done (seen_in first_slot 0x1000001) }
+    record { line = 2; thread = 0; phase = 1; op = ops.Alloc 0 0 8; answer = answers.Made (slot_seen lower_slot 0) 8 }
+    ∷ record { line = 3; thread = 0; phase = 1; op = ops.Copy 0 1; answer = answers.Done (slot_seen lower_slot 0x1000001) }
     ∷ record { line = 4; thread = 0; phase = 1; op = ops.Swap 0 1; answer = answers.Swapped 0 }
     ∷ record { line = 6; thread = 1; phase = 2; op = ops.Swap 0 0; answer = answers.Swapped 1 }
-    ∷ record { line = 7; thread = 1; phase = 2; op = ops.Read 0 0; answer = answers.Value (seen_in first_slot 0x2000003) poison }
+    ∷ record { line = 7; thread = 1; phase = 2; op = ops.Read 0 0; answer = answers.Value (slot_seen lower_slot 0x2000003) poison }
     ∷ record { line = 8; thread = 1; phase = 2; op = ops.Swap 1 0; answer = answers.Swapped 0 }
     ∷ record { line = 9; thread = 0; phase = 2; op = ops.Swap 1 2; answer = answers.Swapped 1 }
-    ∷ record { line = 10; thread = 0; phase = 2; op = ops.Free 0; answer = answers.Done (seen_in first_slot 0x2000003) }
+    ∷ record { line = 10; thread = 0; phase = 2; op = ops.Free 0; answer = answers.Done (slot_seen lower_slot 0x2000003) }
     ∷ []
 
 abbrev pub ReadBeforeFreeHasNone : Type 0
 ReadBeforeFreeHasNone =
     (report : List ReportLine) →
     HasTimeline early_trace
-    (told_as early_records (one_fill ∷ []) one_take (handed 4 6 first_slot ∷ handed 8 9 first_slot ∷ []) report) → ⊥
+    (told_as early_records (one_fill ∷ []) one_super_page (passed_on 4 6 lower_slot ∷ passed_on 8 9 lower_slot ∷ []) report) → ⊥
