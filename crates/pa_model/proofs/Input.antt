@@ -12,7 +12,7 @@ use Rattle.pa_player.specs.Begun.{IsBegun}
 use Rattle.pa_player.specs.Changes.{phase_ended}
 use Rattle.pa_model.specs.Played.{IsAllTold, IsInputPlayed}
 use Rattle.pa_player.specs.Playing.{IsPlaying}
-use Rattle.pa_player.specs.Plays.{CanGoOn, IsReady, GoesTo, IsPlayedUpTo}
+use Rattle.pa_player.specs.Plays.{CanGoOn, IsReady, GoesOnTo, IsPlayedUpTo}
 use Rattle.pa_player.specs.Told.{IsToldText}
 use Rattle.pa_model.proofs.AllTold.{all_told}
 use Rattle.pa_player.proofs.Reporting.{end_ready}
@@ -49,7 +49,7 @@ module _ (bytes : List ℕ) (u : Unread) (p : Player) where
         record { region = u.head.region; partitions = u.head.partitions; threads = u.head.threads; ls = so_far.ls; can = can l v line }
 
     -- and then one line more was played
-    pub input_goes_on : (l : Line) (v : Unread) (q : Player) → IsLineRead u l v → GoesTo p l q → IsPlayedUpTo bytes v q
+    pub input_goes_on : (l : Line) (v : Unread) (q : Player) → IsLineRead u l v → GoesOnTo p l q → IsPlayedUpTo bytes v q
     input_goes_on l v q line goes = record {
       ls = so_far.ls ++ l ∷ [];
       read = line.read bytes so_far.ls so_far.read;

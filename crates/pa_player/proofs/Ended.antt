@@ -44,7 +44,7 @@ use Rattle.pa_player.proofs.Reporting.{told_then, places_then}
 -- ---- a line of the report
 
 -- a slot has its size also in journals with entries more
-size_on : (roots more : Journals) (q : ℕ) (s : SlotName) (len : ℕ) → ((e : RootEntry) → Contains (roots q) e → Contains (more q) e) → HasSize roots q s len → HasSize more q s len
+pub size_on : (roots more : Journals) (q : ℕ) (s : SlotName) (len : ℕ) → ((e : RootEntry) → Contains (roots q) e → Contains (more q) e) → HasSize roots q s len → HasSize more q s len
 size_on roots more q s len on (inl (class, of, is)) =
     let (e, asked, slots, among, act, member) = of in
     inl (class, (e, asked, slots, on e among, act, member), is)
@@ -81,7 +81,7 @@ module _ (region partitions threads n phase : ℕ) (ps : List Played) (pools : L
 abbrev pub lists_of : Lists → Told
 lists_of t = record { entries = t.entries; roots = journal_at t.journals; pools = t.pools; cells = λ k. get_or t.histories k []; report = t.report }
 
-told_same : (t : Lists) (r : Run) → IsToldRun t r → told_by r ≡ lists_of t
+pub told_same : (t : Lists) (r : Run) → IsToldRun t r → told_by r ≡ lists_of t
 told_same t r is =
     let a : List Entry → Told = λ x. record (told_by r) { entries = x } in
     let b : List (List RootEntry) → Told = λ x. record (told_by r) { entries = t.entries; roots = journal_at x } in

@@ -46,7 +46,7 @@ use Rattle.pa_player.specs.Tallies.{no_tally, tally_at}
 use Rattle.pa_player.specs.Playing.{journals, caches, numbered_at, list_place, list_at, root_of, register_at, IsLetOut, AreShaped, IsPlaying}
 use Rattle.pa_player.specs.declared.handle.Handle.TheVariants.{Own}
 use Rattle.pa_player.specs.Changes.{acted, with_acts, registered, tallied_more, placed_in, list_in, listed, cached_less, issued, made_at, seen_at, answered, tallied_less, IsFilled, IsFilledFirst}
-use Rattle.pa_player.specs.Plays.{CanGoOn, Plays}
+use Rattle.pa_player.specs.Plays.{CanGoOn, Plays, PlaysAfter}
 use Rattle.pa_player.proofs.Shaping.{shaped_table, shaped_listed, shaped_cached}
 use Rattle.pa_player.proofs.Alone.{listed_away}
 use Rattle.pa_player.proofs.Changing.{IsRetallied, counted_changed, caches_changed, other_list, this_list}
@@ -332,7 +332,7 @@ module _ (p : Player) (thread reg q size class : ℕ) (none : HasNone (register_
 
     -- the same if the slot's word and its content are set one after the other
     pub fill_goes : (r : Player) (answer : Answer) → (r ≡ issued thread reg i (cached_less q 1 (slot_at filled.table i).title.len (listed at rest filled))) × (answer ≡ made_at filled i)
-        → IsPlaying region partitions threads (ls ++ Do thread (ops.Alloc reg q size) ∷ []) (answered thread answer r)
+        → PlaysAfter region partitions threads ls p thread (ops.Alloc reg q size) r answer
     fill_goes r answer (is, says) =
         let F : List Slot → Player = λ slots. record final { table = slots } in
         let filled_is : filled ≡ acted q (act ∷ []) (record base { table = table; caches = u.lists; cached = record { of = u.cached } }) = f.acted ∙ ap (acted q (act ∷ [])) u.same in
@@ -340,8 +340,8 @@ module _ (p : Player) (thread reg q size class : ℕ) (none : HasNone (register_
         let r_is : r ≡ F (set table i issued_it) =
         is ∙ ap G filled_is ∙ ap F (set_both table i 0 (stepped steps.Issue (slot_at table i).word.0) (low_of i (first_in i rest))) in
         let said : answer ≡ answers.Made (seen_at table i) (usable_of size) = says ∙ ap (λ z. made_at z i) filled_is ∙ ap (λ k. answers.Made (seen_at table i) k) serves in
-        subst (λ a. IsPlaying region partitions threads (ls ++ Do thread (ops.Alloc reg q size) ∷ []) (answered thread a r)) (sym said)
-        (subst (λ z. IsPlaying region partitions threads (ls ++ Do thread (ops.Alloc reg q size) ∷ []) (answered thread (answers.Made (seen_at table i) (usable_of size)) z)) (sym r_is)
+        subst (λ a. PlaysAfter region partitions threads ls p thread (ops.Alloc reg q size) r a) (sym said)
+        (subst (λ z. PlaysAfter region partitions threads ls p thread (ops.Alloc reg q size) z (answers.Made (seen_at table i) (usable_of size))) (sym r_is)
         (playing_more region partitions threads ls p final can.playing thread (ops.Alloc reg q size) (answers.Made (seen_at table i) (usable_of size)) can.short fill_played))
 
 -- a list that is empty is filled, and its front is issued

@@ -16,9 +16,9 @@ use Rattle.pa_player.specs.declared.table.Slot.{Slot}
 use Rattle.pa_player.specs.Player.{Player}
 use Rattle.pa_player.specs.Tables.{no_slot, slot_at, named_at, AreNamed, Points}
 use Rattle.pa_player.specs.Tallies.{tally_at}
-use Rattle.pa_player.specs.Playing.{shown, caches, reg_of, register_at, cell_at, home_in, len_in, IsPlaying}
+use Rattle.pa_player.specs.Playing.{shown, caches, reg_of, register_at, cell_at, home_in, len_in}
 use Rattle.pa_player.specs.Changes.{answered, stepped_at, filled_at, registered, seen_at, freed_at, quarantined_more, tallied_less, tallied_more}
-use Rattle.pa_player.specs.Plays.{Plays}
+use Rattle.pa_player.specs.Plays.{Plays, PlaysAfter}
 use Rattle.pa_player.proofs.Slots.{IsSame, slot_here, keeps_set, keeps_named, named_as}
 use Rattle.pa_player.proofs.Shaping.{shaped_table, shaped_registered, shaped_live, shaped_quarantined}
 use Rattle.pa_player.proofs.Showing.{reg_kept, told_kept, word_set, content_stays, content_set, usable_stays}
@@ -130,6 +130,6 @@ module _ (p : Player) (thread reg i value : ℕ) (own : register_at p thread reg
 
   pub was_written : Plays p thread (ops.Write reg value) (filled_at value i (stepped_at steps.Write i p)) (answers.Done (seen_at p.table i))
   was_written region partitions threads ls can =
-      subst (λ slots. IsPlaying region partitions threads (ls ++ Do thread (ops.Write reg value) ∷ []) (answered thread (answers.Done (seen_at p.table i)) (record p { table = slots })))
+      subst (λ slots. PlaysAfter region partitions threads ls p thread (ops.Write reg value) (record p { table = slots }) (answers.Done (seen_at p.table i)))
       (sym (set_both p.table i value (stepped steps.Write (slot_at p.table i).word.0) (in_table region partitions threads ls p thread (ops.Write reg value) can reg i can.within.1 owns_it)))
       (written_once region partitions threads ls can)

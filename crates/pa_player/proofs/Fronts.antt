@@ -37,7 +37,7 @@ use Rattle.pa_player.specs.Tables.{no_slot, slot_at, named_at, HasNone}
 use Rattle.pa_player.specs.Tallies.{tally_at}
 use Rattle.pa_player.specs.Playing.{shown, journals, caches, register_at, numbered_at, list_place, list_at, root_of, IsLetOut, AreShaped, IsPlaying}
 use Rattle.pa_player.specs.Changes.{answered, IsFrontIssued, registered, listed, issued, cached_less, seen_at, tallied_more, tallied_less}
-use Rattle.pa_player.specs.Plays.{CanGoOn, Plays}
+use Rattle.pa_player.specs.Plays.{CanGoOn, Plays, PlaysAfter}
 use Rattle.pa_player.proofs.OneList.{place_below, caches_here, caches_listed}
 use Rattle.pa_player.proofs.Slots.{IsSame, keeps_set, keeps_named}
 use Rattle.pa_player.proofs.Shaping.{shaped_table, shaped_registered, shaped_listed, shaped_live, shaped_cached}
@@ -247,7 +247,7 @@ module _ (p : Player) (thread reg q size class i : ℕ) (rest : List ℕ) (none 
             journals = refl;
             roots = λ k. refl;
             pool = refl;
-            histories = λ k. omega arith;
+            histories = λ k. inl refl;
           };
           keeps = keeps;
           few = omega (arith, length-set p.table i y);
@@ -263,7 +263,7 @@ module _ (p : Player) (thread reg q size class i : ℕ) (rest : List ℕ) (none 
   pub front_issued : Plays p thread (ops.Alloc reg q size) (issued thread reg i (cached_less q 1 x.title.len (listed at rest p))) (answers.Made (seen_at p.table i) (x.title.len - 8))
   front_issued region partitions threads ls can =
       let made = quiet_plays p thread (ops.Alloc reg q size) after (answers.Made (seen_at p.table i) (x.title.len - 8)) quiet region partitions threads ls can in
-      subst (λ slots. IsPlaying region partitions threads (ls ++ Do thread (ops.Alloc reg q size) ∷ []) (answered thread (answers.Made (seen_at p.table i) (x.title.len - 8)) (record after { table = slots })))
+      subst (λ slots. PlaysAfter region partitions threads ls p thread (ops.Alloc reg q size) (record after { table = slots }) (answers.Made (seen_at p.table i) (x.title.len - 8)))
       (sym (set_both p.table i 0 (stepped steps.Issue x.word.0) (here region partitions threads ls can).0)) made
 
 -- so an allocation is played where its list has a front

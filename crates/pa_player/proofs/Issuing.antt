@@ -334,7 +334,7 @@ module _ (region partitions threads : ℕ) (ls : List Line) (p : Player) (thread
             ap (λ js. journal_at js k) told_on.journals
             ∙ journals_acted p.told.journals q p.told.line (act ∷ []) (let a = h.shaped.journals in let b = inside in omega arith) k
             ∙ ap (λ line. grown (journals p) line (only_in q (act ∷ [])) k) h.line;
-        histories = λ k. let e : length (slice_index_or told.histories k []) ≡ length (slice_index_or p.told.histories k []) = ap (λ (hs : List (List CellEntry)). length (slice_index_or hs k [])) told_on.histories in omega arith;
+        histories = λ k. inl (ap (λ (hs : List (List CellEntry)). slice_index_or hs k []) told_on.histories);
         few = of_only (λ bs. length bs ≤ 512) q (act ∷ []) (omega arith) (omega arith);
         printable = of_only (λ bs. (a : RootAct) → Contains bs a → NamesSlots a) q (act ∷ []) (λ a among. subst NamesSlots (in_one act a among) names_slots) (λ a among. absurd (not_in_none a among));
       }

@@ -19,7 +19,7 @@ mod FromRoot
 mod Fronting
 mod Fronts
 mod Giving
-mod Going
+pub mod Going
 mod GoingBack
 mod Grown
 mod Handling
@@ -32,6 +32,7 @@ mod Mapped
 mod More
 mod OneList
 pub mod Outcome
+pub mod Owning
 mod Placing
 mod Others
 mod Partitions
@@ -50,7 +51,7 @@ mod Requests
 mod Returned
 mod Returning
 mod Shaping
-mod Showing
+pub mod Showing
 mod Shows
 mod Slots
 mod Spilling

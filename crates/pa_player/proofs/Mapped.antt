@@ -39,7 +39,7 @@ use Rattle.pa_player.specs.Player.{Player}
 use Rattle.pa_player.specs.Tables.{no_slot, slot_at, named_at, new_slot, HasNone, NoneNamed}
 use Rattle.pa_player.specs.Playing.{journals, caches, numbered_at, root_of, register_at, IsLetOut, AreShaped, IsPlaying}
 use Rattle.pa_player.specs.Changes.{acted, pooled, placed_in, issued, made_at, answered, seen_at, IsMapPlaced, IsMapIssued}
-use Rattle.pa_player.specs.Plays.{CanGoOn, Plays}
+use Rattle.pa_player.specs.Plays.{CanGoOn, Plays, PlaysAfter}
 use Rattle.pa_player.proofs.Slots.{IsPlaceOf, named_home, home_place}
 use Rattle.pa_player.proofs.Shaping.{shaped_table}
 use Rattle.pa_player.proofs.Counting.{cached_slots_same, cached_bytes_same}
@@ -252,7 +252,7 @@ map_plays p r thread reg q size answer none asks u region partitions threads ls 
     let said : answer ≡ answers.Made (seen_at m.table u.place) (usable_of size) =
     u.says ∙ ap (λ z. made_at z u.place) m.acted ∙ ap (λ k. answers.Made (seen_at m.table u.place) k) (serves p thread reg q size none asks u.mapped u.place m region partitions threads ls can) in
     let after : r ≡ issued thread reg u.place (base p thread reg q size none asks u.mapped u.place m region partitions threads ls can) = u.issued ∙ ap (issued thread reg u.place) m.acted in
-    subst (λ a. IsPlaying region partitions threads (ls ++ Do thread (ops.Alloc reg q size) ∷ []) (answered thread a r)) (sym said)
-    (subst (λ z. IsPlaying region partitions threads (ls ++ Do thread (ops.Alloc reg q size) ∷ []) (answered thread (answers.Made (seen_at m.table u.place) (usable_of size)) z)) (sym after)
+    subst (λ a. PlaysAfter region partitions threads ls p thread (ops.Alloc reg q size) r a) (sym said)
+    (subst (λ z. PlaysAfter region partitions threads ls p thread (ops.Alloc reg q size) z (answers.Made (seen_at m.table u.place) (usable_of size))) (sym after)
     (playing_more region partitions threads ls p (issued thread reg u.place (base p thread reg q size none asks u.mapped u.place m region partitions threads ls can)) can.playing thread (ops.Alloc reg q size)
     (answers.Made (seen_at m.table u.place) (usable_of size)) can.short played))

@@ -1,8 +1,8 @@
 -- An op that was played: what is known of the player after it.
-use Rattle.std.proofs.Common.{◌≡◌, ℕ, ◌+◌, ◌-◌, ◌<◌, ◌⊎◌, List, [], ◌∷◌, ◌++◌, map, length, Option, Some, None, refl, sym, ap, ◌∙◌, subst, arith, inl, inr, length-append}
+use Rattle.std.proofs.Common.{◌≡◌, ℕ, ◌+◌, ◌-◌, ◌<◌, ◌≤◌, ◌⊎◌, List, [], ◌∷◌, ◌++◌, map, length, Option, Some, None, refl, sym, ap, ◌∙◌, subst, arith, inl, inr, length-append}
 use Rattle.std.specs.Prelude.{All, Contains}
 use Rattle.std.proofs.Math.Path.{fun_ext}
-use Rattle.std.proofs.lemmas.List.{map-append, length-map, length_push}
+use Rattle.std.proofs.lemmas.List.{append-nil, map-append, length-map, length_push}
 use Rattle.std.proofs.lemmas.List.Elements.{All-weaker, Contains-push_cases}
 use Rattle.pa_machine.specs.Run.{Mark}
 use Rattle.pa_trace.specs.declared.script.Op.{Op}
@@ -10,6 +10,7 @@ use Rattle.pa_trace.specs.declared.script.Line.{Line}
 use Rattle.pa_trace.specs.declared.script.Line.TheVariants.{Do}
 use Rattle.pa_record.specs.declared.entry.Answer.{Answer}
 use Rattle.pa_record.specs.declared.entry.Entry.{Entry}
+use Rattle.pa_record.specs.declared.history.CellEntry.{CellEntry}
 use Rattle.pa_record.specs.declared.pool.PoolEntry.{PoolEntry}
 use Rattle.pa_record.specs.declared.report.ReportLine.{ReportLine}
 use Rattle.pa_record.specs.declared.root.RootEntry.{RootEntry}
@@ -38,8 +39,10 @@ use Rattle.pa_player.specs.Tables.{slot_at}
 use Rattle.pa_player.specs.Tallies.{tally_at}
 use Rattle.pa_player.specs.Playing.{shown, journals, caches, root_of, home_in, len_in, AreAllSlots, AreBounded, AreTallied, IsToldLine, IsPlaying}
 use Rattle.pa_player.specs.Changes.{answered}
+use Rattle.pa_player.specs.Told.{history_in}
+use Rattle.pa_player.specs.Plays.{TellsOn, record_of, PlaysAfter}
 use Rattle.pa_player.proofs.Slots.{slot_here, by_name_kept}
-pub use Rattle.pa_player.proofs.Shows.{TellsMore, HasHeap, HasSlots, CountsMore, IsTallyMore, IsPlayed, gain}
+pub use Rattle.pa_player.proofs.Shows.{IsOneMore, TellsMore, HasHeap, HasSlots, CountsMore, IsTallyMore, IsPlayed, gain}
 use Rattle.pa_player.proofs.Going.{let_out_sized, sized_place, size_grown, AreSameHomes, left_more, asks_few, phases_push}
 use Rattle.pa_player.proofs.Shaping.{shaped_told}
 
@@ -50,6 +53,15 @@ mark_cases ms (Some x) m among = elim (Contains-push_cases ms x m among) [
   | inl old ↦ inl old
   | inr new ↦ inr (ap (λ (z : Mark). Some z) new)
 ]
+
+-- a history with one exchange more at most is one longer at most, and goes on
+one_longer : (before after : List CellEntry) → IsOneMore before after → length after ≤ length before + 1
+one_longer before after (inl same) = omega (arith, ap length same)
+one_longer before after (inr (e, more)) = omega (arith, ap length more, length_push before e)
+
+one_goes_on : (before after : List CellEntry) → IsOneMore before after → (more : List CellEntry) × (after ≡ before ++ more)
+one_goes_on before after (inl same) = ([], same ∙ sym (append-nil before))
+one_goes_on before after (inr (e, more)) = (e ∷ [], more)
 
 module _ (region partitions threads : ℕ) (ls : List Line) (p q : Player) (h : IsPlaying region partitions threads ls p) (thread : ℕ) (op : Op) (answer : Answer)
     (short : length ls < 65535) (m : IsPlayed region partitions threads ls p q h thread op answer) where
@@ -126,7 +138,7 @@ module _ (region partitions threads : ℕ) (ls : List Line) (p q : Player) (h : 
         ap length (m.told.journals k) ∙ length-append (journals p k) (entries_at (length ls + 2) (m.acts k)) in
         let same : length (entries_at (length ls + 2) (m.acts k)) ≡ length (m.acts k) = length-map (m.acts k) (λ (a : RootAct). record { line = length ls + 2; act = a }) in
         omega (arith, longer, grew, same, m.told.few k, h.bounded.journals k);
-    histories = λ k. omega (arith, longer, m.told.histories k, h.bounded.histories k);
+    histories = λ k. omega (arith, longer, one_longer (history_in p.told k) (history_in q.told k) (m.told.histories k), h.bounded.histories k);
     turns = λ k. omega (arith, longer, m.heap.turns k, h.bounded.turns k);
     born = m.heap.born;
   }
@@ -183,6 +195,15 @@ module _ (region partitions threads : ℕ) (ls : List Line) (p q : Player) (h : 
     | inr new ↦ m.told.printable k e.act new.0
   ]
 
+  tells_on : TellsOn (record_of p thread answer ∷ []) p (answered thread answer q)
+  tells_on = record {
+    entries =
+        let e : List Entry → ℕ → List Entry = λ es line. es ++ record { line = line; thread = thread; answer = answer } ∷ [] in
+        ap (λ es. e es q.told.line) m.told.entries ∙ ap (e p.told.entries) m.told.line;
+    journals = λ k. (entries_at (length ls + 2) (m.acts k), m.told.journals k);
+    histories = λ k. one_goes_on (history_in p.told k) (history_in q.told k) (m.told.histories k);
+  }
+
   playing : IsPlaying region partitions threads (ls ++ Do thread op ∷ []) (answered thread answer q)
   playing = record {
     ps = h.ps ++ x ∷ [];
@@ -207,5 +228,6 @@ module _ (region partitions threads : ℕ) (ls : List Line) (p q : Player) (h : 
   }
 
 pub playing_more : (region partitions threads : ℕ) (ls : List Line) (p q : Player) (h : IsPlaying region partitions threads ls p) (thread : ℕ) (op : Op) (answer : Answer) → length ls < 65535
-    → IsPlayed region partitions threads ls p q h thread op answer → IsPlaying region partitions threads (ls ++ Do thread op ∷ []) (answered thread answer q)
-playing_more region partitions threads ls p q h thread op answer short m = playing region partitions threads ls p q h thread op answer short m
+    → IsPlayed region partitions threads ls p q h thread op answer → PlaysAfter region partitions threads ls p thread op q answer
+playing_more region partitions threads ls p q h thread op answer short m =
+    (playing region partitions threads ls p q h thread op answer short m, tells_on region partitions threads ls p q h thread op answer short m)

@@ -40,7 +40,7 @@ use Rattle.pa_player.specs.Tables.{slot_at}
 use Rattle.pa_player.specs.Tallies.{tally_at}
 use Rattle.pa_player.specs.Playing.{shown, journals, caches, root_of, numbered_at, list_at, IsLetOut, AreShaped, IsPlaying}
 use Rattle.pa_player.specs.Changes.{answered, given_from, purged_with, purged_from}
-use Rattle.pa_player.specs.Plays.{CanGoOn, Plays}
+use Rattle.pa_player.specs.Plays.{CanGoOn, Plays, PlaysAfter}
 use Rattle.pa_player.proofs.OneList.{caches_here, caches_none, with_cache_here, with_cache_other}
 use Rattle.pa_player.proofs.Slots.{keeps_all}
 use Rattle.pa_player.proofs.Alone.{so_far}
@@ -292,7 +292,7 @@ module _ (region partitions threads : ℕ) (ls : List Line) (p : Player) (thread
     phase = refl;
     pools = a.giving.pools ∙ sym (append-nil p.told.pools);
     journals = journals_then;
-    histories = λ k. let e : length (slice_index_or r.told.histories k []) ≡ length (slice_index_or p.told.histories k []) = ap (λ (hs : List (List CellEntry)). length (slice_index_or hs k [])) a.giving.histories in omega arith;
+    histories = λ k. inl (ap (λ (hs : List (List CellEntry)). slice_index_or hs k []) a.giving.histories);
     few = each_partition (λ bs. length bs ≤ 512) (λ k low. let b = acts_few (caches p thread k) 0 59 (omega arith) (short_list k low) in omega arith) (omega arith);
     printable = each_partition (λ bs. (b : RootAct) → Contains bs b → NamesSlots b) (λ k low. each_act NamesSlots (caches p thread k) 0 59 (omega arith) (λ c real. gives_names (caches p thread k c)) tt)
         (λ b among. absurd (not_in_none b among));
@@ -353,13 +353,13 @@ module _ (region partitions threads : ℕ) (ls : List Line) (p : Player) (thread
     };
   }
 
-  pub purge_goes : IsPlaying region partitions threads (ls ++ Do thread ops.Purge ∷ []) (answered thread (answers.Purged slots) r)
+  pub purge_goes : PlaysAfter region partitions threads ls p thread ops.Purge r (answers.Purged slots)
   purge_goes =
-      subst (λ z. IsPlaying region partitions threads (ls ++ Do thread ops.Purge ∷ []) (answered thread (answers.Purged slots) z)) (sym last_is)
+      subst (λ z. PlaysAfter region partitions threads ls p thread ops.Purge z (answers.Purged slots)) (sym last_is)
       (playing_more region partitions threads ls p last can.playing thread ops.Purge (answers.Purged slots) can.short purge_played)
 
 -- a purge of all partitions
 pub purge_plays : (p : Player) (thread : ℕ) → Plays p thread ops.Purge (purged_from thread 0 p.partitions p) (answers.Purged (all_listed (caches p thread) 0 p.partitions))
 purge_plays p thread region partitions threads ls can =
-    subst (λ k. IsPlaying region partitions threads (ls ++ Do thread ops.Purge ∷ []) (answered thread (answers.Purged (all_listed (caches p thread) 0 k)) (purged_from thread 0 k p)))
+    subst (λ k. PlaysAfter region partitions threads ls p thread ops.Purge (purged_from thread 0 k p) (answers.Purged (all_listed (caches p thread) 0 k)))
     (sym can.playing.shaped.many) (purge_goes region partitions threads ls p thread can)

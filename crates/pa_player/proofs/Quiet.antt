@@ -1,6 +1,5 @@
 -- Ops without an act: what they have to show, and those that leave the player as it is.
 use Rattle.std.proofs.Common.{◌≡◌, ℕ, ◌+◌, ◌<◌, ◌≤◌, Bool, List, [], ◌++◌, length, Option, Some, None, refl, sym, ap, ◌∙◌, subst, arith, inl, inr}
-use Rattle.std.specs.Prelude.{slice_index_or}
 use Rattle.std.proofs.Math.Path.{fun_ext}
 use Rattle.std.proofs.lemmas.Bool.{cases_eq, eq-eqb, ne_eqb}
 use Rattle.std.proofs.lemmas.List.{append-nil}
@@ -41,9 +40,10 @@ use Rattle.pa_player.specs.Tallies.{tally_at}
 use Rattle.pa_player.specs.Playing.{shown, journals, caches, register_at, root_of, home_in, len_in, AreAllSlots, AreShaped, IsPlaying}
 use Rattle.pa_player.specs.Changes.{seen_at}
 use Rattle.pa_player.specs.Plays.{CanGoOn, Plays}
+use Rattle.pa_player.specs.Told.{history_in}
 use Rattle.pa_player.proofs.Slots.{KeepsSlots, IsPlaceOf, keeps_all}
 use Rattle.pa_player.proofs.Showing.{at_name, points_in, points_names}
-use Rattle.pa_player.proofs.Shows.{TellsMore, HasHeap, CountsMore, IsTallyMore, IsPlayed, gain}
+use Rattle.pa_player.proofs.Shows.{IsOneMore, TellsMore, HasHeap, CountsMore, IsTallyMore, IsPlayed, gain}
 use Rattle.pa_player.proofs.Counting.{cached_slots_same, cached_bytes_same}
 use Rattle.pa_player.proofs.More.{playing_more}
 
@@ -57,7 +57,7 @@ pub record IsStill (p q : Player) : Type 0 where
   pub journals : q.told.journals ≡ p.told.journals
   pub roots : (k : ℕ) → root_of q k ≡ root_of p k
   pub pool : q.heap.pool ≡ p.heap.pool
-  pub histories : (k : ℕ) → length (slice_index_or q.told.histories k []) ≤ length (slice_index_or p.told.histories k []) + 1
+  pub histories : (k : ℕ) → IsOneMore (history_in p.told k) (history_in q.told k)
 
 -- What an op without an act has to show.
 pub record IsQuiet (region partitions threads : ℕ) (ls : List Line) (p q : Player) (h : IsPlaying region partitions threads ls p) (thread : ℕ) (op : Op) (answer : Answer) : Type 0 where
@@ -181,7 +181,7 @@ still_same p = record {
   journals = refl;
   roots = λ k. refl;
   pool = refl;
-  histories = λ k. omega arith;
+  histories = λ k. inl refl;
 }
 
 pub can_play : (region partitions threads : ℕ) (ls : List Line) (thread : ℕ) (op : Op) (p : Player) (can : CanGoOn region partitions threads ls (Do thread op) p)

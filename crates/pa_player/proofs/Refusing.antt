@@ -122,7 +122,7 @@ module _ (region partitions threads : ℕ) (ls : List Line) (p : Player) (thread
       journals = λ k.
           journals_acted p.told.journals q p.told.line (act ∷ []) (let a = h.shaped.journals in let b = low in omega arith) k
           ∙ ap (λ line. grown (journals p) line (only_in q (act ∷ [])) k) h.line;
-      histories = λ k. omega arith;
+      histories = λ k. inl refl;
       few = of_only (λ bs. length bs ≤ 512) q (act ∷ []) (omega arith) (omega arith);
       printable = of_only (λ bs. (a : RootAct) → Contains bs a → NamesSlots a) q (act ∷ []) (λ a among. subst NamesSlots (in_one act a among) tt) (λ a among. absurd (not_in_none a among));
     }

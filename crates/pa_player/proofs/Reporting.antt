@@ -1,7 +1,7 @@
 -- The end of a phase: its lines of the report, and the line that begins the next.
-use Rattle.std.proofs.Common.{◌≡◌, ℕ, zero, suc, ◌+◌, ◌-◌, ◌<◌, ◌≤◌, cond, List, [], ◌∷◌, ◌++◌, map, length, refl, sym, ap, ◌∙◌, subst, arith}
+use Rattle.std.proofs.Common.{◌≡◌, ℕ, zero, suc, ◌+◌, ◌-◌, ◌<◌, ◌≤◌, cond, List, [], ◌∷◌, ◌++◌, map, length, None, refl, sym, ap, ◌∙◌, subst, arith}
 use Rattle.std.specs.Prelude.{All, Contains}
-use Rattle.std.proofs.lemmas.List.{map-append, length_push, length-map, get_or-map}
+use Rattle.std.proofs.lemmas.List.{append-nil, map-append, length_push, length-map, get_or-map}
 use Rattle.std.proofs.lemmas.List.Elements.{All-nil, All-cons, All-append, All-weaker}
 use Rattle.std.proofs.lemmas.List.Sums.{sum_by_push, count_by-le-length}
 use Rattle.pa_trace.specs.declared.script.Line.{Line}
@@ -25,6 +25,7 @@ use Rattle.pa_player.specs.Player.{Player}
 use Rattle.pa_player.specs.Playing.{shown, journals, caches, home_in, len_in, AreShaped, AreBounded, IsToldLine, IsPlaying}
 use Rattle.pa_player.specs.Changes.{report_line, report_lines, phase_ended, phase_begun}
 use Rattle.pa_player.specs.Plays.{GoesTo}
+use Rattle.pa_player.specs.Told.{history_in}
 use Rattle.pa_player.specs.Asks.{CanEnd}
 use Rattle.pa_rules.proofs.ReportLines.{phases_push}
 
@@ -227,8 +228,15 @@ module _ (region partitions threads : ℕ) (ls : List Line) (p : Player) (h : Is
     }
 
 -- a line that begins a phase is played
-pub phase_plays : (p : Player) → GoesTo p Phase (phase_begun p)
-phase_plays p region partitions threads ls can = begun region partitions threads ls p can.playing can.short
+pub phase_plays : (p : Player) → GoesTo p Phase None (phase_begun p)
+phase_plays p region partitions threads ls can = (
+  begun region partitions threads ls p can.playing can.short,
+  record {
+    entries = sym (append-nil p.told.entries);
+    journals = λ k. ([], sym (append-nil (journals p k)));
+    histories = λ k. ([], sym (append-nil (history_in p.told k)));
+  },
+)
 
 -- what the end of a phase asks
 pub end_ready : (region partitions threads : ℕ) (ls : List Line) (p : Player) → length ls ≤ 65535 → IsPlaying region partitions threads ls p → CanEnd p

@@ -112,7 +112,7 @@ back_told p m n q xs few back = record {
   phase = back.phase;
   pools = back.pools ∙ sym (append-nil p.told.pools);
   journals = back.journals;
-  histories = λ k. let e : length (slice_index_or m.told.histories k []) ≡ length (slice_index_or p.told.histories k []) = ap (λ (hs : List (List CellEntry)). length (slice_index_or hs k [])) back.histories in omega arith;
+  histories = λ k. inl (ap (λ (hs : List (List CellEntry)). slice_index_or hs k []) back.histories);
   few = of_only (λ bs. length bs ≤ 512) q (gives xs) (let f = gives_few xs in omega arith) (omega arith);
   printable = of_only (λ bs. (a : RootAct) → Contains bs a → NamesSlots a) q (gives xs) (gives_names xs) (λ a among. absurd (not_in_none a among));
 }

@@ -1,12 +1,13 @@
 -- What an op has to show: its deed, its turn, and the tables after it.
-use Rattle.std.proofs.Common.{◌≡◌, ℕ, ◌+◌, ◌<◌, ◌≤◌, List, [], ◌++◌, length, Option, Some, None}
-use Rattle.std.specs.Prelude.{Bool, if◌then◌else◌, slice_index_or, Contains}
+use Rattle.std.proofs.Common.{◌≡◌, ℕ, ◌+◌, ◌<◌, ◌≤◌, ◌⊎◌, List, [], ◌∷◌, ◌++◌, length, Option, Some, None}
+use Rattle.std.specs.Prelude.{Bool, if◌then◌else◌, Contains}
 use Rattle.pa_machine.specs.declared.word.SlotName.{SlotName}
 use Rattle.pa_machine.specs.declared.word.Step.{Step}
 use Rattle.pa_machine.specs.Run.{Mark}
 use Rattle.pa_trace.specs.declared.script.Op.{Op}
 use Rattle.pa_trace.specs.declared.script.Line.{Line}
 use Rattle.pa_record.specs.declared.entry.Answer.{Answer}
+use Rattle.pa_record.specs.declared.history.CellEntry.{CellEntry}
 use Rattle.pa_record.specs.declared.pool.PoolEntry.{PoolEntry}
 use Rattle.pa_record.specs.declared.report.Tally.{Tally}
 use Rattle.pa_record.specs.declared.root.RootAct.{RootAct}
@@ -25,8 +26,13 @@ use Rattle.pa_slot_effects.specs.Turns.{LeadsTo, played_at}
 use Rattle.pa_player.specs.declared.table.Slot.{Slot}
 use Rattle.pa_player.specs.Player.{Player}
 use Rattle.pa_player.specs.Tallies.{tally_at}
+use Rattle.pa_player.specs.Told.{history_in}
 use Rattle.pa_player.specs.Playing.{shown, journals, caches, root_of, home_in, len_in, AreAllSlots, AreShaped, IsPlaying}
 use Rattle.pa_player.proofs.Slots.{KeepsSlots, IsPlaceOf}
+
+-- a history has one exchange more at most
+abbrev pub IsOneMore : List CellEntry → List CellEntry → Type 0
+IsOneMore before after = (after ≡ before) ⊎ ((e : CellEntry) × (after ≡ before ++ e ∷ []))
 
 -- What is reported goes on by these entries of the pool and these acts, on line n: the rest is as before, but for the histories.
 pub record TellsMore (p q : Player) (n : ℕ) (more : List PoolEntry) (acts : Acts) : Type 0 where
@@ -36,7 +42,7 @@ pub record TellsMore (p q : Player) (n : ℕ) (more : List PoolEntry) (acts : Ac
   pub phase : q.phase ≡ p.phase
   pub pools : q.told.pools ≡ p.told.pools ++ more
   pub journals : (k : ℕ) → journals q k ≡ grown (journals p) n acts k
-  pub histories : (k : ℕ) → length (slice_index_or q.told.histories k []) ≤ length (slice_index_or p.told.histories k []) + 1
+  pub histories : (k : ℕ) → IsOneMore (history_in p.told k) (history_in q.told k)
   pub few : (k : ℕ) → length (acts k) ≤ 512
   pub printable : (k : ℕ) (a : RootAct) → Contains (acts k) a → NamesSlots a
 

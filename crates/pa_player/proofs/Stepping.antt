@@ -123,7 +123,7 @@ module _ (region partitions threads : ℕ) (ls : List Line) (p : Player) (thread
       journals = refl;
       roots = λ k. refl;
       pool = refl;
-      histories = λ k. omega arith;
+      histories = λ k. inl refl;
     };
     keeps = keeps_set p.table i y in_table same;
     few = omega (arith, length-set p.table i y);

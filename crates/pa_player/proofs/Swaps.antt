@@ -1,8 +1,7 @@
 -- An exchange of a register and a cell.
-use Rattle.std.proofs.Common.{◌≡◌, ℕ, ◌+◌, ◌≤◌, List, [], ◌∷◌, ◌++◌, length, set, get_or, None, refl, sym, ap, ◌∙◌, subst, arith, length-set, inl, inr}
-use Rattle.std.specs.Prelude.{slice_index_or}
+use Rattle.std.proofs.Common.{◌≡◌, ℕ, ◌+◌, List, [], ◌∷◌, ◌++◌, length, set, get_or, None, refl, sym, ap, ◌∙◌, subst, arith, length-set, inl, inr}
 use Rattle.std.proofs.lemmas.Bool.{cases_eq, eq-eqb, ne_eqb}
-use Rattle.std.proofs.lemmas.List.{get_or-set_same, get_or-set_other, length_push}
+use Rattle.std.proofs.lemmas.List.{get_or-set_same, get_or-set_other}
 use Rattle.pa_trace.specs.declared.script.Op.TheVariants as ops
 use Rattle.pa_trace.specs.declared.script.Line.{Line}
 use Rattle.pa_trace.specs.declared.script.Line.TheVariants.{Do}
@@ -26,6 +25,7 @@ use Rattle.pa_player.specs.Plays.{CanGoOn, Plays}
 use Rattle.pa_player.proofs.Slots.{keeps_all}
 use Rattle.pa_player.proofs.Shaping.{set_cases, shaped_told, shaped_celled, shaped_registered}
 use Rattle.pa_player.proofs.Showing.{regs_registered, with_reg_same}
+use Rattle.pa_player.proofs.Shows.{IsOneMore}
 use Rattle.pa_player.proofs.Quiet.{quiet_plays, can_play, counts_still, none_adds, none_not_some, cache_same}
 
 -- ---- handles, and what is reported of them
@@ -117,16 +117,11 @@ module _ (p : Player) (thread cell reg : ℕ) where
         (handle_among (length p.table) (register_at p thread reg) (h.shaped.held thread reg)) (handle_again (register_at p thread reg)) in
         shaped_registered partitions threads (celled cell gave (exchanged cell gave found p)) celled_shape thread reg found (h.shaped.celled cell)
 
-    -- a history is one longer at most
-    longer : (k : ℕ) → length (get_or (set p.told.histories cell (history_in p.told cell ++ entry ∷ [])) k []) ≤ length (slice_index_or p.told.histories k []) + 1
+    -- a history has one exchange more at most
+    longer : (k : ℕ) → IsOneMore (history_in p.told k) (get_or (set p.told.histories cell (history_in p.told cell ++ entry ∷ [])) k [])
     longer k = elim (set_cases p.told.histories cell k (history_in p.told cell ++ entry ∷ []) []) [
-      | inl new ↦
-          let long : length (get_or (set p.told.histories cell (history_in p.told cell ++ entry ∷ [])) k []) ≡ length (history_in p.told cell ++ entry ∷ []) = ap length new.1 in
-          let same : length (history_in p.told cell) ≡ length (slice_index_or p.told.histories k []) = ap (λ j. length (slice_index_or p.told.histories j [])) (sym new.0) in
-          omega (arith, long, same, length_push (history_in p.told cell) entry)
-      | inr old ↦
-          let long : length (get_or (set p.told.histories cell (history_in p.told cell ++ entry ∷ [])) k []) ≡ length (slice_index_or p.told.histories k []) = ap length old in
-          omega (arith, long)
+      | inl new ↦ inr (entry, new.1 ∙ ap (λ j. history_in p.told j ++ entry ∷ []) (sym new.0))
+      | inr old ↦ inl old
     ]
 
   pub swap_plays : Plays p thread (ops.Swap cell reg) (swapped thread cell reg p) (answers.Swapped (length (history_in p.told cell)))

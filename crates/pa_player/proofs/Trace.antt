@@ -1,17 +1,17 @@
 -- The lines of a trace are played one after the other.
-use Rattle.std.proofs.Common.{◌≡◌, ℕ, ◌+◌, ◌<◌, ◌≤◌, [], ◌∷◌, ◌++◌, length, take, get_or, sym, ap, ◌∙◌, subst, arith}
+use Rattle.std.proofs.Common.{◌≡◌, ℕ, ◌+◌, ◌<◌, ◌≤◌, Option, Some, None, [], ◌∷◌, ◌++◌, length, take, get_or, sym, ap, ◌∙◌, subst, arith}
 use Rattle.std.proofs.Math.Seq.{take_all}
 use Rattle.std.proofs.lemmas.List.{length-take, take_more, length_push}
 use Rattle.std.proofs.lemmas.List.Elements.{All-from_recursion, All-get_or}
 use Rattle.pa_trace.specs.declared.script.Line.{Line}
-use Rattle.pa_trace.specs.declared.script.Line.TheVariants.{Do}
+use Rattle.pa_trace.specs.declared.script.Line.TheVariants.{Phase, Do}
 use Rattle.pa_trace.specs.declared.script.Op.{Op}
 use Rattle.pa_trace.specs.Limits.{IsLineWithin, IsWithinLimits}
 use Rattle.pa_trace.specs.declared.script.Trace.{Trace}
 use Rattle.pa_record.specs.declared.entry.Answer.{Answer}
 use Rattle.pa_player.specs.Player.{Player}
 use Rattle.pa_player.specs.Playing.{IsPlaying}
-use Rattle.pa_player.specs.Plays.{CanGoOn, IsReady, GoesTo, Plays}
+use Rattle.pa_player.specs.Plays.{CanGoOn, IsReady, GoesTo, GoesOnTo, Plays}
 
 -- the next line can be played
 line_can : (t : Trace) (i : ℕ) (p : Player) (line d : Line) → IsWithinLimits t → i < length t.lines → line ≡ get_or t.lines i d
@@ -31,10 +31,17 @@ line_ready t i p line d within lt is playing =
 
 -- and then one line more was played
 pub line_more : (t : Trace) (i : ℕ) (p q : Player) (line d : Line) → IsWithinLimits t → i < length t.lines → line ≡ get_or t.lines i d
-    → IsPlaying t.region t.partitions t.threads (take i t.lines) p → GoesTo p line q → IsPlaying t.region t.partitions t.threads (take (i + 1) t.lines) q
+    → IsPlaying t.region t.partitions t.threads (take i t.lines) p → GoesOnTo p line q → IsPlaying t.region t.partitions t.threads (take (i + 1) t.lines) q
 line_more t i p q line d within lt is playing goes =
     let whole : take (i + 1) t.lines ≡ take i t.lines ++ line ∷ [] = take_more t.lines i d lt ∙ ap (λ z. take i t.lines ++ z ∷ []) (sym is) in
     subst (λ z. IsPlaying t.region t.partitions t.threads z q) (sym whole) (goes t.region t.partitions t.threads (take i t.lines) (line_can t i p line d within lt is playing))
+
+-- whatever it was answered
+pub goes_on : (p : Player) (l : Line) (a : Option Answer) (q : Player) → GoesTo p l a q → GoesOnTo p l q
+goes_on p Phase None q goes = λ region partitions threads ls can. (goes region partitions threads ls can).0
+goes_on p Phase (Some answer) q goes = absurd goes
+goes_on p (Do thread op) None q goes = absurd goes
+goes_on p (Do thread op) (Some answer) q goes = λ region partitions threads ls can. (goes region partitions threads ls can).0
 
 -- all were
 pub all_played : (t : Trace) (i : ℕ) (p : Player) → length t.lines ≤ i → IsPlaying t.region t.partitions t.threads (take i t.lines) p → IsPlaying t.region t.partitions t.threads t.lines p
@@ -43,7 +50,7 @@ all_played t i p past playing = subst (λ z. IsPlaying t.region t.partitions t.t
 -- the line that was played has a number that fits
 pub line_few : (p : Player) (thread : ℕ) (op : Op) (q : Player) (answer : Answer) → IsReady (Do thread op) p → Plays p thread op q answer → q.told.line ≤ 65537
 line_few p thread op q answer ready played =
-    let next = played ready.region ready.partitions ready.threads ready.ls ready.can in
+    let next = (played ready.region ready.partitions ready.threads ready.ls ready.can).0 in
     let line = next.line in
     let short = ready.can.short in
     let more = length_push ready.ls (Do thread op) in

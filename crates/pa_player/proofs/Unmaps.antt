@@ -143,7 +143,7 @@ module _ (region partitions threads : ℕ) (ls : List Line) (p : Player) (thread
         journals_acted p.told.journals home p.told.line (unmap_at p.heap.pool.entries (named_at table i) (number_of (slot_at table i).word.0) ∷ []) journals_low k
         ∙ ap (λ line. grown (journals p) line (only_in home (unmap_at p.heap.pool.entries (named_at table i) (number_of (slot_at table i).word.0) ∷ [])) k) h.line
         ∙ ap (λ a. grown (journals p) n (only_in home (a ∷ [])) k) act_then;
-    histories = λ k. omega arith;
+    histories = λ k. inl refl;
     few = of_only (λ bs. length bs ≤ 512) home (act ∷ []) (omega arith) (omega arith);
     printable = of_only (λ bs. (a : RootAct) → Contains bs a → NamesSlots a) home (act ∷ []) (λ a among. subst NamesSlots (in_one act a among) tt) (λ a among. absurd (not_in_none a among));
   }

@@ -47,6 +47,14 @@ IsHome before after new place =
     ((after ≡ before) × (place < length before) × (named_at before place ≡ name_of new.title))
     ⊎ ((after ≡ before ++ new ∷ []) × (place ≡ length before) × NoneNamed before (name_of new.title))
 
+-- the slot of an owner, as it left its root, and its partition
+abbrev pub title_owned : List Slot → Handle → Option (Title × ℕ)
+title_owned slots Empty = None
+title_owned slots (Own place) = Some ((slot_at slots place).title, (slot_at slots place).partition)
+title_owned slots (Ref place) = None
+title_owned slots Freed = None
+title_owned slots Cleared = None
+
 -- how a handle is reported
 abbrev pub held_of : List Slot → Handle → Held
 held_of slots Empty = held.Nothing

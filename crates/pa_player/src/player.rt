@@ -1,11 +1,12 @@
-ghost use Rattle.std.specs.Prelude.{◌≡◌, ◌<◌, ◌≤◌, [], IfOk, OnOk, length};
+ghost use Rattle.std.specs.Prelude.{◌≡◌, ◌<◌, ◌≤◌, [], Some, IfOk, OnOk, length};
 ghost use Rattle.pa_trace.specs.Limits.{IsHeadWithin, register_count, most_partitions, most_threads};
 ghost use Rattle.pa_trace.specs.declared.script.Line.TheVariants.{Do, Phase};
 ghost use Rattle.pa_player.specs.Asks.{CanEnd};
 ghost use Rattle.pa_player.specs.Begun.{IsBegun, IsUntold};
 ghost use Rattle.pa_player.specs.Changes.{phase_begun, phase_ended, registered};
+ghost use Rattle.pa_player.specs.Tables.{IsIn, title_owned};
 ghost use Rattle.pa_player.specs.Playing.{register_at, list_place};
-ghost use Rattle.pa_player.specs.Plays.{GoesTo, IsReady, Plays};
+ghost use Rattle.pa_player.specs.Plays.{GoesTo, IsReady, Plays, ReadsOwn, ReadsOwnOn};
 
 use crate::caches::Caches;
 use crate::handle::Handle;
@@ -16,7 +17,7 @@ use crate::table::Table;
 use crate::tallies::Tallies;
 use crate::told::Told;
 use pa_buckets::{CLASSES, Class};
-use pa_machine::OutOfMemory;
+use pa_machine::{OutOfMemory, Title};
 use pa_record::Answer;
 use pa_trace::{CELLS, Line, Op};
 use std::alloc::Global;
@@ -66,14 +67,22 @@ impl<O: Output> Player<Told<O>> {
         })
     }
 
-    /// Plays a line, and records its op. Out of memory is the only error; after it the player can't be used.
-    pub fn line(&mut self, line: Line) -> Result<(), OutOfMemory>
+    /// Plays a line, and records its op. Returns its answer, and none of a line that begins a phase. Out of memory is the only
+    /// error; after it the player can't be used.
+    pub fn line(&mut self, line: Line) -> Result<Option<Answer>, OutOfMemory>
         requires { IsReady line self.old }
-        ensures { OnOk result (GoesTo self.old line self.new) }
+        ensures played { IfOk result (λ answer. GoesTo self.old line answer self.new) }
+        ensures owned { IfOk result (ReadsOwnOn self.old line) }
     {
         match line {
-            Line::Phase => self.begin_phase(),
-            Line::Do { thread, op } => self.record(thread, op),
+            Line::Phase => {
+                self.begin_phase()?;
+                Ok(None)
+            }
+            Line::Do { thread, op } => {
+                let answer = self.record(thread, op)?;
+                Ok(Some(answer))
+            }
         }
     }
 
@@ -87,14 +96,15 @@ impl<O: Output> Player<Told<O>> {
         Ok(())
     }
 
-    // Plays an op, and records its answer.
-    fn record(&mut self, thread: u32, op: Op) -> Result<(), OutOfMemory>
+    // Plays an op, and records its answer, which it returns.
+    fn record(&mut self, thread: u32, op: Op) -> Result<Answer, OutOfMemory>
         requires { IsReady (Do thread op) self.old }
-        ensures { OnOk result (GoesTo self.old (Do thread op) self.new) }
+        ensures played { IfOk result (λ answer. GoesTo self.old (Do thread op) (Some answer) self.new) }
+        ensures owned { IfOk result (ReadsOwn self.old thread op) }
     {
         let answer = self.answer(thread, op)?;
         self.told.answer(thread, answer)?;
-        Ok(())
+        Ok(answer)
     }
 
     /// Ends the last phase, and returns what all lines reported. Out of memory is the only error.
@@ -109,7 +119,8 @@ impl<O: Output> Player<Told<O>> {
     // Plays one op, and returns its answer.
     fn answer(&mut self, thread: u32, op: Op) -> Result<Answer, OutOfMemory>
         requires { IsReady (Do thread op) self.old }
-        ensures { IfOk result (Plays self.old thread op self.new) }
+        ensures played { IfOk result (Plays self.old thread op self.new) }
+        ensures owned { IfOk result (ReadsOwn self.old thread op) }
     {
         match op {
             Op::Alloc {
@@ -124,6 +135,25 @@ impl<O: Output> Player<Told<O>> {
             Op::Read { reg, place } => Ok(self.read(thread, reg, place)),
             Op::Swap { cell, reg } => self.swap(thread, cell, reg),
             Op::Purge => self.purge(thread),
+        }
+    }
+
+    /// The slot that a register of a thread owns, as it left its root, and its partition. `None` exactly if it owns none.
+    pub fn owned(&self, thread: u32, reg: u32) -> Option<(Title, u32)>
+        requires thread { thread < length self.now.registers }
+        requires reg { reg < register_count }
+        requires held { IsIn (length self.now.table) (register_at self.now thread reg) }
+        ensures { result ≡ title_owned self.now.table (register_at self.now thread reg) }
+    {
+        match self.register(thread, reg) {
+            Handle::Own(place) => {
+                let slot = self.table.slot(place);
+                Some((slot.title, slot.partition))
+            }
+            Handle::Empty => None,
+            Handle::Ref(_) => None,
+            Handle::Freed => None,
+            Handle::Cleared => None,
         }
     }
 

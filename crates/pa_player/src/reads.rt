@@ -3,7 +3,7 @@ ghost use Rattle.pa_trace.specs.declared.script.Op.TheVariants as ops;
 ghost use Rattle.pa_trace.specs.declared.script.Line.TheVariants.{Do};
 ghost use Rattle.pa_player.specs.Asks.{CanRead};
 ghost use Rattle.pa_player.specs.Changes.{Reads};
-ghost use Rattle.pa_player.specs.Plays.{IsReady, Plays};
+ghost use Rattle.pa_player.specs.Plays.{IsReady, Plays, ReadsOwn};
 
 use crate::alloc::COUNT_WORD;
 use crate::handle::Handle;
@@ -20,7 +20,8 @@ impl<O: Output> Player<Told<O>> {
     // A read of a word, by its index from 0.
     pub(crate) fn read(&self, thread: u32, reg: u32, word: u32) -> Answer
         requires { IsReady (Do thread (ops.Read reg word)) self.now }
-        ensures { Plays self.now thread (ops.Read reg word) self.now result }
+        ensures played { Plays self.now thread (ops.Read reg word) self.now result }
+        ensures owned { ReadsOwn self.now thread (ops.Read reg word) result }
     {
         match self.register(thread, reg) {
             Handle::Empty => Answer::Nothing,

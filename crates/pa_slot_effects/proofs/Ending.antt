@@ -13,7 +13,7 @@ use Rattle.pa_record.specs.declared.entry.Answer.TheVariants.{Made, Done, Value,
 use Rattle.pa_record.specs.declared.history.CellEntry.{CellEntry}
 use Rattle.pa_rules.specs.declared.played.Played.{Played}
 use Rattle.pa_rules.specs.Played.{AreLines, marks_of}
-use Rattle.pa_rules.specs.Registers.{usable_in, no_regs}
+use Rattle.pa_rules.specs.Registers.{RowsTo, usable_in, no_regs}
 use Rattle.pa_rules.specs.Order.{StandsBefore}
 use Rattle.pa_rules.specs.Contents.{IsReadExact, IsReadAllowed}
 use Rattle.pa_rules.specs.Seen.{IsBefore, Standing, Handing, Between, IsSeenInOrder}
@@ -24,7 +24,7 @@ use Rattle.pa_rules.proofs.Marking.{mark_line}
 use Rattle.pa_rules.proofs.Numbering.{lines_rise}
 use Rattle.pa_rules.proofs.Recorded.{records_are_lines}
 use Rattle.pa_slot_effects.specs.Shown.{Shown}
-use Rattle.pa_slot_effects.specs.Known.{HasExchanged, IsToldTo}
+use Rattle.pa_slot_effects.specs.Known.{facts_of, HasExchanged, IsToldTo}
 use Rattle.pa_slot_effects.specs.Laws.{EndsRight}
 use Rattle.pa_slot_effects.proofs.Histories.{exchanged_order, exchanged_cells}
 use Rattle.pa_slot_effects.proofs.Lines.{played_phases}
@@ -138,21 +138,22 @@ word_at_end threads ls ps a h s =
       sym (path_last_word (marks_of ps) s 0 k.0 (a.word s) k.1),
     )
 
+-- the rows lead from empty registers to these
+pub rows_told : (threads : ℕ) (ls : List Line) (ps : List Played) (a : Shown) → IsToldTo threads ls ps a → RowsTo (facts_of (usable_in ps) a.cells) no_regs ps a.regs
+rows_told threads ls ps a h = rows_end a.word a.word a.usable (usable_in ps) a.cells a.cells (record {
+  used = λ s u. u;
+  sizes = λ s up.
+      let m = used_made ps a.word s h.runs up in
+      usable_made a.usable ps m.maker m.seen m.usable s h.sized m.among m.made m.slot;
+  exchanges = λ k j e i. i;
+}) no_regs ps a.regs h.rows
+
 pub ends_right : EndsRight
 ends_right threads ls ps a h = record {
   rising = lines_rise ls ps h.lines;
   due = records_are_lines.due ls ps h.lines;
   cells = exchanged_cells a.cells a.held ps (length ls + 2) h.exchanged (played_phases ls ps h.lines);
-  registers = (
-    a.regs,
-    rows_end a.word a.word a.usable (usable_in ps) a.cells a.cells (record {
-      used = λ s u. u;
-      sizes = λ s up.
-          let m = used_made ps a.word s h.runs up in
-          usable_made a.usable ps m.maker m.seen m.usable s h.sized m.among m.made m.slot;
-      exchanges = λ k j e i. i;
-    }) no_regs ps a.regs h.rows,
-  );
+  registers = (a.regs, rows_told threads ls ps a h);
   slots = slots_of_runs (marks_of ps) a.word h.runs;
   contents = λ x c. allowed a.cells ps x x.answer (h.contents.read x c);
   seen = seen_in_file_order threads ls ps a h;

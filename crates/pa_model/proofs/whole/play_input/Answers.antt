@@ -3,6 +3,7 @@ use Rattle.std.proofs.lemmas.Result.{err_from_is_err_and}
 use Rattle.std.specs.Prelude.{MatchOption}
 use Rattle.pa_trace.specs.Unread.{Unread, IsLineRead, IsEndRead}
 use Rattle.pa_player.specs.Told.{Lists, IsToldRun, IsToldText}
+use Rattle.pa_player.proofs.Trace.{goes_on}
 use Rattle.pa_model.proofs.Input.{input_begins, input_ready, input_goes_on, input_ends, input_told, input_played}
 use Rattle.pa_model.proofs.whole.play_input.Goals as goal
 
@@ -22,7 +23,8 @@ loop-player-preserved c =
     let u : Unread = c.loop-player.reader in
     let v : Unread = c.next.new.self in
     let line = subst (λ found. MatchOption found (IsEndRead u v) (λ l. IsLineRead u l v)) c.in-Some.is c.in_ok-line.ensures.line in
-    input_goes_on c.args.bytes.now u c.loop-player.player c.loop-player.invariant c.in-Some.line v c.line.new.self line c.in_ok-line-2.ensures
+    input_goes_on c.args.bytes.now u c.loop-player.player c.loop-player.invariant c.in-Some.line v c.line.new.self line
+    (goes_on c.loop-player.player c.in-Some.line _ c.line.new.self c.in_ok-line-2.ensures.played)
 
 pub finish-requires : goal.finish-requires
 finish-requires c = input_ends c.args.bytes.now c.loop-player.reader c.loop-player.player c.loop-player.invariant

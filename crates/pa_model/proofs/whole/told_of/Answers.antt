@@ -7,7 +7,7 @@ use Rattle.pa_model.proofs.AllTold.{all_told}
 use Rattle.pa_player.proofs.Outcome.{if_ok}
 use Rattle.pa_player.proofs.Reporting.{end_ready}
 use Rattle.pa_player.proofs.Start.{begins_playing}
-use Rattle.pa_player.proofs.Trace.{line_ready, line_more, all_played}
+use Rattle.pa_player.proofs.Trace.{line_ready, line_more, goes_on, all_played}
 use Rattle.pa_model.proofs.whole.told_of.Goals as goal
 
 pub loop-line-init : goal.loop-line-init
@@ -31,7 +31,8 @@ loop-line-preserved c =
     let size = ap (λ (z : List Line). length z) c.as_slice-lines.ensures in
     let is = ap (λ (z : List Line). get_or z i Phase) c.as_slice-lines.ensures in
     let lt : i < length t.lines = omega (arith, size, c.loop-line-test.true) in
-    line_more t i c.loop-line.player c.line.new.self (get_or c.as_slice-lines.result.now i Phase) Phase c.requires.within lt is c.loop-line.invariant c.in_ok-line.ensures
+    line_more t i c.loop-line.player c.line.new.self (get_or c.as_slice-lines.result.now i Phase) Phase c.requires.within lt is c.loop-line.invariant
+    (goes_on c.loop-line.player (get_or c.as_slice-lines.result.now i Phase) _ c.line.new.self c.in_ok-line.ensures.played)
 
 pub finish-requires : goal.finish-requires
 finish-requires c =
