@@ -17,11 +17,11 @@ use Rattle.pa_cli.specs.declared.command.Command.TheVariants as commands
 use Rattle.pa_cli.specs.declared.status.Status.{Status}
 use Rattle.pa_cli.specs.declared.status.Status.TheVariants.{Done, BadCommand, BadLine, Limit, ReadFault, WriteFault, OutOfMemory, NotLegal}
 use Rattle.pa_cli.specs.Call.{Stream, Call}
-use Rattle.pa_cli.specs.Command.{AsksFor, ReadsInput, IsAudit}
+use Rattle.pa_cli.specs.Command.{AsksFor, IsAudit, Reading, ReadsNothing, ReadsTrace, ReadsRun, ReadsSome, Needs, needs_of}
 use Rattle.pa_cli.specs.Output.{Output, output_with, IsOutputOf, IsOutput}
 use Rattle.pa_cli.specs.Cause.{IsFaulty, HasFault, IsRefuted, IsInputFor, Caused, Answers, Completes, Judges, Refuses}
 use Rattle.pa_cli.specs.StatusText.{status_of_trace, status_of_verdict}
-use Rattle.pa_cli.proofs.Commands.{one_reader}
+use Rattle.pa_cli.proofs.Commands.{one_needs}
 use Rattle.pa_cli.proofs.Judging.{one_judgement}
 
 -- what holds of all bytes that the source exposes, if they are these
@@ -35,87 +35,74 @@ read_these None bytes read e h = absurd cc
 read_these (Some left) bytes read e h = let same : left ≡ bytes = cc in sym h ∙ same
 
 -- an input has no fault
-clean : (command : Command) (bytes : List ℕ) (fault : TraceFault) → IsInputFor command bytes → IsFaulty command fault bytes → ⊥
-clean Replay bytes fault input h = no_fault_of_input input.0 bytes fault input.1 h
-clean Model bytes fault input h = no_fault_of_input input.0 bytes fault input.1 h
-clean Audit bytes fault input h = no_audit_fault input.0 input.1 input.2 bytes fault input.3 h
-clean (Layout size) bytes fault input h = input
-clean (commands.Trace rounds key) bytes fault input h = input
-clean Help bytes fault input h = input
-clean Version bytes fault input h = input
+clean : (reads : Reading) (bytes : List ℕ) (fault : TraceFault) → IsInputFor reads bytes → IsFaulty reads fault bytes → ⊥
+clean ReadsNothing bytes fault input h = input
+clean ReadsTrace bytes fault input h = no_fault_of_input input.0 bytes fault input.1 h
+clean ReadsRun bytes fault input h = no_audit_fault input.0 input.1 input.2 bytes fault input.3 h
 
 -- bytes have one fault
-one_of : (command : Command) (bytes : List ℕ) (fault other : TraceFault) → IsFaulty command fault bytes → IsFaulty command other bytes → fault ≡ other
-one_of Replay bytes fault other h k = one_fault fault other bytes h k
-one_of Model bytes fault other h k = one_fault fault other bytes h k
-one_of Audit bytes fault other h k = one_audit_fault fault other bytes h k
-one_of (Layout size) bytes fault other h k = absurd h
-one_of (commands.Trace rounds key) bytes fault other h k = absurd h
-one_of Help bytes fault other h k = absurd h
-one_of Version bytes fault other h k = absurd h
+one_of : (reads : Reading) (bytes : List ℕ) (fault other : TraceFault) → IsFaulty reads fault bytes → IsFaulty reads other bytes → fault ≡ other
+one_of ReadsNothing bytes fault other h k = absurd h
+one_of ReadsTrace bytes fault other h k = one_fault fault other bytes h k
+one_of ReadsRun bytes fault other h k = one_audit_fault fault other bytes h k
 
--- a command with an input, or with a fault, reads
-input_read : (command : Command) (bytes : List ℕ) → IsInputFor command bytes → ReadsInput command
-input_read Replay bytes h = tt
-input_read Model bytes h = tt
-input_read Audit bytes h = tt
-input_read (Layout size) bytes h = h
-input_read (commands.Trace rounds key) bytes h = h
-input_read Help bytes h = h
-input_read Version bytes h = h
+-- what has a fault is read
+fault_read : (reads : Reading) (bytes : List ℕ) (fault : TraceFault) → IsFaulty reads fault bytes → ReadsSome reads
+fault_read ReadsNothing bytes fault h = h
+fault_read ReadsTrace bytes fault h = tt
+fault_read ReadsRun bytes fault h = tt
 
-fault_read : (command : Command) (bytes : List ℕ) (fault : TraceFault) → IsFaulty command fault bytes → ReadsInput command
-fault_read Replay bytes fault h = tt
-fault_read Model bytes fault h = tt
-fault_read Audit bytes fault h = tt
-fault_read (Layout size) bytes fault h = h
-fault_read (commands.Trace rounds key) bytes fault h = h
-fault_read Help bytes fault h = h
-fault_read Version bytes fault h = h
+-- the fault of a call, by what another command needs for which the same words ask
+fault_of : (of other : Needs) (fault : TraceFault) (before after : Stream) → of ≡ other → HasFault other.reads fault before after
+    → HasFault of.reads fault before after
+fault_of of other fault before after same h = subst (λ (x : Needs). HasFault x.reads fault before after) (sym same) h
 
--- a refusal by a fault, of words that ask for a command that reads, is of that command
-fault_of : (command other : Command) (words : List (List ℕ)) (fault : TraceFault) (before after : Stream) → ReadsInput command
-    → AsksFor command words → AsksFor other words → HasFault other fault before after → HasFault command fault before after
-fault_of command other words fault before after reads asked also h =
-    subst (λ (x : Command). HasFault x fault before after) (one_reader command other words reads asked also) h
+-- an input has no fault of a call
+no_fault : (bytes : List ℕ) (of other : Needs) (fault : TraceFault) (before after : Stream) → of ≡ other → before.told ≡ Some bytes
+    → IsInputFor of.reads bytes → HasFault other.reads fault before after → ⊥
+no_fault bytes of other fault before after same told input h =
+    clean of.reads bytes fault input (told_these (IsFaulty of.reads fault) before.told bytes told (fault_of of other fault before after same h).told)
 
--- if the bytes are an input, no call has a fault of the input
-no_fault : (bytes : List ℕ) (command other : Command) (words : List (List ℕ)) (fault : TraceFault) (before after : Stream) → AsksFor command words
-    → AsksFor other words → before.told ≡ Some bytes → IsInputFor command bytes → HasFault other fault before after → ⊥
-no_fault bytes command other words fault before after asked also told input h =
-    let same = fault_of command other words fault before after (input_read command bytes input) asked also h in
-    clean command bytes fault input (told_these (IsFaulty command fault) before.told bytes told same.told)
+-- of what reads nothing, nothing is read
+never_read : (of other : Needs) → of ≡ other → of.reads ≡ ReadsNothing → ReadsSome other.reads → ⊥
+never_read of other same none h = subst ReadsSome (ap (λ (x : Needs). x.reads) (sym same) ∙ none) h
 
--- a good input leads to Done, or for `audit` to NotLegal, or to OutOfMemory
+-- a good input leads to Done, or of a run to NotLegal, or memory is wanting
 pub caused_completes : (status : Status) (c : Call) → Caused status c → Completes status c
 caused_completes Done c h = λ bytes command words told input calm quiet. inl refl
 caused_completes BadCommand c h = λ bytes command words told input calm quiet. absurd (h.0 (command, words))
 caused_completes (BadLine n) c h = λ bytes command words told input calm quiet.
-    absurd (no_fault bytes command h.0.0 c.words (faults.BadLine n) c.source c.source_after words h.0.1 told input h.0.2.1)
+    absurd (no_fault bytes (needs_of command) (needs_of h.0.0) (faults.BadLine n) c.source c.source_after (one_needs command h.0.0 c.words words h.0.1) told input h.0.2.1)
 caused_completes (Limit n) c h = λ bytes command words told input calm quiet.
-    absurd (no_fault bytes command h.0.0 c.words (faults.Limit n) c.source c.source_after words h.0.1 told input h.0.2.1)
+    absurd (no_fault bytes (needs_of command) (needs_of h.0.0) (faults.Limit n) c.source c.source_after (one_needs command h.0.0 c.words words h.0.1) told input h.0.2.1)
 caused_completes ReadFault c h = λ bytes command words told input calm quiet. absurd (calm h.0.2.1.risen)
 caused_completes WriteFault c h = λ bytes command words told input calm quiet. absurd (quiet h.2)
 caused_completes OutOfMemory c h = λ bytes command words told input calm quiet. inr (inl refl)
 caused_completes (NotLegal clause n) c h = λ bytes command words told input calm quiet.
-    let same = one_reader command h.0.0 c.words (input_read command bytes input) words h.0.1 in
-    inr (inr (sym same ∙ h.0.2.0, clause, n, refl))
+    let same = one_needs command h.0.0 c.words words h.0.1 in
+    inr (inr (ap (λ (x : Needs). x.reads) same ∙ h.0.2.0, clause, n, refl))
 
--- a command that reads nothing leads to Done or OutOfMemory
+-- a command that reads nothing leads to Done, or takes memory
 pub caused_answers : (status : Status) (c : Call) → Caused status c → Answers status c
-caused_answers Done c h = λ asked other quiet. inl refl
-caused_answers BadCommand c h = λ asked other quiet. absurd (h.0 asked)
-caused_answers (BadLine n) c h = λ asked other quiet. absurd (other (h.0.0, h.0.1, h.0.2.0))
-caused_answers (Limit n) c h = λ asked other quiet. absurd (other (h.0.0, h.0.1, h.0.2.0))
-caused_answers ReadFault c h = λ asked other quiet. absurd (other (h.0.0, h.0.1, h.0.2.0))
-caused_answers WriteFault c h = λ asked other quiet. absurd (quiet h.2)
-caused_answers OutOfMemory c h = λ asked other quiet. inr refl
-caused_answers (NotLegal clause n) c h = λ asked other quiet.
-    absurd (other (Audit, subst (λ (x : Command). AsksFor x c.words) h.0.2.0 h.0.1, tt))
+caused_answers Done c h = λ command words none quiet. inl refl
+caused_answers BadCommand c h = λ command words none quiet. absurd (h.0 (command, words))
+caused_answers (BadLine n) c h = λ command words none quiet.
+    absurd (never_read (needs_of command) (needs_of h.0.0) (one_needs command h.0.0 c.words words h.0.1) none h.0.2.0)
+caused_answers (Limit n) c h = λ command words none quiet.
+    absurd (never_read (needs_of command) (needs_of h.0.0) (one_needs command h.0.0 c.words words h.0.1) none h.0.2.0)
+caused_answers ReadFault c h = λ command words none quiet.
+    absurd (never_read (needs_of command) (needs_of h.0.0) (one_needs command h.0.0 c.words words h.0.1) none h.0.2.0)
+caused_answers WriteFault c h = λ command words none quiet. absurd (quiet h.2)
+caused_answers OutOfMemory c h = λ command words none quiet.
+    let same = one_needs command h.0.0 c.words words h.0.1 in
+    inr (refl, ap (λ (x : Needs). x.memory) same ∙ h.0.2.0)
+caused_answers (NotLegal clause n) c h = λ command words none quiet.
+    let read : ReadsSome (needs_of h.0.0).reads = subst ReadsSome (sym h.0.2.0) tt in
+    absurd (never_read (needs_of command) (needs_of h.0.0) (one_needs command h.0.0 c.words words h.0.1) none read)
 
 -- a command with an output had an input
-output_input : (command : Command) (bytes : List ℕ) (before after : Stream) (out : Output) → ReadsInput command → before.told ≡ Some bytes
-    → IsOutputOf command before after out → IsInputFor command bytes
+output_input : (command : Command) (bytes : List ℕ) (before after : Stream) (out : Output) → ReadsSome (needs_of command).reads → before.told ≡ Some bytes
+    → IsOutputOf command before after out → IsInputFor (needs_of command).reads bytes
 output_input Replay bytes before after out reads told h =
     (h.trace, subst (IsInput h.trace) (read_these before.told bytes h.read.bytes told h.read.read.all) h.read.input)
 output_input Model bytes before after out reads told h =
@@ -130,24 +117,23 @@ output_input Version bytes before after out reads told h = absurd reads
 
 -- a faulty input has no output
 no_output : (bytes : List ℕ) (command : Command) (fault : TraceFault) (c : Call) (text : List ℕ) → AsksFor command c.words → c.source.told ≡ Some bytes
-    → IsFaulty command fault bytes → IsOutput c text → ⊥
+    → IsFaulty (needs_of command).reads fault bytes → IsOutput c text → ⊥
 no_output bytes command fault c text words told first h =
-    let reads = fault_read command bytes fault first in
-    let output : IsOutputOf command c.source c.source_after (output_with text c.run c.region) =
-    subst (λ (x : Command). IsOutputOf x c.source c.source_after (output_with text c.run c.region)) (one_reader command h.0 c.words reads words h.1) h.2 in
-    clean command bytes fault (output_input command bytes c.source c.source_after (output_with text c.run c.region) reads told output) first
+    let same = one_needs command h.0 c.words words h.1 in
+    let faulty : IsFaulty (needs_of h.0).reads fault bytes = subst (λ (x : Needs). IsFaulty x.reads fault bytes) same first in
+    let reads = fault_read (needs_of h.0).reads bytes fault faulty in
+    clean (needs_of h.0).reads bytes fault (output_input h.0 bytes c.source c.source_after (output_with text c.run c.region) reads told h.2) faulty
 
 -- two first faults of the same bytes have one status
-same_status : (bytes : List ℕ) (command other : Command) (words : List (List ℕ)) (fault found : TraceFault) (before after : Stream)
-    → AsksFor command words → AsksFor other words → before.told ≡ Some bytes → IsFaulty command fault bytes → HasFault other found before after
-    → status_of_trace found ≡ status_of_trace fault
-same_status bytes command other words fault found before after asked also told first h =
-    let same = fault_of command other words found before after (fault_read command bytes fault first) asked also h in
-    ap status_of_trace (one_of command bytes found fault (told_these (IsFaulty command found) before.told bytes told same.told) first)
+same_status : (bytes : List ℕ) (of other : Needs) (fault found : TraceFault) (before after : Stream) → of ≡ other → before.told ≡ Some bytes
+    → IsFaulty of.reads fault bytes → HasFault other.reads found before after → status_of_trace found ≡ status_of_trace fault
+same_status bytes of other fault found before after same told first h =
+    let also = fault_of of other found before after same h in
+    ap status_of_trace (one_of of.reads bytes found fault (told_these (IsFaulty of.reads found) before.told bytes told also.told) first)
 
 -- a run that isn't legal was read from an input
 refuted_input : (bytes : List ℕ) (clause : Clause) (n : ℕ) (before after : Stream) → before.told ≡ Some bytes → IsRefuted clause n before after
-    → IsInputFor Audit bytes
+    → IsInputFor ReadsRun bytes
 refuted_input bytes clause n before after told h =
     let input = h.refuted in
     (input.trace, input.run, input.lines, subst (IsAudited input.trace input.run input.lines) (read_these before.told bytes h.bytes told h.read.all) input.input)
@@ -157,28 +143,37 @@ pub caused_refuses : (status : Status) (c : Call) → Caused status c → Refuse
 caused_refuses Done c h = λ bytes fault command words told first calm. absurd (no_output bytes command fault c h.0 words told first h.1)
 caused_refuses BadCommand c h = λ bytes fault command words told first calm. absurd (h.0 (command, words))
 caused_refuses (BadLine n) c h = λ bytes fault command words told first calm.
-    inl (same_status bytes command h.0.0 c.words fault (faults.BadLine n) c.source c.source_after words h.0.1 told first h.0.2.1)
+    inl (same_status bytes (needs_of command) (needs_of h.0.0) fault (faults.BadLine n) c.source c.source_after (one_needs command h.0.0 c.words words h.0.1) told first h.0.2.1)
 caused_refuses (Limit n) c h = λ bytes fault command words told first calm.
-    inl (same_status bytes command h.0.0 c.words fault (faults.Limit n) c.source c.source_after words h.0.1 told first h.0.2.1)
+    inl (same_status bytes (needs_of command) (needs_of h.0.0) fault (faults.Limit n) c.source c.source_after (one_needs command h.0.0 c.words words h.0.1) told first h.0.2.1)
 caused_refuses ReadFault c h = λ bytes fault command words told first calm. absurd (calm h.0.2.1.risen)
 caused_refuses WriteFault c h = λ bytes fault command words told first calm. absurd (no_output bytes command fault c h.0 words told first h.1)
 caused_refuses OutOfMemory c h = λ bytes fault command words told first calm. inr refl
 caused_refuses (NotLegal clause n) c h = λ bytes fault command words told first calm.
-    let same = one_reader command h.0.0 c.words (fault_read command bytes fault first) words h.0.1 in
-    let faulty : IsFaulty Audit fault bytes = subst (λ (x : Command). IsFaulty x fault bytes) (sym same ∙ h.0.2.0) first in
-    absurd (clean Audit bytes fault (refuted_input bytes clause n c.source c.source_after told h.0.2.1) faulty)
+    let same = ap (λ (x : Needs). x.reads) (one_needs command h.0.0 c.words words h.0.1) ∙ h.0.2.0 in
+    let faulty : IsFaulty ReadsRun fault bytes = subst (λ (x : Reading). IsFaulty x fault bytes) same first in
+    absurd (clean ReadsRun bytes fault (refuted_input bytes clause n c.source c.source_after told h.0.2.1) faulty)
 
 -- bytes with a verdict are an input
-verdict_input : (bytes : List ℕ) (verdict : Verdict) → IsVerdictOn verdict bytes → IsInputFor Audit bytes
+verdict_input : (bytes : List ℕ) (verdict : Verdict) → IsVerdictOn verdict bytes → IsInputFor ReadsRun bytes
 verdict_input bytes Legal h = (h.trace, h.run, h.lines, h.input)
 verdict_input bytes (Broken clause n) h = (h.trace, h.run, h.lines, h.input)
 
--- the output of `audit`, of words that ask for it, is that of a legal run
+-- what a command printed that reads a run is of a legal one
+output_legal : (command : Command) (bytes : List ℕ) (before after : Stream) (out : Output) → (needs_of command).reads ≡ ReadsRun → before.told ≡ Some bytes
+    → IsOutputOf command before after out → IsLegalInput bytes
+output_legal Replay bytes before after out reads told h = absurd cc
+output_legal Model bytes before after out reads told h = absurd cc
+output_legal Audit bytes before after out reads told h = subst IsLegalInput (read_these before.told bytes h.0.bytes told h.0.read.all) h.0.legal
+output_legal (Layout size) bytes before after out reads told h = absurd cc
+output_legal (commands.Trace rounds key) bytes before after out reads told h = absurd cc
+output_legal Help bytes before after out reads told h = absurd cc
+output_legal Version bytes before after out reads told h = absurd cc
+
 legal_output : (bytes : List ℕ) (c : Call) (text : List ℕ) → IsAudit c.words → c.source.told ≡ Some bytes → IsOutput c text → IsVerdictOn Legal bytes
 legal_output bytes c text asked told h =
-    let output : IsOutputOf Audit c.source c.source_after (output_with text c.run c.region) =
-    subst (λ (x : Command). IsOutputOf x c.source c.source_after (output_with text c.run c.region)) (one_reader Audit h.0 c.words tt asked h.1) h.2 in
-    subst IsLegalInput (read_these c.source.told bytes output.0.bytes told output.0.read.all) output.0.legal
+    output_legal h.0 bytes c.source c.source_after (output_with text c.run c.region)
+    (ap (λ (x : Needs). x.reads) (one_needs h.0 Audit c.words h.1 asked)) told h.2
 
 -- a verdict leads to its status or to OutOfMemory
 pub caused_judges : (status : Status) (c : Call) → Caused status c → Judges status c
@@ -186,9 +181,9 @@ caused_judges Done c h = λ bytes verdict asked told right calm quiet.
     inl (ap status_of_verdict (one_judgement bytes Legal verdict (legal_output bytes c h.0 asked told h.1) right))
 caused_judges BadCommand c h = λ bytes verdict asked told right calm quiet. absurd (h.0 (Audit, asked))
 caused_judges (BadLine n) c h = λ bytes verdict asked told right calm quiet.
-    absurd (no_fault bytes Audit h.0.0 c.words (faults.BadLine n) c.source c.source_after asked h.0.1 told (verdict_input bytes verdict right) h.0.2.1)
+    absurd (no_fault bytes (needs_of Audit) (needs_of h.0.0) (faults.BadLine n) c.source c.source_after (one_needs Audit h.0.0 c.words asked h.0.1) told (verdict_input bytes verdict right) h.0.2.1)
 caused_judges (Limit n) c h = λ bytes verdict asked told right calm quiet.
-    absurd (no_fault bytes Audit h.0.0 c.words (faults.Limit n) c.source c.source_after asked h.0.1 told (verdict_input bytes verdict right) h.0.2.1)
+    absurd (no_fault bytes (needs_of Audit) (needs_of h.0.0) (faults.Limit n) c.source c.source_after (one_needs Audit h.0.0 c.words asked h.0.1) told (verdict_input bytes verdict right) h.0.2.1)
 caused_judges ReadFault c h = λ bytes verdict asked told right calm quiet. absurd (calm h.0.2.1.risen)
 caused_judges WriteFault c h = λ bytes verdict asked told right calm quiet. absurd (quiet h.2)
 caused_judges OutOfMemory c h = λ bytes verdict asked told right calm quiet. inr refl

@@ -7,3 +7,4 @@ mod Ending
 mod Running
 mod Printing
 mod Parsed
+mod Right

@@ -18,7 +18,7 @@ input_printed bytes text before after read is =
     record {
       trace = is.trace;
       read = record { bytes = bytes; read = read_whole most_bytes bytes before after read is.input.short; input = is.input };
-      played = record { run = played.run; filed = played.file; printed = played.printed };
+      played = record { run = played.run; filed = played.file; core = played.core; printed = played.printed };
     }
 
 -- what is written of a run that threads played is the output of `replay`

@@ -1,49 +1,52 @@
--- When a call returns a run and a region.
-use Rattle.std.proofs.Common.{◌≡◌, ◌↔◌, List, ℕ, Option, Some, None, IsSome, inl, inr, refl, arith}
+-- When a call has a run and a region.
+use Rattle.std.proofs.Common.{◌≡◌, ◌∙◌, ◌↔◌, List, ℕ, Bool, true, false, Option, Some, None, IsSome, inl, inr, refl, sym, ap, arith}
 use Rattle.pa_cli.specs.declared.command.Command.{Command}
 use Rattle.pa_cli.specs.declared.command.Command.TheVariants.{Replay, Model, Audit, Layout, Help, Version}
 use Rattle.pa_cli.specs.declared.command.Command.TheVariants as commands
 use Rattle.pa_cli.specs.declared.status.Status.{Status}
 use Rattle.pa_cli.specs.declared.status.Status.TheVariants.{Done, BadCommand, BadLine, Limit, ReadFault, WriteFault, OutOfMemory, NotLegal}
-use Rattle.pa_cli.specs.Call.{Call}
-use Rattle.pa_cli.specs.Command.{AsksFor, IsReplay}
-use Rattle.pa_cli.specs.Output.{output_with, HasNoRun, IsOutputOf, IsOutput}
-use Rattle.pa_cli.proofs.Commands.{one_letter}
+use Rattle.pa_cli.specs.Call.{Stream, Call}
+use Rattle.pa_cli.specs.Command.{AsksFor, AsksForThreads, needs_of}
+use Rattle.pa_cli.specs.Output.{Output, output_with, HasNoRun, IsOutputOf, IsOutput}
+use Rattle.pa_cli.proofs.Commands.{threads_asked}
 use Rattle.pa_cli.specs.Cause.{Caused, IsWritten, TellsNoRun, TellsRun}
 
--- they are there if they are due, and not there if they aren't
-is_there : {A P : Type 0} (o : Option A) (x : A) → o ≡ Some x → P → IsSome o ↔ P
-is_there o x e p = (λ h. p, λ h. rw e refl)
+-- the output has a run and a region, or neither
+abbrev RunsBy : Bool → Output → Type 0
+RunsBy true out = IsSome out.run × IsSome out.region
+RunsBy false out = HasNoRun out.run out.region
+
+is_some : {A : Type 0} (o : Option A) (x : A) → o ≡ Some x → IsSome o
+is_some o x e = rw e refl
+
+-- the output of a command that plays threads has both
+runs_by : (command : Command) (before after : Stream) (out : Output) → IsOutputOf command before after out → RunsBy (needs_of command).threads out
+runs_by Replay before after out h = (is_some out.run h.played.run h.played.has_run, is_some out.region h.played.words h.played.has_region)
+runs_by Model before after out h = h.1
+runs_by Audit before after out h = h.1
+runs_by (Layout size) before after out h = h.1
+runs_by (commands.Trace rounds key) before after out h = h.1
+runs_by Help before after out h = h.1
+runs_by Version before after out h = h.1
 
 is_away : {A P : Type 0} (o : Option A) → o ≡ None → (P → ⊥) → IsSome o ↔ P
 is_away o e never = (λ h. absurd cc, λ p. absurd (never p))
 
--- a call that has neither, and isn't due to have them
-tells_none : (status : Status) (c : Call) → HasNoRun c.run c.region → ((IsReplay c.words × IsWritten status) → ⊥) → TellsRun status c
+-- a call that has neither, and wasn't due to
+tells_none : (status : Status) (c : Call) → HasNoRun c.run c.region → ((AsksForThreads c.words × IsWritten status) → ⊥) → TellsRun status c
 tells_none status c none never = record { run = is_away c.run none.0 never; region = is_away c.region none.1 never }
 
--- a call with an output, by its command
-tells_by : (command : Command) (status : Status) (c : Call) (text : List ℕ) → IsWritten status → AsksFor command c.words
-    → IsOutputOf command c.source c.source_after (output_with text c.run c.region) → TellsRun status c
-tells_by Replay status c text written asked h = record {
-  run = is_there c.run h.played.run h.played.has_run (asked, written);
-  region = is_there c.region h.played.words h.played.has_region (asked, written);
-}
-tells_by Model status c text written asked h =
-    tells_none status c h.1 (λ due. let e : 114 ≡ 109 = one_letter Replay Model c.words due.0 asked in omega (arith, e))
-tells_by Audit status c text written asked h =
-    tells_none status c h.1 (λ due. let e : 114 ≡ 97 = one_letter Replay Audit c.words due.0 asked in omega (arith, e))
-tells_by (Layout size) status c text written asked h =
-    tells_none status c h.1 (λ due. let e : 114 ≡ 108 = one_letter Replay (Layout size) c.words due.0 asked in omega (arith, e))
-tells_by (commands.Trace rounds key) status c text written asked h =
-    tells_none status c h.1 (λ due. let e : 114 ≡ 116 = one_letter Replay (commands.Trace rounds key) c.words due.0 asked in omega (arith, e))
-tells_by Help status c text written asked h =
-    tells_none status c h.1 (λ due. let e : 114 ≡ 45 = one_letter Replay Help c.words due.0 asked in omega (arith, e))
-tells_by Version status c text written asked h =
-    tells_none status c h.1 (λ due. let e : 114 ≡ 45 = one_letter Replay Version c.words due.0 asked in omega (arith, e))
+-- a call with an output, by whether its command plays threads
+tells_by : (threads : Bool) (command : Command) (status : Status) (c : Call) (text : List ℕ) → IsWritten status → AsksFor command c.words
+    → (needs_of command).threads ≡ threads → RunsBy threads (output_with text c.run c.region) → TellsRun status c
+tells_by true command status c text written asked plays h =
+    record { run = (λ _. ((command, asked, plays), written), λ _. h.0); region = (λ _. ((command, asked, plays), written), λ _. h.1) }
+tells_by false command status c text written asked plays h =
+    tells_none status c h (λ due. let e : true ≡ false = sym (threads_asked command c.words asked due.0) ∙ plays in absurd cc)
 
 tells : (status : Status) (c : Call) (text : List ℕ) → IsWritten status → IsOutput c text → TellsRun status c
-tells status c text written h = tells_by h.0 status c text written h.1 h.2
+tells status c text written h =
+    tells_by (needs_of h.0).threads h.0 status c text written h.1 refl (runs_by h.0 c.source c.source_after (output_with text c.run c.region) h.2)
 
 -- a call that wrote nothing
 unwritten : (status : Status) → (status ≡ Done → ⊥) → (status ≡ WriteFault → ⊥) → IsWritten status → ⊥

@@ -1,5 +1,5 @@
--- The words of a command.
-use Rattle.std.specs.Prelude.{◌≡◌, ℕ, ◌≤◌, List, [], ◌∷◌, codes}
+-- The words of a command, and what each command needs.
+use Rattle.std.specs.Prelude.{◌≡◌, ℕ, ◌≤◌, Bool, true, false, List, [], ◌∷◌, codes}
 use Rattle.pa_text.specs.Numeral.{IsNumeral}
 use Rattle.pa_trace.specs.Limits.{most_bytes}
 use Rattle.pa_audit_input.specs.Input.{most_audited}
@@ -53,36 +53,50 @@ IsAsked command = (words : List (List ℕ)) × AsksFor command words
 abbrev pub IsCommand : List (List ℕ) → Type 0
 IsCommand words = (command : Command) × AsksFor command words
 
--- the command plays a trace, which it reads
-abbrev pub PlaysTrace : Command → Type 0
-PlaysTrace Replay = Unit {0}
-PlaysTrace Model = Unit {0}
-PlaysTrace Audit = ⊥
-PlaysTrace (Layout size) = ⊥
-PlaysTrace (Trace rounds key) = ⊥
-PlaysTrace Help = ⊥
-PlaysTrace Version = ⊥
+-- What a command reads: nothing, the text of a trace, or the text of a trace and after it that of a run.
+pub data Reading : Type 0 where
+  ReadsNothing : Reading
+  ReadsTrace : Reading
+  ReadsRun : Reading
 
--- the command reads an input: a trace, or a trace and a run
-abbrev pub ReadsInput : Command → Type 0
-ReadsInput Replay = Unit {0}
-ReadsInput Model = Unit {0}
-ReadsInput Audit = Unit {0}
-ReadsInput (Layout size) = ⊥
-ReadsInput (Trace rounds key) = ⊥
-ReadsInput Help = ⊥
-ReadsInput Version = ⊥
+-- it reads something
+abbrev pub ReadsSome : Reading → Type 0
+ReadsSome ReadsNothing = ⊥
+ReadsSome ReadsTrace = Unit {0}
+ReadsSome ReadsRun = Unit {0}
 
--- the words are those of a command that reads: `replay`, `model` or `audit`
+-- the most bytes that such an input may have
+abbrev pub most_read : Reading → ℕ
+most_read ReadsNothing = 0
+most_read ReadsTrace = most_bytes
+most_read ReadsRun = most_audited
+
+-- What a command needs.
+--   reads: what it reads
+--   threads: it plays threads over a region, so its call may wait, and has a run and a region if its output is written
+--   memory: it takes memory
+pub record Needs : Type 0 where
+  pub reads : Reading
+  pub threads : Bool
+  pub memory : Bool
+
+abbrev pub needing : Reading → Bool → Bool → Needs
+needing reads threads memory = record { reads = reads; threads = threads; memory = memory }
+
+-- the table of all commands
+abbrev pub needs_of : Command → Needs
+needs_of Replay = needing ReadsTrace true true
+needs_of Model = needing ReadsTrace false true
+needs_of Audit = needing ReadsRun false true
+needs_of (Layout size) = needing ReadsNothing false false
+needs_of (Trace rounds key) = needing ReadsNothing false true
+needs_of Help = needing ReadsNothing false false
+needs_of Version = needing ReadsNothing false false
+
+-- the words are those of a command that reads
 abbrev pub AsksToRead : List (List ℕ) → Type 0
-AsksToRead words = (command : Command) × AsksFor command words × ReadsInput command
+AsksToRead words = (command : Command) × AsksFor command words × ReadsSome (needs_of command).reads
 
--- the most bytes that a command's input may have; the last four commands read none
-abbrev pub most_read : Command → ℕ
-most_read Replay = most_bytes
-most_read Model = most_bytes
-most_read Audit = most_audited
-most_read (Layout size) = 0
-most_read (Trace rounds key) = 0
-most_read Help = 0
-most_read Version = 0
+-- the words are those of a command that plays threads
+abbrev pub AsksForThreads : List (List ℕ) → Type 0
+AsksForThreads words = (command : Command) × AsksFor command words × ((needs_of command).threads ≡ true)

@@ -6,10 +6,10 @@ use Rattle.std.specs.List.{flat_map}
 abbrev pub ended : List (List ℕ) → List ℕ
 ended lines = flat_map (λ line. line ++ 10 ∷ []) lines
 
--- the commands, and what each status means
+-- the commands, an example, and what each status means
 abbrev pub help_text : List ℕ
 help_text =
-    ended (codes "usage: partalloc COMMAND"
+    ended (codes "usage: partalloc COMMAND [< FILE]"
     ∷ []
     ∷ codes "commands"
     ∷ codes "  replay            read a trace from standard input, play each thread's lines on its own thread, print the run: answers, heap, exchanges, report"
@@ -19,6 +19,10 @@ help_text =
     ∷ codes "  trace ROUNDS KEY  print a trace of ROUNDS rounds, 1 to 800, with random numbers by KEY, 0 to 18446744073709551615"
     ∷ codes "  --help            print this text"
     ∷ codes "  --version         print the name and the version"
+    ∷ []
+    ∷ codes "example"
+    ∷ codes "  partalloc trace 1 7 > FILE"
+    ∷ codes "  partalloc replay < FILE"
     ∷ []
     ∷ codes "status, and what it prints on standard error"
     ∷ codes "  0            done"

@@ -6,3 +6,4 @@ pub mod Output
 pub mod Laws
 pub mod Cause
 pub mod StatusText
+pub mod PrintedText

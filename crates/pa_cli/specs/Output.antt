@@ -9,6 +9,7 @@ use Rattle.pa_record.specs.RunText.{IsRunText}
 use Rattle.pa_rules.specs.Told.{told_by}
 use Rattle.pa_rules.specs.Legal.{IsLegal, IsFileRun}
 use Rattle.pa_rules.specs.Held.{IsHeldIn}
+use Rattle.pa_core_run.specs.Playing.{HasCoreRun}
 use Rattle.pa_audit_input.specs.Input.{most_audited}
 use Rattle.pa_audit_input.specs.Judged.{IsLegalInput}
 use Rattle.pa_cli.specs.Call.{Stream, Call, IsReadWhole}
@@ -62,10 +63,11 @@ pub record IsReplayOutput (before after : Stream) (out : Output) : Type 0 where
   pub read : IsTraceRead trace before after
   pub played : IsReplayedAs trace out
 
--- the text is that of the trace's sequential run, in the order of its lines, which is a legal run of the trace
+-- the text is that of the trace's run in the order of its lines, which is a legal run of the trace, and has a run of the core
 pub record IsModelText (trace : Trace) (text : List ℕ) : Type 0 where
   pub run : Run
   pub filed : IsFileRun trace run
+  pub core : HasCoreRun trace run
   pub printed : IsRunText run text
 
 -- the output of `model`: the text is that of the trace that was read

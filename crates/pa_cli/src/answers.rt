@@ -1,20 +1,17 @@
-ghost use Rattle.std.specs.Prelude.{◌≡◌, ◌≤◌, ◌++◌, decimal, IfOk, OnOk};
-ghost use Rattle.pa_cli.specs.Output.{IsGeneratedText, legal_text};
+ghost use Rattle.std.specs.Prelude.{◌≡◌, ◌+◌, ◌≤◌, [], ◌∷◌, ◌++◌, codes, decimal, length, IfOk};
+ghost use Rattle.arrayvec.specs.ArrayVec.{array_vec_len};
+ghost use Rattle.pa_cli.specs.Output.{IsGeneratedText};
 ghost use Rattle.pa_cli.specs.LayoutText.{IsLayoutText, class_line, direct_line};
-ghost use Rattle.pa_cli.specs.HelpText.{help_text, version_text};
 
+use arrayvec::ArrayVec;
 use pa_buckets::{Class, class_of, raw_of, slot_size, span_of};
 use pa_direct::{GREATEST_SIZE, Shape, shape};
 use pa_machine::OutOfMemory;
-use pa_text::{Text, push_byte, push_bytes, push_number};
 use pa_trace::{generate, write_trace};
 use std::alloc::Global;
 
-// The most bytes of a line of `layout`, for the room that is allocated first.
-const LINE_BYTES: usize = 80;
-
 // What `--help` prints.
-const HELP: &[u8] = b"usage: partalloc COMMAND
+pub const HELP: &[u8] = b"usage: partalloc COMMAND [< FILE]
 
 commands
   replay            read a trace from standard input, play each thread's lines on its own thread, print the run: answers, heap, exchanges, report
@@ -24,6 +21,10 @@ commands
   trace ROUNDS KEY  print a trace of ROUNDS rounds, 1 to 800, with random numbers by KEY, 0 to 18446744073709551615
   --help            print this text
   --version         print the name and the version
+
+example
+  partalloc trace 1 7 > FILE
+  partalloc replay < FILE
 
 status, and what it prints on standard error
   0            done
@@ -39,49 +40,26 @@ status, and what it prints on standard error
 The texts are described in docs/FORMATS.md, which also says why a file is refused that looks right.
 ";
 
+// What `audit` prints of a legal run.
+pub const LEGAL: &[u8] = b"legal\n";
+
 // What `--version` prints.
-const VERSION: &[u8] = b"partalloc 0.1.0\n";
+pub const VERSION: &[u8] = b"partalloc 0.1.0\n";
 
-// The text of `--help`.
-pub fn write_help(alloc: Global) -> Result<Vec<u8>, OutOfMemory>
-    ensures { IfOk result (λ text. text.items ≡ help_text) }
+// The line of `layout` for a request of so many bytes.
+pub fn layout_line(size: u32) -> ArrayVec<u8, 128>
+    ensures { IsLayoutText size result.items }
 {
-    let mut out = Text::new(alloc);
-    push_bytes(&mut out, HELP)?;
-    Ok(out.into_vec())
-}
-
-// The text of `--version`.
-pub fn write_version(alloc: Global) -> Result<Vec<u8>, OutOfMemory>
-    ensures { IfOk result (λ text. text.items ≡ version_text) }
-{
-    let mut out = Text::new(alloc);
-    push_bytes(&mut out, VERSION)?;
-    Ok(out.into_vec())
-}
-
-// The text of `audit` if the run is legal.
-pub fn write_legal(alloc: Global) -> Result<Vec<u8>, OutOfMemory>
-    ensures { IfOk result (λ text. text.items ≡ legal_text) }
-{
-    let mut out = Text::new(alloc);
-    push_bytes(&mut out, b"legal\n")?;
-    Ok(out.into_vec())
-}
-
-// The text of `layout` for a request of this size.
-pub fn write_layout(alloc: Global, size: u32) -> Result<Vec<u8>, OutOfMemory>
-    ensures { IfOk result (λ text. IsLayoutText size text.items) }
-{
-    let mut out = Text::with_capacity(alloc, LINE_BYTES)?;
     if size > GREATEST_SIZE {
-        push_bytes(&mut out, b"too-large\n")?;
-    } else if let Some(class) = class_of(raw_of(size)) {
-        push_class(&mut out, class)?;
-    } else if let Some(shape) = shape(size) {
-        push_direct(&mut out, shape)?;
+        return large_line();
     }
-    Ok(out.into_vec())
+    if let Some(class) = class_of(raw_of(size)) {
+        return line_of_class(class);
+    }
+    let Some(shape) = shape(size) else {
+        unreachable!()
+    };
+    line_of_direct(shape)
 }
 
 // The text of the trace generated from this number of rounds and this key.
@@ -94,33 +72,50 @@ pub fn write_generated(alloc: Global, rounds: u32, key: u64) -> Result<Vec<u8>, 
     write_trace(alloc, &trace)
 }
 
-// Appends the line of a class.
-fn push_class(out: &mut Text, class: Class) -> Result<(), OutOfMemory>
-    ensures { OnOk result (out.new ≡ out.old ++ class_line class) }
+// The line of a size that no slot can have.
+fn large_line() -> ArrayVec<u8, 128>
+    ensures { result.items ≡ codes "too-large" ++ 10 ∷ [] }
+{
+    let mut line = ArrayVec::new();
+    line.try_extend_from_slice(b"too-large\n").unwrap();
+    line
+}
+
+// The line of a class.
+fn line_of_class(class: Class) -> ArrayVec<u8, 128>
+    ensures { result.items ≡ class_line class }
 {
     let span = span_of(class);
-    push_field(out, b"class ", class.number())?;
-    push_field(out, b" slot ", slot_size(class))?;
-    push_field(out, b" pages ", span.pages)?;
-    push_field(out, b" system ", span.system_pages)?;
-    push_field(out, b" slots ", span.slots)?;
-    push_field(out, b" waste ", span.waste)?;
-    push_byte(out, b'\n')
+    let mut line = ArrayVec::new();
+    push_field(&mut line, b"class ", class.number());
+    push_field(&mut line, b" slot ", slot_size(class));
+    push_field(&mut line, b" pages ", span.pages);
+    push_field(&mut line, b" system ", span.system_pages);
+    push_field(&mut line, b" slots ", span.slots);
+    push_field(&mut line, b" waste ", span.waste);
+    line.push(b'\n');
+    line
 }
 
-// Appends the line of a direct map.
-fn push_direct(out: &mut Text, shape: Shape) -> Result<(), OutOfMemory>
-    ensures { OnOk result (out.new ≡ out.old ++ direct_line shape) }
+// The line of a direct map.
+fn line_of_direct(shape: Shape) -> ArrayVec<u8, 128>
+    ensures { result.items ≡ direct_line shape }
 {
-    push_field(out, b"direct slot ", shape.slot)?;
-    push_field(out, b" super ", shape.supers)?;
-    push_byte(out, b'\n')
+    let mut line = ArrayVec::new();
+    push_field(&mut line, b"direct slot ", shape.slot);
+    push_field(&mut line, b" super ", shape.supers);
+    line.push(b'\n');
+    line
 }
 
-// Appends the words and a number.
-fn push_field(out: &mut Text, words: &[u8], number: u32) -> Result<(), OutOfMemory>
-    ensures { OnOk result (out.new ≡ out.old ++ (words.now ++ decimal number)) }
+// Appends the words and a number, which has ten digits at most.
+fn push_field(line: &mut ArrayVec<u8, 128>, words: &[u8], number: u32)
+    requires room { array_vec_len line.old + length words.now + 10 ≤ 128 }
+    ensures pushed { line.new.items ≡ line.old.items ++ (words.now ++ decimal number) }
+    ensures short { array_vec_len line.new ≤ array_vec_len line.old + length words.now + 10 }
 {
-    push_bytes(out, words)?;
-    push_number(out, u64::from(number))
+    let mut digits = itoa::Buffer::new();
+    line.try_extend_from_slice(words).unwrap();
+    line.try_extend_from_slice(digits.format(number).as_bytes())
+        .unwrap();
 }

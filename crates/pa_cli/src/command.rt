@@ -1,6 +1,6 @@
-ghost use Rattle.std.specs.Prelude.{ℕ, ◌≤◌, [], ◌∷◌, map, string_bytes, IfSome, IfNone};
+ghost use Rattle.std.specs.Prelude.{◌≡◌, ℕ, ◌≤◌, true, false, [], ◌∷◌, map, string_bytes, IfSome, IfNone};
 ghost use Rattle.pa_text.specs.Numeral.{IsNumeral};
-ghost use Rattle.pa_cli.specs.Command.{AsksFor, IsCommand};
+ghost use Rattle.pa_cli.specs.Command.{AsksFor, AsksForThreads, IsCommand, needs_of};
 
 use pa_text::number_at;
 
@@ -37,6 +37,21 @@ impl Command {
             [word, size] => Command::of_two(word, size),
             [word, rounds, key] => Command::of_three(word, rounds, key),
             _ => None,
+        }
+    }
+
+    // Whether the command plays threads.
+    fn plays_threads(&self) -> bool
+        ensures { result ≡ (needs_of self.now).threads }
+    {
+        match self {
+            Command::Replay => true,
+            Command::Model
+            | Command::Audit
+            | Command::Layout(_)
+            | Command::Trace { rounds: _, key: _ }
+            | Command::Help
+            | Command::Version => false,
         }
     }
 
@@ -83,7 +98,20 @@ impl Command {
     }
 }
 
-// The rounds that the word spells, or `None` if and only if it spells no number from 1 to 800.
+/// Whether the words are those of a command that plays threads, so that its call may wait: `replay`. All other words are answered by
+/// `run_alone`.
+#[tactic(auto, using(crate::proofs::Commands::threads_asked, crate::proofs::Commands::alone_asked))]
+pub fn plays_threads(words: &[String]) -> bool
+    ensures threads { result ≡ true → AsksForThreads (map string_bytes words.now) }
+    ensures alone { result ≡ false → AsksForThreads (map string_bytes words.now) → ⊥ }
+{
+    match Command::of(words) {
+        Some(command) => command.plays_threads(),
+        None => false,
+    }
+}
+
+// The rounds that the word spells. `None` exactly where it spells no number from 1 to 800.
 fn rounds_in(word: &String) -> Option<u32>
     ensures found { IfSome result (λ n. IsNumeral n (string_bytes word.now) × (1 ≤ n) × (n ≤ 800)) }
     ensures none { IfNone result ((n : ℕ) → IsNumeral n (string_bytes word.now) → 1 ≤ n → n ≤ 800 → ⊥) }

@@ -5,15 +5,19 @@
 //! the sink. The output is made whole before its first byte is written, so running out of memory never follows a written byte.
 #![tactic(auto)]
 
+mod alone;
 mod answers;
 mod command;
 mod input;
 mod laws;
 mod outcome;
 mod output;
+mod printed;
 mod status;
 mod top;
 
+pub use alone::run_alone;
+pub use command::plays_threads;
 pub use laws::one_thread_prints_as_model;
 pub use outcome::Outcome;
 pub use status::Status;

@@ -10,15 +10,16 @@ use pa_region::Closed;
 pub struct Outcome {
     /// How the call ended.
     pub status: Status,
-    /// The run whose text is the output. Only `replay` has one, and only if its output was written, whole or a first part of it.
+    /// The run whose text the output is. It is there exactly for a command that plays threads, if its output was written, whole or a
+    /// first part of it.
     pub run: Option<Run>,
-    /// The words of the region in which that run was played, as they were when it was closed. Present if and only if the run is.
+    /// The words of the region in which that run was played, when it was closed. It is there if the run is.
     pub region: Option<Closed>,
 }
 
 impl Outcome {
-    // A call that wrote nothing.
-    pub fn without_output(status: Status) -> Outcome
+    // A call that has no run.
+    pub fn without_run(status: Status) -> Outcome
         ensures status { result.status ≡ status }
         ensures run { HasNoRun result.run result.region }
     {
@@ -30,24 +31,10 @@ impl Outcome {
     }
 }
 
-// What a command produces: the text to be written, and if it played on threads, the run and the closed region.
+// What comes of a command that plays threads: the text that is to be written, the run and the closed region.
 #[derive(Drop)]
 pub struct Output {
     pub text: Vec<u8>,
     pub run: Option<Run>,
     pub region: Option<Closed>,
-}
-
-impl Output {
-    // A text alone.
-    pub fn of(text: Vec<u8>) -> Output
-        ensures text { result.text ≡ text }
-        ensures run { HasNoRun result.run result.region }
-    {
-        Output {
-            text,
-            run: None,
-            region: None,
-        }
-    }
 }

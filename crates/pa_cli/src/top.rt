@@ -1,24 +1,20 @@
-ghost use Rattle.std.specs.Prelude.{◌≡◌, ◌↔◌, map, string_bytes, IfOk, IfErr};
+ghost use Rattle.std.specs.Prelude.{◌≡◌, ◌↔◌, true, map, string_bytes, IfOk, IfErr};
 ghost use Rattle.pa_cli.specs.Call.{call_of, stream_of};
-ghost use Rattle.pa_cli.specs.Command.{IsCommand, IsAsked, PlaysTrace, ReadsInput};
+ghost use Rattle.pa_cli.specs.Command.{IsCommand, IsAsked, AsksForThreads, ReadsTrace, ReadsSome, needing, needs_of};
 ghost use Rattle.pa_cli.specs.Cause.{Caused, ReadsForInput, TellsNoRun, IsRightCall, IsRefusal};
-ghost use Rattle.pa_cli.specs.Output.{output_with, IsOutputOf, IsTraceRead, IsReplayOutput, IsReplayedAs, IsModelOutput, IsAuditOutput};
-ghost use Rattle.pa_cli.specs.declared.command.Command.TheVariants.{Replay, Model, Audit};
+ghost use Rattle.pa_cli.specs.Output.{output_with, IsOutputOf, IsTraceRead, IsReplayOutput, IsReplayedAs};
 ghost use Rattle.pa_trace.specs.Limits.{IsWithinLimits};
 
-use crate::answers::{write_generated, write_help, write_layout, write_legal, write_version};
-use crate::command::Command;
+use crate::alone::run_alone;
+use crate::command::{Command, plays_threads};
 use crate::input::read_input;
 use crate::outcome::{Outcome, Output};
 use crate::output::write_output;
 use crate::status::Status;
-use pa_audit_input::judge;
 use pa_io::{Failed, Sink, Source};
 use pa_machine::OutOfMemory;
-use pa_model::play_input;
 use pa_one_run::one_thread_in_file_order;
 use pa_record::write_run;
-use pa_rules::Verdict;
 use pa_runner::{Gate, run_trace};
 use pa_trace::{MOST_BYTES, Trace, read_trace};
 use std::alloc::Global;
@@ -26,15 +22,10 @@ use std::marker::Sync;
 use std::sync::Wait;
 use std::thread::Threads;
 
-// The most bytes of a trace and a run.
-const MOST_AUDITED: usize = 134_217_728;
-
-/// Does what the words ask for. `replay` and `model` read a trace from the source, play it, and write the text of that run to the sink:
-/// `replay` plays each thread's lines on a thread of its own if it gets one, with the gate called around each line, and `model` all
-/// lines in their order on one thread. The input is read to its end, or to one byte past the 4,194,304 bytes that it may have.
-/// `audit` reads a trace and then a run, to one byte past 134,217,728, and writes `legal` if that is a legal run of the trace.
-/// `layout SIZE` writes where a request of that size is placed, `trace ROUNDS KEY` writes a generated trace, and `--help`
-/// and `--version` write their texts; these four read nothing.
+/// Does what the words ask for. `replay` reads a trace from the source, plays each thread's lines on a thread of its own if one can be
+/// had, with the gate called around each line, and writes the text of that run to the sink; it may wait. All other words are answered
+/// by `run_alone`, which can't wait.
+#[tactic(auto, using(crate::proofs::Right::right_call, crate::proofs::Right::alone_right))]
 pub fn run<R: Threads + Wait + Sync, S: Source, K: Sink, G: Gate>(
     rt: &R,
     alloc: Global,
@@ -46,20 +37,25 @@ pub fn run<R: Threads + Wait + Sync, S: Source, K: Sink, G: Gate>(
     // Only the words decide whether there is a command.
     ensures command { result.status ≡ Status.BadCommand ↔ ¬ IsCommand (map string_bytes words.now) }
 
-    // The status has its cause, and source and sink are as that cause says. For `replay` this says that the run whose text is written
-    // is a legal run of the trace, and that the closed region holds it; for `model` that what is written is the text of the
-    // trace's sequential run, which is legal; for `audit` that the run that was read is a legal run of the trace before it, or
-    // which clause fails first and at which line. Only these three read. A good input is played or judged, and a faulty one is
-    // refused; the others answer. A run and a region are returned if and only if `replay` wrote its output.
+    // The status has its cause, and leaves source and sink as that cause says. Of `replay` it says that the run whose text is written
+    // is a legal run of the trace, and that the closed region holds it; of `model` that what is written is the text of the trace's
+    // run in the order of its lines, which is legal and has a run of the core; of `audit` that the run that was read is a legal one of
+    // the trace before it, or by which clause and at which line it isn't. Only these three read. A good input is played or judged, and
+    // a faulty one refused; the other commands answer. A run and a region are returned exactly if threads played and the output was
+    // written.
     ensures call { IsRightCall result.status (call_of (map string_bytes words.now)
         (stream_of (S.left source.old) (S.faults source.old)) (stream_of (S.left source.new) (S.faults source.new))
         (stream_of (K.written sink.old) (K.faults sink.old)) (stream_of (K.written sink.new) (K.faults sink.new))
         result.run result.region) }
 {
-    answer(rt, alloc, words, source, sink, gate)
+    if plays_threads(words) {
+        return answer(rt, alloc, words, source, sink, gate);
+    }
+    Outcome::without_run(run_alone(alloc, words, source, sink))
 }
 
-// The same, by its cause.
+// The same, by its cause, for words that play threads.
+#[tactic(auto, using(crate::proofs::Commands::threads_asked))]
 fn answer<R: Threads + Wait + Sync, S: Source, K: Sink, G: Gate>(
     rt: &R,
     alloc: Global,
@@ -68,6 +64,7 @@ fn answer<R: Threads + Wait + Sync, S: Source, K: Sink, G: Gate>(
     sink: &mut K,
     gate: &G,
 ) -> Outcome
+    requires threads { AsksForThreads (map string_bytes words.now) }
     ensures command { result.status ≡ Status.BadCommand ↔ ¬ IsCommand (map string_bytes words.now) }
     ensures cause { Caused result.status (call_of (map string_bytes words.now)
         (stream_of (S.left source.old) (S.faults source.old)) (stream_of (S.left source.new) (S.faults source.new))
@@ -83,7 +80,7 @@ fn answer<R: Threads + Wait + Sync, S: Source, K: Sink, G: Gate>(
         result.run result.region) }
 {
     let Some(command) = Command::of(words) else {
-        return Outcome::without_output(Status::BadCommand);
+        return Outcome::without_run(Status::BadCommand);
     };
     match output_of(rt, alloc, command, source, gate) {
         Ok(Output { text, run, region }) => {
@@ -97,11 +94,11 @@ fn answer<R: Threads + Wait + Sync, S: Source, K: Sink, G: Gate>(
                 region,
             }
         }
-        Err(status) => Outcome::without_output(status),
+        Err(status) => Outcome::without_run(status),
     }
 }
 
-// The output of a command that some words ask for.
+// The output of a command that plays threads, for which some words ask.
 fn output_of<R: Threads + Wait + Sync, S: Source, G: Gate>(
     rt: &R,
     alloc: Global,
@@ -110,22 +107,18 @@ fn output_of<R: Threads + Wait + Sync, S: Source, G: Gate>(
     gate: &G,
 ) -> Result<Output, Status>
     requires asked { IsAsked command }
+    requires threads { (needs_of command).threads ≡ true }
     ensures output { IfOk result (λ out. IsOutputOf command
         (stream_of (S.left source.old) (S.faults source.old))
         (stream_of (S.left source.new) (S.faults source.new)) (output_with out.text.items out.run out.region)) }
-    ensures refusal { IfErr result (λ status. IsRefusal status command
+    ensures refusal { IfErr result (λ status. IsRefusal status (needs_of command)
         (stream_of (S.left source.old) (S.faults source.old))
         (stream_of (S.left source.new) (S.faults source.new))) }
-    ensures unread { (ReadsInput command → ⊥) → (S.left source.new ≡ S.left source.old) × (S.faults source.new ≡ S.faults source.old) }
+    ensures unread { (ReadsSome (needs_of command).reads → ⊥) → (S.left source.new ≡ S.left source.old) × (S.faults source.new ≡ S.faults source.old) }
 {
     match command {
         Command::Replay => replay(rt, alloc, source, gate),
-        Command::Model => Ok(Output::of(model(alloc, source)?)),
-        Command::Audit => Ok(Output::of(audit_text(alloc, source)?)),
-        Command::Layout(size) => Ok(Output::of(write_layout(alloc, size)?)),
-        Command::Trace { rounds, key } => Ok(Output::of(write_generated(alloc, rounds, key)?)),
-        Command::Help => Ok(Output::of(write_help(alloc)?)),
-        Command::Version => Ok(Output::of(write_version(alloc)?)),
+        _ => unreachable!(),
     }
 }
 
@@ -140,44 +133,12 @@ fn replay<R: Threads + Wait + Sync, S: Source, G: Gate>(
     ensures output { IfOk result (λ out. IsReplayOutput
         (stream_of (S.left source.old) (S.faults source.old))
         (stream_of (S.left source.new) (S.faults source.new)) (output_with out.text.items out.run out.region)) }
-    ensures refusal { IfErr result (λ status. IsRefusal status Replay
+    ensures refusal { IfErr result (λ status. IsRefusal status (needing ReadsTrace true true)
         (stream_of (S.left source.old) (S.faults source.old))
         (stream_of (S.left source.new) (S.faults source.new))) }
 {
     let trace = trace_of(alloc, source)?;
     Ok(replayed(rt, alloc, &trace, gate)?)
-}
-
-// The output of `model`.
-#[tactic(auto, using(crate::proofs::Printing::input_printed, crate::proofs::Refusing::trace_refused))]
-fn model<S: Source>(alloc: Global, source: &mut S) -> Result<Vec<u8>, Status>
-    ensures text { IfOk result (λ text. IsModelOutput
-        (stream_of (S.left source.old) (S.faults source.old))
-        (stream_of (S.left source.new) (S.faults source.new)) text.items) }
-    ensures refusal { IfErr result (λ status. IsRefusal status Model
-        (stream_of (S.left source.old) (S.faults source.old))
-        (stream_of (S.left source.new) (S.faults source.new))) }
-{
-    let input = read_input(alloc, source, MOST_BYTES)?;
-    let text = play_input(alloc, input.as_slice())?;
-    Ok(text)
-}
-
-// The output of `audit`.
-#[tactic(auto, using(crate::proofs::Refusing::input_faulty, crate::proofs::Refusing::input_legal, crate::proofs::Refusing::input_refuted, crate::proofs::Refusing::read_stopped))]
-fn audit_text<S: Source>(alloc: Global, source: &mut S) -> Result<Vec<u8>, Status>
-    ensures text { IfOk result (λ text. IsAuditOutput
-        (stream_of (S.left source.old) (S.faults source.old))
-        (stream_of (S.left source.new) (S.faults source.new)) text.items) }
-    ensures refusal { IfErr result (λ status. IsRefusal status Audit
-        (stream_of (S.left source.old) (S.faults source.old))
-        (stream_of (S.left source.new) (S.faults source.new))) }
-{
-    let input = read_input(alloc, source, MOST_AUDITED)?;
-    match judge(alloc, input.as_slice())? {
-        Verdict::Legal => Ok(write_legal(alloc)?),
-        Verdict::Broken(clause, line) => Err(Status::NotLegal(clause, line)),
-    }
 }
 
 // The trace whose text the source's bytes are.
@@ -186,7 +147,7 @@ fn trace_of<S: Source>(alloc: Global, source: &mut S) -> Result<Trace, Status>
     ensures read { IfOk result (λ trace. IsTraceRead trace
         (stream_of (S.left source.old) (S.faults source.old))
         (stream_of (S.left source.new) (S.faults source.new))) }
-    ensures refusal { IfErr result (λ status. (command : Command) → PlaysTrace command → IsRefusal status command
+    ensures refusal { IfErr result (λ status. IsRefusal status (needing ReadsTrace true true)
         (stream_of (S.left source.old) (S.faults source.old))
         (stream_of (S.left source.new) (S.faults source.new))) }
 {

@@ -247,7 +247,7 @@ fn trace_tells_a_generated_trace(rt: HostRuntime) -> Result<(), Fail> {
 #[test]
 fn help_and_version_are_told(rt: HostRuntime) -> Result<(), Fail> {
     let help = told(&rt, rt.alloc(), &["--help"])?;
-    assert!(rt; help.starts_with(b"usage: partalloc COMMAND\n\ncommands\n  replay "));
+    assert!(rt; help.starts_with(b"usage: partalloc COMMAND [< FILE]\n\ncommands\n  replay "));
     assert!(rt;
         help.ends_with(
             b"docs/FORMATS.md, which also says why a file is refused that looks right.\n"

@@ -2,7 +2,7 @@ use Rattle.std.proofs.Common.{ℕ, List, sym, subst}
 use Rattle.pa_trace.specs.Limits.{most_bytes}
 use Rattle.pa_cli.specs.Call.{IsRead, stream_of}
 use Rattle.pa_cli.proofs.Printing.{input_printed}
-use Rattle.pa_cli.proofs.top.model.Goals as goal
+use Rattle.pa_cli.proofs.alone.model.Goals as goal
 
 -- what is printed is that of what was read
 pub returns-clause-text : goal.returns-clause-text

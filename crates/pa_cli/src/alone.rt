@@ -1,0 +1,131 @@
+//! The commands that play no threads: no call here can wait.
+ghost use Rattle.std.specs.Prelude.{◌≡◌, ◌↔◌, true, false, map, string_bytes, None, IfOk, IfErr};
+ghost use Rattle.pa_cli.specs.Call.{call_of, stream_of};
+ghost use Rattle.pa_cli.specs.Command.{IsCommand, IsAsked, AsksForThreads, ReadsTrace, ReadsRun, ReadsSome, needing, needs_of};
+ghost use Rattle.pa_cli.specs.Cause.{Caused, ReadsForInput, IsRightCall, IsRefusal};
+ghost use Rattle.pa_cli.specs.Output.{output_with, IsOutputOf, IsModelOutput, IsAuditOutput};
+ghost use Rattle.pa_cli.specs.PrintedText.{printed_bytes};
+
+use crate::answers::{HELP, LEGAL, VERSION, layout_line, write_generated};
+use crate::command::Command;
+use crate::input::read_input;
+use crate::output::write_output;
+use crate::printed::Printed;
+use crate::status::Status;
+use pa_audit_input::judge;
+use pa_io::{Failed, Sink, Source};
+use pa_model::play_input;
+use pa_rules::Verdict;
+use pa_trace::MOST_BYTES;
+use std::alloc::Global;
+
+// The most bytes of a trace and a run.
+const MOST_AUDITED: usize = 134_217_728;
+
+/// Does what the words ask for, if they ask for no threads. It waits for nobody, so a call returns. `model` reads a trace, plays all
+/// lines in their order and writes the text of that run; `audit` reads a trace and after it a run, and writes `legal` if that is a
+/// legal run of the trace; `layout SIZE` writes where a request of so many bytes is placed, `trace ROUNDS KEY` a generated trace,
+/// `--help` and `--version` their texts. The input is read to its end, or to one byte past the most that it may have.
+pub fn run_alone<S: Source, K: Sink>(
+    alloc: Global,
+    words: &[String],
+    source: &mut S,
+    sink: &mut K,
+) -> Status
+    requires alone { AsksForThreads (map string_bytes words.now) → ⊥ }
+    // The words alone decide on the command.
+    ensures command { result ≡ Status.BadCommand ↔ ¬ IsCommand (map string_bytes words.now) }
+
+    // The status has its cause, and leaves source and sink as that cause says: all that `run` says, with no run and no region.
+    ensures call { IsRightCall result (call_of (map string_bytes words.now)
+        (stream_of (S.left source.old) (S.faults source.old)) (stream_of (S.left source.new) (S.faults source.new))
+        (stream_of (K.written sink.old) (K.faults sink.old)) (stream_of (K.written sink.new) (K.faults sink.new))
+        None None) }
+{
+    answer(alloc, words, source, sink)
+}
+
+// The same, by its cause.
+fn answer<S: Source, K: Sink>(
+    alloc: Global,
+    words: &[String],
+    source: &mut S,
+    sink: &mut K,
+) -> Status
+    requires alone { AsksForThreads (map string_bytes words.now) → ⊥ }
+    ensures command { result ≡ Status.BadCommand ↔ ¬ IsCommand (map string_bytes words.now) }
+    ensures cause { Caused result (call_of (map string_bytes words.now)
+        (stream_of (S.left source.old) (S.faults source.old)) (stream_of (S.left source.new) (S.faults source.new))
+        (stream_of (K.written sink.old) (K.faults sink.old)) (stream_of (K.written sink.new) (K.faults sink.new))
+        None None) }
+    ensures reads { ReadsForInput (call_of (map string_bytes words.now)
+        (stream_of (S.left source.old) (S.faults source.old)) (stream_of (S.left source.new) (S.faults source.new))
+        (stream_of (K.written sink.old) (K.faults sink.old)) (stream_of (K.written sink.new) (K.faults sink.new))
+        None None) }
+{
+    let Some(command) = Command::of(words) else {
+        return Status::BadCommand;
+    };
+    match text_of(alloc, command, source) {
+        Ok(text) => match write_output(sink, text.as_slice()) {
+            Ok(()) => Status::Done,
+            Err(Failed) => Status::WriteFault,
+        },
+        Err(status) => status,
+    }
+}
+
+// What a command prints that plays no threads.
+fn text_of<S: Source>(alloc: Global, command: Command, source: &mut S) -> Result<Printed, Status>
+    requires asked { IsAsked command }
+    requires alone { (needs_of command).threads ≡ true → ⊥ }
+    ensures output { IfOk result (λ text. IsOutputOf command
+        (stream_of (S.left source.old) (S.faults source.old))
+        (stream_of (S.left source.new) (S.faults source.new)) (output_with (printed_bytes text) None None)) }
+    ensures refusal { IfErr result (λ status. IsRefusal status (needs_of command)
+        (stream_of (S.left source.old) (S.faults source.old))
+        (stream_of (S.left source.new) (S.faults source.new))) }
+    ensures unread { (ReadsSome (needs_of command).reads → ⊥) → (S.left source.new ≡ S.left source.old) × (S.faults source.new ≡ S.faults source.old) }
+{
+    match command {
+        Command::Model => Ok(Printed::Made(model(alloc, source)?)),
+        Command::Audit => audit(alloc, source),
+        Command::Layout(size) => Ok(Printed::Line(layout_line(size))),
+        Command::Trace { rounds, key } => Ok(Printed::Made(write_generated(alloc, rounds, key)?)),
+        Command::Help => Ok(Printed::Fixed(HELP)),
+        Command::Version => Ok(Printed::Fixed(VERSION)),
+        Command::Replay => unreachable!(),
+    }
+}
+
+// The output of `model`.
+#[tactic(auto, using(crate::proofs::Printing::input_printed, crate::proofs::Refusing::trace_refused))]
+fn model<S: Source>(alloc: Global, source: &mut S) -> Result<Vec<u8>, Status>
+    ensures text { IfOk result (λ text. IsModelOutput
+        (stream_of (S.left source.old) (S.faults source.old))
+        (stream_of (S.left source.new) (S.faults source.new)) text.items) }
+    ensures refusal { IfErr result (λ status. IsRefusal status (needing ReadsTrace false true)
+        (stream_of (S.left source.old) (S.faults source.old))
+        (stream_of (S.left source.new) (S.faults source.new))) }
+{
+    let input = read_input(alloc, source, MOST_BYTES)?;
+    let text = play_input(alloc, input.as_slice())?;
+    Ok(text)
+}
+
+// The output of `audit`.
+#[tactic(auto, using(crate::proofs::Refusing::input_faulty, crate::proofs::Refusing::input_legal, crate::proofs::Refusing::input_refuted, crate::proofs::Refusing::read_stopped))]
+fn audit<S: Source>(alloc: Global, source: &mut S) -> Result<Printed, Status>
+    ensures text { IfOk result (λ text. IsAuditOutput
+        (stream_of (S.left source.old) (S.faults source.old))
+        (stream_of (S.left source.new) (S.faults source.new)) (printed_bytes text)) }
+    ensures refusal { IfErr result (λ status. IsRefusal status (needing ReadsRun false true)
+        (stream_of (S.left source.old) (S.faults source.old))
+        (stream_of (S.left source.new) (S.faults source.new))) }
+{
+    let input = read_input(alloc, source, MOST_AUDITED)?;
+    match judge(alloc, input.as_slice())? {
+        Verdict::Legal => Ok(Printed::Fixed(LEGAL)),
+        Verdict::Broken(clause, line) => Err(Status::NotLegal(clause, line)),
+    }
+}
