@@ -66,12 +66,13 @@ fn answer<S: Source, K: Sink>(
     let Some(command) = Command::of(words) else {
         return Status::BadCommand;
     };
-    match text_of(alloc, command, source) {
-        Ok(text) => match write_output(sink, text.as_slice()) {
-            Ok(()) => Status::Done,
-            Err(Failed) => Status::WriteFault,
-        },
-        Err(status) => status,
+    let text = match text_of(alloc, command, source) {
+        Ok(text) => text,
+        Err(status) => return status,
+    };
+    match write_output(sink, text.as_slice()) {
+        Ok(()) => return Status::Done,
+        Err(Failed) => return Status::WriteFault,
     }
 }
 

@@ -25,7 +25,7 @@ use std::thread::Threads;
 /// Does what the words ask for. `replay` reads a trace from the source, plays each thread's lines on a thread of its own if one can be
 /// had, with the gate called around each line, and writes the text of that run to the sink; it may wait. All other words are answered
 /// by `run_alone`, which can't wait.
-#[tactic(auto, using(crate::proofs::Right::right_call, crate::proofs::Right::alone_right))]
+#[tactic(auto, using(crate::proofs::Right::alone_right))]
 pub fn run<R: Threads + Wait + Sync, S: Source, K: Sink, G: Gate>(
     rt: &R,
     alloc: Global,
