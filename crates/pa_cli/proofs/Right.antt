@@ -1,11 +1,10 @@
 -- A status with its cause is a right call.
-use Rattle.std.proofs.Common.{◌≡◌, ℕ, List, Option, None, refl, sym, subst}
+use Rattle.std.proofs.Common.{◌≡◌, ℕ, List, Option, None, sym, subst}
 use Rattle.pa_cli.specs.declared.status.Status.{Status}
 use Rattle.pa_record.specs.declared.run.Run.{Run}
 use Rattle.pa_cli.specs.declared.status.Status.TheVariants.{Done, BadCommand, BadLine, Limit, ReadFault, WriteFault, OutOfMemory, NotLegal}
 use Rattle.pa_cli.specs.declared.command.Command.{Command}
 use Rattle.pa_cli.specs.Command.{AsksFor, needs_of}
-use Rattle.pa_cli.specs.HelpText.{help_text}
 use Rattle.pa_cli.specs.Call.{Stream, Call, call_of, KeepsSink}
 use Rattle.pa_cli.specs.Output.{HasNoRun}
 use Rattle.pa_cli.specs.Cause.{IsRefusal, Caused, ReadsForInput, TellsNoRun, IsRightCall}
@@ -23,10 +22,6 @@ refused_caused ReadFault command c asked h sink = ((command, asked, h), sink)
 refused_caused WriteFault command c asked h sink = absurd h
 refused_caused OutOfMemory command c asked h sink = ((command, asked, h), sink)
 refused_caused (NotLegal clause n) command c asked h sink = ((command, asked, h), sink)
-
--- the text of `--help` is printed, and there is no run
-pub help_printed : (help_text ≡ help_text) × HasNoRun None None
-help_printed = (refl, (refl, refl))
 
 pub right_call : (status : Status) (c : Call) → Caused status c → ReadsForInput c → TellsNoRun status c → IsRightCall status c
 right_call status c cause reads none = record {

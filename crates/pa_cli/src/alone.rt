@@ -6,7 +6,7 @@ ghost use Rattle.pa_cli.specs.Cause.{Caused, ReadsForInput, IsRightCall, IsRefus
 ghost use Rattle.pa_cli.specs.Output.{output_with, IsOutputOf, IsModelOutput, IsAuditOutput};
 ghost use Rattle.pa_cli.specs.PrintedText.{printed_bytes};
 
-use crate::answers::{HELP, LEGAL, VERSION, layout_line, write_generated};
+use crate::answers::{LEGAL, VERSION, help, layout_line, write_generated};
 use crate::command::Command;
 use crate::input::read_input;
 use crate::output::write_output;
@@ -93,7 +93,7 @@ fn text_of<S: Source>(alloc: Global, command: Command, source: &mut S) -> Result
         Command::Audit => audit(alloc, source),
         Command::Layout(size) => Ok(Printed::Line(layout_line(size))),
         Command::Trace { rounds, key } => Ok(Printed::Made(write_generated(alloc, rounds, key)?)),
-        Command::Help => Ok(Printed::Fixed(HELP)),
+        Command::Help => Ok(Printed::Fixed(help())),
         Command::Version => Ok(Printed::Fixed(VERSION)),
         Command::Replay => unreachable!(),
     }

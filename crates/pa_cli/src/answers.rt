@@ -2,6 +2,7 @@ ghost use Rattle.std.specs.Prelude.{◌≡◌, ◌+◌, ◌≤◌, [], ◌∷◌
 ghost use Rattle.arrayvec.specs.ArrayVec.{array_vec_len};
 ghost use Rattle.pa_cli.specs.Output.{IsGeneratedText};
 ghost use Rattle.pa_cli.specs.LayoutText.{IsLayoutText, class_line, direct_line};
+ghost use Rattle.pa_cli.specs.HelpText.{help_text};
 
 use arrayvec::ArrayVec;
 use pa_buckets::{Class, class_of, raw_of, slot_size, span_of};
@@ -11,7 +12,7 @@ use pa_trace::{generate, write_trace};
 use std::alloc::Global;
 
 // What `--help` prints.
-pub const HELP: &[u8] = b"usage: partalloc COMMAND [< FILE]
+const HELP: &[u8] = b"usage: partalloc COMMAND [< FILE]
 
 commands
   replay            read a trace from standard input, play each thread's lines on its own thread, print the run: answers, heap, exchanges, report
@@ -45,6 +46,13 @@ pub const LEGAL: &[u8] = b"legal\n";
 
 // What `--version` prints.
 pub const VERSION: &[u8] = b"partalloc 0.1.0\n";
+
+// The text of `--help`.
+pub fn help() -> &'static [u8]
+    ensures { result.now ≡ help_text }
+{
+    HELP
+}
 
 // The line of `layout` for a request of so many bytes.
 pub fn layout_line(size: u32) -> ArrayVec<u8, 128>
