@@ -22,6 +22,8 @@ mod record;
 #[cfg(test)]
 mod run_texts;
 #[cfg(test)]
+mod script;
+#[cfg(test)]
 mod sources;
 #[cfg(test)]
 mod text;
