@@ -6,6 +6,8 @@ mod cli;
 #[cfg(test)]
 mod cli_audit;
 #[cfg(test)]
+mod cli_faults;
+#[cfg(test)]
 mod cli_gate;
 #[cfg(test)]
 mod cli_replay;

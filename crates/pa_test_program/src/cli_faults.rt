@@ -1,0 +1,135 @@
+//! Each read and each write fails in turn, and a text of two threads is cut after each byte.
+use crate::cli::{TEXT, TRACE, words};
+use pa_cli::{Status, run};
+use pa_io::{MemSink, MemSource};
+use pa_runner::NoGate;
+use std::alloc::Global;
+use std::marker::Sync;
+use std::sync::Wait;
+use std::test::Fail;
+use std::thread::Threads;
+
+// A trace of two threads, of 126 bytes.
+const TWO: &[u8] = b"trace 1 region 1 partitions 1 threads 2
+0 A r0 p0 8
+0 C r0 r1
+0 X c0 r1
+phase
+0 F r0
+1 X c0 r0
+1 D r0 0
+phase
+1 D r0 0
+1 R r0
+";
+
+// How often a piece of so many bytes is read until the end was found.
+fn reads_of(text: &[u8]) -> u64 {
+    (text.len() as u64 / 7).saturating_add(if text.len() % 7 == 0 { 1 } else { 2 })
+}
+
+// The status of a command where each read gives 7 bytes at most, and the one of this number fails. Nothing may be written.
+fn with_read_refused<R: Threads + Wait + Sync>(
+    rt: &R,
+    alloc: Global,
+    command: &str,
+    text: &[u8],
+    number: u64,
+) -> Result<Status, Fail> {
+    let line = words(alloc, &[command])?;
+    let mut source = MemSource::new(alloc, text, 7, &[number])?;
+    let mut sink = MemSink::new(alloc, 10_000, 1000, &[])?;
+    let outcome = run(rt, alloc, &line, &mut source, &mut sink, &NoGate);
+    if outcome.run.is_some() || outcome.region.is_some() || !sink.written().is_empty() {
+        return Err("an output".into());
+    }
+    Ok(outcome.status)
+}
+
+#[test]
+fn each_read_that_fails_leaves_nothing_written(rt: HostRuntime) -> Result<(), Fail> {
+    let mut judged = Vec::from_slice(rt.alloc(), TRACE)?;
+    judged.extend_from_slice(TEXT)?;
+    let inputs: [(&str, &[u8]); 3] = [
+        ("replay", TWO),
+        ("model", TWO),
+        ("audit", judged.as_slice()),
+    ];
+    for (command, text) in inputs {
+        for number in 0..reads_of(text) {
+            assert_eq!(rt;
+                with_read_refused(&rt, rt.alloc(), command, text, number)?,
+                Status::ReadFault
+            );
+        }
+    }
+    Ok(())
+}
+
+// What was written where each write takes 10 bytes at most, and the one of this number fails.
+fn with_write_refused<R: Threads + Wait + Sync>(
+    rt: &R,
+    alloc: Global,
+    line: &[&str],
+    text: &[u8],
+    number: u64,
+) -> Result<(Status, Vec<u8>), Fail> {
+    let line = words(alloc, line)?;
+    let mut source = MemSource::new(alloc, text, 1000, &[])?;
+    let mut sink = MemSink::new(alloc, 10_000, 10, &[number])?;
+    let status = run(rt, alloc, &line, &mut source, &mut sink, &NoGate).status;
+    Ok((status, Vec::from_slice(alloc, sink.written())?))
+}
+
+#[test]
+fn each_write_that_fails_leaves_a_first_part(rt: HostRuntime) -> Result<(), Fail> {
+    let mut judged = Vec::from_slice(rt.alloc(), TRACE)?;
+    judged.extend_from_slice(TEXT)?;
+    let rows: [(&[&str], &[u8]); 7] = [
+        (&["replay"], TRACE),
+        (&["model"], TRACE),
+        (&["audit"], judged.as_slice()),
+        (&["layout", "88"], b""),
+        (&["trace", "1", "7"], b""),
+        (&["--help"], b""),
+        (&["--version"], b""),
+    ];
+    for (line, text) in rows {
+        let (_, whole) = with_write_refused(&rt, rt.alloc(), line, text, 10_000)?;
+        let writes = (whole.len() as u64).div_ceil(10);
+        assert!(rt; writes > 0);
+        for number in 0..writes {
+            let (status, part) = with_write_refused(&rt, rt.alloc(), line, text, number)?;
+            assert_eq!(rt; status, Status::WriteFault);
+            assert_eq!(rt; part.len() as u64, number.saturating_mul(10));
+            assert!(rt; whole.as_slice().starts_with(part.as_slice()));
+        }
+    }
+    Ok(())
+}
+
+#[test]
+fn a_text_cut_after_each_byte_is_done_after_a_line_alone(rt: HostRuntime) -> Result<(), Fail> {
+    let mut ends = 0u32;
+    for cut in 0..TWO.len() {
+        let (text, _) = TWO.split_at(cut);
+        let whole = text.ends_with(b"\n");
+        if whole {
+            ends = ends.saturating_add(1);
+        }
+        for command in ["replay", "model"] {
+            let line = words(rt.alloc(), &[command])?;
+            let mut source = MemSource::new(rt.alloc(), text, 1000, &[])?;
+            let mut sink = MemSink::new(rt.alloc(), 10_000, 1000, &[])?;
+            let status = run(&rt, rt.alloc(), &line, &mut source, &mut sink, &NoGate).status;
+            let due = if whole {
+                Status::Done
+            } else {
+                Status::BadLine(ends.saturating_add(1))
+            };
+            assert_eq!(rt; status, due);
+        }
+    }
+    assert_eq!(rt; ends, 10);
+    Ok(())
+}
