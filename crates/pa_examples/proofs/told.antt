@@ -12,6 +12,7 @@ pub mod Maps
 pub mod MapsClosed
 pub mod MapsSaid
 pub mod OneThread
+pub mod Ordered
 pub mod Otherwise
 pub mod PhaseEnds
 pub mod Played

@@ -1,26 +1,22 @@
 -- An addition to a totals word keeps the rule.
-use Rattle.std.proofs.Common.{◌≡◌, ℕ, ◌+◌, ◌-◌, ◌*◌, ◌%◌, ◌^◌, ◌<◌, ◌≤◌, Bool, true, false, List, [], ◌∷◌, length, map, set, refl, sym, ◌∙◌, ap, subst, arith, inl, inr, eqb}
+use Rattle.std.proofs.Common.{◌≡◌, ℕ, ◌+◌, ◌-◌, ◌%◌, ◌<◌, ◌≤◌, Bool, true, false, List, length, map, set, refl, sym, ◌∙◌, ap, subst, arith, inl, inr}
 use Rattle.std.specs.Prelude.{slice_index, ◌&&◌, nat_lt, if◌then◌else◌}
 use Rattle.std.specs.List.{sum_by}
 use mathlib.Core.Option.{some}
 use lib.ListN.{get_elem?}
-use Rattle.atomic_table.specs.Seated.{TableId}
-use Rattle.atomic_table.specs.Table.{Me, Allows, keeps}
-use Rattle.atomic_table.specs.Table.{State as TableState}
-use Rattle.std.proofs.lemmas.List.{length-set, set-get_or, get_or-set_same, get_or-set_other}
+use Rattle.std.proofs.lemmas.List.{length-set, get_or-set_same, get_or-set_other}
 use lib.Seq.{take-set-le}
 use Rattle.std.proofs.lemmas.Bool.{lt-ltb}
 use Rattle.std.proofs.lemmas.Bool.Decides.{eqb_tells}
 use Rattle.pa_machine.specs.declared.title.Title.{Title}
-use Rattle.pa_machine.specs.Holdings.{Piece, Thing, FreeTitle, OwnOf, RefOf, one, IsTitleHeld}
+use Rattle.pa_machine.specs.Holdings.{Piece, Thing, FreeTitle, OwnOf, RefOf, IsTitleHeld}
 use Rattle.pa_machine.specs.Events.{total_of}
 use Rattle.pa_region.specs.declared.view.Entry.{Entry}
 use Rattle.pa_region.specs.declared.view.Entry.TheVariants.{Counted, Looked, Read, Added, Entered, Uncut}
 use Rattle.pa_region.specs.declared.view.View.{View}
-use Rattle.pa_region.specs.Views.{pieces_of, byte_words, shown, idle_of, idle_in, budget_in, low_in, uncut_in, least_stake, stakes_in, logged_of, logged_in, ahead_of, ahead_in, unseen_by, unseen_of, unseen_in, counted, counted_on, names, uncuts, HasStake, HasEveryStake}
+use Rattle.pa_region.specs.Views.{pieces_of, byte_words, shown, idle_of, idle_in, budget_in, low_in, uncut_in, least_stake, stakes_in, logged_of, logged_in, ahead_of, ahead_in, unseen_by, unseen_of, unseen_in, counted, counted_on, names, uncuts, HasStake}
 use Rattle.pa_region.specs.Pairs.{logged_by, least_log}
 use Rattle.pa_region.specs.Rule.{IsKept}
-use Rattle.pa_region.specs.Shares.{IsSeatSound}
 use Rattle.pa_region.specs.Totals.{owes_as, added_as, added_to, total_place, Totals, after_add, CanAdd}
 use Rattle.pa_region.proofs.Adding.{sum_set, one_lt}
 use Rattle.pa_region.proofs.Pieces.{total_set}
@@ -39,8 +35,7 @@ use Rattle.pa_region.proofs.SeatStakes.{SameStakes}
 use Rattle.pa_region.proofs.ListPart.{lists_grown}
 use Rattle.pa_region.proofs.OneLog.{own_log}
 use Rattle.pa_region.proofs.ByNumber.{all_most}
-use Rattle.pa_region.proofs.Bytes.{bytes_length}
-use Rattle.pa_region.proofs.Ends.{all_logs}
+use Rattle.pa_region.proofs.OrderPart.{ending, order_plain}
 
 -- the words of the bytes stay where a totals word is written
 bytes_beyond : (words : List ℕ) (p x : ℕ) → length words - 16 ≤ p → byte_words (set words p x) ≡ byte_words words
@@ -208,6 +203,7 @@ add_keeps k bytes words views i v r at_i can =
     record {
       history = r.history;
       list = r.list;
+      all = ending e v r.all;
       holders = rw beyond (holders_same (byte_words words) (total_of (shown words views)) (total_of (shown after (set views i w))) (idle_in views) (idle_in (set views i w))
           (budget_in views) (budget_in (set views i w))
           (logged_in views counted) (logged_in (set views i w) counted) r.holders same
@@ -238,4 +234,5 @@ add_keeps k bytes words views i v r at_i can =
           (record { keepers = refl; leases = refl; lists = refl; stakes = inr (e, refl, λ n. refl); seen = λ u. omega arith; handles = λ u has. inl has }) (r.lists.free_seen i v at_i);
       undone = undone_set views i v w at_i refl (λ u. let m = more (uncuts u) in omega arith) r.undone;
       totals = add_totals k bytes words views i v r at_i can;
+      ordered = order_plain r.all r.list views i v w e at_i refl stake r.logs.each_stake (λ n. refl) (λ u word touch. absurd touch) r.ordered;
     }

@@ -19,6 +19,7 @@ use Rattle.pa_region.specs.Contents.{content_at_number}
 use Rattle.pa_region.specs.Pairs.{pairs, amount_by, logged_of_by}
 use Rattle.pa_region.specs.Waiting.{gave_no_poison, quiet_read, IsFreedElsewhere}
 use Rattle.pa_region.specs.AllReads.{HasAllLogs}
+use Rattle.pa_region.specs.Order.{HasOneOrder}
 use Rattle.pa_region.specs.Lists.{keeper_of, lease_of, list_of, made_with, entered_in}
 use Rattle.pa_region.specs.Hands.{Parcel, CanHand, left_after, given_after}
 use Rattle.pa_region.specs.Totals.{owes_as, added_as}
@@ -26,6 +27,7 @@ use Rattle.pa_region.specs.Aware.{IsAware}
 use Rattle.pa_region.proofs.Adding.{one_eq}
 use Rattle.pa_region.proofs.Pieces.{frees_have, owns_have, refs_have}
 use Rattle.pa_region.proofs.HandStep.{each_filter, hand_parts}
+use Rattle.pa_region.proofs.OrderPart.{order_of_view}
 
 -- w has a share of what v has: it holds no more, has some of its stakes and keepers, and knows and has seen the same
 record IsShareOf (v w : View) : Type 0 where
@@ -64,6 +66,13 @@ same_logs v w e f a = record {
     named : (t : Title) → 0 < logged_of w (names t) → 0 < logged_of v (names t)
     named t mine = subst (λ (ss : List Stake). 0 < sum_by (λ (s : Stake). sum_by (names t) s.log) ss) e mine
 
+-- two views with the same stakes that have seen the same of the lists know the same order
+same_order : (v w : View) → w.stakes ≡ v.stakes → w.seen_lists ≡ v.seen_lists → HasOneOrder v → HasOneOrder w
+same_order v w stakes lists o = record {
+  all = o.all;
+  ordered = order_of_view o.all v w stakes lists o.ordered;
+}
+
 -- what is true of a view is true of a view that has a share of it
 share_aware : (v w : View) → IsShareOf v w → IsAware v → IsAware w
 share_aware v w h a = record {
@@ -91,6 +100,7 @@ share_aware v w h a = record {
   handles = λ t has. rw h.seen (a.handles t (let o = owns t in let r = refs t in omega arith));
   covered = λ r q. h.covered r q (a.covered r q);
   all_logs = λ every. same_logs v w (h.whole every) h.words (a.all_logs (back every));
+  one_order = λ every. same_order v w (h.whole every) h.lists (a.one_order (back every));
   all_seen = λ every t. rw (h.seen, h.whole every) (a.all_seen (back every) t);
 }
   where

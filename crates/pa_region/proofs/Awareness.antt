@@ -40,6 +40,7 @@ use Rattle.pa_region.proofs.JoinLists.{longer_is, among_beginning, beginnings_or
 use Rattle.pa_region.proofs.Shown.{put_there}
 use Rattle.pa_region.proofs.Ends.{all_logs, knows_logs}
 use Rattle.pa_region.proofs.OneLog.{covered_of}
+use Rattle.pa_region.proofs.OneOrder.{knows_order}
 
 -- one note more makes what is seen of a list no shorter
 among_more : (k : ℕ) (n : SeenList) (ns : List SeenList) → length (list_among k ns) ≤ length (list_among k (n ∷ ns))
@@ -122,6 +123,7 @@ aware_of words views i v k at_i = record {
   handles = (k.lists.each_view i v at_i).handles;
   covered = λ r q. covered_of views i v at_i (k.logs.each_stake) r q k.totals.covered;
   all_logs = knows_logs words views i v k at_i;
+  one_order = knows_order words views i v k at_i;
   all_seen = λ every t.
       let within = seen_within views i v (logged_in views) (unseen_in views) at_i k.seen t in
       let same = all_logs views i v k.history (byte_words words) (total_of (shown words views)) at_i k.logs every (counted_on t) in

@@ -45,6 +45,8 @@ use Rattle.pa_region.proofs.CountEvent.{count_event, count_content}
 use Rattle.pa_region.proofs.CountValues.{count_values}
 use Rattle.pa_region.proofs.CountLists.{count_lists}
 use Rattle.pa_region.proofs.TotalsPart.{bytes_stay, totals_other, owes_few}
+use Rattle.pa_region.proofs.OneOrder.{touched_now}
+use Rattle.pa_region.proofs.OrderPart.{ending, order_plain}
 
 -- the step over all views
 count_step_of : (step : Step) (t : Title) (words : List ℕ) (views : List View) (i : ℕ) (v : View) → IsKept words views → get_elem? views i ≡ some v → CanCount step t v →
@@ -134,6 +136,7 @@ count_keeps step t words views i v k at_i can =
     record {
       history = history_by step t (value_of step t v) k.history;
       list = k.list;
+      all = ending (entry_of step t word v) v k.all;
       holders = rw (at_place, more counted) (
           holders_count step t x.0 (byte_words words) (total_of (shown words views)) _ (idle_in views) (idle_in (set views i w)) (budget_in views) (budget_in (set views i w)) (logged_in views counted)
           k.holders x.1
@@ -180,6 +183,8 @@ count_keeps step t words views i v k at_i can =
           (rw (moved_stakes step t word v) refl) can.1 k.totals
           (bytes_stay words (count_place t) (stepped step word) (place_below words views t k held)) more (λ n. refl) (λ q. refl)
           (owes_few words t step word (value_of step t v) (k.holders.good.divided.well t held) k.totals.small);
+      ordered = order_plain k.all k.list views i v w (entry_of step t word v) at_i (rw (moved_stakes step t word v) refl) can.1 k.logs.each_stake (λ n. refl)
+          (touched_now words views t k held) k.ordered;
     }
   where
     fresh : (n a : ℕ) → n ≤ a → one (ltb a n) ≡ 0

@@ -37,6 +37,7 @@ use Rattle.pa_region.proofs.Stays.{low_held, stakes_set, undone_set}
 use Rattle.pa_region.proofs.Parting.{raws_part}
 use Rattle.pa_region.proofs.Cutting.{outside_none, inside_none, titled_low, low_more, counted_names, uncut_names}
 use Rattle.pa_region.proofs.TotalsPart.{words_stay, totals_stay}
+use Rattle.pa_region.proofs.OrderPart.{order_same}
 
 -- each byte of the title is raw in the view, once
 cut_raw : (t : Title) (words : List ℕ) (views : List View) (i : ℕ) (v : View) (b : ℕ) → IsKept words views → get_elem? views i ≡ some v → CanCut t v → Covers t b →
@@ -144,6 +145,7 @@ cut_keeps t words views i v k at_i can zero =
     record {
       history = k.history;
       list = k.list;
+      all = k.all;
       holders = record {
         good = happens_good (Cut i t) (shown words views) after k.holders.good event.0 event.1;
         known = λ u some_idle. let c = sum_set (λ (z : View). idle_of z u) views i v w at_i in k.holders.known u (omega arith);
@@ -198,6 +200,7 @@ cut_keeps t words views i v k at_i can zero =
       lists = lists_grown k.list views i v w at_i k.lists (record { keepers = refl; leases = refl; lists = refl; stakes = inl refl; seen = λ u. omega arith; handles = λ u has. inl has }) free_seen;
       undone = undone_set views i v w at_i refl (λ u. let l = logs (uncuts u) in omega arith) k.undone;
       totals = totals_stay words words views i v w at_i refl k.totals (words_stay words);
+      ordered = order_same k.all k.list views i v w at_i refl k.ordered;
     }
   where
     changes : Changes (total_of (shown words views)) (RawPiece t.start t.len ∷ []) (FreePiece t ∷ []) (total_of (shown words (set views i (titled t v))))

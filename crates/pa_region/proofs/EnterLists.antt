@@ -57,9 +57,23 @@ rises_more [] m r known = (tt, tt)
 rises_more (x ∷ ms) m r known =
     (each_append (λ later. IsKnownTo later.seen x) ms (m ∷ []) r.0 (known.0, tt), rises_more ms m r.1 known.1)
 
+-- the tests of two numbers
+pub eqb_flip : (a b : ℕ) (c : Bool) → eqb a b ≡ c → eqb b a ≡ c
+eqb_flip a b c e = elim (eqb_tells a b) [
+  | inl y ↦ elim (eqb_tells b a) [ inl z ↦ z.0 ∙ (sym y.0 ∙ e) | inr n ↦ absurd (n.1 (sym y.1)) ]
+  | inr n ↦ elim (eqb_tells b a) [ inl z ↦ absurd (n.1 (sym z.1)) | inr m ↦ m.0 ∙ (sym n.0 ∙ e) ]
+]
+
 -- a list of keeper q when that of keeper k has one more entry
 abbrev pub list_with : (ℕ → List Made) → ℕ → Made → ℕ → List Made
 list_with list k m q = if eqb q k then list q ++ m ∷ [] else list q
+
+-- it has what the entry puts there
+pub list_grows : (list : ℕ → List Made) (k : ℕ) (m : Made) (q : ℕ) → list_with list k m q ≡ list q ++ entry_in q (Entered k m)
+list_grows list k m q = elim (eqb_tells q k) [
+  | inl y ↦ rw (y.0, eqb_flip q k true y.0) refl
+  | inr n ↦ rw (n.0, eqb_flip q k false n.0) (sym (append_nil (list q)))
+]
 
 -- a beginning stays one
 begins_more : (list : ℕ → List Made) (k : ℕ) (m : Made) (q : ℕ) (begun : List Made) → IsBeginning begun (list q) → IsBeginning begun (list_with list k m q)
@@ -81,13 +95,6 @@ made_here k r m ms log e same =
   where
     entry : entry_in k (Entered k m) ≡ m ∷ []
     entry = elim (eqb_tells k k) [ inl y ↦ rw y.0 refl | inr n ↦ absurd (n.1 refl) ]
-
--- the tests of two numbers
-eqb_flip : (a b : ℕ) (c : Bool) → eqb a b ≡ c → eqb b a ≡ c
-eqb_flip a b c e = elim (eqb_tells a b) [
-  | inl y ↦ elim (eqb_tells b a) [ inl z ↦ z.0 ∙ (sym y.0 ∙ e) | inr n ↦ absurd (n.1 (sym y.1)) ]
-  | inr n ↦ elim (eqb_tells b a) [ inl z ↦ absurd (n.1 (sym z.1)) | inr m ↦ m.0 ∙ (sym n.0 ∙ e) ]
-]
 
 -- in a log that got the entry, of the list of another keeper
 entered_other : (k q : ℕ) (m : Made) (log : List Entry) → eqb q k ≡ false → entered_in q (log ++ Entered k m ∷ []) ≡ entered_in q log

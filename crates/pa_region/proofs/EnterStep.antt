@@ -30,7 +30,8 @@ use Rattle.pa_region.proofs.Stays.{low_set, stakes_set, undone_set}
 use Rattle.pa_region.proofs.EntryReads.{entry_reads}
 use Rattle.pa_region.proofs.SeatStakes.{SameStakes}
 use Rattle.pa_region.proofs.TotalsPart.{words_stay, totals_other}
-use Rattle.pa_region.proofs.EnterLists.{list_with, enter_lists}
+use Rattle.pa_region.proofs.OrderPart.{ending, order_more}
+use Rattle.pa_region.proofs.EnterLists.{list_with, list_grows, enter_lists}
 
 -- the core that is shown stays
 enter_shown : (k : ℕ) (numbers : List ℕ) (words : List ℕ) (views : List View) (i : ℕ) (v : View) → get_elem? views i ≡ some v →
@@ -57,6 +58,7 @@ enter_keeps k numbers words views i v r at_i can =
     record {
       history = r.history;
       list = list_with r.list k (new_entry numbers v);
+      all = ending e v r.all;
       holders = holders_same (byte_words words) (total_of (shown words views)) _ (idle_in views) (idle_in (set views i w)) (budget_in views) (budget_in (set views i w))
           (logged_in views counted) (logged_in (set views i w) counted) r.holders same
           (λ u some_idle. let c = sum_set (λ (z : View). idle_of z u) views i v w at_i in r.holders.known u (omega arith))
@@ -82,6 +84,8 @@ enter_keeps k numbers words views i v r at_i can =
       lists = enter_lists r.list k numbers views i v at_i can once r.lists;
       undone = undone_set views i v w at_i refl (λ u. let m = more (uncuts u) in omega arith) r.undone;
       totals = totals_other words words views i v w e at_i refl stake r.totals (words_stay words) more (λ n. refl) (λ q. refl) (λ q. omega arith);
+      ordered = order_more r.all r.list (list_with r.list k (new_entry numbers v)) views i v w e at_i refl stake r.logs.each_stake (list_grows r.list k (new_entry numbers v))
+          (λ u word touch. absurd touch) r.ordered;
     }
   where
     once : (n : ℕ) → stakes_in views n ≤ 1

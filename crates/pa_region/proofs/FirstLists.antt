@@ -1,5 +1,5 @@
--- The fifth part at the start: empty lists, with keepers and leases in the first view.
-use Rattle.std.proofs.Common.{◌≡◌, ℕ, zero, suc, ◌+◌, ◌<◌, ◌≤◌, [], ◌∷◌, refl, sym, ap, subst, arith, ◌⊎◌, inl, inr, eqb, leb}
+-- The fifth part at the start, with empty lists, and keepers and leases in the first view; and the seventh, with empty logs.
+use Rattle.std.proofs.Common.{◌≡◌, ℕ, zero, suc, ◌+◌, ◌<◌, ◌≤◌, List, [], ◌∷◌, ◌++◌, refl, sym, ap, subst, arith, ◌⊎◌, inl, inr, eqb, leb}
 use Rattle.std.specs.Prelude.{slice_index}
 use Rattle.std.specs.List.{sum_by}
 use Rattle.core.specs.List.{AllByRecursion as Each}
@@ -15,6 +15,7 @@ use Rattle.pa_region.specs.declared.view.Keeper.{Keeper}
 use Rattle.pa_region.specs.declared.view.View.{View}
 use Rattle.pa_region.specs.Start.{blank, stakes_from, keepers_from, first_view}
 use Rattle.pa_region.specs.Lists.{made_with, entered_in, IsListed, HasSeenFree, Lists}
+use Rattle.pa_region.specs.Order.{Stamped, by_stake, IsLoggedIn, InOneOrder}
 use Rattle.pa_region.proofs.Adding.{one_lt, one_eq}
 
 -- the first view's words
@@ -101,3 +102,25 @@ first_lists words budget = record {
     only : (i : ℕ) (v : View) → get_elem? (first_view words budget ∷ []) i ≡ some v → first_view words budget ≡ v
     only zero v at_i = some-injective (first_view words budget) v at_i
     only (suc i) v at_i = absurd (some-ne-none v (sym at_i))
+
+-- all logs are empty
+logs_empty : (from count : ℕ) → Each (λ (s : Stake). s.log ≡ by_stake s.number []) (stakes_from from count)
+logs_empty from zero = tt
+logs_empty from (suc count) = (refl, logs_empty (suc from) count)
+
+-- and so is the order of all that was logged
+pub first_order : (words budget : ℕ) → InOneOrder [] (λ k. []) (first_view words budget ∷ [])
+first_order words budget = record {
+  stakes = tt;
+  logs = λ i v at_i. subst (IsLoggedIn []) (only i v at_i) (logs_empty 0 16);
+  lists = λ k. refl;
+  found = λ before after m t word split touches. absurd (none before m after split);
+}
+  where
+    only : (i : ℕ) (v : View) → get_elem? (first_view words budget ∷ []) i ≡ some v → first_view words budget ≡ v
+    only zero v at_i = some-injective (first_view words budget) v at_i
+    only (suc i) v at_i = absurd (some-ne-none v (sym at_i))
+
+    none : (before : List Stamped) (m : Stamped) (after : List Stamped) → [] ≡ before ++ m ∷ after → ⊥
+    none [] m after e = cc
+    none (x ∷ before) m after e = cc

@@ -20,6 +20,7 @@ use Rattle.pa_region.specs.Pairs.{pairs, amount_by}
 use Rattle.pa_region.specs.Waiting.{is_poisoned, is_unclean, unclean_of, IsReader}
 use Rattle.pa_region.proofs.ReadsSame.{reader_handed}
 use Rattle.pa_region.specs.Rule.{IsKept}
+use Rattle.pa_region.specs.Order.{by_stake, IsLoggedIn}
 use Rattle.pa_region.specs.Lists.{keeper_of, made_with, entered_in, list_of, IsListed, HasSeenFree}
 use Rattle.pa_region.specs.Hands.{Parcel, empty_of, left_after, given_after, CanHand, IsParted}
 use Rattle.pa_region.proofs.Pieces.{frees_have, owns_have, refs_have}
@@ -161,3 +162,6 @@ hand_keeps p words views i v k at_i can =
     (each_parted (IsReader k.history (byte_words words)) views i v l r at_i k.reads.each_view
     (reader_handed k.history (byte_words words) l refl (left_stake p v can (k.reads.each_view i v at_i).stake))
     (reader_handed k.history (byte_words words) r refl (λ some_own. let z = given_clean p v in absurd (omega arith))))
+    (each_parted (IsLoggedIn k.all) views i v l r at_i k.ordered.logs
+    (each_filter (λ (s : Stake). s.log ≡ by_stake s.number k.all) (λ (s : Stake). not (p.stakes s.number)) v.stakes (k.ordered.logs i v at_i))
+    (each_filter (λ (s : Stake). s.log ≡ by_stake s.number k.all) (λ (s : Stake). p.stakes s.number) v.stakes (k.ordered.logs i v at_i)))

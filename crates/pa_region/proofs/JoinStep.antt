@@ -22,6 +22,7 @@ use Rattle.pa_region.specs.Pairs.{pairs, amount_by}
 use Rattle.pa_region.specs.Waiting.{is_poisoned, is_unclean, IsReader}
 use Rattle.pa_region.proofs.ReadsSame.{reader_handed}
 use Rattle.pa_region.specs.Rule.{IsKept}
+use Rattle.pa_region.specs.Order.{by_stake, IsLoggedIn}
 use Rattle.pa_region.specs.Lists.{keeper_of, list_of, made_with, entered_in, IsBeginning, IsKnownTo, IsListed, HasSeenFree}
 use Rattle.pa_region.specs.Hands.{CanTake, IsParted, knowing, merged, united, spent_of}
 use Rattle.pa_region.proofs.Pieces.{held_split, frees_have}
@@ -223,6 +224,8 @@ join_keeps words views i j v w k at_i was_j ne at_j can =
     let l = least_both v.stakes w.stakes in
     omega arith))
     (reader_handed k.history (byte_words words) spent refl (λ some_own. absurd (omega arith))))
+    (each_joined (IsLoggedIn k.all) views i j v w both spent at_i at_j k.ordered.logs
+    (each_append (λ (s : Stake). s.log ≡ by_stake s.number k.all) v.stakes w.stakes (k.ordered.logs i v at_i) (k.ordered.logs j w was_j)) tt)
   where
     free_place : (m : ℕ) (u : View) (t : Title) → get_elem? views m ≡ some u → 0 < free_of u t → count_word u.words t ≡ count_word (byte_words words) t
     free_place m u t at_m free = free_word_known words views m u t k.holders.good k.values at_m free

@@ -22,6 +22,7 @@ pub mod EnterLists
 pub mod EnterStep
 pub mod Entering
 pub mod Filled
+pub mod Finding
 pub mod FirstFrees
 pub mod FirstLists
 pub mod Found
@@ -47,9 +48,11 @@ pub mod NextFree
 pub mod Noting
 pub mod NotingTwice
 pub mod OneLog
+pub mod OneOrder
 pub mod OneRead
 pub mod OneTitle
 pub mod Opens
+pub mod OrderPart
 pub mod PairSums
 pub mod Parting
 pub mod Pieces

@@ -29,7 +29,7 @@ use Rattle.pa_region.specs.Start.{blank, first_view}
 use Rattle.pa_region.proofs.Adding.{one_lt}
 use Rattle.pa_region.proofs.ReadsFirst.{first_all, no_amount, reads_first}
 use Rattle.pa_region.proofs.SeatStakes.{first_stakes}
-use Rattle.pa_region.proofs.FirstLists.{blank_at, stake_count, first_lists}
+use Rattle.pa_region.proofs.FirstLists.{blank_at, stake_count, first_lists, first_order}
 
 -- the first view has each byte of the region as raw, once
 first_raw : (words budget b : ℕ) → b < 8 * words → held_of_view (first_view words budget) (RawByte b) ≡ 1
@@ -67,6 +67,7 @@ pub opens : (words budget : ℕ) → words ≤ 4194304 → budget ≤ 65536 → 
 opens words budget enough few = record {
   history = λ t. [];
   list = λ k. [];
+  all = [];
   holders = record {
     good = record {
       divided = record {
@@ -131,6 +132,7 @@ opens words budget enough few = record {
     covered = λ r q. let a = none_by r (added_as q) in omega arith;
     bounded = λ q. let a = none (owes_as q) in omega arith;
   };
+  ordered = first_order words budget;
 }
   where
     all_words : List ℕ

@@ -40,6 +40,7 @@ use Rattle.pa_region.proofs.ReadsCount.{last_within}
 use Rattle.pa_region.proofs.OneLog.{own_log}
 use Rattle.pa_region.proofs.ReadStep.{user_in_all, word_read}
 use Rattle.pa_region.proofs.TotalsPart.{words_stay, totals_other}
+use Rattle.pa_region.proofs.OrderPart.{ending, order_plain}
 
 -- the entry of a read that gave the value of its word
 abbrev pub read_entry : Title → ℕ → ℕ → View → Entry
@@ -144,6 +145,7 @@ read_keeps words views i v t place k at_i has stake below =
     record {
       history = k.history;
       list = k.list;
+      all = ending e v k.all;
       holders = holders_same (byte_words words) (total_of (shown words views)) _ (idle_in views) (idle_in (set views i w)) (budget_in views) (budget_in (set views i w))
           (logged_in views counted) (logged_in (set views i w) counted) k.holders same
           (λ u some_idle. let c = sum_set (λ (z : View). idle_of z u) views i v w at_i in k.holders.known u (omega arith))
@@ -178,4 +180,5 @@ read_keeps words views i v t place k at_i has stake below =
       }) (k.lists.free_seen i v at_i);
       undone = undone_set views i v w at_i refl (λ u. let m = more (uncuts u) in omega arith) k.undone;
       totals = totals_other words words views i v w e at_i refl stake k.totals (words_stay words) more (λ n. refl) (λ q. refl) (λ q. omega arith);
+      ordered = order_plain k.all k.list views i v w e at_i refl stake k.logs.each_stake (λ n. refl) (λ u word touch. absurd touch) k.ordered;
     }

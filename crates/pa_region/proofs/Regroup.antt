@@ -18,6 +18,7 @@ use Rattle.pa_region.specs.declared.view.OwnTitle.{OwnTitle}
 use Rattle.pa_region.specs.declared.view.SeenNumber.{SeenNumber}
 use Rattle.pa_region.specs.declared.view.View.{View}
 use Rattle.pa_region.specs.Views.{held_of_view, byte_words, shown, idle_of, idle_in, budget_in, low_of, low_in, uncut_in, undone_of, undone_in, stake_of, stakes_in, logged_of, logged_in, ahead_of, ahead_in, unseen_by, unseen_of, own_of, unseen_in, counted, counted_on, names, uncuts}
+use Rattle.pa_region.specs.Order.{IsLoggedIn}
 use Rattle.pa_region.specs.Rule.{Values, Reservations, Logs, IsKept}
 use Rattle.pa_region.specs.Lists.{keeper_of, keepers_in, lease_of, leases_in, IsListed, HasSeenFree}
 use Rattle.pa_region.specs.Hands.{IsParted, CanTake}
@@ -31,6 +32,7 @@ use Rattle.pa_region.proofs.NamePart.{named_same}
 use Rattle.pa_region.proofs.SeenPart.{logged_mono}
 use Rattle.pa_region.proofs.SeenJoin.{seen_left, seen_right, unseen_grown}
 use Rattle.pa_region.proofs.TotalsPart.{totals_same}
+use Rattle.pa_region.proofs.OrderPart.{order_over}
 
 -- the same is had, by all views together; that no Ref is left may be forgotten
 pub record IsRegrouped (before after : List View) : Type 0 where
@@ -61,8 +63,9 @@ content_regrouped words before after last same k = record {
 -- the rule's parts after such a step
 pub kept_regrouped : (words : List ℕ) (before after : List View) (k : IsKept words before) → IsRegrouped before after → Values (byte_words words) after →
     ((i : ℕ) (v : View) → get_elem? after i ≡ some v → IsListed k.list v) → ((i : ℕ) (v : View) → get_elem? after i ≡ some v → HasSeenFree v) →
-    ((i : ℕ) (v : View) → get_elem? after i ≡ some v → IsReader k.history (byte_words words) v) → IsKept words after
-kept_regrouped words before after k g values listed free readers =
+    ((i : ℕ) (v : View) → get_elem? after i ≡ some v → IsReader k.history (byte_words words) v) →
+    ((i : ℕ) (v : View) → get_elem? after i ≡ some v → IsLoggedIn k.all v) → IsKept words after
+kept_regrouped words before after k g values listed free readers logged =
     let same : (x : Thing) → total_of (shown words after) x ≡ total_of (shown words before) x =
     λ x. let a = total_sum words after x in let b = total_sum words before x in let c = g.things x in omega arith in
     let total : total_of (shown words before) ≡ total_of (shown words after) = λ i x. sym (same x) i in
@@ -72,6 +75,7 @@ kept_regrouped words before after k g values listed free readers =
     record {
       history = k.history;
       list = k.list;
+      all = k.all;
       holders = holders_same (byte_words words) (total_of (shown words before)) (total_of (shown words after)) (idle_in before) (idle_in after) (budget_in before) (budget_in after)
           (logged_in before counted) (logged_in after counted) k.holders same
           (λ u some_idle. let e = g.idle u in k.holders.known u (omega arith)) g.budget (g.logs counted);
@@ -104,6 +108,7 @@ kept_regrouped words before after k g values listed free readers =
       };
       undone = λ t. let a = g.undone t in let b = g.logs (uncuts t) in let c = k.undone t in omega arith;
       totals = totals_same words before after g.logs g.logs_by k.totals;
+      ordered = order_over k.all k.list before after k.ordered logged;
     }
 
 -- how many times a view that doesn't have stake k has the title's Own poisoned

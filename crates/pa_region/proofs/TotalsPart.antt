@@ -1,5 +1,5 @@
 -- The rule's part on the totals words, when a log gets an entry, when none does, and when views are regrouped.
-use Rattle.std.proofs.Common.{◌≡◌, ℕ, ◌+◌, ◌-◌, ◌*◌, ◌<◌, ◌≤◌, Bool, true, false, List, length, set, refl, sym, ◌∙◌, ap, subst, arith, inl, inr, eqb}
+use Rattle.std.proofs.Common.{◌≡◌, ℕ, ◌+◌, ◌-◌, ◌*◌, ◌<◌, ◌≤◌, Bool, true, false, List, length, set, refl, sym, ◌∙◌, arith, inl, inr}
 use Rattle.std.specs.Prelude.{slice_index, if◌then◌else◌}
 use Rattle.std.specs.List.{sum_by}
 use Rattle.std.proofs.lemmas.List.{length-set, get_or-set_other}
@@ -13,12 +13,11 @@ use Rattle.pa_region.specs.declared.view.Entry.{Entry}
 use Rattle.pa_region.specs.declared.view.Entry.TheVariants.{Counted}
 use Rattle.pa_region.specs.declared.view.Stake.{Stake}
 use Rattle.pa_region.specs.declared.view.View.{View}
-use Rattle.pa_region.specs.Views.{byte_words, least_stake, logged_of, logged_in, counted, HasStake}
+use Rattle.pa_region.specs.Views.{byte_words, least_stake, logged_in, counted, HasStake}
 use Rattle.pa_region.specs.Moves.{noted}
 use Rattle.pa_region.specs.Pairs.{amount_by, logged_by}
 use Rattle.pa_region.specs.Totals.{is_of_kind, owes_as, added_as, added_to, total_place, Totals}
 use Rattle.pa_region.proofs.PairSums.{logged_by_set, by_same}
-use Rattle.pa_region.proofs.Entering.{logged_set}
 use Rattle.pa_region.proofs.Bytes.{bytes_length}
 
 -- the totals words are as before, and as many words are there

@@ -42,6 +42,7 @@ use Rattle.pa_region.proofs.Idle.{idle_within}
 use Rattle.pa_region.proofs.Stays.{low_raw, stakes_set}
 use Rattle.pa_region.proofs.Parting.{has_byte}
 use Rattle.pa_region.proofs.TotalsPart.{words_stay, totals_other}
+use Rattle.pa_region.proofs.OrderPart.{ending, order_plain}
 
 -- what an uncut changes of what the view holds
 pub uncut_changes : (t : Title) (v : View) → 0 < free_of v t → Changes (held_of_view v) (FreePiece t ∷ []) (RawPiece t.start t.len ∷ []) (held_of_view (after_uncut t v))
@@ -85,6 +86,7 @@ uncut_keeps t words views i v k at_i can =
     record {
       history = k.history;
       list = k.list;
+      all = ending e v k.all;
       holders = holders_written (byte_words words) (byte_words words) (total_of (shown words views)) (total_of after) (idle_in views) (idle_in (set views i w))
           (budget_in views) (budget_in (set views i w)) (logged_in views counted) (logged_in (set views i w) counted) k.holders
           (happens_good (UncutEvent i t) (shown words views) after k.holders.good event.0 event.1) back (λ u held. refl)
@@ -143,6 +145,7 @@ uncut_keeps t words views i v k at_i can =
           let b = k.undone u in
           omega arith;
       totals = totals_other words words views i v w e at_i refl can.1 k.totals (words_stay words) more (λ n. refl) (λ q. refl) (λ q. omega arith);
+      ordered = order_plain k.all k.list views i v w e at_i refl can.1 k.logs.each_stake (λ n. refl) (λ u word touch. absurd touch) k.ordered;
     }
   where
     changes : Changes (total_of (shown words views)) (FreePiece t ∷ []) (RawPiece t.start t.len ∷ []) (total_of (shown words (set views i (after_uncut t v))))

@@ -33,6 +33,7 @@ use Rattle.pa_region.proofs.ListPart.{IsGrown, lists_grown}
 use Rattle.pa_region.proofs.Stays.{low_set, stakes_set, undone_set}
 use Rattle.pa_region.proofs.ValuePart.{ShownGood, knows_apart, values_step}
 use Rattle.pa_region.proofs.TotalsPart.{bytes_stay, totals_stay}
+use Rattle.pa_region.proofs.OrderPart.{order_same}
 
 -- The view v knows the word p, which is no held title's count word, and becomes w: it knows the value x there, and holds
 -- the same but for the states of its Owns: what was poisoned stays so, and only with a stake is one unclean.
@@ -92,6 +93,7 @@ write_keeps words views i v w p x k at_i h good content =
     record {
       history = k.history;
       list = k.list;
+      all = k.all;
       holders = rw at_place (holders_written (byte_words words) (set (byte_words words) p x) (total_of (shown words views)) (total_of (shown (set words p x) (set views i w)))
           (idle_in views) (idle_in (set views i w)) (budget_in views) (budget_in (set views i w)) (logged_in views counted) (logged_in (set views i w) counted)
           k.holders (rw at_place at good) back word
@@ -129,6 +131,7 @@ write_keeps words views i v w p x k at_i h good content =
           omega arith);
       undone = undone_set views i v w at_i h.uncut (λ u. let l = logs (uncuts u) in omega arith) k.undone;
       totals = totals_stay words (set words p x) views i v w at_i h.stakes k.totals (bytes_stay words p x h.below);
+      ordered = order_same k.all k.list views i v w at_i h.stakes k.ordered;
     }
   where
     back : (t : Title) → IsTitleHeld (total_of (shown (set words p x) (set views i w))) t → IsTitleHeld (total_of (shown words views)) t

@@ -11,6 +11,7 @@ use Rattle.pa_region.specs.Lists.{keeper_of, lease_of, list_of, made_with, enter
 use Rattle.pa_region.specs.Pairs.{logged_of_by}
 use Rattle.pa_region.specs.AllReads.{HasAllLogs}
 use Rattle.pa_region.specs.Totals.{added_as, owes_as}
+use Rattle.pa_region.specs.Order.{HasOneOrder}
 
 -- The view has each thing, stake, keeper and lease at most once. A free title isn't used besides, its titles share no byte, and
 -- none is raw or was uncut, by its logs or its own list. It has seen what its own logs say, the number of each title it holds
@@ -18,7 +19,8 @@ use Rattle.pa_region.specs.Totals.{added_as, owes_as}
 -- Each note of a keeper's list is a beginning of what it has seen of the list, and its own keepers' lists are all of it. What
 -- its stakes made there is what their logs entered; makers had stakes; what they had seen rises, and the view has seen it too.
 -- By its logs no stake added more bytes to the totals words of a kind than its steps of that kind weigh.
--- And if it has every stake, its logs are all logs, and it has seen no more than they say.
+-- And if it has every stake, its logs are all logs, all that they and the lists say is of one order, and it has seen no more
+-- than they say.
 pub record IsAware (v : View) : Type 0 where
   pub raw_once : (b : ℕ) → held_of_view v (RawByte b) ≤ 1
   pub free_once : (t : Title) → free_of v t ≤ 1
@@ -43,4 +45,5 @@ pub record IsAware (v : View) : Type 0 where
   pub handles : HasSeenHandles v
   pub covered : (r q : ℕ) → logged_of_by v r (added_as q) ≤ logged_of_by v r (owes_as q)
   pub all_logs : HasEveryStake v → HasAllLogs v
+  pub one_order : HasEveryStake v → HasOneOrder v
   pub all_seen : HasEveryStake v → (t : Title) → seen_of v t ≤ logged_of v (counted_on t)

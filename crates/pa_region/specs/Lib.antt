@@ -14,6 +14,7 @@ pub mod Lists
 pub mod Loads
 pub mod Marks
 pub mod Moves
+pub mod Order
 pub mod Pairs
 pub mod Rule
 pub mod Says

@@ -19,6 +19,7 @@ use Rattle.pa_region.specs.Pairs.{logged_of_by}
 use Rattle.pa_region.specs.Rule.{IsKept}
 use Rattle.pa_region.specs.Waiting.{IsFreedElsewhere}
 use Rattle.pa_region.specs.AllReads.{HasAllLogs, HasReads, AreReadsRight}
+use Rattle.pa_region.specs.Order.{HasOneOrder}
 
 -- a look that some log has found the history's word with its number
 abbrev pub LookFindsItsWord : Type 0
@@ -64,6 +65,12 @@ abbrev pub AllLogsAreKnown : Type 0
 AllLogsAreKnown =
     (words : List ℕ) (views : List View) (i : ℕ) (v : View) → IsKept words views → get_elem? views i ≡ some v → HasEveryStake v →
     HasAllLogs v
+
+-- and its logs, with the lists as it has seen them, are of one order
+abbrev pub OneOrderIsKnown : Type 0
+OneOrderIsKnown =
+    (words : List ℕ) (views : List View) (i : ℕ) (v : View) → IsKept words views → get_elem? views i ≡ some v → HasEveryStake v →
+    HasOneOrder v
 
 -- it knows the reads by their places in the logs
 abbrev pub ReadsHavePlaces : Type 0

@@ -45,8 +45,8 @@ pub use name::Name;
 pub use note::Note;
 pub use read_laws::{
     a_history_goes_on, a_longer_history_is_the_same, a_look_finds_its_word,
-    a_step_stands_at_its_number, all_logs_are_known, logs_add_up, others_have_the_free,
-    reads_have_places, the_first_free_stays,
+    a_step_stands_at_its_number, all_logs_are_known, logs_add_up, one_order_is_known,
+    others_have_the_free, reads_have_places, the_first_free_stays,
 };
 pub use region::{Region, Seat};
 pub use step_laws::{

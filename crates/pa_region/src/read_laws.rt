@@ -1,5 +1,5 @@
 //! What histories and logs imply for callers, as laws: calls that do nothing, but have proved clauses.
-ghost use Rattle.pa_region.specs.Tells.{LookFindsItsWord, LogsAddUp, StepStandsAtItsNumber, HistoryGoesOn, LongerIsTheSame, FirstFreeStays, AllLogsAreKnown, ReadsHavePlaces, OthersHaveTheFree};
+ghost use Rattle.pa_region.specs.Tells.{LookFindsItsWord, LogsAddUp, StepStandsAtItsNumber, HistoryGoesOn, LongerIsTheSame, FirstFreeStays, AllLogsAreKnown, OneOrderIsKnown, ReadsHavePlaces, OthersHaveTheFree};
 
 /// A look that some log has found the word of the title's history with its number.
 pub fn a_look_finds_its_word()
@@ -34,6 +34,12 @@ pub fn the_first_free_stays()
 /// Under the rule a view that has every stake knows all logs, and what the reads in them gave.
 pub fn all_logs_are_known()
     ensures { AllLogsAreKnown }
+{}
+
+/// It knows one order of all that was logged: each log and each keeper's list is a part of it, and each counted step and each look
+/// found as many counted steps of its title before it as the number in its word.
+pub fn one_order_is_known()
+    ensures { OneOrderIsKnown }
 {}
 
 /// It knows the reads by their places in its logs.

@@ -123,6 +123,7 @@ alone = record {
   alone = λ k other. rw (ne_eqb 0 k other) refl;
   own_logs = refl;
   adds = λ q. refl;
+  found = refl;
   all_seen = λ t. elim (title_tells (map_title 5) t) [
     | inl y ↦ subst IsSeen y.1 (lit≤ tt)
     | inr n ↦ elim (title_tells (map_title 2) t) [

@@ -4,12 +4,15 @@ use Rattle.std.specs.Prelude.{◌==◌, if◌then◌else◌, Contains}
 use Rattle.std.specs.List.{list_all, AllByRecursion as Each}
 use Rattle.std.proofs.lemmas.Bool.{cases_eq, eq-eqb, ne_eqb}
 use Rattle.pa_machine.specs.declared.title.Title.{Title}
+use Rattle.pa_region.specs.declared.view.Entry.{Entry}
 use Rattle.pa_region.specs.declared.view.Made.{Made}
 use Rattle.pa_region.specs.declared.view.SeenNumber.{SeenNumber}
 use Rattle.pa_region.specs.declared.view.View.{View}
 use Rattle.pa_region.specs.Views.{seen_among, unseen_by, counted_on}
 use Rattle.pa_region.specs.Lists.{list_of, made_with, entered_in, IsKnownTo, Rises}
 use Rattle.pa_region.specs.Totals.{added_as}
+use Rattle.pa_region.specs.Order.{Stamped, by_stake}
+use Rattle.pa_region.proofs.Finding.{all_find}
 use Rattle.pa_record.specs.declared.pool.PoolEntry.{PoolEntry}
 use Rattle.pa_record.specs.declared.root.RootEntry.{RootEntry}
 use Rattle.pa_lists.proofs.Joined.{map_in}
@@ -30,7 +33,7 @@ use Rattle.pa_logs.specs.Worked.{view_of}
 use Rattle.pa_logs.proofs.Merging.{own_first, other_first}
 use Rattle.pa_examples.specs.told.AllSaid.{seat_of}
 use Rattle.pa_examples.specs.told.Entered.{in_root, in_pool, lists_of}
-use Rattle.pa_examples.proofs.told.Seats.{list_cases, FitsSeat}
+use Rattle.pa_examples.proofs.told.Seats.{list_cases, IsOrderOf, has_order, FitsSeat}
 
 -- the first thread, and the others
 pub by_one : (P : ℕ → Type 0) → P 0 → ((k : ℕ) → (0 ≡ k → ⊥) → P k) → (k : ℕ) → P k
@@ -66,12 +69,34 @@ module _ {A : Type 0} (f : A → Made) (unseen : (a : A) → (f a).seen ≡ []) 
   none_else [] k other = refl
   none_else (a ∷ xs) k other = rw (first a, ne_eqb 0 k other) (none_else xs k other)
 
+-- ---- the order of one thread's entries is that of its log
+
+abbrev pub first_did : Entry → Stamped
+first_did e = record { stake = 0; entry = e }
+
+first_small : (log : List Entry) → Each (λ (m : Stamped). m.stake < 16) (map first_did log)
+first_small [] = tt
+first_small (e ∷ log) = (lit< tt, first_small log)
+
+first_log : (log : List Entry) → log ≡ by_stake 0 (map first_did log)
+first_log [] = refl
+first_log (e ∷ log) = ap (λ (es : List Entry). e ∷ es) (first_log log)
+
+other_log : (k : ℕ) → (0 ≡ k → ⊥) → (log : List Entry) → [] ≡ by_stake k (map first_did log)
+other_log k other [] = refl
+other_log k other (e ∷ log) = rw (ne_eqb 0 k other) (other_log k other log)
+
+first_entries : (log : List Entry) → log ≡ map (λ (m : Stamped). m.entry) (map first_did log)
+first_entries [] = refl
+first_entries (e ∷ log) = ap (λ (es : List Entry). e ∷ es) (first_entries log)
+
 -- What is computed of the records, with this journal, these entries of the pool and these numbers.
 --   knows: a view with the logs knows all of them
 --   root, pool, others: what the first thread's log entered
 --   alone: no other thread has a log
 --   own_logs, all_seen: what was seen is what the logs say
 --   adds: nothing was added to a totals word
+--   found: each counted step and each look in its log found the number of counted steps of its title before it
 pub record IsAlone (ts : List ToldRecord) (notes : List SeenNumber) (journal : List RootEntry) (pools : List PoolEntry) : Type 0 where
   pub knows : KnowsAll (view_of ts) ts
   pub root : entered_in 0 (log_of 0 ts) ≡ map in_root journal
@@ -81,6 +106,7 @@ pub record IsAlone (ts : List ToldRecord) (notes : List SeenNumber) (journal : L
   pub own_logs : told_of ts (unseen_by notes) ≡ 0
   pub adds : (q : ℕ) → told_of ts (added_as q) ≡ 0
   pub all_seen : (t : Title) → seen_among t notes ≤ told_of ts (counted_on t)
+  pub found : all_find [] (map first_did (log_of 0 ts)) ≡ true
 
 module _ (ts : List ToldRecord) (notes : List SeenNumber) (journal : List RootEntry) (pools : List PoolEntry) (is : IsAlone ts notes journal pools) where
   abbrev lists : ℕ → List Made
@@ -97,6 +123,19 @@ module _ (ts : List ToldRecord) (notes : List SeenNumber) (journal : List RootEn
       (λ p n0 n4 n5. by_one (λ j. [] ≡ entered_in p (log_of j ts)) (sym (is.others p n0 n4)) (λ j other. sym (ap (λ log. entered_in p log) (is.alone j other))) k)
       q
 
+  -- so it is one order
+  its_order : IsOrderOf ts notes lists (map first_did (log_of 0 ts))
+  its_order = record {
+    stakes = first_small (log_of 0 ts);
+    logs = by_one (λ k. log_of k ts ≡ by_stake k (map first_did (log_of 0 ts))) (first_log (log_of 0 ts)) (λ k other. is.alone k other ∙ other_log k other (log_of 0 ts));
+    lists_are = λ q. entered q ∙ ap (entered_in q) (first_entries (log_of 0 ts));
+    found = is.found;
+  }
+    where
+      entered : (q : ℕ) → list_of q (seat_of ts notes lists) ≡ entered_in q (log_of 0 ts)
+      entered q = list_cases ts notes lists (λ p ms. ms ≡ entered_in p (log_of 0 ts)) (sym is.root) (sym is.pool)
+          (sym (is.others 5 (λ e. absurd (omega arith)) (λ e. absurd (omega arith)))) (λ p n0 n4 n5. sym (is.others p n0 n4)) q
+
   pub fits_seat : FitsSeat ts notes lists
   fits_seat = record {
     knows = is.knows;
@@ -108,6 +147,7 @@ module _ (ts : List ToldRecord) (notes : List SeenNumber) (journal : List RootEn
     own_logs = is.own_logs;
     adds = is.adds;
     all_seen = is.all_seen;
+    order = has_order ts notes lists (map first_did (log_of 0 ts)) its_order;
   }
 
   pub fits_knows : fits_seat.knows ≡ is.knows

@@ -8,6 +8,7 @@ use Rattle.pa_region.specs.declared.view.SeenNumber.{SeenNumber}
 use Rattle.pa_region.specs.Views.{seen_among, unseen_by, counted_on}
 use Rattle.pa_region.specs.Lists.{list_of, made_with, entered_in, IsBeginning, IsKnownTo, Rises}
 use Rattle.pa_region.specs.Totals.{added_as}
+use Rattle.pa_region.specs.Order.{HasOneOrder}
 use Rattle.pa_record.specs.declared.entry.Answer.{Answer}
 use Rattle.pa_logs.specs.Told.{ToldRecord, told_of, told_until, log_of}
 use Rattle.pa_logs.specs.Reads.{KnowsAll}
@@ -23,17 +24,18 @@ use Rattle.pa_examples.proofs.told.Seats.{list_cases, FitsSeat, has_logs, fits_n
 use Rattle.pa_examples.proofs.told.Seen.{covered}
 
 -- each of two threads, and the others
-by_two : (P : ℕ → Type 0) → P 0 → P 1 → ((k : ℕ) → (0 ≡ k → ⊥) → (1 ≡ k → ⊥) → P k) → (k : ℕ) → P k
+pub by_two : (P : ℕ → Type 0) → P 0 → P 1 → ((k : ℕ) → (0 ≡ k → ⊥) → (1 ≡ k → ⊥) → P k) → (k : ℕ) → P k
 by_two P first second others k = elim (cases_eq 0 k) [
   | inl e ↦ subst P e first
   | inr n0 ↦ elim (cases_eq 1 k) [ inl e ↦ subst P e second | inr n1 ↦ others k n0 n1 ]
 ]
 
--- what is known of the logs at the end of a phase: a view knows them all, and the seat has seen what they say
+-- what is known of the logs at the end of a phase: a view knows them all, the seat has seen what they say, and they are of one order
 pub record KnowsUntil (ts : List ToldRecord) (n : ℕ) : Type 0 where
   pub knows : KnowsAll (view_of (told_until n ts)) (told_until n ts)
   pub own_logs : told_of (told_until n ts) (unseen_by (seen_number (suc n))) ≡ 0
   pub adds : (q : ℕ) → told_of (told_until n ts) (added_as q) ≡ 0
+  pub order : HasOneOrder (seat_until ts n)
 
 -- a seat that holds nothing has all logs
 holds_none : (ts : List ToldRecord) (notes : List SeenNumber) (lists : ℕ → List Made) → FitsSeat ts notes lists → HasLogs (seat_of ts notes lists) ts
@@ -98,6 +100,7 @@ module _ (answer : Answer) (word value after : ℕ) where
     follows = all_follow (told_until 1 ts) 1 (λ t. covered (seen_number 2) (seen_number 2) refl t, tt);
     own_logs = h.own_logs;
     adds = h.adds;
+    order = h.order;
     all_seen = λ t. elim (title_tells its_title t) [
       | inl y ↦ subst (λ u. seen_among u (seen_number 2) ≤ told_of (told_until 1 ts) (counted_on u)) y.1 (lit≤ tt)
       | inr none ↦ rw none.0 (omega arith)
@@ -113,6 +116,7 @@ module _ (answer : Answer) (word value after : ℕ) where
     follows = all_follow (told_until 2 ts) 2 (λ t. covered (seen_number 2) (seen_number 3) refl t, (λ t. covered (seen_number 2) (seen_number 3) refl t, tt));
     own_logs = h.own_logs;
     adds = h.adds;
+    order = h.order;
     all_seen = λ t. elim (title_tells its_title t) [
       | inl y ↦ subst (λ u. seen_among u (seen_number 3) ≤ told_of (told_until 2 ts) (counted_on u)) y.1 (lit≤ tt)
       | inr none ↦ rw none.0 (omega arith)
@@ -128,6 +132,7 @@ module _ (answer : Answer) (word value after : ℕ) where
     follows = all_follow (told_until 3 ts) 3 (λ t. covered (seen_number 2) (seen_number 4) refl t, (λ t. covered (seen_number 2) (seen_number 4) refl t, tt));
     own_logs = h.own_logs;
     adds = h.adds;
+    order = h.order;
     all_seen = λ t. elim (title_tells its_title t) [
       | inl y ↦ subst (λ u. seen_among u (seen_number 4) ≤ told_of (told_until 3 ts) (counted_on u)) y.1 (lit≤ tt)
       | inr none ↦ rw none.0 (omega arith)

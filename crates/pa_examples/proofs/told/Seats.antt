@@ -1,5 +1,5 @@
 -- A seat with the logs of worked records, which has seen some numbers and lists, is as a seat's type keeps it.
-use Rattle.std.proofs.Common.{◌≡◌, ℕ, ◌+◌, ◌<◌, ◌≤◌, ltb, eqb, List, [], ◌∷◌, ◌++◌, length, map, refl, sym, ◌∙◌, ap, subst, arith, inl, inr}
+use Rattle.std.proofs.Common.{◌≡◌, ℕ, ◌+◌, ◌<◌, ◌≤◌, true, ltb, eqb, List, [], ◌∷◌, ◌++◌, length, map, refl, sym, ◌∙◌, ap, subst, arith, inl, inr}
 use Rattle.std.specs.List.{AllByRecursion as Each, sum_by}
 use Rattle.std.proofs.lemmas.List.Sums.{sum_by-le-sum_by}
 use Rattle.std.proofs.lemmas.Bool.{cases_Bool, cases_eq, ltb-true, ne_eqb}
@@ -17,11 +17,14 @@ use Rattle.pa_region.specs.Lists.{list_of, longer, made_with, entered_in, IsKnow
 use Rattle.pa_region.specs.Pairs.{amount_by, logged_of_by}
 use Rattle.pa_region.specs.AllReads.{HasAllLogs}
 use Rattle.pa_region.specs.Aware.{IsAware}
+use Rattle.pa_region.specs.Order.{Stamped, by_stake, IsLoggedIn, HasOneOrder}
 use Rattle.pa_region.specs.Start.{stakes_from}
 use Rattle.pa_region.specs.Totals.{added_as}
 use Rattle.pa_region.proofs.FirstLists.{stake_count}
 use Rattle.pa_region.proofs.Adding.{sum_map}
 use Rattle.pa_region.proofs.PairSums.{by_within}
+use Rattle.pa_region.proofs.OrderPart.{order_of_view, only_view}
+use Rattle.pa_region.proofs.Finding.{all_find, all_found}
 use Rattle.pa_region.proofs.Opens.{blank_long}
 use Rattle.pa_logs.specs.Told.{ToldRecord, told_of, log_of}
 use Rattle.pa_logs.specs.Reads.{KnowsAll}
@@ -55,12 +58,38 @@ module _ (ts : List ToldRecord) (notes : List SeenNumber) (lists : ℕ → List 
     ]
   ]
 
+-- One order of what the logs and the lists of such a seat say.
+--   stakes: each entry was made with one of the 16 stakes
+--   logs, lists: each log is what its stake did there, and each list what was entered
+--   found: each counted step and each look found the number of counted steps of its title before it
+pub record IsOrderOf (ts : List ToldRecord) (notes : List SeenNumber) (lists : ℕ → List Made) (all : List Stamped) : Type 0 where
+  pub stakes : Each (λ (m : Stamped). m.stake < 16) all
+  pub logs : (k : ℕ) → log_of k ts ≡ by_stake k all
+  pub lists_are : (q : ℕ) → list_of q (seat_of ts notes lists) ≡ entered_in q (map (λ (m : Stamped). m.entry) all)
+  pub found : all_find [] all ≡ true
+
+pub has_order : (ts : List ToldRecord) (notes : List SeenNumber) (lists : ℕ → List Made) (all : List Stamped) → IsOrderOf ts notes lists all → HasOneOrder (seat_of ts notes lists)
+has_order ts notes lists all is = record {
+  all = all;
+  ordered = record {
+    stakes = is.stakes;
+    logs = λ i v at_i. subst (IsLoggedIn all) (only_view (seat_of ts notes lists) i v at_i) (each_log (stakes_from 0 16));
+    lists = is.lists_are;
+    found = all_found [] all is.found;
+  };
+}
+  where
+    each_log : (ss : List Stake) → Each (λ (s : Stake). s.log ≡ by_stake s.number all) (map (with_log ts) ss)
+    each_log [] = tt
+    each_log (s ∷ ss) = (is.logs s.number, each_log ss)
+
 -- What is computed of the records, the numbers and the lists.
 --   knows: a view with these logs knows all of them
 --   is: what each stake made in a list is what its log entered there
 --   rises, makers, follows: what makers had seen rises, they had stakes, and the seat has seen it
 --   own_logs, all_seen: it has seen what the logs say, and no more
 --   adds: nothing was added to a totals word
+--   order: what the logs and the lists say is of one order
 pub record FitsSeat (ts : List ToldRecord) (notes : List SeenNumber) (lists : ℕ → List Made) : Type 0 where
   pub knows : KnowsAll (view_of ts) ts
   pub is : (q k : ℕ) → made_with k (list_of q (seat_of ts notes lists)) ≡ entered_in q (log_of k ts)
@@ -70,6 +99,7 @@ pub record FitsSeat (ts : List ToldRecord) (notes : List SeenNumber) (lists : �
   pub own_logs : told_of ts (unseen_by notes) ≡ 0
   pub adds : (q : ℕ) → told_of ts (added_as q) ≡ 0
   pub all_seen : (t : Title) → seen_among t notes ≤ told_of ts (counted_on t)
+  pub order : HasOneOrder (seat_of ts notes lists)
 
 -- What is computed of what the seat holds.
 --   raw_none: none of its bytes is raw
@@ -150,6 +180,7 @@ module _ (ts : List ToldRecord) (notes : List SeenNumber) (lists : ℕ → List 
     handles = h.handles;
     covered = λ r q. let a = fits.adds q in let b = weighed (added_as q) in let c = by_number r (added_as q) in omega arith;
     all_logs = λ every. all_logs h.long;
+    one_order = λ every. record { all = fits.order.all; ordered = order_of_view fits.order.all (seat_of ts notes lists) v refl refl fits.order.ordered };
     all_seen = λ every t. let seen = fits.all_seen t in let all = weighed (counted_on t) in omega arith;
   }
     where

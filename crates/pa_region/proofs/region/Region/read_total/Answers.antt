@@ -1,7 +1,7 @@
-use Rattle.std.proofs.Common.{◌≡◌, ℕ, ◌+◌, ◌-◌, ◌∙◌, refl, sym, ap, subst}
+use Rattle.std.proofs.Common.{◌≡◌, ℕ, ◌+◌, ◌-◌, ◌∙◌, sym, ap, subst}
 use Rattle.atomic_table.specs.Seated.{TableId}
 use Rattle.pa_region.specs.declared.view.View.{View}
-use Rattle.pa_region.specs.Views.{stake_of, logged_of, HasEveryStake}
+use Rattle.pa_region.specs.Views.{logged_of, HasEveryStake}
 use Rattle.pa_region.specs.Marks.{AreStakes}
 use Rattle.pa_region.specs.Shares.{Share, IsSeatSound}
 use Rattle.pa_region.specs.Totals.{added_to}

@@ -1,0 +1,112 @@
+-- The order of all that was done in the worked run of two threads, until the end of each phase, with any answer that its read may give.
+use Rattle.std.proofs.Common.{◌≡◌, ℕ, false, List, [], ◌∷◌, ◌++◌, map, lit<, refl}
+use Rattle.std.proofs.lemmas.Bool.{ne_eqb}
+use Rattle.pa_machine.specs.declared.word.Step.TheVariants.{Issue, Copy, Reset, Free}
+use Rattle.pa_machine.specs.Titles.{poison}
+use Rattle.pa_region.specs.declared.view.Entry.{Entry}
+use Rattle.pa_region.specs.declared.view.Entry.TheVariants.{Counted, Looked, Read}
+use Rattle.pa_region.specs.declared.view.Made.{Made}
+use Rattle.pa_region.specs.Moves.{no_deeds}
+use Rattle.pa_region.specs.Lists.{entered_in}
+use Rattle.pa_region.specs.Order.{Stamped, by_stake, HasOneOrder}
+use Rattle.pa_record.specs.declared.entry.Answer.{Answer}
+use Rattle.pa_logs.specs.Told.{ToldRecord, told_until, log_of}
+use Rattle.pa_logs.specs.Worked.{its_title}
+use Rattle.pa_examples.specs.told.Threads.{seen_number, took, filled, exchanged, the_take, the_fill, the_gift, the_taking}
+use Rattle.pa_examples.specs.told.OtherReads.{reading_so}
+use Rattle.pa_examples.specs.told.AllSaid.{lists_until, seat_until}
+use Rattle.pa_examples.proofs.told.PhaseEnds.{by_two}
+use Rattle.pa_examples.proofs.told.Played.{so_read}
+use Rattle.pa_examples.proofs.told.Seats.{list_cases, has_order}
+
+-- what each thread did, step by step
+abbrev by_first : Entry → Stamped
+by_first e = record { stake = 0; entry = e }
+
+abbrev by_second : Entry → Stamped
+by_second e = record { stake = 1; entry = e }
+
+-- in the first phase the first thread makes the slot, copies and gives
+abbrev until_1 : List Stamped
+until_1 =
+    by_first (took the_take) ∷ by_first (filled the_fill) ∷ by_first (Counted its_title Issue 0 0) ∷ by_first (Counted its_title Copy 0x1000001 0)
+    ∷ by_first (exchanged 0 the_gift 2) ∷ []
+
+-- in the second it frees the slot, and the second thread takes the raw_ptr and looks, before the free or behind it
+abbrev the_free : Stamped
+the_free = by_first (Counted its_title Free 0x2000003 0)
+
+abbrev the_look : ℕ → ℕ → List Stamped
+the_look word value = by_second (Looked its_title word) ∷ by_second (Read its_title 0 value no_deeds false false) ∷ []
+
+abbrev held_until_2 : ℕ → List Stamped
+held_until_2 value = until_1 ++ by_second (exchanged 1 the_taking 2) ∷ the_look 0x2000003 value ++ the_free ∷ []
+
+abbrev freed_until_2 : ℕ → List Stamped
+freed_until_2 value = until_1 ++ the_free ∷ by_second (exchanged 1 the_taking 2) ∷ the_look 0x3000002 value
+
+-- in the third the second thread reads again, and resets the raw_ptr
+abbrev last_of : List Stamped
+last_of = the_look 0x3000002 poison ++ by_second (Counted its_title Reset 0x3000002 0) ∷ []
+
+-- the records with an answer of the read
+abbrev told : Answer → ℕ → ℕ → ℕ → List ToldRecord
+told answer word value after = reading_so (so_read answer word value after)
+
+abbrev ListIn : List Stamped → ℕ → List Made → Type 0
+ListIn all q ms = ms ≡ entered_in q (map (λ (m : Stamped). m.entry) all)
+
+pub order_1 : (answer : Answer) (word value after : ℕ) → HasOneOrder (seat_until (told answer word value after) 1)
+order_1 answer word value after =
+    let ts = told_until 1 (told answer word value after) in
+    has_order ts (seen_number 2) (lists_until 1) until_1 (record {
+      stakes = (lit< tt, (lit< tt, (lit< tt, (lit< tt, (lit< tt, tt)))));
+      logs = by_two (λ k. log_of k ts ≡ by_stake k until_1) refl refl (λ k n0 n1. rw (ne_eqb 0 k n0) refl);
+      lists_are = list_cases ts (seen_number 2) (lists_until 1) (ListIn until_1) refl refl refl
+          (λ q n0 n4 n5. rw (ne_eqb 0 q n0, ne_eqb 4 q n4, ne_eqb 5 q n5) refl);
+      found = refl;
+    })
+
+pub held_2 : (answer : Answer) (value after : ℕ) → HasOneOrder (seat_until (told answer 0x2000003 value after) 2)
+held_2 answer value after =
+    let ts = told_until 2 (told answer 0x2000003 value after) in
+    has_order ts (seen_number 3) (lists_until 2) (held_until_2 value) (record {
+      stakes = (lit< tt, (lit< tt, (lit< tt, (lit< tt, (lit< tt, (lit< tt, (lit< tt, (lit< tt, (lit< tt, tt)))))))));
+      logs = by_two (λ k. log_of k ts ≡ by_stake k (held_until_2 value)) refl refl (λ k n0 n1. rw (ne_eqb 0 k n0, ne_eqb 1 k n1) refl);
+      lists_are = list_cases ts (seen_number 3) (lists_until 2) (ListIn (held_until_2 value)) refl refl refl
+          (λ q n0 n4 n5. rw (ne_eqb 0 q n0, ne_eqb 4 q n4, ne_eqb 5 q n5) refl);
+      found = refl;
+    })
+
+pub held_3 : (answer : Answer) (value after : ℕ) → HasOneOrder (seat_until (told answer 0x2000003 value after) 3)
+held_3 answer value after =
+    let ts = told_until 3 (told answer 0x2000003 value after) in
+    has_order ts (seen_number 4) (lists_until 3) (held_until_2 value ++ last_of) (record {
+      stakes = (lit< tt, (lit< tt, (lit< tt, (lit< tt, (lit< tt, (lit< tt, (lit< tt, (lit< tt, (lit< tt, (lit< tt, (lit< tt, (lit< tt, tt))))))))))));
+      logs = by_two (λ k. log_of k ts ≡ by_stake k (held_until_2 value ++ last_of)) refl refl (λ k n0 n1. rw (ne_eqb 0 k n0, ne_eqb 1 k n1) refl);
+      lists_are = list_cases ts (seen_number 4) (lists_until 3) (ListIn (held_until_2 value ++ last_of)) refl refl refl
+          (λ q n0 n4 n5. rw (ne_eqb 0 q n0, ne_eqb 4 q n4, ne_eqb 5 q n5) refl);
+      found = refl;
+    })
+
+pub freed_2 : (answer : Answer) (value after : ℕ) → HasOneOrder (seat_until (told answer 0x3000002 value after) 2)
+freed_2 answer value after =
+    let ts = told_until 2 (told answer 0x3000002 value after) in
+    has_order ts (seen_number 3) (lists_until 2) (freed_until_2 value) (record {
+      stakes = (lit< tt, (lit< tt, (lit< tt, (lit< tt, (lit< tt, (lit< tt, (lit< tt, (lit< tt, (lit< tt, tt)))))))));
+      logs = by_two (λ k. log_of k ts ≡ by_stake k (freed_until_2 value)) refl refl (λ k n0 n1. rw (ne_eqb 0 k n0, ne_eqb 1 k n1) refl);
+      lists_are = list_cases ts (seen_number 3) (lists_until 2) (ListIn (freed_until_2 value)) refl refl refl
+          (λ q n0 n4 n5. rw (ne_eqb 0 q n0, ne_eqb 4 q n4, ne_eqb 5 q n5) refl);
+      found = refl;
+    })
+
+pub freed_3 : (answer : Answer) (value after : ℕ) → HasOneOrder (seat_until (told answer 0x3000002 value after) 3)
+freed_3 answer value after =
+    let ts = told_until 3 (told answer 0x3000002 value after) in
+    has_order ts (seen_number 4) (lists_until 3) (freed_until_2 value ++ last_of) (record {
+      stakes = (lit< tt, (lit< tt, (lit< tt, (lit< tt, (lit< tt, (lit< tt, (lit< tt, (lit< tt, (lit< tt, (lit< tt, (lit< tt, (lit< tt, tt))))))))))));
+      logs = by_two (λ k. log_of k ts ≡ by_stake k (freed_until_2 value ++ last_of)) refl refl (λ k n0 n1. rw (ne_eqb 0 k n0, ne_eqb 1 k n1) refl);
+      lists_are = list_cases ts (seen_number 4) (lists_until 3) (ListIn (freed_until_2 value ++ last_of)) refl refl refl
+          (λ q n0 n4 n5. rw (ne_eqb 0 q n0, ne_eqb 4 q n4, ne_eqb 5 q n5) refl);
+      found = refl;
+    })
