@@ -33,31 +33,25 @@ use Rattle.pa_one_run.proofs.rows.Handles.{row_at}
 use Rattle.pa_core_run.specs.Fronts.{MadeIn}
 use Rattle.pa_core_run.proofs.Named.{made_unique}
 
--- an allocation that made a slot tells the usable number of its size
-row_usable : (r : Reg) (facts : Facts) (regs after : Regs) (reg size usable : ℕ) (seen : Seen) → AllocRow r facts regs reg size (answers.Made seen usable) after → usable ≡ facts.usable_of size
-row_usable Empty facts regs after reg size usable seen h = request_usable h
-  where
-    request_usable : RequestRow facts regs reg size (answers.Made seen usable) after → usable ≡ facts.usable_of size
-    request_usable (inl (large, is, becomes)) = absurd cc
-    request_usable (inr (inl (fits, other, is, becomes))) = cc
-    request_usable (inr (inr (fits, entry, is, becomes))) = absurd cc
-row_usable (Own s) facts regs after reg size usable seen h = absurd (let e = h.0 in cc)
-row_usable (Ref s) facts regs after reg size usable seen h = absurd (let e = h.0 in cc)
-row_usable Freed facts regs after reg size usable seen h = request_usable h
-  where
-    request_usable : RequestRow facts regs reg size (answers.Made seen usable) after → usable ≡ facts.usable_of size
-    request_usable (inl (large, is, becomes)) = absurd cc
-    request_usable (inr (inl (fits, other, is, becomes))) = cc
-    request_usable (inr (inr (fits, entry, is, becomes))) = absurd cc
-row_usable Cleared facts regs after reg size usable seen h = request_usable h
-  where
-    request_usable : RequestRow facts regs reg size (answers.Made seen usable) after → usable ≡ facts.usable_of size
-    request_usable (inl (large, is, becomes)) = absurd cc
-    request_usable (inr (inl (fits, other, is, becomes))) = cc
-    request_usable (inr (inr (fits, entry, is, becomes))) = absurd cc
+-- an allocation that made a slot reports the usable bytes of its size
+request_usable : (facts : Facts) (regs after : Regs) (reg size usable : ℕ) (seen : Seen) → RequestRow facts regs reg size (answers.Made seen usable) after →
+    usable ≡ facts.usable_of size
+request_usable facts regs after reg size usable seen (inl (large, is, becomes)) = absurd cc
+request_usable facts regs after reg size usable seen (inr (inl (fits, other, is, becomes))) = cc
+request_usable facts regs after reg size usable seen (inr (inr (fits, entry, is, becomes))) = absurd cc
+
+row_usable : (r : Reg) (facts : Facts) (regs after : Regs) (reg size usable : ℕ) (seen : Seen) →
+    AllocRow r facts regs reg size (answers.Made seen usable) after →
+    usable ≡ facts.usable_of size
+row_usable Empty facts regs after reg size usable seen row = request_usable facts regs after reg size usable seen row
+row_usable (Own s) facts regs after reg size usable seen row = absurd (let e = row.0 in cc)
+row_usable (Ref s) facts regs after reg size usable seen row = absurd (let e = row.0 in cc)
+row_usable Freed facts regs after reg size usable seen row = request_usable facts regs after reg size usable seen row
+row_usable Cleared facts regs after reg size usable seen row = request_usable facts regs after reg size usable seen row
 
 module _ (a : Parts) (h : IsFiled a) where
-  alloc_usable : (q : Played) (seen : Seen) (usable reg p size : ℕ) → Contains a.ps q → q.answer ≡ answers.Made seen usable → q.op ≡ ops.Alloc reg p size → usable ≡ usable_of size
+  pub alloc_usable : (q : Played) (seen : Seen) (usable reg p size : ℕ) → Contains a.ps q → q.answer ≡ answers.Made seen usable →
+      q.op ≡ ops.Alloc reg p size → usable ≡ usable_of size
   alloc_usable q seen usable reg p size among answer op =
       let (before, rest, parts) = parts_at a.ps q among in
       let at = row_at a before rest q h parts in

@@ -1,11 +1,10 @@
 -- Journals, the pool and exchanges of a run in the order of its lines: record by record, what its steps enter is what the list has on
 -- its line.
-use Rattle.std.proofs.Common.{◌≡◌, ℕ, zero, suc, ◌+◌, ◌<◌, ◌≤◌, ◌⊎◌, length, take, drop, List, [], ◌∷◌, ◌++◌, map, Option, Some, None, refl, sym, ◌∙◌, ap, subst, arith, inl, inr, append-nil}
+use Rattle.std.proofs.Common.{◌≡◌, ℕ, ◌+◌, ◌<◌, ◌≤◌, ◌⊎◌, List, [], ◌∷◌, ◌++◌, map, Option, Some, None, refl, sym, ◌∙◌, ap, subst, arith, inl, inr, append-nil}
 use Rattle.std.specs.Prelude.{Contains}
 use Rattle.std.specs.List.{cons_option, filter_map, flat_map, range_with_len}
 use Rattle.std.proofs.lemmas.Bool.{cases_eq, cases_lt, eq-eqb, ne_eqb}
 use Rattle.std.proofs.lemmas.List.Concat.{flat_map_single}
-use Rattle.std.proofs.lemmas.List.Elements.{Contains-append_cases}
 use Rattle.pa_machine.specs.declared.word.Step.{Step}
 use Rattle.pa_trace.specs.declared.script.Op.{Op}
 use Rattle.pa_trace.specs.declared.script.Op.TheVariants as ops
@@ -15,52 +14,31 @@ use Rattle.pa_record.specs.declared.entry.Answer.TheVariants as answers
 use Rattle.pa_record.specs.declared.numbered.Numbered.{Numbered}
 use Rattle.pa_record.specs.declared.root.RootEntry.{RootEntry}
 use Rattle.pa_record.specs.declared.root.RootAct.{RootAct}
-use Rattle.pa_record.specs.declared.root.RootAct.TheVariants.{Fill, Map, Full, Give, Purge}
+use Rattle.pa_record.specs.declared.root.RootAct.TheVariants.{Fill, Map, Full}
 use Rattle.pa_record.specs.Root.{asked_by}
 use Rattle.pa_record.proofs.Same.{same_root}
-use Rattle.pa_lists.proofs.Members.{not_in_none, in_cases}
+use Rattle.pa_lists.proofs.Members.{not_in_none}
 use Rattle.pa_lists.proofs.Elements.{in_one, same_cons, parts_at}
 use Rattle.pa_rules.specs.declared.played.Played.{Played}
 use Rattle.pa_rules.specs.Played.{mark_of, step_of}
-use Rattle.pa_rules.specs.Caches.{Cache, acts_of, OnlyActs, NoActs, batches, gives, purge_acts, spilled, FilledFirst, MadeRow, FullRow, ReturnRow, DoneRow, PurgedRow, CacheRow, unmap_at}
+use Rattle.pa_rules.specs.Caches.{Cache, acts_of, OnlyActs, NoActs, gives, spilled, FilledFirst, MadeRow, FullRow, ReturnRow, DoneRow, PurgedRow, CacheRow, unmap_at}
 use Rattle.pa_timeline.specs.Timeline.{Part, Entering, Swapping, Moment, asking_before, act_parts, entry_parts, answer_parts, slot_words, part_enters, part_asks, part_swaps, journal_made, asked_lines, swap_lines}
 use Rattle.pa_rules.specs.Registers.{usable_in}
 use Rattle.pa_one_run.specs.Parts.{Parts, entry_line, pool_line, cell_line}
 use Rattle.pa_one_run.specs.Before.{on}
 use Rattle.pa_one_run.proofs.Filed.{IsFiled}
 use Rattle.pa_one_run.proofs.lines.Cuts.{record_row, entries_recorded, pool_recorded, cells_recorded}
+use Rattle.pa_one_run.proofs.placing.CacheRows.{batch_asks_none, purge_asks_none}
 use Rattle.pa_one_run.proofs.roots.Asking.{asks_pool, asks_nothing}
+use Rattle.pa_one_run.proofs.rows.Rows.{swap_cases}
 use Rattle.pa_one_run.proofs.rows.Exchanges.{exchange_here, exchange_none, cell_steady}
 use Rattle.pa_ordered_runs.proofs.Pieces.{filter_map_flat, filter_map_map, filter_map_none, map_flat, flat_same, flat_none, in_range, by_lines}
 use Rattle.pa_ordered_runs.proofs.Steps.{moment, steps_in, moments_at, line_by_line, entries_kept, made_kept, done_kept}
 
--- ---- entries that ask the pool for nothing
-
-batch_asks_none : (n : ℕ) (xs : List Numbered) (act : RootAct) → Contains (batches n xs) act → asked_by act ≡ None
-batch_asks_none zero xs act among = absurd (not_in_none act among)
-batch_asks_none (suc n) [] act among = absurd (not_in_none act among)
-batch_asks_none (suc n) (x ∷ xs) act among = elim (in_cases (Give (take 16 (x ∷ xs))) act (batches n (drop 16 (x ∷ xs))) among) [
-  | inl e ↦ ap asked_by (sym e)
-  | inr rest ↦ batch_asks_none n (drop 16 (x ∷ xs)) act rest
-]
-
-purge_asks_none : (lists : ℕ → List Numbered) (class n : ℕ) (act : RootAct) → Contains (purge_acts lists class n) act → asked_by act ≡ None
-purge_asks_none lists class zero act among = ap asked_by (sym (in_one Purge act among))
-purge_asks_none lists class (suc n) act among =
-    elim (Contains-append_cases (gives (lists class)) (purge_acts lists (class + 1) n) act among) [
-      | inl here ↦ batch_asks_none (length (lists class)) (lists class) act here
-      | inr rest ↦ purge_asks_none lists (class + 1) n act rest
-    ]
+-- ---- journals past the partitions
 
 no_acts_past : (a : Parts) (line p : ℕ) → IsFiled a → a.partitions ≤ p → acts_of a.roots line p ≡ []
 no_acts_past a line p h past = ap (λ (es : List RootEntry). map (λ (e : RootEntry). e.act) (on entry_line line es)) (h.journals.none_past p past)
-
-swap_cases : (op : Op) (k : ℕ) → ((reg : ℕ) × (op ≡ ops.Swap k reg)) ⊎ ((reg : ℕ) → op ≡ ops.Swap k reg → ⊥)
-swap_cases (ops.Swap cell reg) k = elim (cases_eq cell k) [
-  | inl e ↦ inl (reg, ap {B = Op} (λ n. ops.Swap n reg) e)
-  | inr other ↦ inr (λ r e. let same : cell ≡ k = cc in other same)
-]
-swap_cases op k = inr (λ r e. cc)
 
 -- ---- the entries of a line
 

@@ -1,6 +1,5 @@
 -- What a record reads is what the steps before it left in its word.
 use Rattle.std.proofs.Common.{◌≡◌, ℕ, ◌-◌, ◌*◌, ◌%◌, ◌<◌, Bool, true, false, if◌then◌else◌, List, [], ◌∷◌, ◌++◌, map, Some, None, refl, sym, ◌∙◌, ap, subst, arith, inl, inr, drop, get_or}
-use Rattle.std.specs.Prelude.{Contains}
 use Rattle.pa_machine.specs.declared.word.SlotName.{SlotName}
 use Rattle.pa_machine.specs.Count.{number_of, held_of}
 use Rattle.pa_machine.specs.Run.{Mark}
@@ -12,11 +11,11 @@ use Rattle.pa_trace.specs.declared.script.Op.TheVariants as ops
 use Rattle.pa_record.specs.declared.entry.Seen.{Seen}
 use Rattle.pa_record.specs.declared.entry.Answer.{Answer}
 use Rattle.pa_record.specs.declared.entry.Answer.TheVariants as answers
-use Rattle.pa_lists.proofs.Elements.{in_middle, in_front, parts_at}
+use Rattle.pa_lists.proofs.Elements.{in_middle, in_front}
 use Rattle.pa_rules.specs.declared.register.Register.TheVariants.{Empty, Own, Ref, Freed, Cleared}
 use Rattle.pa_rules.specs.declared.played.Played.{Played}
 use Rattle.pa_rules.specs.Played.{mark_of, mark_at}
-use Rattle.pa_rules.specs.Registers.{Reg, Regs, Facts, Row, AllocRow, RequestRow, ReadRow, ReadFromRow, usable_in}
+use Rattle.pa_rules.specs.Registers.{Reg, Regs, Facts, Row, ReadRow, ReadFromRow, usable_in}
 use Rattle.pa_rules.specs.Contents.{IsReadExact, IsContent}
 use Rattle.pa_rules.specs.Sizes.{usable_of, slot_size_for}
 use Rattle.pa_timeline.specs.Timeline.{Part, Looking, Loading, slot_words, entry_parts, answer_parts, GivesAt, content_after, changed_to, is_of_slot}
@@ -29,6 +28,7 @@ use Rattle.pa_one_run.proofs.words.Found.{found_is}
 use Rattle.pa_one_run.proofs.roots.Classes.{made_class}
 use Rattle.pa_one_run.proofs.rows.Handles.{row_at, holds_made}
 use Rattle.pa_core_run.proofs.Contents.{content_one}
+use Rattle.pa_core_run.proofs.Lengths.{alloc_usable}
 use Rattle.pa_core_run.proofs.Values.{usable_made}
 use Rattle.pa_ordered_runs.proofs.Steps.{moment, steps_in, line_by_line}
 use Rattle.pa_ordered_runs.proofs.Leaving.{content_append}
@@ -78,31 +78,6 @@ module _ (facts : Facts) (regs next : Regs) (place : ℕ) (seen : Seen) (v : ℕ
   dangling_row Cleared row = absurd (let e = row.0 in cc)
 
 -- ---- a slot is of whole words
-
--- an allocation that made a slot reports the usable bytes of its size
-request_usable : (facts : Facts) (regs after : Regs) (reg size usable : ℕ) (seen : Seen) → RequestRow facts regs reg size (answers.Made seen usable) after →
-    usable ≡ facts.usable_of size
-request_usable facts regs after reg size usable seen (inl (large, is, becomes)) = absurd cc
-request_usable facts regs after reg size usable seen (inr (inl (fits, other, is, becomes))) = cc
-request_usable facts regs after reg size usable seen (inr (inr (fits, entry, is, becomes))) = absurd cc
-
-row_usable : (r : Reg) (facts : Facts) (regs after : Regs) (reg size usable : ℕ) (seen : Seen) →
-    AllocRow r facts regs reg size (answers.Made seen usable) after →
-    usable ≡ facts.usable_of size
-row_usable Empty facts regs after reg size usable seen row = request_usable facts regs after reg size usable seen row
-row_usable (Own s) facts regs after reg size usable seen row = absurd (let e = row.0 in cc)
-row_usable (Ref s) facts regs after reg size usable seen row = absurd (let e = row.0 in cc)
-row_usable Freed facts regs after reg size usable seen row = request_usable facts regs after reg size usable seen row
-row_usable Cleared facts regs after reg size usable seen row = request_usable facts regs after reg size usable seen row
-
-alloc_usable : (a : Parts) (h : IsFiled a) (q : Played) (seen : Seen) (usable reg p size : ℕ) → Contains a.ps q → q.answer ≡ answers.Made seen usable →
-    q.op ≡ ops.Alloc reg p size → usable ≡ usable_of size
-alloc_usable a h q seen usable reg p size among answer op =
-    let (before, rest, parts) = parts_at a.ps q among in
-    let at = row_at a before rest q h parts in
-    let row = subst (λ z. Row (facts_of a) (ops.Alloc reg p size) (at.all q.thread) z at.next) answer
-    (subst (λ o. Row (facts_of a) o (at.all q.thread) q.answer at.next) op at.row) in
-    row_usable (at.all q.thread reg) (facts_of a) (at.all q.thread) at.next reg size usable seen row
 
 -- the usable bytes of a slot that was made
 whole_words : (a : Parts) (s : SlotName) → IsFiled a → IsMadeIn a.ps s → usable_in a.ps s % 8 ≡ 0

@@ -171,7 +171,7 @@ full_entry a b before x i j cache next next' h is row row' =
 
 -- ---- a step
 
-batch_asks_none : (n : ℕ) (xs : List Numbered) (act : RootAct) → Contains (batches n xs) act → asked_by act ≡ None
+pub batch_asks_none : (n : ℕ) (xs : List Numbered) (act : RootAct) → Contains (batches n xs) act → asked_by act ≡ None
 batch_asks_none zero xs act among = absurd (not_in_none act among)
 batch_asks_none (suc n) [] act among = absurd (not_in_none act among)
 batch_asks_none (suc n) (x ∷ xs) act among = elim (in_cases (Give (take 16 (x ∷ xs))) act (batches n (drop 16 (x ∷ xs))) among) [
@@ -252,7 +252,7 @@ done_alike a b before x (Some step) seen cache next next' h made marked (inr (no
 
 -- ---- a purge
 
-purge_asks_none : (lists : ℕ → List Numbered) (class n : ℕ) (act : RootAct) → Contains (purge_acts lists class n) act → asked_by act ≡ None
+pub purge_asks_none : (lists : ℕ → List Numbered) (class n : ℕ) (act : RootAct) → Contains (purge_acts lists class n) act → asked_by act ≡ None
 purge_asks_none lists class zero act among = ap asked_by (sym (in_one Purge act among))
 purge_asks_none lists class (suc n) act among = elim (Contains-append_cases (gives (lists class)) (purge_acts lists (class + 1) n) act among) [
   | inl here ↦ batch_asks_none (length (lists class)) (lists class) act here

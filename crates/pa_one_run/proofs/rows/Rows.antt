@@ -338,7 +338,7 @@ answers_agree a b before rest rest' x y h k parts parts' same agrees placed valu
     row_alike (facts_of a) (facts_of b) x.op (one.all x.thread) x.answer y.answer one.next other.next alike
     (λ cell reg i j swaps is is'. swaps_agree a b before rest rest' x y cell reg i j h k parts parts' op line agrees swaps is is') one.row row'
 
-swap_cases : (op : Op) (k : ℕ) → ((reg : ℕ) × (op ≡ ops.Swap k reg)) ⊎ ((reg : ℕ) → op ≡ ops.Swap k reg → ⊥)
+pub swap_cases : (op : Op) (k : ℕ) → ((reg : ℕ) × (op ≡ ops.Swap k reg)) ⊎ ((reg : ℕ) → op ≡ ops.Swap k reg → ⊥)
 swap_cases (ops.Swap cell reg) k = elim (cases_eq cell k) [
   | inl e ↦ inl (reg, ap {B = Op} (λ n. ops.Swap n reg) e)
   | inr other ↦ inr (λ r e. let same : cell ≡ k = cc in other same)
