@@ -1,2 +1,5 @@
 mod AllTold
 mod Input
+mod Going
+mod Owned
+mod Finished

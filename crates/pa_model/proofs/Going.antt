@@ -1,0 +1,144 @@
+-- A player that others drive: before the first line, and a line more.
+use Rattle.std.proofs.Common.{◌≡◌, ℕ, ◌+◌, ◌<◌, ◌≤◌, List, [], ◌∷◌, ◌++◌, length, map, Option, Some, None, refl, sym, ap, ap₂, ◌∙◌, subst, arith, append_assoc}
+use Rattle.std.specs.List.{AllByRecursion}
+use Rattle.std.proofs.lemmas.List.{append-nil, map-append, length_push}
+use Rattle.pa_trace.specs.declared.line.Head.{Head}
+use Rattle.pa_trace.specs.declared.script.Line.{Line}
+use Rattle.pa_trace.specs.declared.script.Line.TheVariants.{Phase, Do}
+use Rattle.pa_trace.specs.declared.script.Op.{Op}
+use Rattle.pa_trace.specs.declared.script.Op.TheVariants.{Read}
+use Rattle.pa_trace.specs.Limits.{IsHeadWithin, IsLineWithin}
+use Rattle.pa_record.specs.declared.entry.Answer.{Answer}
+use Rattle.pa_record.specs.declared.entry.Entry.{Entry}
+use Rattle.pa_rules.specs.declared.played.Played.{Played}
+use Rattle.pa_rules.specs.Legal.{phases_in}
+use Rattle.pa_rules.specs.Played.{OpLine, op_lines, AreLines, entry_of, played}
+use Rattle.pa_rules.specs.Told.{Told}
+use Rattle.pa_rules.proofs.Recorded.{records_are_lines}
+use Rattle.pa_slot_effects.specs.Turns.{played_at}
+use Rattle.pa_slot_effects.proofs.Lines.{lines_more}
+use Rattle.pa_player.specs.Player.{Player as LinePlayer}
+use Rattle.pa_player.specs.Begun.{IsBegun}
+use Rattle.pa_player.specs.Playing.{journals, IsPlaying}
+use Rattle.pa_player.specs.Plays.{CanGoOn, IsReady, TellsOn, GoesTo, record_of}
+use Rattle.pa_player.specs.Told.{history_in}
+use Rattle.pa_player.proofs.Start.{begins_playing}
+use Rattle.pa_model.specs.declared.player.Player.{Player}
+use Rattle.pa_model.specs.Player.{records_so_far, WasPlayed, IsGoing, IsNew, GoesOnFrom, IsLater, IsRecorded, PlaysLine}
+
+-- ---- before the first line
+
+pub begins_new : (head : Head) (p : Player) → IsHeadWithin head.region head.partitions head.threads → IsBegun head.region head.partitions head.threads p.inner
+    → p.head ≡ head → p.lines.items ≡ [] → IsNew head p
+begins_new head p within begun at none =
+    let start : WasPlayed head [] p.inner = record {
+      within = record { head = within; lines = tt; few = omega arith };
+      playing = begins_playing head.region head.partitions head.threads p.inner within begun;
+    } in
+    record {
+      going = subst (λ h. WasPlayed h p.lines.items p.inner) (sym at) (subst (λ ls. WasPlayed head ls p.inner) (sym none) start);
+      head = at;
+      lines = none;
+      records = ap (λ ls. played ls p.inner.told.entries) none;
+    }
+
+-- ---- the records so far
+
+pub records_are : (p : Player) → (h : IsPlaying p.head.region p.head.partitions p.head.threads p.lines.items p.inner) → records_so_far p ≡ h.ps
+records_are p h = ap (played p.lines.items) (sym h.entries) ∙ records_are_lines.same p.lines.items h.ps h.told.lines
+
+-- a line that begins a phase is no op line
+no_op : (n phase : ℕ) (ls : List Line) → op_lines n phase (ls ++ Phase ∷ []) ≡ op_lines n phase ls
+no_op n phase [] = refl
+no_op n phase (Phase ∷ ls) = no_op (n + 1) (phase + 1) ls
+no_op n phase (Do thread op ∷ ls) =
+    let o : OpLine = record { line = n; thread = thread; phase = phase; op = op } in
+    ap (λ xs. o ∷ xs) (no_op (n + 1) phase ls)
+
+-- lines and records more
+records_more : (ls more : List Line) (ps added : List Played) (es new : List Entry) → map entry_of ps ≡ es → map entry_of added ≡ new → AreLines (ls ++ more) (ps ++ added)
+    → played (ls ++ more) (es ++ new) ≡ ps ++ added
+records_more ls more ps added es new old last lines =
+    let all : map entry_of (ps ++ added) ≡ es ++ new = map-append entry_of ps added ∙ ap₂ (λ xs ys. xs ++ ys) old last in
+    ap (played (ls ++ more)) (sym all) ∙ records_are_lines.same (ls ++ more) (ps ++ added) lines
+
+all_push : (P : Line → Type 0) (ls : List Line) (l : Line) → AllByRecursion P ls → P l → AllByRecursion P (ls ++ l ∷ [])
+all_push P [] l h last = (last, tt)
+all_push P (x ∷ ls) l h last = (h.0, all_push P ls l h.1 last)
+
+-- ---- a line more
+
+module _ (p q : Player) (line : Line) (going : IsGoing p) (few : length p.lines.items < 65535) (within : IsLineWithin p.head.partitions p.head.threads line) where
+  can_go_on : CanGoOn p.head.region p.head.partitions p.head.threads p.lines.items line p.inner
+  can_go_on = record { playing = going.playing; short = few; within = within; head = going.within.head }
+
+  pub ready : IsReady line p.inner
+  ready = record { region = p.head.region; partitions = p.head.partitions; threads = p.head.threads; ls = p.lines.items; can = can_go_on }
+
+  module _ (at : q.head ≡ p.head) (pushed : q.lines.items ≡ p.lines.items ++ line ∷ []) where
+    still_going : IsPlaying p.head.region p.head.partitions p.head.threads (p.lines.items ++ line ∷ []) q.inner → IsGoing q
+    still_going playing =
+        let old = going.within in
+        let next : WasPlayed p.head (p.lines.items ++ line ∷ []) q.inner = record {
+          within = record {
+            head = old.head;
+            lines = all_push (IsLineWithin p.head.partitions p.head.threads) p.lines.items line old.lines within;
+            few = omega (arith, few, length_push p.lines.items line);
+          };
+          playing = playing;
+        } in
+        subst (λ h. WasPlayed h q.lines.items q.inner) (sym at) (subst (λ ls. WasPlayed p.head ls q.inner) (sym pushed) next)
+
+    later : (added : List Played) (es : List Entry) → records_so_far q ≡ records_so_far p ++ added → TellsOn es p.inner q.inner → IsLater p q
+    later added es more tells ps r on = record {
+      records = (
+        added ++ on.records.0,
+        on.records.1 ∙ ap (λ xs. xs ++ on.records.0) more ∙ append_assoc (records_so_far p) added on.records.0,
+      );
+      journals = λ k.
+          let a = tells.journals k in
+          let b = on.journals k in
+          (a.0 ++ b.0, b.1 ∙ ap (λ xs. xs ++ b.0) a.1 ∙ append_assoc (journals p.inner k) a.0 b.0);
+      cells = λ k.
+          let a = tells.histories k in
+          let b = on.cells k in
+          (a.0 ++ b.0, b.1 ∙ ap (λ xs. xs ++ b.0) a.1 ∙ append_assoc (history_in p.inner.told k) a.0 b.0);
+    }
+
+    plays : (answer : Option Answer) (added : List Played) (es : List Entry) → IsPlaying p.head.region p.head.partitions p.head.threads (p.lines.items ++ line ∷ []) q.inner
+        → TellsOn es p.inner q.inner → IsRecorded (length p.lines.items + 2) (phases_in p.lines.items) line answer added
+        → map entry_of added ≡ es → AreLines (p.lines.items ++ line ∷ []) (going.playing.ps ++ added) → PlaysLine p line answer q
+    plays answer added es playing tells recorded last lines =
+        let old = going.playing in
+        let whole : played (p.lines.items ++ line ∷ []) (p.inner.told.entries ++ es) ≡ old.ps ++ added =
+        records_more p.lines.items (line ∷ []) old.ps added p.inner.told.entries es old.entries last lines in
+        let more : records_so_far q ≡ records_so_far p ++ added =
+        ap₂ played pushed tells.entries ∙ whole ∙ ap (λ xs. xs ++ added) (sym (records_are p old)) in
+        record {
+          going = still_going playing;
+          head = at;
+          lines = pushed;
+          added = added;
+          recorded = recorded;
+          records = more;
+          later = later added es more tells;
+        }
+
+-- the line was played with this answer
+pub plays_line : (p q : Player) (line : Line) (answer : Option Answer) → IsGoing p → length p.lines.items < 65535 → IsLineWithin p.head.partitions p.head.threads line
+    → q.head ≡ p.head → q.lines.items ≡ p.lines.items ++ line ∷ [] → GoesTo p.inner line answer q.inner → PlaysLine p line answer q
+plays_line p q Phase None going few within at pushed goes =
+    let to = goes p.head.region p.head.partitions p.head.threads p.lines.items (can_go_on p q Phase going few within) in
+    let old = going.playing in
+    let lines : AreLines (p.lines.items ++ Phase ∷ []) (old.ps ++ []) =
+    subst (λ xs. AreLines (p.lines.items ++ Phase ∷ []) xs) (sym (append-nil old.ps)) (old.told.lines ∙ sym (no_op 2 1 p.lines.items)) in
+    plays p q Phase going few within at pushed None [] [] to.0 to.1 refl refl lines
+plays_line p q Phase (Some answer) going few within at pushed goes = absurd goes
+plays_line p q (Do thread op) None going few within at pushed goes = absurd goes
+plays_line p q (Do thread op) (Some answer) going few within at pushed goes =
+    let to = goes p.head.region p.head.partitions p.head.threads p.lines.items (can_go_on p q (Do thread op) going few within) in
+    let old = going.playing in
+    let x : Played = played_at p.lines.items thread op answer in
+    let e : ℕ → List Entry = λ n. record { line = n; thread = thread; answer = answer } ∷ [] in
+    plays p q (Do thread op) going few within at pushed (Some answer) (x ∷ []) (record_of p.inner thread answer ∷ []) to.0 to.1 refl (ap e (sym old.line))
+    (lines_more p.lines.items old.ps thread op answer old.told.lines)

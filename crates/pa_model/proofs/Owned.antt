@@ -1,0 +1,110 @@
+-- What a register owns after the lines so far, in each run that goes on from there; and the read of an owner's first word.
+use Rattle.std.proofs.Common.{◌≡◌, ℕ, ◌+◌, ◌<◌, ◌≤◌, List, [], ◌∷◌, ◌++◌, length, Option, Some, None, Contains, refl, sym, ap, ◌∙◌, subst, arith, zero, suc}
+use Rattle.std.proofs.lemmas.List.Elements.{Contains-append_left}
+use Rattle.pa_machine.specs.declared.title.Title.{Title}
+use Rattle.pa_machine.specs.declared.word.SlotName.{SlotName}
+use Rattle.pa_machine.proofs.Runs.{same_slot_yes}
+use Rattle.pa_trace.specs.declared.script.Line.{Line}
+use Rattle.pa_trace.specs.declared.script.Line.TheVariants.{Phase, Do}
+use Rattle.pa_trace.specs.declared.script.Op.TheVariants.{Read}
+use Rattle.pa_record.specs.declared.entry.Answer.{Answer}
+use Rattle.pa_record.specs.declared.entry.Answer.TheVariants.{Made, Value}
+use Rattle.pa_record.specs.declared.entry.Seen.{Seen}
+use Rattle.pa_record.specs.declared.history.CellEntry.{CellEntry}
+use Rattle.pa_record.specs.declared.root.RootEntry.{RootEntry}
+use Rattle.pa_record.specs.Spans.{name_of}
+use Rattle.pa_record.proofs.PoolSteps.{slice_get_more}
+use Rattle.pa_rules.specs.declared.played.Played.{Played}
+use Rattle.pa_rules.specs.Cells.{IsExchange}
+use Rattle.pa_rules.specs.Registers.{AllRegs, RowsTo, no_regs, made_of, usable_or, usable_in}
+use Rattle.pa_rules.specs.Report.{HasSize}
+use Rattle.pa_rules.specs.Roots.{Journals}
+use Rattle.pa_rules.specs.Told.{Told}
+use Rattle.pa_slot_effects.specs.Known.{facts_of}
+use Rattle.pa_slot_effects.proofs.Rows.{rows_end, usable_made}
+use Rattle.pa_slot_effects.proofs.Words.{used_made}
+use Rattle.pa_player.specs.declared.handle.Handle.{Handle}
+use Rattle.pa_player.specs.declared.handle.Handle.TheVariants.{Empty, Own, Ref, Freed, Cleared}
+use Rattle.pa_player.specs.declared.table.Slot.{Slot}
+use Rattle.pa_player.specs.Playing.{journals, register_at, reg_of, shown, IsPlaying}
+use Rattle.pa_player.specs.Plays.{GoesTo, ReadsOwnOn}
+use Rattle.pa_player.specs.Tables.{slot_at, title_owned, IsIn}
+use Rattle.pa_player.proofs.Ended.{size_on}
+use Rattle.pa_player.proofs.Going.{let_out_sized}
+use Rattle.pa_model.specs.declared.player.Handed.{Handed}
+use Rattle.pa_model.specs.declared.player.Player.{Player}
+use Rattle.pa_model.specs.Player.{records_so_far, IsGoing, GoesOnFrom, OwnsNothing, IsOwned, AreRegsAfter, Owns, ReadsOwned, owned_of, owned_by}
+use Rattle.pa_model.proofs.Going.{records_are}
+
+-- ---- usable numbers
+
+made_here : (a : Answer) (seen : Seen) (n : ℕ) (s : SlotName) (x y : ℕ) → a ≡ Made seen n → seen.slot ≡ s → usable_or (made_of a) s x ≡ usable_or (made_of a) s y
+made_here a seen n s x y made at =
+    let one : (k : ℕ) → usable_or (made_of a) s k ≡ n = λ k. ap (λ b. usable_or (made_of b) s k) made ∙ (rw (same_slot_yes seen.slot s at) refl) in
+    one x ∙ sym (one y)
+
+-- records more don't change that of a slot that was made before
+usable_more : (ps more : List Played) (s : SlotName) (x : Played) (seen : Seen) (n : ℕ) → Contains ps x → x.answer ≡ Made seen n → seen.slot ≡ s
+    → usable_in (ps ++ more) s ≡ usable_in ps s
+usable_more [] more s x seen n c made at = absurd (omega (arith, c.1))
+usable_more (p ∷ ps) more s x seen n (zero, lt, same) made at =
+    made_here p.answer seen n s (usable_in (ps ++ more) s) (usable_in ps s) (ap (λ (y : Played). y.answer) same ∙ made) at
+usable_more (p ∷ ps) more s x seen n (suc i, lt, same) made at =
+    ap (usable_or (made_of p.answer) s) (usable_more ps more s x seen n (i, omega (arith, lt), same) made at)
+
+-- ---- what a register owns
+
+owned_here : (roots : Journals) (slots : List Slot) (h : Handle)
+    → ((i : ℕ) → i < length slots → HasSize roots (slot_at slots i).partition (name_of (slot_at slots i).title) (slot_at slots i).title.len)
+    → IsIn (length slots) h → IsOwned roots (reg_of slots h) (owned_of (title_owned slots h))
+owned_here roots slots Empty sized among = tt
+owned_here roots slots (Own i) sized among = (refl, sized i among)
+owned_here roots slots (Ref i) sized among = tt
+owned_here roots slots Freed sized among = tt
+owned_here roots slots Cleared sized among = tt
+
+pub owns : (p : Player) (thread reg : ℕ) → IsGoing p → Owns p thread reg (owned_by p thread reg)
+owns p thread reg going ps r on =
+    let h = going.playing in
+    let a = shown p.inner in
+    let is : records_so_far p ≡ h.ps = records_are p h in
+    let rows : RowsTo (facts_of (usable_in ps) r.cells) no_regs h.ps a.regs = rows_end a.word a.word a.usable (usable_in ps) a.cells r.cells (record {
+      used = λ s up. up;
+      sizes = λ s up.
+          let m = used_made h.ps a.word s h.told.runs up in
+          let whole : ps ≡ h.ps ++ on.records.0 = on.records.1 ∙ ap (λ xs. xs ++ on.records.0) is in
+          ap (λ xs. usable_in xs s) whole ∙ usable_more h.ps on.records.0 s m.maker m.seen m.usable m.among m.made m.slot
+          ∙ usable_made a.usable h.ps m.maker m.seen m.usable s h.told.sized m.among m.made m.slot;
+      exchanges = λ k j e at.
+          let c = on.cells k in
+          subst (λ xs. IsExchange (λ n. xs) k j e) (sym c.1) (slice_get_more (a.cells k) c.0 j e at);
+    }) no_regs h.ps a.regs h.told.rows in
+    let sized : (i : ℕ) → i < length p.inner.table → HasSize r.roots (slot_at p.inner.table i).partition (name_of (slot_at p.inner.table i).title) (slot_at p.inner.table i).title.len =
+    λ i lt.
+    let x = slot_at p.inner.table i in
+    let c = on.journals x.partition in
+    size_on (journals p.inner) r.roots x.partition (name_of x.title) x.title.len
+    (λ e member. subst (λ es. Contains es e) (sym c.1) (Contains-append_left (journals p.inner x.partition) c.0 e member))
+    (let_out_sized (journals p.inner) x x.class (h.slots.let_out i lt)) in (
+      a.regs,
+      subst (λ xs. AreRegsAfter ps r xs a.regs) (sym is) rows,
+      owned_here r.roots p.inner.table (register_at p.inner thread reg) sized (h.shaped.held thread reg),
+    )
+
+-- ---- the read of an owner's first word
+
+owner_of : (slots : List Slot) (h : Handle) (x : Handed) → owned_of (title_owned slots h) ≡ Some x → (i : ℕ) × (h ≡ Own i)
+owner_of slots Empty x is = absurd cc
+owner_of slots (Own i) x is = (i, refl)
+owner_of slots (Ref i) x is = absurd cc
+owner_of slots Freed x is = absurd cc
+owner_of slots Cleared x is = absurd cc
+
+pub reads_owned : (p : Player) (line : Line) (answer : Option Answer) (q : Player) → GoesTo p.inner line answer q.inner → ReadsOwnOn p.inner line answer → ReadsOwned p line answer
+reads_owned p Phase answer q goes reads thread reg h is owns = absurd cc
+reads_owned p (Do t op) None q goes reads thread reg h is owns = absurd goes
+reads_owned p (Do t op) (Some answer) q goes reads thread reg h is owns =
+    let own = owner_of p.inner.table (register_at p.inner thread reg) h owns in
+    let first : ReadsOwnOn p.inner (Do thread (Read reg 0)) (Some answer) = subst (λ l. ReadsOwnOn p.inner l (Some answer)) is reads in
+    let found = first own.0 own.1 refl in
+    (found.0, found.1, ap (λ a. Some a) found.2)

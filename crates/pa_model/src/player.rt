@@ -1,0 +1,120 @@
+ghost use Rattle.std.specs.Prelude.{◌≡◌, ◌<◌, IfOk, IfSome, length};
+ghost use Rattle.pa_trace.specs.Limits.{IsHeadWithin, IsLineWithin, register_count};
+ghost use Rattle.pa_record.specs.declared.run.Run.{Run};
+ghost use Rattle.pa_model.specs.Player.{IsFinished, IsGoing, IsNew, Owns, PlaysLine, ReadsOwned, owned_by, owned_of, trace_so_far};
+
+use pa_machine::{OutOfMemory, SlotName, Title};
+use pa_player::{ListOutput, Player as LinePlayer, Told};
+use pa_record::{Answer, Run};
+use pa_trace::{Head, Line, Lines, Trace};
+use std::alloc::Global;
+
+/// A trace that is played line by line, by lines that a caller chooses as it goes. It keeps its lines.
+#[derive(Drop)]
+pub struct Player {
+    pub(crate) inner: LinePlayer<Told<ListOutput>>,
+    pub(crate) head: Head,
+    pub(crate) lines: Vec<Line>,
+    pub(crate) alloc: Global,
+}
+
+/// The slot of an owner: its name, its length in bytes, with the count word, and its partition.
+#[derive(Clone, Copy, Debug, PartialEq, Eq)]
+pub struct Handed {
+    pub slot: SlotName,
+    pub len: u32,
+    pub partition: u32,
+}
+
+impl Player {
+    /// No line yet: `region` super pages, 1 to 16, `partitions`, 1 to 4, and `threads`, 1 to 16. Out of memory is the only
+    /// error.
+    pub fn new(
+        alloc: Global,
+        region: u32,
+        partitions: u32,
+        threads: u32,
+    ) -> Result<Player, OutOfMemory>
+        requires { IsHeadWithin region partitions threads }
+        ensures { IfOk result (IsNew (record { region = region; partitions = partitions; threads = threads })) }
+    {
+        let told = Told::new(alloc, ListOutput::new(alloc, partitions, 0)?)?;
+        Ok(Player {
+            inner: LinePlayer::new(alloc, region, partitions, threads, told)?,
+            head: Head {
+                region,
+                partitions,
+                threads,
+            },
+            lines: Vec::new(alloc),
+            alloc,
+        })
+    }
+
+    /// Plays a line. Returns its answer, and none of a line that begins a phase. Out of memory is the only error; after it
+    /// the player can't be used.
+    pub fn line(&mut self, line: Line) -> Result<Option<Answer>, OutOfMemory>
+        requires going { IsGoing self.old }
+        requires few { length self.old.lines.items < 65535 }
+        requires within { IsLineWithin self.old.head.partitions self.old.head.threads line }
+        ensures played { IfOk result (λ answer. PlaysLine self.old line answer self.new) }
+        ensures owned { IfOk result (ReadsOwned self.old line) }
+    {
+        let answer = self.inner.line(line)?;
+        self.lines.push(line)?;
+        Ok(answer)
+    }
+
+    /// The slot that a register of a thread owns after the lines so far. `None` exactly if it owns none.
+    pub fn own(&self, thread: u32, reg: u32) -> Option<Handed>
+        requires going { IsGoing self.now }
+        requires thread { thread < self.now.head.threads }
+        requires reg { reg < register_count }
+        ensures owned_by { result ≡ owned_by self.now thread reg }
+        ensures owned { Owns self.now thread reg result }
+        ensures partition { IfSome result (λ h. h.partition < self.now.head.partitions) }
+    {
+        owned_by(self.inner.owned(thread, reg))
+    }
+
+    /// The run of the lines, in their order. Out of memory is the only error.
+    pub fn finish(self) -> Result<Run, OutOfMemory>
+        requires { IsGoing self }
+        ensures { IfOk result (IsFinished self (trace_so_far self)) }
+    {
+        let (_, run) = self.finish_traced()?;
+        Ok(run)
+    }
+
+    /// The trace of the lines, and its run, in their order. Out of memory is the only error.
+    pub fn finish_traced(self) -> Result<(Trace, Run), OutOfMemory>
+        requires { IsGoing self }
+        ensures { IfOk result (λ both. IsFinished self both.0 both.1) }
+    {
+        let run = self.inner.finish()?.into_run(self.alloc)?;
+        let trace = Trace {
+            region: self.head.region,
+            partitions: self.head.partitions,
+            threads: self.head.threads,
+            lines: Lines::of(self.lines),
+        };
+        Ok((trace, run))
+    }
+}
+
+// The slot of a title, and its partition.
+fn owned_by(found: Option<(Title, u32)>) -> Option<Handed>
+    ensures { result ≡ owned_of found }
+{
+    match found {
+        Some((title, partition)) => Some(Handed {
+            slot: SlotName {
+                start: title.start,
+                born: title.born,
+            },
+            len: title.len,
+            partition,
+        }),
+        None => None,
+    }
+}
