@@ -12,7 +12,7 @@ use Rattle.pa_audit_input.specs.Input.{IsAudited}
 use Rattle.pa_audit_input.specs.Judged.{IsLegalInput, IsRefutedInput, IsVerdictOn}
 use Rattle.pa_audit_input.proofs.Parting.{no_audit_fault, one_audit_fault}
 use Rattle.pa_cli.specs.declared.command.Command.{Command}
-use Rattle.pa_cli.specs.declared.command.Command.TheVariants.{Replay, Model, Audit, Layout, Help, Version}
+use Rattle.pa_cli.specs.declared.command.Command.TheVariants.{Replay, Model, Audit, Layout, Gen, Help, Version}
 use Rattle.pa_cli.specs.declared.command.Command.TheVariants as commands
 use Rattle.pa_cli.specs.declared.status.Status.{Status}
 use Rattle.pa_cli.specs.declared.status.Status.TheVariants.{Done, BadCommand, BadLine, Limit, ReadFault, WriteFault, OutOfMemory, NotLegal}
@@ -112,6 +112,7 @@ output_input Audit bytes before after out reads told h =
     (input.trace, input.run, input.lines, subst (IsAudited input.trace input.run input.lines) (read_these before.told bytes h.0.bytes told h.0.read.all) input.input)
 output_input (Layout size) bytes before after out reads told h = absurd reads
 output_input (commands.Trace rounds key) bytes before after out reads told h = absurd reads
+output_input (Gen rounds key) bytes before after out reads told h = absurd reads
 output_input Help bytes before after out reads told h = absurd reads
 output_input Version bytes before after out reads told h = absurd reads
 
@@ -167,6 +168,7 @@ output_legal Model bytes before after out reads told h = absurd cc
 output_legal Audit bytes before after out reads told h = subst IsLegalInput (read_these before.told bytes h.0.bytes told h.0.read.all) h.0.legal
 output_legal (Layout size) bytes before after out reads told h = absurd cc
 output_legal (commands.Trace rounds key) bytes before after out reads told h = absurd cc
+output_legal (Gen rounds key) bytes before after out reads told h = absurd cc
 output_legal Help bytes before after out reads told h = absurd cc
 output_legal Version bytes before after out reads told h = absurd cc
 

@@ -1,14 +1,16 @@
--- What `replay` and `model` print.
-use Rattle.std.proofs.Common.{ℕ, List, Some, refl}
+-- What `replay`, `model` and `gen` print.
+use Rattle.std.proofs.Common.{◌≡◌, ℕ, List, Some, refl}
 use Rattle.pa_trace.specs.declared.script.Trace.{Trace}
 use Rattle.pa_trace.specs.Limits.{IsWithinLimits, most_bytes}
 use Rattle.pa_record.specs.declared.run.Run.{Run}
+use Rattle.pa_trace.specs.Generated.{IsGenerated}
 use Rattle.pa_record.specs.RunText.{IsRunText}
+use Rattle.pa_summary.specs.SummaryText.{summary_text}
 use Rattle.pa_one_run.specs.Laws.{OneThreadInFileOrder}
 use Rattle.pa_runner.specs.Whole.{IsHeldRun}
 use Rattle.pa_model.specs.Played.{IsInputPlayed}
 use Rattle.pa_cli.specs.Call.{Stream, IsRead}
-use Rattle.pa_cli.specs.Output.{output_with, IsReplayedAs, IsModelOutput}
+use Rattle.pa_cli.specs.Output.{output_with, IsReplayedAs, IsModelOutput, IsGenOutput}
 use Rattle.pa_cli.proofs.Refusing.{read_whole}
 
 -- what is printed of an input as it is played is the output of `model`
@@ -36,4 +38,20 @@ run_replayed t r words text limits one_thread played printed = record {
     printed = printed;
     alone = λ one. one_thread t r limits one played.legal;
   };
+}
+
+-- what is written of a run of a generated trace that threads played is the output of `gen`
+pub run_summed : (rounds key : ℕ) (t : Trace) (r : Run) (words text : List ℕ) → IsGenerated rounds key t → IsHeldRun t r words
+    → text ≡ summary_text rounds key r → IsGenOutput rounds key (output_with text (Some r) (Some words))
+run_summed rounds key t r words text generated played printed = record {
+  trace = t;
+  run = r;
+  words = words;
+  generated = generated;
+  has_run = refl;
+  has_region = refl;
+  legal = played.legal;
+  held = played.held;
+  long = played.long;
+  printed = printed;
 }

@@ -4,7 +4,7 @@ use Rattle.pa_text.specs.Numeral.{IsNumeral}
 use Rattle.pa_trace.specs.Limits.{most_bytes}
 use Rattle.pa_audit_input.specs.Input.{most_audited}
 use Rattle.pa_cli.specs.declared.command.Command.{Command}
-use Rattle.pa_cli.specs.declared.command.Command.TheVariants.{Replay, Model, Audit, Layout, Trace, Help, Version}
+use Rattle.pa_cli.specs.declared.command.Command.TheVariants.{Replay, Model, Audit, Layout, Trace, Gen, Help, Version}
 
 -- the one word `replay`, and the one word `model`
 abbrev pub IsReplay : List (List ℕ) → Type 0
@@ -22,11 +22,19 @@ abbrev pub IsLayout : ℕ → List (List ℕ) → Type 0
 IsLayout size words =
     (number : List ℕ) × (words ≡ codes "layout" ∷ number ∷ []) × IsNumeral size number × (size ≤ 4294967295)
 
--- the word `trace`, the rounds, 1 to 800, and a key of 64 bits, both in decimal
-abbrev pub IsTrace : ℕ → ℕ → List (List ℕ) → Type 0
-IsTrace rounds key words =
-    (many number : List ℕ) × (words ≡ codes "trace" ∷ many ∷ number ∷ [])
+-- the word, the rounds, 1 to 800, and a key of 64 bits, both in decimal
+abbrev pub IsDrawn : List ℕ → ℕ → ℕ → List (List ℕ) → Type 0
+IsDrawn word rounds key words =
+    (many number : List ℕ) × (words ≡ word ∷ many ∷ number ∷ [])
     × IsNumeral rounds many × (1 ≤ rounds) × (rounds ≤ 800) × IsNumeral key number × (key ≤ 18446744073709551615)
+
+-- the word `trace`, the rounds and a key
+abbrev pub IsTrace : ℕ → ℕ → List (List ℕ) → Type 0
+IsTrace rounds key words = IsDrawn (codes "trace") rounds key words
+
+-- the word `gen`, the rounds and a key
+abbrev pub IsGen : ℕ → ℕ → List (List ℕ) → Type 0
+IsGen rounds key words = IsDrawn (codes "gen") rounds key words
 
 -- the one word `--help`, and the one word `--version`
 abbrev pub IsHelp : List (List ℕ) → Type 0
@@ -42,6 +50,7 @@ AsksFor Model words = IsModel words
 AsksFor Audit words = IsAudit words
 AsksFor (Layout size) words = IsLayout size words
 AsksFor (Trace rounds key) words = IsTrace rounds key words
+AsksFor (Gen rounds key) words = IsGen rounds key words
 AsksFor Help words = IsHelp words
 AsksFor Version words = IsVersion words
 
@@ -90,6 +99,7 @@ needs_of Model = needing ReadsTrace false true
 needs_of Audit = needing ReadsRun false true
 needs_of (Layout size) = needing ReadsNothing false false
 needs_of (Trace rounds key) = needing ReadsNothing false true
+needs_of (Gen rounds key) = needing ReadsNothing true true
 needs_of Help = needing ReadsNothing false false
 needs_of Version = needing ReadsNothing false false
 

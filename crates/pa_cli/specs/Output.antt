@@ -10,11 +10,12 @@ use Rattle.pa_rules.specs.Told.{told_by}
 use Rattle.pa_rules.specs.Legal.{IsLegal, IsFileRun}
 use Rattle.pa_rules.specs.Held.{IsHeldIn}
 use Rattle.pa_core_run.specs.Playing.{HasCoreRun}
+use Rattle.pa_summary.specs.SummaryText.{summary_text}
 use Rattle.pa_audit_input.specs.Input.{most_audited}
 use Rattle.pa_audit_input.specs.Judged.{IsLegalInput}
 use Rattle.pa_cli.specs.Call.{Stream, Call, IsReadWhole}
 use Rattle.pa_cli.specs.declared.command.Command.{Command}
-use Rattle.pa_cli.specs.declared.command.Command.TheVariants.{Replay, Model, Audit, Layout, Help, Version}
+use Rattle.pa_cli.specs.declared.command.Command.TheVariants.{Replay, Model, Audit, Layout, Gen, Help, Version}
 use Rattle.pa_cli.specs.declared.command.Command.TheVariants as commands
 use Rattle.pa_cli.specs.Command.{AsksFor}
 use Rattle.pa_cli.specs.LayoutText.{IsLayoutText}
@@ -93,6 +94,20 @@ pub record IsGeneratedText (rounds key : ℕ) (text : List ℕ) : Type 0 where
   pub generated : IsGenerated rounds key trace
   pub printed : IsTraceText trace text
 
+-- The output of `gen`: the text is the summary of a run of the trace generated from this number of rounds and this key. The run is a legal
+-- run of that trace, and the region that was closed after it holds it, whose words are those of its super pages.
+pub record IsGenOutput (rounds key : ℕ) (out : Output) : Type 0 where
+  pub trace : Trace
+  pub run : Run
+  pub words : List ℕ
+  pub generated : IsGenerated rounds key trace
+  pub has_run : out.run ≡ Some run
+  pub has_region : out.region ≡ Some words
+  pub legal : IsLegal trace run
+  pub held : IsHeldIn trace (told_by run) words
+  pub long : length words ≡ 262144 * trace.region
+  pub printed : out.text ≡ summary_text rounds key run
+
 -- the output of each command, by the source before and after the call
 abbrev pub IsOutputOf : Command → Stream → Stream → Output → Type 0
 IsOutputOf Replay before after out = IsReplayOutput before after out
@@ -100,6 +115,7 @@ IsOutputOf Model before after out = IsModelOutput before after out.text × HasNo
 IsOutputOf Audit before after out = IsAuditOutput before after out.text × HasNoRun out.run out.region
 IsOutputOf (Layout size) before after out = IsLayoutText size out.text × HasNoRun out.run out.region
 IsOutputOf (commands.Trace rounds key) before after out = IsGeneratedText rounds key out.text × HasNoRun out.run out.region
+IsOutputOf (Gen rounds key) before after out = IsGenOutput rounds key out
 IsOutputOf Help before after out = (out.text ≡ help_text) × HasNoRun out.run out.region
 IsOutputOf Version before after out = (out.text ≡ version_text) × HasNoRun out.run out.region
 

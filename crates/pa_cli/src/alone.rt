@@ -95,7 +95,7 @@ fn text_of<S: Source>(alloc: Global, command: Command, source: &mut S) -> Result
         Command::Trace { rounds, key } => Ok(Printed::Made(write_generated(alloc, rounds, key)?)),
         Command::Help => Ok(Printed::Fixed(help())),
         Command::Version => Ok(Printed::Fixed(VERSION)),
-        Command::Replay => unreachable!(),
+        Command::Replay | Command::Gen { rounds: _, key: _ } => unreachable!(),
     }
 }
 

@@ -20,6 +20,9 @@ pub enum Command {
     Layout(u32),
     /// Prints the trace generated in this number of rounds, 1 to 800, with random numbers from this key.
     Trace { rounds: u32, key: u64 },
+    /// Plays the trace generated in this number of rounds, 1 to 800, with random numbers from this key, each thread's lines on a thread of
+    /// its own, and prints a summary of the run.
+    Gen { rounds: u32, key: u64 },
     /// Prints the commands and what they print.
     Help,
     /// Prints the program's name and version.
@@ -45,7 +48,7 @@ impl Command {
         ensures { result ≡ (needs_of self.now).threads }
     {
         match self {
-            Command::Replay => true,
+            Command::Replay | Command::Gen { rounds: _, key: _ } => true,
             Command::Model
             | Command::Audit
             | Command::Layout(_)
@@ -82,24 +85,27 @@ impl Command {
         }
     }
 
-    // The command that three words ask for: `trace`, the rounds and a key.
+    // The command that three words ask for: `trace` or `gen`, the rounds and a key.
     fn of_three(word: &String, rounds: &String, key: &String) -> Option<Command>
         ensures asked { IfSome result (λ command. AsksFor command (string_bytes word.now ∷ string_bytes rounds.now ∷ string_bytes key.now ∷ [])) }
         ensures none { IfNone result (IsCommand (string_bytes word.now ∷ string_bytes rounds.now ∷ string_bytes key.now ∷ []) → ⊥) }
     {
-        if word.as_str() == "trace" {
-            Some(Command::Trace {
+        match word.as_str() {
+            "trace" => Some(Command::Trace {
                 rounds: rounds_in(rounds)?,
                 key: whole_key(key)?,
-            })
-        } else {
-            None
+            }),
+            "gen" => Some(Command::Gen {
+                rounds: rounds_in(rounds)?,
+                key: whole_key(key)?,
+            }),
+            _ => None,
         }
     }
 }
 
-/// Whether the words are those of a command that plays threads, so that its call may wait: `replay`. All other words are answered by
-/// `run_alone`.
+/// Whether the words are those of a command that plays threads, so that its call may wait: `replay` or `gen`. All other words are
+/// answered by `run_alone`.
 #[tactic(auto, using(crate::proofs::Commands::threads_asked, crate::proofs::Commands::alone_asked))]
 pub fn plays_threads(words: &[String]) -> bool
     ensures threads { result ≡ true → AsksForThreads (map string_bytes words.now) }

@@ -1,5 +1,5 @@
-//! The program's one call: it takes the words of a command, a source and a sink, and returns a status, and for a replay its run
-//! and the closed region.
+//! The program's one call: it takes the words of a command, a source and a sink, and returns a status, and for `replay` and
+//! `gen` the run and the closed region.
 //!
 //! Refusals come in this order: the words, a fault of the source, the first faulty line, memory, a run that isn't legal, a fault of
 //! the sink. The output is made whole before its first byte is written, so running out of memory never follows a written byte.

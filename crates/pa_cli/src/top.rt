@@ -1,8 +1,8 @@
-ghost use Rattle.std.specs.Prelude.{◌≡◌, ◌↔◌, true, map, string_bytes, IfOk, IfErr};
+ghost use Rattle.std.specs.Prelude.{◌≡◌, ◌↔◌, ◌≤◌, true, map, string_bytes, IfOk, IfErr};
 ghost use Rattle.pa_cli.specs.Call.{call_of, stream_of};
 ghost use Rattle.pa_cli.specs.Command.{IsCommand, IsAsked, AsksForThreads, ReadsTrace, ReadsSome, needing, needs_of};
 ghost use Rattle.pa_cli.specs.Cause.{Caused, ReadsForInput, TellsNoRun, IsRightCall, IsRefusal};
-ghost use Rattle.pa_cli.specs.Output.{output_with, IsOutputOf, IsTraceRead, IsReplayOutput, IsReplayedAs};
+ghost use Rattle.pa_cli.specs.Output.{output_with, IsOutputOf, IsTraceRead, IsReplayOutput, IsReplayedAs, IsGenOutput};
 ghost use Rattle.pa_trace.specs.Limits.{IsWithinLimits};
 
 use crate::alone::run_alone;
@@ -16,15 +16,16 @@ use pa_machine::OutOfMemory;
 use pa_one_run::one_thread_in_file_order;
 use pa_record::write_run;
 use pa_runner::{Gate, run_trace};
-use pa_trace::{MOST_BYTES, Trace, read_trace};
+use pa_summary::write_summary;
+use pa_trace::{MOST_BYTES, Trace, generate, read_trace};
 use std::alloc::Global;
 use std::marker::Sync;
 use std::sync::Wait;
 use std::thread::Threads;
 
 /// Does what the words ask for. `replay` reads a trace from the source, plays each thread's lines on a thread of its own if one can be
-/// had, with the gate called around each line, and writes the text of that run to the sink; it may wait. All other words are answered
-/// by `run_alone`, which can't wait.
+/// had, with the gate called around each line, and writes the text of that run to the sink. `gen ROUNDS KEY` plays a generated trace in
+/// the same way, and writes a summary of its run. Both may wait. All other words are answered by `run_alone`, which can't wait.
 #[tactic(auto, using(crate::proofs::Right::alone_right))]
 pub fn run<R: Threads + Wait + Sync, S: Source, K: Sink, G: Gate>(
     rt: &R,
@@ -38,11 +39,11 @@ pub fn run<R: Threads + Wait + Sync, S: Source, K: Sink, G: Gate>(
     ensures command { result.status ≡ Status.BadCommand ↔ ¬ IsCommand (map string_bytes words.now) }
 
     // The status has its cause, and leaves source and sink as that cause says. Of `replay` it says that the run whose text is written
-    // is a legal run of the trace, and that the closed region holds it; of `model` that what is written is the text of the trace's
-    // run in the order of its lines, which is legal and has a run of the core; of `audit` that the run that was read is a legal one of
-    // the trace before it, or by which clause and at which line it isn't. Only these three read. A good input is played or judged, and
-    // a faulty one refused; the other commands answer. A run and a region are returned exactly if threads played and the output was
-    // written.
+    // is a legal run of the trace, and that the closed region holds it; of `gen` the same of the generated trace and the run whose
+    // summary is written; of `model` that what is written is the text of the trace's run in the order of its lines, which is legal and
+    // has a run of the core; of `audit` that the run that was read is a legal one of the trace before it, or by which clause and at
+    // which line it isn't. Only `replay`, `model` and `audit` read. A good input is played or judged, and a faulty one refused; the
+    // other commands answer. A run and a region are returned exactly if threads played and the output was written.
     ensures call { IsRightCall result.status (call_of (map string_bytes words.now)
         (stream_of (S.left source.old) (S.faults source.old)) (stream_of (S.left source.new) (S.faults source.new))
         (stream_of (K.written sink.old) (K.faults sink.old)) (stream_of (K.written sink.new) (K.faults sink.new))
@@ -118,6 +119,7 @@ fn output_of<R: Threads + Wait + Sync, S: Source, G: Gate>(
 {
     match command {
         Command::Replay => replay(rt, alloc, source, gate),
+        Command::Gen { rounds, key } => Ok(summed(rt, alloc, rounds, key, gate)?),
         _ => unreachable!(),
     }
 }
@@ -168,6 +170,28 @@ fn replayed<R: Threads + Wait + Sync, G: Gate>(
     one_thread_in_file_order();
     let (run, region) = run_trace(rt, alloc, trace, gate)?;
     let text = write_run(alloc, &run)?;
+    Ok(Output {
+        text,
+        run: Some(run),
+        region: Some(region),
+    })
+}
+
+// A run of the generated trace with its threads running concurrently, with its summary and the closed region.
+fn summed<R: Threads + Wait + Sync, G: Gate>(
+    rt: &R,
+    alloc: Global,
+    rounds: u32,
+    key: u64,
+    gate: &G,
+) -> Result<Output, OutOfMemory>
+    requires some { 1 ≤ rounds }
+    requires few { rounds ≤ 800 }
+    ensures { IfOk result (λ out. IsGenOutput rounds key (output_with out.text.items out.run out.region)) }
+{
+    let trace = generate(alloc, rounds, key)?;
+    let (run, region) = run_trace(rt, alloc, &trace, gate)?;
+    let text = write_summary(alloc, rounds, key, &run)?;
     Ok(Output {
         text,
         run: Some(run),

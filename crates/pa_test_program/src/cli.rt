@@ -24,6 +24,18 @@ s 1 0 live 0 0 quarantined 0 0 cached 8 128 root 248 3968 committed 4096 reserve
 end
 ";
 
+// The summary of a run of the generated trace of one round and key 7.
+const SUMMARY: &[u8] = b"gen 1 7
+made 16
+done 44
+word 4
+dangling 4
+nothing 8
+swapped 4
+live 0 0
+quarantined 4 11008
+";
+
 // The words of a command line.
 pub fn words(alloc: Global, list: &[&str]) -> Result<Vec<String>, AllocError> {
     let mut words = Vec::new(alloc);
@@ -114,7 +126,7 @@ fn a_third_write_that_fails_leaves_the_first_two(rt: HostRuntime) -> Result<(), 
 
 #[test]
 fn other_words_leave_the_source_unread(rt: HostRuntime) -> Result<(), Fail> {
-    let lines: [&[&str]; 29] = [
+    let lines: [&[&str]; 37] = [
         &[],
         &["layout"],
         &["layout", ""],
@@ -139,7 +151,15 @@ fn other_words_leave_the_source_unread(rt: HostRuntime) -> Result<(), Fail> {
         &["trace", "1", ""],
         &["trace", "1", "18446744073709551616"],
         &["trace", "1", "7", "7"],
-        &["gen", "1", "7"],
+        &["gen"],
+        &["gen", "1"],
+        &["gen", "0", "7"],
+        &["gen", "801", "7"],
+        &["gen", "01", "7"],
+        &["gen", "1", "07"],
+        &["gen", "1", "18446744073709551616"],
+        &["gen", "1", "7", "7"],
+        &["gens", "1", "7"],
         &["model", "x"],
         &["audit", "x"],
         &["Audit"],
@@ -240,6 +260,23 @@ fn trace_tells_a_generated_trace(rt: HostRuntime) -> Result<(), Fail> {
             }
         }
         assert_eq!(rt; ends, many);
+    }
+    Ok(())
+}
+
+// The same bytes at each run, and no read of the source, which would fail.
+#[test]
+fn gen_tells_a_summary_and_reads_nothing(rt: HostRuntime) -> Result<(), Fail> {
+    let line = words(rt.alloc(), &["gen", "1", "7"])?;
+    for _ in 0..3 {
+        let mut source = MemSource::new(rt.alloc(), TRACE, 1000, &[0])?;
+        let mut sink = MemSink::new(rt.alloc(), 1000, 10, &[])?;
+        let outcome = run(&rt, rt.alloc(), &line, &mut source, &mut sink, &NoGate);
+        assert_eq!(rt; outcome.status, Status::Done);
+        assert_eq!(rt; sink.written(), SUMMARY);
+        assert!(rt; outcome.run.is_some() && outcome.region.is_some());
+        let mut into = [0; 100];
+        assert!(rt; source.read(&mut into).is_err());
     }
     Ok(())
 }

@@ -85,12 +85,13 @@ fn with_write_refused<R: Threads + Wait + Sync>(
 fn each_write_that_fails_leaves_a_first_part(rt: HostRuntime) -> Result<(), Fail> {
     let mut judged = Vec::from_slice(rt.alloc(), TRACE)?;
     judged.extend_from_slice(TEXT)?;
-    let rows: [(&[&str], &[u8]); 7] = [
+    let rows: [(&[&str], &[u8]); 8] = [
         (&["replay"], TRACE),
         (&["model"], TRACE),
         (&["audit"], judged.as_slice()),
         (&["layout", "88"], b""),
         (&["trace", "1", "7"], b""),
+        (&["gen", "1", "7"], b""),
         (&["--help"], b""),
         (&["--version"], b""),
     ];
