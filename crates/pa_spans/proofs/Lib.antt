@@ -1,0 +1,9 @@
+pub mod Beginning
+pub mod Entering
+pub mod Fields
+pub mod Heads
+pub mod Leaving
+pub mod Moving
+pub mod Near
+pub mod Rings
+pub mod Staying

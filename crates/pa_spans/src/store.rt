@@ -1,4 +1,4 @@
-ghost use Rattle.std.specs.Prelude.{◌≡◌, ◌==◌, ℕ, if◌then◌else◌};
+ghost use Rattle.std.specs.Prelude.{◌≡◌, ◌==◌, ◌↔◌, ℕ, if◌then◌else◌};
 ghost use Rattle.pa_spans.specs.declared.span.Span.{Span};
 
 use crate::span::Span;
@@ -19,14 +19,14 @@ pub trait SpanStore {
         requires { has self.old at }
         ensures span { result ≡ spans self.old at }
         ensures same { (u : ℕ) → spans self.new u ≡ spans self.old u }
-        ensures has { (u : ℕ) → has self.old u → has self.new u }
+        ensures has { (u : ℕ) → has self.new u ↔ has self.old u }
         ensures follows { follows self.old self.new };
 
     /// Puts a span there. Those of other pages stay.
     fn set(&mut self, at: u32, span: Span)
         requires { has self.old at }
         ensures span { (u : ℕ) → spans self.new u ≡ (if u == at then span else spans self.old u) }
-        ensures has { (u : ℕ) → has self.old u → has self.new u }
+        ensures has { (u : ℕ) → has self.new u ↔ has self.old u }
         ensures follows { follows self.old self.new };
 
     ghost follows_same: { (a : Self) → follows a a };
