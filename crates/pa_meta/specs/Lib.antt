@@ -1,1 +1,2 @@
 pub mod Meta
+pub mod Stores

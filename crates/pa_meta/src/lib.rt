@@ -3,6 +3,8 @@
 
 mod meta;
 mod numbers;
+mod store;
 mod words;
 
 pub use meta::{read_meta, write_meta};
+pub use store::MetaStore;
