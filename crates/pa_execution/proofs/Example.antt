@@ -66,6 +66,8 @@ does n = record {
     cells = refl;
   };
   homes = λ p past low. inl refl;
+  owes = λ q. refl;
+  words = λ refused q known. refl;
   answers = λ o fits. record {
     told = refl;
     row = (refl, λ k. refl);

@@ -36,6 +36,8 @@ use Rattle.pa_op_specs.proofs.Seeing.{made_kept, slot_in_run, home_of}
 use Rattle.pa_thread_state.proofs.Leaving.{least_is, user_not_free, touched_count}
 use Rattle.pa_op_specs.proofs.Stocks.{register_has}
 use Rattle.pa_thread_state.proofs.Looking.{seen_at}
+use Rattle.pa_op_specs.specs.Owing.{bytes_in}
+use Rattle.pa_op_specs.proofs.Owing.{owes_done}
 use Rattle.pa_op_specs.proofs.Quiet.{quiet_record, touched_does}
 use Rattle.pa_thread_state.proofs.Resetting.{can_reset, cleared}
 use Rattle.pa_heap.proofs.Resetting.{reset_row}
@@ -86,6 +88,7 @@ reset_listed counts s r word c h is aware stake budget below ref found back clas
     let rs = slice_set s.registers r Cleared in
     touched_does s w rs (put_in_front h.partition c t s.caches) (ops.Reset r) (answers.Done (seen_at h word)) (Counted t steps.Reset word 0 ∷ []) touched
     (record { room = λ j e. cc; cells = λ list x none. none })
+    (owes_done s.registers (ops.Reset r) (seen_at h word) t.len (Counted t steps.Reset word 0 ∷ []) ([], tt, refl) (ap bytes_in ref)) (λ refused. absurd refused)
     (λ line phase o run sees none.
     let slot = slot_in_run o w h run sees (made_kept h s.view w refl knows.1) in
     record {
@@ -115,6 +118,7 @@ free_listed counts owns states s r word c h is aware stake budget below own foun
     let rs = slice_set s.registers r Freed in
     touched_does s w rs (put_in_front h.partition c t s.caches) (ops.Free r) (answers.Done (seen_at h word)) (Counted t steps.Free word 0 ∷ []) touched
     (record { room = λ j e. cc; cells = λ list x none. none })
+    (owes_done s.registers (ops.Free r) (seen_at h word) t.len (Counted t steps.Free word 0 ∷ []) ([], tt, refl) (ap bytes_in own)) (λ refused. absurd refused)
     (λ line phase o run sees none.
     let slot = slot_in_run o w h run sees (made_kept h s.view w refl knows.1) in
     record {

@@ -26,6 +26,8 @@ use Rattle.pa_op_specs.proofs.Registers.{regs_set}
 use Rattle.pa_op_specs.proofs.Seeing.{made_kept, slot_in_run, home_of}
 use Rattle.pa_thread_state.proofs.Leaving.{least_is, user_not_free, touched_count}
 use Rattle.pa_op_specs.proofs.Stocks.{register_has}
+use Rattle.pa_op_specs.specs.Owing.{bytes_in}
+use Rattle.pa_op_specs.proofs.Owing.{owes_done}
 use Rattle.pa_op_specs.proofs.Quiet.{quiet_does}
 use Rattle.pa_op_specs.proofs.Refusing.{plain_does}
 use Rattle.pa_thread_state.proofs.Copying.{can_copy, copied}
@@ -45,6 +47,11 @@ copy_to_row (Ref g) h word regs to after bare becomes = absurd bare
 copy_to_row Freed h word regs to after bare becomes = (record { slot = name_of h.title; found = record { 0 = word } }, refl, refl, becomes)
 copy_to_row Cleared h word regs to after bare becomes = (record { slot = name_of h.title; found = record { 0 = word } }, refl, refl, becomes)
 
+-- the bytes of a register's slot are those of its handle
+handle_bytes : (r : StockRegister) (h : Handle) → HasHandleTo h r → bytes_in r ≡ h.title.len
+handle_bytes r h (inl own) = ap bytes_in own
+handle_bytes r h (inr ref) = ap bytes_in ref
+
 -- the op does what it should
 pub copied_does : CountLeaves → (s : StockValue) (from to word : ℕ) (h : Handle) → IsStock s → IsAware s.view → HasItsStake s → 0 < s.view.budget →
     from < 64 → to < 64 → HasHandleTo h (register_in s.registers from) → HasNoHandle (register_in s.registers to) →
@@ -60,6 +67,7 @@ copied_does counts s from to word h is aware stake budget below within has bare 
     quiet_does s w (slice_set s.registers to (Ref h)) (ops.Copy from to) (answers.Done seen) (Counted t steps.Copy word 0 ∷ []) is.lists
     (touched_count counts s.thread steps.Copy t word s.view refl can found (least_is s.thread s.view is.stake stake).0 (user_not_free s.view t aware knows.0))
     (record { room = λ j e. cc; cells = λ list x none. none })
+    (owes_done s.registers (ops.Copy from to) seen t.len (Counted t steps.Copy word 0 ∷ []) ([], tt, refl) (handle_bytes (register_in s.registers from) h has)) (λ refused. absurd refused)
     (λ line phase o run sees none same.
     let slot = slot_in_run o w h run sees (made_kept h s.view w refl knows.1) in
     record {

@@ -166,6 +166,8 @@ swap_does line cell reg index given found s a b d is phase = (
       };
     };
     homes = λ p past low. inl (other_list p m (λ e. omega arith));
+    owes = λ q. refl;
+    words = λ refused. absurd refused;
     answers = λ o fits.
         let none = no_act o x fits.run fits.acts (λ q other. other_list q m other) in
         record {

@@ -29,6 +29,8 @@ use Rattle.pa_op_specs.proofs.Touching.{Touched, touched_entry}
 use Rattle.pa_thread_state.proofs.Leaving.{least_is, user_not_free}
 use Rattle.pa_op_specs.proofs.Stocks.{register_has}
 use Rattle.pa_thread_state.proofs.Looking.{seen_at}
+use Rattle.pa_op_specs.specs.Owing.{bytes_in}
+use Rattle.pa_op_specs.proofs.Owing.{owes_done}
 use Rattle.pa_op_specs.proofs.Quiet.{quiet_does}
 use Rattle.pa_thread_state.proofs.Freeing.{can_step, freed, freed_view}
 
@@ -62,6 +64,7 @@ freed_does counts owns states s r word h is aware stake budget below own found s
     quiet_does s w (slice_set s.registers r Freed) (ops.Free r) (answers.Done (seen_at h word)) (Counted t steps.Free word 0 ∷ []) is.lists
     (touched_free counts owns states s r word h is stake budget below own found (user_not_free s.view t aware knows.0))
     (record { room = λ j e. cc; cells = λ list x none. none })
+    (owes_done s.registers (ops.Free r) (seen_at h word) t.len (Counted t steps.Free word 0 ∷ []) ([], tt, refl) (ap bytes_in own)) (λ refused. absurd refused)
     (λ line phase o run sees none same.
     let slot = slot_in_run o w h run sees (made_kept h s.view w refl knows.1) in
     record {

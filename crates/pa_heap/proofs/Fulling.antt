@@ -104,6 +104,8 @@ full_does line size r p j count class s w full is aware now inner bare few makes
           );
       uncuts = λ u among. absurd (two_uncut p 4 two.pool two.made u among);
       homes = λ q past. inl (root_elsewhere line p q (a ∷ []) (λ e. omega arith));
+      owes = λ q. refl;
+      words = λ refused q known. two.lends.keeps.words q known;
       answers = λ o run many sees line_acts. record {
         told = refl;
         row = alloc_row (register_in s.registers r) (row_facts o) (regs_of s.registers) r size (answers.Full j) (regs_of s.registers) bare (inr (inr (few, j, refl, λ k. refl)));

@@ -40,6 +40,8 @@ use Rattle.pa_op_specs.specs.Plays.{DoesOp, AnswersIn}
 use Rattle.pa_op_specs.proofs.Seeing.{slot_in_run, home_of}
 use Rattle.pa_thread_state.proofs.Looking.{seen_at}
 use Rattle.pa_op_specs.proofs.Touching.{Touched}
+use Rattle.pa_op_specs.specs.Owing.{bytes_through}
+use Rattle.pa_op_specs.proofs.Owing.{owes_done}
 use Rattle.pa_op_specs.proofs.Quiet.{quiet_record}
 use Rattle.pa_op_specs.proofs.Batches.{in_gives, gives_ask_none, acts_back, act_among}
 use Rattle.pa_op_specs.proofs.Entered.{Entering, LineActs, acts_in, entered_does, entered_here, entered_elsewhere, entering_both, makes_each, none_here, touched_enters, unmaps_next}
@@ -54,6 +56,7 @@ pub record HasReturned (op : Op) (step : Step) (h : Handle) (word : ℕ) (s : St
   pub cells : (list : List Made) (x : ToldRecord) → entered_in 5 x.stretch ≡ [] → EntersCells op list x
   pub told : (sizes : SlotName → ℕ) (es : List Entry) → IsStepTold (title_of sizes (name_of h.title)) step word 0 es →
       IsToldBy sizes op (answers.Done (seen_at h word)) es
+  pub long : bytes_through s.registers op ≡ h.title.len
   pub row : (o : Outcome) → Row (row_facts o) op (regs_of s.registers) (answers.Done (seen_at h word)) (regs_of rs)
   pub lists : (partitions line phase : ℕ) (roots : Journals) (cache after : Cache) →
       ReturnRow roots (record { line = line; thread = s.thread; phase = phase; op = op; answer = answers.Done (seen_at h word) }) (left_at h word) cache after →
@@ -114,6 +117,9 @@ gives_does stays op step h class word line s after w rs ms is of thread partitio
         | inl same ↦ inr (subst (λ k. HasSeenSome s.thread k s.view) (sym same.1) is.entries)
         | inr differs ↦ inl (other q (q == h.partition) refl differs.1)
       ];
+      owes = owes_done s.registers op (seen_at h word) h.title.len es
+          (is.told (λ (n : SlotName). h.title.len) es ([], tt, ap (λ fs. c ∷ fs) (none_touches h.partition ms))) is.long;
+      words = λ refused. absurd refused;
       answers = λ o run many sees line_acts. answers_in phase o run sees line_acts;
     })
   where

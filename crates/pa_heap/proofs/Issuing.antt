@@ -46,6 +46,7 @@ use Rattle.pa_op_specs.proofs.Seeing.{made_kept, slot_in_run, home_of, more_seen
 use Rattle.pa_op_specs.proofs.Touching.{entry_logs}
 use Rattle.pa_thread_state.proofs.Leaving.{least_is}
 use Rattle.pa_thread_state.proofs.Looking.{seen_at}
+use Rattle.pa_op_specs.proofs.Owing.{owes_made}
 use Rattle.pa_op_specs.proofs.Quiet.{quiet_record, same_titles}
 use Rattle.pa_op_specs.proofs.Entered.{Entering, TellsOf, entering_both, entered_does, makes_each}
 use Rattle.pa_op_specs.proofs.AskedFor.{Asks, it_asks, only_acts, act_at, root_elsewhere}
@@ -136,6 +137,9 @@ made_does counts line size r word h acts es s v cs before is stake can found num
         | inr last ↦ elim (in_cases (Counted t steps.Issue word 0) (Uncut u) [] last) [ inl e ↦ not_uncut t u word e | inr none ↦ not_in_none (Uncut u) none ]
       ]);
       homes = λ q past. inl (root_elsewhere line h.partition q acts (λ e. omega arith));
+      owes = owes_made s.registers op (seen_at h word) (h.title.len - 8) h.title.len all
+          ([], tt, filter-append is_touch es (Counted t steps.Issue word 0 ∷ []) ∙ ap (λ ys. ys ++ Counted t steps.Issue word 0 ∷ []) before.quiet) (omega arith);
+      words = λ refused. absurd refused;
       answers = λ o run many sees line_acts.
           let slot = slot_in_run o w h run sees (made_kept h v w refl back.made) in
           let only = only_acts o x it line h.partition acts line_acts back.made.partition refl in

@@ -19,6 +19,7 @@ use Rattle.pa_quarantine.specs.Filling.{poisoned}
 use Rattle.pa_cells.specs.declared.handle.Handle.{Handle}
 use Rattle.pa_cells.specs.Handles.{HasSeenMade, SlotsStaySeen}
 use Rattle.pa_rules.specs.declared.register.Register.TheVariants.{Own, Ref, Freed, Cleared}
+use Rattle.pa_op_specs.specs.Owing.{bytes_in}
 use Rattle.pa_op_specs.specs.Stocks.{StockRegister, StockValue, IsStock, register_in, regs_of}
 use Rattle.pa_op_specs.specs.Workers.{HasItsStake}
 use Rattle.pa_thread_state.specs.Changes.{LetsGo, NeedsRoot}
@@ -59,6 +60,7 @@ reset_returned counts s r word h is aware stake budget below ref found back =
       freeing = inr (r, refl);
       cells = λ list x none. none;
       told = λ sizes es told. told;
+      long = ap bytes_in ref;
       row = λ o. reset_row (register_in s.registers r) h (seen_at h word) (regs_of s.registers) r (regs_of (slice_set s.registers r Cleared)) ref refl (λ k. regs_set s.registers r Cleared k inside);
       lists = λ partitions line phase roots cache after row. inl (back, row);
       reader = λ o x. tt;
@@ -82,6 +84,7 @@ free_returned counts owns states s r word h is aware stake budget below own foun
       freeing = inl (r, refl);
       cells = λ list x none. none;
       told = λ sizes es told. told;
+      long = ap bytes_in own;
       row = λ o. free_row (register_in s.registers r) h (seen_at h word) (regs_of s.registers) r (regs_of (slice_set s.registers r Freed)) own refl (λ k. regs_set s.registers r Freed k inside);
       lists = λ partitions line phase roots cache after row. inl (back, row);
       reader = λ o x. tt;

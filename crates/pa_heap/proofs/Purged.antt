@@ -33,6 +33,7 @@ use Rattle.pa_op_specs.specs.Outcomes.{Outcome, IsOutcome, IsSeenOf}
 use Rattle.pa_op_specs.specs.Plays.{DoesOp}
 use Rattle.pa_thread_state.specs.Purging.{PurgesRoot, without_lists}
 use Rattle.pa_op_specs.proofs.Seeing.{slot_in_run}
+use Rattle.pa_op_specs.proofs.Owing.{owes_none}
 use Rattle.pa_op_specs.proofs.Quiet.{same_titles, quiet_record}
 use Rattle.pa_op_specs.proofs.Entered.{Entering, acts_in, entering_none, entering_both, entered_here, entered_elsewhere, makes_each, entered_does}
 use Rattle.pa_op_specs.proofs.Batches.{in_gives, gives_ask_none, acts_back, act_among}
@@ -219,6 +220,8 @@ purge_does line slots s now is still some =
       refused = λ j reg p size full asks. absurd (not_full j full);
       uncuts = λ t among. absurd (some.uncut t among);
       homes = λ p past. inl (roots_past p past);
+      owes = λ q. owes_none q some.stretch some.quiet;
+      words = λ refused. absurd refused;
       answers = λ o run many sees acts.
           record {
             told = some.quiet;

@@ -164,6 +164,8 @@ module _ (looks : LookLeaves) (entries : EntryLeaves) (s : StockValue) (n reg pl
         since = no_deeds;
         unclean = has_unclean (after_look h.title word s.view) h.title;
         pair = ap (λ x. Looked x word ∷ Read x place value no_deeds (has_own (after_look h.title word s.view) h.title) (has_unclean (after_look h.title word s.view) h.title) ∷ []) (sym same);
+        rest = [];
+        none = refl;
         quiet = refl;
         clean = none_unclean (after_look h.title word s.view) h.title there.handles.clean;
         in_use = in_use h.title word s.view (register_has s reg h is below has).0 found;
@@ -192,6 +194,7 @@ module _ (looks : LookLeaves) (entries : EntryLeaves) (s : StockValue) (n reg pl
   read_does owns (answers.Value seen v) (same, equal, held) line = subst (λ q. DoesOp line (ops.Read reg place) (answers.Value q v) s (read_stock s h word place value)) (sym same)
       (subst (λ q. DoesOp line (ops.Read reg place) (answers.Value (seen_at h word) q) s (read_stock s h word place value)) (sym equal)
       (quiet_does s w s.registers (ops.Read reg place) (answers.Value (seen_at h word) value) es is.lists (touched looks owns) (record { room = λ j e. cc; cells = λ list x none. none })
+      (λ q. refl) (λ refused. absurd refused)
       (λ line phase o run sees none same.
       let slot = slot_in_run o w h run sees (made_kept h s.view w refl (register_has s reg h is below has).1) in
       let a = well.len_aligned in let b = well.long in let long = slot.length in
@@ -207,6 +210,7 @@ module _ (looks : LookLeaves) (entries : EntryLeaves) (s : StockValue) (n reg pl
   read_does owns (answers.Dangling seen v) (same, equal, held) line = subst (λ q. DoesOp line (ops.Read reg place) (answers.Dangling q v) s (read_stock s h word place value)) (sym same)
       (subst (λ q. DoesOp line (ops.Read reg place) (answers.Dangling (seen_at h word) q) s (read_stock s h word place value)) (sym equal)
       (quiet_does s w s.registers (ops.Read reg place) (answers.Dangling (seen_at h word) value) es is.lists (touched looks owns) (record { room = λ j e. cc; cells = λ list x none. none })
+      (λ q. refl) (λ refused. absurd refused)
       (λ line phase o run sees none same.
       let slot = slot_in_run o w h run sees (made_kept h s.view w refl (register_has s reg h is below has).1) in
       let a = well.len_aligned in let b = well.long in let long = slot.length in

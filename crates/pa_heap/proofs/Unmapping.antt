@@ -3,6 +3,7 @@ use Rattle.std.proofs.Common.{◌≡◌, ℕ, ◌+◌, ◌<◌, Bool, true, fals
 use Rattle.std.specs.Prelude.{◌==◌, Contains, filter, nat_lt, if◌then◌else◌}
 use Rattle.std.proofs.lemmas.Bool.Decides.{nat_tests, eqb_tells}
 use Rattle.pa_machine.specs.declared.title.Title.{Title}
+use Rattle.pa_machine.specs.declared.word.SlotName.{SlotName}
 use Rattle.pa_machine.specs.declared.word.Step.{Step}
 use Rattle.pa_machine.specs.Count.{number_of}
 use Rattle.pa_trace.specs.declared.script.Op.{Op}
@@ -41,6 +42,7 @@ use Rattle.pa_op_specs.specs.Entering.{HasSeenSome}
 use Rattle.pa_op_specs.specs.Plays.{DoesOp, AnswersIn}
 use Rattle.pa_op_specs.proofs.Seeing.{slot_in_run, home_of}
 use Rattle.pa_thread_state.proofs.Looking.{seen_at}
+use Rattle.pa_op_specs.proofs.Owing.{owes_done}
 use Rattle.pa_op_specs.proofs.Quiet.{quiet_record}
 use Rattle.pa_op_specs.proofs.Entered.{Entering, LineActs, acts_in, entered_does, entering_both, makes_each, none_here, touched_enters, unmaps_next}
 use Rattle.pa_heap.proofs.Given.{HasReturned, not_full, same_found, step_no_uncut}
@@ -88,6 +90,8 @@ unmap_does stays op step h word line s after w rs y note is direct thread partit
         | inl same ↦ inr (subst (λ k. HasSeenSome s.thread k s.view) (sym same.1) is.entries)
         | inr differs ↦ inl (other q (q == h.partition) refl differs.1)
       ];
+      owes = owes_done s.registers op (seen_at h word) h.title.len es (is.told (λ (n : SlotName). h.title.len) es ([], tt, refl)) is.long;
+      words = λ refused. absurd refused;
       answers = λ o run many sees line_acts. answers_in phase o run sees line_acts;
     })
   where

@@ -33,6 +33,8 @@ use Rattle.pa_thread_state.proofs.Leaving.{least_is, clean_own, user_not_free, t
 use Rattle.pa_op_specs.proofs.Stocks.{register_has, register_owns}
 use Rattle.pa_thread_state.proofs.Looking.{seen_at, looked_stock, looked_stake}
 use Rattle.pa_heap.proofs.Looking.{looked_does}
+use Rattle.pa_op_specs.specs.Owing.{bytes_in}
+use Rattle.pa_op_specs.proofs.Owing.{owes_done}
 use Rattle.pa_op_specs.proofs.Quiet.{quiet_does}
 use Rattle.pa_thread_state.proofs.Writing.{can_tell, filled_stock, filled_view}
 
@@ -96,6 +98,8 @@ filled_does counts looks owns states fills n s reg value first word h is aware s
     quiet_does s w s.registers (ops.Write reg value) (answers.Done (seen_at h word)) (Looked t first ∷ Counted t steps.Write word value ∷ []) is.lists
     (touched_both s.thread (Looked t first) (Counted t steps.Write word value) s.view u w one_look step)
     (record { room = λ j e. cc; cells = λ list x empty. empty })
+    (owes_done s.registers (ops.Write reg value) (seen_at h word) t.len (Looked t first ∷ Counted t steps.Write word value ∷ [])
+    (Looked t first ∷ [], ((first, refl), tt), refl) (ap bytes_in own)) (λ refused. absurd refused)
     (λ line phase o run sees no_acts same.
     let slot = slot_in_run o w h run sees (made_kept h s.view w refl knows.1) in
     record {

@@ -64,14 +64,14 @@ nothing_there u es p w v is among = none_there es [] u p w v is (λ h. not_in_no
 
 -- so for a read
 read_look : (t : Title) (place found value : ℕ) (owned : Bool) (es : List Entry) → IsReadTold t place found value owned es → Contains es (Looked t found)
-read_look t place found value owned es told = rw told.pair (first_in (Looked t found) (Read t place value told.since owned told.unclean ∷ []))
+read_look t place found value owned es told = rw told.pair (first_in (Looked t found) (Read t place value told.since owned told.unclean ∷ told.rest))
 
 read_alone : (t u : Title) (place found value : ℕ) (owned : Bool) (es : List Entry) (p : Step) (w v : ℕ) → IsReadTold t place found value owned es → Contains es (Counted u p w v) → ⊥
 read_alone t u place found value owned es p w v told among =
     let r = Read t place value told.since owned told.unclean in
-    elim (in_cases (Looked t found) (Counted u p w v) (r ∷ []) (subst (λ xs. Contains xs (Counted u p w v)) told.pair among)) [
+    elim (in_cases (Looked t found) (Counted u p w v) (r ∷ told.rest) (subst (λ xs. Contains xs (Counted u p w v)) told.pair among)) [
       | inl e ↦ absurd cc
-      | inr rest ↦ elim (in_cases r (Counted u p w v) [] rest) [ inl e ↦ absurd cc | inr none ↦ absurd (not_in_none _ none) ]
+      | inr rest ↦ elim (in_cases r (Counted u p w v) told.rest rest) [ inl e ↦ absurd cc | inr later ↦ nothing_there u told.rest p w v told.none later ]
     ]
 
 -- the parts of what a log segment says of a mark, by op, answer and line

@@ -193,13 +193,13 @@ module _ (sizes : SlotName → ℕ) (v : View) (ts : List ToldRecord) (off : IsR
       let (i, stake, at_i, mine, log) = stake_at w (told_until n ts) x.played.thread knows.logs (knows.logs.threads x until) in
       let (before, later, parts) = stretch_at x.played.thread (told_until n ts) x until refl in
       let t = title_of sizes seen.slot in
-      let pair : log_of x.played.thread (told_until n ts) ≡ before ++ Looked t seen.found.0 ∷ Read t place value told.since owned told.unclean ∷ later =
+      let pair : log_of x.played.thread (told_until n ts) ≡ before ++ Looked t seen.found.0 ∷ Read t place value told.since owned told.unclean ∷ (told.rest ++ later) =
       parts ∙ ap (λ es. before ++ (es ++ later)) told.pair in (
         w,
         stake,
         knows,
         mine,
-        reads_by_place knows.all.history w knows.all.reads i stake before later t seen.found.0 place value told.since owned told.unclean at_i (log ∙ pair),
+        reads_by_place knows.all.history w knows.all.reads i stake before (told.rest ++ later) t seen.found.0 place value told.since owned told.unclean at_i (log ∙ pair),
       )
 
   held_right : (x : ToldRecord) (seen : Seen) (value place : ℕ) (owned : Bool) → Contains ts x → x.played.answer ≡ answers.Value seen value →

@@ -141,7 +141,7 @@ owned_read sizes s seen place value owned x r reads own told =
     let t = title_of sizes seen.slot in
     let looked : Entry = Looked t seen.found.0 in
     let read : Entry = Read t place value told.since owned told.unclean in
-    let there : Contains x.stretch read = subst (λ es. Contains es read) (sym told.pair) (later_in looked read (read ∷ []) (first_in read [])) in
+    let there : Contains x.stretch read = subst (λ es. Contains es read) (sym told.pair) (later_in looked read (read ∷ told.rest) (first_in read told.rest)) in
     subst (λ b. IsReadTold t place seen.found.0 value b x.stretch) (reads.owned s t place value told.since owned told.unclean own there) told
 
 through : (sizes : SlotName → ℕ) (facts : Facts) (r : Reg) (regs after : Regs) (seen : Seen) (place value : ℕ) (owned : Bool) (x : ToldRecord) → IsReadThrough sizes r x →

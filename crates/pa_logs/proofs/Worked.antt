@@ -65,7 +65,7 @@ told x among = by_four (IsTold sixteen) (
   (
     ([], tt, refl),
     (
-      (refl, (0, 0, false, refl, record { since = no_deeds; unclean = false; pair = refl; quiet = refl; clean = refl; in_use = omega arith })),
+      (refl, (0, 0, false, refl, record { since = no_deeds; unclean = false; rest = []; pair = refl; none = refl; quiet = refl; clean = refl; in_use = omega arith })),
       (([], tt, refl), tt),
     ),
   ),

@@ -81,12 +81,15 @@ IsStepTold t step found value es = (looks : List Entry) × AreLooks t looks × (
 abbrev pub IsLookTold : Title → ℕ → List Entry → Type 0
 IsLookTold t found es = (touches es ≡ Looked t found ∷ []) × (0 < held_of found + refs_of found)
 
--- It is a look at the title and right after it a read of its content word number `place`, which gave this value. Between
--- the two nothing was done, and the reader had no unclean Own.
+-- It is a look at the title and right after it a read of its content word number `place`, which gave this value, and after
+-- them it touches nothing: at a phase's end come additions to totals words. Between the two nothing was done, and the reader
+-- had no unclean Own.
 pub record IsReadTold (t : Title) (place found value : ℕ) (owned : Bool) (es : List Entry) : Type 0 where
   pub since : Deeds
   pub unclean : Bool
-  pub pair : es ≡ Looked t found ∷ Read t place value since owned unclean ∷ []
+  pub rest : List Entry
+  pub pair : es ≡ Looked t found ∷ Read t place value since owned unclean ∷ rest
+  pub none : touches rest ≡ []
   pub quiet : is_quiet since ≡ true
   pub clean : unclean ≡ false
   pub in_use : 0 < held_of found + refs_of found

@@ -42,6 +42,7 @@ use Rattle.pa_root.specs.Making.{EntersOne, EntersTwo}
 use Rattle.pa_root.specs.Handing.{root_entry}
 use Rattle.pa_op_specs.specs.Outcomes.{Outcome, IsOutcome, IsSeenOf, ActsAreOf}
 use Rattle.pa_op_specs.specs.Entering.{EntersCells, HasSeenSome}
+use Rattle.pa_op_specs.specs.Owing.{OwesOf, KeepsWords}
 use Rattle.pa_op_specs.specs.Plays.{DoesOp, AnswersIn}
 use Rattle.pa_op_specs.proofs.Touching.{Touches, Touched}
 use Rattle.pa_op_specs.proofs.Quiet.{quiet_record}
@@ -330,6 +331,7 @@ makes_each x it pools each p m e low among says =
 --   it, asked: what it entered in the lists of the roots and the pool; it asked the pool at most once
 --   refused, uncuts: a record that is full names its entry; a title that was uncut is one that it unmaps
 --   homes: in the journal of a partition past the run's it made no entry, or its seat had seen one there before
+--   owes, words: it owes what its step does; and a refusal changes no known word
 --   answers: in each run in which the acts of its line are these
 pub record SaysEntered (s after : StockValue) (x : ToldRecord) : Type 0 where
   pub cells : (list : List Made) → entered_in 5 x.stretch ≡ [] → EntersCells x.played.op list x
@@ -339,6 +341,8 @@ pub record SaysEntered (s after : StockValue) (x : ToldRecord) : Type 0 where
       (p < 4) × IsFullAt (list_of p after.view) x j
   pub uncuts : (t : Title) → Contains x.stretch (Uncut t) → Unmaps x t
   pub homes : (p : ℕ) → s.partitions ≤ p → (it.roots p ≡ []) ⊎ HasSeenSome s.thread p s.view
+  pub owes : OwesOf s.registers x.played.op x.played.answer x.stretch
+  pub words : KeepsWords x.played.answer s.view after.view
   pub answers : (o : Outcome) → IsOutcome o → o.partitions ≡ s.partitions → IsSeenOf o after.view → LineActs o x it → AnswersIn o s after x
 
 no_entries : (ms : List Made) → map (λ (m : Made). m.numbers) ms ≡ [] → ms ≡ []
@@ -376,6 +380,8 @@ entered_does s after line op answer es thread partitions entering says phase = (
       | inl nothing ↦ inl (no_entries (entered_in p es) (say.it.roots_are p low ∙ ap (map root_numbers) nothing))
       | inr seen ↦ inr seen
     ];
+    owes = say.owes;
+    words = say.words;
     answers = λ o fits. say.answers o fits.run fits.many fits.seen (line_acts o x say.it fits.run fits.acts);
   },
 )

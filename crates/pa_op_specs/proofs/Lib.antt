@@ -1,6 +1,7 @@
 pub mod Registers
 pub mod Seeing
 pub mod Touching
+pub mod Owing
 pub mod Quiet
 pub mod Stocks
 pub mod Refusing

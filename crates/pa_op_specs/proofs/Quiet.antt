@@ -29,6 +29,7 @@ use Rattle.pa_logs.specs.Said.{ReadsIts}
 use Rattle.pa_op_specs.specs.Stocks.{StockRegister, StockValue, HoldsLists, titles_in, listed_in, regs_of}
 use Rattle.pa_op_specs.specs.Outcomes.{Outcome, IsOutcome, IsSeenOf, ActsAreOf, row_facts}
 use Rattle.pa_op_specs.specs.Entering.{EntersCells}
+use Rattle.pa_op_specs.specs.Owing.{OwesOf, KeepsWords}
 use Rattle.pa_op_specs.specs.Plays.{DoesOp}
 use Rattle.pa_op_specs.proofs.Touching.{Touches, Touched}
 
@@ -99,11 +100,11 @@ pub record IsQuiet (op : Op) (answer : Answer) : Type 0 where
   pub cells : (list : List Made) (x : ToldRecord) → entered_in 5 x.stretch ≡ [] → EntersCells op list x
 
 pub touched_does : (s : StockValue) (w : View) (registers : List StockRegister) (caches : List CacheList) (op : Op) (answer : Answer) (es : List Entry) →
-    Touched s.thread es s.view w → IsQuiet op answer →
+    Touched s.thread es s.view w → IsQuiet op answer → OwesOf s.registers op answer es → KeepsWords answer s.view w →
     ((line phase : ℕ) (o : Outcome) → IsOutcome o → IsSeenOf o w → NoActs o.roots line →
     Says o s (record s { view = w; registers = registers; caches = caches }) (quiet_record s w line phase op answer es)) →
     (line : ℕ) → DoesOp line op answer s (record s { view = w; registers = registers; caches = caches })
-touched_does s w registers caches op answer es touched quiet says line phase = (
+touched_does s w registers caches op answer es touched quiet owes words says line phase = (
   x,
   refl,
   record {
@@ -128,6 +129,8 @@ touched_does s w registers caches op answer es touched quiet says line phase = (
       cells = quiet.cells (list_of 5 w) x (none 5);
     };
     homes = λ p past low. inl (none p);
+    owes = owes;
+    words = words;
     answers = λ o fits. let here = no_acts o x fits.run fits.acts none in let say = says line phase o fits.run fits.seen here in
         record {
           told = say.told;
@@ -157,12 +160,12 @@ touched_does s w registers caches op answer es touched quiet says line phase = (
 
 -- the same if the lists are as they were
 pub quiet_does : (s : StockValue) (w : View) (registers : List StockRegister) (op : Op) (answer : Answer) (es : List Entry) →
-    HoldsLists s.caches s.view → Touched s.thread es s.view w → IsQuiet op answer →
+    HoldsLists s.caches s.view → Touched s.thread es s.view w → IsQuiet op answer → OwesOf s.registers op answer es → KeepsWords answer s.view w →
     ((line phase : ℕ) (o : Outcome) → IsOutcome o → IsSeenOf o w → NoActs o.roots line →
     SameLists (listed_in (record s { view = w; registers = registers })) (listed_in s) →
     Says o s (record s { view = w; registers = registers }) (quiet_record s w line phase op answer es)) →
     (line : ℕ) → DoesOp line op answer s (record s { view = w; registers = registers })
-quiet_does s w registers op answer es lists touched quiet says =
-    touched_does s w registers s.caches op answer es touched quiet
+quiet_does s w registers op answer es lists touched quiet owes words says =
+    touched_does s w registers s.caches op answer es touched quiet owes words
     (λ line phase o run sees none. says line phase o run sees none
     (λ p c. same_titles s.view w (titles_in s.caches p c) (λ t among. touched.numbers t (lists.free p c t among))))

@@ -29,6 +29,7 @@ use Rattle.pa_op_specs.specs.Counts.{CountsBy}
 use Rattle.pa_op_specs.specs.Workers.{WorkerValue}
 use Rattle.pa_op_specs.specs.Outcomes.{Outcome, FitsRun, row_facts}
 use Rattle.pa_op_specs.specs.Entering.{EntersOwn, EntersAtHome}
+use Rattle.pa_op_specs.specs.Owing.{OwesOf, KeepsWords}
 
 -- What the seat had seen before the op, and after it. What the record hands on isn't more than it has seen then, and for an
 -- exchange it is what its entry carries.
@@ -67,6 +68,8 @@ pub record AnswersIn (o : Outcome) (before after : StockValue) (x : ToldRecord) 
 --   lists: it forgets nothing of any list
 --   seen, enters: what its seat had seen, and what it entered
 --   homes: nothing in the list of a partition past the run's, or its seat had seen an entry there before
+--   owes: its log segment owes to the totals words what its step does, and no more
+--   words: a refusal changes no word that was known before
 --   answers: in every run that fits, all is as the rules require
 pub record Does (before after : StockValue) (x : ToldRecord) : Type 0 where
   pub thread : x.played.thread ≡ before.thread
@@ -77,6 +80,8 @@ pub record Does (before after : StockValue) (x : ToldRecord) : Type 0 where
   pub seen : HasSeenFor before.view after.view x
   pub enters : EntersOwn (λ k. list_of k after.view) x
   pub homes : EntersAtHome before x
+  pub owes : OwesOf before.registers x.played.op x.played.answer x.stretch
+  pub words : KeepsWords x.played.answer before.view after.view
   pub answers : (o : Outcome) → FitsRun o before.partitions after.view x → AnswersIn o before after x
 
 -- so an op on this line does, with this answer, in whatever phase the line is

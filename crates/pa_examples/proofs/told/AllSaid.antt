@@ -99,7 +99,7 @@ module _ (answer : Answer) (word value after : ℕ) (fits : ReadFits answer word
           (
             refl,
             (
-              (refl, (0, 0, false, refl, record { since = no_deeds; unclean = false; pair = refl; quiet = refl; clean = refl; in_use = omega arith })),
+              (refl, (0, 0, false, refl, record { since = no_deeds; unclean = false; rest = []; pair = refl; none = refl; quiet = refl; clean = refl; in_use = omega arith })),
               (([], tt, refl), tt),
             ),
           ),
@@ -273,7 +273,7 @@ fits answer word value after look told row cached viewed first second last heard
 
 pub poison_fits : ReadFits (answers.Value (seen_at 16384 0 0x2000003) poison) 0x2000003 poison 2 (reading_so the_read)
 poison_fits = fits (answers.Value (seen_at 16384 0 0x2000003) poison) 0x2000003 poison 2 refl
-    (λ sizes long. subst (λ n. IsTold (λ s. n) (told_record the_read)) (sym long) (refl, (0, 0, false, refl, record { since = no_deeds; unclean = false; pair = refl; quiet = refl; clean = refl; in_use = omega arith })))
+    (λ sizes long. subst (λ n. IsTold (λ s. n) (told_record the_read)) (sym long) (refl, (0, 0, false, refl, record { since = no_deeds; unclean = false; rest = []; pair = refl; none = refl; quiet = refl; clean = refl; in_use = omega arith })))
     (λ sizes long. held_row sizes long 0x2000003 poison refl) (none_on two_threads_journal 8 refl, λ p c. refl) seen_so
     (record { knows = knows_one told_first steps_first of_first; own_logs = refl; adds = λ q. refl; order = order_1 (answers.Value (seen_at 16384 0 0x2000003) poison) 0x2000003 poison 2 })
     (record { knows = knows_one told_second steps_second of_second; own_logs = refl; adds = λ q. refl; order = held_2 (answers.Value (seen_at 16384 0 0x2000003) poison) poison 2 }) (record {
@@ -285,7 +285,7 @@ poison_fits = fits (answers.Value (seen_at 16384 0 0x2000003) poison) 0x2000003 
 
 pub content_fits : ReadFits (answers.Value (seen_at 16384 0 0x2000003) 0) 0x2000003 0 2 (reading_so content_read)
 content_fits = fits (answers.Value (seen_at 16384 0 0x2000003) 0) 0x2000003 0 2 refl
-    (λ sizes long. subst (λ n. IsTold (λ s. n) (told_record content_read)) (sym long) (refl, (0, 0, false, refl, record { since = no_deeds; unclean = false; pair = refl; quiet = refl; clean = refl; in_use = omega arith })))
+    (λ sizes long. subst (λ n. IsTold (λ s. n) (told_record content_read)) (sym long) (refl, (0, 0, false, refl, record { since = no_deeds; unclean = false; rest = []; pair = refl; none = refl; quiet = refl; clean = refl; in_use = omega arith })))
     (λ sizes long. held_row sizes long 0x2000003 0 refl) (none_on two_threads_journal 8 refl, λ p c. refl) other_reads_fit.content.viewed
     (record { knows = knows_one told_first steps_first of_first; own_logs = refl; adds = λ q. refl; order = order_1 (answers.Value (seen_at 16384 0 0x2000003) 0) 0x2000003 0 2 })
     (record { knows = knows_one content_second steps_second content_of_second; own_logs = refl; adds = λ q. refl; order = held_2 (answers.Value (seen_at 16384 0 0x2000003) 0) 0 2 }) (record {
@@ -297,7 +297,7 @@ content_fits = fits (answers.Value (seen_at 16384 0 0x2000003) 0) 0x2000003 0 2 
 
 pub freed_fits : ReadFits (answers.Dangling (seen_at 16384 0 0x3000002) poison) 0x3000002 poison 3 (reading_so freed_read)
 freed_fits = fits (answers.Dangling (seen_at 16384 0 0x3000002) poison) 0x3000002 poison 3 refl
-    (λ sizes long. subst (λ n. IsTold (λ s. n) (told_record freed_read)) (sym long) (refl, (0, 0, false, refl, record { since = no_deeds; unclean = false; pair = refl; quiet = refl; clean = refl; in_use = omega arith })))
+    (λ sizes long. subst (λ n. IsTold (λ s. n) (told_record freed_read)) (sym long) (refl, (0, 0, false, refl, record { since = no_deeds; unclean = false; rest = []; pair = refl; none = refl; quiet = refl; clean = refl; in_use = omega arith })))
     (λ sizes long. freed_row sizes long 0x3000002 poison refl) (none_on two_threads_journal 8 refl, λ p c. refl) other_reads_fit.freed.viewed
     (record { knows = knows_one told_first steps_first of_first; own_logs = refl; adds = λ q. refl; order = order_1 (answers.Dangling (seen_at 16384 0 0x3000002) poison) 0x3000002 poison 3 })
     (record { knows = knows_one freed_second steps_second freed_of_second; own_logs = refl; adds = λ q. refl; order = freed_2 (answers.Dangling (seen_at 16384 0 0x3000002) poison) poison 3 })

@@ -201,9 +201,9 @@ content_told x among = each (IsTold sixteen) so_content (
         (
           refl,
           (
-            (refl, (0, 0, false, refl, record { since = no_deeds; unclean = false; pair = refl; quiet = refl; clean = refl; in_use = omega arith })),
+            (refl, (0, 0, false, refl, record { since = no_deeds; unclean = false; rest = []; pair = refl; none = refl; quiet = refl; clean = refl; in_use = omega arith })),
             (
-              (refl, (0, 0, false, refl, record { since = no_deeds; unclean = false; pair = refl; quiet = refl; clean = refl; in_use = omega arith })),
+              (refl, (0, 0, false, refl, record { since = no_deeds; unclean = false; rest = []; pair = refl; none = refl; quiet = refl; clean = refl; in_use = omega arith })),
               (([], tt, refl), tt),
             ),
           ),
@@ -225,9 +225,9 @@ freed_told x among = each (IsTold sixteen) so_freed (
         (
           refl,
           (
-            (refl, (0, 0, false, refl, record { since = no_deeds; unclean = false; pair = refl; quiet = refl; clean = refl; in_use = omega arith })),
+            (refl, (0, 0, false, refl, record { since = no_deeds; unclean = false; rest = []; pair = refl; none = refl; quiet = refl; clean = refl; in_use = omega arith })),
             (
-              (refl, (0, 0, false, refl, record { since = no_deeds; unclean = false; pair = refl; quiet = refl; clean = refl; in_use = omega arith })),
+              (refl, (0, 0, false, refl, record { since = no_deeds; unclean = false; rest = []; pair = refl; none = refl; quiet = refl; clean = refl; in_use = omega arith })),
               (([], tt, refl), tt),
             ),
           ),

@@ -60,9 +60,9 @@ told x among = each (IsTold sixteen) threads_told (
         (
           refl,
           (
-            (refl, (0, 0, false, refl, record { since = no_deeds; unclean = false; pair = refl; quiet = refl; clean = refl; in_use = omega arith })),
+            (refl, (0, 0, false, refl, record { since = no_deeds; unclean = false; rest = []; pair = refl; none = refl; quiet = refl; clean = refl; in_use = omega arith })),
             (
-              (refl, (0, 0, false, refl, record { since = no_deeds; unclean = false; pair = refl; quiet = refl; clean = refl; in_use = omega arith })),
+              (refl, (0, 0, false, refl, record { since = no_deeds; unclean = false; rest = []; pair = refl; none = refl; quiet = refl; clean = refl; in_use = omega arith })),
               (([], tt, refl), tt),
             ),
           ),
@@ -240,7 +240,7 @@ abbrev the_seen : Seen
 the_seen = seen_at 16384 0 0x2000003
 
 read_told : IsReadTold (title_of sixteen the_seen.slot) 0 the_seen.found.0 poison false (read_poison 0x2000003)
-read_told = record { since = no_deeds; unclean = false; pair = refl; quiet = refl; clean = refl; in_use = omega arith }
+read_told = record { since = no_deeds; unclean = false; rest = []; pair = refl; none = refl; quiet = refl; clean = refl; in_use = omega arith }
 
 reader_read : ReadsThrough sixteen (after_take 0) the_seen 0 poison (told_record the_read)
 reader_read = (refl, false, read_told)
