@@ -1,5 +1,5 @@
 -- One addition after the other.
-use Rattle.std.proofs.Common.{◌≡◌, ℕ, ◌+◌, ◌*◌, ◌%◌, ◌<◌, ◌≤◌, List, [], ◌∷◌, ◌++◌, refl, sym, ◌∙◌, ap, subst, arith, inl, inr}
+use Rattle.std.proofs.Common.{◌≡◌, ℕ, ◌+◌, ◌*◌, ◌%◌, ◌<◌, ◌≤◌, List, [], ◌∷◌, ◌++◌, Bool, true, false, refl, sym, ◌∙◌, ap, subst, arith, inl, inr}
 use Rattle.std.specs.Prelude.{◌==◌, if◌then◌else◌}
 use Rattle.std.specs.List.{sum_by}
 use Rattle.std.proofs.lemmas.List.{append_assoc}
@@ -13,9 +13,9 @@ use Rattle.pa_region.specs.Views.{HasStake, least_stake}
 use Rattle.pa_region.specs.Pairs.{log_among, least_log}
 use Rattle.pa_region.specs.Takes.{log_of}
 use Rattle.pa_region.specs.Leaves.{AddLeaves}
-use Rattle.pa_region.specs.Totals.{owes_as, added_as, added_to, after_add, CanAdd}
+use Rattle.pa_region.specs.Totals.{owes_as, added_as, after_add, CanAdd}
 use Rattle.pa_totals.specs.declared.owed.Owed.{Owed}
-use Rattle.pa_totals.specs.Settled.{owed_to, CanSettle, after_settle, LeavesSettle}
+use Rattle.pa_totals.specs.Settled.{nothing_owed, owed_to, CanSettle, after_settle, LeavesSettle, owed_at, CanSettleAll, after_settle_all}
 
 -- what the least stake's log owes of kind q is at least so much
 abbrev pub HasRoom : (ℕ → ℕ) → View → Type 0
@@ -29,13 +29,13 @@ added_kind p j bytes q small kind =
     rw (lt-ltb (4 * p + j) 16 below, rest) refl
 
 -- so it may be made, and leaves room for the other kinds
-pub can_add : (p j bytes : ℕ) (v : View) (f : ℕ → ℕ) → p < 4 → j < 4 → HasRoom f v → f j ≡ bytes → CanAdd (4 * p + j) bytes v
+pub can_add : (p j bytes : ℕ) (v : View) (f : ℕ → ℕ) → p < 4 → j < 4 → HasRoom f v → bytes ≤ f j → CanAdd (4 * p + j) bytes v
 can_add p j bytes v f small kind room same =
     let rest : (4 * p + j) % 4 ≡ j = omega arith in
     let r = room.1 j in
     (omega arith, room.0, rw rest (omega arith))
 
-pub room_left : AddLeaves → (p j bytes : ℕ) (v : View) (f g : ℕ → ℕ) → p < 4 → j < 4 → HasRoom f v → f j ≡ bytes → ((q : ℕ) → g q + (if j == q then bytes else 0) ≤ f q) →
+pub room_left : AddLeaves → (p j bytes : ℕ) (v : View) (f g : ℕ → ℕ) → p < 4 → j < 4 → HasRoom f v → bytes ≤ f j → ((q : ℕ) → g q + (if j == q then bytes else 0) ≤ f q) →
     HasRoom g (after_add (4 * p + j) bytes v)
 room_left leaves p j bytes v f g small kind room same less =
     let l = leaves (4 * p + j) bytes v (can_add p j bytes v f small kind room same) in
@@ -72,6 +72,12 @@ less_entered o q = elim (eqb_tells q 2) [
   | inr n ↦ rw (n.0, ne_eqb 2 q (λ e. n.1 (sym e))) (omega arith)
 ]
 
+less_left : (o : Owed) (q : ℕ) → owed_to q (record o { left = 0 }) + (if 3 == q then o.left else 0) ≤ owed_to q o
+less_left o q = elim (eqb_tells q 3) [
+  | inl y ↦ subst (λ (n : ℕ). owed_to n (record o { left = 0 }) + (if 3 == n then o.left else 0) ≤ owed_to n o) (sym y.1) (omega arith)
+  | inr n ↦ rw (n.0, ne_eqb 3 q (λ e. n.1 (sym e))) (omega arith)
+]
+
 -- each of the four additions may be made
 pub record AddsEach (p : ℕ) (o : Owed) (v : View) : Type 0 where
   pub issued : CanAdd (4 * p) o.issued v
@@ -92,14 +98,14 @@ adds_each leaves p o v can =
     let r0 : HasRoom (λ q. owed_to q o) v = (can.stake, can.covered) in
     let r1 : HasRoom (λ q. owed_to q o1) v1 =
     subst (λ (k : ℕ). HasRoom (λ q. owed_to q o1) (after_add k o.issued v)) first
-    (room_left leaves p 0 o.issued v (λ q. owed_to q o) (λ q. owed_to q o1) small (omega arith) r0 refl (less_issued o)) in
-    let r2 : HasRoom (λ q. owed_to q o2) v2 = room_left leaves p 1 o.freed v1 (λ q. owed_to q o1) (λ q. owed_to q o2) small (omega arith) r1 refl (less_freed o1) in
-    let r3 : HasRoom (λ q. owed_to q o3) v3 = room_left leaves p 2 o.entered v2 (λ q. owed_to q o2) (λ q. owed_to q o3) small (omega arith) r2 refl (less_entered o2) in
+    (room_left leaves p 0 o.issued v (λ q. owed_to q o) (λ q. owed_to q o1) small (omega arith) r0 (omega arith) (less_issued o)) in
+    let r2 : HasRoom (λ q. owed_to q o2) v2 = room_left leaves p 1 o.freed v1 (λ q. owed_to q o1) (λ q. owed_to q o2) small (omega arith) r1 (omega arith) (less_freed o1) in
+    let r3 : HasRoom (λ q. owed_to q o3) v3 = room_left leaves p 2 o.entered v2 (λ q. owed_to q o2) (λ q. owed_to q o3) small (omega arith) r2 (omega arith) (less_entered o2) in
     record {
-      issued = subst (λ (k : ℕ). CanAdd k o.issued v) first (can_add p 0 o.issued v (λ q. owed_to q o) small (omega arith) r0 refl);
-      freed = can_add p 1 o.freed v1 (λ q. owed_to q o1) small (omega arith) r1 refl;
-      entered = can_add p 2 o.entered v2 (λ q. owed_to q o2) small (omega arith) r2 refl;
-      left = can_add p 3 o.left v3 (λ q. owed_to q o3) small (omega arith) r3 refl;
+      issued = subst (λ (k : ℕ). CanAdd k o.issued v) first (can_add p 0 o.issued v (λ q. owed_to q o) small (omega arith) r0 (omega arith));
+      freed = can_add p 1 o.freed v1 (λ q. owed_to q o1) small (omega arith) r1 (omega arith);
+      entered = can_add p 2 o.entered v2 (λ q. owed_to q o2) small (omega arith) r2 (omega arith);
+      left = can_add p 3 o.left v3 (λ q. owed_to q o3) small (omega arith) r3 (omega arith);
     }
 
 -- one entry after the other
@@ -132,4 +138,72 @@ leaves_settle leaves p o v can =
       log = log4 ∙ (ap (λ (l : List Entry). l ++ e4) three ∙ append_assoc (log_of n v) ((e1 ++ e2) ++ e3) e4);
       other_logs = λ k ne. d.other_logs k (λ e. ne (e ∙ l3)) ∙ (c.other_logs k (λ e. ne (e ∙ l2)) ∙ (b.other_logs k (λ e. ne (e ∙ l1)) ∙ a.other_logs k ne));
       stakes = λ k. d.stakes k ∙ (c.stakes k ∙ (b.stakes k ∙ a.stakes k));
+    }
+
+-- ---- all four partitions
+
+-- nothing is owed to no kind
+owed_none : (q : ℕ) → owed_to q nothing_owed ≡ 0
+owed_none q = go (q == 0) (q == 1) (q == 2) (q == 3)
+  where
+    go : (a b c d : Bool) → ◌≡◌ {A = ℕ} (if a then 0 else (if b then 0 else (if c then 0 else (if d then 0 else 0)))) 0
+    go true b c d = refl
+    go false true c d = refl
+    go false false true d = refl
+    go false false false true = refl
+    go false false false false = refl
+
+-- a settling leaves room for what else is owed
+settle_room : AddLeaves → (p : ℕ) (o : Owed) (v : View) (g : ℕ → ℕ) → p < 4 → HasRoom (λ q. owed_to q o + g q) v → HasRoom g (after_settle p o v)
+settle_room leaves p o v g small room =
+    let first : 4 * p + 0 ≡ 4 * p = omega arith in
+    let o1 : Owed = record o { issued = 0 } in
+    let o2 : Owed = record o1 { freed = 0 } in
+    let o3 : Owed = record o2 { entered = 0 } in
+    let v1 = after_add (4 * p) o.issued v in
+    let v2 = after_add (4 * p + 1) o.freed v1 in
+    let v3 = after_add (4 * p + 2) o.entered v2 in
+    let r1 : HasRoom (λ q. owed_to q o1 + g q) v1 =
+    subst (λ (k : ℕ). HasRoom (λ q. owed_to q o1 + g q) (after_add k o.issued v)) first
+    (room_left leaves p 0 o.issued v (λ q. owed_to q o + g q) (λ q. owed_to q o1 + g q) small (omega arith) room (omega arith) (λ q. let a = less_issued o q in omega arith)) in
+    let r2 : HasRoom (λ q. owed_to q o2 + g q) v2 =
+    room_left leaves p 1 o.freed v1 (λ q. owed_to q o1 + g q) (λ q. owed_to q o2 + g q) small (omega arith) r1 (omega arith) (λ q. let a = less_freed o1 q in omega arith) in
+    let r3 : HasRoom (λ q. owed_to q o3 + g q) v3 =
+    room_left leaves p 2 o.entered v2 (λ q. owed_to q o2 + g q) (λ q. owed_to q o3 + g q) small (omega arith) r2 (omega arith) (λ q. let a = less_entered o2 q in omega arith) in
+    room_left leaves p 3 o.left v3 (λ q. owed_to q o3 + g q) g small (omega arith) r3 (omega arith) (λ q. let a = less_left o3 q in let b = owed_none q in omega arith)
+
+can_settle : (p : ℕ) (o : Owed) (v : View) (g : ℕ → ℕ) → p < 4 → HasRoom (λ q. owed_to q o + g q) v → CanSettle p o v
+can_settle p o v g small room = record { partition = small; stake = room.0; covered = λ q. let a = room.1 q in omega arith }
+
+-- each of the four settlings may be made, and no more is added then than is owed
+pub record SettlesEach (owed : List Owed) (v : View) : Type 0 where
+  pub first : CanSettle 0 (owed_at owed 0) v
+  pub second : CanSettle 1 (owed_at owed 1) (after_settle 0 (owed_at owed 0) v)
+  pub third : CanSettle 2 (owed_at owed 2) (after_settle 1 (owed_at owed 1) (after_settle 0 (owed_at owed 0) v))
+  pub fourth : CanSettle 3 (owed_at owed 3) (after_settle 2 (owed_at owed 2) (after_settle 1 (owed_at owed 1) (after_settle 0 (owed_at owed 0) v)))
+  pub room : HasRoom (λ q. 0) (after_settle_all owed v)
+
+pub settles_each : AddLeaves → (owed : List Owed) (v : View) → CanSettleAll owed v → SettlesEach owed v
+settles_each leaves owed v can =
+    let o0 = owed_at owed 0 in
+    let o1 = owed_at owed 1 in
+    let o2 = owed_at owed 2 in
+    let o3 = owed_at owed 3 in
+    let g1 : ℕ → ℕ = λ q. owed_to q o1 + (owed_to q o2 + owed_to q o3) in
+    let g2 : ℕ → ℕ = λ q. owed_to q o2 + owed_to q o3 in
+    let g3 : ℕ → ℕ = λ q. owed_to q o3 + 0 in
+    let v1 = after_settle 0 o0 v in
+    let v2 = after_settle 1 o1 v1 in
+    let v3 = after_settle 2 o2 v2 in
+    let r0 : HasRoom (λ q. owed_to q o0 + g1 q) v = (can.stake, can.covered) in
+    let r1 : HasRoom (λ q. owed_to q o1 + g2 q) v1 = settle_room leaves 0 o0 v g1 (omega arith) r0 in
+    let r2 = settle_room leaves 1 o1 v1 g2 (omega arith) r1 in
+    let r2' : HasRoom (λ q. owed_to q o2 + g3 q) v2 = (r2.0, λ q. let a = r2.1 q in omega arith) in
+    let r3 : HasRoom (λ q. owed_to q o3 + 0) v3 = settle_room leaves 2 o2 v2 g3 (omega arith) r2' in
+    record {
+      first = can_settle 0 o0 v g1 (omega arith) r0;
+      second = can_settle 1 o1 v1 g2 (omega arith) r1;
+      third = can_settle 2 o2 v2 g3 (omega arith) r2';
+      fourth = can_settle 3 o3 v3 (λ q. 0) (omega arith) r3;
+      room = settle_room leaves 3 o3 v3 (λ q. 0) (omega arith) r3;
     }

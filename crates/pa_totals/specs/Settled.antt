@@ -1,5 +1,5 @@
 -- What a settling adds to the totals words, when a seat may make it, and what was added to a word.
-use Rattle.std.specs.Prelude.{◌≡◌, ℕ, ◌+◌, ◌*◌, ◌<◌, ◌≤◌, ◌==◌, List, [], ◌∷◌, ◌++◌, if◌then◌else◌}
+use Rattle.std.specs.Prelude.{◌≡◌, ℕ, ◌+◌, ◌*◌, ◌<◌, ◌≤◌, ◌==◌, List, [], ◌∷◌, ◌++◌, if◌then◌else◌, slice_index_or}
 use Rattle.std.specs.List.{sum_by}
 use Rattle.pa_region.specs.declared.view.Entry.{Entry}
 use Rattle.pa_region.specs.declared.view.Entry.TheVariants.{Added}
@@ -49,3 +49,46 @@ pub record LeavesSettle (p : ℕ) (o : Owed) (v w : View) : Type 0 where
 
 abbrev pub SettleLeaves : Type 0
 SettleLeaves = (p : ℕ) (o : Owed) (v : View) → CanSettle p o v → LeavesSettle p o v (after_settle p o v)
+
+-- ---- the words of all four partitions
+
+-- what is owed to the words of partition p
+abbrev pub owed_at : List Owed → ℕ → Owed
+owed_at owed p = slice_index_or owed p nothing_owed
+
+-- nothing is owed to any
+abbrev pub none_owed : List Owed
+none_owed = nothing_owed ∷ nothing_owed ∷ nothing_owed ∷ nothing_owed ∷ []
+
+-- what is owed to the words of kind q, of all partitions
+abbrev pub owed_in : ℕ → List Owed → ℕ
+owed_in q owed =
+    owed_to q (owed_at owed 0) + (owed_to q (owed_at owed 1) + (owed_to q (owed_at owed 2) + owed_to q (owed_at owed 3)))
+
+-- A seat with this view may settle all of it: it has a stake, and of each kind the least stake's log owes as much.
+pub record CanSettleAll (owed : List Owed) (v : View) : Type 0 where
+  pub stake : HasStake v
+  pub covered : (q : ℕ) → sum_by (added_as q) (least_log v.stakes) + owed_in q owed ≤ sum_by (owes_as q) (least_log v.stakes)
+
+-- the view after it: one partition settled after the other
+abbrev pub after_settle_all : List Owed → View → View
+after_settle_all owed v =
+    after_settle 3 (owed_at owed 3) (after_settle 2 (owed_at owed 2) (after_settle 1 (owed_at owed 1) (after_settle 0 (owed_at owed 0) v)))
+
+-- the sixteen additions, as entries of a log
+abbrev pub all_added : List Owed → List Entry
+all_added owed =
+    four_added 0 (owed_at owed 0) ++ (four_added 1 (owed_at owed 1) ++ (four_added 2 (owed_at owed 2) ++ four_added 3 (owed_at owed 3)))
+
+-- What it leaves of logs: the least stake's log ends with the sixteen additions, and added no more than it owes; the others are as
+-- before, and so are the stakes. To each word of these was added what was owed to it.
+pub record LeavesSettleAll (owed : List Owed) (v w : View) : Type 0 where
+  pub least : least_stake w.stakes ≡ least_stake v.stakes
+  pub log : log_of (least_stake v.stakes) w ≡ log_of (least_stake v.stakes) v ++ all_added owed
+  pub other_logs : (k : ℕ) → (k ≡ least_stake v.stakes → ⊥) → log_of k w ≡ log_of k v
+  pub stakes : (k : ℕ) → stake_of w k ≡ stake_of v k
+  pub covered : (q : ℕ) → sum_by (added_as q) (least_log w.stakes) ≤ sum_by (owes_as q) (least_log w.stakes)
+  pub adds : (p q : ℕ) → p < 4 → q < 4 → sum_by (added_to (4 * p + q)) (all_added owed) ≡ owed_to q (owed_at owed p)
+
+abbrev pub SettleAllLeaves : Type 0
+SettleAllLeaves = (owed : List Owed) (v : View) → CanSettleAll owed v → LeavesSettleAll owed v (after_settle_all owed v)

@@ -6,6 +6,6 @@ mod laws;
 mod owed;
 mod sums;
 
-pub use laws::settlings_leave;
-pub use owed::{Owed, settle};
+pub use laws::{settlings_leave, whole_settlings_leave};
+pub use owed::{Owed, settle, settle_all};
 pub use sums::balance;

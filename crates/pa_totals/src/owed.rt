@@ -1,5 +1,5 @@
 ghost use Rattle.std.specs.Prelude.{◌≡◌};
-ghost use Rattle.pa_totals.specs.Settled.{CanSettle, nothing_owed, after_settle};
+ghost use Rattle.pa_totals.specs.Settled.{CanSettle, nothing_owed, after_settle, CanSettleAll, none_owed, after_settle_all};
 
 use pa_region::{Region, Seat, additions_stand_in_logs};
 
@@ -32,4 +32,24 @@ pub fn settle(region: &Region, seat: &mut Seat, partition: u32, owed: &mut Owed)
         entered: 0,
         left: 0,
     };
+}
+
+/// Adds what is owed to the words of all four partitions, one partition after the other; then nothing is owed.
+pub fn settle_all(region: &Region, seat: &mut Seat, owed: &mut [Owed; 4])
+    requires region { seat.old.region ≡ region.now }
+    requires able { CanSettleAll owed.old seat.old.view }
+    ensures region { seat.new.region ≡ seat.old.region }
+    ensures view { seat.new.view ≡ after_settle_all owed.old seat.old.view }
+    ensures settled { owed.new ≡ none_owed }
+{
+    additions_stand_in_logs();
+    let mut first = owed[0];
+    let mut second = owed[1];
+    let mut third = owed[2];
+    let mut fourth = owed[3];
+    settle(region, seat, 0, &mut first);
+    settle(region, seat, 1, &mut second);
+    settle(region, seat, 2, &mut third);
+    settle(region, seat, 3, &mut fourth);
+    *owed = [first, second, third, fourth];
 }

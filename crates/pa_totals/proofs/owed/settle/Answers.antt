@@ -1,4 +1,4 @@
-use Rattle.std.proofs.Common.{ℕ, ◌+◌, ◌*◌, sym, ◌∙◌, ap, subst}
+use Rattle.std.proofs.Common.{◌+◌, ◌*◌, sym, ◌∙◌, ap, subst}
 use Rattle.pa_region.specs.declared.view.View.{View}
 use Rattle.pa_region.specs.Totals.{after_add, CanAdd}
 use Rattle.pa_totals.proofs.Settling.{adds_each}
