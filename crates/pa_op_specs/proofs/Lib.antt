@@ -6,6 +6,7 @@ pub mod Quiet
 pub mod Stocks
 pub mod Refusing
 pub mod Following
+pub mod Settling
 pub mod Counting
 pub mod Weighing
 pub mod Entered

@@ -6,3 +6,4 @@ pub mod Entering
 pub mod Owing
 pub mod Plays
 pub mod Following
+pub mod Settling
