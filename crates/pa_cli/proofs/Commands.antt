@@ -1,5 +1,5 @@
 -- Words that ask for two commands ask for two that need the same: the first word tells them apart.
-use Rattle.std.proofs.Common.{◌≡◌, ◌∙◌, ℕ, ◌+◌, ◌*◌, ◌==◌, cond, true, false, List, [], ◌∷◌, codes, ap, refl, sym}
+use Rattle.std.proofs.Common.{◌≡◌, ◌∙◌, ℕ, ◌+◌, ◌*◌, ◌==◌, cond, true, false, List, [], ◌∷◌, codes, ap, sym}
 use Rattle.pa_cli.specs.declared.command.Command.{Command}
 use Rattle.pa_cli.specs.declared.command.Command.TheVariants.{Replay, Model, Audit, Layout, Trace, Gen, Help, Version}
 use Rattle.pa_cli.specs.Command.{AsksFor, AsksForThreads, Needs, needs_of}

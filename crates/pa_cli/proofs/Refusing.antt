@@ -6,7 +6,7 @@ use Rattle.pa_trace.specs.declared.script.Trace.{Trace}
 use Rattle.pa_trace.specs.declared.fault.TraceFault.{TraceFault}
 use Rattle.pa_trace.specs.declared.fault.TraceFault.TheVariants.{BadLine, Limit, OutOfMemory}
 use Rattle.pa_trace.specs.Limits.{most_bytes}
-use Rattle.pa_trace.specs.Faults.{IsFirstFault, IsFault}
+use Rattle.pa_trace.specs.Faults.{IsFault}
 use Rattle.pa_trace.proofs.Early.{fault_early}
 use Rattle.pa_cli.specs.declared.status.Status.TheVariants.{NotLegal}
 use Rattle.pa_cli.specs.Call.{Stream, IsRead, IsReadWhole}

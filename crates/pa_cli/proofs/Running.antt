@@ -1,5 +1,5 @@
 -- When a call has a run and a region.
-use Rattle.std.proofs.Common.{◌≡◌, ◌∙◌, ◌↔◌, List, ℕ, Bool, true, false, Option, Some, None, IsSome, inl, inr, refl, sym, ap, arith}
+use Rattle.std.proofs.Common.{◌≡◌, ◌∙◌, ◌↔◌, List, ℕ, Bool, true, false, Option, Some, None, IsSome, inl, inr, refl, sym}
 use Rattle.pa_cli.specs.declared.command.Command.{Command}
 use Rattle.pa_cli.specs.declared.command.Command.TheVariants.{Replay, Model, Audit, Layout, Gen, Help, Version}
 use Rattle.pa_cli.specs.declared.command.Command.TheVariants as commands
