@@ -63,6 +63,9 @@ pub lists_stake : (line p n : ℕ) (s now : StockValue) → GivesLists line p n 
 lists_stake line p n s now some stake =
     subst (λ k. 0 < stake_of now.view k) (sym some.given.same.0) (let e = some.given.stakes s.thread in omega arith)
 
+pub lists_thread : (line p n : ℕ) (s now : StockValue) → GivesLists line p n s now → now.thread ≡ s.thread
+lists_thread line p n s now some = some.given.same.0
+
 -- the next list is as it was
 pub next_listed : (line p n : ℕ) (s now : StockValue) → GivesLists line p n s now → IsStock now → listed_in now p n ≡ listed_in s p n
 next_listed line p n s now some is =

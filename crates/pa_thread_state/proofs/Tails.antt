@@ -69,6 +69,9 @@ pub some_stake : (line p c keep n : ℕ) (s now : StockValue) → GivesSome line
 some_stake line p c keep n s now some stake =
     subst (λ k. 0 < stake_of now.view k) (sym some.given.same.0) (let e = some.given.stakes s.thread in omega arith)
 
+pub some_thread : (line p c keep n : ℕ) (s now : StockValue) → GivesSome line p c keep n s now → now.thread ≡ s.thread
+some_thread line p c keep n s now some = some.given.same.0
+
 -- one batch more
 pub some_more : (line p c keep n : ℕ) (s now next : StockValue) → IsStock now → GivesSome line p c keep n s now → GivesBatch line p c keep now next →
     keep + 16 * n < length (titles_in s.caches p c) → GivesSome line p c keep (n + 1) s next

@@ -7,3 +7,4 @@ pub mod Homing
 pub mod Releasing
 pub mod Purging
 pub mod Allocating
+pub mod Stopping

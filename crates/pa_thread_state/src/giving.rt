@@ -11,6 +11,7 @@ ghost use Rattle.pa_root.specs.Handing.{HasOnly, HasSeenFill, GiveTakes};
 ghost use Rattle.pa_op_specs.specs.Stocks.{titles_in};
 ghost use Rattle.pa_op_specs.specs.Workers.{HasItsStake};
 ghost use Rattle.pa_thread_state.specs.Giving.{GivesTail, GivesBatch, HandsBack, TakesBack};
+ghost use Rattle.pa_thread_state.specs.Stopping.{KeepsItsStake};
 
 use crate::heap::Heap;
 use crate::listing::place_of;
@@ -42,6 +43,7 @@ impl<N: Name> Stock<N> {
         requires stake { HasItsStake self.old }
         requires partition { partition < most_partitions }
         ensures gives { OnOk result (GivesTail line partition class keep self.old self.new) }
+        ensures stake { OnErr result (KeepsItsStake self.old self.new) }
         ensures budget { self.new.view.budget ≡ self.old.view.budget }
     {
         self.kept();
@@ -94,6 +96,7 @@ impl<N: Name> Stock<N> {
         requires partition { partition < most_partitions }
         requires some { keep < length (titles_in self.old.caches partition class) }
         ensures gives { OnOk result (GivesBatch line partition class keep self.old self.new) }
+        ensures stake { OnErr result (KeepsItsStake self.old self.new) }
         ensures budget { self.new.view.budget ≡ self.old.view.budget }
     {
         kept_numbers_stay();

@@ -9,6 +9,7 @@ ghost use Rattle.pa_cells.specs.Handles.{HasSeenMade};
 ghost use Rattle.pa_op_specs.specs.Workers.{HasItsStake};
 ghost use Rattle.pa_thread_state.specs.Changes.{IsBack, NeedsRoot};
 ghost use Rattle.pa_thread_state.specs.Homing.{ComesHome, GoesHome, Spills, IsSettled, without_title, note_of_title};
+ghost use Rattle.pa_thread_state.specs.Stopping.{KeepsItsStake};
 
 use crate::heap::Heap;
 use crate::roots::with_root;
@@ -35,6 +36,7 @@ impl<N: Name> Stock<N> {
         requires back { IsBack handle.now self.old }
         requires root { NeedsRoot handle.now self.old }
         ensures settled { OnOk result (IsSettled line handle.now self.old self.new) }
+        ensures stake { OnErr result (KeepsItsStake self.old self.new) }
     {
         match handle.class {
             None => self.send_home(rt, heap, line, handle),
@@ -62,6 +64,7 @@ impl<N: Name> Stock<N> {
         requires class { handle.now.class ≡ Some class }
         requires some { 0 < limit_of class }
         ensures spills { OnOk result (Spills line handle.now class self.old self.new) }
+        ensures stake { OnErr result (KeepsItsStake self.old self.new) }
     {
         slots_stay_seen();
         self.kept();
@@ -84,6 +87,7 @@ impl<N: Name> Stock<N> {
         requires stake { HasItsStake self.old }
         requires back { IsBack handle.now self.old }
         ensures home { OnOk result (GoesHome line handle.now self.old self.new) }
+        ensures stake { OnErr result (KeepsItsStake self.old self.new) }
     {
         self.kept();
         let note = self.part_with(heap, handle);
@@ -140,8 +144,10 @@ impl<N: Name> Stock<N> {
 
     // Takes in a note that has free titles and nothing else.
     fn take_back(&mut self, heap: &Heap<N>, note: Note)
+        requires stake { HasItsStake self.old }
         requires note { note.region ≡ N.region }
         requires has { (ts : List Title) × HasOnly ts note.view }
+        ensures stake { KeepsItsStake self.old self.new }
     {
         beginnings_join();
         slots_stay_seen();

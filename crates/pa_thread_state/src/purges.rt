@@ -6,6 +6,7 @@ ghost use Rattle.pa_region.specs.Lending.{CanLend};
 ghost use Rattle.pa_root.specs.Handing.{PurgeEnters};
 ghost use Rattle.pa_op_specs.specs.Workers.{HasItsStake};
 ghost use Rattle.pa_thread_state.specs.Purging.{PurgesRoot};
+ghost use Rattle.pa_thread_state.specs.Stopping.{KeepsItsStake};
 
 use crate::heap::Heap;
 use crate::listing::class_numbered;
@@ -32,6 +33,7 @@ impl<N: Name> Stock<N> {
         requires partition { partition < most_partitions }
         ensures purges { IfOk result (λ slots. PurgesRoot line partition slots self.old self.new) }
         ensures few { IfOk result (λ slots. slots ≤ 3776) }
+        ensures stake { OnErr result (KeepsItsStake self.old self.new) }
         ensures budget { self.new.view.budget ≡ self.old.view.budget }
     {
         kept_numbers_stay();

@@ -1,5 +1,5 @@
 //! Resets and frees, with what becomes of a slot that they return.
-ghost use Rattle.std.specs.Prelude.{◌≡◌, ◌+◌, ◌<◌, ◌≤◌, IfOk, OnOk};
+ghost use Rattle.std.specs.Prelude.{◌≡◌, ◌+◌, ◌<◌, ◌≤◌, IfOk, OnOk, OnErr};
 ghost use Rattle.pa_machine.specs.declared.word.Step.TheVariants as steps;
 ghost use Rattle.pa_trace.specs.Limits.{register_count};
 ghost use Rattle.pa_quarantine.specs.Filling.{poisoned};
@@ -8,6 +8,7 @@ ghost use Rattle.pa_op_specs.specs.Stocks.{register_in};
 ghost use Rattle.pa_op_specs.specs.Workers.{HasItsStake};
 ghost use Rattle.pa_thread_state.specs.Changes.{IsBack};
 ghost use Rattle.pa_thread_state.specs.Releasing.{IsBroughtBack, Releases};
+ghost use Rattle.pa_thread_state.specs.Stopping.{KeepsItsStake};
 
 use crate::heap::Heap;
 use crate::stock::Stock;
@@ -35,6 +36,7 @@ impl<N: Name> Stock<N> {
         requires handle { register_in self.old.registers reg ≡ registers.Ref handle }
         ensures releases { IfOk result (λ seen. Releases line steps.Reset handle reg registers.Cleared self.old.view seen self.old self.new) }
         ensures budget { OnOk result (self.old.view.budget ≤ self.new.view.budget + 1) }
+        ensures stake { OnErr result (KeepsItsStake self.old self.new) }
     {
         counted_steps_leave();
         self.kept();
@@ -65,6 +67,7 @@ impl<N: Name> Stock<N> {
         ensures releases { IfOk result
             (λ seen. Releases line steps.Free handle reg registers.Freed (poisoned handle.title self.old.view) seen self.old self.new) }
         ensures budget { OnOk result (self.old.view.budget ≤ self.new.view.budget + 1) }
+        ensures stake { OnErr result (KeepsItsStake self.old self.new) }
     {
         counted_steps_leave();
         owns_change();
@@ -92,6 +95,7 @@ impl<N: Name> Stock<N> {
         requires back { IsBack handle.now self.old }
         ensures back { OnOk result (IsBroughtBack line handle.now self.old self.new) }
         ensures budget { OnOk result (self.new.view.budget ≡ self.old.view.budget) }
+        ensures stake { OnErr result (KeepsItsStake self.old self.new) }
     {
         let listed = self.put(heap.region(), handle);
         if listed {

@@ -1,4 +1,6 @@
-use Rattle.std.proofs.Common.{refl, inl, inr}
+use Rattle.std.proofs.Common.{refl, inl, inr, ◌∙◌, ap}
+use Rattle.pa_machine.proofs.Outcomes.{any_err}
+use Rattle.pa_op_specs.specs.Stocks.{StockValue}
 use Rattle.pa_thread_state.proofs.Released.{not_last, free_back, free_stake}
 use Rattle.pa_thread_state.proofs.stock.Stock.free.Goals as goal
 
@@ -29,3 +31,10 @@ returns-in_ok-bring_back-in-Last-clause-releases g c =
       gone = c.give_up-fate.ensures.gone;
       back = inl (c.give_up-fate.ensures.fate.0 c.in-Last.is, c.in_ok-bring_back-in-Last.ensures.back);
     }
+
+pub returns-in_err-bring_back-in-Last-clause-stake : goal.returns-in_err-bring_back-in-Last-clause-stake
+returns-in_err-bring_back-in-Last-clause-stake g c =
+    any_err c.from_residual.result _ (record {
+      thread = c.in_err-bring_back-in-Last.ensures.stake.thread ∙ ap (λ (z : StockValue). z.thread) c.give_up-fate.ensures.gone.after_is;
+      stake = c.in_err-bring_back-in-Last.ensures.stake.stake;
+    })

@@ -2,6 +2,7 @@ use Rattle.std.proofs.Common.{◌≡◌, ◌<◌, List, length, drop, ◌∙◌,
 use Rattle.std.specs.Prelude.{Contains, slice_set}
 use Rattle.std.proofs.lemmas.List.{length-take, length-drop}
 use Rattle.std.proofs.lemmas.List.Elements.{All-weaker, All-contains_itself}
+use Rattle.pa_machine.proofs.Outcomes.{any_err}
 use Rattle.pa_machine.specs.declared.title.Title.{Title}
 use Rattle.pa_region.specs.Views.{free_of}
 use Rattle.pa_region.specs.Aware.{IsAware}
@@ -78,3 +79,12 @@ invariant_of-self g c =
 
 pub returns-in_err-give_titles-clause-budget : goal.returns-in_err-give_titles-clause-budget
 returns-in_err-give_titles-clause-budget g c = c.in_err-give_titles.ensures.back.budget ∙ ap (λ (z : StockValue). z.view.budget) c.self.view_is
+
+pub returns-in_err-give_titles-clause-stake : goal.returns-in_err-give_titles-clause-stake
+returns-in_err-give_titles-clause-stake g c =
+    let i : StockValue = record { thread = c.self.inside.thread; partitions = c.self.inside.partitions; view = c.self.inside.seat.view; registers = c.self.inside.registers; caches = c.self.inside.caches.items } in
+    let stake = subst (λ (z : StockValue). HasItsStake z) (sym c.self.view_is) c.requires.stake in
+    any_err c.from_residual.result _ (record {
+      thread = ap (λ (z : StockValue). z.thread) c.self.view_is;
+      stake = subst (λ n. 0 < n) (sym (c.in_err-give_titles.ensures.back.stakes i.thread)) stake;
+    })

@@ -1,6 +1,7 @@
 use Rattle.std.proofs.Common.{◌*◌, ◌+◌, ◌≤◌, length, refl, ◌∙◌, arith}
+use Rattle.pa_machine.proofs.Outcomes.{any_err}
 use Rattle.pa_op_specs.specs.Stocks.{titles_in}
-use Rattle.pa_thread_state.proofs.Tails.{some_none, some_left, some_stake, some_more, some_all}
+use Rattle.pa_thread_state.proofs.Tails.{some_none, some_left, some_stake, some_thread, some_more, some_all}
 use Rattle.pa_thread_state.proofs.stock.Stock.give_tail.Goals as goal
 
 pub loop-done-init : goal.loop-done-init
@@ -27,3 +28,10 @@ returns-clause-gives g c =
     let few : length (titles_in c.args.self.now.caches c.args.partition c.args.class) ≤ c.args.keep + 16 * c.loop-done.done =
     let a = c.batches_behind-batches.ensures.all in let b = c.loop-done-test.false in omega arith in
     some_all c.args.line c.args.partition c.args.class c.args.keep c.loop-done.done c.args.self.now c.loop-done.self c.loop-done.invariant.some few
+
+pub returns-in_err-give_batch-clause-stake : goal.returns-in_err-give_batch-clause-stake
+returns-in_err-give_batch-clause-stake g c = any_err c.from_residual.result _ (record {
+  thread = c.in_err-give_batch.ensures.stake.thread
+      ∙ some_thread c.args.line c.args.partition c.args.class c.args.keep c.loop-done.done c.args.self.now c.loop-done.self c.loop-done.invariant.some;
+  stake = c.in_err-give_batch.ensures.stake.stake;
+})

@@ -1,4 +1,7 @@
 use Rattle.std.proofs.Common.{◌≡◌, ◌+◌, ◌-◌, ◌<◌, length, refl, ◌∙◌, sym, subst, ap, arith}
+use Rattle.pa_machine.proofs.Outcomes.{any_err}
+use Rattle.pa_region.specs.Shares.{Share}
+use Rattle.pa_region.specs.Views.{stake_of}
 use Rattle.pa_root.specs.Handing.{PurgeEnters}
 use Rattle.pa_rules.specs.Caches.{listed_slots}
 use Rattle.pa_op_specs.specs.Stocks.{StockValue, titles_in, listed_in}
@@ -7,7 +10,7 @@ use Rattle.pa_thread_state.specs.Giving.{GivesTail}
 use Rattle.pa_thread_state.specs.Purging.{PurgesRoot}
 use Rattle.pa_thread_state.proofs.Leaving.{least_is}
 use Rattle.pa_thread_state.proofs.Parking.{kept_stock}
-use Rattle.pa_thread_state.proofs.Purging.{GivesLists, lists_none, lists_stake, lists_more, slots_none, slots_more, purges_root}
+use Rattle.pa_thread_state.proofs.Purging.{GivesLists, lists_none, lists_stake, lists_thread, lists_more, slots_none, slots_more, purges_root}
 use Rattle.pa_thread_state.proofs.stock.Stock.purge_partition.Goals as goal
 
 pub loop-number-init : goal.loop-number-init
@@ -60,3 +63,21 @@ returns-clause-purges g c =
     let enters = subst (λ (z : StockValue). PurgeEnters z.thread p line z.view w) c.self.view_is entered in
     subst (λ (z : StockValue). PurgesRoot line p c.loop-number.slots s (record z { view = w })) (sym c.self.view_is)
     (purges_root c.kept_numbers_stay.ensures s now w line p c.loop-number.slots c.kept-2.ensures.aware c.aware.ensures.aware c.requires.partition some enters count)
+
+pub returns-in_err-give_tail-clause-stake : goal.returns-in_err-give_tail-clause-stake
+returns-in_err-give_tail-clause-stake g c = any_err c.from_residual.result _ (record {
+  thread = c.in_err-give_tail.ensures.stake.thread
+      ∙ lists_thread c.args.line c.args.partition c.loop-number.number c.args.self.now c.loop-number.self c.loop-number.invariant.some;
+  stake = c.in_err-give_tail.ensures.stake.stake;
+})
+
+pub returns-in_err-purge_root-clause-stake : goal.returns-in_err-purge_root-clause-stake
+returns-in_err-purge_root-clause-stake g c =
+    let i : StockValue = record { thread = c.self.inside.thread; partitions = c.self.inside.partitions; view = c.self.inside.seat.view; registers = c.self.inside.registers; caches = c.self.inside.caches.items } in
+    let has = lists_stake c.args.line c.args.partition c.loop-number.number c.args.self.now c.loop-number.self c.loop-number.invariant.some c.requires.stake in
+    let stake = subst (λ (z : StockValue). HasItsStake z) (sym c.self.view_is) has in
+    any_err c.from_residual-in_err-purge_root.result _ (record {
+      thread = ap (λ (z : StockValue). z.thread) c.self.view_is
+          ∙ lists_thread c.args.line c.args.partition c.loop-number.number c.args.self.now c.loop-number.self c.loop-number.invariant.some;
+      stake = subst (λ (n : Share). 0 < stake_of n.view i.thread) (sym c.in_err-purge_root.ensures.err) stake;
+    })
