@@ -9,7 +9,15 @@ use Rattle.pa_rules.specs.declared.verdict.Verdict.{Verdict}
 use Rattle.pa_rules.specs.declared.verdict.Verdict.TheVariants.{Legal, Broken}
 use Rattle.pa_rules.specs.Legal.{IsLegal}
 use Rattle.pa_rules.specs.Verdicts.{IsFirstFailing}
+use Rattle.pa_audit_input.specs.declared.judging.Judgement.{Judgement}
+use Rattle.pa_audit_input.specs.declared.judging.Judgement.TheVariants as judgements
 use Rattle.pa_audit_input.specs.Input.{IsAudited, IsFirstAuditFault}
+
+-- the bytes are this trace followed by this run, which is legal for it
+pub record IsLegalOf (t : Trace) (r : Run) (bytes : List ℕ) : Type 0 where
+  pub lines : ℕ
+  pub input : IsAudited t r lines bytes
+  pub legal : IsLegal t r
 
 -- the bytes are a trace followed by a legal run of it
 pub record IsLegalInput (bytes : List ℕ) : Type 0 where
@@ -33,6 +41,11 @@ pub record IsRefutedInput (clause : Clause) (n : ℕ) (bytes : List ℕ) : Type 
 abbrev pub IsVerdictOn : Verdict → List ℕ → Type 0
 IsVerdictOn Legal bytes = IsLegalInput bytes
 IsVerdictOn (Broken clause n) bytes = IsRefutedInput clause n bytes
+
+-- the same, with the trace and the run of legal bytes
+abbrev pub IsJudgementOn : Judgement → List ℕ → Type 0
+IsJudgementOn (judgements.Legal trace run) bytes = IsLegalOf trace run bytes
+IsJudgementOn (judgements.Broken clause n) bytes = IsRefutedInput clause n bytes
 
 -- why there is no verdict on the bytes: their first faulty line, or out of memory
 abbrev pub IsInputFault : TraceFault → List ℕ → Type 0

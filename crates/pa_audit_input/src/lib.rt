@@ -6,5 +6,5 @@ mod laws;
 mod parts;
 mod run_part;
 
-pub use judging::judge;
+pub use judging::{Judgement, judge, judged};
 pub use laws::{early_audit_fault, one_audit_answer};

@@ -1,3 +1,9 @@
 pub mod Waiting
 pub mod Pairing
 pub mod Worked
+pub mod Tracing
+pub mod Finding
+pub mod Coupling
+pub mod Gathering
+pub mod Leading
+pub mod Giving

@@ -12,7 +12,7 @@ use Rattle.pa_legal.proofs.Words.{same_word}
 use Rattle.pa_dangle.specs.Uses.{IsUseOf, OwnLines, UsesArePaired}
 use Rattle.pa_dangle.proofs.Waiting.{Run, Waits, comes_of_free, waits_quarantined}
 
-run_of : (ms : List Mark) (s : SlotName) → Slots ms → OwnLines ms → (vs : List ℕ) × Run ms s vs
+pub run_of : (ms : List Mark) (s : SlotName) → Slots ms → OwnLines ms → (vs : List ℕ) × Run ms s vs
 run_of ms s slots lines = let (vs, run, one) = slots s in (vs, record { lines = lines; run = run; one = one })
 
 -- a use waits, and a mark that waits is a use

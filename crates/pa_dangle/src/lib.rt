@@ -1,7 +1,15 @@
-//! The uses of what was freed while `raw_ptr`s pointed to it: which they are, and that each is of one free. Laws alone; nothing
-//! here runs.
+//! The uses of what was freed while `raw_ptr`s pointed to it: which they are, that each is of one free, and of a run all of them, each
+//! with its free, the object's allocation and the copy from which the `raw_ptr` came.
 #![tactic(auto)]
 
+mod found;
 mod laws;
+mod numbers;
+mod pairs;
+mod text;
+mod ways;
 
+pub use found::{Found, Pair, Use};
 pub use laws::{uses_are_paired, worked_uses_fit};
+pub use pairs::pairs_of;
+pub use text::found_text;
