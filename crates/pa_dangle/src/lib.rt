@@ -3,13 +3,15 @@
 #![tactic(auto)]
 
 mod found;
+mod gather;
 mod laws;
 mod numbers;
-mod pairs;
+mod run;
 mod text;
 mod ways;
 
 pub use found::{Found, Pair, Use};
+pub use gather::pairs_of;
 pub use laws::{uses_are_paired, worked_uses_fit};
-pub use pairs::pairs_of;
+pub use run::{pairs, pairs_dense};
 pub use text::found_text;

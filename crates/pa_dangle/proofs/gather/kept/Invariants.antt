@@ -2,7 +2,7 @@ use Rattle.std.proofs.Common.{◌≡◌, ◌≤◌, length, take}
 use Rattle.std.specs.Prelude.{filter}
 use Rattle.pa_rules.specs.declared.played.Played.{Played}
 use Rattle.pa_dangle.specs.Pairs.{keeps_slot}
-use Rattle.pa_dangle.proofs.pairs.kept.Given as goal
+use Rattle.pa_dangle.proofs.gather.kept.Given as goal
 
 abbrev pub invariant-loop-record : goal.invariant-loop-record
 invariant-loop-record l = record {

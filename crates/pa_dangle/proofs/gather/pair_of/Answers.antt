@@ -4,7 +4,7 @@ use Rattle.pa_rules.specs.Played.{marks_of}
 use Rattle.pa_dangle.specs.declared.numbers.Kind.TheVariants.{Freed}
 use Rattle.pa_dangle.specs.Steps.{IsLastStep, NoStepBelow}
 use Rattle.pa_dangle.proofs.Coupling.{pair_is, free_is, issue_is}
-use Rattle.pa_dangle.proofs.pairs.pair_of.Goals as goal
+use Rattle.pa_dangle.proofs.gather.pair_of.Goals as goal
 
 pub returns-in_err-free-clause-none : goal.returns-in_err-free-clause-none
 returns-in_err-free-clause-none c =

@@ -1,6 +1,6 @@
 use Rattle.pa_rules.specs.Cells.{history_at}
 use Rattle.pa_dangle.proofs.Gathering.{found_is}
-use Rattle.pa_dangle.proofs.pairs.pairs_of.Goals as goal
+use Rattle.pa_dangle.proofs.gather.pairs_of.Goals as goal
 
 pub returns-clause-found : goal.returns-clause-found
 returns-clause-found c =

@@ -3,8 +3,8 @@ use Rattle.pa_rules.specs.Cells.{history_at}
 use Rattle.pa_dangle.specs.Collected.{AreCollected}
 use Rattle.pa_dangle.proofs.Gathering.{collected_push, collected_skip}
 use Rattle.pa_dangle.proofs.Leading.{ways_back}
-use Rattle.pa_dangle.proofs.pairs.collect.Goals.{in-Some+in_ok-push, in_default}
-use Rattle.pa_dangle.proofs.pairs.collect.Goals as goal
+use Rattle.pa_dangle.proofs.gather.collect.Goals.{in-Some+in_ok-push, in_default}
+use Rattle.pa_dangle.proofs.gather.collect.Goals as goal
 
 pub loop-record-preserved : goal.loop-record-preserved
 loop-record-preserved c =
