@@ -38,7 +38,6 @@ use Rattle.pa_root.proofs.Together.{no_own_clean}
 use Rattle.pa_cells.specs.declared.handle.Handle.{Handle}
 use Rattle.pa_cells.specs.Handles.{HandsOut, HasSeenMade, SlotsStaySeen}
 use Rattle.pa_op_specs.specs.Stocks.{StockValue, IsStock, register_in, titles_in, listed_in, listed_slot}
-use Rattle.pa_op_specs.specs.Workers.{HasItsStake}
 use Rattle.pa_thread_state.specs.Changes.{IsBack}
 use Rattle.pa_thread_state.specs.Homing.{ComesHome, GoesHome, without_title, note_of_title}
 use Rattle.pa_op_specs.proofs.Quiet.{same_titles}
@@ -194,8 +193,8 @@ went_home line h s part after note is aware back part_is note_is part_aware afte
 -- ---- it comes back
 
 -- no stake is lost by it
-pub back_stake : (s : StockValue) (n : View) → HasItsStake s → 0 < stake_of (united s.view n) s.thread
-back_stake s n stake = omega (arith, sum_by-append (λ (x : Stake). one (x.number == s.thread)) s.view.stakes n.stakes)
+pub back_stake : (v n : View) (k : ℕ) → 0 < stake_of v k → 0 < stake_of (united v n) k
+back_stake v n k stake = omega (arith, sum_by-append (λ (x : Stake). one (x.number == k)) v.stakes n.stakes)
 
 -- the thread state with a note that has free titles alone
 pub back_stock : BeginningsJoin → SlotsStaySeen → (s : StockValue) (n : View) (ts : List Title) → IsStock s → HasOnly ts n → IsAware (united s.view n) →

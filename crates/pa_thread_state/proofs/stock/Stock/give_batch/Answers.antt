@@ -82,9 +82,8 @@ returns-in_err-give_titles-clause-budget g c = c.in_err-give_titles.ensures.back
 
 pub returns-in_err-give_titles-clause-stake : goal.returns-in_err-give_titles-clause-stake
 returns-in_err-give_titles-clause-stake g c =
-    let i : StockValue = record { thread = c.self.inside.thread; partitions = c.self.inside.partitions; view = c.self.inside.seat.view; registers = c.self.inside.registers; caches = c.self.inside.caches.items } in
     let stake = subst (λ (z : StockValue). HasItsStake z) (sym c.self.view_is) c.requires.stake in
     any_err c.from_residual.result _ (record {
       thread = ap (λ (z : StockValue). z.thread) c.self.view_is;
-      stake = subst (λ n. 0 < n) (sym (c.in_err-give_titles.ensures.back.stakes i.thread)) stake;
+      stake = subst (λ n. 0 < n) (sym (c.in_err-give_titles.ensures.back.stakes c.self.inside.thread)) stake;
     })

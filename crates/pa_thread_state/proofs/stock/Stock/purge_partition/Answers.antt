@@ -73,11 +73,10 @@ returns-in_err-give_tail-clause-stake g c = any_err c.from_residual.result _ (re
 
 pub returns-in_err-purge_root-clause-stake : goal.returns-in_err-purge_root-clause-stake
 returns-in_err-purge_root-clause-stake g c =
-    let i : StockValue = record { thread = c.self.inside.thread; partitions = c.self.inside.partitions; view = c.self.inside.seat.view; registers = c.self.inside.registers; caches = c.self.inside.caches.items } in
     let has = lists_stake c.args.line c.args.partition c.loop-number.number c.args.self.now c.loop-number.self c.loop-number.invariant.some c.requires.stake in
     let stake = subst (λ (z : StockValue). HasItsStake z) (sym c.self.view_is) has in
     any_err c.from_residual-in_err-purge_root.result _ (record {
       thread = ap (λ (z : StockValue). z.thread) c.self.view_is
           ∙ lists_thread c.args.line c.args.partition c.loop-number.number c.args.self.now c.loop-number.self c.loop-number.invariant.some;
-      stake = subst (λ (n : Share). 0 < stake_of n.view i.thread) (sym c.in_err-purge_root.ensures.err) stake;
+      stake = subst (λ (n : Share). 0 < stake_of n.view c.self.inside.thread) (sym c.in_err-purge_root.ensures.err) stake;
     })

@@ -18,11 +18,10 @@ invariant_of-self g c =
 
 pub returns : goal.returns
 returns g c =
-    let i : StockValue = record { thread = c.self.inside.thread; partitions = c.self.inside.partitions; view = c.self.inside.seat.view; registers = c.self.inside.registers; caches = c.self.inside.caches.items } in
     let stake = subst (λ (z : StockValue). HasItsStake z) (sym c.self.view_is) c.requires.stake in
     record {
       stake = record {
         thread = ap (λ (z : StockValue). z.thread) c.self.view_is;
-        stake = subst (λ (v : View). 0 < stake_of v i.thread) (sym c.take.ensures.view) (back_stake i c.args.note.view stake);
+        stake = subst (λ (v : View). 0 < stake_of v c.self.inside.thread) (sym c.take.ensures.view) (back_stake c.self.inside.seat.view c.args.note.view c.self.inside.thread stake);
       };
     }
