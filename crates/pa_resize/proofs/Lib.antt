@@ -1,0 +1,8 @@
+pub mod Steps
+pub mod Scripts
+pub mod Setting
+pub mod Cells
+pub mod Moving
+pub mod Keeping
+pub mod Sparing
+pub mod Staying

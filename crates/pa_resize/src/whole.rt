@@ -1,0 +1,64 @@
+ghost use Rattle.std.specs.Prelude.{◌≡◌, ◌++◌, IfOk, OnOk};
+ghost use Rattle.pa_trace.specs.Limits.{IsWithinLimits};
+ghost use Rattle.pa_record.specs.RunText.{IsPrintable};
+ghost use Rattle.pa_core_run.specs.Playing.{HasCoreRun};
+ghost use Rattle.pa_script.specs.Limits.{IsScriptWithin};
+ghost use Rattle.pa_resize.specs.Expansion.{IsExpanded, verdict_noted};
+
+use crate::lines::play_line;
+use crate::verdict::Verdict;
+use pa_machine::OutOfMemory;
+use pa_model::Player;
+use pa_record::Run;
+use pa_script::Script;
+use pa_trace::Trace;
+use std::alloc::Global;
+
+/// What a script comes to: a trace, its run in the order of its lines, and the verdict of each resize with the number of its
+/// line in the script, where the head is line 1.
+#[derive(Drop)]
+pub struct Expanded {
+    pub trace: Trace,
+    pub run: Run,
+    pub verdicts: Vec<(u32, Verdict)>,
+}
+
+/// Plays a script, whose resizes become ops as it is played. A line of a trace is itself. A resize of what a register owns
+/// is a look at the object; if no `raw_ptr` points to it, and a slot for the size has another length, it is moved to one in
+/// the same partition, if there is room. Out of memory is the only error.
+pub fn expand(alloc: Global, script: &Script) -> Result<Expanded, OutOfMemory>
+    requires { IsScriptWithin script.now }
+    ensures expanded { IfOk result (λ e. IsExpanded script.now e.trace e.run e.verdicts.items) }
+    ensures within { IfOk result (λ e. IsWithinLimits e.trace) }
+    ensures core { IfOk result (λ e. HasCoreRun e.trace e.run) }
+    ensures printable { IfOk result (λ e. IsPrintable e.run) }
+{
+    let mut player = Player::new(alloc, script.region, script.partitions, script.threads)?;
+    let mut verdicts = Vec::new(alloc);
+    let mut number: u32 = 2;
+    for line in script.lines.as_slice() {
+        let verdict = play_line(&mut player, *line)?;
+        note(&mut verdicts, number, verdict)?;
+        number += 1;
+    }
+    let (trace, run) = player.finish_traced()?;
+    Ok(Expanded {
+        trace,
+        run,
+        verdicts,
+    })
+}
+
+// Appends the verdict of a line, if it has one.
+fn note(
+    verdicts: &mut Vec<(u32, Verdict)>,
+    number: u32,
+    verdict: Option<Verdict>,
+) -> Result<(), OutOfMemory>
+    ensures { OnOk result (verdicts.new.items ≡ verdicts.old.items ++ verdict_noted number verdict) }
+{
+    if let Some(verdict) = verdict {
+        verdicts.push((number, verdict))?;
+    }
+    Ok(())
+}
