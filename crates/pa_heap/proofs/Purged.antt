@@ -110,6 +110,9 @@ pub purging_stake : (line n slots : ℕ) (s now : StockValue) → Purging line n
 purging_stake line n slots s now some stake =
     subst (λ k. 0 < stake_of now.view k) (sym some.same.0) (let e = some.enters.stakes s.thread in omega arith)
 
+pub purging_thread : (line n slots : ℕ) (s now : StockValue) → Purging line n slots s now → now.thread ≡ s.thread
+purging_thread line n slots s now some = some.same.0
+
 -- the lists of the next are as they were
 not_yet : (line n slots : ℕ) (s now : StockValue) → Purging line n slots s now → IsStock now → (c : ℕ) → listed_in now n c ≡ listed_in s n c
 not_yet line n slots s now some is c =

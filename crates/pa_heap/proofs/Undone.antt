@@ -2,7 +2,7 @@
 use Rattle.std.proofs.Common.{◌≡◌, ℕ, zero, suc, ◌+◌, ◌-◌, ◌<◌, List, [], ◌∷◌, length, Option, Some, None, refl, sym, ◌∙◌, ap, subst, arith, inl, inr}
 use Rattle.std.specs.Prelude.{slice_set, IfSome, IfNone}
 use Rattle.pa_region.specs.declared.view.View.{View}
-use Rattle.pa_region.specs.Views.{seen_of}
+use Rattle.pa_region.specs.Views.{seen_of, stake_of}
 use Rattle.pa_region.specs.Lists.{list_of}
 use Rattle.pa_region.specs.Takes.{BeginningsJoin, SeenJoins, ListsJoin, FreeNumbersStay}
 use Rattle.pa_region.specs.Hands.{left_after, given_after, united}
@@ -10,6 +10,8 @@ use Rattle.pa_region.specs.Aware.{IsAware}
 use Rattle.pa_cells.specs.Handles.{ParkedHandle, GiversLackHandles, TakersHaveHandles}
 use Rattle.pa_rules.specs.declared.register.Register.TheVariants.{Empty}
 use Rattle.pa_op_specs.specs.Stocks.{StockRegister, StockValue, IsStock, register_in}
+use Rattle.pa_op_specs.specs.Workers.{HasItsStake}
+use Rattle.pa_thread_state.specs.Stopping.{KeepsItsStake}
 use Rattle.pa_thread_state.specs.Exchanging.{Parks, TakesIn, TakesHandleIn, IsUndone, register_of, handle_parcel}
 use Rattle.pa_thread_state.proofs.Parking.{parked_rests, taken_rests, holds_given}
 
@@ -27,6 +29,13 @@ undone_none s = record {
   lists = λ k. refl;
   seen = λ t. refl;
   budget = refl;
+}
+
+-- it has its stake still
+pub undone_keeps : (s d : StockValue) → IsUndone s d → HasItsStake s → KeepsItsStake s d
+undone_keeps s d undone stake = record {
+  thread = undone.thread;
+  stake = subst (λ k. 0 < stake_of d.view k) (sym undone.thread) (subst (λ n. 0 < n) (sym (undone.stakes s.thread)) stake);
 }
 
 -- a register that is emptied and gets what it had

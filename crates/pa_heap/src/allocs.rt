@@ -7,7 +7,6 @@ ghost use Rattle.pa_trace.specs.Limits.{register_count};
 ghost use Rattle.pa_op_specs.specs.Stocks.{HasNoHandle, register_in, titles_in};
 ghost use Rattle.pa_op_specs.specs.Workers.{HasItsStake, CanPlayOp, KeepsOn};
 ghost use Rattle.pa_op_specs.specs.Plays.{DoesOp, PlaysOp};
-ghost use Rattle.pa_thread_state.specs.Exchanging.{IsUndone};
 
 use crate::counts::{count_step, made, owned};
 use crate::worker::{Worker, enter};
@@ -39,8 +38,7 @@ impl<N: Name> Worker<N> {
         ensures plays { IfOk result (λ answer. PlaysOp line (ops.Alloc reg partition size) answer self.old self.new) }
         ensures goes_on { OnOk result (KeepsOn self.old self.new) }
         ensures stops { OnErr result (self.new.stopped ≡ true) }
-        ensures undone { OnErr result (IsUndone self.old.stock self.new.stock) }
-        ensures same { OnErr result ((self.new.records ≡ self.old.records) × (self.new.room ≡ self.old.room)) }
+        ensures same { OnErr result (self.new ≡ record self.old { stopped = true }) }
     {
         match alloc(&mut self.stock, rt, heap, line, reg, partition, size) {
             Ok(answer) => {

@@ -4,6 +4,7 @@ ghost use Rattle.pa_trace.specs.declared.script.Op.TheVariants as ops;
 ghost use Rattle.pa_trace.specs.Limits.{register_count};
 ghost use Rattle.pa_op_specs.specs.Workers.{HasItsStake, CanPlayOp, KeepsOn};
 ghost use Rattle.pa_op_specs.specs.Plays.{DoesOp, PlaysOp};
+ghost use Rattle.pa_thread_state.specs.Stopping.{KeepsItsStake};
 
 use crate::counts::{count_step, done, owned};
 use crate::worker::{Worker, enter};
@@ -30,6 +31,7 @@ impl<N: Name> Worker<N> {
         ensures plays { IfOk result (λ answer. PlaysOp line (ops.Free reg) answer self.old self.new) }
         ensures goes_on { OnOk result (KeepsOn self.old self.new) }
         ensures stops { OnErr result (self.new.stopped ≡ true) }
+        ensures stake { OnErr result (KeepsItsStake self.old.stock self.new.stock) }
     {
         self.stock.kept();
         let handle = owned(self.stock.register(reg));
@@ -62,6 +64,7 @@ fn play_free<N: Name, R: Wait>(
     requires reg { reg < register_count }
     ensures does { IfOk result (λ answer. DoesOp line (ops.Free reg) answer stock.old stock.new) }
     ensures budget { IfOk result (λ answer. stock.old.view.budget ≤ stock.new.view.budget + 1) }
+    ensures stake { OnErr result (KeepsItsStake stock.old stock.new) }
 {
     counted_steps_leave();
     looks_leave();

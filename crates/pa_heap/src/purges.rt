@@ -3,6 +3,7 @@ ghost use Rattle.std.specs.Prelude.{◌≡◌, ◌<◌, IfOk, OnOk, OnErr, true}
 ghost use Rattle.pa_trace.specs.declared.script.Op.TheVariants as ops;
 ghost use Rattle.pa_op_specs.specs.Workers.{HasItsStake, CanPlayOp, KeepsOn};
 ghost use Rattle.pa_op_specs.specs.Plays.{DoesOp, PlaysOp};
+ghost use Rattle.pa_thread_state.specs.Stopping.{KeepsItsStake};
 
 use crate::worker::{Worker, enter};
 use pa_machine::OutOfMemory;
@@ -24,6 +25,7 @@ impl<N: Name> Worker<N> {
         ensures plays { IfOk result (λ answer. PlaysOp line ops.Purge answer self.old self.new) }
         ensures goes_on { OnOk result (KeepsOn self.old self.new) }
         ensures stops { OnErr result (self.new.stopped ≡ true) }
+        ensures stake { OnErr result (KeepsItsStake self.old.stock self.new.stock) }
     {
         match purge(&mut self.stock, rt, heap, line) {
             Ok(answer) => {
@@ -49,6 +51,7 @@ fn purge<N: Name, R: Wait>(
     requires stake { HasItsStake stock.old }
     ensures does { IfOk result (λ answer. DoesOp line ops.Purge answer stock.old stock.new) }
     ensures budget { stock.new.view.budget ≡ stock.old.view.budget }
+    ensures stake { OnErr result (KeepsItsStake stock.old stock.new) }
 {
     stock.kept();
     let mut slots = 0;

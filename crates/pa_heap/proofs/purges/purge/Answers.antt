@@ -1,5 +1,6 @@
 use Rattle.std.proofs.Common.{◌≡◌, ◌<◌, refl, ◌∙◌, subst, arith}
-use Rattle.pa_heap.proofs.Purged.{Purging, purging_none, purging_stake, purging_more, purge_does}
+use Rattle.pa_machine.proofs.Outcomes.{any_err}
+use Rattle.pa_heap.proofs.Purged.{Purging, purging_none, purging_stake, purging_thread, purging_more, purge_does}
 use Rattle.pa_heap.proofs.purges.purge.Goals as goal
 
 pub loop-partition-init : goal.loop-partition-init
@@ -29,3 +30,10 @@ returns-clause-does g c =
     let end : c.loop-partition.partition ≡ s.partitions = let a = c.loop-partition-test.false in let b = c.loop-partition.auto.partition-end in omega arith in
     purge_does c.args.line c.loop-partition.slots s c.loop-partition.stock c.kept.ensures.stock c.kept-2.ensures.stock
     (subst (λ k. Purging c.args.line k c.loop-partition.slots s c.loop-partition.stock) end c.loop-partition.invariant.some)
+
+pub returns-in_err-slots-clause-stake : goal.returns-in_err-slots-clause-stake
+returns-in_err-slots-clause-stake g c = any_err c.from_residual.result _ (record {
+  thread = c.in_err-slots.ensures.stake.thread
+      ∙ purging_thread c.args.line c.loop-partition.partition c.loop-partition.slots c.args.stock.now c.loop-partition.stock c.loop-partition.invariant.some;
+  stake = c.in_err-slots.ensures.stake.stake;
+})

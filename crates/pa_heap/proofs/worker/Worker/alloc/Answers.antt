@@ -1,10 +1,10 @@
-use Rattle.std.proofs.Common.{◌≡◌, ◌+◌, List, [], ◌∷◌, length, ◌∙◌, sym, ap, subst, arith}
+use Rattle.std.proofs.Common.{◌≡◌, ◌+◌, List, [], ◌∷◌, length, ◌∙◌, sym, ap, subst, arith, true}
 use Rattle.std.proofs.lemmas.List.{length-append}
 use Rattle.pa_machine.specs.declared.word.Step.TheVariants as steps
 use Rattle.pa_trace.specs.declared.script.Op.TheVariants as ops
 use Rattle.pa_op_specs.specs.declared.counts.Count.{Count}
 use Rattle.pa_op_specs.specs.Counts.{AreOfSteps, counts_after, owned_in, made_seen}
-use Rattle.pa_op_specs.specs.Stocks.{register_in}
+use Rattle.pa_op_specs.specs.Stocks.{StockValue, register_in}
 use Rattle.pa_op_specs.specs.Workers.{WorkerValue, CanPlayOp, KeepsOn}
 use Rattle.pa_op_specs.specs.Plays.{PlaysOp}
 use Rattle.pa_op_specs.proofs.Weighing.{CountsOp, alloc_counts}
@@ -39,3 +39,8 @@ returns-in-Ok-clause-goes_on g c =
     c.self.view_is
     (worker_goes_on c.args.line (ops.Alloc c.args.reg c.args.partition c.args.size) c.in-Ok.answer w c.alloc.new.stock c.enter.new.records.items c.count_step.new.counts _ c.enter.ensures.items (subst (λ (z : WorkerValue). CanPlayOp z) (sym c.self.view_is) c.requires.ready)
     c.in-Ok.ensures.does)
+
+pub returns-in-Err-clause-same : goal.returns-in-Err-clause-same
+returns-in-Err-clause-same g c =
+    let halted : StockValue → WorkerValue = λ s. record { stock = s; records = c.self.inside.records.items; room = c.self.inside.room; stopped = true; counts = c.self.inside.counts } in
+    ap halted c.in-Err.ensures.same ∙ ap (λ (z : WorkerValue). record z { stopped = true }) c.self.view_is

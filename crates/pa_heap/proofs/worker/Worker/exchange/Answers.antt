@@ -1,8 +1,10 @@
 use Rattle.std.proofs.Common.{sym, subst}
 use Rattle.pa_trace.specs.declared.script.Op.TheVariants as ops
-use Rattle.pa_op_specs.specs.Workers.{WorkerValue, CanPlayOp, KeepsOn}
+use Rattle.pa_op_specs.specs.Workers.{WorkerValue, HasItsStake, CanPlayOp, KeepsOn}
 use Rattle.pa_op_specs.specs.Plays.{PlaysOp}
 use Rattle.pa_op_specs.proofs.Weighing.{swap_counts}
+use Rattle.pa_thread_state.specs.Stopping.{KeepsItsStake}
+use Rattle.pa_heap.proofs.Undone.{undone_keeps}
 use Rattle.pa_heap.proofs.Working.{worker_plays, worker_goes_on}
 use Rattle.pa_heap.proofs.worker.Worker.exchange.Goals as goal
 
@@ -22,3 +24,8 @@ returns-in-Ok-clause-goes_on g c =
     c.self.view_is
     (worker_goes_on c.args.line (ops.Swap c.args.cell c.args.reg) c.in-Ok.answer w c.exchange.new.stock c.enter.new.records.items c.self.inside.counts _ c.enter.ensures.items (subst (λ (z : WorkerValue). CanPlayOp z) (sym c.self.view_is) c.requires.ready)
     c.in-Ok.ensures.does)
+
+pub returns-in-Err-clause-stake : goal.returns-in-Err-clause-stake
+returns-in-Err-clause-stake g c =
+    subst (λ (z : WorkerValue). KeepsItsStake z.stock c.exchange.new.stock) c.self.view_is
+    (undone_keeps c.self.inside.stock c.exchange.new.stock c.in-Err.ensures.undone (subst (λ (z : WorkerValue). HasItsStake z.stock) (sym c.self.view_is) c.requires.ready.stake))

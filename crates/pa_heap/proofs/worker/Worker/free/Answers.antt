@@ -8,6 +8,7 @@ use Rattle.pa_op_specs.specs.Stocks.{register_in}
 use Rattle.pa_op_specs.specs.Workers.{WorkerValue, CanPlayOp, KeepsOn}
 use Rattle.pa_op_specs.specs.Plays.{PlaysOp}
 use Rattle.pa_op_specs.proofs.Weighing.{CountsOp, free_counts}
+use Rattle.pa_thread_state.specs.Stopping.{KeepsItsStake}
 use Rattle.pa_heap.proofs.Working.{worker_plays, worker_goes_on}
 use Rattle.pa_heap.proofs.worker.Worker.free.Goals as goal
 
@@ -39,3 +40,7 @@ returns-in-Ok-clause-goes_on g c =
     c.self.view_is
     (worker_goes_on c.args.line (ops.Free c.args.reg) c.in-Ok.answer w c.play_free.new.stock c.enter.new.records.items c.count_step.new.counts _ c.enter.ensures.items (subst (λ (z : WorkerValue). CanPlayOp z) (sym c.self.view_is) c.requires.ready)
     c.in-Ok.ensures.does)
+
+pub returns-in-Err-clause-stake : goal.returns-in-Err-clause-stake
+returns-in-Err-clause-stake g c =
+    subst (λ (z : WorkerValue). KeepsItsStake z.stock c.play_free.new.stock) c.self.view_is c.in-Err.ensures.stake
