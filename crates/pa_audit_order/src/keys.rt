@@ -11,8 +11,8 @@ use pa_audit_records::ByKey;
 use pa_machine::{OutOfMemory, SlotName};
 use std::collections::BTreeMap;
 
-// The key of a slot at a number.
-pub(crate) fn key(slot: SlotName, number: u64) -> u128
+/// The key of a slot at a number, its step number: slots by `born` and `start`, and those of one slot by their numbers.
+pub fn key(slot: SlotName, number: u64) -> u128
     ensures key { result ≡ word_key slot number }
     ensures sized { IsSized slot number }
 {
@@ -20,8 +20,8 @@ pub(crate) fn key(slot: SlotName, number: u64) -> u128
         + number as u128
 }
 
-// The value at the greatest key from `low` on and below `high`.
-pub(crate) fn greatest(map: &BTreeMap<u128, u32>, low: u128, high: u128) -> Option<(u128, u32)>
+/// The greatest key from `low` on and below `high`, and its value. `None` exactly if the map has no such key.
+pub fn greatest(map: &BTreeMap<u128, u32>, low: u128, high: u128) -> Option<(u128, u32)>
     ensures some { IfSome result (λ e. IsGreatest (get nat_cmp map.now) low high e.0 e.1) }
     ensures none { IfNone result (HasNoKey (get nat_cmp map.now) low high) }
 {

@@ -12,4 +12,5 @@ mod rises;
 mod seen;
 
 pub use contents::contents_meet;
+pub use keys::{greatest, key};
 pub use seen::seen_meets;

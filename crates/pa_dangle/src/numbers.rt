@@ -4,11 +4,9 @@ ghost use Rattle.std.specs.BTreeMap.{get};
 ghost use Rattle.pa_machine.specs.Count.{number_of};
 ghost use Rattle.pa_machine.specs.Run.{Mark};
 ghost use Rattle.pa_rules.specs.Played.{marks_of};
-ghost use Rattle.pa_audit_records.specs.Keys.{word_key};
-ghost use Rattle.pa_audit_records.specs.Marks.{IsSized};
-ghost use Rattle.pa_audit_order.specs.Keyed.{HasNoKey, IsGreatest};
 ghost use Rattle.pa_dangle.specs.Steps.{step_seen, AreStepsOf, IsLastStep, NoStepBelow};
 
+use pa_audit_order::{greatest, key};
 use pa_machine::{OutOfMemory, SlotName, number};
 use pa_record::{Answer, Seen};
 use pa_rules::Played;
@@ -42,15 +40,6 @@ fn seen_of(kind: Kind, op: Op, answer: Answer) -> Option<Seen>
     }
 }
 
-// The key of a slot at a number.
-fn key(slot: SlotName, number: u64) -> u128
-    ensures key { result ≡ word_key slot number }
-    ensures sized { IsSized slot number }
-{
-    (slot.born as u128 * 4_294_967_296 + slot.start as u128) * 18_446_744_073_709_551_616
-        + number as u128
-}
-
 // The steps of the kind by slot and number.
 pub(crate) fn by_number(
     alloc: Global,
@@ -69,19 +58,6 @@ pub(crate) fn by_number(
         at += 1;
     }
     Ok(table)
-}
-
-// The greatest key from `low` on and below `high`, and its value.
-fn greatest(map: &BTreeMap<u128, u32>, low: u128, high: u128) -> Option<(u128, u32)>
-    ensures some { IfSome result (λ e. IsGreatest (get nat_cmp map.now) low high e.0 e.1) }
-    ensures none { IfNone result (HasNoKey (get nat_cmp map.now) low high) }
-{
-    let mut below = map.range(..high);
-    let (key, value) = below.next_back()?;
-    if *key < low {
-        return None;
-    }
-    Some((*key, *value))
 }
 
 // The line of the slot's last step of the kind below a number, and the number that it found.
