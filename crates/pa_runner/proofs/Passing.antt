@@ -10,9 +10,8 @@ use Rattle.pa_execution.specs.Courses.{HasSeenAll}
 use Rattle.pa_execution.specs.Gathering.{HasHeardSome}
 use Rattle.pa_execution.proofs.Playing.{sees_then}
 use Rattle.pa_runner.specs.declared.thread_lines.LineOp.{LineOp}
-use Rattle.pa_runner.specs.Phases.{AreReady, ArePlayed, AreGoing, HaveStakes, HaveTold, HasPassed, no_worker, queue_in, worker_in}
+use Rattle.pa_runner.specs.Phases.{AreReady, ArePlayed, AreGoing, HaveStakes, HaveTold, HaveReturned, HasPassed, no_worker, queue_in, worker_in}
 use Rattle.pa_runner.specs.Reporting.{HasAsked}
-use Rattle.pa_runner.proofs.PlayedLines.{same_thread}
 
 -- one more isn't stopped
 pub going_more : (ws : List WorkerValue) (i : ℕ) (d : WorkerValue) (b : Bool) → ((k : ℕ) → k < i → (worker_in ws k).stopped ≡ false) → i < length ws →
@@ -24,25 +23,27 @@ going_more ws i d b before low is off k less = elim (cases_eq k i) [
   | inr ne ↦ before k (omega arith)
 ]
 
-module _ (queues : List (List LineOp)) (before ends : List WorkerValue) (ready : AreReady queues before) (count : length ends ≡ length before)
-    (played : ArePlayed queues before ends) (going : AreGoing ends) where
-  -- each has its stake
-  pub passed_stakes : HaveStakes ends
-  passed_stakes = record {
-    thread = λ k low. same_thread (played k (omega arith) (going k low)) ∙ ready.thread k (omega arith);
-    each = λ k low. (played k (omega arith) (going k low)).stake;
-  }
+-- each has its stake, whether it is stopped or not
+pub returned_stakes : (queues : List (List LineOp)) (before ends : List WorkerValue) → AreReady queues before → length ends ≡ length before → ArePlayed queues before ends → HaveStakes ends
+returned_stakes queues before ends ready count played = record {
+  thread = λ k low. (played k (omega arith)).keeps.thread ∙ ready.thread k (omega arith);
+  each = λ k low. (played k (omega arith)).keeps.stake;
+}
 
-  -- and when all have handed their stakes over, the phase has passed
-  pub passed : (after : List WorkerValue) (first seat : View) → HasHeardSome (length ends) (length ends) (worker_in ends) first seat → HaveTold (length ends) ends after →
-      HasPassed queues before after first seat
-  passed after first seat heard told = record {
-    ends = ends;
-    count = count;
-    played = λ k low. played k low (going k (omega arith));
-    heard = subst (λ n. HasHeardSome n n (worker_in ends) first seat) count heard;
-    told = subst (λ n. HaveTold n ends after) count told;
-  }
+-- when all have handed their stakes over
+pub returned : (queues : List (List LineOp)) (before ends after : List WorkerValue) (first seat : View) → length ends ≡ length before → ArePlayed queues before ends →
+    HasHeardSome (length ends) (length ends) (worker_in ends) first seat → HaveTold (length ends) ends after → HaveReturned queues before after first seat
+returned queues before ends after first seat count played heard told = record {
+  ends = ends;
+  count = count;
+  played = played;
+  heard = subst (λ n. HasHeardSome n n (worker_in ends) first seat) count heard;
+  told = subst (λ n. HaveTold n ends after) count told;
+}
+
+-- A main seat with the stakes of all threads has every stake.
+pub heard_every : (threads : ℕ) (workers : ℕ → WorkerValue) (first seat : View) → HasHeardSome threads threads workers first seat → HasEveryStake seat
+heard_every threads workers first seat heard k small = elim (cases_lt k threads) [ inl few ↦ heard.told k few | inr past ↦ heard.main.own k past small ]
 
 -- A main seat that asked roots gives the stakes back all the same.
 pub heard_asked : (threads count : ℕ) (workers : ℕ → WorkerValue) (first seat next : View) → HasHeardSome threads count workers first seat → HasAsked seat next → HasHeardSome threads count workers first next
@@ -61,6 +62,37 @@ heard_asked threads count workers first seat next heard asked = record {
     goes_on : HasSeenAll seat next
     goes_on = record { lists = asked.keeps.lists; seen = asked.keeps.seen }
 
+module _ (queues : List (List LineOp)) (before after : List WorkerValue) (first seat : View) (back : HaveReturned queues before after first seat) where
+  pub returned_every : HasEveryStake seat
+  returned_every = heard_every (length before) (worker_in back.ends) first seat back.heard
+
+  pub returned_asked : (next : View) → HasAsked seat next → HaveReturned queues before after first next
+  returned_asked next asked = record {
+    ends = back.ends;
+    count = back.count;
+    played = back.played;
+    heard = heard_asked (length before) (length before) (worker_in back.ends) first seat next back.heard asked;
+    told = back.told;
+  }
+
+  -- if none is stopped, the phase has passed
+  pub passed : length after ≡ length before → AreGoing after → HasPassed queues before after first seat
+  passed count going = record {
+    ends = back.ends;
+    count = back.count;
+    played = λ k low. (back.played k low).played (sym (ap (λ (w : WorkerValue). w.stopped) (back.told.told k low)) ∙ going k (omega arith));
+    heard = back.heard;
+    told = back.told;
+  }
+
+-- both, after the main seat asked roots
+pub asked_back : (queues : List (List LineOp)) (before ends after : List WorkerValue) (first seat next : View) → length ends ≡ length before → ArePlayed queues before ends →
+    HasHeardSome (length ends) (length ends) (worker_in ends) first seat → HaveTold (length ends) ends after → HasAsked seat next →
+    HaveReturned queues before after first next × HasEveryStake next
+asked_back queues before ends after first seat next count played heard told asked =
+    let back = returned_asked queues before after first seat (returned queues before ends after first seat count played heard told) next asked in
+    (back, returned_every queues before after first next back)
+
 module _ (queues : List (List LineOp)) (before after : List WorkerValue) (first seat : View) (over : HasPassed queues before after first seat) where
   pub passed_asked : (next : View) → HasAsked seat next → HasPassed queues before after first next
   passed_asked next asked = record {
@@ -73,7 +105,7 @@ module _ (queues : List (List LineOp)) (before after : List WorkerValue) (first 
 
   -- the main seat has every stake then
   pub passed_every : HasEveryStake seat
-  passed_every k small = elim (cases_lt k (length before)) [ inl few ↦ over.heard.told k few | inr past ↦ over.heard.main.own k past small ]
+  passed_every = heard_every (length before) (worker_in over.ends) first seat over.heard
 
   -- and no worker has more records than it had room for
   pub passed_few : AreReady queues before → ((k : ℕ) → k < length before → (worker_in before k).room ≤ 65536) → (k : ℕ) → k < length before → length (worker_in after k).records ≤ 65536

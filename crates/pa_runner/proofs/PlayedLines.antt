@@ -1,5 +1,5 @@
 -- A worker plays lines one after the other.
-use Rattle.std.proofs.Common.{◌≡◌, ℕ, zero, suc, ◌+◌, ◌<◌, ◌≤◌, List, [], ◌∷◌, ◌++◌, length, map, refl, sym, ◌∙◌, ap, subst, arith, inl, inr, append-nil, append_assoc}
+use Rattle.std.proofs.Common.{◌≡◌, true, false, ℕ, zero, suc, ◌+◌, ◌<◌, ◌≤◌, List, [], ◌∷◌, ◌++◌, length, map, refl, sym, ◌∙◌, ap, subst, arith, inl, inr, append-nil, append_assoc}
 use Rattle.std.proofs.Common.{take, drop, get_or}
 use Rattle.std.proofs.Math.Seq.{take_all}
 use Rattle.std.proofs.lemmas.List.{map-append, length-map, length-append, take_more}
@@ -16,12 +16,13 @@ use Rattle.pa_lists.proofs.Members.{in_cases, not_in_none}
 use Rattle.pa_rules.specs.declared.played.Played.{Played}
 use Rattle.pa_rules.specs.Played.{op_line_of, entry_of}
 use Rattle.pa_logs.specs.Told.{ToldRecord, played_in}
-use Rattle.pa_op_specs.specs.Workers.{WorkerValue, CanPlayOp, KeepsOn}
+use Rattle.pa_op_specs.specs.Workers.{WorkerValue, HasItsStake, CanPlayOp, KeepsOn}
 use Rattle.pa_op_specs.specs.Plays.{PlaysOp}
+use Rattle.pa_thread_state.specs.Stopping.{KeepsItsStake}
 use Rattle.pa_op_specs.proofs.Following.{composes}
 use Rattle.pa_execution.proofs.Playing.{stays}
 use Rattle.pa_runner.specs.declared.thread_lines.LineOp.{LineOp}
-use Rattle.pa_runner.specs.Playing.{in_phase, AreBefore, EndsWith, CanPlay, PlaysLines}
+use Rattle.pa_runner.specs.Playing.{in_phase, AreBefore, EndsWith, CanPlay, PlaysLines, IsPlayed}
 
 -- ---- records of lines before a line
 
@@ -174,6 +175,20 @@ all_lines ds i u v past played = subst (λ xs. PlaysLines xs u v) (take_all i ds
 
 pub same_thread : {ds : List LineOp} {w v : WorkerValue} → PlaysLines ds w v → v.stock.thread ≡ w.stock.thread
 same_thread {ds} {w} {v} played = let (xs, all, of) = played.plays 0 in (stays w v xs all).0
+
+-- a worker that stopped before it did anything has its stake
+pub stopped_keeps : (w v : WorkerValue) → HasItsStake w.stock → v ≡ record w { stopped = true } → KeepsItsStake w.stock v.stock
+stopped_keeps w v stake same = subst (λ (z : WorkerValue). KeepsItsStake w.stock z.stock) (sym same) (record { thread = refl; stake = stake })
+
+-- it is back, when all lines were played, and when it stopped at one
+pub back_all : (ds : List LineOp) (i : ℕ) (u v : WorkerValue) → length ds ≤ i → PlaysLines (take i ds) u v → IsPlayed ds u v
+back_all ds i u v past played =
+    let whole = all_lines ds i u v past played in
+    record { keeps = record { thread = same_thread whole; stake = whole.stake }; played = λ going. whole }
+
+pub back_stopped : (ds before : List LineOp) (u w v : WorkerValue) → PlaysLines before u w → KeepsItsStake w.stock v.stock → v.stopped ≡ true → IsPlayed ds u v
+back_stopped ds before u w v played keeps stopped =
+    record { keeps = record { thread = keeps.thread ∙ same_thread played; stake = keeps.stake }; played = λ going. let no : true ≡ false = sym stopped ∙ going in absurd cc }
 
 -- after the next line was played, without running out of memory
 pub next_ok : {T E : Type 0} (ds : List LineOp) (i : ℕ) (d : LineOp) (u w v : WorkerValue) (r : Result T E) (x : T) → r ≡ Ok x → OnOk r (PlaysLines (get_or ds i d ∷ []) w v) → i < length ds →

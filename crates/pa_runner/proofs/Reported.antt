@@ -59,7 +59,7 @@ asked_nothing v = record { keeps = keeps_itself v; logs = λ k. refl; lists = λ
 pub asked_every : (first seat : View) → HasAsked first seat → HasEveryStake first → HasEveryStake seat
 asked_every first seat asked every k small = let s = asked.keeps.stakes k in let e = every k small in omega arith
 
-asked_more : (r : ℕ) (first seat next : View) → HasAsked first seat → Lends r [] seat next → HasSameLists seat next → HasAsked first next
+pub asked_more : (r : ℕ) (first seat next : View) → HasAsked first seat → Lends r [] seat next → HasSameLists seat next → HasAsked first next
 asked_more r first seat next asked lends same = record {
   keeps = keeps_on first seat next asked.keeps lends.keeps;
   logs = λ k. same_log k ∙ asked.logs k;

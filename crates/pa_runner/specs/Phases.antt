@@ -10,7 +10,7 @@ use Rattle.pa_op_specs.specs.Stocks.{listed_in}
 use Rattle.pa_op_specs.specs.Workers.{WorkerValue, HasItsStake, worker_with_view}
 use Rattle.pa_execution.specs.Gathering.{HasHeardSome, HasAnswered, told_worker}
 use Rattle.pa_runner.specs.declared.thread_lines.LineOp.{LineOp}
-use Rattle.pa_runner.specs.Playing.{CanPlay, PlaysLines}
+use Rattle.pa_runner.specs.Playing.{CanPlay, PlaysLines, IsPlayed}
 
 -- the worker to use if there is none; the worker of a thread, and its lines
 abbrev pub no_worker : WorkerValue
@@ -34,10 +34,7 @@ pub record AreReady (queues : List (List LineOp)) (workers : List WorkerValue) :
   pub thread : (k : ℕ) → k < length workers → (worker_in workers k).stock.thread ≡ k
   pub each : (k : ℕ) → k < length workers → CanPlay (queue_in queues k) (worker_in workers k)
 
--- a worker played its lines, or ran out of memory
-abbrev pub IsPlayed : List LineOp → (before after : WorkerValue) → Type 0
-IsPlayed lines before after = after.stopped ≡ false → PlaysLines lines before after
-
+-- all workers are back from their lines
 abbrev pub ArePlayed : List (List LineOp) → (before after : List WorkerValue) → Type 0
 ArePlayed queues before after = (k : ℕ) → k < length before → IsPlayed (queue_in queues k) (worker_in before k) (worker_in after k)
 
@@ -72,6 +69,15 @@ pub record HeardFrom (threads k : ℕ) (whole : View) (before after : WorkerValu
 pub record HaveHeard (threads count : ℕ) (whole : View) (before after : List WorkerValue) : Type 0 where
   pub heard : (k : ℕ) → k < count → HeardFrom threads k whole (worker_in before k) (worker_in after k)
   pub others : (k : ℕ) → count ≤ k → worker_in after k ≡ worker_in before k
+
+-- All workers are back from a phase with these lines: each was as `ends` then, whether it played its own or is stopped; and all
+-- handed their stake to the main seat, which was `first` before.
+pub record HaveReturned (queues : List (List LineOp)) (before after : List WorkerValue) (first seat : View) : Type 0 where
+  pub ends : List WorkerValue
+  pub count : length ends ≡ length before
+  pub played : ArePlayed queues before ends
+  pub heard : HasHeardSome (length before) (length before) (worker_in ends) first seat
+  pub told : HaveTold (length before) ends after
 
 -- A phase with these lines passed: each worker played its own and was as `ends` then, and all handed their stake to the main
 -- seat, which was `first` before.

@@ -7,6 +7,7 @@ use Rattle.pa_rules.specs.Played.{OpLine, op_line_of}
 use Rattle.pa_logs.specs.Told.{ToldRecord, played_in}
 use Rattle.pa_op_specs.specs.Workers.{WorkerValue, HasItsStake}
 use Rattle.pa_op_specs.specs.Plays.{PlaysAll}
+use Rattle.pa_thread_state.specs.Stopping.{KeepsItsStake}
 use Rattle.pa_runner.specs.declared.thread_lines.LineOp.{LineOp}
 
 -- the op line that this is, of a thread in a phase
@@ -45,3 +46,8 @@ pub record PlaysLines (lines : List LineOp) (before after : WorkerValue) : Type 
   pub records : (es : List Entry) × (after.records ≡ before.records ++ es)
       × (map (λ (e : Entry). e.line) es ≡ map (λ (due : LineOp). due.line) lines)
   pub room : after.room ≡ before.room
+
+-- A worker is back from these lines: it has its stake still, and if it isn't stopped, it played them.
+pub record IsPlayed (lines : List LineOp) (before after : WorkerValue) : Type 0 where
+  pub keeps : KeepsItsStake before.stock after.stock
+  pub played : after.stopped ≡ false → PlaysLines lines before after

@@ -3,8 +3,9 @@ ghost use Rattle.std.specs.Prelude.{◌≡◌, ℕ, ◌<◌, ◌≤◌, OnOk, fa
 ghost use Rattle.pa_trace.specs.Limits.{most_partitions, most_threads};
 ghost use Rattle.pa_region.specs.declared.view.View.{View};
 ghost use Rattle.pa_region.specs.Aware.{IsAware};
+ghost use Rattle.pa_region.specs.Views.{HasEveryStake};
 ghost use Rattle.pa_execution.specs.Gathering.{IsMain};
-ghost use Rattle.pa_runner.specs.Phases.{AreGoing, AreReady, HasPassed, worker_in};
+ghost use Rattle.pa_runner.specs.Phases.{AreGoing, AreReady, HasPassed, HaveReturned, worker_in};
 ghost use Rattle.pa_runner.specs.Reporting.{IsReported};
 
 use crate::gate::Gate;
@@ -20,8 +21,8 @@ use std::sync::Wait;
 use std::thread::Threads;
 
 impl<R: Threads + Wait + Sync, N: Name + Send + Sync, G: Gate> Playing<'_, R, N, G> {
-    /// Each worker plays its lines of a phase, and when all have, each hands its stake to the main seat; then the phase's lines
-    /// are appended to the report. If a worker ran out of memory, it ends there.
+    /// Each worker plays its lines of a phase, and when all are back, each hands its stake to the main seat. If none ran out of
+    /// memory, the phase's lines are appended to the report then. The only error is out of memory, after all have handed over.
     pub fn pass_phase(
         &self,
         workers: &mut [Worker<N>],
@@ -38,16 +39,18 @@ impl<R: Threads + Wait + Sync, N: Name + Send + Sync, G: Gate> Playing<'_, R, N,
         requires partitions { self.now.trace.now.partitions ≤ most_partitions }
         ensures region { seat.new.region ≡ N.region }
         ensures count { length workers.new ≡ length workers.old }
+        ensures returned { HaveReturned queues.now workers.old workers.new seat.old.view seat.new.view }
+        ensures every { HasEveryStake seat.new.view }
         ensures aware { OnOk result (IsAware seat.new.view) }
         ensures passed { OnOk result (HasPassed queues.now workers.old workers.new seat.old.view seat.new.view) }
         ensures reported { OnOk result ((told : View) × IsReported phase self.now.trace.now.partitions (length workers.old)
             (worker_in workers.new) told seat.new.view report.old.items report.new.items) }
     {
         self.play_phase(workers, queues);
+        tell_all(self.heap, workers, seat);
         if any_stopped(workers) {
             return Err(OutOfMemory);
         }
-        tell_all(self.heap, workers, seat);
         self.report_phase(workers, seat, phase, report)?;
         seat.aware();
         Ok(())

@@ -10,8 +10,8 @@ ghost use Rattle.pa_rules.specs.Caches.{SameLists};
 ghost use Rattle.pa_op_specs.specs.Stocks.{IsForThread, listed_in};
 ghost use Rattle.pa_op_specs.specs.Workers.{HasItsStake, worker_with_view};
 ghost use Rattle.pa_execution.specs.Gathering.{IsMain, HasHeardSome, HasAnswered, told_worker};
-ghost use Rattle.pa_runner.specs.Playing.{CanPlay};
-ghost use Rattle.pa_runner.specs.Phases.{AreReady, IsPlayed, ArePlayed, HaveStakes, HaveTold, HaveNone, HaveHeard, queue_in, worker_in};
+ghost use Rattle.pa_runner.specs.Playing.{CanPlay, IsPlayed};
+ghost use Rattle.pa_runner.specs.Phases.{AreReady, ArePlayed, HaveStakes, HaveTold, HaveNone, HaveHeard, queue_in, worker_in};
 
 use crate::gate::Gate;
 use crate::phases::Playing;
@@ -25,14 +25,15 @@ use std::thread;
 use std::thread::Threads;
 
 impl<R: Threads + Wait + Sync, N: Name + Send + Sync, G: Gate> Playing<'_, R, N, G> {
-    /// Each worker plays its lines, on a thread of its own if it gets one, and else on this one. It returns when all have played.
+    /// Each worker plays its lines, on a thread of its own if it gets one, and else on this one; no thread is started if at most one
+    /// worker has lines. It returns when all have played.
     pub fn play_phase(&self, workers: &mut [Worker<N>], queues: &[Queue])
         requires many { (0 < length workers.old) × (length workers.old ≤ most_threads) }
         requires ready { AreReady queues.now workers.old }
         ensures count { length workers.new ≡ length workers.old }
         ensures played { ArePlayed queues.now workers.old workers.new }
     {
-        let threads = workers.len();
+        let threads = threads_for(queues, workers.len());
         let play = |k: usize, worker: &mut Worker<N>|
             requires thread { (k < length queues.now) × (k < most_threads) × (worker.old.stock.thread ≡ k) }
             requires ready { CanPlay (queue_in queues.now k) worker.old }
@@ -40,6 +41,23 @@ impl<R: Threads + Wait + Sync, N: Name + Send + Sync, G: Gate> Playing<'_, R, N,
         { self.play_lines(worker, k as u32, queues[k].as_slice()) };
         thread::for_each_mut(self.rt, workers, threads, &play);
     }
+}
+
+// How many threads to use for these lines: one, which is the caller's, if at most one worker has any; else one for each worker.
+fn threads_for(queues: &[Queue], workers: usize) -> usize
+    requires { 0 < workers }
+    ensures { (0 < result) × (result ≤ workers) }
+{
+    let mut found = false;
+    for queue in queues {
+        if !queue.as_slice().is_empty() {
+            if found {
+                return workers;
+            }
+            found = true;
+        }
+    }
+    1
 }
 
 /// Each worker hands its stake to the main seat, which then has every stake, each with its log, and has seen what they have seen.

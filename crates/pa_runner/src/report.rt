@@ -7,7 +7,7 @@ ghost use Rattle.pa_rules.specs.Report.{census_of};
 ghost use Rattle.pa_thread_state.specs.Censuses.{TellsCensus};
 ghost use Rattle.pa_execution.specs.Lines.{IsCachedBy};
 ghost use Rattle.pa_runner.specs.Phases.{worker_in};
-ghost use Rattle.pa_runner.specs.Reporting.{AreCountedBy, IsLineFor, IsReported};
+ghost use Rattle.pa_runner.specs.Reporting.{AreCountedBy, HasAsked, IsLineFor, IsReported};
 
 use crate::phases::Playing;
 use pa_heap::Worker;
@@ -19,7 +19,7 @@ use std::sync::Wait;
 
 impl<R: Wait, N: Name, G> Playing<'_, R, N, G> {
     /// Appends the lines of a phase to a report: for each partition what the workers counted and have cached, and the census of
-    /// its root.
+    /// its root. If there is no memory for them, the main seat has what it had all the same.
     pub fn report_phase(
         &self,
         workers: &[Worker<N>],
@@ -33,6 +33,7 @@ impl<R: Wait, N: Name, G> Playing<'_, R, N, G> {
         requires many { length workers.now ≤ most_threads }
         requires few { (k : ℕ) → k < length workers.now → length (worker_in workers.now k).records ≤ 65536 }
         ensures region { seat.new.region ≡ N.region }
+        ensures asked { HasAsked seat.old.view seat.new.view }
         ensures reported { OnOk result (IsReported phase self.now.trace.now.partitions (length workers.now) (worker_in workers.now)
             seat.old.view seat.new.view report.old.items report.new.items) }
     {

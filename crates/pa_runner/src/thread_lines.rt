@@ -1,9 +1,10 @@
 //! The lines of one thread in one phase, one after the other.
-ghost use Rattle.std.specs.Prelude.{◌≡◌, ◌∷◌, [], IfOk, OnOk, OnErr, true, false};
+ghost use Rattle.std.specs.Prelude.{◌≡◌, ◌∷◌, [], IfOk, OnOk, OnErr, true};
 ghost use Rattle.pa_trace.specs.Limits.{IsOpWithin};
 ghost use Rattle.pa_op_specs.specs.Workers.{CanPlayOp, KeepsOn};
 ghost use Rattle.pa_op_specs.specs.Plays.{PlaysOp};
-ghost use Rattle.pa_runner.specs.Playing.{AreBefore, CanPlay, PlaysLines};
+ghost use Rattle.pa_thread_state.specs.Stopping.{KeepsItsStake};
+ghost use Rattle.pa_runner.specs.Playing.{AreBefore, CanPlay, PlaysLines, IsPlayed};
 
 use crate::gate::Gate;
 use crate::phases::Playing;
@@ -24,11 +25,12 @@ pub struct LineOp {
 }
 
 impl<R: Threads + Wait + Sync, N: Name, G: Gate> Playing<'_, R, N, G> {
-    /// Plays a thread's lines in their order. If an op runs out of memory the worker is stopped, and plays no more.
+    /// Plays a thread's lines in their order. If an op runs out of memory the worker is stopped, and plays no more; it has its
+    /// stake all the same.
     pub fn play_lines(&self, worker: &mut Worker<N>, thread: u32, lines: &[LineOp])
         requires thread { worker.old.stock.thread ≡ thread }
         requires ready { CanPlay lines.now worker.old }
-        ensures { worker.new.stopped ≡ false → PlaysLines lines.now worker.old worker.new }
+        ensures { IsPlayed lines.now worker.old worker.new }
     {
         for due in lines {
             match self.play_line(worker, thread, *due) {
@@ -46,6 +48,7 @@ impl<R: Threads + Wait + Sync, N: Name, G: Gate> Playing<'_, R, N, G> {
         requires new { AreBefore due.line worker.old.records }
         ensures plays { OnOk result (PlaysLines (due ∷ []) worker.old worker.new) }
         ensures stops { OnErr result (worker.new.stopped ≡ true) }
+        ensures stake { OnErr result (KeepsItsStake worker.old.stock worker.new.stock) }
     {
         self.gate.pass(self.rt, worker, thread, due.line);
         let answer = play_op(self.rt, self.heap, worker, due)?;
@@ -67,6 +70,7 @@ fn play_op<R: Wait, N: Name>(
     ensures plays { IfOk result (λ answer. PlaysOp due.line due.op answer worker.old worker.new) }
     ensures goes_on { OnOk result (KeepsOn worker.old worker.new) }
     ensures stops { OnErr result (worker.new.stopped ≡ true) }
+    ensures stake { OnErr result (KeepsItsStake worker.old.stock worker.new.stock) }
 {
     let line = due.line;
     match due.op {

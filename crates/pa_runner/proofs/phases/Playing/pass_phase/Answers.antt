@@ -2,7 +2,7 @@ use Rattle.std.proofs.Common.{sym, ◌∙◌, subst, arith}
 use Rattle.pa_execution.specs.Gathering.{IsMain}
 use Rattle.pa_runner.specs.Phases.{worker_in}
 use Rattle.pa_runner.specs.Reporting.{IsReported}
-use Rattle.pa_runner.proofs.Passing.{passed_stakes, passed, passed_asked, passed_every, passed_few}
+use Rattle.pa_runner.proofs.Passing.{returned_stakes, returned, returned_every, asked_back, passed, passed_asked, passed_few}
 use Rattle.pa_runner.proofs.phases.Playing.pass_phase.Goals as goal
 
 pub tell_all-requires-clause-main : goal.tell_all-requires-clause-main
@@ -10,18 +10,33 @@ tell_all-requires-clause-main g c = subst (λ n. IsMain n c.args.seat.now.view) 
 
 pub tell_all-requires-clause-stakes : goal.tell_all-requires-clause-stakes
 tell_all-requires-clause-stakes g c =
-    passed_stakes c.args.queues.now c.args.workers.now c.play_phase.new.workers c.requires.ready c.play_phase.ensures.count c.play_phase.ensures.played
-    (c.any_stopped.ensures c.if-any_stopped.false)
+    returned_stakes c.args.queues.now c.args.workers.now c.play_phase.new.workers c.requires.ready c.play_phase.ensures.count c.play_phase.ensures.played
 
-pub report_phase-requires-clause-every : goal.report_phase-requires-clause-every
-report_phase-requires-clause-every g c =
+pub returns-then-any_stopped-clause-returned : goal.returns-then-any_stopped-clause-returned
+returns-then-any_stopped-clause-returned g c =
+    let told = c.tell_all in
+    returned c.args.queues.now c.args.workers.now c.play_phase.new.workers told.new.workers c.args.seat.now.view told.new.seat.view
+    c.play_phase.ensures.count c.play_phase.ensures.played told.ensures.heard told.ensures.told
+
+pub returns-then-any_stopped-clause-every : goal.returns-then-any_stopped-clause-every
+returns-then-any_stopped-clause-every g c =
+    let told = c.tell_all in
     let queues = c.args.queues.now in
     let before = c.args.workers.now in
     let first = c.args.seat.now.view in
+    returned_every queues before told.new.workers first told.new.seat.view
+    (returned queues before c.play_phase.new.workers told.new.workers first told.new.seat.view c.play_phase.ensures.count c.play_phase.ensures.played
+    told.ensures.heard told.ensures.told)
+
+pub report_phase-requires-clause-every : goal.report_phase-requires-clause-every
+report_phase-requires-clause-every g c =
     let told = c.tell_all in
-    let went = passed queues before c.play_phase.new.workers c.requires.ready c.play_phase.ensures.count c.play_phase.ensures.played
-    (c.any_stopped.ensures c.if-any_stopped.false) told.new.workers first told.new.seat.view told.ensures.heard told.ensures.told in
-    passed_every queues before told.new.workers first told.new.seat.view went
+    let queues = c.args.queues.now in
+    let before = c.args.workers.now in
+    let first = c.args.seat.now.view in
+    returned_every queues before told.new.workers first told.new.seat.view
+    (returned queues before c.play_phase.new.workers told.new.workers first told.new.seat.view c.play_phase.ensures.count c.play_phase.ensures.played
+    told.ensures.heard told.ensures.told)
 
 pub report_phase-requires-clause-few : goal.report_phase-requires-clause-few
 report_phase-requires-clause-few g c k low =
@@ -29,10 +44,10 @@ report_phase-requires-clause-few g c k low =
     let before = c.args.workers.now in
     let first = c.args.seat.now.view in
     let told = c.tell_all in
-    let went = passed queues before c.play_phase.new.workers c.requires.ready c.play_phase.ensures.count c.play_phase.ensures.played
-    (c.any_stopped.ensures c.if-any_stopped.false) told.new.workers first told.new.seat.view told.ensures.heard told.ensures.told in
-    let played = c.play_phase.ensures.count in
-    let count = told.ensures.count in
+    let back = returned queues before c.play_phase.new.workers told.new.workers first told.new.seat.view c.play_phase.ensures.count c.play_phase.ensures.played
+    told.ensures.heard told.ensures.told in
+    let count = told.ensures.count ∙ c.play_phase.ensures.count in
+    let went = passed queues before told.new.workers first told.new.seat.view back count (c.any_stopped.ensures c.if-any_stopped.false) in
     passed_few queues before told.new.workers first told.new.seat.view went c.requires.ready c.requires.few k (omega arith)
 
 pub returns-clause-passed : goal.returns-clause-passed
@@ -41,9 +56,11 @@ returns-clause-passed g c =
     let before = c.args.workers.now in
     let first = c.args.seat.now.view in
     let told = c.tell_all in
-    let went = passed queues before c.play_phase.new.workers c.requires.ready c.play_phase.ensures.count c.play_phase.ensures.played
-    (c.any_stopped.ensures c.if-any_stopped.false) told.new.workers first told.new.seat.view told.ensures.heard told.ensures.told in
-    passed_asked queues before told.new.workers first told.new.seat.view went c.report_phase.new.seat.view c.in_ok-report_phase.ensures.reported.asked
+    let back = returned queues before c.play_phase.new.workers told.new.workers first told.new.seat.view c.play_phase.ensures.count c.play_phase.ensures.played
+    told.ensures.heard told.ensures.told in
+    let count = told.ensures.count ∙ c.play_phase.ensures.count in
+    let went = passed queues before told.new.workers first told.new.seat.view back count (c.any_stopped.ensures c.if-any_stopped.false) in
+    passed_asked queues before told.new.workers first told.new.seat.view went c.report_phase.new.seat.view c.report_phase.ensures.asked
 
 pub returns-clause-reported : goal.returns-clause-reported
 returns-clause-reported g c =
@@ -54,3 +71,27 @@ returns-clause-reported g c =
           c.args.report.now.items asked.new.report.items)
           (told.ensures.count ∙ c.play_phase.ensures.count) c.in_ok-report_phase.ensures.reported,
     )
+
+pub returns-in_err-report_phase-clause-returned : goal.returns-in_err-report_phase-clause-returned
+returns-in_err-report_phase-clause-returned g c =
+    let told = c.tell_all in
+    (asked_back c.args.queues.now c.args.workers.now c.play_phase.new.workers told.new.workers c.args.seat.now.view told.new.seat.view c.report_phase.new.seat.view
+    c.play_phase.ensures.count c.play_phase.ensures.played told.ensures.heard told.ensures.told c.report_phase.ensures.asked).0
+
+pub returns-in_err-report_phase-clause-every : goal.returns-in_err-report_phase-clause-every
+returns-in_err-report_phase-clause-every g c =
+    let told = c.tell_all in
+    (asked_back c.args.queues.now c.args.workers.now c.play_phase.new.workers told.new.workers c.args.seat.now.view told.new.seat.view c.report_phase.new.seat.view
+    c.play_phase.ensures.count c.play_phase.ensures.played told.ensures.heard told.ensures.told c.report_phase.ensures.asked).1
+
+pub returns-clause-returned : goal.returns-clause-returned
+returns-clause-returned g c =
+    let told = c.tell_all in
+    (asked_back c.args.queues.now c.args.workers.now c.play_phase.new.workers told.new.workers c.args.seat.now.view told.new.seat.view c.report_phase.new.seat.view
+    c.play_phase.ensures.count c.play_phase.ensures.played told.ensures.heard told.ensures.told c.report_phase.ensures.asked).0
+
+pub returns-clause-every : goal.returns-clause-every
+returns-clause-every g c =
+    let told = c.tell_all in
+    (asked_back c.args.queues.now c.args.workers.now c.play_phase.new.workers told.new.workers c.args.seat.now.view told.new.seat.view c.report_phase.new.seat.view
+    c.play_phase.ensures.count c.play_phase.ensures.played told.ensures.heard told.ensures.told c.report_phase.ensures.asked).1

@@ -1,5 +1,5 @@
 use Rattle.std.proofs.Common.{◌∙◌}
-use Rattle.pa_runner.proofs.PlayedLines.{plays_none, next_ready, next_limits, next_new, next_ok, all_lines, same_thread}
+use Rattle.pa_runner.proofs.PlayedLines.{plays_none, next_ready, next_limits, next_new, next_ok, same_thread, back_all, back_stopped}
 use Rattle.pa_runner.proofs.phases.Playing.play_lines.Goals as goal
 
 pub loop-due-init : goal.loop-due-init
@@ -23,5 +23,9 @@ loop-due-preserved g c =
     c.loop-due-test.true c.loop-due.invariant.can c.loop-due.invariant.played in
     record { can = both.0; played = both.1 }
 
+pub returns-in-Err : goal.returns-in-Err
+returns-in-Err g c =
+    back_stopped c.args.lines.now _ c.args.worker.now c.loop-due.worker c.play_line.new.worker c.loop-due.invariant.played c.in-Err.ensures.stake c.in-Err.ensures.stops
+
 pub returns : goal.returns
-returns g c going = all_lines c.args.lines.now c.loop-due.due-index c.args.worker.now c.loop-due.worker c.loop-due-test.false c.loop-due.invariant.played
+returns g c = back_all c.args.lines.now c.loop-due.due-index c.args.worker.now c.loop-due.worker c.loop-due-test.false c.loop-due.invariant.played
