@@ -1,0 +1,5 @@
+mod Queueing
+mod Zero
+mod Fits
+mod Same
+mod Worked

@@ -1,0 +1,41 @@
+-- Sums of slot sizes, and what goes from the front of a queue.
+use Rattle.std.proofs.Common.{◌≡◌, ℕ, ◌+◌, ◌*◌, ◌<◌, ◌≤◌, List, [], ◌∷◌, ◌++◌, length, Option, Some, None, sym, ◌∙◌, ap, arith, subst}
+use Rattle.std.specs.Prelude.{IfSome, option_to_list}
+use Rattle.std.proofs.lemmas.List.Elements.{All-head, All-tail}
+use Rattle.pa_buckets.specs.Table.{slot_of}
+use Rattle.pa_buckets.proofs.Facts.{IsRow-of}
+use Rattle.pa_delay.specs.declared.queue.Freed.{Freed}
+use Rattle.pa_delay.specs.Queue.{AreBytes, QueueList, GoesFirst, HaveClasses, freed_bytes}
+
+-- the bytes of a queue with one slot more at its back
+pub bytes_behind : (xs : List Freed) (s : Freed) → freed_bytes (xs ++ s ∷ []) ≡ freed_bytes xs + slot_of s.class
+bytes_behind [] s = omega arith
+bytes_behind (x ∷ xs) s = let e = bytes_behind xs s in omega arith
+
+-- the front goes where all have more than the limit
+pub front_goes : (q : QueueList) (s : Freed) (rest : List Freed) → q.slots ≡ s ∷ rest → q.limit < freed_bytes q.slots → GoesFirst q rest s
+front_goes q s rest whole many gone stays past = record {
+  parts = whole ∙ ap (λ zs. s ∷ zs) past.parts;
+  fits = past.fits;
+  least = least;
+}
+  where
+    least : (front : List Freed) (last : Freed) (n : ℕ) → s ∷ gone ≡ front ++ last ∷ [] → AreBytes (last ∷ stays) n → q.limit < n
+    least [] last n e b =
+        let one : s ≡ last = cc in
+        let none : gone ≡ [] = cc in
+        let all : q.slots ≡ last ∷ stays = whole ∙ (ap (λ zs. s ∷ zs) (past.parts ∙ ap (λ zs. zs ++ stays) none) ∙ ap (λ z. z ∷ stays) one) in
+        subst (λ k. q.limit < k) (ap freed_bytes all ∙ sym b) many
+    least (x ∷ front) last n e b = let later : gone ≡ front ++ last ∷ [] = cc in past.least front last n later b
+
+pub some_goes : (q : QueueList) (r : Option Freed) (rest : List Freed) → q.slots ≡ option_to_list r ++ rest → q.limit < freed_bytes q.slots → IfSome r (GoesFirst q rest)
+some_goes q None rest whole many = tt
+some_goes q (Some s) rest whole many = front_goes q s rest whole many
+
+-- a slot has at most 917,504 bytes
+pub bytes_few : (xs : List Freed) → HaveClasses xs → freed_bytes xs ≤ 917504 * length xs
+bytes_few [] all = omega arith
+bytes_few (x ∷ xs) all =
+    let one = (IsRow-of x.class (All-head (λ (s : Freed). s.class < 59) x xs all)).greatest_slot in
+    let rest = bytes_few xs (All-tail (λ (s : Freed). s.class < 59) x xs all) in
+    omega arith

@@ -1,0 +1,11 @@
+//! Slots that were returned wait in a queue of their thread before its lists see them: first in, first out, within so many
+//! bytes. No command uses this yet.
+#![tactic(auto)]
+
+mod laws;
+mod queue;
+#[cfg(test)]
+mod tests;
+
+pub use laws::{no_bytes_no_delay, one_waits, queues_fit};
+pub use queue::{Delay, Freed};
