@@ -1,23 +1,25 @@
 -- What a status and its cause imply if the input is good, if it is faulty, and if nothing is read.
 use Rattle.std.proofs.Common.{◌≡◌, ◌∙◌, ℕ, List, Option, Some, None, IfSome, inl, inr, refl, sym, ap, subst}
 use Rattle.pa_io.specs.Moves.{IsAllOf}
+use Rattle.pa_trace.specs.declared.script.Trace.{Trace}
 use Rattle.pa_trace.specs.declared.fault.TraceFault.{TraceFault}
 use Rattle.pa_trace.specs.declared.fault.TraceFault.TheVariants as faults
 use Rattle.pa_trace.specs.Limits.{IsInput}
 use Rattle.pa_trace.proofs.Firsts.{one_fault, no_fault_of_input}
+use Rattle.pa_record.specs.declared.run.Run.{Run}
 use Rattle.pa_rules.specs.declared.verdict.Clause.{Clause}
 use Rattle.pa_rules.specs.declared.verdict.Verdict.{Verdict}
 use Rattle.pa_rules.specs.declared.verdict.Verdict.TheVariants.{Legal, Broken}
 use Rattle.pa_audit_input.specs.Input.{IsAudited}
-use Rattle.pa_audit_input.specs.Judged.{IsLegalInput, IsRefutedInput, IsVerdictOn}
+use Rattle.pa_audit_input.specs.Judged.{IsLegalInput, IsLegalOf, IsRefutedInput, IsVerdictOn}
 use Rattle.pa_audit_input.proofs.Parting.{no_audit_fault, one_audit_fault}
 use Rattle.pa_cli.specs.declared.command.Command.{Command}
-use Rattle.pa_cli.specs.declared.command.Command.TheVariants.{Replay, Model, Audit, Layout, Gen, Help, Version}
+use Rattle.pa_cli.specs.declared.command.Command.TheVariants.{Replay, Model, Audit, Dangling, Layout, Gen, Help, Version}
 use Rattle.pa_cli.specs.declared.command.Command.TheVariants as commands
 use Rattle.pa_cli.specs.declared.status.Status.{Status}
 use Rattle.pa_cli.specs.declared.status.Status.TheVariants.{Done, BadCommand, BadLine, Limit, ReadFault, WriteFault, OutOfMemory, NotLegal}
 use Rattle.pa_cli.specs.Call.{Stream, Call}
-use Rattle.pa_cli.specs.Command.{AsksFor, IsAudit, Reading, ReadsNothing, ReadsTrace, ReadsRun, ReadsSome, Needs, needs_of}
+use Rattle.pa_cli.specs.Command.{AsksFor, Reading, ReadsNothing, ReadsTrace, ReadsRun, ReadsSome, Needs, needs_of}
 use Rattle.pa_cli.specs.Output.{Output, output_with, IsOutputOf, IsOutput}
 use Rattle.pa_cli.specs.Cause.{IsFaulty, HasFault, IsRefuted, IsInputFor, Caused, Answers, Completes, Judges, Refuses}
 use Rattle.pa_cli.specs.StatusText.{status_of_trace, status_of_verdict}
@@ -110,6 +112,9 @@ output_input Model bytes before after out reads told h =
 output_input Audit bytes before after out reads told h =
     let input = h.0.legal in
     (input.trace, input.run, input.lines, subst (IsAudited input.trace input.run input.lines) (read_these before.told bytes h.0.bytes told h.0.read.all) input.input)
+output_input Dangling bytes before after out reads told h =
+    let legal = h.0.legal in
+    (h.0.trace, h.0.run, legal.lines, subst (IsAudited h.0.trace h.0.run legal.lines) (read_these before.told bytes h.0.bytes told h.0.read.all) legal.input)
 output_input (Layout size) bytes before after out reads told h = absurd reads
 output_input (commands.Trace rounds key) bytes before after out reads told h = absurd reads
 output_input (Gen rounds key) bytes before after out reads told h = absurd reads
@@ -160,36 +165,50 @@ verdict_input : (bytes : List ℕ) (verdict : Verdict) → IsVerdictOn verdict b
 verdict_input bytes Legal h = (h.trace, h.run, h.lines, h.input)
 verdict_input bytes (Broken clause n) h = (h.trace, h.run, h.lines, h.input)
 
+-- a legal run of a trace is a legal input
+legal_of : (t : Trace) (r : Run) (bytes : List ℕ) → IsLegalOf t r bytes → IsLegalInput bytes
+legal_of t r bytes h = record { trace = t; run = r; lines = h.lines; input = h.input; legal = h.legal }
+
 -- what a command printed that reads a run is of a legal one
 output_legal : (command : Command) (bytes : List ℕ) (before after : Stream) (out : Output) → (needs_of command).reads ≡ ReadsRun → before.told ≡ Some bytes
     → IsOutputOf command before after out → IsLegalInput bytes
 output_legal Replay bytes before after out reads told h = absurd cc
 output_legal Model bytes before after out reads told h = absurd cc
 output_legal Audit bytes before after out reads told h = subst IsLegalInput (read_these before.told bytes h.0.bytes told h.0.read.all) h.0.legal
+output_legal Dangling bytes before after out reads told h =
+    subst IsLegalInput (read_these before.told bytes h.0.bytes told h.0.read.all) (legal_of h.0.trace h.0.run h.0.bytes h.0.legal)
 output_legal (Layout size) bytes before after out reads told h = absurd cc
 output_legal (commands.Trace rounds key) bytes before after out reads told h = absurd cc
 output_legal (Gen rounds key) bytes before after out reads told h = absurd cc
 output_legal Help bytes before after out reads told h = absurd cc
 output_legal Version bytes before after out reads told h = absurd cc
 
-legal_output : (bytes : List ℕ) (c : Call) (text : List ℕ) → IsAudit c.words → c.source.told ≡ Some bytes → IsOutput c text → IsVerdictOn Legal bytes
-legal_output bytes c text asked told h =
+legal_output : (bytes : List ℕ) (command : Command) (c : Call) (text : List ℕ) → AsksFor command c.words → (needs_of command).reads ≡ ReadsRun
+    → c.source.told ≡ Some bytes → IsOutput c text → IsVerdictOn Legal bytes
+legal_output bytes command c text asked reads told h =
     output_legal h.0 bytes c.source c.source_after (output_with text c.run c.region)
-    (ap (λ (x : Needs). x.reads) (one_needs h.0 Audit c.words h.1 asked)) told h.2
+    (ap (λ (x : Needs). x.reads) (one_needs h.0 command c.words h.1 asked) ∙ reads) told h.2
+
+-- bytes with a verdict are what a command reads that reads a run
+judged_input : (bytes : List ℕ) (command : Command) (verdict : Verdict) → (needs_of command).reads ≡ ReadsRun → IsVerdictOn verdict bytes
+    → IsInputFor (needs_of command).reads bytes
+judged_input bytes command verdict reads h = subst (λ (x : Reading). IsInputFor x bytes) (sym reads) (verdict_input bytes verdict h)
 
 -- a verdict leads to its status or to OutOfMemory
 pub caused_judges : (status : Status) (c : Call) → Caused status c → Judges status c
-caused_judges Done c h = λ bytes verdict asked told right calm quiet.
-    inl (ap status_of_verdict (one_judgement bytes Legal verdict (legal_output bytes c h.0 asked told h.1) right))
-caused_judges BadCommand c h = λ bytes verdict asked told right calm quiet. absurd (h.0 (Audit, asked))
-caused_judges (BadLine n) c h = λ bytes verdict asked told right calm quiet.
-    absurd (no_fault bytes (needs_of Audit) (needs_of h.0.0) (faults.BadLine n) c.source c.source_after (one_needs Audit h.0.0 c.words asked h.0.1) told (verdict_input bytes verdict right) h.0.2.1)
-caused_judges (Limit n) c h = λ bytes verdict asked told right calm quiet.
-    absurd (no_fault bytes (needs_of Audit) (needs_of h.0.0) (faults.Limit n) c.source c.source_after (one_needs Audit h.0.0 c.words asked h.0.1) told (verdict_input bytes verdict right) h.0.2.1)
-caused_judges ReadFault c h = λ bytes verdict asked told right calm quiet. absurd (calm h.0.2.1.risen)
-caused_judges WriteFault c h = λ bytes verdict asked told right calm quiet. absurd (quiet h.2)
-caused_judges OutOfMemory c h = λ bytes verdict asked told right calm quiet. inr refl
-caused_judges (NotLegal clause n) c h = λ bytes verdict asked told right calm quiet.
+caused_judges Done c h = λ bytes verdict command asked reads told right calm quiet.
+    inl (ap status_of_verdict (one_judgement bytes Legal verdict (legal_output bytes command c h.0 asked reads told h.1) right))
+caused_judges BadCommand c h = λ bytes verdict command asked reads told right calm quiet. absurd (h.0 (command, asked))
+caused_judges (BadLine n) c h = λ bytes verdict command asked reads told right calm quiet.
+    let same = one_needs command h.0.0 c.words asked h.0.1 in
+    absurd (no_fault bytes (needs_of command) (needs_of h.0.0) (faults.BadLine n) c.source c.source_after same told (judged_input bytes command verdict reads right) h.0.2.1)
+caused_judges (Limit n) c h = λ bytes verdict command asked reads told right calm quiet.
+    let same = one_needs command h.0.0 c.words asked h.0.1 in
+    absurd (no_fault bytes (needs_of command) (needs_of h.0.0) (faults.Limit n) c.source c.source_after same told (judged_input bytes command verdict reads right) h.0.2.1)
+caused_judges ReadFault c h = λ bytes verdict command asked reads told right calm quiet. absurd (calm h.0.2.1.risen)
+caused_judges WriteFault c h = λ bytes verdict command asked reads told right calm quiet. absurd (quiet h.2)
+caused_judges OutOfMemory c h = λ bytes verdict command asked reads told right calm quiet. inr refl
+caused_judges (NotLegal clause n) c h = λ bytes verdict command asked reads told right calm quiet.
     let refuted = h.0.2.1 in
     let found : IsVerdictOn (Broken clause n) bytes =
     subst (IsRefutedInput clause n) (read_these c.source.told bytes refuted.bytes told refuted.read.all) refuted.refuted in

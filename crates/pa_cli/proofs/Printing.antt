@@ -1,16 +1,22 @@
--- What `replay`, `model` and `gen` print.
-use Rattle.std.proofs.Common.{◌≡◌, ℕ, List, Some, refl}
+-- What `replay`, `model`, `gen` and `dangling` print.
+use Rattle.std.proofs.Common.{◌≡◌, ◌∙◌, ℕ, List, Some, refl, ap}
 use Rattle.pa_trace.specs.declared.script.Trace.{Trace}
 use Rattle.pa_trace.specs.Limits.{IsWithinLimits, most_bytes}
+use Rattle.pa_record.specs.declared.report.ReportLine.{ReportLine}
 use Rattle.pa_record.specs.declared.run.Run.{Run}
+use Rattle.pa_rules.specs.Cells.{history_at}
+use Rattle.pa_rules.specs.Played.{played}
 use Rattle.pa_trace.specs.Generated.{IsGenerated}
 use Rattle.pa_record.specs.RunText.{IsRunText}
-use Rattle.pa_summary.specs.SummaryText.{summary_text}
+use Rattle.pa_summary.specs.SummaryText.{sums_at_end, summary_text}
+use Rattle.pa_dangle.specs.declared.found.Pair.{Pair}
+use Rattle.pa_dangle.specs.Pairs.{AreFound}
+use Rattle.pa_dangle.specs.Text.{dangling_text}
 use Rattle.pa_one_run.specs.Laws.{OneThreadInFileOrder}
 use Rattle.pa_runner.specs.Whole.{IsHeldRun}
 use Rattle.pa_model.specs.Played.{IsInputPlayed}
 use Rattle.pa_cli.specs.Call.{Stream, IsRead}
-use Rattle.pa_cli.specs.Output.{output_with, IsReplayedAs, IsModelOutput, IsGenOutput}
+use Rattle.pa_cli.specs.Output.{output_with, IsReplayedAs, IsModelOutput, IsGenOutput, IsPairsText}
 use Rattle.pa_cli.proofs.Refusing.{read_whole}
 
 -- what is printed of an input as it is played is the output of `model`
@@ -54,4 +60,16 @@ run_summed rounds key t r words text generated played printed = record {
   held = played.held;
   long = played.long;
   printed = printed;
+}
+
+-- what is written of the pairs of a run is their text, with the slots that the last lines of its report have in quarantine
+pub pairs_printed : (t : Trace) (r : Run) (report : List ReportLine) (pairs : List Pair) (freed slots left : ℕ) (text written : List ℕ)
+    → report ≡ r.report.items → slots ≡ (sums_at_end (λ l. l.quarantined) report).slots
+    → AreFound (history_at r.cells.items) (played t.lines r.entries.items) pairs freed → left ≡ slots → text ≡ dangling_text pairs freed left
+    → written ≡ text → IsPairsText t r written
+pairs_printed t r report pairs freed slots left text written same sum found is printed whole = record {
+  pairs = pairs;
+  freed = freed;
+  found = found;
+  printed = whole ∙ printed ∙ ap (λ (x : ℕ). dangling_text pairs freed x) (is ∙ sum ∙ ap (λ (x : List ReportLine). (sums_at_end (λ l. l.quarantined) x).slots) same);
 }

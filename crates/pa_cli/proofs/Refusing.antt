@@ -10,12 +10,13 @@ use Rattle.pa_trace.specs.Faults.{IsFault}
 use Rattle.pa_trace.proofs.Early.{fault_early}
 use Rattle.pa_cli.specs.declared.status.Status.TheVariants.{NotLegal}
 use Rattle.pa_cli.specs.Call.{Stream, IsRead, IsReadWhole}
+use Rattle.pa_record.specs.declared.run.Run.{Run}
 use Rattle.pa_rules.specs.declared.verdict.Clause.{Clause}
 use Rattle.pa_audit_input.specs.Input.{most_audited}
-use Rattle.pa_audit_input.specs.Judged.{IsLegalInput, IsRefutedInput, IsInputFault}
+use Rattle.pa_audit_input.specs.Judged.{IsLegalInput, IsLegalOf, IsRefutedInput, IsInputFault}
 use Rattle.pa_audit_input.proofs.Early.{audit_fault_early}
 use Rattle.pa_cli.specs.Command.{Reading, ReadsTrace, ReadsRun, most_read, needing}
-use Rattle.pa_cli.specs.Output.{IsTraceRead, IsAuditOutput, legal_text}
+use Rattle.pa_cli.specs.Output.{IsTraceRead, IsAuditOutput, IsPairsText, IsDanglingOutput, legal_text}
 use Rattle.pa_cli.specs.Cause.{IsFaulty, HasFault, IsRefusal, IsStopped}
 use Rattle.pa_cli.specs.StatusText.{status_of_trace}
 
@@ -70,7 +71,7 @@ trace_refused threads (Limit n) bytes before after read first =
     (tt, has_fault ReadsTrace (Limit n) bytes before after read first (λ past more. fault_early (Limit n) bytes more past first))
 trace_refused threads OutOfMemory bytes before after read first = (refl, read_stopped most_bytes bytes before after read)
 
--- ---- the input of `audit`
+-- ---- the input of `audit` and of `dangling`
 
 -- a legal run after its trace is what `audit` prints `legal` for
 pub input_legal : (bytes text : List ℕ) (before after : Stream) → IsRead most_audited before after bytes → IsLegalInput bytes
@@ -82,13 +83,25 @@ input_legal bytes text before after read h printed = record {
   printed = printed;
 }
 
--- a run that isn't legal is why `audit` has no output
+-- the text of the pairs of a legal run after its trace is what `dangling` prints
+pub input_paired : (t : Trace) (r : Run) (bytes text : List ℕ) (before after : Stream) → IsRead most_audited before after bytes
+    → IsLegalOf t r bytes → IsPairsText t r text → IsDanglingOutput before after text
+input_paired t r bytes text before after read h told = record {
+  bytes = bytes;
+  read = read_whole most_audited bytes before after read h.input.short;
+  trace = t;
+  run = r;
+  legal = h;
+  told = told;
+}
+
+-- a run that isn't legal is why neither has an output
 pub input_refuted : (clause : Clause) (n : ℕ) (bytes : List ℕ) (before after : Stream) → IsRead most_audited before after bytes
     → IsRefutedInput clause n bytes → IsRefusal (NotLegal clause n) (needing ReadsRun false true) before after
 input_refuted clause n bytes before after read h =
     (refl, record { bytes = bytes; read = read_whole most_audited bytes before after read h.input.short; refuted = h })
 
--- the fault of what was read is why `audit` has no output
+-- the fault of what was read is why neither has an output
 pub input_faulty : (fault : TraceFault) (bytes : List ℕ) (before after : Stream) → IsRead most_audited before after bytes
     → IsInputFault fault bytes → IsRefusal (status_of_trace fault) (needing ReadsRun false true) before after
 input_faulty (BadLine n) bytes before after read h =

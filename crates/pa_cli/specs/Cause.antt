@@ -17,7 +17,7 @@ use Rattle.pa_cli.specs.declared.status.Status.TheVariants.{Done, BadCommand, Ba
 use Rattle.pa_cli.specs.Call.{Stream, Call, KeepsSource, KeepsSink, HasGiven, IsReadWhole, IsRead}
 use Rattle.pa_cli.specs.declared.command.Command.{Command}
 use Rattle.pa_cli.specs.Command.{Reading, ReadsNothing, ReadsTrace, ReadsRun, ReadsSome, most_read, Needs, needs_of}
-use Rattle.pa_cli.specs.Command.{AsksFor, AsksToRead, AsksForThreads, IsAudit, IsCommand}
+use Rattle.pa_cli.specs.Command.{AsksFor, AsksToRead, AsksForThreads, IsCommand}
 use Rattle.pa_cli.specs.Output.{HasNoRun, IsOutput}
 use Rattle.pa_cli.specs.StatusText.{status_of_trace, status_of_verdict}
 
@@ -115,11 +115,12 @@ Completes status c =
     (bytes : List ℕ) (command : Command) → AsksFor command c.words → c.source.told ≡ Some bytes → IsInputFor (needs_of command).reads bytes
     → HasNoReadFault c → HasNoWriteFault c → (status ≡ Done) ⊎ ((status ≡ OutOfMemory) ⊎ RefutesBy (needs_of command).reads status)
 
--- if `audit` gets bytes with a verdict, and neither source nor sink has a fault, the status is that verdict's or OutOfMemory
+-- if a command that reads a trace and a run, `audit` or `dangling`, gets bytes with a verdict, and neither source nor sink has a fault,
+-- the status is that verdict's or OutOfMemory
 abbrev pub Judges : Status → Call → Type 0
 Judges status c =
-    (bytes : List ℕ) (verdict : Verdict) → IsAudit c.words → c.source.told ≡ Some bytes → IsVerdictOn verdict bytes
-    → HasNoReadFault c → HasNoWriteFault c → (status ≡ status_of_verdict verdict) ⊎ (status ≡ OutOfMemory)
+    (bytes : List ℕ) (verdict : Verdict) (command : Command) → AsksFor command c.words → (needs_of command).reads ≡ ReadsRun
+    → c.source.told ≡ Some bytes → IsVerdictOn verdict bytes → HasNoReadFault c → HasNoWriteFault c → (status ≡ status_of_verdict verdict) ⊎ (status ≡ OutOfMemory)
 
 -- a command that reads nothing leads to Done if the sink has no fault, or to OutOfMemory if it takes memory: so `layout`, `--help` and
 -- `--version` are Done then, and nothing else

@@ -4,7 +4,7 @@ use Rattle.pa_text.specs.Numeral.{IsNumeral}
 use Rattle.pa_trace.specs.Limits.{most_bytes}
 use Rattle.pa_audit_input.specs.Input.{most_audited}
 use Rattle.pa_cli.specs.declared.command.Command.{Command}
-use Rattle.pa_cli.specs.declared.command.Command.TheVariants.{Replay, Model, Audit, Layout, Trace, Gen, Help, Version}
+use Rattle.pa_cli.specs.declared.command.Command.TheVariants.{Replay, Model, Audit, Dangling, Layout, Trace, Gen, Help, Version}
 
 -- the one word `replay`, and the one word `model`
 abbrev pub IsReplay : List (List ℕ) → Type 0
@@ -13,9 +13,12 @@ IsReplay words = words ≡ codes "replay" ∷ []
 abbrev pub IsModel : List (List ℕ) → Type 0
 IsModel words = words ≡ codes "model" ∷ []
 
--- the one word `audit`
+-- the one word `audit`, and the one word `dangling`
 abbrev pub IsAudit : List (List ℕ) → Type 0
 IsAudit words = words ≡ codes "audit" ∷ []
+
+abbrev pub IsDangling : List (List ℕ) → Type 0
+IsDangling words = words ≡ codes "dangling" ∷ []
 
 -- the word `layout` and a size of 32 bits in decimal
 abbrev pub IsLayout : ℕ → List (List ℕ) → Type 0
@@ -48,6 +51,7 @@ abbrev pub AsksFor : Command → List (List ℕ) → Type 0
 AsksFor Replay words = IsReplay words
 AsksFor Model words = IsModel words
 AsksFor Audit words = IsAudit words
+AsksFor Dangling words = IsDangling words
 AsksFor (Layout size) words = IsLayout size words
 AsksFor (Trace rounds key) words = IsTrace rounds key words
 AsksFor (Gen rounds key) words = IsGen rounds key words
@@ -97,6 +101,7 @@ abbrev pub needs_of : Command → Needs
 needs_of Replay = needing ReadsTrace true true
 needs_of Model = needing ReadsTrace false true
 needs_of Audit = needing ReadsRun false true
+needs_of Dangling = needing ReadsRun false true
 needs_of (Layout size) = needing ReadsNothing false false
 needs_of (Trace rounds key) = needing ReadsNothing false true
 needs_of (Gen rounds key) = needing ReadsNothing true true

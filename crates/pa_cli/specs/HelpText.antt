@@ -15,6 +15,7 @@ help_text =
     ∷ codes "  replay            read a trace from standard input, play each thread's lines on its own thread, print the run: answers, heap, exchanges, report"
     ∷ codes "  model             the same, but play all lines in their order, on one thread"
     ∷ codes "  audit             read a trace and its run from standard input, print whether the run is legal"
+    ∷ codes "  dangling          read the same, print each use of what was freed while raw_ptrs pointed to it: lines of allocation, free, use and copy"
     ∷ codes "  layout SIZE       print the size class or the direct map of a request of SIZE bytes, 0 to 4294967295"
     ∷ codes "  trace ROUNDS KEY  print a trace of ROUNDS rounds, 1 to 800, with random numbers by KEY, 0 to 18446744073709551615"
     ∷ codes "  gen ROUNDS KEY    play that trace as replay does, print how many lines have each answer, and what is live and quarantined at the end"

@@ -6,16 +6,21 @@ use Rattle.pa_trace.specs.Limits.{IsInput, most_bytes}
 use Rattle.pa_trace.specs.Generated.{IsGenerated}
 use Rattle.pa_record.specs.declared.run.Run.{Run}
 use Rattle.pa_record.specs.RunText.{IsRunText}
+use Rattle.pa_rules.specs.Cells.{history_at}
+use Rattle.pa_rules.specs.Played.{played}
 use Rattle.pa_rules.specs.Told.{told_by}
 use Rattle.pa_rules.specs.Legal.{IsLegal, IsFileRun}
 use Rattle.pa_rules.specs.Held.{IsHeldIn}
 use Rattle.pa_core_run.specs.Playing.{HasCoreRun}
-use Rattle.pa_summary.specs.SummaryText.{summary_text}
+use Rattle.pa_summary.specs.SummaryText.{sums_at_end, summary_text}
+use Rattle.pa_dangle.specs.declared.found.Pair.{Pair}
+use Rattle.pa_dangle.specs.Pairs.{AreFound}
+use Rattle.pa_dangle.specs.Text.{dangling_text}
 use Rattle.pa_audit_input.specs.Input.{most_audited}
-use Rattle.pa_audit_input.specs.Judged.{IsLegalInput}
+use Rattle.pa_audit_input.specs.Judged.{IsLegalInput, IsLegalOf}
 use Rattle.pa_cli.specs.Call.{Stream, Call, IsReadWhole}
 use Rattle.pa_cli.specs.declared.command.Command.{Command}
-use Rattle.pa_cli.specs.declared.command.Command.TheVariants.{Replay, Model, Audit, Layout, Gen, Help, Version}
+use Rattle.pa_cli.specs.declared.command.Command.TheVariants.{Replay, Model, Audit, Dangling, Layout, Gen, Help, Version}
 use Rattle.pa_cli.specs.declared.command.Command.TheVariants as commands
 use Rattle.pa_cli.specs.Command.{AsksFor}
 use Rattle.pa_cli.specs.LayoutText.{IsLayoutText}
@@ -88,6 +93,24 @@ pub record IsAuditOutput (before after : Stream) (text : List ℕ) : Type 0 wher
   pub legal : IsLegalInput bytes
   pub printed : text ≡ legal_text
 
+-- The text is that of the pairs of a run of this trace, of how many frees found raw_ptrs, and of how many slots are quarantined at the end
+-- of the last phase, in all partitions.
+pub record IsPairsText (trace : Trace) (run : Run) (text : List ℕ) : Type 0 where
+  pub pairs : List Pair
+  pub freed : ℕ
+  pub found : AreFound (history_at run.cells.items) (played trace.lines run.entries.items) pairs freed
+  pub printed : text ≡ dangling_text pairs freed (sums_at_end (λ l. l.quarantined) run.report.items).slots
+
+-- the output of `dangling`: the source's bytes, all of which were read, are this trace followed by this legal run of it, and the text is
+-- that of the pairs of that run
+pub record IsDanglingOutput (before after : Stream) (text : List ℕ) : Type 0 where
+  pub bytes : List ℕ
+  pub read : IsReadWhole most_audited before after bytes
+  pub trace : Trace
+  pub run : Run
+  pub legal : IsLegalOf trace run bytes
+  pub told : IsPairsText trace run text
+
 -- the text is the trace generated from this number of rounds and this key
 pub record IsGeneratedText (rounds key : ℕ) (text : List ℕ) : Type 0 where
   pub trace : Trace
@@ -113,6 +136,7 @@ abbrev pub IsOutputOf : Command → Stream → Stream → Output → Type 0
 IsOutputOf Replay before after out = IsReplayOutput before after out
 IsOutputOf Model before after out = IsModelOutput before after out.text × HasNoRun out.run out.region
 IsOutputOf Audit before after out = IsAuditOutput before after out.text × HasNoRun out.run out.region
+IsOutputOf Dangling before after out = IsDanglingOutput before after out.text × HasNoRun out.run out.region
 IsOutputOf (Layout size) before after out = IsLayoutText size out.text × HasNoRun out.run out.region
 IsOutputOf (commands.Trace rounds key) before after out = IsGeneratedText rounds key out.text × HasNoRun out.run out.region
 IsOutputOf (Gen rounds key) before after out = IsGenOutput rounds key out

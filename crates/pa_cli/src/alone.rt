@@ -3,8 +3,10 @@ ghost use Rattle.std.specs.Prelude.{◌≡◌, ◌↔◌, true, false, map, stri
 ghost use Rattle.pa_cli.specs.Call.{call_of, stream_of};
 ghost use Rattle.pa_cli.specs.Command.{IsCommand, IsAsked, AsksForThreads, ReadsTrace, ReadsRun, ReadsSome, needing, needs_of};
 ghost use Rattle.pa_cli.specs.Cause.{Caused, ReadsForInput, IsRightCall, IsRefusal};
-ghost use Rattle.pa_cli.specs.Output.{output_with, IsOutputOf, IsModelOutput, IsAuditOutput};
+ghost use Rattle.pa_cli.specs.Output.{output_with, IsOutputOf, IsModelOutput, IsAuditOutput, IsDanglingOutput, IsPairsText};
 ghost use Rattle.pa_cli.specs.PrintedText.{printed_bytes};
+ghost use Rattle.pa_rules.specs.Legal.{IsLegal};
+ghost use Rattle.pa_trace.specs.Limits.{IsWithinLimits};
 
 use crate::answers::{LEGAL, VERSION, help, layout_line, write_generated};
 use crate::command::Command;
@@ -12,11 +14,15 @@ use crate::input::read_input;
 use crate::output::write_output;
 use crate::printed::Printed;
 use crate::status::Status;
-use pa_audit_input::judge;
+use pa_audit_input::{Judgement, judge, judged};
+use pa_dangle::{found_text, pairs_dense};
+use pa_dense::DenseRun;
 use pa_io::{Failed, Sink, Source};
+use pa_machine::OutOfMemory;
 use pa_model::play_input;
 use pa_rules::Verdict;
-use pa_trace::MOST_BYTES;
+use pa_summary::ends_of;
+use pa_trace::{MOST_BYTES, Trace};
 use std::alloc::Global;
 
 // The most bytes of a trace and a run.
@@ -24,8 +30,9 @@ const MOST_AUDITED: usize = 134_217_728;
 
 /// Does what the words ask for, if they ask for no threads. It waits for nobody, so a call returns. `model` reads a trace, plays all
 /// lines in their order and writes the text of that run; `audit` reads a trace and after it a run, and writes `legal` if that is a
-/// legal run of the trace; `layout SIZE` writes where a request of so many bytes is placed, `trace ROUNDS KEY` a generated trace,
-/// `--help` and `--version` their texts. The input is read to its end, or to one byte past the most that it may have.
+/// legal run of the trace; `dangling` reads the same, and writes each use in such a run of what was freed while `raw_ptr`s pointed to
+/// it; `layout SIZE` writes where a request of so many bytes is placed, `trace ROUNDS KEY` a generated trace, `--help` and `--version`
+/// their texts. The input is read to its end, or to one byte past the most that it may have.
 pub fn run_alone<S: Source, K: Sink>(
     alloc: Global,
     words: &[String],
@@ -91,6 +98,7 @@ fn text_of<S: Source>(alloc: Global, command: Command, source: &mut S) -> Result
     match command {
         Command::Model => Ok(Printed::Made(model(alloc, source)?)),
         Command::Audit => audit(alloc, source),
+        Command::Dangling => Ok(Printed::Made(dangling(alloc, source)?)),
         Command::Layout(size) => Ok(Printed::Line(layout_line(size))),
         Command::Trace { rounds, key } => Ok(Printed::Made(write_generated(alloc, rounds, key)?)),
         Command::Help => Ok(Printed::Fixed(help())),
@@ -129,4 +137,33 @@ fn audit<S: Source>(alloc: Global, source: &mut S) -> Result<Printed, Status>
         Verdict::Legal => Ok(Printed::Fixed(LEGAL)),
         Verdict::Broken(clause, line) => Err(Status::NotLegal(clause, line)),
     }
+}
+
+// The output of `dangling`.
+#[tactic(auto, using(crate::proofs::Refusing::input_faulty, crate::proofs::Refusing::input_refuted, crate::proofs::Refusing::read_stopped))]
+fn dangling<S: Source>(alloc: Global, source: &mut S) -> Result<Vec<u8>, Status>
+    ensures text { IfOk result (λ text. IsDanglingOutput
+        (stream_of (S.left source.old) (S.faults source.old))
+        (stream_of (S.left source.new) (S.faults source.new)) text.items) }
+    ensures refusal { IfErr result (λ status. IsRefusal status (needing ReadsRun false true)
+        (stream_of (S.left source.old) (S.faults source.old))
+        (stream_of (S.left source.new) (S.faults source.new))) }
+{
+    let input = read_input(alloc, source, MOST_AUDITED)?;
+    match judged(alloc, input.as_slice())? {
+        Judgement::Legal(trace, run) => Ok(pairs_text(alloc, &trace, &run)?),
+        Judgement::Broken(clause, line) => Err(Status::NotLegal(clause, line)),
+    }
+}
+
+// The text of the pairs of a legal run.
+fn pairs_text(alloc: Global, trace: &Trace, run: &DenseRun) -> Result<Vec<u8>, OutOfMemory>
+    requires limits { IsWithinLimits trace.now }
+    requires legal { IsLegal trace.now run.now }
+    ensures { IfOk result (λ text. IsPairsText trace.now run.now text.items) }
+{
+    let ends = ends_of(run.report());
+    let found = pairs_dense(alloc, trace, run, ends.quarantined.slots)?;
+    let text = found_text(alloc, &found)?;
+    Ok(text.into_vec())
 }

@@ -16,6 +16,8 @@ pub enum Command {
     Model,
     /// Reads a trace and then a run, and prints whether that is a legal run of the trace.
     Audit,
+    /// Reads a trace and then a run, and prints each use of what was freed while `raw_ptr`s pointed to it.
+    Dangling,
     /// Prints where a request of this many bytes is placed: its size class or its direct map.
     Layout(u32),
     /// Prints the trace generated in this number of rounds, 1 to 800, with random numbers from this key.
@@ -51,6 +53,7 @@ impl Command {
             Command::Replay | Command::Gen { rounds: _, key: _ } => true,
             Command::Model
             | Command::Audit
+            | Command::Dangling
             | Command::Layout(_)
             | Command::Trace { rounds: _, key: _ }
             | Command::Help
@@ -67,6 +70,7 @@ impl Command {
             "replay" => Some(Command::Replay),
             "model" => Some(Command::Model),
             "audit" => Some(Command::Audit),
+            "dangling" => Some(Command::Dangling),
             "--help" => Some(Command::Help),
             "--version" => Some(Command::Version),
             _ => None,

@@ -31,5 +31,5 @@ pub struct Pair {
 pub struct Found {
     pub pairs: Vec<Pair>,
     pub freed: u32,
-    pub left: u64,
+    pub left: u128,
 }

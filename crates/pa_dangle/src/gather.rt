@@ -206,7 +206,7 @@ pub fn pairs_of(
     alloc: Global,
     records: &[Played],
     cells: &[History],
-    left: u64,
+    left: u128,
 ) -> Result<Found, OutOfMemory>
     requires few { length records.now < 2 ^ 32 }
     requires rising { RiseByLine records.now }

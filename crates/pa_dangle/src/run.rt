@@ -21,7 +21,7 @@ fn pairs_told(
     trace: &Trace,
     entries: &[Entry],
     cells: &[History],
-    left: u64,
+    left: u128,
 ) -> Result<Found, OutOfMemory>
     requires limits { IsWithinLimits trace.now }
     requires slots { Slots (marks_of (played trace.now.lines entries.now)) }
@@ -34,7 +34,7 @@ fn pairs_told(
 }
 
 /// The pairs of a run that is legal for the trace; `left` is how many slots are in quarantine at the end, as the last report says.
-pub fn pairs(alloc: Global, trace: &Trace, run: &Run, left: u64) -> Result<Found, OutOfMemory>
+pub fn pairs(alloc: Global, trace: &Trace, run: &Run, left: u128) -> Result<Found, OutOfMemory>
     requires limits { IsWithinLimits trace.now }
     requires legal { IsLegal trace.now run.now }
     ensures found { IfOk result (λ f. AreFound (history_at run.now.cells.items) (played trace.now.lines run.now.entries.items)
@@ -55,7 +55,7 @@ pub fn pairs_dense(
     alloc: Global,
     trace: &Trace,
     run: &DenseRun,
-    left: u64,
+    left: u128,
 ) -> Result<Found, OutOfMemory>
     requires limits { IsWithinLimits trace.now }
     requires legal { IsLegal trace.now run.now }

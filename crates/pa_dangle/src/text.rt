@@ -1,4 +1,5 @@
 ghost use Rattle.std.specs.Prelude.{◌≡◌, ◌++◌, IfOk, OnOk};
+ghost use Rattle.std.specs.Fmt.{decimal};
 ghost use Rattle.std.specs.List.{flat_map};
 ghost use Rattle.pa_dangle.specs.Text.{use_text, pair_text, dangling_text};
 
@@ -47,6 +48,14 @@ fn push_pairs(out: &mut Text, pairs: &[Pair]) -> Result<(), OutOfMemory>
     Ok(())
 }
 
+// Appends the number in decimal.
+fn push_wide(out: &mut Text, n: u128) -> Result<(), OutOfMemory>
+    ensures { OnOk result (out.new ≡ out.old ++ decimal n) }
+{
+    let mut digits = itoa::Buffer::new();
+    push_bytes(out, digits.format(n).as_bytes())
+}
+
 /// The text of what was found in a run: a line for each pair, and then how many frees found `raw_ptr`s, how many slots are left in
 /// quarantine and how many pairs there are.
 pub fn found_text(alloc: Global, found: &Found) -> Result<Text, OutOfMemory>
@@ -58,7 +67,7 @@ pub fn found_text(alloc: Global, found: &Found) -> Result<Text, OutOfMemory>
     push_bytes(&mut out, b"freed ")?;
     push_number(&mut out, u64::from(found.freed))?;
     push_bytes(&mut out, b" open ")?;
-    push_number(&mut out, found.left)?;
+    push_wide(&mut out, found.left)?;
     push_bytes(&mut out, b" pairs ")?;
     push_number(&mut out, found.pairs.len() as u64)?;
     push_bytes(&mut out, b"\nend\n")?;

@@ -7,4 +7,5 @@ mod sums;
 mod text;
 
 pub use laws::names_are_of_records;
+pub use sums::{Ends, Sums, ends_of};
 pub use text::write_summary;

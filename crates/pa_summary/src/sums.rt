@@ -3,22 +3,22 @@ ghost use Rattle.pa_summary.specs.SummaryText.{last_phase, sums_at_end};
 
 use pa_record::ReportLine;
 
-// Slots and bytes of many lines. The lines of a run may have any numbers, so their sums have 128 bits.
+/// Slots and bytes of many lines. The lines of a run may have any numbers, so their sums have 128 bits.
 #[derive(Clone, Copy, Debug, PartialEq, Eq)]
-pub(crate) struct Sums {
-    pub(crate) slots: u128,
-    pub(crate) bytes: u128,
+pub struct Sums {
+    pub slots: u128,
+    pub bytes: u128,
 }
 
-// What is live and what is quarantined at the end of a run, in all partitions.
+/// What is live and what is quarantined at the end of a run, in all partitions.
 #[derive(Clone, Copy, Debug, PartialEq, Eq)]
-pub(crate) struct Ends {
-    pub(crate) live: Sums,
-    pub(crate) quarantined: Sums,
+pub struct Ends {
+    pub live: Sums,
+    pub quarantined: Sums,
 }
 
-// The sums over the lines of the last phase.
-pub(crate) fn ends_of(report: &[ReportLine]) -> Ends
+/// The sums over the lines of the last phase of a run's report.
+pub fn ends_of(report: &[ReportLine]) -> Ends
     ensures live_slots { result.live.slots ≡ (sums_at_end (λ l. l.live) report.now).slots }
     ensures live_bytes { result.live.bytes ≡ (sums_at_end (λ l. l.live) report.now).bytes }
     ensures slots { result.quarantined.slots ≡ (sums_at_end (λ l. l.quarantined) report.now).slots }
