@@ -1,7 +1,7 @@
 -- Words that ask for two commands ask for two that need the same: the first word tells them apart.
 use Rattle.std.proofs.Common.{◌≡◌, ◌∙◌, ℕ, ◌+◌, ◌*◌, ◌==◌, cond, true, false, List, [], ◌∷◌, codes, ap, sym}
 use Rattle.pa_cli.specs.declared.command.Command.{Command}
-use Rattle.pa_cli.specs.declared.command.Command.TheVariants.{Replay, Model, Audit, Dangling, Layout, Trace, Gen, Help, Version}
+use Rattle.pa_cli.specs.declared.command.Command.TheVariants.{Replay, Model, Audit, Dangling, Layout, Trace, Gen, Help, Version, Resize, Verdicts}
 use Rattle.pa_cli.specs.Command.{AsksFor, AsksForThreads, Needs, needs_of}
 
 -- the letters of the first word, as one number
@@ -20,15 +20,19 @@ needs_by word =
     (cond (word == letters (codes "model")) (needs_of Model)
     (cond (word == letters (codes "audit")) (needs_of Audit)
     (cond (word == letters (codes "dangling")) (needs_of Dangling)
+    (cond (word == letters (codes "resize")) (needs_of Resize)
+    (cond (word == letters (codes "verdicts")) (needs_of Verdicts)
     (cond (word == letters (codes "trace")) (needs_of (Trace 0 0))
     (cond (word == letters (codes "gen")) (needs_of (Gen 0 0))
-    (needs_of Help))))))
+    (needs_of Help))))))))
 
 has_needs : (command : Command) (words : List (List ℕ)) → AsksFor command words → needs_by (first_word words) ≡ needs_of command
 has_needs Replay words asked = ap (λ ws. needs_by (first_word ws)) asked
 has_needs Model words asked = ap (λ ws. needs_by (first_word ws)) asked
 has_needs Audit words asked = ap (λ ws. needs_by (first_word ws)) asked
 has_needs Dangling words asked = ap (λ ws. needs_by (first_word ws)) asked
+has_needs Resize words asked = ap (λ ws. needs_by (first_word ws)) asked
+has_needs Verdicts words asked = ap (λ ws. needs_by (first_word ws)) asked
 has_needs (Layout size) words asked = ap (λ ws. needs_by (first_word ws)) asked.1
 has_needs (Trace rounds key) words asked = ap (λ ws. needs_by (first_word ws)) asked.2
 has_needs (Gen rounds key) words asked = ap (λ ws. needs_by (first_word ws)) asked.2

@@ -7,6 +7,7 @@ use Rattle.pa_trace.specs.declared.fault.TraceFault.TheVariants as faults
 use Rattle.pa_trace.specs.Limits.{IsInput}
 use Rattle.pa_trace.proofs.Firsts.{one_fault, no_fault_of_input}
 use Rattle.pa_record.specs.declared.run.Run.{Run}
+use Rattle.pa_script.specs.Limits.{IsScriptInput}
 use Rattle.pa_rules.specs.declared.verdict.Clause.{Clause}
 use Rattle.pa_rules.specs.declared.verdict.Verdict.{Verdict}
 use Rattle.pa_rules.specs.declared.verdict.Verdict.TheVariants.{Legal, Broken}
@@ -14,17 +15,18 @@ use Rattle.pa_audit_input.specs.Input.{IsAudited}
 use Rattle.pa_audit_input.specs.Judged.{IsLegalInput, IsLegalOf, IsRefutedInput, IsVerdictOn}
 use Rattle.pa_audit_input.proofs.Parting.{no_audit_fault, one_audit_fault}
 use Rattle.pa_cli.specs.declared.command.Command.{Command}
-use Rattle.pa_cli.specs.declared.command.Command.TheVariants.{Replay, Model, Audit, Dangling, Layout, Gen, Help, Version}
+use Rattle.pa_cli.specs.declared.command.Command.TheVariants.{Replay, Model, Audit, Dangling, Layout, Gen, Help, Version, Resize, Verdicts}
 use Rattle.pa_cli.specs.declared.command.Command.TheVariants as commands
 use Rattle.pa_cli.specs.declared.status.Status.{Status}
 use Rattle.pa_cli.specs.declared.status.Status.TheVariants.{Done, BadCommand, BadLine, Limit, ReadFault, WriteFault, OutOfMemory, NotLegal}
 use Rattle.pa_cli.specs.Call.{Stream, Call}
-use Rattle.pa_cli.specs.Command.{AsksFor, Reading, ReadsNothing, ReadsTrace, ReadsRun, ReadsSome, Needs, needs_of}
+use Rattle.pa_cli.specs.Command.{AsksFor, Reading, ReadsNothing, ReadsTrace, ReadsRun, ReadsSome, Needs, needs_of, ReadsScript}
 use Rattle.pa_cli.specs.Output.{Output, output_with, IsOutputOf, IsOutput}
 use Rattle.pa_cli.specs.Cause.{IsFaulty, HasFault, IsRefuted, IsInputFor, Caused, Answers, Completes, Judges, Refuses}
 use Rattle.pa_cli.specs.StatusText.{status_of_trace, status_of_verdict}
 use Rattle.pa_cli.proofs.Commands.{one_needs}
 use Rattle.pa_cli.proofs.Judging.{one_judgement}
+use Rattle.pa_cli.proofs.ScriptFirsts.{one_script_fault, no_script_fault}
 
 -- what holds of all bytes that the source exposes, if they are these
 told_these : (P : List ℕ → Type 0) (told : Option (List ℕ)) (bytes : List ℕ) → told ≡ Some bytes → IfSome told P → P bytes
@@ -40,18 +42,21 @@ read_these (Some left) bytes read e h = let same : left ≡ bytes = cc in sym h 
 clean : (reads : Reading) (bytes : List ℕ) (fault : TraceFault) → IsInputFor reads bytes → IsFaulty reads fault bytes → ⊥
 clean ReadsNothing bytes fault input h = input
 clean ReadsTrace bytes fault input h = no_fault_of_input input.0 bytes fault input.1 h
+clean ReadsScript bytes fault input h = no_script_fault input.0 bytes fault input.1 h
 clean ReadsRun bytes fault input h = no_audit_fault input.0 input.1 input.2 bytes fault input.3 h
 
 -- bytes have one fault
 one_of : (reads : Reading) (bytes : List ℕ) (fault other : TraceFault) → IsFaulty reads fault bytes → IsFaulty reads other bytes → fault ≡ other
 one_of ReadsNothing bytes fault other h k = absurd h
 one_of ReadsTrace bytes fault other h k = one_fault fault other bytes h k
+one_of ReadsScript bytes fault other h k = one_script_fault fault other bytes h k
 one_of ReadsRun bytes fault other h k = one_audit_fault fault other bytes h k
 
 -- what has a fault is read
 fault_read : (reads : Reading) (bytes : List ℕ) (fault : TraceFault) → IsFaulty reads fault bytes → ReadsSome reads
 fault_read ReadsNothing bytes fault h = h
 fault_read ReadsTrace bytes fault h = tt
+fault_read ReadsScript bytes fault h = tt
 fault_read ReadsRun bytes fault h = tt
 
 -- the fault of a call, by what another command needs for which the same words ask
@@ -115,6 +120,10 @@ output_input Audit bytes before after out reads told h =
 output_input Dangling bytes before after out reads told h =
     let legal = h.0.legal in
     (h.0.trace, h.0.run, legal.lines, subst (IsAudited h.0.trace h.0.run legal.lines) (read_these before.told bytes h.0.bytes told h.0.read.all) legal.input)
+output_input Resize bytes before after out reads told h =
+    (h.0.script, subst (IsScriptInput h.0.script) (read_these before.told bytes h.0.read.bytes told h.0.read.read.all) h.0.read.input)
+output_input Verdicts bytes before after out reads told h =
+    (h.0.script, subst (IsScriptInput h.0.script) (read_these before.told bytes h.0.read.bytes told h.0.read.read.all) h.0.read.input)
 output_input (Layout size) bytes before after out reads told h = absurd reads
 output_input (commands.Trace rounds key) bytes before after out reads told h = absurd reads
 output_input (Gen rounds key) bytes before after out reads told h = absurd reads
@@ -177,6 +186,8 @@ output_legal Model bytes before after out reads told h = absurd cc
 output_legal Audit bytes before after out reads told h = subst IsLegalInput (read_these before.told bytes h.0.bytes told h.0.read.all) h.0.legal
 output_legal Dangling bytes before after out reads told h =
     subst IsLegalInput (read_these before.told bytes h.0.bytes told h.0.read.all) (legal_of h.0.trace h.0.run h.0.bytes h.0.legal)
+output_legal Resize bytes before after out reads told h = absurd cc
+output_legal Verdicts bytes before after out reads told h = absurd cc
 output_legal (Layout size) bytes before after out reads told h = absurd cc
 output_legal (commands.Trace rounds key) bytes before after out reads told h = absurd cc
 output_legal (Gen rounds key) bytes before after out reads told h = absurd cc

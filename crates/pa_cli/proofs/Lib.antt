@@ -1,5 +1,8 @@
 mod Words
 mod Given
+mod ScriptTexts
+mod ScriptFirsts
+mod ScriptEarly
 mod Refusing
 mod Commands
 mod Judging

@@ -1,6 +1,8 @@
--- What `replay`, `model`, `gen` and `dangling` print.
-use Rattle.std.proofs.Common.{◌≡◌, ◌∙◌, ℕ, List, Some, refl, ap}
+-- What `replay`, `model`, `gen`, `resize`, `verdicts` and `dangling` print.
+use Rattle.std.proofs.Common.{◌≡◌, ◌∙◌, ℕ, List, Some, refl, ap, ◌≤◌, ◌++◌, codes, length}
 use Rattle.pa_trace.specs.declared.script.Trace.{Trace}
+use Rattle.std.specs.List.{flat_map}
+use Rattle.pa_trace.specs.Grammar.{IsTraceText}
 use Rattle.pa_trace.specs.Limits.{IsWithinLimits, most_bytes}
 use Rattle.pa_record.specs.declared.report.ReportLine.{ReportLine}
 use Rattle.pa_record.specs.declared.run.Run.{Run}
@@ -13,10 +15,15 @@ use Rattle.pa_dangle.specs.declared.found.Pair.{Pair}
 use Rattle.pa_dangle.specs.Pairs.{AreFound}
 use Rattle.pa_dangle.specs.Text.{dangling_text}
 use Rattle.pa_one_run.specs.Laws.{OneThreadInFileOrder}
+use Rattle.pa_core_run.specs.Playing.{HasCoreRun}
+use Rattle.pa_script.specs.declared.script.Script.{Script}
+use Rattle.pa_resize.specs.declared.verdict.Verdict.{Verdict}
+use Rattle.pa_resize.specs.Expansion.{IsExpanded}
 use Rattle.pa_runner.specs.Whole.{IsHeldRun}
 use Rattle.pa_model.specs.Played.{IsInputPlayed}
 use Rattle.pa_cli.specs.Call.{Stream, IsRead}
-use Rattle.pa_cli.specs.Output.{output_with, IsReplayedAs, IsModelOutput, IsGenOutput, IsPairsText}
+use Rattle.pa_cli.specs.Output.{output_with, IsReplayedAs, IsModelOutput, IsGenOutput, IsPairsText, IsResizeText, IsVerdictsText}
+use Rattle.pa_cli.specs.VerdictsText.{verdict_line}
 use Rattle.pa_cli.proofs.Refusing.{read_whole}
 
 -- what is printed of an input as it is played is the output of `model`
@@ -73,3 +80,34 @@ pairs_printed t r report pairs freed slots left text written same sum found is p
   found = found;
   printed = whole ∙ printed ∙ ap (λ (x : ℕ). dangling_text pairs freed x) (is ∙ sum ∙ ap (λ (x : List ReportLine). (sums_at_end (λ l. l.quarantined) x).slots) same);
 }
+
+-- what is written of a script that was played is the output of `resize`
+pub script_resized : (s : Script) (t : Trace) (r : Run) (vs : List (ℕ × Verdict)) (front back shown text : List ℕ) → IsExpanded s t r vs → HasCoreRun t r
+    → IsWithinLimits t → IsTraceText t front → length front ≤ most_bytes → IsRunText r back → shown ≡ back → text ≡ front ++ shown → IsResizeText s text
+script_resized s t r vs front back shown text expanded core limits traced short printed same parts = record {
+  trace = t;
+  run = r;
+  verdicts = vs;
+  expanded = expanded;
+  core = core;
+  front = front;
+  back = back;
+  traced = record { limits = limits; text = traced; short = short };
+  printed = printed;
+  parts = parts ∙ ap (λ (x : List ℕ). front ++ x) same;
+}
+
+-- what is written of its verdicts is the output of `verdicts`
+pub script_verdicts : (s : Script) (t : Trace) (r : Run) (vs shown : List (ℕ × Verdict)) (start lines whole text : List ℕ) → IsExpanded s t r vs → HasCoreRun t r
+    → start ≡ codes "" → shown ≡ vs → lines ≡ start ++ flat_map verdict_line shown → whole ≡ lines ++ codes "end\n" → text ≡ whole → IsVerdictsText s text
+script_verdicts s t r vs shown start lines whole text expanded core none same added ended is =
+    let first : lines ≡ flat_map verdict_line vs =
+    added ∙ ap (λ (x : List ℕ). x ++ flat_map verdict_line shown) none ∙ ap (λ (x : List (ℕ × Verdict)). flat_map verdict_line x) same in
+    record {
+      trace = t;
+      run = r;
+      verdicts = vs;
+      expanded = expanded;
+      core = core;
+      printed = is ∙ ended ∙ ap (λ (x : List ℕ). x ++ codes "end\n") first;
+    }

@@ -1,4 +1,4 @@
--- Why bytes that are no trace are refused.
+-- Why bytes that are no input are refused.
 use Rattle.std.proofs.Common.{rules, arith, ◌≡◌, ◌+◌, ◌≤◌, ℕ, List, ◌++◌, Option, Some, None, IfSome, inl, inr, length, refl, sym, subst, Bool, true, false}
 use Rattle.std.specs.Io.KnownBytes.{Consumes}
 use Rattle.pa_io.specs.Moves.{IsAllOf}
@@ -8,6 +8,8 @@ use Rattle.pa_trace.specs.declared.fault.TraceFault.TheVariants.{BadLine, Limit,
 use Rattle.pa_trace.specs.Limits.{most_bytes}
 use Rattle.pa_trace.specs.Faults.{IsFault}
 use Rattle.pa_trace.proofs.Early.{fault_early}
+use Rattle.pa_script.specs.declared.script.Script.{Script}
+use Rattle.pa_script.specs.Faults.{IsScriptFault}
 use Rattle.pa_cli.specs.declared.status.Status.TheVariants.{NotLegal}
 use Rattle.pa_cli.specs.Call.{Stream, IsRead, IsReadWhole}
 use Rattle.pa_record.specs.declared.run.Run.{Run}
@@ -15,10 +17,11 @@ use Rattle.pa_rules.specs.declared.verdict.Clause.{Clause}
 use Rattle.pa_audit_input.specs.Input.{most_audited}
 use Rattle.pa_audit_input.specs.Judged.{IsLegalInput, IsLegalOf, IsRefutedInput, IsInputFault}
 use Rattle.pa_audit_input.proofs.Early.{audit_fault_early}
-use Rattle.pa_cli.specs.Command.{Reading, ReadsTrace, ReadsRun, most_read, needing}
-use Rattle.pa_cli.specs.Output.{IsTraceRead, IsAuditOutput, IsPairsText, IsDanglingOutput, legal_text}
+use Rattle.pa_cli.specs.Command.{Reading, ReadsTrace, ReadsRun, most_read, needing, ReadsScript}
+use Rattle.pa_cli.specs.Output.{IsTraceRead, IsAuditOutput, IsPairsText, IsDanglingOutput, legal_text, IsScriptRead}
 use Rattle.pa_cli.specs.Cause.{IsFaulty, HasFault, IsRefusal, IsStopped}
 use Rattle.pa_cli.specs.StatusText.{status_of_trace}
+use Rattle.pa_cli.proofs.ScriptEarly.{script_fault_early}
 
 -- what was read was read to its end, if it isn't too long
 pub read_whole : (most : ℕ) (bytes : List ℕ) (before after : Stream) → IsRead most before after bytes → length bytes ≤ most → IsReadWhole most before after bytes
@@ -70,6 +73,18 @@ trace_refused threads (BadLine n) bytes before after read first =
 trace_refused threads (Limit n) bytes before after read first =
     (tt, has_fault ReadsTrace (Limit n) bytes before after read first (λ past more. fault_early (Limit n) bytes more past first))
 trace_refused threads OutOfMemory bytes before after read first = (refl, read_stopped most_bytes bytes before after read)
+
+-- the same of a script
+pub script_stopped : (s : Script) (before after : Stream) → IsScriptRead s before after → IsStopped most_bytes before after
+script_stopped s before after h = read_stopped most_bytes h.bytes before after (inl h.read)
+
+pub script_refused : (fault : TraceFault) (bytes : List ℕ) (before after : Stream) → IsRead most_bytes before after bytes
+    → IsScriptFault fault bytes → IsRefusal (status_of_trace fault) (needing ReadsScript false true) before after
+script_refused (BadLine n) bytes before after read first =
+    (tt, has_fault ReadsScript (BadLine n) bytes before after read first (λ past more. script_fault_early (BadLine n) bytes more past first))
+script_refused (Limit n) bytes before after read first =
+    (tt, has_fault ReadsScript (Limit n) bytes before after read first (λ past more. script_fault_early (Limit n) bytes more past first))
+script_refused OutOfMemory bytes before after read first = (refl, read_stopped most_bytes bytes before after read)
 
 -- ---- the input of `audit` and of `dangling`
 

@@ -1,7 +1,7 @@
 -- When a call has a run and a region.
 use Rattle.std.proofs.Common.{◌≡◌, ◌∙◌, ◌↔◌, List, ℕ, Bool, true, false, Option, Some, None, IsSome, inl, inr, refl, sym}
 use Rattle.pa_cli.specs.declared.command.Command.{Command}
-use Rattle.pa_cli.specs.declared.command.Command.TheVariants.{Replay, Model, Audit, Dangling, Layout, Gen, Help, Version}
+use Rattle.pa_cli.specs.declared.command.Command.TheVariants.{Replay, Model, Audit, Dangling, Layout, Gen, Help, Version, Resize, Verdicts}
 use Rattle.pa_cli.specs.declared.command.Command.TheVariants as commands
 use Rattle.pa_cli.specs.declared.status.Status.{Status}
 use Rattle.pa_cli.specs.declared.status.Status.TheVariants.{Done, BadCommand, BadLine, Limit, ReadFault, WriteFault, OutOfMemory, NotLegal}
@@ -25,6 +25,8 @@ runs_by Replay before after out h = (is_some out.run h.played.run h.played.has_r
 runs_by Model before after out h = h.1
 runs_by Audit before after out h = h.1
 runs_by Dangling before after out h = h.1
+runs_by Resize before after out h = h.1
+runs_by Verdicts before after out h = h.1
 runs_by (Layout size) before after out h = h.1
 runs_by (commands.Trace rounds key) before after out h = h.1
 runs_by (Gen rounds key) before after out h = (is_some out.run h.run h.has_run, is_some out.region h.words h.has_region)

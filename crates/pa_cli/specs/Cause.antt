@@ -8,6 +8,9 @@ use Rattle.pa_trace.specs.Faults.{IsFirstFault}
 use Rattle.pa_trace.specs.declared.fault.TraceFault.{TraceFault}
 use Rattle.pa_trace.specs.declared.fault.TraceFault.TheVariants as faults
 use Rattle.pa_record.specs.declared.run.Run.{Run}
+use Rattle.pa_script.specs.declared.script.Script.{Script}
+use Rattle.pa_script.specs.Limits.{IsScriptInput}
+use Rattle.pa_script.specs.Faults.{IsFirstScriptFault}
 use Rattle.pa_rules.specs.declared.verdict.Clause.{Clause}
 use Rattle.pa_rules.specs.declared.verdict.Verdict.{Verdict}
 use Rattle.pa_audit_input.specs.Input.{most_audited, IsAudited, IsFirstAuditFault}
@@ -16,7 +19,7 @@ use Rattle.pa_cli.specs.declared.status.Status.{Status}
 use Rattle.pa_cli.specs.declared.status.Status.TheVariants.{Done, BadCommand, BadLine, Limit, ReadFault, WriteFault, OutOfMemory, NotLegal}
 use Rattle.pa_cli.specs.Call.{Stream, Call, KeepsSource, KeepsSink, HasGiven, IsReadWhole, IsRead}
 use Rattle.pa_cli.specs.declared.command.Command.{Command}
-use Rattle.pa_cli.specs.Command.{Reading, ReadsNothing, ReadsTrace, ReadsRun, ReadsSome, most_read, Needs, needs_of}
+use Rattle.pa_cli.specs.Command.{Reading, ReadsNothing, ReadsTrace, ReadsRun, ReadsSome, most_read, Needs, needs_of, ReadsScript}
 use Rattle.pa_cli.specs.Command.{AsksFor, AsksToRead, AsksForThreads, IsCommand}
 use Rattle.pa_cli.specs.Output.{HasNoRun, IsOutput}
 use Rattle.pa_cli.specs.StatusText.{status_of_trace, status_of_verdict}
@@ -25,6 +28,7 @@ use Rattle.pa_cli.specs.StatusText.{status_of_trace, status_of_verdict}
 abbrev pub IsFaulty : Reading → TraceFault → List ℕ → Type 0
 IsFaulty ReadsNothing fault bytes = ⊥
 IsFaulty ReadsTrace fault bytes = IsFirstFault fault bytes
+IsFaulty ReadsScript fault bytes = IsFirstScriptFault fault bytes
 IsFaulty ReadsRun fault bytes = IsFirstAuditFault fault bytes
 
 -- The input has this fault: it was read without a fault of the source, and the first faulty line of what was read has it, and so has
@@ -102,6 +106,7 @@ HasNoWriteFault c = HasRisen c.sink.faults c.sink_after.faults → ⊥
 abbrev pub IsInputFor : Reading → List ℕ → Type 0
 IsInputFor ReadsNothing bytes = ⊥
 IsInputFor ReadsTrace bytes = (trace : Trace) × IsInput trace bytes
+IsInputFor ReadsScript bytes = (script : Script) × IsScriptInput script bytes
 IsInputFor ReadsRun bytes = (trace : Trace) × (run : Run) × (lines : ℕ) × IsAudited trace run lines bytes
 
 -- a run was read, and the status tells a clause and a line

@@ -4,7 +4,7 @@ use Rattle.pa_text.specs.Numeral.{IsNumeral}
 use Rattle.pa_trace.specs.Limits.{most_bytes}
 use Rattle.pa_audit_input.specs.Input.{most_audited}
 use Rattle.pa_cli.specs.declared.command.Command.{Command}
-use Rattle.pa_cli.specs.declared.command.Command.TheVariants.{Replay, Model, Audit, Dangling, Layout, Trace, Gen, Help, Version}
+use Rattle.pa_cli.specs.declared.command.Command.TheVariants.{Replay, Model, Audit, Dangling, Layout, Trace, Gen, Help, Version, Resize, Verdicts}
 
 -- the one word `replay`, and the one word `model`
 abbrev pub IsReplay : List (List ℕ) → Type 0
@@ -19,6 +19,13 @@ IsAudit words = words ≡ codes "audit" ∷ []
 
 abbrev pub IsDangling : List (List ℕ) → Type 0
 IsDangling words = words ≡ codes "dangling" ∷ []
+
+-- the one word `resize`, and the one word `verdicts`
+abbrev pub IsResize : List (List ℕ) → Type 0
+IsResize words = words ≡ codes "resize" ∷ []
+
+abbrev pub IsVerdicts : List (List ℕ) → Type 0
+IsVerdicts words = words ≡ codes "verdicts" ∷ []
 
 -- the word `layout` and a size of 32 bits in decimal
 abbrev pub IsLayout : ℕ → List (List ℕ) → Type 0
@@ -52,6 +59,8 @@ AsksFor Replay words = IsReplay words
 AsksFor Model words = IsModel words
 AsksFor Audit words = IsAudit words
 AsksFor Dangling words = IsDangling words
+AsksFor Resize words = IsResize words
+AsksFor Verdicts words = IsVerdicts words
 AsksFor (Layout size) words = IsLayout size words
 AsksFor (Trace rounds key) words = IsTrace rounds key words
 AsksFor (Gen rounds key) words = IsGen rounds key words
@@ -66,22 +75,25 @@ IsAsked command = (words : List (List ℕ)) × AsksFor command words
 abbrev pub IsCommand : List (List ℕ) → Type 0
 IsCommand words = (command : Command) × AsksFor command words
 
--- What a command reads: nothing, the text of a trace, or the text of a trace and after it that of a run.
+-- What a command reads: nothing, the text of a trace, that of a script, or the text of a trace and after it that of a run.
 pub data Reading : Type 0 where
   ReadsNothing : Reading
   ReadsTrace : Reading
+  ReadsScript : Reading
   ReadsRun : Reading
 
 -- it reads something
 abbrev pub ReadsSome : Reading → Type 0
 ReadsSome ReadsNothing = ⊥
 ReadsSome ReadsTrace = Unit {0}
+ReadsSome ReadsScript = Unit {0}
 ReadsSome ReadsRun = Unit {0}
 
 -- the most bytes that such an input may have
 abbrev pub most_read : Reading → ℕ
 most_read ReadsNothing = 0
 most_read ReadsTrace = most_bytes
+most_read ReadsScript = most_bytes
 most_read ReadsRun = most_audited
 
 -- What a command needs.
@@ -102,6 +114,8 @@ needs_of Replay = needing ReadsTrace true true
 needs_of Model = needing ReadsTrace false true
 needs_of Audit = needing ReadsRun false true
 needs_of Dangling = needing ReadsRun false true
+needs_of Resize = needing ReadsScript false true
+needs_of Verdicts = needing ReadsScript false true
 needs_of (Layout size) = needing ReadsNothing false false
 needs_of (Trace rounds key) = needing ReadsNothing false true
 needs_of (Gen rounds key) = needing ReadsNothing true true

@@ -1,6 +1,7 @@
 pub mod Call
 pub mod Command
 pub mod LayoutText
+pub mod VerdictsText
 pub mod HelpText
 pub mod Output
 pub mod Laws

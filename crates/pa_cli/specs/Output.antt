@@ -1,5 +1,5 @@
 -- The output of each command.
-use Rattle.std.specs.Prelude.{◌≡◌, ℕ, ◌*◌, List, Option, Some, None, codes, length}
+use Rattle.std.specs.Prelude.{◌≡◌, ℕ, ◌*◌, List, ◌++◌, Option, Some, None, codes, length}
 use Rattle.pa_trace.specs.declared.script.Trace.{Trace}
 use Rattle.pa_trace.specs.Grammar.{IsTraceText}
 use Rattle.pa_trace.specs.Limits.{IsInput, most_bytes}
@@ -8,6 +8,8 @@ use Rattle.pa_record.specs.declared.run.Run.{Run}
 use Rattle.pa_record.specs.RunText.{IsRunText}
 use Rattle.pa_rules.specs.Cells.{history_at}
 use Rattle.pa_rules.specs.Played.{played}
+use Rattle.pa_script.specs.declared.script.Script.{Script}
+use Rattle.pa_script.specs.Limits.{IsScriptInput}
 use Rattle.pa_rules.specs.Told.{told_by}
 use Rattle.pa_rules.specs.Legal.{IsLegal, IsFileRun}
 use Rattle.pa_rules.specs.Held.{IsHeldIn}
@@ -16,14 +18,17 @@ use Rattle.pa_summary.specs.SummaryText.{sums_at_end, summary_text}
 use Rattle.pa_dangle.specs.declared.found.Pair.{Pair}
 use Rattle.pa_dangle.specs.Pairs.{AreFound}
 use Rattle.pa_dangle.specs.Text.{dangling_text}
+use Rattle.pa_resize.specs.declared.verdict.Verdict.{Verdict}
+use Rattle.pa_resize.specs.Expansion.{IsExpanded}
 use Rattle.pa_audit_input.specs.Input.{most_audited}
 use Rattle.pa_audit_input.specs.Judged.{IsLegalInput, IsLegalOf}
 use Rattle.pa_cli.specs.Call.{Stream, Call, IsReadWhole}
 use Rattle.pa_cli.specs.declared.command.Command.{Command}
-use Rattle.pa_cli.specs.declared.command.Command.TheVariants.{Replay, Model, Audit, Dangling, Layout, Gen, Help, Version}
+use Rattle.pa_cli.specs.declared.command.Command.TheVariants.{Replay, Model, Audit, Dangling, Layout, Gen, Help, Version, Resize, Verdicts}
 use Rattle.pa_cli.specs.declared.command.Command.TheVariants as commands
 use Rattle.pa_cli.specs.Command.{AsksFor}
 use Rattle.pa_cli.specs.LayoutText.{IsLayoutText}
+use Rattle.pa_cli.specs.VerdictsText.{verdicts_text}
 use Rattle.pa_cli.specs.HelpText.{help_text, version_text}
 
 -- What a command produces: the text to be written, and if it played on threads, the run and the words of the closed region.
@@ -111,6 +116,46 @@ pub record IsDanglingOutput (before after : Stream) (text : List ℕ) : Type 0 w
   pub legal : IsLegalOf trace run bytes
   pub told : IsPairsText trace run text
 
+-- The source's bytes, all of which were read, are the text of this script, which is within the limits.
+pub record IsScriptRead (script : Script) (before after : Stream) : Type 0 where
+  pub bytes : List ℕ
+  pub read : IsReadWhole most_bytes before after bytes
+  pub input : IsScriptInput script bytes
+
+-- The text is that of the trace to which the script comes, which is within the limits, and after it that of the trace's run in the order
+-- of its lines, which has a run of the core.
+pub record IsResizeText (script : Script) (text : List ℕ) : Type 0 where
+  pub trace : Trace
+  pub run : Run
+  pub verdicts : List (ℕ × Verdict)
+  pub expanded : IsExpanded script trace run verdicts
+  pub core : HasCoreRun trace run
+  pub front : List ℕ
+  pub back : List ℕ
+  pub traced : IsInput trace front
+  pub printed : IsRunText run back
+  pub parts : text ≡ front ++ back
+
+-- the text has what each resize of the script came to in such a run
+pub record IsVerdictsText (script : Script) (text : List ℕ) : Type 0 where
+  pub trace : Trace
+  pub run : Run
+  pub verdicts : List (ℕ × Verdict)
+  pub expanded : IsExpanded script trace run verdicts
+  pub core : HasCoreRun trace run
+  pub printed : text ≡ verdicts_text verdicts
+
+-- the output of `resize`, and that of `verdicts`: the text is that of the script that was read
+pub record IsResizeOutput (before after : Stream) (text : List ℕ) : Type 0 where
+  pub script : Script
+  pub read : IsScriptRead script before after
+  pub played : IsResizeText script text
+
+pub record IsVerdictsOutput (before after : Stream) (text : List ℕ) : Type 0 where
+  pub script : Script
+  pub read : IsScriptRead script before after
+  pub played : IsVerdictsText script text
+
 -- the text is the trace generated from this number of rounds and this key
 pub record IsGeneratedText (rounds key : ℕ) (text : List ℕ) : Type 0 where
   pub trace : Trace
@@ -137,6 +182,8 @@ IsOutputOf Replay before after out = IsReplayOutput before after out
 IsOutputOf Model before after out = IsModelOutput before after out.text × HasNoRun out.run out.region
 IsOutputOf Audit before after out = IsAuditOutput before after out.text × HasNoRun out.run out.region
 IsOutputOf Dangling before after out = IsDanglingOutput before after out.text × HasNoRun out.run out.region
+IsOutputOf Resize before after out = IsResizeOutput before after out.text × HasNoRun out.run out.region
+IsOutputOf Verdicts before after out = IsVerdictsOutput before after out.text × HasNoRun out.run out.region
 IsOutputOf (Layout size) before after out = IsLayoutText size out.text × HasNoRun out.run out.region
 IsOutputOf (commands.Trace rounds key) before after out = IsGeneratedText rounds key out.text × HasNoRun out.run out.region
 IsOutputOf (Gen rounds key) before after out = IsGenOutput rounds key out

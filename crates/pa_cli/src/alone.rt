@@ -13,6 +13,7 @@ use crate::command::Command;
 use crate::input::read_input;
 use crate::output::write_output;
 use crate::printed::Printed;
+use crate::scripts::{resize, verdicts};
 use crate::status::Status;
 use pa_audit_input::{Judgement, judge, judged};
 use pa_dangle::{found_text, pairs_dense};
@@ -31,8 +32,9 @@ const MOST_AUDITED: usize = 134_217_728;
 /// Does what the words ask for, if they ask for no threads. It waits for nobody, so a call returns. `model` reads a trace, plays all
 /// lines in their order and writes the text of that run; `audit` reads a trace and after it a run, and writes `legal` if that is a
 /// legal run of the trace; `dangling` reads the same, and writes each use in such a run of what was freed while `raw_ptr`s pointed to
-/// it; `layout SIZE` writes where a request of so many bytes is placed, `trace ROUNDS KEY` a generated trace, `--help` and `--version`
-/// their texts. The input is read to its end, or to one byte past the most that it may have.
+/// it; `resize` reads a script and writes the trace that it comes to and that trace's run, and `verdicts` what each resize came to;
+/// `layout SIZE` writes where a request of so many bytes is placed, `trace ROUNDS KEY` a generated trace, `--help` and `--version` their
+/// texts. The input is read to its end, or to one byte past the most that it may have.
 pub fn run_alone<S: Source, K: Sink>(
     alloc: Global,
     words: &[String],
@@ -99,6 +101,8 @@ fn text_of<S: Source>(alloc: Global, command: Command, source: &mut S) -> Result
         Command::Model => Ok(Printed::Made(model(alloc, source)?)),
         Command::Audit => audit(alloc, source),
         Command::Dangling => Ok(Printed::Made(dangling(alloc, source)?)),
+        Command::Resize => Ok(Printed::Made(resize(alloc, source)?)),
+        Command::Verdicts => Ok(Printed::Made(verdicts(alloc, source)?)),
         Command::Layout(size) => Ok(Printed::Line(layout_line(size))),
         Command::Trace { rounds, key } => Ok(Printed::Made(write_generated(alloc, rounds, key)?)),
         Command::Help => Ok(Printed::Fixed(help())),

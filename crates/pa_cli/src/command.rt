@@ -18,6 +18,10 @@ pub enum Command {
     Audit,
     /// Reads a trace and then a run, and prints each use of what was freed while `raw_ptr`s pointed to it.
     Dangling,
+    /// Reads a script, plays it, and prints the trace that it comes to and that trace's run.
+    Resize,
+    /// Reads a script, plays it, and prints what each resize came to.
+    Verdicts,
     /// Prints where a request of this many bytes is placed: its size class or its direct map.
     Layout(u32),
     /// Prints the trace generated in this number of rounds, 1 to 800, with random numbers from this key.
@@ -54,6 +58,8 @@ impl Command {
             Command::Model
             | Command::Audit
             | Command::Dangling
+            | Command::Resize
+            | Command::Verdicts
             | Command::Layout(_)
             | Command::Trace { rounds: _, key: _ }
             | Command::Help
@@ -71,6 +77,8 @@ impl Command {
             "model" => Some(Command::Model),
             "audit" => Some(Command::Audit),
             "dangling" => Some(Command::Dangling),
+            "resize" => Some(Command::Resize),
+            "verdicts" => Some(Command::Verdicts),
             "--help" => Some(Command::Help),
             "--version" => Some(Command::Version),
             _ => None,

@@ -13,6 +13,7 @@ mod laws;
 mod outcome;
 mod output;
 mod printed;
+mod scripts;
 mod status;
 mod top;
 

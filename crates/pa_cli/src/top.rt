@@ -40,11 +40,12 @@ pub fn run<R: Threads + Wait + Sync, S: Source, K: Sink, G: Gate>(
 
     // The status has its cause, and leaves source and sink as that cause says. Of `replay` it says that the run whose text is written
     // is a legal run of the trace, and that the closed region holds it; of `gen` the same of the generated trace and the run whose
-    // summary is written; of `model` that what is written is the text of the trace's run in the order of its lines, which is legal and
+    // summary is written; of `resize` and `verdicts` that what is written is what the script comes to; of `model` that what is
+    // written is the text of the trace's run in the order of its lines, which is legal and
     // has a run of the core; of `audit` that the run that was read is a legal one of the trace before it, or by which clause and at
-    // which line it isn't; of `dangling` the same, and that what is written are the pairs of that run. Only `replay`, `model`, `audit`
-    // and `dangling` read. A good input is played or judged, and a faulty one refused; the other commands answer. A run and a region are
-    // returned exactly if threads played and the output was written.
+    // which line it isn't; of `dangling` the same, and that what is written are the pairs of that run. Only `replay`, `model`, `audit`,
+    // `dangling`, `resize` and `verdicts` read. A good input is played or judged, and a faulty one refused; the other commands answer. A
+    // run and a region are returned exactly if threads played and the output was written.
     ensures call { IsRightCall result.status (call_of (map string_bytes words.now)
         (stream_of (S.left source.old) (S.faults source.old)) (stream_of (S.left source.new) (S.faults source.new))
         (stream_of (K.written sink.old) (K.faults sink.old)) (stream_of (K.written sink.new) (K.faults sink.new))

@@ -12,3 +12,8 @@ returns-in-Err-clause-cause g c =
     (stream_of (g.K.Sink.written c.args.sink.now) (g.K.Sink.faults c.args.sink.now))
     (stream_of (g.K.Sink.written c.args.sink.now) (g.K.Sink.faults c.args.sink.now)) None None)
     c.in-Some.ensures.asked c.in-Err.ensures.refusal refl
+
+pub returns-in-Err-clause-reads : goal.returns-in-Err-clause-reads
+returns-in-Err-clause-reads g c unread =
+    let same = c.in-Err.ensures.unread (λ some. unread (c.in-Some.command, c.in-Some.ensures.asked, some)) in
+    rw (same.0, same.1) refl

@@ -1,0 +1,111 @@
+-- What was read of a script to one byte past the limit has the fault of all that follows it.
+use Rattle.std.proofs.Common.{◌≡◌, ℕ, ◌+◌, ◌≤◌, List, [], ◌∷◌, ◌++◌, length, inl, inr, refl, sym, ap, subst, ◌∙◌, arith}
+use Rattle.std.proofs.lemmas.Bool.{cases_eq}
+use Rattle.pa_trace.specs.declared.fault.TraceFault.{TraceFault}
+use Rattle.pa_trace.specs.declared.fault.TraceFault.TheVariants.{BadLine, Limit, OutOfMemory}
+use Rattle.pa_trace.specs.Faults.{with_front, lines_of, IsFaultOf}
+use Rattle.pa_trace.proofs.Cuts.{other_front}
+use Rattle.pa_script.specs.Faults.{IsPastScript, IsBadScriptLine, IsBadScriptHead, IsScriptLineOverLimit, IsScriptHeadOverLimit}
+use Rattle.pa_script.specs.Faults.{IsFirstScriptBehind, IsFirstScriptOf, IsFirstScriptFault}
+
+-- the longer list has the same lines, and its line at the place of the last one may be longer
+abbrev Extends : List (List ℕ) → List (List ℕ) → Type 0
+Extends [] ys = Unit {0}
+Extends (x ∷ []) [] = ⊥
+Extends (x ∷ []) (y ∷ ys) = length x ≤ length y
+Extends (x ∷ w ∷ xs) [] = ⊥
+Extends (x ∷ w ∷ xs) (y ∷ ys) = (x ≡ y) × Extends (w ∷ xs) ys
+
+-- that many bytes in all
+abbrev total : List (List ℕ) → ℕ
+total [] = 0
+total (x ∷ xs) = length x + total xs
+
+lf_total : (lines : List (List ℕ)) → total (with_front 10 lines) ≡ 1 + total lines
+lf_total [] = refl
+lf_total (line ∷ lines) = refl
+
+other_total : (b : ℕ) (lines : List (List ℕ)) → (b ≡ 10 → ⊥) → total (with_front b lines) ≡ 1 + total lines
+other_total b [] other = refl
+other_total b (line ∷ lines) other = ap total (other_front b line lines other) ∙ omega arith
+
+front_total : (b : ℕ) (lines : List (List ℕ)) → total (with_front b lines) ≡ 1 + total lines
+front_total b lines =
+    elim (cases_eq b 10) [ inl lf ↦ ap (λ (x : ℕ). total (with_front x lines)) lf ∙ lf_total lines | inr other ↦ other_total b lines other ]
+
+lines_total : (bytes : List ℕ) → total (lines_of bytes) ≡ length bytes
+unfolding lines_of
+lines_total [] = refl
+lines_total (b ∷ bytes) = front_total b (lines_of bytes) ∙ omega (arith, lines_total bytes)
+
+-- ---- a byte before both
+
+some_extended : (x : List ℕ) (xs : List (List ℕ)) → Extends (x ∷ xs) [] → ⊥
+some_extended x [] h = h
+some_extended x (w ∷ xs) h = h
+
+lf_extends : (xs ys : List (List ℕ)) → Extends xs ys → Extends (with_front 10 xs) (with_front 10 ys)
+lf_extends [] [] h = omega arith
+lf_extends [] (y ∷ ys) h = omega arith
+lf_extends (x ∷ xs) [] h = absurd (some_extended x xs h)
+lf_extends (x ∷ xs) (y ∷ ys) h = (refl, h)
+
+grown : (b : ℕ) (x y : List ℕ) (xs ys : List (List ℕ)) → Extends (x ∷ xs) (y ∷ ys) → Extends ((b ∷ x) ∷ xs) ((b ∷ y) ∷ ys)
+grown b x y [] ys h = omega arith
+grown b x y (w ∷ xs) ys h = (ap (λ (z : List ℕ). b ∷ z) h.0, h.1)
+
+other_extends : (b : ℕ) (xs ys : List (List ℕ)) → (b ≡ 10 → ⊥) → Extends xs ys → Extends (with_front b xs) (with_front b ys)
+other_extends b [] [] other h = omega arith
+other_extends b [] (y ∷ ys) other h = rw (other_front b y ys other) (omega arith)
+other_extends b (x ∷ xs) [] other h = absurd (some_extended x xs h)
+other_extends b (x ∷ xs) (y ∷ ys) other h = rw (other_front b x xs other, other_front b y ys other) (grown b x y xs ys h)
+
+front_extends : (b : ℕ) (xs ys : List (List ℕ)) → Extends xs ys → Extends (with_front b xs) (with_front b ys)
+front_extends b xs ys h =
+    elim (cases_eq b 10) [
+      | inl lf ↦ subst (λ (x : ℕ). Extends (with_front x xs) (with_front x ys)) (sym lf) (lf_extends xs ys h)
+      | inr other ↦ other_extends b xs ys other h
+    ]
+
+lines_extend : (bytes more : List ℕ) → Extends (lines_of bytes) (lines_of (bytes ++ more))
+unfolding lines_of
+lines_extend [] more = tt
+lines_extend (b ∷ bytes) more = front_extends b (lines_of bytes) (lines_of (bytes ++ more)) (lines_extend bytes more)
+
+-- ---- the fault of the shorter is the fault of the longer
+
+-- a fault of a line that ends with byte 4,194,305 is that it is past, and so is a longer line in its place
+past_stays : (n before : ℕ) (x y : List ℕ) (bad over bad_longer over_longer : Type 0) (e : TraceFault) → before + length x ≡ 4194305 → length x ≤ length y
+    → IsFaultOf n (IsPastScript n before x) bad over e → IsFaultOf n (IsPastScript n before y) bad_longer over_longer e
+past_stays n before x y bad over bad_longer over_longer (BadLine m) full longer h = absurd (h.1 (inr (omega arith)))
+past_stays n before x y bad over bad_longer over_longer (Limit m) full longer h = (h.0, inl (inr (omega arith)))
+past_stays n before x y bad over bad_longer over_longer OutOfMemory full longer h = h
+
+behind_stays : (partitions threads : ℕ) (xs ys : List (List ℕ)) (n before : ℕ) (e : TraceFault) → before + total xs ≡ 4194305 → Extends xs ys → IsFirstScriptBehind partitions threads n before xs e
+    → IsFirstScriptBehind partitions threads n before ys e
+behind_stays partitions threads [] ys n before e full longer h = absurd h
+behind_stays partitions threads (x ∷ []) [] n before e full longer h = absurd longer
+behind_stays partitions threads (x ∷ []) (y ∷ ys) n before e full longer (inl h) =
+    inl (past_stays n before x y (IsBadScriptLine x) (IsScriptLineOverLimit partitions threads x) (IsBadScriptLine y) (IsScriptLineOverLimit partitions threads y) e (omega arith) longer h)
+behind_stays partitions threads (x ∷ []) (y ∷ ys) n before e full longer (inr g) = absurd g.4
+behind_stays partitions threads (x ∷ w ∷ xs) [] n before e full longer h = absurd longer
+behind_stays partitions threads (x ∷ w ∷ xs) (y ∷ ys) n before e full longer (inl h) =
+    inl (subst (λ (z : List ℕ). IsFaultOf n (IsPastScript n before z) (IsBadScriptLine z) (IsScriptLineOverLimit partitions threads z) e) longer.0 h)
+behind_stays partitions threads (x ∷ w ∷ xs) (y ∷ ys) n before e full longer (inr g) =
+    let later = behind_stays partitions threads (w ∷ xs) ys (n + 1) (before + length x) e (omega arith) longer.1 g.4 in
+    subst (λ (z : List ℕ). IsFirstScriptBehind partitions threads n before (z ∷ ys) e) longer.0 (inr (g.0, g.1, g.2, g.3, later))
+
+first_stays : (xs ys : List (List ℕ)) (e : TraceFault) → total xs ≡ 4194305 → Extends xs ys → IsFirstScriptOf xs e → IsFirstScriptOf ys e
+first_stays [] ys e full longer h = absurd (omega arith)
+first_stays (x ∷ []) [] e full longer h = absurd longer
+first_stays (x ∷ []) (y ∷ ys) e full longer (inl h) = inl (past_stays 1 0 x y (IsBadScriptHead x) (IsScriptHeadOverLimit x) (IsBadScriptHead y) (IsScriptHeadOverLimit y) e (omega arith) longer h)
+first_stays (x ∷ []) (y ∷ ys) e full longer (inr g) = absurd g.6
+first_stays (x ∷ w ∷ xs) [] e full longer h = absurd longer
+first_stays (x ∷ w ∷ xs) (y ∷ ys) e full longer (inl h) =
+    inl (subst (λ (z : List ℕ). IsFaultOf 1 (IsPastScript 1 0 z) (IsBadScriptHead z) (IsScriptHeadOverLimit z) e) longer.0 h)
+first_stays (x ∷ w ∷ xs) (y ∷ ys) e full longer (inr g) =
+    let later = behind_stays g.1 g.2 (w ∷ xs) ys 2 (length x) e full longer.1 g.6 in
+    subst (λ (z : List ℕ). IsFirstScriptOf (z ∷ ys) e) longer.0 (inr (g.0, g.1, g.2, g.3, g.4, g.5, later))
+
+pub script_fault_early : (e : TraceFault) (bytes more : List ℕ) → length bytes ≡ 4194305 → IsFirstScriptFault e bytes → IsFirstScriptFault e (bytes ++ more)
+script_fault_early e bytes more full h = first_stays (lines_of bytes) (lines_of (bytes ++ more)) e (lines_total bytes ∙ full) (lines_extend bytes more) h
