@@ -26,7 +26,7 @@ use Rattle.pa_cli.specs.Cause.{IsFaulty, HasFault, IsRefuted, IsInputFor, Caused
 use Rattle.pa_cli.specs.StatusText.{status_of_trace, status_of_verdict}
 use Rattle.pa_cli.proofs.Commands.{one_needs}
 use Rattle.pa_cli.proofs.Judging.{one_judgement}
-use Rattle.pa_cli.proofs.ScriptFirsts.{one_script_fault, no_script_fault}
+use Rattle.pa_script.proofs.Firsts.{one_script_fault, no_script_fault}
 
 -- what holds of all bytes that the source exposes, if they are these
 told_these : (P : List ℕ → Type 0) (told : Option (List ℕ)) (bytes : List ℕ) → told ≡ Some bytes → IfSome told P → P bytes

@@ -1,8 +1,5 @@
 mod Words
 mod Given
-mod ScriptTexts
-mod ScriptFirsts
-mod ScriptEarly
 mod Refusing
 mod Commands
 mod Judging

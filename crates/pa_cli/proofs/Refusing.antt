@@ -21,7 +21,7 @@ use Rattle.pa_cli.specs.Command.{Reading, ReadsTrace, ReadsRun, most_read, needi
 use Rattle.pa_cli.specs.Output.{IsTraceRead, IsAuditOutput, IsPairsText, IsDanglingOutput, legal_text, IsScriptRead}
 use Rattle.pa_cli.specs.Cause.{IsFaulty, HasFault, IsRefusal, IsStopped}
 use Rattle.pa_cli.specs.StatusText.{status_of_trace}
-use Rattle.pa_cli.proofs.ScriptEarly.{script_fault_early}
+use Rattle.pa_script.proofs.Early.{script_fault_early}
 
 -- what was read was read to its end, if it isn't too long
 pub read_whole : (most : ℕ) (bytes : List ℕ) (before after : Stream) → IsRead most before after bytes → length bytes ≤ most → IsReadWhole most before after bytes

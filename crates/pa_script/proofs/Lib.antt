@@ -1,3 +1,6 @@
 pub mod Lines
 mod Behind
 mod Unread
+pub mod Texts
+pub mod Firsts
+pub mod Early

@@ -1,5 +1,5 @@
 -- What is read of a line of a script is what is spelled and within the limits.
-use Rattle.std.proofs.Common.{◌≡◌, ℕ, ◌<◌, ◌≤◌, Bool, true, false, cond, ltb, ◌&&◌, List, [], ◌++◌, Result, Ok, Err, codes, refl, sym, subst, ◌∙◌, ap, arith}
+use Rattle.std.proofs.Common.{◌≡◌, ℕ, ◌<◌, ◌≤◌, Bool, true, false, cond, ltb, ◌&&◌, List, [], Result, Ok, Err, codes, refl, sym, subst, ◌∙◌, ap, arith}
 use Rattle.std.proofs.lemmas.Bool.{ltb-true, lt-ltb, and_parts, and_from}
 use Rattle.pa_trace.specs.declared.field.LineFault.{LineFault}
 use Rattle.pa_trace.specs.declared.field.LineFault.TheVariants.{Outside, Past}
@@ -8,9 +8,8 @@ use Rattle.pa_trace.specs.declared.script.Line.{Line}
 use Rattle.pa_trace.specs.declared.script.Line.TheVariants.{Phase, Do}
 use Rattle.pa_trace.specs.declared.script.Op.{Op}
 use Rattle.pa_trace.specs.declared.script.Op.TheVariants.{Alloc, Copy, Reset, Free, Write, Read, Swap, Purge}
-use Rattle.pa_trace.specs.Grammar.{IsLineText}
-use Rattle.pa_trace.specs.Limits.{IsHeadWithin, IsLineWithin}
-use Rattle.pa_trace.specs.Reading.{◌>>=◌, below, within, head_of, line_in}
+use Rattle.pa_trace.specs.Limits.{IsHeadWithin}
+use Rattle.pa_trace.specs.Reading.{◌>>=◌, below, within, line_in}
 use Rattle.pa_trace.proofs.Fields.{bind_ok, three_at, three_takes, three_again, three_handed, three_is}
 use Rattle.pa_trace.proofs.Limits.{tested, below_fit, within_fit, head_ok, checked_head, head_with, head_cases, head_within, within_head}
 use Rattle.pa_trace.proofs.Limits.{let_through, kept_out, not_both, IsNotRead, line_read, line_not_read}

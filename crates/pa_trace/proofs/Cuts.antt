@@ -73,7 +73,7 @@ no_lines = refl
 
 -- ---- what is spelled in a line has no LF
 
-numeral_line : (ds : List ℕ) → AllByRecursion IsDigit ds → IsOneLine ds
+pub numeral_line : (ds : List ℕ) → AllByRecursion IsDigit ds → IsOneLine ds
 numeral_line [] h = tt
 numeral_line (d ∷ ds) h = ((λ e. omega (arith, h.0.0)), numeral_line ds h.1)
 
@@ -86,7 +86,7 @@ field_line v i n hv hi = one_line_append v i hv (numeral_one n i hi)
 two_line : (v i w j : List ℕ) (m n : ℕ) → IsOneLine v → IsOneLine w → IsNumeral m i → IsNumeral n j → IsOneLine (v ++ i ++ w ++ j)
 two_line v i w j m n hv hw hi hj = field_line (v ++ i ++ w) j n (one_line_append (v ++ i) w (field_line v i m hv hi) hw) hj
 
-three_line : (v i w j y k : List ℕ) (m n p : ℕ) → IsOneLine v → IsOneLine w → IsOneLine y → IsNumeral m i → IsNumeral n j → IsNumeral p k → IsOneLine (v ++ i ++ w ++ j ++ y ++ k)
+pub three_line : (v i w j y k : List ℕ) (m n p : ℕ) → IsOneLine v → IsOneLine w → IsOneLine y → IsNumeral m i → IsNumeral n j → IsNumeral p k → IsOneLine (v ++ i ++ w ++ j ++ y ++ k)
 three_line v i w j y k m n p hv hw hy hi hj hk = field_line (v ++ i ++ w ++ j ++ y) k p (one_line_append (v ++ i ++ w ++ j) y (two_line v i w j m n hv hw hi hj) hy) hk
 
 -- the test of a word that is written out
@@ -94,7 +94,7 @@ abbrev has_no_lf : List ℕ → Bool
 has_no_lf [] = true
 has_no_lf (b ∷ bs) = not (eqb b 10) && has_no_lf bs
 
-word_line : (w : List ℕ) → has_no_lf w ≡ true → IsOneLine w
+pub word_line : (w : List ℕ) → has_no_lf w ≡ true → IsOneLine w
 word_line [] e = tt
 word_line (b ∷ bs) e =
     let p = and_parts (not (eqb b 10)) (has_no_lf bs) e in

@@ -7,7 +7,7 @@ use Rattle.pa_trace.specs.Faults.{with_front, lines_of, IsPast, IsBadLine, IsBad
 use Rattle.pa_trace.proofs.Cuts.{other_front}
 
 -- the longer list has the same lines, and its line at the place of the last one may be longer
-abbrev Extends : List (List ℕ) → List (List ℕ) → Type 0
+abbrev pub Extends : List (List ℕ) → List (List ℕ) → Type 0
 Extends [] ys = Unit {0}
 Extends (x ∷ []) [] = ⊥
 Extends (x ∷ []) (y ∷ ys) = length x ≤ length y
@@ -15,7 +15,7 @@ Extends (x ∷ w ∷ xs) [] = ⊥
 Extends (x ∷ w ∷ xs) (y ∷ ys) = (x ≡ y) × Extends (w ∷ xs) ys
 
 -- that many bytes in all
-abbrev total : List (List ℕ) → ℕ
+abbrev pub total : List (List ℕ) → ℕ
 total [] = 0
 total (x ∷ xs) = length x + total xs
 
@@ -31,7 +31,7 @@ front_total : (b : ℕ) (lines : List (List ℕ)) → total (with_front b lines)
 front_total b lines =
     elim (cases_eq b 10) [ inl lf ↦ ap (λ (x : ℕ). total (with_front x lines)) lf ∙ lf_total lines | inr other ↦ other_total b lines other ]
 
-lines_total : (bytes : List ℕ) → total (lines_of bytes) ≡ length bytes
+pub lines_total : (bytes : List ℕ) → total (lines_of bytes) ≡ length bytes
 unfolding lines_of
 lines_total [] = refl
 lines_total (b ∷ bytes) = front_total b (lines_of bytes) ∙ omega (arith, lines_total bytes)
@@ -65,25 +65,26 @@ front_extends b xs ys h =
       | inr other ↦ other_extends b xs ys other h
     ]
 
-lines_extend : (bytes more : List ℕ) → Extends (lines_of bytes) (lines_of (bytes ++ more))
+pub lines_extend : (bytes more : List ℕ) → Extends (lines_of bytes) (lines_of (bytes ++ more))
 unfolding lines_of
 lines_extend [] more = tt
 lines_extend (b ∷ bytes) more = front_extends b (lines_of bytes) (lines_of (bytes ++ more)) (lines_extend bytes more)
 
 -- ---- the fault of the shorter is the fault of the longer
 
--- a fault of a line that ends with byte 4,194,305 is that it is past, and so is a longer line in its place
-past_stays : (n before : ℕ) (x y : List ℕ) (bad over bad_longer over_longer : Type 0) (e : TraceFault) → before + length x ≡ 4194305 → length x ≤ length y
-    → IsFaultOf n (IsPast n before x) bad over e → IsFaultOf n (IsPast n before y) bad_longer over_longer e
-past_stays n before x y bad over bad_longer over_longer (BadLine m) full longer h = absurd (h.1 (inr (omega arith)))
-past_stays n before x y bad over bad_longer over_longer (Limit m) full longer h = (h.0, inl (inr (omega arith)))
-past_stays n before x y bad over bad_longer over_longer OutOfMemory full longer h = h
+-- the fault of a line that is past is that it is past, and so is that of a longer line in its place
+pub past_stays : (n : ℕ) (past bad over past_longer bad_longer over_longer : Type 0) (e : TraceFault) → past → past_longer
+    → IsFaultOf n past bad over e → IsFaultOf n past_longer bad_longer over_longer e
+past_stays n past bad over past_longer bad_longer over_longer (BadLine m) full longer h = absurd (h.1 full)
+past_stays n past bad over past_longer bad_longer over_longer (Limit m) full longer h = (h.0, inl longer)
+past_stays n past bad over past_longer bad_longer over_longer OutOfMemory full longer h = h
 
 behind_stays : (partitions threads : ℕ) (xs ys : List (List ℕ)) (n before : ℕ) (e : TraceFault) → before + total xs ≡ 4194305 → Extends xs ys → IsFirstBehind partitions threads n before xs e → IsFirstBehind partitions threads n before ys e
 behind_stays partitions threads [] ys n before e full longer h = absurd h
 behind_stays partitions threads (x ∷ []) [] n before e full longer h = absurd longer
 behind_stays partitions threads (x ∷ []) (y ∷ ys) n before e full longer (inl h) =
-    inl (past_stays n before x y (IsBadLine x) (IsLineOverLimit partitions threads x) (IsBadLine y) (IsLineOverLimit partitions threads y) e (omega arith) longer h)
+    inl (past_stays n (IsPast n before x) (IsBadLine x) (IsLineOverLimit partitions threads x)
+    (IsPast n before y) (IsBadLine y) (IsLineOverLimit partitions threads y) e (inr (omega arith)) (inr (omega arith)) h)
 behind_stays partitions threads (x ∷ []) (y ∷ ys) n before e full longer (inr g) = absurd g.4
 behind_stays partitions threads (x ∷ w ∷ xs) [] n before e full longer h = absurd longer
 behind_stays partitions threads (x ∷ w ∷ xs) (y ∷ ys) n before e full longer (inl h) =
@@ -95,7 +96,9 @@ behind_stays partitions threads (x ∷ w ∷ xs) (y ∷ ys) n before e full long
 first_stays : (xs ys : List (List ℕ)) (e : TraceFault) → total xs ≡ 4194305 → Extends xs ys → IsFirstOf xs e → IsFirstOf ys e
 first_stays [] ys e full longer h = absurd (omega arith)
 first_stays (x ∷ []) [] e full longer h = absurd longer
-first_stays (x ∷ []) (y ∷ ys) e full longer (inl h) = inl (past_stays 1 0 x y (IsBadHead x) (IsHeadOverLimit x) (IsBadHead y) (IsHeadOverLimit y) e (omega arith) longer h)
+first_stays (x ∷ []) (y ∷ ys) e full longer (inl h) =
+    inl (past_stays 1 (IsPast 1 0 x) (IsBadHead x) (IsHeadOverLimit x) (IsPast 1 0 y) (IsBadHead y) (IsHeadOverLimit y) e
+    (inr (omega arith)) (inr (omega arith)) h)
 first_stays (x ∷ []) (y ∷ ys) e full longer (inr g) = absurd g.6
 first_stays (x ∷ w ∷ xs) [] e full longer h = absurd longer
 first_stays (x ∷ w ∷ xs) (y ∷ ys) e full longer (inl h) =

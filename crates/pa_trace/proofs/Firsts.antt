@@ -16,13 +16,13 @@ use Rattle.pa_trace.proofs.Texts.{one_line_of, one_head_of}
 -- ---- the faults of one line
 
 -- a line that is in the grammar and the limits and is not past has no fault
-no_fault : (n : ℕ) (past bad over : Type 0) (e : TraceFault) → (past → ⊥) → (bad → ⊥) → (over → ⊥) → IsFaultOf n past bad over e → ⊥
+pub no_fault : (n : ℕ) (past bad over : Type 0) (e : TraceFault) → (past → ⊥) → (bad → ⊥) → (over → ⊥) → IsFaultOf n past bad over e → ⊥
 no_fault n past bad over (BadLine m) a b c h = b h.2
 no_fault n past bad over (Limit m) a b c h = elim h.1 [ inl p ↦ a p | inr o ↦ c o ]
 no_fault n past bad over OutOfMemory a b c h = h
 
 -- a line has one fault
-same_fault : (n : ℕ) (past bad over : Type 0) (d e : TraceFault) → (bad → over → ⊥) → IsFaultOf n past bad over d → IsFaultOf n past bad over e → d ≡ e
+pub same_fault : (n : ℕ) (past bad over : Type 0) (d e : TraceFault) → (bad → over → ⊥) → IsFaultOf n past bad over d → IsFaultOf n past bad over e → d ≡ e
 same_fault n past bad over (BadLine l) (BadLine m) apart h k = ap (λ (x : ℕ). BadLine x) (h.0 ∙ sym k.0)
 same_fault n past bad over (BadLine l) (Limit m) apart h k = absurd (elim k.1 [ inl p ↦ h.1 p | inr o ↦ apart h.2 o ])
 same_fault n past bad over (BadLine l) OutOfMemory apart h k = absurd k
@@ -33,7 +33,7 @@ same_fault n past bad over OutOfMemory e apart h k = absurd h
 
 -- ---- a line is the text of one line
 
-texts_same : (line a b : List ℕ) → line ≡ a ++ 10 ∷ [] → line ≡ b ++ 10 ∷ [] → a ≡ b
+pub texts_same : (line a b : List ℕ) → line ≡ a ++ 10 ∷ [] → line ≡ b ++ 10 ∷ [] → a ≡ b
 texts_same line a b h k = (same_from_push a b 10 10 (sym h ∙ k)).0
 
 one_body : (k l : Line) (line : List ℕ) → IsBodyLine k line → IsBodyLine l line → k ≡ l

@@ -1,8 +1,6 @@
 -- A line of a script and its head have no LF, and a text belongs to one line, and to one head.
-use Rattle.std.proofs.Common.{◌≡◌, ◌∙◌, ℕ, Bool, true, eqb, ◌&&◌, not, List, [], ◌∷◌, ◌++◌, codes, Option, Some, None, Result, Ok, refl, ap, sym, subst, append_assoc, arith}
-use Rattle.std.specs.List.{AllByRecursion}
-use Rattle.std.proofs.lemmas.Bool.{and_parts, eqb-false, not-true}
-use Rattle.pa_text.specs.Numeral.{IsDigit, IsNumeral}
+use Rattle.std.proofs.Common.{◌≡◌, ◌∙◌, ℕ, List, [], ◌∷◌, ◌++◌, codes, Option, Some, None, Result, Ok, refl, ap, sym, subst, append_assoc, arith}
+use Rattle.pa_text.specs.Numeral.{IsNumeral}
 use Rattle.pa_text.specs.Reading.{number_at}
 use Rattle.pa_text.proofs.Numerals.{number_again}
 use Rattle.pa_trace.specs.declared.field.LineFault.{LineFault}
@@ -12,7 +10,7 @@ use Rattle.pa_trace.specs.declared.script.Op.{Op}
 use Rattle.pa_trace.specs.declared.script.Op.TheVariants.{Alloc, Copy, Reset, Free, Write, Read, Swap, Purge}
 use Rattle.pa_trace.specs.Grammar.{IsOpText, IsLineText}
 use Rattle.pa_trace.specs.Cut.{IsOneLine}
-use Rattle.pa_trace.proofs.Cuts.{one_line_append, line_line}
+use Rattle.pa_trace.proofs.Cuts.{word_line, three_line, line_line}
 use Rattle.pa_trace.proofs.Fields.{three_at, three_again}
 use Rattle.pa_trace.proofs.Texts.{one_line_of}
 use Rattle.pa_script.specs.declared.script.ScriptLine.{ScriptLine}
@@ -21,41 +19,17 @@ use Rattle.pa_script.specs.Grammar.{IsScriptHeadText, IsScriptLineText}
 
 -- ---- no LF
 
--- the test of a word that is written out
-abbrev without_lf : List ℕ → Bool
-without_lf [] = true
-without_lf (b ∷ bs) = not (eqb b 10) && without_lf bs
-
-word_one : (w : List ℕ) → without_lf w ≡ true → IsOneLine w
-word_one [] e = tt
-word_one (b ∷ bs) e =
-    let p = and_parts (not (eqb b 10)) (without_lf bs) e in
-    (eqb-false b 10 (not-true (eqb b 10) p.0), word_one bs p.1)
-
-digits_one : (ds : List ℕ) → AllByRecursion IsDigit ds → IsOneLine ds
-digits_one [] h = tt
-digits_one (d ∷ ds) h = ((λ e. omega (arith, h.0.0, e)), digits_one ds h.1)
-
--- three numerals, each behind a word
-three_one : (v i w j y k : List ℕ) (m n p : ℕ) → IsOneLine v → IsOneLine w → IsOneLine y → IsNumeral m i → IsNumeral n j → IsNumeral p k
-    → IsOneLine (v ++ i ++ w ++ j ++ y ++ k)
-three_one v i w j y k m n p hv hw hy hi hj hk =
-    one_line_append (v ++ i ++ w ++ j ++ y) k
-    (one_line_append (v ++ i ++ w ++ j) y
-    (one_line_append (v ++ i ++ w) j
-    (one_line_append (v ++ i) w (one_line_append v i hv (digits_one i hi.digits)) hw) (digits_one j hj.digits)) hy) (digits_one k hk.digits)
-
 pub script_line_one : (l : ScriptLine) (text : List ℕ) → IsScriptLineText l text → IsOneLine text
 script_line_one (Plain l) text h = line_line l text h
 script_line_one (Resize thread reg size) text h =
     subst (λ (x : List ℕ). IsOneLine x) (sym h.6)
-    (three_one [] h.0 (codes " S r") h.1 (codes " ") h.2 thread reg size tt (word_one (codes " S r") refl) (word_one (codes " ") refl) h.3 h.4 h.5)
+    (three_line [] h.0 (codes " S r") h.1 (codes " ") h.2 thread reg size tt (word_line (codes " S r") refl) (word_line (codes " ") refl) h.3 h.4 h.5)
 
 pub script_head_one : (region partitions threads : ℕ) (text : List ℕ) → IsScriptHeadText region partitions threads text → IsOneLine text
 script_head_one region partitions threads text h =
     subst (λ (x : List ℕ). IsOneLine x) (sym h.6)
-    (three_one (codes "script 1 region ") h.0 (codes " partitions ") h.1 (codes " threads ") h.2 region partitions threads
-    (word_one (codes "script 1 region ") refl) (word_one (codes " partitions ") refl) (word_one (codes " threads ") refl) h.3 h.4 h.5)
+    (three_line (codes "script 1 region ") h.0 (codes " partitions ") h.1 (codes " threads ") h.2 region partitions threads
+    (word_line (codes "script 1 region ") refl) (word_line (codes " partitions ") refl) (word_line (codes " threads ") refl) h.3 h.4 h.5)
 
 -- ---- no line of a trace is a resize
 

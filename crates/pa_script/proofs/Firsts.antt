@@ -1,47 +1,26 @@
 -- The first faulty line of a script is one, and the text of a script has none.
 use Rattle.std.proofs.Common.{◌≡◌, ◌∙◌, ℕ, ◌+◌, ◌≤◌, List, [], ◌∷◌, ◌++◌, length, inl, inr, refl, sym, ap, subst, arith}
 use Rattle.std.specs.List.{AllByRecursion}
-use Rattle.std.proofs.lemmas.List.{length_push, length-append, same_from_push}
+use Rattle.std.proofs.lemmas.List.{length_push, length-append}
 use Rattle.pa_trace.specs.declared.fault.TraceFault.{TraceFault}
-use Rattle.pa_trace.specs.declared.fault.TraceFault.TheVariants.{BadLine, Limit, OutOfMemory}
 use Rattle.pa_trace.specs.Limits.{IsHeadWithin}
 use Rattle.pa_trace.specs.Faults.{lines_of, IsFaultOf}
 use Rattle.pa_trace.proofs.Cuts.{no_lines}
 use Rattle.pa_trace.proofs.Behind.{cut_of}
+use Rattle.pa_trace.proofs.Firsts.{no_fault, same_fault, texts_same}
 use Rattle.pa_script.specs.declared.script.Script.{Script}
 use Rattle.pa_script.specs.declared.script.ScriptLine.{ScriptLine}
 use Rattle.pa_script.specs.Grammar.{IsScriptHeadText, IsScriptLineText, AreScriptLinesText}
 use Rattle.pa_script.specs.Limits.{IsScriptLineWithin, IsScriptInput}
 use Rattle.pa_script.specs.Faults.{IsPastScript, IsScriptHeadLine, IsScriptBodyLine, IsBadScriptHead, IsBadScriptLine, IsScriptHeadOverLimit, IsScriptLineOverLimit}
 use Rattle.pa_script.specs.Faults.{IsFirstScriptBehind, IsFirstScriptOf, IsFirstScriptFault}
-use Rattle.pa_cli.proofs.ScriptTexts.{script_line_one, script_head_one, one_script_line, one_script_head}
-
--- ---- the faults of one line
-
--- a line that is in the grammar and the limits and is not past has no fault
-sound : (n : ℕ) (past bad over : Type 0) (e : TraceFault) → (past → ⊥) → (bad → ⊥) → (over → ⊥) → IsFaultOf n past bad over e → ⊥
-sound n past bad over (BadLine m) a b c h = b h.2
-sound n past bad over (Limit m) a b c h = elim h.1 [ inl p ↦ a p | inr o ↦ c o ]
-sound n past bad over OutOfMemory a b c h = h
-
--- a line has one fault
-one_here : (n : ℕ) (past bad over : Type 0) (d e : TraceFault) → (bad → over → ⊥) → IsFaultOf n past bad over d → IsFaultOf n past bad over e → d ≡ e
-one_here n past bad over (BadLine l) (BadLine m) apart h k = ap (λ (x : ℕ). BadLine x) (h.0 ∙ sym k.0)
-one_here n past bad over (BadLine l) (Limit m) apart h k = absurd (elim k.1 [ inl p ↦ h.1 p | inr o ↦ apart h.2 o ])
-one_here n past bad over (BadLine l) OutOfMemory apart h k = absurd k
-one_here n past bad over (Limit l) (BadLine m) apart h k = absurd (elim h.1 [ inl p ↦ k.1 p | inr o ↦ apart k.2 o ])
-one_here n past bad over (Limit l) (Limit m) apart h k = ap (λ (x : ℕ). Limit x) (h.0 ∙ sym k.0)
-one_here n past bad over (Limit l) OutOfMemory apart h k = absurd k
-one_here n past bad over OutOfMemory e apart h k = absurd h
+use Rattle.pa_script.proofs.Texts.{script_line_one, script_head_one, one_script_line, one_script_head}
 
 not_past : (n before : ℕ) (line : List ℕ) → n ≤ 10000 → before + (length line + 1) ≤ 4194304 → IsPastScript n before (line ++ 10 ∷ []) → ⊥
 not_past n before line few short (inl many) = omega arith
 not_past n before line few short (inr long) = omega (arith, length_push line 10)
 
 -- ---- a line is the text of one line
-
-texts_same : (line a b : List ℕ) → line ≡ a ++ 10 ∷ [] → line ≡ b ++ 10 ∷ [] → a ≡ b
-texts_same line a b h k = (same_from_push a b 10 10 (sym h ∙ k)).0
 
 one_body : (k l : ScriptLine) (line : List ℕ) → IsScriptBodyLine k line → IsScriptBodyLine l line → k ≡ l
 one_body k l line h g = one_script_line k l g.0 (subst (λ (x : List ℕ). IsScriptLineText k x) (texts_same line h.0 g.0 h.2 g.2) h.1) g.1
@@ -66,14 +45,14 @@ module _ (partitions threads : ℕ) where
   sound_line : (n before : ℕ) (line : List ℕ) (l : ScriptLine) (e : TraceFault) → IsScriptBodyLine l line → IsScriptLineWithin partitions threads l
       → (IsPastScript n before line → ⊥) → IsFaultOf n (IsPastScript n before line) (IsBadScriptLine line) (IsScriptLineOverLimit partitions threads line) e → ⊥
   sound_line n before line l e body within few h =
-      sound n (IsPastScript n before line) (IsBadScriptLine line) (IsScriptLineOverLimit partitions threads line) e few (λ bad. bad l body)
+      no_fault n (IsPastScript n before line) (IsBadScriptLine line) (IsScriptLineOverLimit partitions threads line) e few (λ bad. bad l body)
       (not_over partitions threads l line body within) h
 
   one_behind : (lines : List (List ℕ)) (n before : ℕ) (d e : TraceFault) → IsFirstScriptBehind partitions threads n before lines d
       → IsFirstScriptBehind partitions threads n before lines e → d ≡ e
   one_behind [] n before d e h k = absurd h
   one_behind (line ∷ lines) n before d e (inl h) (inl k) =
-      one_here n (IsPastScript n before line) (IsBadScriptLine line) (IsScriptLineOverLimit partitions threads line) d e (λ bad over. bad over.0 over.1) h k
+      same_fault n (IsPastScript n before line) (IsBadScriptLine line) (IsScriptLineOverLimit partitions threads line) d e (λ bad over. bad over.0 over.1) h k
   one_behind (line ∷ lines) n before d e (inl h) (inr g) = absurd (sound_line n before line g.0 d g.1 g.2 g.3 h)
   one_behind (line ∷ lines) n before d e (inr g) (inl k) = absurd (sound_line n before line g.0 e g.1 g.2 g.3 k)
   one_behind (line ∷ lines) n before d e (inr g) (inr f) = one_behind lines (n + 1) (before + length line) d e g.4 f.4
@@ -81,12 +60,12 @@ module _ (partitions threads : ℕ) where
 sound_head : (line : List ℕ) (r p t : ℕ) (e : TraceFault) → IsScriptHeadLine r p t line → IsHeadWithin r p t → (IsPastScript 1 0 line → ⊥)
     → IsFaultOf 1 (IsPastScript 1 0 line) (IsBadScriptHead line) (IsScriptHeadOverLimit line) e → ⊥
 sound_head line r p t e head within few h =
-    sound 1 (IsPastScript 1 0 line) (IsBadScriptHead line) (IsScriptHeadOverLimit line) e few (λ bad. bad r p t head) (head_not_over r p t line head within) h
+    no_fault 1 (IsPastScript 1 0 line) (IsBadScriptHead line) (IsScriptHeadOverLimit line) e few (λ bad. bad r p t head) (head_not_over r p t line head within) h
 
 one_of : (lines : List (List ℕ)) (d e : TraceFault) → IsFirstScriptOf lines d → IsFirstScriptOf lines e → d ≡ e
 one_of [] d e h k = h ∙ sym k
 one_of (line ∷ lines) d e (inl h) (inl k) =
-    one_here 1 (IsPastScript 1 0 line) (IsBadScriptHead line) (IsScriptHeadOverLimit line) d e (λ bad over. bad over.0 over.1 over.2 over.3) h k
+    same_fault 1 (IsPastScript 1 0 line) (IsBadScriptHead line) (IsScriptHeadOverLimit line) d e (λ bad over. bad over.0 over.1 over.2 over.3) h k
 one_of (line ∷ lines) d e (inl h) (inr g) = absurd (sound_head line g.0 g.1 g.2 d g.3 g.4 g.5 h)
 one_of (line ∷ lines) d e (inr g) (inl k) = absurd (sound_head line g.0 g.1 g.2 e g.3 g.4 g.5 k)
 one_of (line ∷ lines) d e (inr g) (inr f) =
