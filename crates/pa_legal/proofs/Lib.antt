@@ -10,3 +10,4 @@ pub mod Standing
 pub mod tallies
 pub mod Converse
 pub mod Growing
+pub mod owners

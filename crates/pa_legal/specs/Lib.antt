@@ -3,3 +3,4 @@ pub mod Numbers
 pub mod Kinds
 pub mod Known
 pub mod Tallies
+pub mod Owners

@@ -1,6 +1,7 @@
 ghost use Rattle.pa_legal.specs.Kinds.{OneKind};
 ghost use Rattle.pa_legal.specs.Known.{HoldersFollow, LegalFollows, LegalIsKnown, NewMaps};
 ghost use Rattle.pa_legal.specs.Numbers.{CachedOut, NumbersGrow, OutNone, Unnamed};
+ghost use Rattle.pa_legal.specs.Owners.{HandlesArePut, LegalHasHandles, OwnersFindTheBit};
 ghost use Rattle.pa_legal.specs.Tallies.{TalliesFollow};
 ghost use Rattle.pa_legal.specs.Turns.{HoldersBalance};
 
@@ -61,4 +62,20 @@ pub fn legal_is_known()
 /// The law that a root's numbers go on as its journal grows.
 pub fn numbers_grow()
     ensures { NumbersGrow }
+{}
+
+/// The law that of each legal run all is known of which the next two laws speak.
+pub fn legal_has_handles()
+    ensures { LegalHasHandles }
+{}
+
+/// The law that what a register holds, if it isn't empty, was put there by the last record of its thread that changed it.
+pub fn handles_are_put()
+    ensures { HandlesArePut }
+{}
+
+/// The law that while a thread has the Own of a slot each of its records finds the slot's bit: so whoever finds a slot without it
+/// doesn't own it.
+pub fn owners_find_the_bit()
+    ensures { OwnersFindTheBit }
 {}
