@@ -63,11 +63,16 @@ stay v w c ts free same is = record {
       (λ s. first_word w.words s ≡ first_word v.words s) name_of ts same) is.links;
 }
 
+-- a free title's first word isn't that of another one
+pub starts_apart : (words : ℕ) (v : View) (t u : Title) → IsAware v → IsWellFormed words t → 0 < u.len → 0 < free_of v t → 0 < free_of v u →
+    (t ≡ u → ⊥) → u.start / 8 ≡ t.start / 8 → ⊥
+starts_apart words v t u aware well some has other apart same =
+    let a = well.start_aligned in let b = well.long in
+    apart (aware.apart t u u.start (omega arith) (omega arith) (omega arith, omega arith) (omega arith, omega arith))
+
 pub elsewhere : LinksElsewhere
 elsewhere words v t u link aware well some has other apart =
-    let a = well.start_aligned in let b = well.long in
-    get_or-set_other v.words (t.start / 8) (u.start / 8) link 0
-    (λ same. apart (aware.apart t u u.start (omega arith) (omega arith) (omega arith, omega arith) (omega arith, omega arith)))
+    get_or-set_other v.words (t.start / 8) (u.start / 8) link 0 (starts_apart words v t u aware well some has other apart)
 
 -- so of all titles of a list in which it isn't
 pub all_elsewhere : (words : ℕ) (v : View) (t : Title) (link : ℕ) (ts : List Title) → IsAware v → IsWellFormed words t → 0 < free_of v t →

@@ -20,7 +20,7 @@ use Rattle.pa_region.specs.declared.view.View.{View}
 use Rattle.pa_region.specs.Views.{free_of}
 use Rattle.pa_region.specs.Aware.{IsAware}
 use Rattle.pa_link.specs.declared.chain.ChainParts.{ChainParts}
-use Rattle.pa_link.specs.Chains.{slot_names, IsChain, IsSkipped, after_link, Relinked}
+use Rattle.pa_link.specs.Chains.{slot_names, IsChain, IsSkipped, after_link, Relinked, SameBeside}
 use Rattle.pa_link.proofs.Chains.{Named, all_elsewhere}
 
 -- stores of links: none, and one
@@ -32,6 +32,22 @@ relinked_once t link v has = record {
   rest = refl;
   long = length-set v.words (t.start / 8) link;
   others = λ q free. get_or-set_other v.words (t.start / 8) q link 0 (λ same. free t has (sym same));
+}
+
+-- a store in one of some titles leaves the words beside their first ones
+pub beside_once : (t : Title) (link : ℕ) (v : View) (ts : List Title) → Contains ts t → SameBeside ts v.words (after_link t link v).words
+beside_once t link v ts inside q others = get_or-set_other v.words (t.start / 8) q link 0 (λ same. others t inside (sym same))
+
+-- they leave what is free
+pub free_same : (v w : View) → Relinked v w → (t : Title) → free_of w t ≡ free_of v t
+free_same v w re t = ap (λ (y : View). free_of y t) re.rest
+
+-- more of them after some
+pub relinked_more : (v w x : View) → Relinked v w → Relinked w x → Relinked v x
+relinked_more v w x first next = record {
+  rest = next.rest ∙ ap (λ (y : View). record y { words = x.words; since = record y.since { stored = x.since.stored } }) first.rest;
+  long = next.long ∙ first.long;
+  others = λ q free. next.others q (λ t has. free t (subst (λ n. 0 < n) (free_same v w first t) has)) ∙ first.others q free;
 }
 
 -- what a part of a list has
@@ -191,6 +207,14 @@ pub last_free : (v : View) (c e : ChainParts) (keep : ℕ) (last : Title) (ts : 
 last_free v c e keep last ts is so =
     let P : Title → Type 0 = λ x. 0 < free_of v x in
     All-head P last [] (all_after P so.before (last ∷ []) (all_front P (so.before ++ last ∷ []) so.rest (subst (All P) so.parts is.free)))
+
+-- and no word beside the first one of it is another
+pub cut_beside : (v : View) (c : ChainParts) (keep link : ℕ) (last : Title) (ts : List Title) → IsSkipped v c keep (Some last) ts →
+    SameBeside (take keep ts) v.words (after_link last link v).words
+cut_beside v c keep link last ts so =
+    let first : take keep ts ≡ so.before ++ last ∷ [] = ap (take keep) so.parts ∙ take_at (so.before ++ last ∷ []) so.rest keep so.counted in
+    beside_once last link v (take keep ts) (subst (λ us. Contains us last) (sym first) (Contains-append_right so.before (last ∷ [])
+    last (first_in last [])))
 
 -- what comes off after the last title that was skipped, and what stays
 pub cut_some : (words : ℕ) (v w : View) (c d e : ChainParts) (keep : ℕ) (last : Title) (items ts : List Title) → IsAware v →

@@ -1,5 +1,5 @@
 -- Chains, as contracts see them: the list of titles that a chain has in a view, and what stores of links leave of a view.
-use Rattle.std.specs.Prelude.{◌≡◌, ◌≢◌, ℕ, zero, suc, ◌/◌, ◌^◌, ◌<◌, ◌≤◌, List, [], ◌∷◌, ◌++◌, length, map, true, IsNone, All, AllPairs, Option, Some, None, slice_index, slice_set}
+use Rattle.std.specs.Prelude.{◌≡◌, ◌≢◌, ℕ, zero, suc, ◌/◌, ◌^◌, ◌<◌, ◌≤◌, List, [], ◌∷◌, ◌++◌, length, map, true, IsNone, All, AllPairs, Contains, Option, Some, None, slice_index, slice_set}
 use Rattle.std.specs.Option.{option_to_list}
 use Rattle.pa_machine.specs.declared.title.Title.{Title}
 use Rattle.pa_machine.specs.declared.word.SlotName.{SlotName}
@@ -59,6 +59,10 @@ pub record Relinked (v w : View) : Type 0 where
   pub rest : w ≡ record v { words = w.words; since = record v.since { stored = w.since.stored } }
   pub long : length w.words ≡ length v.words
   pub others : (q : ℕ) → ((t : Title) → 0 < free_of v t → t.start / 8 ≡ q → ⊥) → slice_index w.words q ≡ slice_index v.words q
+
+-- beside the first words of these titles, each word is the same in others
+abbrev pub SameBeside : List Title → List ℕ → List ℕ → Type 0
+SameBeside ts words others = (q : ℕ) → ((t : Title) → Contains ts t → t.start / 8 ≡ q → ⊥) → slice_index others q ≡ slice_index words q
 
 -- a chain's titles are those along the links
 abbrev pub ChainsAreListed : Type 0

@@ -4,7 +4,7 @@ ghost use Rattle.pa_machine.specs.declared.title.Title.{Title};
 ghost use Rattle.pa_machine.specs.Links.{link_to, linked_name, first_word};
 ghost use Rattle.pa_record.specs.Spans.{name_of};
 ghost use Rattle.pa_region.specs.Views.{free_of};
-ghost use Rattle.pa_link.specs.Chains.{IsChain, IsSkipped, Relinked, after_link};
+ghost use Rattle.pa_link.specs.Chains.{IsChain, IsSkipped, Relinked, SameBeside, after_link};
 
 use crate::link::{link_of, load_link, store_link};
 use arrayvec::ArrayVec;
@@ -143,6 +143,7 @@ impl Chain {
         requires chain { (ts : List Title) × IsChain seat.old.view self.old ts }
         ensures region { seat.new.region ≡ seat.old.region }
         ensures relinked { Relinked seat.old.view seat.new.view }
+        ensures beside { (ts : List Title) → IsChain seat.old.view self.old ts → SameBeside (take keep ts) seat.old.view.words seat.new.view.words }
         ensures chain { (ts : List Title) → IsChain seat.old.view self.old ts →
             (result.items ≡ take 16 (drop keep ts)) × IsChain seat.new.view self.new (take keep ts ++ drop (keep + 16) ts) }
         ensures slot_len { self.new.slot_len ≡ self.old.slot_len }

@@ -1,4 +1,4 @@
-use Rattle.std.proofs.Common.{◌≡◌, ◌++◌, ◌+◌, ◌<◌, ◌∙◌, List, Some, None, length, take, drop, ap, subst, sym, arith}
+use Rattle.std.proofs.Common.{◌≡◌, ◌++◌, ◌+◌, ◌<◌, ◌∙◌, List, Some, None, length, take, drop, refl, ap, subst, sym, arith}
 use Rattle.pa_machine.specs.declared.title.Title.{Title}
 use Rattle.pa_machine.specs.Links.{link_to}
 use Rattle.pa_region.specs.declared.view.View.{View}
@@ -6,8 +6,8 @@ use Rattle.pa_region.specs.Views.{free_of}
 use Rattle.pa_region.specs.Aware.{IsAware}
 use Rattle.pa_region.specs.Shares.{Share, byte_word_count}
 use Rattle.pa_link.specs.declared.chain.ChainParts.{ChainParts}
-use Rattle.pa_link.specs.Chains.{IsChain, IsSkipped, Relinked, after_link}
-use Rattle.pa_link.proofs.Gaps.{relinked_none, relinked_once, last_free, cut_some, cut_none}
+use Rattle.pa_link.specs.Chains.{IsChain, IsSkipped, Relinked, SameBeside, after_link}
+use Rattle.pa_link.proofs.Gaps.{relinked_none, relinked_once, last_free, cut_beside, cut_some, cut_none}
 use Rattle.pa_link.proofs.chain.Chain.take_after.Goals as goal
 use Rattle.pa_link.proofs.chain.Chain.take_after.Goals.{in-Some, in-None}
 
@@ -47,6 +47,23 @@ returns-clause-relinked c = elim c.match-last.branch [
       let v = c.args.seat.now.view in
       let seats = w.seat-is ∙ (c.take_front-batch.ensures.seat ∙ c.skip-last.ensures.seat) in
       subst (λ (s : Share). Relinked v s.view) (sym seats) (relinked_none v)
+]
+
+pub returns-clause-beside : goal.returns-clause-beside
+returns-clause-beside c ts is = elim c.match-last.branch [
+  | in-Some w ↦
+      let v = c.args.seat.now.view in
+      let seats = c.take_front-batch.ensures.seat ∙ c.skip-last.ensures.seat in
+      let so = subst (λ o. IsSkipped v c.skip-last.new.chain c.args.keep o ts) w.in-Some.is
+      (c.skip-last.ensures.chain ts (subst (λ p. IsChain v p ts) (sym (c.of_parts-rest.ensures ∙ c.self.view_is)) is)) in
+      let stored = ap (λ (s : Share). s.view) w.seat-is
+      ∙ (w.store_link.ensures.view ∙ ap (λ (s : Share). after_link w.in-Some.last w.link_of.result s.view) seats) in
+      subst (λ (x : View). SameBeside (take c.args.keep ts) v.words x.words) (sym stored)
+      (cut_beside v c.skip-last.new.chain c.args.keep w.link_of.result w.in-Some.last ts so)
+  | in-None w ↦
+      let v = c.args.seat.now.view in
+      let seats = w.seat-is ∙ (c.take_front-batch.ensures.seat ∙ c.skip-last.ensures.seat) in
+      subst (λ (s : Share). SameBeside (take c.args.keep ts) v.words s.view.words) (sym seats) (λ q others. refl)
 ]
 
 pub returns-clause-chain : goal.returns-clause-chain
