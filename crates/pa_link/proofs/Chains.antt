@@ -127,7 +127,7 @@ front_free v c ts name is e =
     let front = front_is v c ts name is e in
     All-head (λ x. 0 < free_of v x) (title_named c.slot_len name) front.0 (subst (All (λ x. 0 < free_of v x)) front.1 is.free)
 
-none_is : (h : Option SlotName) → IsNone h → h ≡ None
+pub none_is : (h : Option SlotName) → IsNone h → h ≡ None
 none_is None none = refl
 none_is (Some s) none = absurd (false≢true (sym none))
 
