@@ -1,13 +1,13 @@
 -- A record that is written: where its words lie, and that they are then the record.
-use Rattle.std.proofs.Common.{◌≡◌, ℕ, ◌+◌, ◌*◌, ◌/◌, ◌%◌, ◌<◌, List, length, ◌∙◌, ap, arith}
-use Rattle.std.proofs.lemmas.List.{get_or-set_same, get_or-set_other, length-set}
-use Rattle.std.specs.Prelude.{slice_index, slice_set}
+use Rattle.std.proofs.Common.{◌≡◌, ℕ, ◌+◌, ◌*◌, ◌/◌, ◌%◌, ◌<◌, length, ◌∙◌, ap, arith}
+use Rattle.std.specs.Prelude.{slice_index}
 use Rattle.pa_machine.specs.Holdings.{RawByte}
 use Rattle.pa_region.specs.declared.view.View.{View}
 use Rattle.pa_region.specs.Views.{held_of_view}
 use Rattle.pa_region.specs.Stores.{HasRawWord}
 use Rattle.pa_spans.specs.declared.span.Span.{Span}
-use Rattle.pa_meta.specs.Meta.{record_byte, record_word, counts_of, slots_of_record, neighbours_of, FitsRecord, AreRecordOf, IsRecordAt, with_record, HasRawRecord, with_word, after_record}
+use Rattle.pa_records.specs.Words.{record_byte, record_word, counts_of, slots_of_record, neighbours_of, AreRecordOf, IsRecordAt}
+use Rattle.pa_meta.specs.Meta.{HasRawRecord, with_word, after_record}
 
 -- where word i of a record lies
 pub aligned : (place : ℕ) → record_byte place % 8 ≡ 0
@@ -43,25 +43,6 @@ written place s v w1 w2 w3 w4 a0 a1 a2 a3 counts slots neighbours p0 p1 p2 p3 is
     let f3 : w3 ≡ with_word (q + 2) (neighbours_of s) (with_word (q + 1) (slots_of_record s) (with_word q (counts_of s) v)) =
     e3 ∙ (ap (λ n. with_word n neighbours w2) (word_at place 2 a2 p2).1 ∙ (ap (λ n. with_word (q + 2) n w2) is2 ∙ ap (with_word (q + 2) (neighbours_of s)) f2)) in
     e4 ∙ (ap (λ n. with_word n s.turn w3) (word_at place 3 a3 p3).1 ∙ ap (with_word (q + 3) s.turn) f3)
-
--- and they read as the span
-pub reads_back : (words : List ℕ) (q : ℕ) (s : Span) → q + 3 < length words → FitsRecord s → IsRecordAt (with_record words q s) q s
-reads_back words q s inside fits =
-    let w0 = slice_set words q (counts_of s) in
-    let w1 = slice_set w0 (q + 1) (slots_of_record s) in
-    let w2 = slice_set w1 (q + 2) (neighbours_of s) in
-    let l0 : length w0 ≡ length words = length-set words q (counts_of s) in
-    let l1 : length w1 ≡ length words = length-set w0 (q + 1) (slots_of_record s) ∙ l0 in
-    let l2 : length w2 ≡ length words = length-set w1 (q + 2) (neighbours_of s) ∙ l1 in
-    record {
-      fits = fits;
-      counts_are = get_or-set_other w2 (q + 3) q s.turn 0 (λ e. omega arith) ∙ (get_or-set_other w1 (q + 2) q (neighbours_of s) 0 (λ e. omega arith)
-          ∙ (get_or-set_other w0 (q + 1) q (slots_of_record s) 0 (λ e. omega arith) ∙ get_or-set_same words q (counts_of s) 0 (omega arith)));
-      slots_are = get_or-set_other w2 (q + 3) (q + 1) s.turn 0 (λ e. omega arith) ∙ (get_or-set_other w1 (q + 2) (q + 1) (neighbours_of s) 0 (λ e. omega arith)
-          ∙ get_or-set_same w0 (q + 1) (slots_of_record s) 0 (omega arith));
-      neighbours_are = get_or-set_other w2 (q + 3) (q + 2) s.turn 0 (λ e. omega arith) ∙ get_or-set_same w1 (q + 2) (neighbours_of s) 0 (omega arith);
-      turn_is = get_or-set_same w2 (q + 3) s.turn 0 (omega arith);
-    }
 
 -- four words that were loaded are those of the record
 pub loaded : (place : ℕ) (v : View) (s : Span) (a0 a1 a2 a3 counts slots neighbours turn : ℕ) →

@@ -1,6 +1,7 @@
 ghost use Rattle.std.specs.Prelude.{◌≡◌};
 ghost use Rattle.pa_spans.specs.declared.span.Span.{Span};
-ghost use Rattle.pa_meta.specs.Meta.{record_word, HasRawRecord, IsRecordAt, after_record};
+ghost use Rattle.pa_records.specs.Words.{record_word, IsRecordAt};
+ghost use Rattle.pa_meta.specs.Meta.{HasRawRecord, after_record};
 
 use crate::numbers::{both, counts, span_in};
 use crate::words::{load_word, record_start, store_word};

@@ -2,7 +2,7 @@ ghost use Rattle.std.specs.Prelude.{◌≡◌, ◌+◌, ◌*◌, ◌^◌, ◌<�
 ghost use Rattle.pa_buckets.specs.declared.spans.State.{State};
 ghost use Rattle.pa_buckets.specs.Limits.{class_count};
 ghost use Rattle.pa_spans.specs.declared.span.Span.{Span};
-ghost use Rattle.pa_meta.specs.Meta.{state_number, AreRecordOf};
+ghost use Rattle.pa_records.specs.Words.{state_number, AreRecordOf};
 
 use pa_buckets::{Class, State};
 use pa_spans::Span;

@@ -1,8 +1,10 @@
 ghost use Rattle.std.specs.Prelude.{◌≡◌, refl};
 ghost use Rattle.std.proofs.Common.{◌∙◌};
-ghost use Rattle.pa_meta.specs.Stores.{spans_in, HasSpanAt, Rerecorded, rerecorded_none, rerecorded_on};
+ghost use Rattle.pa_records.specs.Words.{spans_in};
+ghost use Rattle.pa_meta.specs.Stores.{HasSpanAt, Rerecorded, rerecorded_none, rerecorded_on};
 
 use crate::meta::{read_meta, write_meta};
+use pa_record::SuperPage;
 use pa_region::{Region, Seat};
 use pa_spans::{Span, SpanStore};
 
@@ -12,12 +14,12 @@ use pa_spans::{Span, SpanStore};
 pub struct MetaStore<'a> {
     region: &'a Region,
     seat: &'a mut Seat,
-    supers: &'a [u32],
+    supers: &'a [SuperPage],
 }
 
 impl<'a> MetaStore<'a> {
-    /// The records of these super pages, by their numbers. What it has a span of, `has` of its `SpanStore` says.
-    pub fn new(region: &'a Region, seat: &'a mut Seat, supers: &'a [u32]) -> MetaStore<'a>
+    /// The records of these super pages. What it has a span of, `has` of its `SpanStore` says.
+    pub fn new(region: &'a Region, seat: &'a mut Seat, supers: &'a [SuperPage]) -> MetaStore<'a>
         ensures same_reference { result.seat.ghost_name ≡ seat.entry.ghost_name }
         ensures seat { result.seat.now ≡ seat.old }
         ensures region { result.region.now ≡ region.now }

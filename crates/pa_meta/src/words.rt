@@ -1,6 +1,7 @@
 ghost use Rattle.std.specs.Prelude.{◌≡◌, ◌/◌, ◌%◌, ◌^◌, ◌<◌, slice_index};
 ghost use Rattle.pa_region.specs.Stores.{HasRawWord};
-ghost use Rattle.pa_meta.specs.Meta.{record_byte, with_word};
+ghost use Rattle.pa_records.specs.Words.{record_byte};
+ghost use Rattle.pa_meta.specs.Meta.{with_word};
 
 use pa_layout::{meta_start, page_of, super_page_of};
 use pa_region::{Region, Seat};

@@ -1,7 +1,8 @@
 use Rattle.std.proofs.Common.{◌≡◌, ◌+◌, ◌*◌, ◌/◌, ◌∙◌, ap, sym, subst, arith}
 use Rattle.std.specs.Prelude.{slice_index}
 use Rattle.pa_region.specs.Shares.{Share}
-use Rattle.pa_meta.specs.Meta.{record_byte, HasRawRecord}
+use Rattle.pa_records.specs.Words.{record_byte}
+use Rattle.pa_meta.specs.Meta.{HasRawRecord}
 use Rattle.pa_meta.proofs.Writing.{raw_word, loaded}
 use Rattle.pa_meta.proofs.meta.read_meta.Goals as goal
 

@@ -1,8 +1,10 @@
 use Rattle.std.proofs.Common.{◌≡◌, ◌+◌, ◌*◌, sym, subst, arith}
 use Rattle.pa_region.specs.declared.view.View.{View}
 use Rattle.pa_region.specs.Shares.{byte_word_count}
-use Rattle.pa_meta.specs.Meta.{record_byte, record_word, HasRawRecord, IsRecordAt}
-use Rattle.pa_meta.proofs.Writing.{raw_word, written, reads_back, record_inside}
+use Rattle.pa_records.specs.Words.{record_byte, record_word, IsRecordAt}
+use Rattle.pa_meta.specs.Meta.{HasRawRecord}
+use Rattle.pa_records.proofs.Words.{reads_back}
+use Rattle.pa_meta.proofs.Writing.{raw_word, written, record_inside}
 use Rattle.pa_meta.proofs.meta.write_meta.Goals as goal
 
 pub store_word-requires-clause-able : goal.store_word-requires-clause-able

@@ -1,4 +1,4 @@
-use Rattle.pa_meta.proofs.Decoding.{fields_of, same_span, class_is}
+use Rattle.pa_records.proofs.Decoding.{fields_of, same_span, class_is}
 use Rattle.pa_meta.proofs.numbers.span_in.Goals as goal
 
 pub returns : goal.returns

@@ -1,7 +1,8 @@
 use Rattle.std.proofs.Common.{◌≡◌, ◌∙◌, refl, ap, sym, subst}
 use Rattle.pa_region.specs.Shares.{Share}
-use Rattle.pa_meta.specs.Stores.{spans_in, HasSpanAt, Rerecorded, rerecorded_none}
-use Rattle.pa_meta.proofs.Spans.{span_is}
+use Rattle.pa_records.specs.Words.{spans_in}
+use Rattle.pa_meta.specs.Stores.{HasSpanAt, Rerecorded, rerecorded_none}
+use Rattle.pa_records.proofs.Words.{span_is}
 use Rattle.pa_meta.proofs.store.MetaStoreSpanStore.get.Goals as goal
 
 pub read_meta-requires-clause-region : goal.read_meta-requires-clause-region

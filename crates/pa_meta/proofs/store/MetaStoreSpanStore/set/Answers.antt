@@ -1,8 +1,9 @@
 use Rattle.std.proofs.Common.{◌∙◌, refl, ap, sym, subst}
 use Rattle.pa_region.specs.declared.view.View.{View}
-use Rattle.pa_meta.specs.Meta.{record_word, IsRecordAt}
-use Rattle.pa_meta.specs.Stores.{spans_in, HasSpanAt, Rerecorded}
-use Rattle.pa_meta.proofs.Spans.{spans_written, had_after, rerecorded}
+use Rattle.pa_records.specs.Words.{record_word, IsRecordAt, spans_in}
+use Rattle.pa_meta.specs.Stores.{HasSpanAt, Rerecorded}
+use Rattle.pa_records.proofs.Words.{spans_written}
+use Rattle.pa_meta.proofs.Spans.{had_after, rerecorded}
 use Rattle.pa_meta.proofs.store.MetaStoreSpanStore.set.Goals as goal
 
 pub write_meta-requires-clause-region : goal.write_meta-requires-clause-region

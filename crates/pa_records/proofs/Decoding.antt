@@ -4,7 +4,7 @@ use Rattle.std.specs.Prelude.{IfSome}
 use Rattle.pa_buckets.specs.declared.spans.State.{State}
 use Rattle.pa_buckets.specs.declared.spans.State.TheVariants as state
 use Rattle.pa_spans.specs.declared.span.Span.{Span}
-use Rattle.pa_meta.specs.Meta.{state_number, AreRecordOf}
+use Rattle.pa_records.specs.Words.{state_number, AreRecordOf}
 
 pub state_small : (a : State) → state_number a < 5
 state_small state.None = omega arith
