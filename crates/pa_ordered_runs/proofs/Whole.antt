@@ -175,13 +175,15 @@ files_have_timelines t r limits (legal, order) =
     let lines = records_are_lines.lines t.lines told.entries legal.lines in (
       line_by_line a a.ps,
       record {
-        whole = whole a h;
-        only = only a h;
-        in_order = in_order a h (rises a.ps h.rising (phases_rise t.lines a.ps lines));
-        found = found a h;
-        journals = journals_made a h;
-        pool = pool_asked a h;
-        exchanges = cells_swapped a h;
+        ordered = record {
+          whole = whole a h;
+          only = only a h;
+          in_order = in_order a h (rises a.ps h.rising (phases_rise t.lines a.ps lines));
+          found = found a h;
+          journals = journals_made a h;
+          pool = pool_asked a h;
+          exchanges = cells_swapped a h;
+        };
         reads = reads a h;
       },
     )

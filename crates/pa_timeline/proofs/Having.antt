@@ -161,22 +161,24 @@ pub threads_have_one : ThreadsHaveOne
 threads_have_one report = (
   read_moments,
   record {
-    whole = λ x there. All-contains (λ (x : Played). parts_in x.line read_moments ≡ due_parts (usable_in read_records) 1 (journal_at (one_fill ∷ [])) x) read_records x
-        (All-from_recursion (λ (x : Played). parts_in x.line read_moments ≡ due_parts (usable_in read_records) 1 (journal_at (one_fill ∷ [])) x) read_records
-        (refl, (refl, (refl, (refl, (refl, (refl, tt))))))) there;
-    only = All-from_recursion (λ (m : Moment). Contains read_records m.x) read_moments
-        (has 0 refl, (has 0 refl, (has 0 refl, (has 1 refl, (has 2 refl, (has 3 refl, (has 5 refl, (has 4 refl, (has 5 refl, (has 4 refl, tt))))))))));
-    in_order = turns read_moments refl;
-    found = λ before after m k cut touch is. found_is before m k (passes_after is_found [] read_moments before after m refl cut) touch is;
-    journals = λ p. elim (cases_eq 0 p) [
-      | inl e ↦ subst (λ q. journal_made q read_moments ≡ journal_at (one_fill ∷ []) q) e refl
-      | inr other ↦ rw (ne_eqb 0 p other) (sym (past_one one_fill [] p other))
-    ];
-    pool = refl;
-    exchanges = λ k. elim (cases_eq 0 k) [
-      | inl e ↦ subst (λ q. swap_lines q read_moments ≡ map (λ (d : CellEntry). d.line) (history_at (passed_on 4 6 lower_slot ∷ []) q)) e refl
-      | inr other ↦ rw (ne_eqb 0 k other) (sym (ap (map (λ (d : CellEntry). d.line)) (past_one (passed_on 4 6 lower_slot) [] k other)))
-    ];
+    ordered = record {
+      whole = λ x there. All-contains (λ (x : Played). parts_in x.line read_moments ≡ due_parts (usable_in read_records) 1 (journal_at (one_fill ∷ [])) x) read_records x
+          (All-from_recursion (λ (x : Played). parts_in x.line read_moments ≡ due_parts (usable_in read_records) 1 (journal_at (one_fill ∷ [])) x) read_records
+          (refl, (refl, (refl, (refl, (refl, (refl, tt))))))) there;
+      only = All-from_recursion (λ (m : Moment). Contains read_records m.x) read_moments
+          (has 0 refl, (has 0 refl, (has 0 refl, (has 1 refl, (has 2 refl, (has 3 refl, (has 5 refl, (has 4 refl, (has 5 refl, (has 4 refl, tt))))))))));
+      in_order = turns read_moments refl;
+      found = λ before after m k cut touch is. found_is before m k (passes_after is_found [] read_moments before after m refl cut) touch is;
+      journals = λ p. elim (cases_eq 0 p) [
+        | inl e ↦ subst (λ q. journal_made q read_moments ≡ journal_at (one_fill ∷ []) q) e refl
+        | inr other ↦ rw (ne_eqb 0 p other) (sym (past_one one_fill [] p other))
+      ];
+      pool = refl;
+      exchanges = λ k. elim (cases_eq 0 k) [
+        | inl e ↦ subst (λ q. swap_lines q read_moments ≡ map (λ (d : CellEntry). d.line) (history_at (passed_on 4 6 lower_slot ∷ []) q)) e refl
+        | inr other ↦ rw (ne_eqb 0 k other) (sym (ap (map (λ (d : CellEntry). d.line)) (past_one (passed_on 4 6 lower_slot) [] k other)))
+      ];
+    };
     reads = λ before after m seen place value cut loads gives.
         left_is before m.x.op m.x.answer seen place value (loaded (reads_left before m.x.op m.x.answer) m.part loads (passes_after is_read [] read_moments before after m refl cut)) gives;
   },

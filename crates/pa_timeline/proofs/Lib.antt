@@ -1,3 +1,5 @@
 pub mod Places
 pub mod Having
 pub mod Refused
+pub mod Kept
+pub mod Outlined

@@ -1,11 +1,10 @@
--- Where moments are in a timeline: each step of a record has a place, and lines, numbers and lists say which place comes first.
+-- Where moments are in an order of steps: each step of a record has a place, and lines, numbers and lists say which place comes first.
 use Rattle.std.proofs.Common.{◌≡◌, ◌≢◌, ℕ, zero, suc, ◌+◌, ◌<◌, ◌≤◌, cond, List, [], ◌∷◌, ◌++◌, length, get_or, Option, Some, None, ◌⊎◌, if◌then◌else◌, refl, sym, ◌∙◌, ap, subst, arith, inl, inr, append_assoc}
 use Rattle.std.specs.Prelude.{Contains, AllPairs, filter, ◌==◌}
 use Rattle.std.specs.List.{cons_option, filter_map}
 use Rattle.std.proofs.lemmas.Bool.{cases_lt, cases_eq, eqb-true, eq-eqb, ne_eqb}
 use Rattle.std.proofs.lemmas.List.Elements.{filter_map-append, All-contains}
 use Rattle.std.proofs.lemmas.List.Sums.{sum_by-append}
-use Rattle.pa_machine.specs.declared.word.SlotName.{SlotName}
 use Rattle.pa_machine.specs.Count.{number_of}
 use Rattle.pa_machine.specs.Run.{Mark}
 use Rattle.pa_record.specs.declared.history.CellEntry.{CellEntry}
@@ -17,7 +16,7 @@ use Rattle.pa_rules.specs.Played.{mark_of}
 use Rattle.pa_rules.specs.Order.{StandsBefore}
 use Rattle.pa_rules.specs.Roots.{Journals}
 use Rattle.pa_rules.proofs.Running.{one_by}
-use Rattle.pa_timeline.specs.Timeline.{Part, Moment, due_parts, parts_in, is_counted_on, counted_steps, IsTouch, IsTimeline}
+use Rattle.pa_timeline.specs.Timeline.{Part, Moment, parts_in, is_counted_on, counted_steps, IsTouch, IsStepOrder}
 
 -- the member at a place
 abbrev pub IsAt : {A : Type 0} → List A → ℕ → A → Type 0
@@ -101,16 +100,16 @@ parts_kept line (m ∷ ms) = elim (cases_eq m.x.line line) [
   | inr other ↦ rw (ne_eqb m.x.line line other) (parts_kept line ms)
 ]
 
--- ---- in a timeline
+-- ---- in an order of steps
 
 abbrev pub moment : Played → Part → Moment
 moment x part = record { x = x; part = part }
 
-module _ (usable_at : SlotName → ℕ) (partitions : ℕ) (ps : List Played) (pools : List PoolEntry) (roots : Journals) (cells : ℕ → List CellEntry) (ms : List Moment)
-    (t : IsTimeline usable_at partitions ps pools roots cells ms) where
+module _ (steps : Played → List Part) (ps : List Played) (pools : List PoolEntry) (roots : Journals) (cells : ℕ → List CellEntry) (ms : List Moment)
+    (t : IsStepOrder steps ps pools roots cells ms) where
   -- each step of a record has a place
   pub placed : AllPairs (λ (x y : Played). x.line ≢ y.line) ps → (x : Played) (part : Part) → Contains ps x →
-      Contains (due_parts usable_at partitions roots x) part →
+      Contains (steps x) part →
       (i : ℕ) × IsAt ms i (moment x part)
   placed differ x part there due =
       let here : Contains (parts_in x.line ms) part = subst (λ parts. Contains parts part) (sym (t.whole x there)) due in
@@ -175,7 +174,7 @@ module _ (usable_at : SlotName → ℕ) (partitions : ℕ) (ps : List Played) (p
   ]
 
   -- each moment is a step of a record
-  pub step_of_record : (m : Moment) → Contains ms m → Contains ps m.x × Contains (due_parts usable_at partitions roots m.x) m.part
+  pub step_of_record : (m : Moment) → Contains ms m → Contains ps m.x × Contains (steps m.x) m.part
   step_of_record m among =
       let of : Contains ps m.x = All-contains (λ (z : Moment). Contains ps z.x) ms m t.only among in
       let kept = filter_in (λ (z : Moment). z.x.line == m.x.line) ms m among (eq-eqb m.x.line m.x.line refl) in

@@ -1,4 +1,4 @@
--- Three runs that have no timeline.
+-- Two runs that have no outline, and one that has no timeline.
 use Rattle.std.proofs.Common.{◌≡◌, ℕ, ◌<◌, ◌⊎◌, Bool, true, false, List, [], ◌∷◌, ◌++◌, map, length, get_or, zero, suc, Option, Some, None, refl, sym, ◌∙◌, ap, subst, arith, inl, inr}
 use Rattle.std.specs.Prelude.{Contains, ◌==◌, ◌||◌}
 use Rattle.std.specs.List.{flat_map, list_all}
@@ -22,7 +22,7 @@ use Rattle.pa_rules.specs.Roots.{journal_at}
 use Rattle.pa_rules.specs.Order.{StandsBefore}
 use Rattle.pa_rules.proofs.Numbering.{lines_differ}
 use Rattle.pa_rules.proofs.Running.{one_by}
-use Rattle.pa_timeline.specs.Timeline.{Part, Entering, Swapping, Loading, Counting, Moment, due_parts, part_enters, part_swaps, moment_leaves, changed_to, content_after}
+use Rattle.pa_timeline.specs.Timeline.{Part, Entering, Swapping, Loading, Counting, Moment, due_parts, outline_parts, part_enters, part_swaps, moment_leaves, changed_to, content_after}
 use Rattle.pa_timeline.specs.Worked.{lower_slot, upper_slot, slot_seen, one_fill, two_slots_trace, two_slots_records, TwoSlotsHaveNone, purges_trace, purges_records, purged_in, PurgesHaveNone, early_trace, early_records, ReadBeforeFreeHasNone}
 use Rattle.pa_timeline.proofs.Places.{IsAt, cut_one, in_two, in_three, by_list, part_on, parts_kept, moment, placed, by_line, by_number, step_of_record}
 
@@ -32,22 +32,22 @@ abbrev slots_at : ℕ → Played
 slots_at i = get_or two_slots_records i (record { line = 0; thread = 0; phase = 0; op = ops.Purge; answer = answers.Nothing })
 
 abbrev slots_due : ℕ → List Part
-slots_due i = due_parts (usable_in two_slots_records) 1 (journal_at (one_fill ∷ [])) (slots_at i)
+slots_due i = outline_parts 1 (journal_at (one_fill ∷ [])) (slots_at i)
 
 -- the counted steps on lines 12 to 15
 pub two_slots_have_none : TwoSlotsHaveNone
 two_slots_have_none report (ms, t) =
     let differ = lines_differ two_slots_trace.lines two_slots_records refl in
-    let (i, at_i) = placed _ _ _ _ _ _ ms t differ (slots_at 8) Counting (at_in two_slots_records 8 (slots_at 8) refl) (at_in (slots_due 8) 1 Counting refl) in
-    let (j, at_j) = placed _ _ _ _ _ _ ms t differ (slots_at 9) Counting (at_in two_slots_records 9 (slots_at 9) refl) (at_in (slots_due 9) 1 Counting refl) in
-    let (k, at_k) = placed _ _ _ _ _ _ ms t differ (slots_at 10) Counting (at_in two_slots_records 10 (slots_at 10) refl) (at_in (slots_due 10) 0 Counting refl) in
-    let (l, at_l) = placed _ _ _ _ _ _ ms t differ (slots_at 11) Counting (at_in two_slots_records 11 (slots_at 11) refl) (at_in (slots_due 11) 0 Counting refl) in
-    let a = by_line _ _ _ _ _ _ ms t i j (moment (slots_at 8) Counting) (moment (slots_at 9) Counting) at_i at_j (inl (refl, omega arith)) in
-    let b = by_number _ _ _ _ _ _ ms t j k (moment (slots_at 9) Counting) (moment (slots_at 10) Counting)
+    let (i, at_i) = placed _ _ _ _ _ ms t differ (slots_at 8) Counting (at_in two_slots_records 8 (slots_at 8) refl) (at_in (slots_due 8) 0 Counting refl) in
+    let (j, at_j) = placed _ _ _ _ _ ms t differ (slots_at 9) Counting (at_in two_slots_records 9 (slots_at 9) refl) (at_in (slots_due 9) 0 Counting refl) in
+    let (k, at_k) = placed _ _ _ _ _ ms t differ (slots_at 10) Counting (at_in two_slots_records 10 (slots_at 10) refl) (at_in (slots_due 10) 0 Counting refl) in
+    let (l, at_l) = placed _ _ _ _ _ ms t differ (slots_at 11) Counting (at_in two_slots_records 11 (slots_at 11) refl) (at_in (slots_due 11) 0 Counting refl) in
+    let a = by_line _ _ _ _ _ ms t i j (moment (slots_at 8) Counting) (moment (slots_at 9) Counting) at_i at_j (inl (refl, omega arith)) in
+    let b = by_number _ _ _ _ _ ms t j k (moment (slots_at 9) Counting) (moment (slots_at 10) Counting)
     (mark_at 13 (slot_seen lower_slot 0x2000003) (Some steps.Free)) (mark_at 14 (slot_seen lower_slot 0x3000002) (Some steps.Reset))
     at_j at_k (inr refl) (inr refl) refl refl refl (omega arith) in
-    let c = by_line _ _ _ _ _ _ ms t k l (moment (slots_at 10) Counting) (moment (slots_at 11) Counting) at_k at_l (inl (refl, omega arith)) in
-    let d = by_number _ _ _ _ _ _ ms t l i (moment (slots_at 11) Counting) (moment (slots_at 8) Counting)
+    let c = by_line _ _ _ _ _ ms t k l (moment (slots_at 10) Counting) (moment (slots_at 11) Counting) at_k at_l (inl (refl, omega arith)) in
+    let d = by_number _ _ _ _ _ ms t l i (moment (slots_at 11) Counting) (moment (slots_at 8) Counting)
     (mark_at 15 (slot_seen upper_slot 0x2000003) (Some steps.Reset)) (mark_at 12 (slot_seen upper_slot 0x3000001) (Some steps.Free))
     at_l at_i (inr refl) (inr refl) refl refl refl (omega arith) in
     omega arith
@@ -58,7 +58,7 @@ abbrev purge_at : ℕ → Played
 purge_at i = get_or purges_records i (record { line = 0; thread = 0; phase = 0; op = ops.Purge; answer = answers.Nothing })
 
 abbrev purge_due : ℕ → List Part
-purge_due i = due_parts (usable_in purges_records) 2 (journal_at (purged_in 3 4 2 ∷ purged_in 2 3 4 ∷ [])) (purge_at i)
+purge_due i = outline_parts 2 (journal_at (purged_in 3 4 2 ∷ purged_in 2 3 4 ∷ [])) (purge_at i)
 
 abbrev entered : ℕ → ℕ → Moment
 entered i p = moment (purge_at i) (Entering p Purge)
@@ -69,10 +69,10 @@ entry_line x y e = ap (λ (z : RootEntry). z.line) e
 pub purges_have_none : PurgesHaveNone
 purges_have_none report (ms, t) =
     let differ = lines_differ purges_trace.lines purges_records refl in
-    let (i, at_i) = placed _ _ _ _ _ _ ms t differ (purge_at 2) (Entering 0 Purge) (at_in purges_records 2 (purge_at 2) refl) (at_in (purge_due 2) 0 (Entering 0 Purge) refl) in
-    let (j, at_j) = placed _ _ _ _ _ _ ms t differ (purge_at 0) (Entering 0 Purge) (at_in purges_records 0 (purge_at 0) refl) (at_in (purge_due 0) 0 (Entering 0 Purge) refl) in
-    let (k, at_k) = placed _ _ _ _ _ _ ms t differ (purge_at 0) (Entering 1 Purge) (at_in purges_records 0 (purge_at 0) refl) (at_in (purge_due 0) 1 (Entering 1 Purge) refl) in
-    let (l, at_l) = placed _ _ _ _ _ _ ms t differ (purge_at 1) (Entering 1 Purge) (at_in purges_records 1 (purge_at 1) refl) (at_in (purge_due 1) 1 (Entering 1 Purge) refl) in
+    let (i, at_i) = placed _ _ _ _ _ ms t differ (purge_at 2) (Entering 0 Purge) (at_in purges_records 2 (purge_at 2) refl) (at_in (purge_due 2) 0 (Entering 0 Purge) refl) in
+    let (j, at_j) = placed _ _ _ _ _ ms t differ (purge_at 0) (Entering 0 Purge) (at_in purges_records 0 (purge_at 0) refl) (at_in (purge_due 0) 0 (Entering 0 Purge) refl) in
+    let (k, at_k) = placed _ _ _ _ _ ms t differ (purge_at 0) (Entering 1 Purge) (at_in purges_records 0 (purge_at 0) refl) (at_in (purge_due 0) 1 (Entering 1 Purge) refl) in
+    let (l, at_l) = placed _ _ _ _ _ ms t differ (purge_at 1) (Entering 1 Purge) (at_in purges_records 1 (purge_at 1) refl) (at_in (purge_due 1) 1 (Entering 1 Purge) refl) in
     let a = by_list (λ (m : Moment). part_enters 0 m.x.line m.part) ms i j (entered 2 0) (entered 0 0) (purge 4) (purge 2) at_i at_j refl refl (λ e. let n = entry_line _ _ e in omega arith)
     (λ us vs ws e. elim (in_three (purge 3) (purge 4) (purge 2) (purge 4) (purge 2) us vs ws (sym (t.journals 0) ∙ e)) [
       | inl (first, rest) ↦ let n = entry_line _ _ first in omega arith
@@ -88,7 +88,7 @@ purges_have_none report (ms, t) =
       | inl (first, rest) ↦ let n = entry_line _ _ first in omega arith
       | inr (second, third) ↦ let n = entry_line _ _ third in omega arith
     ]) in
-    let d = by_line _ _ _ _ _ _ ms t l i (entered 1 1) (entered 2 0) at_l at_i (inl (refl, omega arith)) in
+    let d = by_line _ _ _ _ _ ms t l i (entered 1 1) (entered 2 0) at_l at_i (inl (refl, omega arith)) in
     omega arith
 
 -- ---- poison before the free
@@ -140,22 +140,22 @@ before_cut ms us vs m n cut (k, less, is) = (k, subst (λ zs. IsAt zs k m) (sym 
 pub early_has_none : ReadBeforeFreeHasNone
 early_has_none report (ms, t) =
     let differ = lines_differ early_trace.lines early_records refl in
-    let (i, at_i) = placed _ _ _ _ _ _ ms t differ (early_at 4) Loading (at_in early_records 4 (early_at 4) refl) (at_in (early_due (early_at 4)) 1 Loading refl) in
-    let (j, at_j) = placed _ _ _ _ _ _ ms t differ (early_at 5) Swapping (at_in early_records 5 (early_at 5) refl) (at_in (early_due (early_at 5)) 0 Swapping refl) in
-    let (k, at_k) = placed _ _ _ _ _ _ ms t differ (early_at 6) Swapping (at_in early_records 6 (early_at 6) refl) (at_in (early_due (early_at 6)) 0 Swapping refl) in
-    let a = by_line _ _ _ _ _ _ ms t i j (moment (early_at 4) Loading) (moment (early_at 5) Swapping) at_i at_j (inl (refl, omega arith)) in
+    let (i, at_i) = placed _ _ _ _ _ ms t.ordered differ (early_at 4) Loading (at_in early_records 4 (early_at 4) refl) (at_in (early_due (early_at 4)) 1 Loading refl) in
+    let (j, at_j) = placed _ _ _ _ _ ms t.ordered differ (early_at 5) Swapping (at_in early_records 5 (early_at 5) refl) (at_in (early_due (early_at 5)) 0 Swapping refl) in
+    let (k, at_k) = placed _ _ _ _ _ ms t.ordered differ (early_at 6) Swapping (at_in early_records 6 (early_at 6) refl) (at_in (early_due (early_at 6)) 0 Swapping refl) in
+    let a = by_line _ _ _ _ _ ms t.ordered i j (moment (early_at 4) Loading) (moment (early_at 5) Swapping) at_i at_j (inl (refl, omega arith)) in
     let b = by_list (λ (m : Moment). part_swaps 1 m.x.line m.x.op m.part) ms j k (moment (early_at 5) Swapping) (moment (early_at 6) Swapping) 8 9 at_j at_k refl refl (λ e. omega arith)
-    (λ us vs ws e. let (first, second) = in_two 8 9 8 9 us vs ws (sym (t.exchanges 1) ∙ e) in omega arith) in
+    (λ us vs ws e. let (first, second) = in_two 8 9 8 9 us vs ws (sym (t.ordered.exchanges 1) ∙ e) in omega arith) in
     let (us, vs, cut, place) = cut_one ms i (moment (early_at 4) Loading) at_i in
     let zero = content_zero lower_slot us (λ m among.
     let (n, at_n, low) = before_cut ms us vs m (moment (early_at 4) Loading) cut among in
-    let (of, due) = step_of_record _ _ _ _ _ _ ms t m (n, at_n.0, at_n.1) in
+    let (of, due) = step_of_record _ _ _ _ _ ms t.ordered m (n, at_n.0, at_n.1) in
     let there = flat_in (λ x. map (moment x) (early_due x)) early_records m.x m of (map_in (moment m.x) (early_due m.x) m.part due) in
     elim (or_cases (is_clean (moment_leaves lower_slot 0 m)) (m.x.line == 10) (passes is_early early_moments m all_early there)) [
       | inl clean ↦ clean
       | inr last ↦
           let same : m.x ≡ early_at 7 = one_by (λ (y : Played). y.line) early_records m.x (early_at 7) differ of (at_in early_records 7 (early_at 7) refl) (eqb-true m.x.line 10 last) in
-          let c = by_line _ _ _ _ _ _ ms t k n (moment (early_at 6) Swapping) m at_k at_n (subst (λ y. StandsBefore (early_at 6) y) (sym same) (inl (refl, omega arith))) in
+          let c = by_line _ _ _ _ _ ms t.ordered k n (moment (early_at 6) Swapping) m at_k at_n (subst (λ y. StandsBefore (early_at 6) y) (sym same) (inl (refl, omega arith))) in
           absurd (omega arith)
     ]) in
     let read = t.reads us vs (moment (early_at 4) Loading) (slot_seen lower_slot 0x2000003) 0 poison cut refl (refl, inl refl) in

@@ -168,15 +168,14 @@ GivesAt (ops.Read reg word) answer seen place value =
     (word ≡ place) × ((answer ≡ Value seen value) ⊎ (answer ≡ Dangling seen value))
 GivesAt op answer seen place value = ⊥
 
--- The moments are an order in which the run could have been played, one step after another.
+-- The moments are an order in which these steps of the run's records could have been made, one after another.
 --   whole, only: the steps of each record are there once, in their order, and no others
 --   in_order: those of a thread are in the order of its lines, and those of an earlier phase come before those of a later one
 --   found: a look or a counted step finds as many counted steps of its slot before it as its number says
 --   journals, pool, exchanges: entries and exchanges come in the order of their lists
---   reads: a read gives what the moments before it left in its word, which is 0 at first
-pub record IsTimeline (usable_at : SlotName → ℕ) (partitions : ℕ) (ps : List Played) (pools : List PoolEntry) (roots : Journals)
+pub record IsStepOrder (steps : Played → List Part) (ps : List Played) (pools : List PoolEntry) (roots : Journals)
     (cells : ℕ → List CellEntry) (ms : List Moment) : Type 0 where
-  pub whole : (x : Played) → Contains ps x → parts_in x.line ms ≡ due_parts usable_at partitions roots x
+  pub whole : (x : Played) → Contains ps x → parts_in x.line ms ≡ steps x
   pub only : All (λ (m : Moment). Contains ps m.x) ms
   pub in_order : AllPairs (λ (m n : Moment). StandsBefore n.x m.x → ⊥) ms
   pub found : (before after : List Moment) (m : Moment) (k : Mark) → ms ≡ before ++ m ∷ after → IsTouch m.part →
@@ -184,9 +183,29 @@ pub record IsTimeline (usable_at : SlotName → ℕ) (partitions : ℕ) (ps : Li
   pub journals : (p : ℕ) → journal_made p ms ≡ roots p
   pub pool : asked_lines ms ≡ map (λ (e : PoolEntry). e.line) pools
   pub exchanges : (k : ℕ) → swap_lines k ms ≡ map (λ (e : CellEntry). e.line) (cells k)
+
+-- A timeline: the moments are such an order of all steps, and a read gives what the moments before it left in its word, which is 0 at
+-- first.
+pub record IsTimeline (usable_at : SlotName → ℕ) (partitions : ℕ) (ps : List Played) (pools : List PoolEntry) (roots : Journals)
+    (cells : ℕ → List CellEntry) (ms : List Moment) : Type 0 where
+  pub ordered : IsStepOrder (due_parts usable_at partitions roots) ps pools roots cells ms
   pub reads : (before after : List Moment) (m : Moment) (seen : Seen) (place value : ℕ) → ms ≡ before ++ m ∷ after →
       m.part ≡ Loading → GivesAt m.x.op m.x.answer seen place value → value ≡ content_after seen.slot place 0 before
 
 -- a run has a timeline if some moments are one
 abbrev pub HasTimeline : Trace → Told → Type 0
 HasTimeline t r = (ms : List Moment) × IsTimeline (usable_in (records_of t r)) t.partitions (records_of t r) r.pools r.roots r.cells ms
+
+-- ---- the same without contents
+
+-- the steps of a record without the poisonings, as if its slot had no content words
+abbrev pub outline_parts : ℕ → Journals → Played → List Part
+outline_parts partitions roots x = answer_parts 0 x.op (entry_parts partitions roots x.line) x.answer
+
+-- a run has an outline if some moments are such an order of these steps; of what reads gave an outline says nothing
+abbrev pub HasOutline : Trace → Told → Type 0
+HasOutline t r = (ms : List Moment) × IsStepOrder (outline_parts t.partitions r.roots) (records_of t r) r.pools r.roots r.cells ms
+
+-- each run that has a timeline has an outline: the moments without the poisonings
+abbrev pub TimelinesHaveOutlines : Type 0
+TimelinesHaveOutlines = (t : Trace) (r : Told) → HasTimeline t r → HasOutline t r

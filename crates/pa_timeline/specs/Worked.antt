@@ -19,7 +19,7 @@ use Rattle.pa_rules.specs.Played.{entry_of}
 use Rattle.pa_rules.specs.Roots.{journal_at}
 use Rattle.pa_rules.specs.Cells.{history_at}
 use Rattle.pa_rules.specs.Told.{Told}
-use Rattle.pa_timeline.specs.Timeline.{HasTimeline}
+use Rattle.pa_timeline.specs.Timeline.{HasTimeline, HasOutline}
 
 -- what a run has: its records, journals, the pool's entries and the histories of its cells, whatever its report
 abbrev pub told_as : List Played → List (List RootEntry) → List PoolEntry → List (List CellEntry) → List ReportLine → Told
@@ -126,7 +126,7 @@ two_slots_records =
 abbrev pub TwoSlotsHaveNone : Type 0
 TwoSlotsHaveNone =
     (report : List ReportLine) →
-    HasTimeline two_slots_trace
+    HasOutline two_slots_trace
     (told_as two_slots_records (one_fill ∷ []) one_super_page (passed_on 6 9 lower_slot ∷ passed_on 7 10 upper_slot ∷ []) report) →
     ⊥
 
@@ -149,7 +149,7 @@ purged_in i j k = purge i ∷ purge j ∷ purge k ∷ []
 abbrev pub PurgesHaveNone : Type 0
 PurgesHaveNone =
     (report : List ReportLine) →
-    HasTimeline purges_trace (told_as purges_records (purged_in 3 4 2 ∷ purged_in 2 3 4 ∷ []) [] [] report) → ⊥
+    HasOutline purges_trace (told_as purges_records (purged_in 3 4 2 ∷ purged_in 2 3 4 ∷ []) [] [] report) → ⊥
 
 -- ---- poison before the free's line began
 
