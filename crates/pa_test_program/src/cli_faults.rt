@@ -1,5 +1,7 @@
 //! Each read and each write fails in turn, and a text of two threads is cut after each byte.
 use crate::cli::{TEXT, TRACE, words};
+use crate::cli_dangling::FREED_AGAIN;
+use crate::cli_scripts::SCRIPT;
 use pa_cli::{Status, run};
 use pa_io::{MemSink, MemSource};
 use pa_runner::NoGate;
@@ -50,10 +52,13 @@ fn with_read_refused<R: Threads + Wait + Sync>(
 fn each_read_that_fails_leaves_nothing_written(rt: HostRuntime) -> Result<(), Fail> {
     let mut judged = Vec::from_slice(rt.alloc(), TRACE)?;
     judged.extend_from_slice(TEXT)?;
-    let inputs: [(&str, &[u8]); 3] = [
+    let inputs: [(&str, &[u8]); 6] = [
         ("replay", TWO),
         ("model", TWO),
         ("audit", judged.as_slice()),
+        ("dangling", FREED_AGAIN),
+        ("resize", SCRIPT),
+        ("verdicts", SCRIPT),
     ];
     for (command, text) in inputs {
         for number in 0..reads_of(text) {
@@ -66,7 +71,7 @@ fn each_read_that_fails_leaves_nothing_written(rt: HostRuntime) -> Result<(), Fa
     Ok(())
 }
 
-// What was written where each write takes 10 bytes at most, and the one of this number fails.
+// The status and what was written where each write takes 10 bytes at most, and the one of this number fails.
 fn with_write_refused<R: Threads + Wait + Sync>(
     rt: &R,
     alloc: Global,
@@ -81,6 +86,16 @@ fn with_write_refused<R: Threads + Wait + Sync>(
     Ok((status, Vec::from_slice(alloc, sink.written())?))
 }
 
+// The status of a command of which no write fails, and all that it writes.
+pub fn answered<R: Threads + Wait + Sync>(
+    rt: &R,
+    alloc: Global,
+    line: &[&str],
+    text: &[u8],
+) -> Result<(Status, Vec<u8>), Fail> {
+    with_write_refused(rt, alloc, line, text, u64::MAX)
+}
+
 // Each write of a command fails in turn, and what was written before it is there.
 fn writes_fail<R: Threads + Wait + Sync>(
     rt: &R,
@@ -88,7 +103,7 @@ fn writes_fail<R: Threads + Wait + Sync>(
     line: &[&str],
     text: &[u8],
 ) -> Result<(), Fail> {
-    let (_, whole) = with_write_refused(rt, alloc, line, text, 10_000)?;
+    let (_, whole) = answered(rt, alloc, line, text)?;
     let writes = (whole.len() as u64).div_ceil(10);
     if writes == 0 {
         return Err("nothing is written".into());
@@ -109,10 +124,13 @@ fn writes_fail<R: Threads + Wait + Sync>(
 fn each_write_that_fails_leaves_a_first_part(rt: HostRuntime) -> Result<(), Fail> {
     let mut judged = Vec::from_slice(rt.alloc(), TRACE)?;
     judged.extend_from_slice(TEXT)?;
-    let rows: [(&[&str], &[u8]); 7] = [
+    let rows: [(&[&str], &[u8]); 10] = [
         (&["replay"], TRACE),
         (&["model"], TRACE),
         (&["audit"], judged.as_slice()),
+        (&["dangling"], FREED_AGAIN),
+        (&["resize"], SCRIPT),
+        (&["verdicts"], SCRIPT),
         (&["layout", "88"], b""),
         (&["trace", "1", "7"], b""),
         (&["--help"], b""),

@@ -6,10 +6,14 @@ mod cli;
 #[cfg(test)]
 mod cli_audit;
 #[cfg(test)]
+mod cli_dangling;
+#[cfg(test)]
 mod cli_faults;
 #[cfg(test)]
 mod cli_gate;
 #[cfg(test)]
 mod cli_replay;
+#[cfg(test)]
+mod cli_scripts;
 #[cfg(test)]
 mod model;
