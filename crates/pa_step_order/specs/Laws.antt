@@ -1,0 +1,14 @@
+-- What follows of the order of all logs.
+use Rattle.std.specs.Prelude.{List}
+use Rattle.pa_trace.specs.declared.script.Trace.{Trace}
+use Rattle.pa_rules.specs.Told.{Told}
+use Rattle.pa_region.specs.declared.view.View.{View}
+use Rattle.pa_timeline.specs.Timeline.{HasOutline}
+use Rattle.pa_logs.specs.Told.{ToldRecord}
+use Rattle.pa_logs.specs.Said.{LayersSay}
+use Rattle.pa_step_order.specs.Segments.{AreInTheirOrder}
+
+-- If all layers say what they must, and each record's log segment has its steps in their order, then the run has an outline.
+abbrev pub OutlineFollows : Type 0
+OutlineFollows =
+    (t : Trace) (r : Told) (v : View) (ts : List ToldRecord) → LayersSay t r v ts → AreInTheirOrder t.partitions r.roots ts → HasOutline t r

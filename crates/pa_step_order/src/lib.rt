@@ -1,0 +1,6 @@
+//! From the one order of all logs to an order of all steps of the run. Laws alone; nothing here runs.
+#![tactic(auto)]
+
+mod laws;
+
+pub use laws::outline_follows;
