@@ -4,3 +4,6 @@ pub mod Named
 pub mod Moments
 pub mod Looks
 pub mod Found
+pub mod Lists
+pub mod Entered
+pub mod Exchanged
