@@ -58,7 +58,7 @@ with_numbers numbers journal among =
 
 -- ---- one entry of a journal
 
-abbrev enters : ℕ → Moment → Option RootEntry
+abbrev pub enters : ℕ → Moment → Option RootEntry
 enters p m = part_enters p m.x.line m.part
 
 abbrev asks : Moment → Option ℕ
@@ -80,7 +80,7 @@ module _ (ts : List ToldRecord) (all : List Stamped) (ns : List Named) (are : Ar
   entry_of n = n.entry
 
   -- the list of keeper q is what the entries put into it
-  list_named : (q : ℕ) (list : List Made) → list ≡ entered_in q (map (λ (m : Stamped). m.entry) all) → list ≡ entered_in q (map entry_of ns)
+  pub list_named : (q : ℕ) (list : List Made) → list ≡ entered_in q (map (λ (m : Stamped). m.entry) all) → list ≡ entered_in q (map entry_of ns)
   list_named q list is = is ∙ ap (entered_in q) (sym are.entries)
 
   -- an entry is of its record's line
@@ -122,7 +122,7 @@ module _ (ts : List ToldRecord) (all : List Stamped) (ns : List Named) (are : Ar
           ])
     ]
 
-    kept_journal : filter_map (enters p) (moments_in roots ns) ≡ roots p
+    pub kept_journal : filter_map (enters p) (moments_in roots ns) ≡ roots p
     kept_journal =
         let g : Named → Option RootEntry = λ n. option_and_then (enters p) (moment_of roots n) in
         map_one root_numbers (filter_map (enters p) (moments_in roots ns)) (roots p) one_root
@@ -131,7 +131,7 @@ module _ (ts : List ToldRecord) (all : List Stamped) (ns : List Named) (are : Ar
         ∙ sym (entered_flat (λ (m : Made). m.numbers) p ns) ∙ sym (ap (map (λ (m : Made). m.numbers)) named_list) ∙ journal)
 
   -- a journal past the four
-  past_journal : (p : ℕ) → 4 ≤ p → roots p ≡ [] → filter_map (enters p) (moments_in roots ns) ≡ roots p
+  pub past_journal : (p : ℕ) → 4 ≤ p → roots p ≡ [] → filter_map (enters p) (moments_in roots ns) ≡ roots p
   past_journal p past empty = kept_twice (enters p) (moment_of roots) ns ∙ none_kept ns ∙ sym empty
     where
       no_entry : (keeper : ℕ) (numbers : List ℕ) (x : Played) → kept_by (enters p) x (entered_part roots keeper numbers) ≡ None

@@ -7,3 +7,4 @@ pub mod Found
 pub mod Lists
 pub mod Entered
 pub mod Exchanged
+pub mod Whole
