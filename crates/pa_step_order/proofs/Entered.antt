@@ -113,7 +113,7 @@ module _ (ts : List ToldRecord) (all : List Stamped) (ns : List Named) (are : Ar
       | inr (none, no_list) ↦ rw (none, no_list p) refl
       | inl (keeper, made, same) ↦
           let here : Entry → Type 0 = λ e. cons_option (option_map root_numbers (kept_by (enters p) n.x.played (part_of roots n.x.played.answer e))) []
-              ≡ map (λ (m : Made). m.numbers) (entry_in p e) in
+          ≡ map (λ (m : Made). m.numbers) (entry_in p e) in
           subst here (sym same) (elim (cases_eq keeper p) [
             | inl own ↦ subst (λ q. here (Entered q made)) (sym own) (rw (eq-eqb p p refl) (entry_made n made among (same ∙ ap (λ q. Entered q made) own)))
             | inr other ↦

@@ -171,7 +171,8 @@ module _ (sizes : SlotName → ℕ) (ts : List ToldRecord) (told : AreTold sizes
     lesser_before us vs m k within follows touch marked =
         count_before (λ (z : Moment). is_counted_on k.slot z.x z.part) (lesser k) us vs m
         (λ u among. front u among (cases_Bool (is_counted_on k.slot u.x u.part)))
-        (and_false (is_counted_on k.slot m.x m.part) (is_lower (number_of k.found) (mark_of m.x)) (ap (is_lower (number_of k.found)) marked ∙ le-ltb (number_of k.found) (number_of k.found) (omega arith)))
+        (and_false (is_counted_on k.slot m.x m.part) (is_lower (number_of k.found) (mark_of m.x))
+        (ap (is_lower (number_of k.found)) marked ∙ le-ltb (number_of k.found) (number_of k.found) (omega arith)))
         (λ v among. back v among (cases_Bool (is_counted_on k.slot v.x v.part)))
       where
         and_false : (a b : Bool) → b ≡ false → (a && b) ≡ false

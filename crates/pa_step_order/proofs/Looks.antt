@@ -191,5 +191,7 @@ module _ (sizes : SlotName → ℕ) (x : ToldRecord) (told : IsTold sizes x) whe
       look_counts (Some part) looks = refl
   counts_as roots s (Read t place value since owned unclean) among = refl
   counts_as roots s (Added word bytes) among = refl
-  counts_as roots s (Entered keeper made) among = sym (ap (λ b. cond {A = ℕ} b 1 0) (not_counted s (entered_part roots keeper made.numbers) (λ part is touch. entered_no_touch roots keeper made.numbers part is touch)))
+  counts_as roots s (Entered keeper made) among =
+      sym (ap (λ b. cond {A = ℕ} b 1 0)
+      (not_counted s (entered_part roots keeper made.numbers) (λ part is touch. entered_no_touch roots keeper made.numbers part is touch)))
   counts_as roots s (Uncut t) among = refl

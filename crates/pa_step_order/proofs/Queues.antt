@@ -11,7 +11,6 @@ abbrev pub served : {A : Type 0} → ℕ → (ℕ → List A) → ℕ → List A
 served q queues k = cond (eqb k q) (drop 1 (queues k)) (queues k)
 
 module _ {A B : Type 0} (queue_of : B → ℕ) where
-
   -- the next of each turn's queue
   abbrev pub in_turn : (ℕ → List A) → List B → List A
   in_turn queues [] = []
