@@ -1,4 +1,4 @@
--- The tables of the records that filled a slot and of those that freed it, by slot and number.
+-- The tables of the records that filled a slot, of those that made it and of those that freed it, by slot and number.
 use Rattle.std.proofs.Common.{◌≡◌, ℕ, ◌+◌, ◌<◌, false, List, [], ◌∷◌, get_or, length, Option, Some, None, refl, sym, ◌∙◌, ap, subst, arith, inl, inr}
 use Rattle.std.specs.Prelude.{slice_get, Contains}
 use Rattle.std.specs.Ordering.{nat_cmp, is_eq}
@@ -32,7 +32,7 @@ use Rattle.pa_audit_records.proofs.Stepping.{same_place, records_differ}
 use Rattle.pa_rules.proofs.Rising.{rises}
 use Rattle.pa_audit_records.proofs.Walking.{here_is}
 use Rattle.pa_audit_order.specs.declared.numbers.Kind.{Kind}
-use Rattle.pa_audit_order.specs.declared.numbers.Kind.TheVariants.{Fill, Free}
+use Rattle.pa_audit_order.specs.declared.numbers.Kind.TheVariants.{Fill, Issue, Free}
 use Rattle.pa_audit_order.specs.Numbers.{seen_by, DoesAt, IsOneAt, AreByNumber}
 
 -- ---- a map that is ordered, after a key was set
@@ -51,7 +51,7 @@ keys_apart k q apart = elim (cases_lt k q) [
 pub put_key : (f g : ℕ → Option ℕ) (k v : ℕ) → g k ≡ Some v → ((q : ℕ) → is_eq (nat_cmp k q) ≡ false → g q ≡ f q) → Puts f g k v
 put_key f g k v here other = record { here = here; other = λ q apart. other q (keys_apart k q (λ e. apart (sym e))) }
 
--- ---- an op that fills or frees a slot makes a step
+-- ---- an op that fills, makes or frees a slot makes a step
 
 record IsMarked (line : ℕ) (op : Op) (answer : Answer) (seen : Seen) : Type 0 where
   mark : Mark
@@ -74,6 +74,7 @@ marked line op answer a seen p is same = record {
 makes_step : (kind : Kind) (line : ℕ) (op : Op) (answer : Answer) (seen : Seen) → seen_by kind op answer ≡ Some seen → IsMarked line op answer seen
 makes_step Fill line op (Made a usable) seen e = marked line op (Made a usable) a seen steps.Issue refl (of_some a seen e)
 makes_step Fill line (ops.Write reg value) (Done a) seen e = marked line (ops.Write reg value) (Done a) a seen steps.Write refl (of_some a seen e)
+makes_step Issue line op (Made a usable) seen e = marked line op (Made a usable) a seen steps.Issue refl (of_some a seen e)
 makes_step Free line (ops.Free reg) (Done a) seen e = marked line (ops.Free reg) (Done a) a seen steps.Free refl (of_some a seen e)
 makes_step kind line op answer seen e = absurd (not_some seen e)
 

@@ -1,4 +1,4 @@
--- The records that filled a slot, and those that freed it, by the number that they found there.
+-- The records that filled a slot, those that made it and those that freed it, by the number that they found there.
 use Rattle.std.specs.Prelude.{◌≡◌, ℕ, ◌<◌, List, Option, Some, None}
 use Rattle.pa_machine.specs.declared.word.SlotName.{SlotName}
 use Rattle.pa_machine.specs.Count.{number_of}
@@ -11,12 +11,13 @@ use Rattle.pa_rules.specs.declared.played.Played.{Played}
 use Rattle.pa_rules.specs.RecordDemands.{IsRecord}
 use Rattle.pa_audit_records.specs.Keys.{word_key}
 use Rattle.pa_audit_order.specs.declared.numbers.Kind.{Kind}
-use Rattle.pa_audit_order.specs.declared.numbers.Kind.TheVariants.{Fill, Free}
+use Rattle.pa_audit_order.specs.declared.numbers.Kind.TheVariants.{Fill, Issue, Free}
 
--- What a record saw of the slot that it filled, by making it or by a write; of the slot that it freed.
+-- What a record saw of the slot that it filled, by making it or by a write; of the slot that it made; of the slot that it freed.
 abbrev pub seen_by : Kind → Op → Answer → Option Seen
 seen_by Fill op (Made seen usable) = Some seen
 seen_by Fill (ops.Write reg value) (Done seen) = Some seen
+seen_by Issue op (Made seen usable) = Some seen
 seen_by Free (ops.Free reg) (Done seen) = Some seen
 seen_by kind op answer = None
 

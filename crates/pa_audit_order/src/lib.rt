@@ -13,4 +13,5 @@ mod seen;
 
 pub use contents::contents_meet;
 pub use keys::{greatest, key};
+pub use numbers::{Kind, by_number};
 pub use seen::seen_meets;

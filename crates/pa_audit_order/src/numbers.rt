@@ -11,10 +11,14 @@ use pa_trace::Op;
 use std::alloc::Global;
 use std::collections::BTreeMap;
 
-// What records do with a slot's content: fill it, by making the slot or by a write, or free it.
+/// What records do with a slot.
 #[derive(Clone, Copy)]
-pub(crate) enum Kind {
+pub enum Kind {
+    /// They fill it, by making it or by a write.
     Fill,
+    /// They make it.
+    Issue,
+    /// They free it.
     Free,
 }
 
@@ -31,6 +35,10 @@ fn seen_of(kind: Kind, op: Op, answer: Answer) -> Option<Seen>
             },
             _ => None,
         },
+        Kind::Issue => match answer {
+            Answer::Made { seen, .. } => Some(seen),
+            _ => None,
+        },
         Kind::Free => match answer {
             Answer::Done { seen } => match op {
                 Op::Free { .. } => Some(seen),
@@ -41,8 +49,8 @@ fn seen_of(kind: Kind, op: Op, answer: Answer) -> Option<Seen>
     }
 }
 
-// The records that did so, by slot and number.
-pub(crate) fn by_number(
+/// The indices of the records that did so, by the key of the slot and its number. An error means out of memory.
+pub fn by_number(
     alloc: Global,
     records: &[Played],
     kind: Kind,
