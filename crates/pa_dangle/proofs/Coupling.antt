@@ -21,7 +21,7 @@ use Rattle.pa_rules.proofs.Running.{marks_differ}
 use Rattle.pa_audit_records.proofs.Stepping.{records_differ}
 use Rattle.pa_dangle.specs.declared.numbers.Kind.TheVariants.{Issued, Freed}
 use Rattle.pa_dangle.specs.Collected.{IsPairFrom}
-use Rattle.pa_dangle.specs.Origins.{IsOrigin}
+use Rattle.pa_dangle.specs.Origins.{HasOrigin}
 use Rattle.pa_dangle.specs.Pairs.{use_by}
 use Rattle.pa_dangle.specs.Steps.{IsLastStep, NoStepBelow, SawUse}
 use Rattle.pa_dangle.specs.Uses.{IsUseOf, OwnLines}
@@ -84,7 +84,7 @@ pub record Parts (cells : ℕ → List CellEntry) (ps : List Played) (told : Pla
   pub slots : Slots (marks_of ps)
   pub among : Contains ps told
   pub saw : SawUse told seen
-  pub comes : IsOrigin cells ps told origin
+  pub comes : HasOrigin cells ps told origin
 
 pub own_lines : (ps : List Played) → RiseByLine ps → OwnLines (marks_of ps)
 own_lines ps rising = marks_differ ps (records_differ ps rising)

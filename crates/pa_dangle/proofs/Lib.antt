@@ -7,3 +7,4 @@ pub mod Coupling
 pub mod Gathering
 pub mod Leading
 pub mod Giving
+pub mod Copying

@@ -89,7 +89,7 @@ put_none cells ps k reg x y rising at none last =
     let (j, there) = in_at ps y last.among in
     none j y (before ps j k y x rising there at last.before) there last.thread last.puts
 
-copy_not_swap : (y : Played) (k reg : ℕ) → IsCopy y → y.op ≡ ops.Swap k reg → ⊥
+pub copy_not_swap : (y : Played) (k reg : ℕ) → IsCopy y → y.op ≡ ops.Swap k reg → ⊥
 copy_not_swap y k reg (from, to, copy) swap = let e : ops.Copy from to ≡ ops.Swap k reg = sym copy ∙ swap in cc
 
 -- ---- the way back from a record, by its last put

@@ -1,5 +1,6 @@
 -- Where the raw_ptr in a register comes from: the copy that made it, followed back through the cells by which threads handed it over.
-use Rattle.std.specs.Prelude.{◌≡◌, ℕ, ◌+◌, ◌<◌, ◌⊎◌, List, Option, Some, None, Contains, slice_get}
+use Rattle.std.specs.Prelude.{◌≡◌, ℕ, ◌+◌, ◌<◌, List, Option, Some, None, Contains, slice_get}
+use Rattle.pa_machine.specs.Run.{Mark, IsQuarantined}
 use Rattle.pa_trace.specs.declared.script.Op.{Op}
 use Rattle.pa_trace.specs.declared.script.Op.TheVariants as ops
 use Rattle.pa_record.specs.declared.entry.Answer.{Answer}
@@ -8,7 +9,9 @@ use Rattle.pa_record.specs.declared.history.CellEntry.{CellEntry}
 use Rattle.pa_record.specs.declared.history.Held.{Held}
 use Rattle.pa_record.specs.declared.history.Held.TheVariants.{Nothing, Own, Ref}
 use Rattle.pa_rules.specs.declared.played.Played.{Played}
+use Rattle.pa_rules.specs.Played.{mark_of}
 use Rattle.pa_rules.specs.Cells.{IsExchange}
+use Rattle.pa_legal.specs.Owners.{HaveHandles}
 
 -- the register that an op names first
 abbrev pub first_register : Op → Option ℕ
@@ -69,6 +72,11 @@ pub data HasOrigin (cells : ℕ → List CellEntry) (ps : List Played) : Played 
   ByExchange : {x : Played} {line : ℕ} (y z : Played) (reg : ℕ) → first_register x.op ≡ Some reg → IsLastPut cells ps x reg y →
       IsGivenBy cells ps y z → HasOrigin cells ps z line → HasOrigin cells ps x line
 
--- that line, or 0 if the raw_ptr comes from no copy
-abbrev pub IsOrigin : (ℕ → List CellEntry) → List Played → Played → ℕ → Type 0
-IsOrigin cells ps x line = HasOrigin cells ps x line ⊎ (((l : ℕ) → HasOrigin cells ps x l → ⊥) × (line ≡ 0))
+-- What a legal run says of origins.
+--   each: the raw_ptr through which a record used a slot in quarantine has one
+--   one: and no other
+pub record UsesHaveOrigins : Type 0 where
+  pub each : (cells : ℕ → List CellEntry) (ps : List Played) (x : Played) (m : Mark) → HaveHandles cells ps → Contains ps x →
+      mark_of x ≡ Some m → IsQuarantined m.found → (line : ℕ) × HasOrigin cells ps x line
+  pub one : (cells : ℕ → List CellEntry) (ps : List Played) (x : Played) (line other : ℕ) → HaveHandles cells ps →
+      HasOrigin cells ps x line → HasOrigin cells ps x other → line ≡ other

@@ -14,7 +14,7 @@ use Rattle.pa_rules.specs.Played.{mark_of, marks_of}
 use Rattle.pa_dangle.specs.declared.found.Pair.{Pair}
 use Rattle.pa_dangle.specs.declared.found.Use.{Use}
 use Rattle.pa_dangle.specs.declared.found.Use.TheVariants.{Copied, WasReset, WasFreed, Written, WasRead}
-use Rattle.pa_dangle.specs.Origins.{IsOrigin}
+use Rattle.pa_dangle.specs.Origins.{HasOrigin}
 use Rattle.pa_dangle.specs.Uses.{IsUseOf}
 
 -- i is the last issue of the slot below number k
@@ -47,7 +47,7 @@ pub record IsPairOf (cells : ℕ → List CellEntry) (ps : List Played) (f u : M
   pub among : Contains ps played
   pub mark : mark_of played ≡ Some u
   pub how : pair.how ≡ use_by played.op
-  pub origin : IsOrigin cells ps played pair.origin
+  pub origin : HasOrigin cells ps played pair.origin
 
 -- the record is of a free that found raw_ptrs
 abbrev pub keeps_slot : Op → Answer → Bool

@@ -5,8 +5,6 @@ use Rattle.pa_machine.specs.declared.word.Step.{Step}
 use Rattle.pa_machine.specs.declared.word.Step.TheVariants as steps
 use Rattle.pa_machine.specs.Count.{number_of}
 use Rattle.pa_machine.specs.Run.{Mark, IsQuarantined}
-use Rattle.pa_trace.specs.declared.script.Op.{Op}
-use Rattle.pa_trace.specs.declared.script.Op.TheVariants as ops
 use Rattle.pa_record.specs.declared.entry.Seen.{Seen}
 use Rattle.pa_record.specs.declared.entry.Answer.{Answer}
 use Rattle.pa_record.specs.declared.entry.Answer.TheVariants.{Made, Done, Value, Dangling, SecondFree, NotOwner, StaleUse, Shared}
@@ -33,24 +31,11 @@ seen_by_answer (StaleUse seen) = seen
 seen_by_answer (Shared seen) = Some seen
 seen_by_answer answer = None
 
--- the same of an op that made a step of the kind
-abbrev pub step_seen : Kind → Op → Answer → Option Seen
-step_seen Issued op (Made seen usable) = Some seen
-step_seen Freed (ops.Free reg) (Done seen) = Some seen
-step_seen kind op answer = None
-
 -- the record's mark is of what it saw
 pub record IsMarkSeen (x : Played) (seen : Seen) (m : Mark) : Type 0 where
   pub mark : mark_of x ≡ Some m
   pub slot : m.slot ≡ seen.slot
   pub found : m.found ≡ seen.found.0
-
--- the record saw this as it made a step of the kind
-abbrev pub SawStep : Kind → Played → Seen → Type 0
-SawStep kind x seen = (m : Mark) × IsMarkSeen x seen m × (m.step ≡ Some (step_of_kind kind))
-
-abbrev pub NoStep : Kind → Played → Type 0
-NoStep kind x = (m : Mark) → mark_of x ≡ Some m → m.step ≡ Some (step_of_kind kind) → ⊥
 
 -- the table has the steps of the kind that the records before index k made, each by its slot and number
 pub record AreStepsOf (kind : Kind) (ps : List Played) (at : ℕ → Option ℕ) (k : ℕ) : Type 0 where

@@ -8,16 +8,17 @@ ghost use Rattle.pa_rules.specs.Cells.{history_at};
 ghost use Rattle.pa_rules.specs.Played.{mark_of, marks_of};
 ghost use Rattle.pa_rules.specs.RecordDemands.{IsRecord};
 ghost use Rattle.pa_rules.specs.Rising.{RiseByLine};
+ghost use Rattle.pa_legal.specs.Owners.{HaveHandles};
 ghost use Rattle.pa_audit_records.specs.Rows.{IsPlayedWithin};
 ghost use Rattle.pa_dangle.specs.declared.numbers.Kind.TheVariants.{Issued, Freed};
 ghost use Rattle.pa_dangle.specs.Collected.{AreCollected, IsPairFrom, rank_of};
-ghost use Rattle.pa_dangle.specs.Origins.{IsOrigin};
+ghost use Rattle.pa_dangle.specs.Origins.{HasOrigin};
 ghost use Rattle.pa_dangle.specs.Pairs.{AreFound, keeps_slot, use_by};
 ghost use Rattle.pa_dangle.specs.Steps.{seen_by_answer, AreStepsOf, SawUse};
 ghost use Rattle.pa_dangle.specs.Ways.{AreWays};
 
 use crate::found::{Found, Pair, Use};
-use crate::numbers::{Kind, by_number, last_step};
+use crate::numbers::{Kind, last_step, steps_by_number};
 use crate::ways::{Way, origin, ways_of};
 use pa_machine::{OutOfMemory, Word, held, number, refs};
 use pa_record::{Answer, History, Seen};
@@ -122,7 +123,7 @@ fn pair_of(
     requires frees { AreStepsOf Freed records.now (get nat_cmp frees.now) (length records.now) }
     requires told { Contains records.now told }
     requires seen { SawUse told seen }
-    requires origin { IsOrigin (history_at cells.now) records.now told origin }
+    requires origin { HasOrigin (history_at cells.now) records.now told origin }
     ensures some { IfSome result (IsPairFrom (history_at cells.now) records.now told) }
     ensures none { IfNone result ⊥ }
 {
@@ -147,8 +148,7 @@ fn found_at(
     told: Played,
     at: u32,
 ) -> Option<Pair>
-    requires rising { RiseByLine records.now }
-    requires slots { Slots (marks_of records.now) }
+    requires handles { HaveHandles (history_at cells.now) records.now }
     requires issues { AreStepsOf Issued records.now (get nat_cmp issues.now) (length records.now) }
     requires frees { AreStepsOf Freed records.now (get nat_cmp frees.now) (length records.now) }
     requires ways { AreWays (history_at cells.now) records.now ways.old (length records.now) }
@@ -165,13 +165,12 @@ fn found_at(
 // The pairs by the lines of the uses.
 fn collect(alloc: Global, records: &[Played], cells: &[History]) -> Result<Vec<Pair>, OutOfMemory>
     requires few { length records.now < 2 ^ 32 }
-    requires rising { RiseByLine records.now }
     requires within { All IsPlayedWithin records.now }
-    requires slots { Slots (marks_of records.now) }
+    requires handles { HaveHandles (history_at cells.now) records.now }
     ensures { IfOk result (λ pairs. AreCollected (history_at cells.now) records.now pairs.items (length records.now)) }
 {
-    let issues = by_number(alloc, records, Kind::Issued)?;
-    let frees = by_number(alloc, records, Kind::Freed)?;
+    let issues = steps_by_number(alloc, records, Kind::Issued)?;
+    let frees = steps_by_number(alloc, records, Kind::Freed)?;
     let mut ways = ways_of(alloc, records, cells)?;
     let mut pairs = Vec::new(alloc);
     let mut at: u32 = 0;
@@ -209,9 +208,8 @@ pub fn pairs_of(
     left: u128,
 ) -> Result<Found, OutOfMemory>
     requires few { length records.now < 2 ^ 32 }
-    requires rising { RiseByLine records.now }
     requires within { All IsPlayedWithin records.now }
-    requires slots { Slots (marks_of records.now) }
+    requires handles { HaveHandles (history_at cells.now) records.now }
     ensures found { IfOk result (λ f. AreFound (history_at cells.now) records.now f.pairs.items f.freed) }
     ensures left { IfOk result (λ f. f.left ≡ left) }
 {

@@ -1,3 +1,4 @@
+ghost use Rattle.pa_dangle.specs.Origins.{UsesHaveOrigins};
 ghost use Rattle.pa_dangle.specs.Uses.{UsesArePaired};
 ghost use Rattle.pa_dangle.specs.Worked.{WorkedUses};
 
@@ -10,4 +11,9 @@ pub fn uses_are_paired()
 /// In marks that were worked out by hand the uses are those that the definitions give.
 pub fn worked_uses_fit()
     ensures { WorkedUses }
+{}
+
+/// The law that in a legal run each use of a slot in quarantine goes through a `raw_ptr`, which comes from one copy.
+pub fn uses_have_origins()
+    ensures { UsesHaveOrigins }
 {}

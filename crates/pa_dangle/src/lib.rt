@@ -12,6 +12,6 @@ mod ways;
 
 pub use found::{Found, Pair, Use};
 pub use gather::pairs_of;
-pub use laws::{uses_are_paired, worked_uses_fit};
-pub use run::{pairs, pairs_dense};
+pub use laws::{uses_are_paired, uses_have_origins, worked_uses_fit};
+pub use run::pairs_dense;
 pub use text::found_text;

@@ -1,9 +1,8 @@
 ghost use Rattle.std.specs.Prelude.{◌≡◌, IfOk};
-ghost use Rattle.pa_machine.specs.Run.{Slots};
 ghost use Rattle.pa_trace.specs.Limits.{IsWithinLimits};
 ghost use Rattle.pa_rules.specs.Cells.{history_at};
 ghost use Rattle.pa_rules.specs.Legal.{IsLegal};
-ghost use Rattle.pa_rules.specs.Played.{marks_of, played};
+ghost use Rattle.pa_rules.specs.Played.{played};
 ghost use Rattle.pa_dangle.specs.Pairs.{AreFound};
 
 use crate::found::Found;
@@ -11,46 +10,10 @@ use crate::gather::pairs_of;
 use pa_audit_records::{records_are_within, records_of};
 use pa_dense::DenseRun;
 use pa_machine::OutOfMemory;
-use pa_record::{Entry, History, Run};
 use pa_trace::Trace;
 use std::alloc::Global;
 
-// The pairs of these records beside the ops of the trace.
-fn pairs_told(
-    alloc: Global,
-    trace: &Trace,
-    entries: &[Entry],
-    cells: &[History],
-    left: u128,
-) -> Result<Found, OutOfMemory>
-    requires limits { IsWithinLimits trace.now }
-    requires slots { Slots (marks_of (played trace.now.lines entries.now)) }
-    ensures found { IfOk result (λ f. AreFound (history_at cells.now) (played trace.now.lines entries.now) f.pairs.items f.freed) }
-    ensures left { IfOk result (λ f. f.left ≡ left) }
-{
-    let records = records_of(alloc, trace.lines.as_slice(), entries)?;
-    records_are_within();
-    pairs_of(alloc, records.as_slice(), cells, left)
-}
-
 /// The pairs of a run that is legal for the trace; `left` is how many slots are in quarantine at the end, as the last report says.
-pub fn pairs(alloc: Global, trace: &Trace, run: &Run, left: u128) -> Result<Found, OutOfMemory>
-    requires limits { IsWithinLimits trace.now }
-    requires legal { IsLegal trace.now run.now }
-    ensures found { IfOk result (λ f. AreFound (history_at run.now.cells.items) (played trace.now.lines run.now.entries.items)
-        f.pairs.items f.freed) }
-    ensures left { IfOk result (λ f. f.left ≡ left) }
-{
-    pairs_told(
-        alloc,
-        trace,
-        run.entries.as_slice(),
-        run.cells.as_slice(),
-        left,
-    )
-}
-
-/// The same of a run whose journals are kept densely.
 pub fn pairs_dense(
     alloc: Global,
     trace: &Trace,
@@ -63,5 +26,7 @@ pub fn pairs_dense(
         f.pairs.items f.freed) }
     ensures left { IfOk result (λ f. f.left ≡ left) }
 {
-    pairs_told(alloc, trace, run.entries(), run.cells(), left)
+    let records = records_of(alloc, trace.lines.as_slice(), run.entries())?;
+    records_are_within();
+    pairs_of(alloc, records.as_slice(), run.cells(), left)
 }

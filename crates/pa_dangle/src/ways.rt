@@ -6,7 +6,7 @@ ghost use Rattle.pa_rules.specs.Cells.{history_at};
 ghost use Rattle.pa_rules.specs.RecordDemands.{IsRecord};
 ghost use Rattle.pa_rules.specs.Rising.{RiseByLine};
 ghost use Rattle.pa_audit_records.specs.Rows.{IsPlayedWithin};
-ghost use Rattle.pa_dangle.specs.Origins.{first_register, put_held, put_into, HasOrigin, IsOrigin};
+ghost use Rattle.pa_dangle.specs.Origins.{first_register, put_held, put_into, HasOrigin};
 ghost use Rattle.pa_dangle.specs.Ways.{register_key, IsGiverAt, IsWayBack, IsPutFor, AreLastPuts, PutsInto, IsWayOf, AreWays};
 
 use pa_audit_records::{exchange, record_on};
@@ -225,12 +225,13 @@ fn shorten(records: &[Played], cells: &[History], ways: &mut [Way], at: u32, lin
     }
 }
 
-// The line of the copy from which the raw_ptr comes that the record of this index names, or 0 if it comes from none.
+// The line of the copy from which the raw_ptr comes that the record of this index names.
 pub(crate) fn origin(records: &[Played], cells: &[History], ways: &mut [Way], at: u32) -> u32
     requires rising { RiseByLine records.now }
     requires at { at < length records.now }
     requires ways { AreWays (history_at cells.now) records.now ways.old (length records.now) }
-    ensures origin { (x : Played) → IsRecord records.now at x → IsOrigin (history_at cells.now) records.now x result }
+    requires comes { (x : Played) → IsRecord records.now at x → (line : ℕ) × HasOrigin (history_at cells.now) records.now x line }
+    ensures origin { (x : Played) → IsRecord records.now at x → HasOrigin (history_at cells.now) records.now x result }
     ensures ways { AreWays (history_at cells.now) records.now ways.new (length records.now) }
 {
     match end_of(records, cells, ways, at) {
@@ -238,6 +239,6 @@ pub(crate) fn origin(records: &[Played], cells: &[History], ways: &mut [Way], at
             shorten(records, cells, ways, at, line);
             line
         }
-        None => 0,
+        None => unreachable!(),
     }
 }

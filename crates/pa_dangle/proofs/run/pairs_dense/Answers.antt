@@ -1,7 +1,17 @@
-use Rattle.std.proofs.Common.{sym, subst}
-use Rattle.pa_machine.specs.Run.{Slots}
-use Rattle.pa_rules.specs.Played.{marks_of, played}
+use Rattle.std.proofs.Common.{sym, ◌∙◌, ap, subst}
+use Rattle.pa_rules.specs.Cells.{history_at}
+use Rattle.pa_rules.specs.Played.{played}
+use Rattle.pa_rules.specs.Told.{told_by}
+use Rattle.pa_legal.specs.Owners.{HaveHandles}
+use Rattle.pa_legal.proofs.owners.Putting.{legal_has_handles}
 use Rattle.pa_dangle.proofs.run.pairs_dense.Goals as goal
 
-pub pairs_told-requires-clause-slots : goal.pairs_told-requires-clause-slots
-pairs_told-requires-clause-slots c = subst (λ es. Slots (marks_of (played c.args.trace.now.lines es))) (sym c.entries.ensures.entries) c.requires.legal.slots
+pub pairs_of-requires-clause-handles : goal.pairs_of-requires-clause-handles
+pairs_of-requires-clause-handles c =
+    let t = c.args.trace.now in
+    let run = c.args.run.now in
+    let told = c.as_slice-2.ensures.value ∙ c.in_ok-records.ensures.records ∙ ap (λ ls. played ls c.entries.result.now) c.as_slice.ensures
+    ∙ ap (played t.lines) c.entries.ensures.entries in
+    let whole = legal_has_handles t (told_by run) c.requires.legal in
+    subst (λ cs. HaveHandles (history_at cs) c.as_slice-2.result.now) (sym c.cells.ensures.cells)
+    (subst (λ ps. HaveHandles (history_at run.cells.items) ps) (sym told) whole)
