@@ -48,7 +48,7 @@ same_are (m ∷ ms) (n ∷ ns) e =
     let (head, tail) = both_true (eqb m n) (same_numbers ms ns) e in
     same_cons m n ms ns (eqb-true m n head) (same_are ms ns tail)
 
-with_numbers : (numbers : List ℕ) (journal : List RootEntry) → Contains (map root_numbers journal) numbers →
+pub with_numbers : (numbers : List ℕ) (journal : List RootEntry) → Contains (map root_numbers journal) numbers →
     (e : RootEntry) × (entry_with numbers journal ≡ Some e) × (root_numbers e ≡ numbers)
 with_numbers numbers journal among =
     let test : RootEntry → Bool = λ e. same_numbers (root_numbers e) numbers in

@@ -8,3 +8,4 @@ pub mod Lists
 pub mod Entered
 pub mod Exchanged
 pub mod Whole
+pub mod Signing
