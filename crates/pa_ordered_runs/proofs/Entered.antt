@@ -32,7 +32,8 @@ use Rattle.pa_one_run.proofs.placing.CacheRows.{batch_asks_none, purge_asks_none
 use Rattle.pa_one_run.proofs.roots.Asking.{asks_pool, asks_nothing}
 use Rattle.pa_one_run.proofs.rows.Rows.{swap_cases}
 use Rattle.pa_one_run.proofs.rows.Exchanges.{exchange_here, exchange_none, cell_steady}
-use Rattle.pa_ordered_runs.proofs.Pieces.{filter_map_flat, filter_map_map, filter_map_none, map_flat, flat_same, flat_none, in_range, by_lines}
+use Rattle.pa_timeline.proofs.Ranges.{in_range}
+use Rattle.pa_ordered_runs.proofs.Pieces.{filter_map_flat, filter_map_map, filter_map_none, map_flat, flat_same, flat_none, by_lines}
 use Rattle.pa_ordered_runs.proofs.Steps.{moment, steps_in, moments_at, line_by_line, entries_kept, made_kept, done_kept}
 
 -- ---- journals past the partitions

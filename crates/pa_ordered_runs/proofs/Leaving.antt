@@ -18,7 +18,8 @@ use Rattle.pa_rules.specs.declared.played.Played.{Played}
 use Rattle.pa_rules.specs.Played.{mark_of, mark_of_answer, mark_at, look_at}
 use Rattle.pa_timeline.specs.Timeline.{Part, Spoiling, Counting, Moment, entry_parts, answer_parts, is_of_slot, value_left, part_leaves, moment_leaves, changed_to, content_after}
 use Rattle.pa_one_run.specs.Parts.{Parts}
-use Rattle.pa_ordered_runs.proofs.Pieces.{filter_map_pieces, in_range}
+use Rattle.pa_timeline.proofs.Ranges.{in_range}
+use Rattle.pa_ordered_runs.proofs.Pieces.{filter_map_pieces}
 use Rattle.pa_ordered_runs.proofs.Steps.{moment, steps_in, moments_at, line_by_line, no_entries, made_kept, free_kept}
 
 -- ---- a content word after moments

@@ -1,7 +1,7 @@
 -- Lists made piece by piece: where a piece is cut, what a filter keeps of the pieces, and lists in the order of their lines.
-use Rattle.std.proofs.Common.{◌≡◌, ℕ, zero, suc, ◌+◌, ◌<◌, ◌≤◌, ◌⊎◌, List, [], ◌∷◌, ◌++◌, map, drop, get_or, Option, Some, None, refl, sym, ◌∙◌, ap, arith, inl, inr, append_assoc, append-nil}
+use Rattle.std.proofs.Common.{◌≡◌, ℕ, ◌+◌, ◌<◌, ◌≤◌, ◌⊎◌, List, [], ◌∷◌, ◌++◌, map, drop, get_or, Option, Some, None, refl, sym, ◌∙◌, ap, arith, inl, inr, append_assoc}
 use Rattle.std.specs.Prelude.{Contains, AllPairs, filter, nat_le}
-use Rattle.std.specs.List.{cons_option, filter_map, flat_map, range_with_len}
+use Rattle.std.specs.List.{cons_option, filter_map, flat_map}
 use Rattle.std.specs.List.Sorted.{IsNonDecreasingBy}
 use Rattle.std.proofs.lemmas.Bool.{cases_lt, cases_eq, eq-eqb, ne_eqb, le-leb, lt-leb}
 use Rattle.std.proofs.lemmas.List.{map-append}
@@ -90,20 +90,6 @@ option_piece (Some y) ys zs e = ap (λ xs. y ∷ xs) e
 pub filter_map_pieces : {X B : Type 0} (h : X → Option B) (xs : List X) → filter_map h xs ≡ flat_map (λ x. cons_option (h x) []) xs
 filter_map_pieces h [] = refl
 filter_map_pieces h (x ∷ xs) = option_piece (h x) (filter_map h xs) (flat_map (λ y. cons_option (h y) []) xs) (filter_map_pieces h xs)
-
--- ---- one number of a range has a piece
-
--- the range is past it
-past_range : {A : Type 0} (f : ℕ → List A) (p a n : ℕ) → p < a → ((q : ℕ) → (q ≡ p → ⊥) → f q ≡ []) → flat_map f (range_with_len a n) ≡ []
-past_range f p a zero up none = refl
-past_range f p a (suc n) up none = ap (λ ys. ys ++ flat_map f (range_with_len (a + 1) n)) (none a (λ e. omega arith)) ∙ past_range f p (a + 1) n (omega arith) none
-
-pub in_range : {A : Type 0} (f : ℕ → List A) (p a n : ℕ) → a ≤ p → p < a + n → ((q : ℕ) → (q ≡ p → ⊥) → f q ≡ []) → flat_map f (range_with_len a n) ≡ f p
-in_range f p a zero low high none = absurd (omega arith)
-in_range f p a (suc n) low high none = elim (cases_eq a p) [
-  | inl here ↦ ap (λ ys. f a ++ ys) (past_range f p (a + 1) n (omega arith) none) ∙ append-nil (f a) ∙ ap f here
-  | inr other ↦ ap (λ ys. ys ++ flat_map f (range_with_len (a + 1) n)) (none a other) ∙ in_range f p (a + 1) n (omega arith) (omega arith) none
-]
 
 -- ---- lists in the order of their lines
 

@@ -9,3 +9,4 @@ pub mod Entered
 pub mod Exchanged
 pub mod Whole
 pub mod Signing
+pub mod Shaping

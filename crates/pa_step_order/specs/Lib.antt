@@ -1,3 +1,4 @@
 pub mod Segments
 pub mod Signs
+pub mod Shapes
 pub mod Laws

@@ -3,3 +3,4 @@ pub mod Having
 pub mod Refused
 pub mod Kept
 pub mod Outlined
+pub mod Ranges
