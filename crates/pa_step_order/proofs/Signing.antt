@@ -51,7 +51,8 @@ module _ (roots : Journals) (past : (p : ℕ) → 4 ≤ p → roots p ≡ []) wh
       let (e, kept, is) = map_cases (λ (z : RootEntry). z.act) (filter on_line (roots p)) act among in
       let (there, line_is) = filter_cases on_line (roots p) e kept in
       let same : e ≡ it = same_root e it (eqb-true e.line line line_is) is in
-      let listed : Contains (map root_numbers (roots p)) (root_numbers it) = subst (λ (z : RootEntry). Contains (map root_numbers (roots p)) (root_numbers z)) same (map_in root_numbers (roots p) e there) in
+      let listed : Contains (map root_numbers (roots p)) (root_numbers it) =
+      subst (λ (z : RootEntry). Contains (map root_numbers (roots p)) (root_numbers z)) same (map_in root_numbers (roots p) e there) in
       let (f, found, numbers) = with_numbers (root_numbers it) (roots p) listed in
       let one : f ≡ it = one_root f it numbers in
       let small : p < 4 = elim (cases_lt p 4) [
