@@ -1,5 +1,6 @@
 pub mod CacheRows
 pub mod CellSlots
+pub mod ChainCaches
 pub mod ChainRows
 pub mod PoolParts
 pub mod RootNotes

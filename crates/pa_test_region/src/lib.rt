@@ -6,6 +6,8 @@ mod cache;
 #[cfg(test)]
 mod cells;
 #[cfg(test)]
+mod chain_cache;
+#[cfg(test)]
 mod count;
 #[cfg(test)]
 mod heap;

@@ -9,7 +9,7 @@ use pa_region::{Region, Seat, a_cut_leaves_other_bytes, a_new_region_can_be_cut}
 use std::test::Fail;
 
 // The row's slot of this number.
-fn slot(born: u32, number: u32) -> Title
+pub(crate) fn slot(born: u32, number: u32) -> Title
     requires { number < 256 }
     ensures { result ≡ chain_slot born number }
 {
@@ -33,7 +33,7 @@ fn cut_next(region: &Region, seat: &mut Seat, born: u32, count: u32)
 }
 
 // Cuts the row's first slots.
-fn cut_row(region: &Region, seat: &mut Seat, born: u32, count: u32)
+pub(crate) fn cut_row(region: &Region, seat: &mut Seat, born: u32, count: u32)
     requires region { seat.old.region ≡ region.now }
     requires view { seat.old.view ≡ first_view 262144 0 }
     requires few { count ≤ 256 }
