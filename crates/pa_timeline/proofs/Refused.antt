@@ -1,4 +1,4 @@
--- Two runs that have no outline, and one that has no timeline.
+-- Four runs that have no outline, and one that has no timeline.
 use Rattle.std.proofs.Common.{◌≡◌, ℕ, ◌<◌, ◌⊎◌, Bool, true, false, List, [], ◌∷◌, ◌++◌, map, length, get_or, zero, suc, Option, Some, None, refl, sym, ◌∙◌, ap, subst, arith, inl, inr}
 use Rattle.std.specs.Prelude.{Contains, ◌==◌, ◌||◌}
 use Rattle.std.specs.List.{flat_map, list_all}
@@ -22,8 +22,8 @@ use Rattle.pa_rules.specs.Roots.{journal_at}
 use Rattle.pa_rules.specs.Order.{StandsBefore}
 use Rattle.pa_rules.proofs.Numbering.{lines_differ}
 use Rattle.pa_rules.proofs.Running.{one_by}
-use Rattle.pa_timeline.specs.Timeline.{Part, Entering, Swapping, Loading, Counting, Moment, due_parts, outline_parts, part_enters, part_swaps, moment_leaves, changed_to, content_after}
-use Rattle.pa_timeline.specs.Worked.{lower_slot, upper_slot, slot_seen, one_fill, two_slots_trace, two_slots_records, TwoSlotsHaveNone, purges_trace, purges_records, purged_in, PurgesHaveNone, early_trace, early_records, ReadBeforeFreeHasNone}
+use Rattle.pa_timeline.specs.Timeline.{Part, Entering, Swapping, Looking, Loading, Counting, Moment, due_parts, outline_parts, part_enters, part_swaps, moment_leaves, changed_to, content_after}
+use Rattle.pa_timeline.specs.Worked.{lower_slot, upper_slot, slot_seen, one_fill, two_slots_trace, two_slots_records, TwoSlotsHaveNone, purges_trace, purges_records, purged_in, PurgesHaveNone, slot_and_cell_trace, slot_and_cell_records, SlotAndCellHaveNone, journal_and_cell_trace, journal_and_cell_records, JournalAndCellHaveNone, early_trace, early_records, ReadBeforeFreeHasNone}
 use Rattle.pa_timeline.proofs.Places.{IsAt, cut_one, in_two, in_three, by_list, part_on, parts_kept, moment, placed, by_line, by_number, step_of_record}
 
 -- ---- two slots
@@ -89,6 +89,60 @@ purges_have_none report (ms, t) =
       | inr (second, third) ↦ let n = entry_line _ _ third in omega arith
     ]) in
     let d = by_line _ _ _ _ _ ms t l i (entered 1 1) (entered 2 0) at_l at_i (inl (refl, omega arith)) in
+    omega arith
+
+-- ---- an exchange of nothing and a slot
+
+abbrev cell_at : ℕ → Played
+cell_at i = get_or slot_and_cell_records i (record { line = 0; thread = 0; phase = 0; op = ops.Purge; answer = answers.Nothing })
+
+abbrev cell_due : ℕ → List Part
+cell_due i = outline_parts 1 (journal_at (one_fill ∷ [])) (cell_at i)
+
+-- the steps on lines 7 to 10
+pub slot_and_cell_have_none : SlotAndCellHaveNone
+slot_and_cell_have_none report (ms, t) =
+    let differ = lines_differ slot_and_cell_trace.lines slot_and_cell_records refl in
+    let (i, at_i) = placed _ _ _ _ _ ms t differ (cell_at 4) Swapping (at_in slot_and_cell_records 4 (cell_at 4) refl) (at_in (cell_due 4) 0 Swapping refl) in
+    let (j, at_j) = placed _ _ _ _ _ ms t differ (cell_at 5) Counting (at_in slot_and_cell_records 5 (cell_at 5) refl) (at_in (cell_due 5) 0 Counting refl) in
+    let (k, at_k) = placed _ _ _ _ _ ms t differ (cell_at 6) Looking (at_in slot_and_cell_records 6 (cell_at 6) refl) (at_in (cell_due 6) 0 Looking refl) in
+    let (l, at_l) = placed _ _ _ _ _ ms t differ (cell_at 7) Swapping (at_in slot_and_cell_records 7 (cell_at 7) refl) (at_in (cell_due 7) 0 Swapping refl) in
+    let a = by_line _ _ _ _ _ ms t i j (moment (cell_at 4) Swapping) (moment (cell_at 5) Counting) at_i at_j (inl (refl, omega arith)) in
+    let b = by_number _ _ _ _ _ ms t j k (moment (cell_at 5) Counting) (moment (cell_at 6) Looking)
+    (mark_at 8 (slot_seen lower_slot 0x2000003) (Some steps.Copy)) (mark_at 9 (slot_seen lower_slot 0x3000005) None)
+    at_j at_k (inr refl) (inl refl) refl refl refl (omega arith) in
+    let c = by_line _ _ _ _ _ ms t k l (moment (cell_at 6) Looking) (moment (cell_at 7) Swapping) at_k at_l (inl (refl, omega arith)) in
+    let d = by_list (λ (m : Moment). part_swaps 1 m.x.line m.x.op m.part) ms l i (moment (cell_at 7) Swapping) (moment (cell_at 4) Swapping) 10 7 at_l at_i refl refl (λ e. omega arith)
+    (λ us vs ws e. let (first, second) = in_two 10 7 10 7 us vs ws (sym (t.exchanges 1) ∙ e) in omega arith) in
+    omega arith
+
+-- ---- an exchange of nothing and a journal
+
+abbrev purger_at : ℕ → Played
+purger_at i = get_or journal_and_cell_records i (record { line = 0; thread = 0; phase = 0; op = ops.Purge; answer = answers.Nothing })
+
+abbrev purger_due : ℕ → List Part
+purger_due i = outline_parts 1 (journal_at ((purge 3 ∷ purge 4 ∷ []) ∷ [])) (purger_at i)
+
+abbrev purged_at : ℕ → Moment
+purged_at i = moment (purger_at i) (Entering 0 Purge)
+
+pub journal_and_cell_have_none : JournalAndCellHaveNone
+journal_and_cell_have_none report (ms, t) =
+    let differ = lines_differ journal_and_cell_trace.lines journal_and_cell_records refl in
+    let all = journal_and_cell_records in
+    let (i, at_i) = placed _ _ _ _ _ ms t differ (purger_at 0) Swapping (at_in all 0 (purger_at 0) refl) (at_in (purger_due 0) 0 Swapping refl) in
+    let (j, at_j) = placed _ _ _ _ _ ms t differ (purger_at 1) (Entering 0 Purge) (at_in all 1 (purger_at 1) refl) (at_in (purger_due 1) 0 (Entering 0 Purge) refl) in
+    let (k, at_k) = placed _ _ _ _ _ ms t differ (purger_at 2) (Entering 0 Purge) (at_in all 2 (purger_at 2) refl) (at_in (purger_due 2) 0 (Entering 0 Purge) refl) in
+    let (l, at_l) = placed _ _ _ _ _ ms t differ (purger_at 3) Swapping (at_in all 3 (purger_at 3) refl) (at_in (purger_due 3) 0 Swapping refl) in
+    let a = by_line _ _ _ _ _ ms t i j (moment (purger_at 0) Swapping) (purged_at 1) at_i at_j (inl (refl, omega arith)) in
+    let b = by_list (λ (m : Moment). part_enters 0 m.x.line m.part) ms j k (purged_at 1) (purged_at 2) (purge 3) (purge 4) at_j at_k refl refl (λ e. let n = entry_line _ _ e in omega arith)
+    (λ us vs ws e.
+    let (first, second) = in_two (purge 3) (purge 4) (purge 3) (purge 4) us vs ws (sym (t.journals 0) ∙ e) in
+    let n = entry_line _ _ first in omega arith) in
+    let c = by_line _ _ _ _ _ ms t k l (purged_at 2) (moment (purger_at 3) Swapping) at_k at_l (inl (refl, omega arith)) in
+    let d = by_list (λ (m : Moment). part_swaps 0 m.x.line m.x.op m.part) ms l i (moment (purger_at 3) Swapping) (moment (purger_at 0) Swapping) 5 2 at_l at_i refl refl (λ e. omega arith)
+    (λ us vs ws e. let (first, second) = in_two 5 2 5 2 us vs ws (sym (t.exchanges 0) ∙ e) in omega arith) in
     omega arith
 
 -- ---- poison before the free

@@ -1,4 +1,4 @@
--- Small runs of two threads that were worked out by hand: one that has a timeline, and three legal ones that have none.
+-- Small runs of two threads that were worked out by hand: one that has a timeline, and five legal ones that have none.
 use Rattle.std.specs.Prelude.{ℕ, List, [], ◌∷◌, map, Some}
 use Rattle.pa_machine.specs.declared.word.SlotName.{SlotName}
 use Rattle.pa_machine.specs.Titles.{poison}
@@ -150,6 +150,63 @@ abbrev pub PurgesHaveNone : Type 0
 PurgesHaveNone =
     (report : List ReportLine) →
     HasOutline purges_trace (told_as purges_records (purged_in 3 4 2 ∷ purged_in 2 3 4 ∷ []) [] [] report) → ⊥
+
+-- ---- exchanges that give nothing, beside a slot and beside a journal
+
+-- two exchanges that give nothing and find nothing
+abbrev pub emptied_in : ℕ → ℕ → List CellEntry
+emptied_in i j =
+    record { line = i; gave = held.Nothing; found = held.Nothing } ∷ record { line = j; gave = held.Nothing; found = held.Nothing } ∷ []
+
+-- thread 1 reads after the copy of thread 0, and empties cell 1 before thread 0 does, which copies only after that
+abbrev pub slot_and_cell_trace : Trace
+slot_and_cell_trace =
+    trace_as
+    (Do 0 (ops.Alloc 0 0 8)
+    ∷ Do 0 (ops.Copy 0 1)
+    ∷ Do 0 (ops.Swap 0 1)
+    ∷ Phase
+    ∷ Do 1 (ops.Swap 0 0)
+    ∷ Do 0 (ops.Swap 1 9)
+    ∷ Do 0 (ops.Copy 0 2)
+    ∷ Do 1 (ops.Read 0 0)
+    ∷ Do 1 (ops.Swap 1 9)
+    ∷ [])
+
+abbrev pub slot_and_cell_records : List Played
+slot_and_cell_records =
+    record { line = 2; thread = 0; phase = 1; op = ops.Alloc 0 0 8; answer = answers.Made (slot_seen lower_slot 0) 8 }
+    ∷ record { line = 3; thread = 0; phase = 1; op = ops.Copy 0 1; answer = answers.Done (slot_seen lower_slot 0x1000001) }
+    ∷ record { line = 4; thread = 0; phase = 1; op = ops.Swap 0 1; answer = answers.Swapped 0 }
+    ∷ record { line = 6; thread = 1; phase = 2; op = ops.Swap 0 0; answer = answers.Swapped 1 }
+    ∷ record { line = 7; thread = 0; phase = 2; op = ops.Swap 1 9; answer = answers.Swapped 1 }
+    ∷ record { line = 8; thread = 0; phase = 2; op = ops.Copy 0 2; answer = answers.Done (slot_seen lower_slot 0x2000003) }
+    ∷ record { line = 9; thread = 1; phase = 2; op = ops.Read 0 0; answer = answers.Value (slot_seen lower_slot 0x3000005) 0 }
+    ∷ record { line = 10; thread = 1; phase = 2; op = ops.Swap 1 9; answer = answers.Swapped 0 }
+    ∷ []
+
+abbrev pub SlotAndCellHaveNone : Type 0
+SlotAndCellHaveNone =
+    (report : List ReportLine) →
+    HasOutline slot_and_cell_trace
+    (told_as slot_and_cell_records (one_fill ∷ []) one_super_page (passed_on 4 6 lower_slot ∷ emptied_in 10 7 ∷ []) report) → ⊥
+
+-- thread 1 purges after thread 0, and then empties the cell before thread 0 does, which purges only after that
+abbrev pub journal_and_cell_trace : Trace
+journal_and_cell_trace = trace_as (Do 0 (ops.Swap 0 9) ∷ Do 0 ops.Purge ∷ Do 1 ops.Purge ∷ Do 1 (ops.Swap 0 9) ∷ [])
+
+abbrev pub journal_and_cell_records : List Played
+journal_and_cell_records =
+    record { line = 2; thread = 0; phase = 1; op = ops.Swap 0 9; answer = answers.Swapped 1 }
+    ∷ record { line = 3; thread = 0; phase = 1; op = ops.Purge; answer = answers.Purged 0 }
+    ∷ record { line = 4; thread = 1; phase = 1; op = ops.Purge; answer = answers.Purged 0 }
+    ∷ record { line = 5; thread = 1; phase = 1; op = ops.Swap 0 9; answer = answers.Swapped 0 }
+    ∷ []
+
+abbrev pub JournalAndCellHaveNone : Type 0
+JournalAndCellHaveNone =
+    (report : List ReportLine) →
+    HasOutline journal_and_cell_trace (told_as journal_and_cell_records ((purge 3 ∷ purge 4 ∷ []) ∷ []) [] (emptied_in 5 2 ∷ []) report) → ⊥
 
 -- ---- poison before the free's line began
 

@@ -1,5 +1,5 @@
 ghost use Rattle.pa_timeline.specs.Timeline.{TimelinesHaveOutlines};
-ghost use Rattle.pa_timeline.specs.Worked.{PurgesHaveNone, ReadBeforeFreeHasNone, ThreadsHaveOne, TwoSlotsHaveNone};
+ghost use Rattle.pa_timeline.specs.Worked.{JournalAndCellHaveNone, PurgesHaveNone, ReadBeforeFreeHasNone, SlotAndCellHaveNone, ThreadsHaveOne, TwoSlotsHaveNone};
 
 /// A run of two threads, which was worked out by hand, has a timeline: one thread frees a slot while the other reads it, finds the
 /// allocator's bit, and poison.
@@ -20,6 +20,18 @@ pub fn two_slots_have_no_timeline()
 /// A run of two threads that purge two partitions has no outline: the journals have their purges in orders that contradict each other.
 pub fn purges_have_no_timeline()
     ensures { PurgesHaveNone }
+{}
+
+/// A run of two threads has no outline: one looks at a slot after the other's copy and then empties a cell, which the other empties before
+/// its copy; but the cell has the exchange of the one first.
+pub fn slot_and_cell_have_no_timeline()
+    ensures { SlotAndCellHaveNone }
+{}
+
+/// A run of two threads has no outline: each empties a cell and purges, and the cell has their exchanges in an order that contradicts the
+/// journal's.
+pub fn journal_and_cell_have_no_timeline()
+    ensures { JournalAndCellHaveNone }
 {}
 
 /// A run of two threads has no timeline: one reads poison, and hands its raw_ptr to the other, which only then frees the slot.

@@ -5,6 +5,7 @@
 mod laws;
 
 pub use laws::{
-    purges_have_no_timeline, read_before_free_has_no_timeline, threads_have_a_timeline,
-    timelines_have_outlines, two_slots_have_no_timeline,
+    journal_and_cell_have_no_timeline, purges_have_no_timeline, read_before_free_has_no_timeline,
+    slot_and_cell_have_no_timeline, threads_have_a_timeline, timelines_have_outlines,
+    two_slots_have_no_timeline,
 };
