@@ -1,8 +1,8 @@
 -- The log segments of ops have their record's signs, by their shapes.
-use Rattle.std.proofs.Common.{◌≡◌, ℕ, zero, suc, ◌+◌, ◌<◌, ◌≤◌, eqb, List, [], ◌∷◌, ◌++◌, map, flat_map, Option, Some, None, refl, sym, ◌∙◌, ap, subst, arith, inl, inr, append-nil}
+use Rattle.std.proofs.Common.{◌≡◌, ℕ, zero, suc, ◌+◌, ◌<◌, ◌≤◌, eqb, List, [], ◌∷◌, ◌++◌, map, filter, flat_map, Option, Some, None, refl, sym, ◌∙◌, ap, subst, arith, inl, inr, append-nil}
 use Rattle.std.specs.Prelude.{Contains}
 use Rattle.std.specs.List.{cons_option, filter_map, range_with_len}
-use Rattle.std.proofs.lemmas.Bool.{eq-eqb, ne_eqb}
+use Rattle.std.proofs.lemmas.Bool.{cases_eq, cases_lt, eq-eqb, ne_eqb}
 use Rattle.std.proofs.lemmas.List.Elements.{filter_map-append}
 use Rattle.pa_machine.specs.declared.title.Title.{Title}
 use Rattle.pa_machine.specs.declared.word.SlotName.{SlotName}
@@ -17,12 +17,13 @@ use Rattle.pa_record.specs.declared.entry.Seen.{Seen}
 use Rattle.pa_record.specs.declared.entry.Answer.{Answer}
 use Rattle.pa_record.specs.declared.entry.Answer.TheVariants as answers
 use Rattle.pa_record.specs.declared.root.RootAct.{RootAct}
+use Rattle.pa_record.specs.declared.root.RootEntry.{RootEntry}
 use Rattle.pa_record.specs.Root.{asked_by}
 use Rattle.pa_lists.proofs.Members.{not_in_none, first_in, later_in}
 use Rattle.pa_lists.proofs.Elements.{same_cons}
 use Rattle.pa_rules.specs.Played.{step_of}
 use Rattle.pa_rules.specs.Roots.{Journals}
-use Rattle.pa_rules.specs.Caches.{acts_of, NoActs}
+use Rattle.pa_rules.specs.Caches.{acts_of, OnlyActs, NoActs}
 use Rattle.pa_timeline.proofs.Ranges.{in_range}
 use Rattle.pa_logs.specs.Told.{ToldRecord}
 use Rattle.pa_logs.specs.Touches.{title_of, touches, value_by, AreLooks, IsStepTold, IsDoneTold, IsSeenTold, IsToldBy}
@@ -170,6 +171,23 @@ each_signed pieces signs from (suc n) each =
     ∙ ap (λ ys. ys ++ filter_map sign_of (flat_map pieces (range_with_len (from + 1) n))) (each from (omega arith))
     ∙ ap (λ ys. signs from ++ ys) (each_signed pieces signs (from + 1) n (λ p low. each p (omega arith)))
 
+only_signed : (partitions line p : ℕ) (roots : Journals) (acts : List RootAct) → ((q : ℕ) → partitions ≤ q → roots q ≡ []) →
+    OnlyActs roots line p acts → flat_map (act_signs line p) acts ≡ line_signs partitions roots line
+only_signed partitions line p roots acts past only =
+    let piece : ℕ → List Sign = λ q. flat_map (act_signs line q) (acts_of roots line q) in
+    elim (cases_lt p partitions) [
+      | inl low ↦
+          sym (in_range piece p 0 partitions (omega arith) (omega arith) (λ q other. ap (flat_map (act_signs line q)) (only.1 q other))
+          ∙ ap (flat_map (act_signs line p)) only.0)
+      | inr high ↦
+          let none : acts_of roots line p ≡ [] = ap (λ (es : List RootEntry). map (λ (e : RootEntry). e.act) (filter (λ (e : RootEntry). eqb e.line line) es)) (past p high) in
+          let no_acts : NoActs roots line = λ q. elim (cases_eq q p) [
+            | inl same ↦ ap (acts_of roots line) same ∙ none
+            | inr other ↦ only.1 q other
+          ] in
+          ap (flat_map (act_signs line p)) (sym only.0 ∙ none) ∙ sym (no_line_signs line roots no_acts (range_with_len 0 partitions))
+    ]
+
 pub shapes_have_signs : ShapesHaveSigns
 shapes_have_signs = record {
   quiet = λ sizes partitions roots x told none acts no_swap. quiet_signed sizes partitions x.played.line roots acts x.played.op x.played.answer x.stretch told none no_swap;
@@ -179,10 +197,7 @@ shapes_have_signs = record {
       filter_map-append sign_of x.stretch es ∙ ap (λ ys. filter_map sign_of x.stretch ++ ys) (additions_none es are) ∙ append-nil (filter_map sign_of x.stretch) ∙ signs;
   entries = entries_signed;
   asked = asked_signed;
-  only = λ partitions line p roots acts only low.
-      sym (in_range (λ q. flat_map (act_signs line q) (acts_of roots line q)) p 0 partitions (omega arith) (omega arith)
-      (λ q other. ap (flat_map (act_signs line q)) (only.1 q other))
-      ∙ ap (flat_map (act_signs line p)) only.0);
+  only = λ partitions line p roots acts past only. only_signed partitions line p roots acts past only;
   each = λ partitions line roots pieces each.
       each_signed pieces (λ p. flat_map (act_signs line p) (acts_of roots line p)) 0 partitions (λ p low. each p (omega arith));
 }

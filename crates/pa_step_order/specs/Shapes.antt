@@ -1,5 +1,5 @@
 -- The shapes that the log segments of ops have, and the signs of each.
-use Rattle.std.specs.Prelude.{◌≡◌, ℕ, ◌<◌, List, [], ◌∷◌, ◌++◌, map, Option, Some, None, Contains}
+use Rattle.std.specs.Prelude.{◌≡◌, ℕ, ◌<◌, ◌≤◌, List, [], ◌∷◌, ◌++◌, map, Option, Some, None, Contains}
 use Rattle.std.specs.List.{filter_map, flat_map, range_with_len}
 use Rattle.pa_machine.specs.declared.word.SlotName.{SlotName}
 use Rattle.pa_region.specs.declared.view.Entry.{Entry}
@@ -44,8 +44,8 @@ pub record ShapesHaveSigns : Type 0 where
       filter_map sign_of (map (Entered p) ms) ≡ flat_map (act_signs line p) acts
   pub asked : (line p j : ℕ) (act : RootAct) (pool made : Made) → p < most_partitions → made.numbers ≡ numbers_on line act →
       asked_by act ≡ Some j → filter_map sign_of (Entered 4 pool ∷ Entered p made ∷ []) ≡ flat_map (act_signs line p) (act ∷ [])
-  pub only : (partitions line p : ℕ) (roots : Journals) (acts : List RootAct) → OnlyActs roots line p acts → p < partitions →
-      flat_map (act_signs line p) acts ≡ line_signs partitions roots line
+  pub only : (partitions line p : ℕ) (roots : Journals) (acts : List RootAct) → ((q : ℕ) → partitions ≤ q → roots q ≡ []) →
+      OnlyActs roots line p acts → flat_map (act_signs line p) acts ≡ line_signs partitions roots line
   pub each : (partitions line : ℕ) (roots : Journals) (pieces : ℕ → List Entry) →
       ((p : ℕ) → p < partitions → filter_map sign_of (pieces p) ≡ flat_map (act_signs line p) (acts_of roots line p)) →
       filter_map sign_of (flat_map pieces (range_with_len 0 partitions)) ≡ line_signs partitions roots line
