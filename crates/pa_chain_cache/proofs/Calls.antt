@@ -164,8 +164,8 @@ pub record IsSpilled (v w : View) (c d : CacheParts) (keep : ℕ) (items : List 
   pub has : HoldsList w d
   pub beside : SameBeside (list_in w d).titles v.words w.words
 
-pub spilled : (v w : View) (c d : CacheParts) (keep : ℕ) (items : List Title) → IsAware w → KeepsBounds c → HoldsList v c → d.class ≡ c.class →
-    d.chain.slot_len ≡ c.chain.slot_len → Relinked v w → SameBeside (take keep (list_in v c).titles) v.words w.words →
+pub spilled : (v w : View) (c d : CacheParts) (keep : ℕ) (items : List Title) → IsAware w → KeepsBounds c → HoldsList v c →
+    d.class ≡ c.class → d.chain.slot_len ≡ c.chain.slot_len → Relinked v w → SameBeside (take keep (list_in v c).titles) v.words w.words →
     items ≡ batch_after keep (list_in v c).titles → IsChain w d.chain (rest_after keep (list_in v c).titles) → IsSpilled v w c d keep items
 spilled v w c d keep items aware bounds has class size re beside batch chain = record {
   batch = batch;
@@ -175,8 +175,8 @@ spilled v w c d keep items aware bounds has class size re beside batch chain = r
   none = subst (λ us. (us ≡ []) ↔ (length ts ≤ keep)) (sym batch) (none_behind keep ts);
   size = among (λ (t : Title). t.len ≡ slot_of c.class) has.is.sized;
   different = subst (AllPairs ◌≢◌) (sym batch) (pairs_take ◌≢◌ 16 (drop keep ts) (pairs_drop ◌≢◌ keep ts has.is.different));
-  number = among (IsFreeAtItsNumber w) (at_their_numbers w ts aware (λ k e within. subst (λ n. 0 < n) (sym (free_same v w re (get_or ts k e)))
-      (has.chain.free k e within)));
+  number = among (IsFreeAtItsNumber w) (at_their_numbers w ts aware
+      (λ k e within. subst (λ n. 0 < n) (sym (free_same v w re (get_or ts k e))) (has.chain.free k e within)));
   has = now.has;
   beside = λ q none. beside q (λ t inside same. none t (subst (λ us. Contains us t) (sym now.titles) (Contains-append_left (take keep ts)
       (drop (keep + 16) ts) t inside)) same);

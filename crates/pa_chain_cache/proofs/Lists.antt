@@ -33,7 +33,8 @@ pub list_many : (v : View) (c : CacheParts) → (IsNone c.chain.head → c.chain
 list_many v c none = along_many v.words c.chain.slot_len c.chain.len c.chain.head none
 
 -- a seat that has the cache's chain of some titles has its list, and these are it
-pub held : (v : View) (c : CacheParts) (ts : List Title) → KeepsBounds c → IsChain v c.chain ts → HoldsList v c × ((list_in v c).titles ≡ ts)
+pub held : (v : View) (c : CacheParts) (ts : List Title) → KeepsBounds c → IsChain v c.chain ts →
+    HoldsList v c × ((list_in v c).titles ≡ ts)
 held v c ts bounds chain =
     let e = listed v c.chain ts chain in
     let few = bounds.few in let many = chain.many in (
@@ -57,7 +58,8 @@ one_stays : (v w : View) (c : CacheParts) → HoldsList v c →
 one_stays v w c has same =
     let ts = (list_in v c).titles in
     let chain = stay v w c.chain ts (all_from_members (λ t. 0 < free_of w t) ts (λ t inside. (same t inside).0))
-    (all_from_members (λ t. first_word w.words (name_of t) ≡ first_word v.words (name_of t)) ts (λ t inside. (same t inside).1)) has.chain in
+    (all_from_members (λ t. first_word w.words (name_of t) ≡ first_word v.words (name_of t)) ts (λ t inside. (same t inside).1))
+    has.chain in
     let e = listed w c.chain ts chain in (
       record {
         is = subst (λ us. IsCache (record { class = c.class; titles = us })) (sym e) has.is;

@@ -58,4 +58,5 @@ abbrev pub OtherListsStay : Type 0
 OtherListsStay = (v w : View) (cs : List CacheParts) (place : ℕ) (c : CacheParts) → IsAware v → All (HoldsList v) cs →
     HoldsList w c → Relinked v w → SameBeside (list_in w c).titles v.words w.words →
     ((t : Title) → Contains (list_in w c).titles t → (words : ℕ) × IsWellFormed words t) → OthersHaveNone v cs place (list_in w c).titles →
-    All (HoldsList w) (slice_set cs place c) × (map (list_in w) (slice_set cs place c) ≡ slice_set (map (list_in v) cs) place (list_in w c))
+    All (HoldsList w) (slice_set cs place c) ×
+    (map (list_in w) (slice_set cs place c) ≡ slice_set (map (list_in v) cs) place (list_in w c))

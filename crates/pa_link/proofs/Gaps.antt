@@ -212,7 +212,8 @@ last_free v c e keep last ts is so =
 pub cut_beside : (v : View) (c : ChainParts) (keep link : ℕ) (last : Title) (ts : List Title) → IsSkipped v c keep (Some last) ts →
     SameBeside (take keep ts) v.words (after_link last link v).words
 cut_beside v c keep link last ts so =
-    let first : take keep ts ≡ so.before ++ last ∷ [] = ap (take keep) so.parts ∙ take_at (so.before ++ last ∷ []) so.rest keep so.counted in
+    let first : take keep ts ≡ so.before ++ last ∷ [] = ap (take keep) so.parts
+    ∙ take_at (so.before ++ last ∷ []) so.rest keep so.counted in
     beside_once last link v (take keep ts) (subst (λ us. Contains us last) (sym first) (Contains-append_right so.before (last ∷ [])
     last (first_in last [])))
 

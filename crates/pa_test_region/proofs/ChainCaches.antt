@@ -9,6 +9,7 @@ use Rattle.pa_cache.specs.Caches.{CacheList}
 use Rattle.pa_chain_cache.specs.Caches.{CacheParts, HoldsList, list_in}
 use Rattle.pa_test_region.specs.ChainRows.{chain_slot, IsRowOf}
 use Rattle.pa_test_region.specs.ChainCaches.{ArePaired, AreRowCached}
+use Rattle.pa_test_region.proofs.ChainRows.{row_relinked}
 
 -- caches whose lists are one are a pair
 pair : (v : View) (c : CacheList) (d : CacheParts) → HoldsList v d → d.class ≡ c.class → (list_in v d).titles ≡ c.titles → ArePaired v c d
@@ -16,14 +17,6 @@ pair v c d has class titles = record {
   has = has;
   same = ap (λ n. record { class = n; titles = (list_in v d).titles }) class ∙ ap (λ ts. record { class = c.class; titles = ts }) titles;
 }
-
--- stores of links leave what is cut, and what can be
-row_relinked : (v w : View) → Relinked v w → IsRowOf 0 65 v → IsRowOf 0 65 w
-row_relinked v w re row = subst (IsRowOf 0 65) (sym re.rest) (record {
-  free = row.free;
-  can = λ k low high. let it = row.can k low high in record { start_aligned = it.start_aligned; len_aligned = it.len_aligned; long = it.long; floors = it.floors };
-  stakes = row.stakes;
-})
 
 -- both are empty
 pub row_none : (v : View) (c : CacheList) (d : CacheParts) → IsRowOf 0 65 v → c ≡ record { class = 0; titles = [] } → ArePaired v c d →
@@ -38,11 +31,11 @@ row_none v c d row e paired = record {
 }
 
 -- one more in both
-pub row_next : (n : ℕ) (v w : View) (c x : CacheList) (d y : CacheParts) (t : Title) → AreRowCached n v c d → t ≡ chain_slot 0 n → Relinked v w →
-    x.class ≡ c.class → x.titles ≡ t ∷ c.titles → HoldsList w y → y.class ≡ d.class →
+pub row_next : (n : ℕ) (v w : View) (c x : CacheList) (d y : CacheParts) (t : Title) → AreRowCached n v c d → t ≡ chain_slot 0 n →
+    Relinked v w → x.class ≡ c.class → x.titles ≡ t ∷ c.titles → HoldsList w y → y.class ≡ d.class →
     (list_in w y).titles ≡ t ∷ (list_in v d).titles → AreRowCached (n + 1) w x y
 row_next n v w c x d y t row is re class titles has same front = record {
-  row = row_relinked v w re row.row;
+  row = row_relinked 0 65 v w re row.row;
   paired = pair w x y has (same ∙ (ap (λ (s : CacheList). s.class) row.paired.same ∙ sym class))
       (front ∙ (ap (λ (s : CacheList). t ∷ s.titles) row.paired.same ∙ sym titles));
   class = class ∙ row.class;

@@ -15,7 +15,8 @@ use Rattle.pa_region.specs.CutTells.{FirstCanCut, CutLeavesOthers}
 use Rattle.pa_region.specs.Start.{first_view}
 use Rattle.pa_region.proofs.FirstLists.{stake_count}
 use Rattle.pa_link.specs.declared.chain.ChainParts.{ChainParts}
-use Rattle.pa_link.specs.Chains.{IsChain, after_link}
+use Rattle.pa_link.specs.Chains.{IsChain, Relinked, after_link}
+use Rattle.pa_link.proofs.Gaps.{relinked_once}
 use Rattle.pa_test_region.specs.ChainRows.{chain_slot, IsRowOf, IsRowChained}
 
 -- a new region's seat has every stake
@@ -78,13 +79,15 @@ chained_none born n from v c le row e = subst (IsRowChained born n from v) (sym 
   later = All-nil (λ (t : Title). 16384 + 16 * from ≤ t.start);
 })
 
--- a link that is stored leaves what was cut, and what can be
-row_stays : (born n link : ℕ) (t : Title) (v : View) → IsRowOf born n v → IsRowOf born n (after_link t link v)
-row_stays born n link t v row = record {
+-- stores of links leave what was cut, and what can be
+pub row_relinked : (born n : ℕ) (v w : View) → Relinked v w → IsRowOf born n v → IsRowOf born n w
+row_relinked born n v w re row = subst (IsRowOf born n) (sym re.rest) (record {
   free = row.free;
-  can = λ k low high. let it = row.can k low high in record { start_aligned = it.start_aligned; len_aligned = it.len_aligned; long = it.long; floors = it.floors };
+  can = λ k low high.
+      let it = row.can k low high in
+      record { start_aligned = it.start_aligned; len_aligned = it.len_aligned; long = it.long; floors = it.floors };
   stakes = row.stakes;
-}
+})
 
 -- the slot before those of the chain isn't in it
 pub row_new : (born n from : ℕ) (v : View) (c : ChainParts) (row : IsRowChained born n (from + 1) v c) →
@@ -100,7 +103,9 @@ pub row_pushed : (born n from link : ℕ) (v w : View) (c d : ChainParts) → Is
     ((ts : List Title) → IsChain v c ts → (Contains ts (chain_slot born from) → ⊥) → IsChain w d (chain_slot born from ∷ ts)) →
     d.len ≡ c.len + 1 → d.slot_len ≡ c.slot_len → IsRowChained born n from w d
 row_pushed born n from link v w c d row e push len size = record {
-  row = subst (IsRowOf born n) (sym e) (row_stays born n link (chain_slot born from) v row.row);
+  row =
+      let f = row.few in
+      row_relinked born n v w (subst (Relinked v) (sym e) (relinked_once (chain_slot born from) link v (row.row.free from (omega arith)))) row.row;
   size = size ∙ row.size;
   few = let f = row.few in omega arith;
   titles = chain_slot born from ∷ row.titles;

@@ -10,10 +10,17 @@ use pa_region::{Region, Seat};
 use std::test::Fail;
 
 type Listed = pa_cache::Cache;
+
 type Chained = pa_chain_cache::Cache;
 
 // Puts the row's slot of this number in front of both.
-fn push_both(region: &Region, seat: &mut Seat, listed: &mut Listed, chained: &mut Chained, number: u32)
+fn push_both(
+    region: &Region,
+    seat: &mut Seat,
+    listed: &mut Listed,
+    chained: &mut Chained,
+    number: u32,
+)
     requires region { seat.old.region ≡ region.now }
     requires row { AreRowCached number seat.old.view listed.old chained.old }
     requires few { number < 65 }
@@ -40,7 +47,13 @@ fn fill_both(region: &Region, seat: &mut Seat, listed: &mut Listed, chained: &mu
 }
 
 // Whether both spill the same titles.
-fn spill_alike(region: &Region, seat: &mut Seat, listed: &mut Listed, chained: &mut Chained, keep: u32) -> bool
+fn spill_alike(
+    region: &Region,
+    seat: &mut Seat,
+    listed: &mut Listed,
+    chained: &mut Chained,
+    keep: u32,
+) -> bool
     requires region { seat.old.region ≡ region.now }
     requires paired { ArePaired seat.old.view listed.old chained.old }
     ensures region { seat.new.region ≡ region.now }
@@ -52,7 +65,13 @@ fn spill_alike(region: &Region, seat: &mut Seat, listed: &mut Listed, chained: &
 }
 
 // Whether so many pops of both give the same titles.
-fn pop_alike(region: &Region, seat: &mut Seat, listed: &mut Listed, chained: &mut Chained, times: u32) -> bool
+fn pop_alike(
+    region: &Region,
+    seat: &mut Seat,
+    listed: &mut Listed,
+    chained: &mut Chained,
+    times: u32,
+) -> bool
     requires region { seat.old.region ≡ region.now }
     requires paired { ArePaired seat.old.view listed.old chained.old }
     ensures region { seat.new.region ≡ region.now }

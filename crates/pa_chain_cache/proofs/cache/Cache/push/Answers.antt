@@ -12,7 +12,8 @@ returns c =
     let new : CacheParts = record { class = c.self.inside.class; chain = c.push.new.self } in
     let old : CacheParts = record { class = c.self.inside.class; chain = c.self.inside.chain } in
     let has = subst (HoldsList v) (sym {A = CacheParts} c.self.view_is) c.requires.list in
-    let few = subst (λ (s : CacheParts). length (list_in v s).titles ≤ limit_of s.class) (sym {A = CacheParts} c.self.view_is) c.requires.few in
+    let few = subst (λ (s : CacheParts). length (list_in v s).titles ≤ limit_of s.class) (sym {A = CacheParts} c.self.view_is)
+    c.requires.few in
     let fresh = subst (λ (s : CacheParts). Contains (list_in v s).titles t → ⊥) (sym {A = CacheParts} c.self.view_is) c.requires.new in
     let it = subst (λ (s : CacheParts). IsPushed v w s new t) c.self.view_is
     (pushed v w old new t (link_to c.self.inside.chain.head) c.self.invariant has refl c.push.ensures.slot_len few c.requires.able
