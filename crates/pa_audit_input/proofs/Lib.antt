@@ -5,3 +5,4 @@ pub mod Early
 pub mod Passing
 pub mod Counting
 pub mod Failing
+pub mod Together

@@ -7,4 +7,5 @@ mod parts;
 mod run_part;
 
 pub use judging::{Judgement, judge, judged};
-pub use laws::{early_audit_fault, one_audit_answer};
+pub use laws::{early_audit_fault, one_audit_answer, trace_and_run_are_input};
+pub use run_part::MOST_AUDITED;

@@ -10,8 +10,8 @@ use pa_run_reader::{RunFault, read_dense_run};
 use pa_trace::TraceFault;
 use std::alloc::Global;
 
-// The most bytes of a trace and a run.
-const MOST_AUDITED: usize = 134_217_728;
+/// The most bytes of a trace and a run.
+pub const MOST_AUDITED: usize = 134_217_728;
 
 // The run whose text these bytes are. So many bytes and lines come before it. They are the rest of the input, or of what was read
 // of it, which is one byte more than it may have.
