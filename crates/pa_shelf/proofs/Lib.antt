@@ -1,0 +1,6 @@
+mod Chained
+mod Decommitting
+mod Moves
+mod Oldest
+mod Seats
+mod Starting

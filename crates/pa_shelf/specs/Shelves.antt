@@ -1,0 +1,60 @@
+-- The spans of a root in records and chains: what is kept beside its seat, and which root that shows with the seat's view.
+use Rattle.std.specs.Prelude.{◌≡◌, ℕ, ◌≤◌, List, [], length, Contains}
+use Rattle.pa_machine.specs.declared.title.Title.{Title}
+use Rattle.pa_machine.specs.Links.{front_of}
+use Rattle.pa_buckets.specs.Table.{slot_of}
+use Rattle.pa_record.specs.declared.taken.SuperPage.{SuperPage}
+use Rattle.pa_record.specs.Spans.{Span}
+use Rattle.pa_record.specs.Root.{Root, new_root}
+use Rattle.pa_region.specs.declared.view.View.{View}
+use Rattle.pa_spans.specs.Lists.{SpanListParts, Stand, no_lists}
+use Rattle.pa_records.specs.Words.{spans_in}
+use Rattle.pa_records.specs.Records.{titles_free, HasSpans}
+use Rattle.pa_records.specs.Stored.{AreStored}
+use Rattle.pa_meta.specs.Stores.{IsPayloadOf, HasSpanAt}
+use Rattle.pa_link.specs.declared.chain.ChainParts.{ChainParts}
+use Rattle.pa_link.specs.Chains.{slot_names, IsChain}
+
+-- The super pages in the order in which they were taken, the direct maps, the next free page, and the heads of the lists of spans.
+pub record ShelfParts : Type 0 where
+  pub supers : List SuperPage
+  pub maps : List Title
+  pub page : ℕ
+  pub lists : SpanListParts
+
+-- at the start there are none
+abbrev pub no_shelf : ShelfParts
+no_shelf = record { supers = []; maps = []; page = 0; lists = no_lists }
+
+-- the chain of a span's free slots
+abbrev pub chain_of : Span → ChainParts
+chain_of s = record { slot_len = slot_of s.class; head = front_of (slot_names (titles_free s)); len = length s.free }
+
+-- The records keep the root: it has these super pages, direct maps and turn; each payload page has a record of its own; the lists
+-- stand for the spans that the words have, and these are the root's spans.
+pub record RecordsRoot (v : View) (l : ShelfParts) (r : Root) : Type 0 where
+  pub supers : r.supers ≡ l.supers
+  pub maps : r.maps ≡ l.maps
+  pub page : r.page ≡ l.page
+  pub turn : r.turn ≡ l.lists.turn
+  pub pages : (u : ℕ) → IsPayloadOf l.supers u → HasSpanAt v l.supers u
+  pub stand : Stand l.lists (spans_in v.words) (HasSpanAt v l.supers)
+  pub few : length l.lists.ring ≤ 17
+  pub stored : AreStored (spans_in v.words) (HasSpanAt v l.supers) r.spans
+
+-- the root's view has the chain of each span's free slots
+abbrev pub AreChained : View → List Span → Type 0
+AreChained v ss = (s : Span) → Contains ss s → IsChain v (chain_of s) (titles_free s)
+
+-- the records and the chains are those of the root
+pub record ShowsRoot (v : View) (l : ShelfParts) (r : Root) : Type 0 where
+  pub kept : RecordsRoot v l r
+  pub chains : AreChained v r.spans
+
+-- at the start the root has nothing
+abbrev pub NoShelfIsNew : Type 0
+NoShelfIsNew = (v : View) → ShowsRoot v no_shelf new_root
+
+-- words of a root that is shown have it
+abbrev pub ShownIsInWords : Type 0
+ShownIsInWords = (v : View) (l : ShelfParts) (r : Root) → ShowsRoot v l r → HasSpans v.words r

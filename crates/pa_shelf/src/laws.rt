@@ -1,0 +1,12 @@
+//! What a shelf shows, as laws: calls that do nothing, and whose clauses are proved.
+ghost use Rattle.pa_shelf.specs.Shelves.{NoShelfIsNew, ShownIsInWords};
+
+/// The law that a shelf without super pages shows the root that has nothing.
+pub fn no_shelf_is_new()
+    ensures { NoShelfIsNew }
+{}
+
+/// The law that the words of a seat's view have the root that is shown: its records and its chains.
+pub fn shown_is_in_words()
+    ensures { ShownIsInWords }
+{}

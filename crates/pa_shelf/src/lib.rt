@@ -1,0 +1,9 @@
+//! The spans of a root in records of the metadata pages, with their free slots in chains.
+#![tactic(auto)]
+
+mod changes;
+mod laws;
+mod shelf;
+
+pub use laws::{no_shelf_is_new, shown_is_in_words};
+pub use shelf::Shelf;

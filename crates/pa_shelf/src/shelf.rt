@@ -1,0 +1,110 @@
+ghost use Rattle.std.specs.Prelude.{◌≡◌, ◌≢◌, ◌^◌, ◌<◌, ◌≤◌, Contains, length};
+ghost use Rattle.pa_buckets.specs.declared.spans.State.TheVariants as state;
+ghost use Rattle.pa_record.specs.Spans.{Span as RootSpan};
+ghost use Rattle.pa_record.specs.Root.{Root, entered, oldest_decommitted};
+ghost use Rattle.pa_record.specs.Sound.{IsSound};
+ghost use Rattle.pa_spans.specs.Lists.{Stand, StaysListed, lists_entered, oldest_of};
+ghost use Rattle.pa_records.specs.Words.{spans_in};
+ghost use Rattle.pa_meta.specs.Stores.{HasSpanAt, Rerecorded};
+ghost use Rattle.pa_shelf.specs.Moving.{IsRecordFor, without_pages_of};
+ghost use Rattle.pa_shelf.specs.Shelves.{no_shelf, RecordsRoot, ShowsRoot};
+
+use crate::changes::change_in;
+use pa_buckets::State;
+use pa_machine::Title;
+use pa_meta::{MetaStore, read_meta};
+use pa_record::SuperPage;
+use pa_region::{Region, Seat};
+use pa_spans::{Span, SpanLists};
+use std::alloc::Global;
+use std::marker::Model;
+
+/// The super pages of a root, its direct maps and the heads of its lists of spans. The spans' records stand in the metadata
+/// pages, and their free slots in chains: the root's seat has both. Contracts see it as the record `ShelfParts`; which root it shows,
+/// `ShowsRoot` says.
+#[derive(Drop)]
+pub struct Shelf {
+    pub(crate) supers: Vec<SuperPage>,
+    pub(crate) maps: Vec<Title>,
+    pub(crate) page: u32,
+    pub(crate) lists: SpanLists,
+}
+
+impl Model for Shelf {
+    ghost use Rattle.pa_shelf.specs.Shelves.{ShelfParts};
+
+    ghost Value = { ShelfParts };
+
+    ghost view = { λ s. record { supers = s.supers.items; maps = s.maps.items; page = s.page; lists = s.lists } };
+}
+
+impl Shelf {
+    /// A shelf without super pages. It allocates nothing.
+    pub fn new(alloc: Global) -> Shelf
+        ensures { result ≡ no_shelf }
+    {
+        Shelf {
+            supers: Vec::new(alloc),
+            maps: Vec::new(alloc),
+            page: 0,
+            lists: SpanLists::new(),
+        }
+    }
+
+    /// Decommits the empty span of least turn: its free list is emptied, and its pages go back to the system. Nothing changes where
+    /// no span is empty. It allocates nothing.
+    pub fn decommit_oldest(&mut self, region: &Region, own: &mut Seat)
+        requires region { own.old.region ≡ region.now }
+        requires shown { (r : Root) × ShowsRoot own.old.view self.old r }
+        requires turn { self.old.lists.turn < 2 ^ 63 }
+        ensures region { own.new.region ≡ own.old.region }
+        ensures view { Rerecorded self.old.supers own.old.view own.new.view }
+        ensures shown { (r : Root) → IsSound r → ShowsRoot own.old.view self.old r → ShowsRoot own.new.view self.new (oldest_decommitted r) }
+    {
+        own.aware();
+        if let Some(at) = self.lists.first_empty() {
+            let span = read_meta(region, own, at);
+            let _ = self.change(region, own, at, without_pages(span), State::Decommitted);
+        }
+    }
+
+    // Puts a span in the place of the one at this offset, in the same list, and moves it into the state. It answers the empty span of
+    // least turn exactly where 17 are empty then.
+    pub(crate) fn change(
+        &mut self,
+        region: &Region,
+        own: &mut Seat,
+        at: u32,
+        span: Span,
+        to: State,
+    ) -> Option<u32>
+        requires region { own.old.region ≡ region.now }
+        requires stand { Stand self.old.lists (spans_in own.old.view.words) (HasSpanAt own.old.view self.old.supers) }
+        requires has { HasSpanAt own.old.view self.old.supers at }
+        requires stays { StaysListed (spans_in own.old.view.words at) span }
+        requires used { to ≢ state.None }
+        requires few { length (lists_entered at to self.old.lists span).ring ≤ 17 }
+        requires turn { self.old.lists.turn < 2 ^ 63 }
+        ensures region { own.new.region ≡ own.old.region }
+        ensures view { Rerecorded self.old.supers own.old.view own.new.view }
+        ensures lists { self.new ≡ record self.old { lists = lists_entered at to self.old.lists span } }
+        ensures kept { (r : Root) (s t : RootSpan) → RecordsRoot own.old.view self.old r → Contains r.spans s → IsRecordFor at span s t →
+            RecordsRoot own.new.view self.new (entered to t r) }
+        ensures oldest { result ≡ oldest_of self.new.lists.ring }
+    {
+        let mut store = MetaStore::new(region, own, &self.supers);
+        change_in(&mut self.lists, &mut store, at, span, to)
+    }
+}
+
+// The span without its list and its pages.
+fn without_pages(span: Span) -> Span
+    ensures { result ≡ without_pages_of span }
+{
+    Span {
+        provisioned: 0,
+        committed: 0,
+        head: 0,
+        ..span
+    }
+}
