@@ -65,7 +65,7 @@ without_stays x y z e f = subst (λ (u : SpanRecord). StaysListed u y) e (subst 
     (record { class = inl refl; state = refl; turn = refl; previous = refl; next = refl }))
 
 -- a ring without a member is no longer
-ring_shrinks : (at : ℕ) (a : State) (ring : List ℕ) → length (ring_without at a ring) ≤ length ring
+pub ring_shrinks : (at : ℕ) (a : State) (ring : List ℕ) → length (ring_without at a ring) ≤ length ring
 ring_shrinks at state.None ring = omega arith
 ring_shrinks at state.Active ring = omega arith
 ring_shrinks at state.Empty ring = omega (arith, length-filter (λ u. not (u == at)) ring, count_by-le-length (λ u. not (u == at)) ring)

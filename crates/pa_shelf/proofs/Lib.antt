@@ -2,5 +2,7 @@ mod Chained
 mod Decommitting
 mod Moves
 mod Oldest
+mod Returning
 mod Seats
 mod Starting
+mod Staying

@@ -1,16 +1,19 @@
 -- The spans of a root in records and chains: what is kept beside its seat, and which root that shows with the seat's view.
-use Rattle.std.specs.Prelude.{◌≡◌, ℕ, ◌≤◌, List, [], length, Contains}
+use Rattle.std.specs.Prelude.{◌≡◌, ℕ, ◌+◌, ◌<◌, ◌≤◌, List, [], length, Contains, slice_index}
 use Rattle.pa_machine.specs.declared.title.Title.{Title}
-use Rattle.pa_machine.specs.Links.{front_of}
+use Rattle.pa_machine.specs.Links.{first_word, front_of}
 use Rattle.pa_buckets.specs.Table.{slot_of}
 use Rattle.pa_record.specs.declared.taken.SuperPage.{SuperPage}
-use Rattle.pa_record.specs.Spans.{Span}
-use Rattle.pa_record.specs.Root.{Root, new_root}
+use Rattle.pa_record.specs.Spans.{Span, title_at, name_of}
+use Rattle.pa_record.specs.Root.{Root, new_root, IsOutOf}
+use Rattle.pa_record.specs.Sound.{IsSound}
 use Rattle.pa_region.specs.declared.view.View.{View}
+use Rattle.pa_region.specs.Views.{free_of}
 use Rattle.pa_spans.specs.Lists.{SpanListParts, Stand, no_lists}
-use Rattle.pa_records.specs.Words.{spans_in}
+use Rattle.pa_records.specs.Words.{record_word, spans_in}
 use Rattle.pa_records.specs.Records.{titles_free, HasSpans}
 use Rattle.pa_records.specs.Stored.{AreStored}
+use Rattle.pa_meta.specs.Meta.{HasRawRecord}
 use Rattle.pa_meta.specs.Stores.{IsPayloadOf, HasSpanAt}
 use Rattle.pa_link.specs.declared.chain.ChainParts.{ChainParts}
 use Rattle.pa_link.specs.Chains.{slot_names, IsChain}
@@ -50,6 +53,30 @@ AreChained v ss = (s : Span) → Contains ss s → IsChain v (chain_of s) (title
 pub record ShowsRoot (v : View) (l : ShelfParts) (r : Root) : Type 0 where
   pub kept : RecordsRoot v l r
   pub chains : AreChained v r.spans
+
+-- the records of these super pages are the same in another view, which holds them as raw too
+pub record KeepsRecords (supers : List SuperPage) (v w : View) : Type 0 where
+  pub words : (u q : ℕ) → IsPayloadOf supers u → record_word u ≤ q → q < record_word u + 4 → slice_index w.words q ≡ slice_index v.words q
+  pub raw : (u : ℕ) → IsPayloadOf supers u → HasRawRecord v u → HasRawRecord w u
+
+-- and it holds the free slots, with the same first words
+abbrev pub KeepsChains : View → View → List Span → Type 0
+KeepsChains v w ss = (s : Span) → Contains ss s → (t : Title) → Contains (titles_free s) t →
+    (0 < free_of w t) × (first_word w.words (name_of t) ≡ first_word v.words (name_of t))
+
+-- then it shows the root too
+abbrev pub ShownStays : Type 0
+ShownStays = (v w : View) (l : ShelfParts) (r : Root) → KeepsRecords l.supers v w → KeepsChains v w r.spans → ShowsRoot v l r → ShowsRoot w l r
+
+-- The title is slot n of the span s of a sound root that is shown, and it is out of the root; the span starts at the offset.
+pub record IsBackAt (v : View) (l : ShelfParts) (at : ℕ) (t : Title) (r : Root) (s : Span) (n : ℕ) : Type 0 where
+  pub sound : IsSound r
+  pub shown : ShowsRoot v l r
+  pub among : Contains r.spans s
+  pub here : s.place ≡ at
+  pub titled : t ≡ title_at s n
+  pub out : IsOutOf s (name_of t) n
+  pub some : 1 ≤ s.allocated
 
 -- at the start the root has nothing
 abbrev pub NoShelfIsNew : Type 0

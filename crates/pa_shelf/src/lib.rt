@@ -1,9 +1,10 @@
 //! The spans of a root in records of the metadata pages, with their free slots in chains.
 #![tactic(auto)]
 
+mod backs;
 mod changes;
 mod laws;
 mod shelf;
 
-pub use laws::{no_shelf_is_new, shown_is_in_words};
+pub use laws::{no_shelf_is_new, shown_is_in_words, shown_stays};
 pub use shelf::Shelf;

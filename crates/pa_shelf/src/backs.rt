@@ -1,0 +1,108 @@
+//! Slots that come back.
+ghost use Rattle.std.specs.Prelude.{◌≡◌, ◌↔◌, ℕ, ◌-◌, ◌^◌, ◌<◌, ◌≤◌, List, ◌∷◌, length, Contains, Some, IsNone};
+ghost use Rattle.pa_machine.specs.declared.title.Title.{Title};
+ghost use Rattle.pa_machine.specs.Links.{link_to};
+ghost use Rattle.pa_record.specs.Spans.{Span as RootSpan, name_of};
+ghost use Rattle.pa_record.specs.Root.{Root, put_back};
+ghost use Rattle.pa_region.specs.Views.{free_of};
+ghost use Rattle.pa_spans.specs.Lists.{oldest_of};
+ghost use Rattle.pa_link.specs.Chains.{IsChain, after_link};
+ghost use Rattle.pa_shelf.specs.Moving.{parts_of_record, pushed_parts, with_front_of, state_with};
+ghost use Rattle.pa_shelf.specs.Shelves.{ShowsRoot, IsBackAt};
+
+use crate::shelf::Shelf;
+use pa_buckets::State;
+use pa_link::{Chain, ChainParts};
+use pa_machine::{SlotName, Title};
+use pa_meta::read_meta;
+use pa_region::{Region, Seat};
+use pa_spans::Span;
+
+impl Shelf {
+    /// Puts a slot in front of the list of its span, which starts at this offset. The span is empty then if no slot of it is out,
+    /// and active else. It answers the empty span of least turn exactly where 17 are empty then. It allocates nothing.
+    pub fn put_back(
+        &mut self,
+        region: &Region,
+        own: &mut Seat,
+        at: u32,
+        title: Title,
+    ) -> Option<u32>
+        requires region { own.old.region ≡ region.now }
+        requires able { 0 < free_of own.old.view title }
+        requires back { (r : Root) × (s : RootSpan) × (n : ℕ) × IsBackAt own.old.view self.old at title r s n }
+        requires few { length self.old.lists.ring ≤ 16 }
+        requires turn { self.old.lists.turn < 2 ^ 63 }
+        ensures region { own.new.region ≡ own.old.region }
+        ensures shown { (r : Root) (s : RootSpan) (n : ℕ) → IsBackAt own.old.view self.old at title r s n →
+            ShowsRoot own.new.view self.new (put_back (name_of title) (Some s) r) }
+        ensures oldest { result ≡ oldest_of self.new.lists.ring }
+    {
+        own.aware();
+        own.placed(title);
+        let span = read_meta(region, own, at);
+        let allocated = span.allocated;
+        let start = title.start;
+        push_onto(region, own, &span, title);
+        own.aware();
+        let to = state_back(allocated);
+        self.change(region, own, at, with_front(span, start), to)
+    }
+}
+
+// Puts a slot in front of the chain of the span that has this record.
+fn push_onto(region: &Region, own: &mut Seat, span: &Span, title: Title)
+    requires region { own.old.region ≡ region.now }
+    requires able { 0 < free_of own.old.view title }
+    requires counted { span.now.allocated ≤ span.now.provisioned }
+    ensures region { own.new.region ≡ own.old.region }
+    ensures view { own.new.view ≡ after_link title (link_to (parts_of_record span.now title).head) own.old.view }
+    ensures chain { (ts : List Title) → IsChain own.old.view (parts_of_record span.now title) ts → (Contains ts title → ⊥) →
+        IsChain own.new.view (pushed_parts title (parts_of_record span.now title)) (title ∷ ts) }
+{
+    let mut chain = Chain::of_parts(parts_in(span, title));
+    chain.push(region, own, title);
+}
+
+// The chain of the span that has this record, and such slots.
+fn parts_in(span: &Span, title: Title) -> ChainParts
+    requires { span.now.allocated ≤ span.now.provisioned }
+    ensures same { result ≡ parts_of_record span.now title }
+    ensures none { IsNone result.head ↔ (result.len ≡ 0) }
+    ensures few { result.len < 65536 }
+{
+    let len = u32::from(span.provisioned - span.allocated);
+    let name = SlotName {
+        start: span.head,
+        born: title.born,
+    };
+    ChainParts {
+        slot_len: title.len,
+        head: if len == 0 { None } else { Some(name) },
+        len,
+    }
+}
+
+// The span after a slot came back that starts there.
+fn with_front(span: Span, start: u32) -> Span
+    requires { 1 ≤ span.allocated }
+    ensures { result ≡ with_front_of start span }
+{
+    Span {
+        allocated: span.allocated - 1,
+        head: start,
+        ..span
+    }
+}
+
+// The state of a span with so many slots out, once one of them came back.
+fn state_back(allocated: u16) -> State
+    requires { 1 ≤ allocated }
+    ensures { result ≡ state_with (allocated - 1) }
+{
+    if allocated == 1 {
+        State::Empty
+    } else {
+        State::Active
+    }
+}
