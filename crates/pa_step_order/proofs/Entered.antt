@@ -1,35 +1,30 @@
 -- Journals, the pool and exchanges: what the moments enter, phase by phase, is what the lists have.
-use Rattle.std.proofs.Common.{◌≡◌, ◌≢◌, ℕ, ◌<◌, ◌≤◌, ◌&&◌, eqb, cond, Bool, true, false, List, [], ◌∷◌, ◌++◌, map, filter, flat_map, Option, Some, None, if◌then◌else◌, refl, sym, ◌∙◌, ap, subst, arith, inl, inr}
-use Rattle.std.specs.Prelude.{Contains, AllPairs, find, option_map, option_and_then}
+use Rattle.std.proofs.Common.{◌≡◌, ℕ, ◌<◌, ◌≤◌, eqb, Bool, true, List, [], ◌∷◌, map, Option, Some, None, refl, sym, ◌∙◌, ap, subst, arith, inl, inr}
+use Rattle.std.specs.Prelude.{Contains, option_map, option_and_then}
 use Rattle.std.specs.List.{cons_option, filter_map}
-use Rattle.std.proofs.lemmas.Bool.{cases_Bool, cases_lt, cases_eq, eq-eqb, ne_eqb, eqb-true}
-use Rattle.pa_machine.specs.declared.word.SlotName.{SlotName}
+use Rattle.std.proofs.lemmas.Bool.{cases_Bool, cases_eq, eq-eqb, ne_eqb, eqb-true}
 use Rattle.pa_region.specs.declared.view.Entry.{Entry}
-use Rattle.pa_region.specs.declared.view.Entry.TheVariants.{Counted, Looked, Read, Added, Entered, Uncut}
+use Rattle.pa_region.specs.declared.view.Entry.TheVariants.{Entered}
 use Rattle.pa_region.specs.declared.view.Made.{Made}
 use Rattle.pa_region.specs.Lists.{entry_in, entered_in}
 use Rattle.pa_region.specs.Order.{Stamped}
 use Rattle.pa_record.specs.declared.pool.PoolEntry.{PoolEntry}
-use Rattle.pa_record.specs.declared.root.RootAct.{RootAct}
 use Rattle.pa_record.specs.declared.root.RootEntry.{RootEntry}
 use Rattle.pa_record.specs.Numbers.{root_numbers, root_act_numbers, pool_numbers}
 use Rattle.pa_record.proofs.OneEntry.{one_root}
-use Rattle.pa_trace.specs.declared.script.Op.{Op}
-use Rattle.pa_trace.specs.declared.script.Op.TheVariants as ops
-use Rattle.pa_lists.proofs.Members.{not_in_none, first_in, later_in, of_some, not_some, find_is, find_some}
+use Rattle.pa_lists.proofs.Members.{of_some, not_some, find_is, find_some}
 use Rattle.pa_lists.proofs.Elements.{same_cons}
 use Rattle.pa_lists.proofs.Joined.{map_cases, map_in, pairs_map}
 use Rattle.pa_lists.proofs.Tests.{both_true}
 use Rattle.pa_rules.specs.declared.played.Played.{Played}
 use Rattle.pa_rules.specs.Order.{StandInOrder}
 use Rattle.pa_rules.specs.Roots.{Journals}
-use Rattle.pa_timeline.specs.Timeline.{Part, Asking, Entering, Swapping, Looking, Loading, Counting, Moment, part_enters, part_asks, journal_made, asked_lines}
-use Rattle.pa_timeline.proofs.Kept.{none_or_some, kept_twice}
-use Rattle.pa_timeline.proofs.Places.{moment}
+use Rattle.pa_timeline.specs.Timeline.{Part, Asking, Entering, Moment, part_enters, part_asks, journal_made, asked_lines}
+use Rattle.pa_timeline.proofs.Kept.{kept_twice}
 use Rattle.pa_logs.specs.Told.{ToldRecord, played_in}
 use Rattle.pa_logs.specs.Listed.{first_of, line_of, IsListOf, IsJournalOf, IsPoolList}
 use Rattle.pa_logs.proofs.Filters.{map_one}
-use Rattle.pa_step_order.specs.Segments.{same_numbers, entry_with, entering, entered_part, part_of}
+use Rattle.pa_step_order.specs.Segments.{same_numbers, entry_with, entered_part, part_of}
 use Rattle.pa_step_order.proofs.Named.{Named, AreNamed, named_in}
 use Rattle.pa_step_order.proofs.Moments.{moment_of, moments_in, by_phases}
 use Rattle.pa_step_order.proofs.Lists.{InPhase, stand_in_phases, phases_keep, kept_map, kept_flat, entered_flat, entered_has, kept_by, listed_or, elsewhere}

@@ -1,33 +1,29 @@
 -- The exchanges that the moments are, phase by phase, are those of the cells' histories.
-use Rattle.std.proofs.Common.{◌≡◌, ℕ, ◌<◌, ◌≤◌, eqb, cond, Bool, true, false, List, [], ◌∷◌, ◌++◌, map, filter, Option, Some, None, refl, sym, ◌∙◌, ap, subst, inl, inr}
-use Rattle.std.specs.Prelude.{Contains, option_map, option_and_then}
+use Rattle.std.proofs.Common.{◌≡◌, ℕ, eqb, List, [], ◌∷◌, ◌++◌, map, filter, Option, Some, None, refl, sym, ◌∙◌, ap, inl, inr}
+use Rattle.std.specs.Prelude.{Contains, option_and_then}
 use Rattle.std.specs.List.{cons_option, filter_map}
-use Rattle.std.proofs.lemmas.Bool.{cases_Bool, cases_eq, eq-eqb, ne_eqb}
-use Rattle.pa_region.specs.declared.view.Entry.{Entry}
+use Rattle.std.proofs.lemmas.Bool.{cases_Bool, cases_eq, ne_eqb}
 use Rattle.pa_region.specs.declared.view.Entry.TheVariants.{Entered}
 use Rattle.pa_region.specs.declared.view.Made.{Made}
 use Rattle.pa_region.specs.Lists.{entry_in, entered_in}
 use Rattle.pa_region.specs.Order.{Stamped}
 use Rattle.pa_record.specs.declared.history.CellEntry.{CellEntry}
-use Rattle.pa_record.specs.declared.root.RootEntry.{RootEntry}
 use Rattle.pa_trace.specs.declared.script.Op.{Op}
 use Rattle.pa_trace.specs.declared.script.Op.TheVariants as ops
 use Rattle.pa_lists.proofs.Elements.{same_cons}
 use Rattle.pa_lists.proofs.Joined.{pairs_map}
-use Rattle.pa_lists.proofs.Members.{not_in_none, first_in, later_in, of_some, not_some}
-use Rattle.pa_rules.specs.declared.played.Played.{Played}
+use Rattle.pa_lists.proofs.Members.{first_in, later_in, of_some, not_some}
 use Rattle.pa_rules.specs.Order.{StandInOrder}
 use Rattle.pa_rules.specs.Roots.{Journals}
 use Rattle.pa_timeline.specs.Timeline.{Part, Asking, Entering, Swapping, Looking, Loading, Counting, Moment, part_swaps, swap_lines}
-use Rattle.pa_timeline.proofs.Kept.{none_or_some, kept_twice}
-use Rattle.pa_timeline.proofs.Places.{moment}
+use Rattle.pa_timeline.proofs.Kept.{kept_twice}
 use Rattle.pa_logs.specs.Told.{ToldRecord, played_in}
 use Rattle.pa_logs.specs.Listed.{line_of, IsListOf, AreRising}
 use Rattle.pa_logs.specs.Swaps.{SwapMade, is_of_cell, AreSwaps, AreAnswered}
 use Rattle.pa_logs.proofs.Listing.{one_record}
-use Rattle.pa_step_order.specs.Segments.{entry_with, entered_part, part_of}
+use Rattle.pa_step_order.specs.Segments.{part_of}
 use Rattle.pa_step_order.proofs.Named.{Named, AreNamed, named_in}
-use Rattle.pa_step_order.proofs.Moments.{moment_of, moments_in, by_phases}
+use Rattle.pa_step_order.proofs.Moments.{moment_of, by_phases}
 use Rattle.pa_step_order.proofs.Lists.{InPhase, stand_in_phases, phases_keep, kept_by, listed_or, elsewhere}
 use Rattle.pa_step_order.proofs.Entered.{line_is}
 

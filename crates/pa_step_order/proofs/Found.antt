@@ -1,22 +1,21 @@
 -- A look or a counted step finds as many counted steps of its slot before it as its number says: in the order of the logs, and phase by
 -- phase.
-use Rattle.std.proofs.Common.{◌≡◌, ℕ, ◌+◌, ◌<◌, ◌≤◌, ◌&&◌, eqb, cond, Bool, true, false, List, [], ◌∷◌, ◌++◌, map, Option, Some, None, if◌then◌else◌, refl, sym, ◌∙◌, ap, subst, arith, inl, inr, ◌⊎◌, append_assoc}
-use Rattle.std.specs.Prelude.{Contains, AllPairs, is_some, nat_lt, count_by, option_map}
-use Rattle.std.specs.List.{cons_option, filter_map, sum_by}
-use Rattle.std.proofs.lemmas.Bool.{cases_Bool, cases_lt, lt-ltb, le-ltb}
+use Rattle.std.proofs.Common.{◌≡◌, ℕ, ◌+◌, ◌≤◌, ◌&&◌, cond, Bool, true, false, List, [], ◌∷◌, ◌++◌, map, Option, Some, None, if◌then◌else◌, refl, sym, ◌∙◌, ap, subst, arith, inl, inr, ◌⊎◌, append_assoc}
+use Rattle.std.specs.Prelude.{Contains, AllPairs, is_some, nat_lt, count_by}
+use Rattle.std.specs.List.{sum_by}
+use Rattle.std.proofs.lemmas.Bool.{cases_Bool, lt-ltb, le-ltb}
 use Rattle.std.proofs.lemmas.List.{map-append}
 use Rattle.std.proofs.lemmas.List.Elements.{Contains-append_left}
 use Rattle.std.proofs.lemmas.List.Sums.{sum_by-cons}
 use Rattle.pa_machine.specs.declared.title.Title.{Title}
 use Rattle.pa_machine.specs.declared.word.SlotName.{SlotName}
-use Rattle.pa_machine.specs.declared.word.Step.{Step}
 use Rattle.pa_machine.specs.Count.{number_of}
 use Rattle.pa_machine.specs.Run.{Mark, same_slot}
 use Rattle.pa_machine.proofs.Runs.{same_slot_cases, same_slot_yes, same_slot_no}
 use Rattle.pa_region.specs.declared.view.Entry.{Entry}
 use Rattle.pa_region.specs.Views.{counted_on}
 use Rattle.pa_region.specs.Order.{Stamped, steps_on, Touches}
-use Rattle.pa_lists.proofs.Members.{not_in_none, first_in, later_in, of_some, not_some}
+use Rattle.pa_lists.proofs.Members.{first_in, later_in}
 use Rattle.pa_lists.proofs.Elements.{in_front, in_middle}
 use Rattle.pa_lists.proofs.Pairs.{pairs_none, pairs_cons, pairs_head}
 use Rattle.pa_lists.proofs.Parts.{parts_at, map_parts, pairs_across, pairs_after}
@@ -25,16 +24,16 @@ use Rattle.pa_rules.specs.Played.{mark_of}
 use Rattle.pa_rules.specs.Roots.{Journals}
 use Rattle.pa_rules.specs.Seen.{left_number}
 use Rattle.pa_rules.specs.Flow.{IsInPhases}
-use Rattle.pa_timeline.specs.Timeline.{Part, Looking, Counting, Moment, IsTouch, is_of_slot, is_counted_on, counted_steps}
+use Rattle.pa_timeline.specs.Timeline.{Part, Counting, Moment, IsTouch, is_of_slot, is_counted_on, counted_steps}
 use Rattle.pa_timeline.proofs.Kept.{none_or_some, kept_cut, count_cons, count_append, count_before}
 use Rattle.pa_timeline.proofs.Places.{moment}
 use Rattle.pa_logs.specs.Told.{ToldRecord, played_in}
 use Rattle.pa_logs.specs.Touches.{title_of, AreTold}
 use Rattle.pa_step_order.specs.Segments.{part_of}
 use Rattle.pa_step_order.proofs.Named.{Named, AreNamed, named_in}
-use Rattle.pa_step_order.proofs.Looks.{IsTouchOf, touch_of, is_counting, counted_by, counts_as}
+use Rattle.pa_step_order.proofs.Looks.{touch_of, is_counting, counts_as}
 use Rattle.pa_step_order.proofs.Moments.{moment_of, moments_in, phase_at, by_phases, moment_from, step_of, of_records}
-use Rattle.pa_step_order.proofs.Sorting.{sorted, sorted_from, sorted_sum, sorted_pairs}
+use Rattle.pa_step_order.proofs.Sorting.{sorted_from, sorted_sum, sorted_pairs}
 
 -- what holds wherever a list is cut at two members holds of each two
 pairs_cuts : {A : Type 0} (S : A → A → Type 0) (xs : List A) → ((us vs ws : List A) (a b : A) → xs ≡ us ++ a ∷ (vs ++ b ∷ ws) → S a b) → AllPairs S xs

@@ -1,5 +1,5 @@
 -- What an entry of a log segment says of its record's mark, if it is a look or a counted step among its record's steps.
-use Rattle.std.proofs.Common.{◌≡◌, ℕ, ◌+◌, eqb, cond, Bool, true, false, List, [], ◌∷◌, Option, Some, None, ◌⊎◌, refl, sym, ◌∙◌, ap, subst, inl, inr}
+use Rattle.std.proofs.Common.{◌≡◌, ℕ, eqb, cond, Bool, true, false, List, [], ◌∷◌, Option, Some, None, refl, sym, ◌∙◌, ap, subst, inl, inr}
 use Rattle.std.specs.Prelude.{Contains, is_some}
 use Rattle.std.proofs.lemmas.Bool.{cases_Bool}
 use Rattle.pa_machine.specs.declared.title.Title.{Title}
@@ -8,7 +8,7 @@ use Rattle.pa_machine.specs.declared.word.Step.{Step}
 use Rattle.pa_machine.specs.Holdings.{one}
 use Rattle.pa_machine.specs.Run.{Mark, same_slot}
 use Rattle.pa_machine.specs.Titles.{same_title}
-use Rattle.pa_machine.proofs.Runs.{same_slot_cases, same_slot_yes, same_slot_no, slot_parts}
+use Rattle.pa_machine.proofs.Runs.{same_slot_yes, same_slot_no, slot_parts}
 use Rattle.pa_machine.proofs.Same.{title_tells}
 use Rattle.pa_region.specs.declared.view.Entry.{Entry}
 use Rattle.pa_region.specs.declared.view.Entry.TheVariants.{Counted, Looked, Read, Added, Entered, Uncut}
@@ -26,9 +26,8 @@ use Rattle.pa_rules.specs.declared.played.Played.{Played}
 use Rattle.pa_rules.specs.Played.{mark_of, mark_of_answer, mark_at}
 use Rattle.pa_rules.specs.Roots.{Journals}
 use Rattle.pa_timeline.specs.Timeline.{Part, Asking, Entering, Swapping, Looking, Loading, Counting, IsTouch, is_of_slot, is_counted_on}
-use Rattle.pa_timeline.proofs.Kept.{none_or_some}
 use Rattle.pa_logs.specs.Told.{ToldRecord}
-use Rattle.pa_logs.specs.Touches.{title_of, is_touch, touches, StepMade, step_by, IsReadTold, IsToldBy, IsTold}
+use Rattle.pa_logs.specs.Touches.{title_of, is_touch, touches, StepMade, IsReadTold, IsToldBy, IsTold}
 use Rattle.pa_logs.proofs.Marks.{tells_its_mark}
 use Rattle.pa_logs.proofs.StepMarks.{mark_made, step_mark}
 use Rattle.pa_step_order.specs.Segments.{look_part, entry_with, entering, entered_part, part_of}

@@ -1,8 +1,8 @@
 -- The moments of a run by the order of all logs, phase by phase: each record's steps are there, and they are in order.
-use Rattle.std.proofs.Common.{◌≡◌, ℕ, ◌<◌, ◌≤◌, eqb, true, List, [], ◌∷◌, ◌++◌, map, get_or, filter, Option, Some, None, if◌then◌else◌, refl, sym, ◌∙◌, ap, subst, arith, inl, inr}
+use Rattle.std.proofs.Common.{◌≡◌, ℕ, ◌<◌, ◌≤◌, eqb, true, List, [], ◌∷◌, map, get_or, Option, Some, None, refl, sym, ◌∙◌, ap, subst, arith, inl, inr}
 use Rattle.std.specs.Prelude.{Contains, All, AllPairs, option_map, option_and_then}
 use Rattle.std.specs.List.{cons_option, filter_map}
-use Rattle.std.proofs.lemmas.Bool.{cases_Bool, cases_eq, eq-eqb, ne_eqb, eqb-true}
+use Rattle.std.proofs.lemmas.Bool.{cases_eq, eq-eqb, ne_eqb}
 use Rattle.pa_lists.proofs.Elements.{all_from_members}
 use Rattle.pa_lists.proofs.Indexed.{option_cases}
 use Rattle.pa_lists.proofs.Joined.{map_cases, map_in}
@@ -14,7 +14,7 @@ use Rattle.pa_rules.specs.declared.played.Played.{Played}
 use Rattle.pa_rules.specs.Order.{StandsBefore}
 use Rattle.pa_rules.specs.Roots.{Journals}
 use Rattle.pa_timeline.specs.Timeline.{Part, Moment, outline_parts, parts_in}
-use Rattle.pa_timeline.proofs.Kept.{none_or_some, kept_from, kept_pairs, kept_twice, kept_same, kept_passing}
+use Rattle.pa_timeline.proofs.Kept.{none_or_some, kept_from, kept_pairs, kept_twice, kept_passing}
 use Rattle.pa_timeline.proofs.Places.{moment, part_on, parts_kept}
 use Rattle.pa_logs.specs.Told.{ToldRecord, played_in}
 use Rattle.pa_logs.specs.Listed.{AreRising}

@@ -1,18 +1,18 @@
 -- The entries of the order of all logs, each with the record that made it.
-use Rattle.std.proofs.Common.{◌≡◌, ◌≢◌, ℕ, ◌<◌, ◌≤◌, eqb, Bool, true, List, [], ◌∷◌, ◌++◌, map, filter, flat_map, refl, sym, ◌∙◌, ap, subst, arith, inl, inr, append-nil}
+use Rattle.std.proofs.Common.{◌≡◌, ℕ, ◌<◌, ◌≤◌, eqb, Bool, true, List, [], ◌∷◌, ◌++◌, map, filter, flat_map, refl, sym, ◌∙◌, ap, subst, arith, inl, inr, append-nil}
 use Rattle.std.specs.Prelude.{Contains, AllPairs}
 use Rattle.std.proofs.lemmas.Bool.{cases_Bool, both_ways, eq-eqb, eqb-true}
 use Rattle.std.proofs.lemmas.List.{map-append}
 use Rattle.std.proofs.lemmas.List.Elements.{filter-append}
-use Rattle.pa_lists.proofs.Members.{not_in_none, first_in, later_in}
-use Rattle.pa_lists.proofs.Joined.{map_cases, map_in, filter_cases, filter_in, flat_cases, pairs_flat}
-use Rattle.pa_lists.proofs.Pairs.{pairs_none, pairs_cons, pairs_head}
+use Rattle.pa_lists.proofs.Members.{first_in}
+use Rattle.pa_lists.proofs.Joined.{map_cases, filter_cases, filter_in, flat_cases, pairs_flat}
+use Rattle.pa_lists.proofs.Pairs.{pairs_head}
 use Rattle.pa_lists.proofs.Parts.{parts_at, pairs_across, pairs_after}
 use Rattle.pa_region.specs.declared.view.Entry.{Entry}
 use Rattle.pa_region.specs.Order.{Stamped, by_stake}
 use Rattle.pa_logs.specs.Told.{ToldRecord, is_of_thread, log_of}
 use Rattle.pa_logs.specs.Listed.{AreRising}
-use Rattle.pa_logs.proofs.Filters.{pairs_filter, pairs_all, filter_all, filter_none, filter_within}
+use Rattle.pa_logs.proofs.Filters.{pairs_filter, pairs_all, filter_none, filter_within}
 use Rattle.pa_logs.proofs.Listing.{one_record}
 use Rattle.pa_step_order.proofs.Queues.{in_turn, turns_say, queues_stay, by_queues}
 

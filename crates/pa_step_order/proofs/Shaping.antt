@@ -1,5 +1,5 @@
 -- The log segments of ops have their record's signs, by their shapes.
-use Rattle.std.proofs.Common.{◌≡◌, ℕ, zero, suc, ◌+◌, ◌<◌, ◌≤◌, eqb, List, [], ◌∷◌, ◌++◌, map, filter, flat_map, Option, Some, None, refl, sym, ◌∙◌, ap, subst, arith, inl, inr, append-nil}
+use Rattle.std.proofs.Common.{◌≡◌, ℕ, zero, suc, ◌+◌, ◌<◌, ◌≤◌, eqb, List, [], ◌∷◌, ◌++◌, map, filter, flat_map, Option, Some, None, refl, sym, ◌∙◌, ap, arith, inl, inr, append-nil}
 use Rattle.std.specs.Prelude.{Contains}
 use Rattle.std.specs.List.{cons_option, filter_map, range_with_len}
 use Rattle.std.proofs.lemmas.Bool.{cases_eq, cases_lt, eq-eqb, ne_eqb}
@@ -19,14 +19,13 @@ use Rattle.pa_record.specs.declared.entry.Answer.TheVariants as answers
 use Rattle.pa_record.specs.declared.root.RootAct.{RootAct}
 use Rattle.pa_record.specs.declared.root.RootEntry.{RootEntry}
 use Rattle.pa_record.specs.Root.{asked_by}
-use Rattle.pa_lists.proofs.Members.{not_in_none, first_in, later_in}
+use Rattle.pa_lists.proofs.Members.{first_in, later_in}
 use Rattle.pa_lists.proofs.Elements.{same_cons}
 use Rattle.pa_rules.specs.Played.{step_of}
 use Rattle.pa_rules.specs.Roots.{Journals}
 use Rattle.pa_rules.specs.Caches.{acts_of, OnlyActs, NoActs}
 use Rattle.pa_timeline.proofs.Ranges.{in_range}
-use Rattle.pa_logs.specs.Told.{ToldRecord}
-use Rattle.pa_logs.specs.Touches.{title_of, touches, value_by, AreLooks, IsStepTold, IsDoneTold, IsSeenTold, IsToldBy}
+use Rattle.pa_logs.specs.Touches.{title_of, touches, value_by, AreLooks, IsDoneTold, IsSeenTold, IsToldBy}
 use Rattle.pa_step_order.specs.Signs.{Sign, Stepped, Listed, root_alone, sign_of, asked_first, act_signs, line_signs, due_signs}
 use Rattle.pa_step_order.specs.Shapes.{numbers_on, AreAdditions, ShapesHaveSigns}
 

@@ -1,7 +1,7 @@
 -- A log segment with its record's signs in their order has its steps in their order.
 use Rattle.std.proofs.Common.{◌≡◌, ℕ, ◌<◌, ◌≤◌, eqb, Bool, List, [], ◌∷◌, ◌++◌, map, filter, flat_map, Option, Some, None, refl, sym, ◌∙◌, ap, subst, arith, inl, inr}
 use Rattle.std.specs.Prelude.{Contains, option_and_then}
-use Rattle.std.specs.List.{cons_option, filter_map, range_with_len}
+use Rattle.std.specs.List.{filter_map, range_with_len}
 use Rattle.std.proofs.lemmas.Bool.{cases_eq, cases_lt, eq-eqb, ne_eqb, eqb-true}
 use Rattle.std.proofs.lemmas.List.Elements.{filter_map-append, Contains-append_cases}
 use Rattle.pa_machine.specs.declared.title.Title.{Title}
@@ -28,12 +28,11 @@ use Rattle.pa_lists.proofs.Members.{not_in_none, first_in, later_in, in_cases}
 use Rattle.pa_rules.specs.Played.{step_of}
 use Rattle.pa_rules.specs.Roots.{Journals}
 use Rattle.pa_rules.specs.Caches.{acts_of}
-use Rattle.pa_timeline.specs.Timeline.{Part, Asking, Entering, Swapping, Looking, Loading, Counting, asking_before, act_parts, entry_parts, done_parts, answer_parts, outline_parts}
+use Rattle.pa_timeline.specs.Timeline.{Part, Entering, Looking, Loading, Counting, asking_before, act_parts, entry_parts, done_parts, answer_parts}
 use Rattle.pa_timeline.proofs.Kept.{kept_twice, kept_same}
-use Rattle.pa_logs.specs.Told.{ToldRecord}
 use Rattle.pa_logs.specs.Touches.{title_of, is_touch, touches, value_by, AreLooks, IsStepTold, IsDoneTold, IsToldBy}
-use Rattle.pa_step_order.specs.Segments.{look_part, entry_with, entering, entered_part, part_of}
-use Rattle.pa_step_order.specs.Signs.{Sign, Stepped, Listed, root_alone, sign_of, asked_first, act_signs, line_signs, due_signs, SegmentsFollow}
+use Rattle.pa_step_order.specs.Segments.{look_part, entering, entered_part, part_of}
+use Rattle.pa_step_order.specs.Signs.{Sign, Stepped, Listed, sign_of, asked_first, act_signs, line_signs, due_signs, SegmentsFollow}
 use Rattle.pa_step_order.proofs.Entered.{with_numbers}
 
 -- the step that a sign is

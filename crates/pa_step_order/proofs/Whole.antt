@@ -4,25 +4,21 @@ use Rattle.std.specs.Prelude.{Contains}
 use Rattle.std.specs.List.{filter_map}
 use Rattle.std.specs.List.{AllByRecursion as Each}
 use Rattle.std.proofs.lemmas.Bool.{cases_lt, eqb-true, ne_eqb}
-use Rattle.pa_machine.specs.declared.word.SlotName.{SlotName}
-use Rattle.pa_region.specs.declared.view.Entry.{Entry}
-use Rattle.pa_region.specs.declared.view.Made.{Made}
 use Rattle.pa_region.specs.declared.view.Stake.{Stake}
 use Rattle.pa_region.specs.declared.view.View.{View}
 use Rattle.pa_region.specs.Lists.{list_of, entered_in}
-use Rattle.pa_region.specs.Order.{Stamped, by_stake, InOneOrder, HasOneOrder}
+use Rattle.pa_region.specs.Order.{Stamped, by_stake, HasOneOrder}
 use Rattle.pa_trace.specs.declared.script.Trace.{Trace}
-use Rattle.pa_rules.specs.declared.played.Played.{Played}
 use Rattle.pa_rules.specs.Legal.{IsLegalBy}
-use Rattle.pa_rules.specs.Told.{Told, records_of}
-use Rattle.pa_timeline.specs.Timeline.{Moment, outline_parts, IsStepOrder, HasOutline}
+use Rattle.pa_rules.specs.Told.{Told}
+use Rattle.pa_timeline.specs.Timeline.{Moment, outline_parts, IsStepOrder}
 use Rattle.pa_logs.specs.Told.{ToldRecord, played_in, is_of_thread, log_of}
 use Rattle.pa_logs.specs.Said.{sizes_in, LayersSay}
 use Rattle.pa_logs.proofs.Filters.{filter_none}
 use Rattle.pa_logs.proofs.Lined.{phases_rise}
 use Rattle.pa_logs.proofs.Places.{each_at, stake_at}
 use Rattle.pa_logs.proofs.Said.{layers_tell_all}
-use Rattle.pa_logs.proofs.Saying.{are_lines, rising, knows, list_is, are_lists, swapped, answered}
+use Rattle.pa_logs.proofs.Saying.{are_lines, rising, knows, list_is, are_lists, answered}
 use Rattle.pa_logs.proofs.Whole.{in_phases}
 use Rattle.pa_step_order.specs.Segments.{AreInTheirOrder}
 use Rattle.pa_step_order.specs.Laws.{OutlineFollows}

@@ -1,5 +1,5 @@
 -- The shapes that the log segments of ops have, and the signs of each.
-use Rattle.std.specs.Prelude.{◌≡◌, ℕ, ◌<◌, ◌≤◌, List, [], ◌∷◌, ◌++◌, map, Option, Some, None, Contains}
+use Rattle.std.specs.Prelude.{◌≡◌, ℕ, ◌<◌, ◌≤◌, List, [], ◌∷◌, ◌++◌, map, Some, None, Contains}
 use Rattle.std.specs.List.{filter_map, flat_map, range_with_len}
 use Rattle.pa_machine.specs.declared.word.SlotName.{SlotName}
 use Rattle.pa_region.specs.declared.view.Entry.{Entry}
@@ -15,7 +15,7 @@ use Rattle.pa_rules.specs.Roots.{Journals}
 use Rattle.pa_rules.specs.Caches.{acts_of, OnlyActs, NoActs}
 use Rattle.pa_logs.specs.Told.{ToldRecord}
 use Rattle.pa_logs.specs.Touches.{IsTold}
-use Rattle.pa_step_order.specs.Signs.{Sign, sign_of, act_signs, line_signs, HasItsSigns}
+use Rattle.pa_step_order.specs.Signs.{sign_of, act_signs, line_signs, HasItsSigns}
 
 -- the numbers of a root's entry on a line
 abbrev pub numbers_on : ℕ → RootAct → List ℕ
