@@ -1,7 +1,7 @@
 -- The log segments of ops have their record's signs, by their shapes.
 use Rattle.std.proofs.Common.{◌≡◌, ℕ, zero, suc, ◌+◌, ◌<◌, ◌≤◌, eqb, List, [], ◌∷◌, ◌++◌, map, filter, flat_map, Option, Some, None, refl, sym, ◌∙◌, ap, arith, inl, inr, append-nil}
 use Rattle.std.specs.Prelude.{Contains}
-use Rattle.std.specs.List.{cons_option, filter_map, range_with_len}
+use Rattle.std.specs.List.{filter_map, range_with_len}
 use Rattle.std.proofs.lemmas.Bool.{cases_eq, cases_lt, eq-eqb, ne_eqb}
 use Rattle.std.proofs.lemmas.List.Elements.{filter_map-append}
 use Rattle.pa_machine.specs.declared.title.Title.{Title}
@@ -125,9 +125,12 @@ module _ (sizes : SlotName → ℕ) (partitions line : ℕ) (roots : Journals) (
 
 additions_none : (es : List Entry) → AreAdditions es → filter_map sign_of es ≡ []
 additions_none [] are = refl
-additions_none (e ∷ es) are =
-    let (word, bytes, is) = are e (first_in e es) in
-    ap (λ f. cons_option (sign_of f) (filter_map sign_of es)) is ∙ additions_none es (λ f among. are f (later_in e f es among))
+additions_none (Counted t step found value ∷ es) are = absurd are
+additions_none (Looked t found ∷ es) are = absurd are
+additions_none (Read t place value since owned unclean ∷ es) are = absurd are
+additions_none (Added word bytes ∷ es) are = additions_none es are
+additions_none (Entered keeper made ∷ es) are = absurd are
+additions_none (Uncut t ∷ es) are = absurd are
 
 own_numbers : (p : ℕ) (numbers : List ℕ) → p < 4 → root_alone p numbers ≡ numbers
 own_numbers p numbers small = rw (ne_eqb p 4 (λ e. omega arith), ne_eqb p 5 (λ e. omega arith)) refl

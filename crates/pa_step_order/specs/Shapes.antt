@@ -3,7 +3,7 @@ use Rattle.std.specs.Prelude.{◌≡◌, ℕ, ◌<◌, ◌≤◌, List, [], ◌�
 use Rattle.std.specs.List.{filter_map, flat_map, range_with_len}
 use Rattle.pa_machine.specs.declared.word.SlotName.{SlotName}
 use Rattle.pa_region.specs.declared.view.Entry.{Entry}
-use Rattle.pa_region.specs.declared.view.Entry.TheVariants.{Added, Entered}
+use Rattle.pa_region.specs.declared.view.Entry.TheVariants.{Counted, Looked, Read, Added, Entered, Uncut}
 use Rattle.pa_region.specs.declared.view.Made.{Made}
 use Rattle.pa_region.specs.Lists.{entered_in}
 use Rattle.pa_trace.specs.Limits.{most_partitions}
@@ -23,7 +23,13 @@ numbers_on line act = root_numbers (record { line = line; act = act })
 
 -- additions to totals words
 abbrev pub AreAdditions : List Entry → Type 0
-AreAdditions es = (e : Entry) → Contains es e → (word bytes : ℕ) × (e ≡ Added word bytes)
+AreAdditions [] = Unit {0}
+AreAdditions (Counted t step found value ∷ es) = ⊥
+AreAdditions (Looked t found ∷ es) = ⊥
+AreAdditions (Read t place value since owned unclean ∷ es) = ⊥
+AreAdditions (Added word bytes ∷ es) = AreAdditions es
+AreAdditions (Entered keeper made ∷ es) = ⊥
+AreAdditions (Uncut t ∷ es) = ⊥
 
 -- The signs of a log segment, by its shape.
 --   quiet: an op that enters nothing, and no exchange, has those of its record if its log segment is what its answer requires
