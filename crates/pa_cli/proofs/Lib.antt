@@ -8,3 +8,5 @@ mod Running
 mod Printing
 mod Parsed
 mod Right
+mod Legal
+mod Written

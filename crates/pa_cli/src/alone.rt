@@ -11,11 +11,11 @@ ghost use Rattle.pa_trace.specs.Limits.{IsWithinLimits};
 use crate::answers::{LEGAL, VERSION, help, layout_line, write_generated};
 use crate::command::Command;
 use crate::input::read_input;
-use crate::output::write_output;
+use crate::output::write_printed;
 use crate::printed::Printed;
 use crate::scripts::{resize, verdicts};
 use crate::status::Status;
-use pa_audit_input::{Judgement, judge, judged};
+use pa_audit_input::{Judgement, MOST_AUDITED, judge, judged};
 use pa_dangle::{found_text, pairs_dense};
 use pa_dense::DenseRun;
 use pa_io::{Failed, Sink, Source};
@@ -25,9 +25,6 @@ use pa_rules::Verdict;
 use pa_summary::ends_of;
 use pa_trace::{MOST_BYTES, Trace};
 use std::alloc::Global;
-
-// The most bytes of a trace and a run.
-const MOST_AUDITED: usize = 134_217_728;
 
 /// Does what the words ask for, if they ask for no threads. It waits for nobody, so a call returns. `model` reads a trace, plays all
 /// lines in their order and writes the text of that run; `audit` reads a trace and after it a run, and writes `legal` if that is a
@@ -79,7 +76,7 @@ fn answer<S: Source, K: Sink>(
         Ok(text) => text,
         Err(status) => return status,
     };
-    match write_output(sink, text.as_slice()) {
+    match write_printed(sink, &text) {
         Ok(()) => return Status::Done,
         Err(Failed) => return Status::WriteFault,
     }
@@ -101,7 +98,7 @@ fn text_of<S: Source>(alloc: Global, command: Command, source: &mut S) -> Result
         Command::Model => Ok(Printed::Made(model(alloc, source)?)),
         Command::Audit => audit(alloc, source),
         Command::Dangling => Ok(Printed::Made(dangling(alloc, source)?)),
-        Command::Resize => Ok(Printed::Made(resize(alloc, source)?)),
+        Command::Resize => resize(alloc, source),
         Command::Verdicts => Ok(Printed::Made(verdicts(alloc, source)?)),
         Command::Layout(size) => Ok(Printed::Line(layout_line(size))),
         Command::Trace { rounds, key } => Ok(Printed::Made(write_generated(alloc, rounds, key)?)),

@@ -6,10 +6,13 @@ ghost use Rattle.pa_cli.specs.Call.{stream_of};
 ghost use Rattle.pa_cli.specs.Command.{ReadsScript, needing};
 ghost use Rattle.pa_cli.specs.Cause.{IsRefusal};
 ghost use Rattle.pa_cli.specs.Output.{IsScriptRead, IsResizeText, IsVerdictsText, IsResizeOutput, IsVerdictsOutput};
+ghost use Rattle.pa_cli.specs.PrintedText.{printed_bytes};
 ghost use Rattle.pa_cli.specs.VerdictsText.{resize_word, verdict_line};
 
 use crate::input::read_input;
+use crate::printed::Printed;
 use crate::status::Status;
+use pa_audit_input::MOST_AUDITED;
 use pa_io::Source;
 use pa_machine::OutOfMemory;
 use pa_record::write_run;
@@ -21,10 +24,10 @@ use std::alloc::Global;
 
 // The output of `resize`.
 #[tactic(auto, using(crate::proofs::Refusing::script_stopped))]
-pub fn resize<S: Source>(alloc: Global, source: &mut S) -> Result<Vec<u8>, Status>
+pub fn resize<S: Source>(alloc: Global, source: &mut S) -> Result<Printed, Status>
     ensures text { IfOk result (λ text. IsResizeOutput
         (stream_of (S.left source.old) (S.faults source.old))
-        (stream_of (S.left source.new) (S.faults source.new)) text.items) }
+        (stream_of (S.left source.new) (S.faults source.new)) (printed_bytes text)) }
     ensures refusal { IfErr result (λ status. IsRefusal status (needing ReadsScript false true)
         (stream_of (S.left source.old) (S.faults source.old))
         (stream_of (S.left source.new) (S.faults source.new))) }
@@ -61,16 +64,19 @@ fn script_of<S: Source>(alloc: Global, source: &mut S) -> Result<Script, Status>
     Ok(read_script(alloc, input.as_slice())?)
 }
 
-// The text of the trace that the script comes to, and after it that of its run.
-fn write_resized(alloc: Global, script: &Script) -> Result<Vec<u8>, OutOfMemory>
+// The text of the trace that the script comes to, and after it that of its run. It is given up where `audit` couldn't read as much; no
+// script is known that comes near to that.
+fn write_resized(alloc: Global, script: &Script) -> Result<Printed, OutOfMemory>
     requires { IsScriptWithin script.now }
-    ensures { IfOk result (λ text. IsResizeText script.now text.items) }
+    ensures { IfOk result (λ text. IsResizeText script.now (printed_bytes text)) }
 {
     let expanded = expand(alloc, script)?;
-    let mut text = write_trace(alloc, &expanded.trace)?;
+    let trace = write_trace(alloc, &expanded.trace)?;
     let run = write_run(alloc, &expanded.run)?;
-    text.extend_from_slice(run.as_slice())?;
-    Ok(text)
+    if trace.len() + run.len() > MOST_AUDITED {
+        return Err(OutOfMemory);
+    }
+    Ok(Printed::Parts(trace, run))
 }
 
 // The text of what each resize of the script comes to.
