@@ -4,5 +4,6 @@ mod Moves
 mod Oldest
 mod Returning
 mod Seats
+mod Settling
 mod Starting
 mod Staying

@@ -17,14 +17,14 @@ use Rattle.pa_records.specs.Stored.{AreStored}
 empty_used : (x : SpanRecord) → x.state ≡ state.Empty → IsInUse x
 empty_used x is none = let no : state.Empty ≡ state.None = sym is ∙ none in absurd (cc)
 
-state_at : (spans : ℕ → SpanRecord) (has : ℕ → Type 0) (ss : List Span) (s : Span) → AreStored spans has ss → Contains ss s → (spans s.place).state ≡ s.state
+pub state_at : (spans : ℕ → SpanRecord) (has : ℕ → Type 0) (ss : List Span) (s : Span) → AreStored spans has ss → Contains ss s → (spans s.place).state ≡ s.state
 state_at spans has ss s st among = ap (λ (x : SpanRecord). x.state) (st.numbers s among)
 
 turn_at : (spans : ℕ → SpanRecord) (has : ℕ → Type 0) (ss : List Span) (s : Span) → AreStored spans has ss → Contains ss s → (spans s.place).turn ≡ s.turn
 turn_at spans has ss s st among = ap (λ (x : SpanRecord). x.turn) (st.numbers s among)
 
 -- an empty span is in the ring
-in_ring : (l : SpanListParts) (spans : ℕ → SpanRecord) (has : ℕ → Type 0) (ss : List Span) (s : Span) → Stand l spans has → AreStored spans has ss → Contains ss s →
+pub in_ring : (l : SpanListParts) (spans : ℕ → SpanRecord) (has : ℕ → Type 0) (ss : List Span) (s : Span) → Stand l spans has → AreStored spans has ss → Contains ss s →
     is_in state.Empty s ≡ true → Contains l.ring s.place
 in_ring l spans has ss s stand st among is =
     stand.empty s.place (st.had s among) (state_at spans has ss s st among ∙ same_state-true s.state state.Empty is)

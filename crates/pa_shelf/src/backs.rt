@@ -1,9 +1,9 @@
 //! Slots that come back.
-ghost use Rattle.std.specs.Prelude.{◌≡◌, ◌↔◌, ℕ, ◌-◌, ◌^◌, ◌<◌, ◌≤◌, List, ◌∷◌, length, Contains, Some, IsNone};
+ghost use Rattle.std.specs.Prelude.{◌≡◌, ◌↔◌, ℕ, ◌+◌, ◌-◌, ◌^◌, ◌<◌, ◌≤◌, List, ◌∷◌, length, Contains, Some, IsNone};
 ghost use Rattle.pa_machine.specs.declared.title.Title.{Title};
 ghost use Rattle.pa_machine.specs.Links.{link_to};
 ghost use Rattle.pa_record.specs.Spans.{Span as RootSpan, name_of};
-ghost use Rattle.pa_record.specs.Root.{Root, put_back};
+ghost use Rattle.pa_record.specs.Root.{Root, put_back, returned};
 ghost use Rattle.pa_region.specs.Views.{free_of};
 ghost use Rattle.pa_spans.specs.Lists.{oldest_of};
 ghost use Rattle.pa_link.specs.Chains.{IsChain, after_link};
@@ -47,6 +47,24 @@ impl Shelf {
         own.aware();
         let to = state_back(allocated);
         self.change(region, own, at, with_front(span, start), to)
+    }
+
+    /// Takes a slot back to its span, which starts at this offset: it is in front of the span's list then, and of 17 empty spans
+    /// the one of least turn is decommitted. It allocates nothing.
+    pub fn give_back(&mut self, region: &Region, own: &mut Seat, at: u32, title: Title)
+        requires region { own.old.region ≡ region.now }
+        requires able { 0 < free_of own.old.view title }
+        requires back { (r : Root) × (s : RootSpan) × (n : ℕ) × IsBackAt own.old.view self.old at title r s n }
+        requires few { length self.old.lists.ring ≤ 16 }
+        requires turn { self.old.lists.turn + 1 < 2 ^ 63 }
+        ensures region { own.new.region ≡ own.old.region }
+        ensures shown { (r : Root) (s : RootSpan) (n : ℕ) → IsBackAt own.old.view self.old at title r s n →
+            ShowsRoot own.new.view self.new (returned (name_of title) r) }
+    {
+        if let Some(oldest) = self.put_back(region, own, at, title) {
+            let _ = oldest;
+            self.decommit_oldest(region, own);
+        }
     }
 }
 

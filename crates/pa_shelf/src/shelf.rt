@@ -1,7 +1,7 @@
-ghost use Rattle.std.specs.Prelude.{◌≡◌, ◌≢◌, ◌^◌, ◌<◌, ◌≤◌, Contains, length};
+ghost use Rattle.std.specs.Prelude.{◌≡◌, ◌≢◌, ◌+◌, ◌^◌, ◌<◌, ◌≤◌, Contains, length};
 ghost use Rattle.pa_buckets.specs.declared.spans.State.TheVariants as state;
 ghost use Rattle.pa_record.specs.Spans.{Span as RootSpan};
-ghost use Rattle.pa_record.specs.Root.{Root, entered, oldest_decommitted};
+ghost use Rattle.pa_record.specs.Root.{Root, entered, oldest_decommitted, purged};
 ghost use Rattle.pa_record.specs.Sound.{IsSound};
 ghost use Rattle.pa_spans.specs.Lists.{Stand, StaysListed, lists_entered, oldest_of};
 ghost use Rattle.pa_records.specs.Words.{spans_in};
@@ -65,6 +65,22 @@ impl Shelf {
         if let Some(at) = self.lists.first_empty() {
             let span = read_meta(region, own, at);
             let _ = self.change(region, own, at, without_pages(span), State::Decommitted);
+        }
+    }
+
+    /// Decommits every empty span, the one with the least turn first. It allocates nothing.
+    pub fn purge(&mut self, region: &Region, own: &mut Seat)
+        requires region { own.old.region ≡ region.now }
+        requires shown { (r : Root) × IsSound r × ShowsRoot own.old.view self.old r }
+        requires few { length self.old.lists.ring ≤ 16 }
+        requires turn { self.old.lists.turn + 16 < 2 ^ 63 }
+        ensures region { own.new.region ≡ own.old.region }
+        ensures shown { (r : Root) → IsSound r → ShowsRoot own.old.view self.old r → ShowsRoot own.new.view self.new (purged r) }
+    {
+        let count = self.lists.empties();
+        for done in 0..count {
+            let _ = done;
+            self.decommit_oldest(region, own);
         }
     }
 
