@@ -44,7 +44,7 @@ fn span_shapes(rt: HostRuntime) {
         };
         match Class::of(number) {
             Some(class) => {
-                assert_eq!(rt; slot_size(class), slot, "size at {number}");
+                assert!(rt; slot_size(class) == slot, "size at {number}");
                 assert!(rt; span_of(class) == shape, "span at {number}");
             }
             None => assert!(rt; false, "no class {number}"),
@@ -68,8 +68,8 @@ fn limits_on_both_sides_of_an_edge(rt: HostRuntime) {
     for (number, limit, count) in edges {
         match Class::of(number) {
             Some(class) => {
-                assert_eq!(rt; cache_limit(class), limit, "limit at {number}");
-                assert_eq!(rt; fill_count(class), count, "count at {number}");
+                assert!(rt; cache_limit(class) == limit, "limit at {number}");
+                assert!(rt; fill_count(class) == count, "count at {number}");
             }
             None => assert!(rt; false, "no class {number}"),
         }

@@ -1,8 +1,7 @@
 ghost use Rattle.std.specs.Prelude.{◌≡◌, ◌<◌, length};
 
-use pa_machine::{Core, Event, Item, POISON, Step, StepFault, Title, core_run};
+use pa_machine::{Core, Event, Item, OutOfMemory, POISON, Step, StepFault, Title, core_run};
 use std::alloc::Global;
-use std::process::Abort;
 use std::test::Fail;
 
 const TITLE: Title = Title {
@@ -55,6 +54,15 @@ fn uncut(actor: u32) -> Event {
     }
 }
 
+// What a core of 64 bytes shows: what the events returned, the words after them, and the same of one event more.
+#[derive(Clone, Copy, PartialEq, Eq)]
+struct Shown {
+    first: Result<(), (u32, StepFault)>,
+    between: [u64; 8],
+    second: Result<(), (u32, StepFault)>,
+    last: [u64; 8],
+}
+
 // The eight words of a core of 64 bytes.
 fn words(core: &Core) -> [u64; 8]
     requires { length core.now.words ≡ 8 }
@@ -63,230 +71,181 @@ fn words(core: &Core) -> [u64; 8]
     [w(0), w(8), w(16), w(24), w(32), w(40), w(48), w(56)]
 }
 
-// The events of `lead` happen, `refused` doesn't, and the core is as after `lead`: its words are, and it plays on alike.
-fn refuses(
-    rt: &impl Abort,
+// Three actors play these events, and then this one.
+fn played(alloc: Global, events: &[Event], next: Event) -> Result<Shown, OutOfMemory>
+    requires { length events.now < 1000 }
+{
+    let mut core = Core::new(alloc, 64, 3)?;
+    let first = core_run(&mut core, events);
+    let between = words(&core);
+    let second = core_run(&mut core, &[next]);
+    let last = words(&core);
+    Ok(Shown {
+        first,
+        between,
+        second,
+        last,
+    })
+}
+
+// Whether the events of `lead` happen, `refused` doesn't, and the core is as after `lead`: its words are, and it plays on alike.
+fn is_refused(
     alloc: Global,
     lead: &[Event],
     refused: Event,
     next: Event,
-) -> Result<(), Fail>
-    requires { length lead.now < 100 }
-{
+) -> Result<bool, OutOfMemory> {
+    if lead.len() > 100 {
+        return Ok(false);
+    }
     let mut events = Vec::with_capacity(alloc, lead.len() + 1)?;
     events.extend_from_slice(lead)?;
     events.push(refused)?;
-    let mut core = Core::new(alloc, 64, 3)?;
-    let mut before = Core::new(alloc, 64, 3)?;
-    assert_eq!(rt;
-        core_run(&mut core, &events),
-        Err((lead.len() as u32, StepFault::NotEnabled)),
-        "{refused:?}"
-    );
-    assert_eq!(rt; core_run(&mut before, lead), Ok(()), "{refused:?}");
-    assert_eq!(rt; words(&core), words(&before), "{refused:?}");
-    assert_eq!(rt; core_run(&mut core, &[next]), Ok(()), "{refused:?}");
-    assert_eq!(rt; core_run(&mut before, &[next]), Ok(()), "{refused:?}");
-    assert_eq!(rt; words(&core), words(&before), "{refused:?}");
-    Ok(())
+    let due = played(alloc, lead, next)?;
+    let found = played(alloc, &events, next)?;
+    let as_due = Shown {
+        first: Err((lead.len() as u32, StepFault::NotEnabled)),
+        ..due
+    };
+    Ok(due.first == Ok(()) && due.second == Ok(()) && found == as_due)
 }
 
 #[test]
 fn refuses_counted_steps(rt: HostRuntime) -> Result<(), Fail> {
     let issued = [cut(0, TITLE), count(0, Step::Issue)];
-    let alloc = rt.alloc();
-    refuses(&rt, alloc, &[], count(0, Step::Issue), cut(0, TITLE))?;
-    refuses(
-        &rt,
-        alloc,
-        &[cut(0, TITLE), store(0, 0, 5)],
-        count(0, Step::Issue),
-        store(0, 0, 0),
-    )?;
-    refuses(
-        &rt,
-        alloc,
-        &[cut(0, TITLE)],
-        count(1, Step::Issue),
-        count(0, Step::Issue),
-    )?;
-    refuses(
-        &rt,
-        alloc,
-        &issued,
-        count(0, Step::Issue),
-        count(0, Step::Copy),
-    )?;
-    refuses(
-        &rt,
-        alloc,
-        &issued,
-        count(1, Step::Copy),
-        count(0, Step::Copy),
-    )?;
-    refuses(
-        &rt,
-        alloc,
-        &[issued[0], issued[1], store(0, 0, 7)],
-        count(0, Step::Copy),
-        store(0, 8, 7),
-    )?;
-    refuses(
-        &rt,
-        alloc,
-        &issued,
-        count(0, Step::Reset),
-        count(0, Step::Write),
-    )?;
-    refuses(&rt, alloc, &issued, count(0, Step::Free), poison(0))?;
-    refuses(
-        &rt,
-        alloc,
-        &[issued[0], issued[1], poison(0)],
-        count(0, Step::Free),
-        poison(0),
-    )?;
-    refuses(
-        &rt,
-        alloc,
-        &[issued[0], issued[1], store(0, 0, 7)],
-        count(0, Step::Write),
-        store(0, 8, 7),
-    )?;
-    refuses(
-        &rt,
-        alloc,
-        &[issued[0], issued[1], count(0, Step::Copy)],
-        count(0, Step::Write),
-        count(0, Step::Reset),
-    )
+    let rows: [(&[Event], Event, Event); 11] = [
+        (&[], count(0, Step::Issue), cut(0, TITLE)),
+        (
+            &[cut(0, TITLE), store(0, 0, 5)],
+            count(0, Step::Issue),
+            store(0, 0, 0),
+        ),
+        (
+            &[cut(0, TITLE)],
+            count(1, Step::Issue),
+            count(0, Step::Issue),
+        ),
+        (&issued, count(0, Step::Issue), count(0, Step::Copy)),
+        (&issued, count(1, Step::Copy), count(0, Step::Copy)),
+        (
+            &[issued[0], issued[1], store(0, 0, 7)],
+            count(0, Step::Copy),
+            store(0, 8, 7),
+        ),
+        (&issued, count(0, Step::Reset), count(0, Step::Write)),
+        (&issued, count(0, Step::Free), poison(0)),
+        (
+            &[issued[0], issued[1], poison(0)],
+            count(0, Step::Free),
+            poison(0),
+        ),
+        (
+            &[issued[0], issued[1], store(0, 0, 7)],
+            count(0, Step::Write),
+            store(0, 8, 7),
+        ),
+        (
+            &[issued[0], issued[1], count(0, Step::Copy)],
+            count(0, Step::Write),
+            count(0, Step::Reset),
+        ),
+    ];
+    for (lead, refused, next) in rows {
+        assert!(rt;
+            is_refused(rt.alloc(), lead, refused, next)?,
+            "{refused:?} after {lead:?}"
+        );
+    }
+    Ok(())
 }
 
 #[test]
 fn refuses_stores_loads_and_poison(rt: HostRuntime) -> Result<(), Fail> {
     let issued = [cut(0, TITLE), count(0, Step::Issue)];
-    let alloc = rt.alloc();
-    refuses(&rt, alloc, &[], store(1, 0, 1), store(0, 0, 1))?;
-    refuses(&rt, alloc, &[], store(0, 4, 1), store(0, 8, 1))?;
-    refuses(
-        &rt,
-        alloc,
-        &[cut(0, TITLE)],
-        store(0, 16, 1),
-        store(0, 8, 1),
-    )?;
-    refuses(
-        &rt,
-        alloc,
-        &[issued[0], issued[1], count(0, Step::Copy)],
-        store(0, 0, 1),
-        count(0, Step::Reset),
-    )?;
-    refuses(
-        &rt,
-        alloc,
-        &[issued[0], issued[1], poison(0)],
-        store(0, 8, 1),
-        poison(0),
-    )?;
-    refuses(&rt, alloc, &issued, poison(1), poison(0))?;
-    refuses(
-        &rt,
-        alloc,
-        &[issued[0], issued[1], poison(0), poison(0)],
-        poison(0),
-        count(0, Step::Free),
-    )?;
-    refuses(&rt, alloc, &[], load(1, 0), load(0, 0))?;
-    refuses(&rt, alloc, &[], load(0, 64), load(0, 56))?;
-    refuses(&rt, alloc, &issued, load(1, 16), load(0, 16))?;
-    refuses(&rt, alloc, &[], load(3, 0), load(0, 0))
+    let rows: [(&[Event], Event, Event); 11] = [
+        (&[], store(1, 0, 1), store(0, 0, 1)),
+        (&[], store(0, 4, 1), store(0, 8, 1)),
+        (&[cut(0, TITLE)], store(0, 16, 1), store(0, 8, 1)),
+        (
+            &[issued[0], issued[1], count(0, Step::Copy)],
+            store(0, 0, 1),
+            count(0, Step::Reset),
+        ),
+        (
+            &[issued[0], issued[1], poison(0)],
+            store(0, 8, 1),
+            poison(0),
+        ),
+        (&issued, poison(1), poison(0)),
+        (
+            &[issued[0], issued[1], poison(0), poison(0)],
+            poison(0),
+            count(0, Step::Free),
+        ),
+        (&[], load(1, 0), load(0, 0)),
+        (&[], load(0, 64), load(0, 56)),
+        (&issued, load(1, 16), load(0, 16)),
+        (&[], load(3, 0), load(0, 0)),
+    ];
+    for (lead, refused, next) in rows {
+        assert!(rt;
+            is_refused(rt.alloc(), lead, refused, next)?,
+            "{refused:?} after {lead:?}"
+        );
+    }
+    Ok(())
 }
 
 #[test]
 fn refuses_hands_cuts_and_uncuts(rt: HostRuntime) -> Result<(), Fail> {
     let issued = [cut(0, TITLE), count(0, Step::Issue)];
-    let alloc = rt.alloc();
     let raw = |start: u32, len: u32| Item::Raw { start, len };
-    refuses(
-        &rt,
-        alloc,
-        &[cut(0, TITLE)],
-        hand(0, 1, raw(16, 16)),
-        hand(0, 1, raw(24, 16)),
-    )?;
-    refuses(
-        &rt,
-        alloc,
-        &[],
-        hand(0, 3, raw(0, 8)),
-        hand(0, 2, raw(3, 2)),
-    )?;
-    refuses(
-        &rt,
-        alloc,
-        &[cut(0, TITLE)],
-        hand(0, 1, Item::Own(TITLE)),
-        hand(0, 1, Item::Free(TITLE)),
-    )?;
-    refuses(
-        &rt,
-        alloc,
-        &issued,
-        hand(0, 1, Item::Free(TITLE)),
-        hand(0, 1, Item::Own(TITLE)),
-    )?;
-    refuses(
-        &rt,
-        alloc,
-        &issued,
-        hand(0, 1, Item::Ref(TITLE)),
-        count(0, Step::Copy),
-    )?;
-    refuses(
-        &rt,
-        alloc,
-        &[issued[0], issued[1], store(0, 0, 7)],
-        hand(0, 1, Item::Own(TITLE)),
-        store(0, 8, 7),
-    )?;
-    refuses(
-        &rt,
-        alloc,
-        &[store(0, 16, 1)],
-        cut(0, TITLE),
-        store(0, 16, 0),
-    )?;
-    refuses(
-        &rt,
-        alloc,
-        &[cut(0, TITLE)],
-        cut(0, Title { born: 1, ..TITLE }),
-        cut(0, NEXT),
-    )?;
-    refuses(
-        &rt,
-        alloc,
-        &[],
-        cut(0, Title { len: 8, ..TITLE }),
-        cut(0, TITLE),
-    )?;
-    refuses(
-        &rt,
-        alloc,
-        &[],
-        cut(0, Title { start: 4, ..TITLE }),
-        cut(0, TITLE),
-    )?;
-    refuses(
-        &rt,
-        alloc,
-        &[hand(0, 1, raw(3, 1))],
-        cut(0, TITLE),
-        hand(1, 0, raw(3, 1)),
-    )?;
-    refuses(&rt, alloc, &issued, uncut(0), count(0, Step::Write))?;
-    refuses(&rt, alloc, &[cut(0, TITLE)], uncut(1), uncut(0))
+    let rows: [(&[Event], Event, Event); 13] = [
+        (
+            &[cut(0, TITLE)],
+            hand(0, 1, raw(16, 16)),
+            hand(0, 1, raw(24, 16)),
+        ),
+        (&[], hand(0, 3, raw(0, 8)), hand(0, 2, raw(3, 2))),
+        (
+            &[cut(0, TITLE)],
+            hand(0, 1, Item::Own(TITLE)),
+            hand(0, 1, Item::Free(TITLE)),
+        ),
+        (
+            &issued,
+            hand(0, 1, Item::Free(TITLE)),
+            hand(0, 1, Item::Own(TITLE)),
+        ),
+        (&issued, hand(0, 1, Item::Ref(TITLE)), count(0, Step::Copy)),
+        (
+            &[issued[0], issued[1], store(0, 0, 7)],
+            hand(0, 1, Item::Own(TITLE)),
+            store(0, 8, 7),
+        ),
+        (&[store(0, 16, 1)], cut(0, TITLE), store(0, 16, 0)),
+        (
+            &[cut(0, TITLE)],
+            cut(0, Title { born: 1, ..TITLE }),
+            cut(0, NEXT),
+        ),
+        (&[], cut(0, Title { len: 8, ..TITLE }), cut(0, TITLE)),
+        (&[], cut(0, Title { start: 4, ..TITLE }), cut(0, TITLE)),
+        (
+            &[hand(0, 1, raw(3, 1))],
+            cut(0, TITLE),
+            hand(1, 0, raw(3, 1)),
+        ),
+        (&issued, uncut(0), count(0, Step::Write)),
+        (&[cut(0, TITLE)], uncut(1), uncut(0)),
+    ];
+    for (lead, refused, next) in rows {
+        assert!(rt;
+            is_refused(rt.alloc(), lead, refused, next)?,
+            "{refused:?} after {lead:?}"
+        );
+    }
+    Ok(())
 }
 
 #[test]
@@ -305,12 +264,12 @@ fn last_reset_returns(rt: HostRuntime) -> Result<(), Fail> {
         poison(1),
         count(1, Step::Free),
     ];
-    assert_eq!(rt; core_run(&mut core, &freed), Ok(()));
-    assert_eq!(rt; words(&core), [POISON, POISON, 0x0400_0002, 0, 0, 0, 0, 0]);
-    assert_eq!(rt; core.step(&load(2, 8)), Ok(()));
-    assert_eq!(rt; core.step(&count(2, Step::Reset)), Ok(()));
-    assert_eq!(rt; core.word(16), 0x0500_0000);
-    assert_eq!(rt; core.step(&uncut(1)), Err(StepFault::NotEnabled));
-    assert_eq!(rt; core.step(&uncut(2)), Ok(()));
+    assert!(rt; core_run(&mut core, &freed) == Ok(()));
+    assert!(rt; words(&core) == [POISON, POISON, 0x0400_0002, 0, 0, 0, 0, 0]);
+    assert!(rt; core.step(&load(2, 8)) == Ok(()));
+    assert!(rt; core.step(&count(2, Step::Reset)) == Ok(()));
+    assert!(rt; core.word(16) == 0x0500_0000);
+    assert!(rt; core.step(&uncut(1)) == Err(StepFault::NotEnabled));
+    assert!(rt; core.step(&uncut(2)) == Ok(()));
     Ok(())
 }

@@ -3,8 +3,8 @@ ghost use Rattle.pa_test_base.specs.Placing.{IsYoung, HasOnlyMaps};
 
 use arrayvec::ArrayVec;
 use pa_buckets::Class;
-use pa_machine::SlotName;
-use pa_place::{Out, Placement, PlainRoot, PoolPlan, ask};
+use pa_machine::{SlotName, Title};
+use pa_place::{Made, Out, Placed, Placement, PlainRoot, PoolPlan, ask};
 use pa_record::{Census, Tally};
 use std::process::Abort;
 use std::test::Fail;
@@ -16,7 +16,41 @@ struct Expected<'a> {
     starts: &'a [u32],
 }
 
+// Whether that is what a fill did: none of its slots was born later.
+fn is_filled(placed: &Placed, expected: Expected<'_>) -> bool {
+    let titles = placed.titles.as_slice();
+    if placed.pool != expected.pool || titles.len() != expected.starts.len() {
+        return false;
+    }
+    for (title, start) in titles.iter().zip(expected.starts) {
+        if title.start != *start || title.born != 0 {
+            return false;
+        }
+    }
+    true
+}
+
 // A fill of `want` slots of the class. At most that many steps were made before.
+fn filled(
+    placement: &mut Placement,
+    pool: &mut PoolPlan,
+    steps: u32,
+    class: u32,
+    want: u32,
+) -> Result<Placed, Fail>
+    requires young { IsYoung steps pool.old.entries placement.old }
+    requires few { steps < 10000 }
+    ensures young { OnOk result (IsYoung (steps + 1) pool.new.entries placement.new) }
+{
+    if want == 0 || want > 8 {
+        return Err(Fail::new("no such fill"));
+    }
+    let class = Class::of(class).ok_or("no such class")?;
+    let placed = placement.fill(pool, class, want)?;
+    Ok(placed)
+}
+
+// Such a fill, which must do this.
 fn fill(
     rt: &impl Abort,
     placement: &mut Placement,
@@ -28,19 +62,10 @@ fn fill(
 ) -> Result<(), Fail>
     requires young { IsYoung steps pool.old.entries placement.old }
     requires few { steps < 10000 }
-    requires some { 1 ≤ want }
-    requires most { want ≤ 8 }
     ensures young { OnOk result (IsYoung (steps + 1) pool.new.entries placement.new) }
 {
-    let class = Class::of(class).ok_or("no such class")?;
-    let placed = placement.fill(pool, class, want)?;
-    assert!(rt; placed.pool == expected.pool);
-    let titles = placed.titles.as_slice();
-    assert_eq!(rt; titles.len(), expected.starts.len());
-    for (title, start) in titles.iter().zip(expected.starts) {
-        assert_eq!(rt; title.start, *start);
-        assert_eq!(rt; title.born, 0);
-    }
+    let placed = filled(placement, pool, steps, class, want)?;
+    assert!(rt; is_filled(&placed, expected));
     Ok(())
 }
 
@@ -60,7 +85,34 @@ fn give(rt: &impl Abort, placement: &mut Placement, steps: u32, start: u32) -> R
     Ok(())
 }
 
-// A direct map of 2,002,944 bytes at the start of the region, by this entry of the pool, or none if there is no room.
+// Whether this entry of the pool was made, and a direct map of 2,002,944 bytes at the start of the region, or none if there is
+// no room.
+fn is_mapped(placed: &Placed, entry: u32, room: bool) -> bool {
+    let title = Title {
+        start: 16384,
+        len: 2002944,
+        born: entry,
+    };
+    let titles = placed.titles.as_slice();
+    let as_due = if room {
+        titles == [title].as_slice()
+    } else {
+        titles.is_empty()
+    };
+    as_due && placed.pool == Some(entry)
+}
+
+// A direct map of 2,002,944 bytes. At most that many steps were made before.
+fn mapped(placement: &mut Placement, pool: &mut PoolPlan, steps: u32) -> Result<Placed, Fail>
+    requires few { steps < 10000 }
+    requires maps { HasOnlyMaps steps pool.old placement.old }
+    ensures maps { OnOk result (HasOnlyMaps (steps + 1) pool.new placement.new) }
+{
+    let placed = placement.map(pool, 2002944, 1)?;
+    Ok(placed)
+}
+
+// Such a direct map at the start of the region, by this entry of the pool, or none if there is no room.
 fn map(
     rt: &impl Abort,
     placement: &mut Placement,
@@ -73,17 +125,8 @@ fn map(
     requires maps { HasOnlyMaps steps pool.old placement.old }
     ensures maps { OnOk result (HasOnlyMaps (steps + 1) pool.new placement.new) }
 {
-    let placed = placement.map(pool, 2002944, 1)?;
-    assert!(rt; placed.pool == Some(entry));
-    let titles = placed.titles.as_slice();
-    if room {
-        assert_eq!(rt; titles.len(), 1);
-        assert_eq!(rt; titles[0].start, 16384);
-        assert_eq!(rt; titles[0].len, 2002944);
-        assert_eq!(rt; titles[0].born, entry);
-    } else {
-        assert!(rt; titles.is_empty());
-    }
+    let placed = mapped(placement, pool, steps)?;
+    assert!(rt; is_mapped(&placed, entry, room));
     Ok(())
 }
 
@@ -104,10 +147,10 @@ fn unmap(
     let Some(Out::Map(title)) = placement.out(name) else {
         return Err(Fail::new("the map isn't out"));
     };
-    assert_eq!(rt; title.len, 2002944);
+    assert!(rt; title.len == 2002944);
     assert!(rt; pool.taken(0, 1));
     let went = placement.unmap(pool, title);
-    assert_eq!(rt; went, entry);
+    assert!(rt; went == entry);
     assert!(rt; placement.out(name) == None);
     Ok(())
 }
@@ -129,33 +172,20 @@ fn census(slots: u64, bytes: u64, committed: u64, states: [u32; 4]) -> Census {
 fn a_short_fill(rt: HostRuntime) -> Result<(), Fail> {
     let mut pool = PoolPlan::new(rt.alloc(), 1)?;
     let mut placement = Placement::new(rt.alloc())?;
-    let first = Expected {
-        pool: Some(0),
-        starts: &[16384],
-    };
-    fill(&rt, &mut placement, &mut pool, 0, 58, 1, first)?;
-    let second = Expected {
-        pool: None,
-        starts: &[933888],
-    };
-    fill(&rt, &mut placement, &mut pool, 1, 58, 1, second)?;
-    let third = Expected {
-        pool: None,
-        starts: &[1851392],
-    };
-    fill(&rt, &mut placement, &mut pool, 2, 49, 1, third)?;
-    let short = Expected {
-        pool: None,
-        starts: &[2048000],
-    };
-    fill(&rt, &mut placement, &mut pool, 3, 37, 2, short)?;
-    let full = Expected {
-        pool: Some(1),
-        starts: &[],
-    };
-    fill(&rt, &mut placement, &mut pool, 4, 38, 2, full)?;
+    let rows: [(u32, u32, Option<u32>, &[u32]); 5] = [
+        (58, 1, Some(0), &[16384]),
+        (58, 1, None, &[933888]),
+        (49, 1, None, &[1851392]),
+        (37, 2, None, &[2048000]),
+        (38, 2, Some(1), &[]),
+    ];
+    'fills: for at in 0..5 {
+        let (class, want, made, starts) = rows[at as usize];
+        let expected = Expected { pool: made, starts };
+        fill(&rt, &mut placement, &mut pool, at, class, want, expected)?;
+    }
     assert!(rt; placement.census() == census(0, 0, 2056192, [4, 0, 0, 0]));
-    assert_eq!(rt; pool.entries(), 2);
+    assert!(rt; pool.entries() == 2);
     assert!(rt; pool.taken(0, 1));
     assert!(rt; !pool.taken(0, 2));
     Ok(())
@@ -220,8 +250,13 @@ fn a_direct_map_again(rt: HostRuntime) -> Result<(), Fail> {
     unmap(&rt, &mut placement, &mut pool, 4, 2, 4)?;
     map(&rt, &mut placement, &mut pool, 5, 5, true)?;
     assert!(rt; placement.census() == census(0, 0, 2002944, [0, 0, 0, 0]));
-    assert_eq!(rt; pool.entries(), 6);
+    assert!(rt; pool.entries() == 6);
     Ok(())
+}
+
+// Whether that many slots were taken.
+fn has_slots(placed: &Placed, slots: usize) -> bool {
+    placed.titles.as_slice().len() == slots
 }
 
 // A fill of seven slots of 16,384 bytes, which has that many to give. At most that many steps were made before.
@@ -236,9 +271,8 @@ fn fill_pages(
     requires few { steps < 10000 }
     ensures young { OnOk result (IsYoung (steps + 1) pool.new.entries placement.new) }
 {
-    let class = Class::of(35).ok_or("no such class")?;
-    let placed = placement.fill(pool, class, 7)?;
-    assert_eq!(rt; placed.titles.as_slice().len(), slots);
+    let placed = filled(placement, pool, steps, 35, 7)?;
+    assert!(rt; has_slots(&placed, slots));
     Ok(placed.pool)
 }
 
@@ -253,9 +287,9 @@ fn as_many_spans_as_there_are(rt: HostRuntime) -> Result<(), Fail> {
     let asked = fill_pages(&rt, &mut placement, &mut pool, 1152, 0)?;
     assert!(rt; asked == Some(64));
     let census = placement.census();
-    assert_eq!(rt; census.full, 8064);
-    assert_eq!(rt; census.committed, 132120576);
-    assert_eq!(rt; census.reserved, 134217728);
+    assert!(rt; census.full == 8064);
+    assert!(rt; census.committed == 132120576);
+    assert!(rt; census.reserved == 134217728);
     Ok(())
 }
 
@@ -271,8 +305,8 @@ fn map_one(
     requires maps { HasOnlyMaps steps pool.old placement.old }
     ensures maps { OnOk result (HasOnlyMaps (steps + 1) pool.new placement.new) }
 {
-    let placed = placement.map(pool, 2002944, 1)?;
-    assert_eq!(rt; placed.titles.as_slice().len(), slots);
+    let placed = mapped(placement, pool, steps)?;
+    assert!(rt; has_slots(&placed, slots));
     Ok(())
 }
 
@@ -286,9 +320,28 @@ fn as_many_direct_maps_as_there_are(rt: HostRuntime) -> Result<(), Fail> {
     }
     map_one(&rt, &mut placement, &mut pool, 64, 0)?;
     let census = placement.census();
-    assert_eq!(rt; census.committed, 128188416);
-    assert_eq!(rt; census.reserved, 134217728);
+    assert!(rt; census.committed == 128188416);
+    assert!(rt; census.reserved == 134217728);
     Ok(())
+}
+
+// Whether that many slots were taken, and these made, each row told by its first byte and the count.
+fn are_made(
+    titles: &ArrayVec<Title, 16>,
+    want: u32,
+    batches: &ArrayVec<Made, 8>,
+    made: &[(u32, u32)],
+) -> bool {
+    let batches = batches.as_slice();
+    if titles.as_slice().len() != want as usize || batches.len() != made.len() {
+        return false;
+    }
+    for (batch, told) in batches.iter().zip(made) {
+        if batch.first.start != told.0 || batch.count != told.1 {
+            return false;
+        }
+    }
+    true
 }
 
 // A take of `want` slots of the class, all of which exist, with room that is made before. What it makes begins at these
@@ -313,12 +366,7 @@ fn take(
     ask(root, pool, class);
     let mut titles = ArrayVec::new();
     let batches = root.take(class, want, &mut titles);
-    assert_eq!(rt; titles.as_slice().len(), want as usize);
-    assert_eq!(rt; batches.as_slice().len(), made.len());
-    for (batch, told) in batches.as_slice().iter().zip(made) {
-        assert_eq!(rt; batch.first.start, told.0);
-        assert_eq!(rt; batch.count, told.1);
-    }
+    assert!(rt; are_made(&titles, want, &batches, made));
     Ok(())
 }
 
@@ -347,9 +395,10 @@ fn slots_by_their_pages(rt: HostRuntime) -> Result<(), Fail> {
         born: 0,
     };
     assert!(rt; placement.out(behind) == None);
-    give(&rt, &mut placement, 2, 83968)?;
-    give(&rt, &mut placement, 3, 53248)?;
-    give(&rt, &mut placement, 4, 16384)?;
+    let starts = [83968, 53248, 16384];
+    'gives: for at in 0..3 {
+        give(&rt, &mut placement, 2 + at, starts[at as usize])?;
+    }
     assert!(rt; placement.census() == census(258, 24576, 65536, [0, 1, 1, 0]));
     Ok(())
 }
