@@ -1,5 +1,5 @@
 -- The lists of caches over chains: how many titles they have, and in which views they stay.
-use Rattle.std.proofs.Common.{◌≡◌, ℕ, zero, suc, ◌+◌, ◌/◌, ◌<◌, ◌≤◌, List, [], ◌∷◌, length, get_or, set, Option, Some, None, refl, sym, ◌∙◌, ap, subst, arith, inl, inr}
+use Rattle.std.proofs.Common.{◌≡◌, ℕ, zero, suc, ◌/◌, ◌<◌, List, [], ◌∷◌, length, get_or, set, Option, Some, None, refl, sym, ◌∙◌, ap, subst, arith, inl, inr}
 use Rattle.std.specs.Prelude.{All, Contains, IsNone, map}
 use Rattle.std.proofs.lemmas.Bool.{false≢true, cases_eq}
 use Rattle.std.proofs.lemmas.List.{get_or-set_same, get_or-set_other, length-set, map-set}
@@ -19,7 +19,7 @@ use Rattle.pa_link.specs.Chains.{IsChain, Relinked, SameBeside, titles_from}
 use Rattle.pa_link.proofs.Chains.{listed, stay, starts_apart}
 use Rattle.pa_link.proofs.Gaps.{free_same}
 use Rattle.pa_cache.specs.Caches.{IsCache}
-use Rattle.pa_chain_cache.specs.Caches.{CacheParts, KeepsBounds, HoldsList, OthersHaveNone, ListsStay, OtherListsStay, list_in}
+use Rattle.pa_chain_cache.specs.Caches.{CacheParts, KeepsBounds, HoldsList, ListsStay, OtherListsStay, list_in}
 
 -- so many titles are along the links, whatever the words are
 along_many : (words : List ℕ) (len n : ℕ) (front : Option SlotName) → (IsNone front → n ≡ 0) → length (titles_from words len n front) ≡ n

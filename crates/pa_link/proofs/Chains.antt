@@ -1,6 +1,6 @@
 -- Chains: which titles they have along the links, and what a push, a pop and other stores make of them.
-use Rattle.std.proofs.Common.{◌≡◌, ℕ, zero, suc, ◌+◌, ◌-◌, ◌*◌, ◌/◌, ◌%◌, ◌^◌, ◌<◌, ◌≤◌, true, List, [], ◌∷◌, length, get_or, set, Option, Some, None, refl, sym, ◌∙◌, ap, subst, arith}
-use Rattle.std.specs.Prelude.{◌≢◌, ◌↔◌, All, AllPairs, Contains, IsNone, map}
+use Rattle.std.proofs.Common.{◌≡◌, ℕ, suc, ◌+◌, ◌-◌, ◌/◌, ◌^◌, ◌<◌, List, [], ◌∷◌, length, get_or, Option, Some, None, refl, sym, ◌∙◌, ap, subst, arith}
+use Rattle.std.specs.Prelude.{◌≢◌, ◌↔◌, All, Contains, IsNone}
 use Rattle.std.proofs.lemmas.Bool.{false≢true}
 use Rattle.std.proofs.lemmas.List.{get_or-set_same, get_or-set_other}
 use Rattle.std.proofs.lemmas.List.Elements.{All-cons, All-head, All-tail, All-map, Contains-get_or}
@@ -17,7 +17,7 @@ use Rattle.pa_region.specs.declared.view.View.{View}
 use Rattle.pa_region.specs.Views.{free_of}
 use Rattle.pa_region.specs.Aware.{IsAware}
 use Rattle.pa_link.specs.declared.chain.ChainParts.{ChainParts}
-use Rattle.pa_link.specs.Chains.{title_named, slot_names, IsChain, titles_from, titles_along, after_link, ChainsAreListed, ChainsStay, LinksElsewhere}
+use Rattle.pa_link.specs.Chains.{title_named, slot_names, IsChain, titles_from, after_link, ChainsAreListed, ChainsStay, LinksElsewhere}
 
 abbrev pub Named : Title → Type 0
 Named t = (t.start < 2 ^ 32) × (t.born < 2 ^ 32)

@@ -1,17 +1,15 @@
 -- Titles that are taken out of the middle of a chain: those before them, those after them, and the link that joins both.
-use Rattle.std.proofs.Common.{◌≡◌, ℕ, zero, suc, ◌+◌, ◌-◌, ◌/◌, ◌<◌, ◌≤◌, List, [], ◌∷◌, ◌++◌, length, take, drop, Option, Some, None, refl, sym, ◌∙◌, ap, subst, arith, add-one, append_assoc, length-append}
-use Rattle.std.specs.Prelude.{◌≢◌, ◌↔◌, All, AllPairs, Contains, IsNone, map}
+use Rattle.std.proofs.Common.{◌≡◌, ℕ, zero, suc, ◌+◌, ◌/◌, ◌<◌, ◌≤◌, List, [], ◌∷◌, ◌++◌, length, take, drop, Option, Some, None, refl, sym, ◌∙◌, ap, subst, arith, add-one, append_assoc, length-append}
+use Rattle.std.specs.Prelude.{◌≢◌, ◌↔◌, All, AllPairs, Contains, IsNone}
 use Rattle.std.specs.Option.{option_to_list}
 use Rattle.std.proofs.lemmas.Bool.{false≢true}
-use Rattle.std.proofs.lemmas.List.{get_or-set_same, get_or-set_other, length-set, length-drop, drop-drop, take_at, drop_at, take_all, drop_all, append-nil, nil_from_length, map-append, take-append-drop}
-use Rattle.std.proofs.lemmas.List.Elements.{All-cons, All-head, All-map, All-append, All-drop, All-contains, Contains-append_right}
+use Rattle.std.proofs.lemmas.List.{get_or-set_same, get_or-set_other, length-set, length-drop, drop-drop, take_at, drop_at, take_all, drop_all, nil_from_length, map-append, take-append-drop}
+use Rattle.std.proofs.lemmas.List.Elements.{All-head, All-map, All-append, All-drop, All-contains, Contains-append_right}
 use Rattle.pa_lists.proofs.Elements.{all_front, pairs_front, drop_in, all_from_members}
 use Rattle.pa_lists.proofs.Parts.{pairs_across, pairs_after}
 use Rattle.pa_lists.proofs.Members.{first_in}
-use Rattle.pa_lists.proofs.Pairs.{pairs_cons, pairs_tail, pairs_head}
 use Rattle.pa_lists.proofs.Joined.{pairs_append}
 use Rattle.pa_machine.specs.declared.title.Title.{Title}
-use Rattle.pa_machine.specs.declared.word.SlotName.{SlotName}
 use Rattle.pa_machine.specs.Titles.{IsWellFormed}
 use Rattle.pa_machine.specs.Links.{first_word, front_of, link_to, AreLinked}
 use Rattle.pa_machine.proofs.Links.{links_join}

@@ -1,5 +1,5 @@
 -- Chains, as contracts see them: the list of titles that a chain has in a view, and what stores of links leave of a view.
-use Rattle.std.specs.Prelude.{◌≡◌, ◌≢◌, ℕ, zero, suc, ◌/◌, ◌^◌, ◌<◌, ◌≤◌, List, [], ◌∷◌, ◌++◌, length, map, true, IsNone, All, AllPairs, Contains, Option, Some, None, slice_index, slice_set}
+use Rattle.std.specs.Prelude.{◌≡◌, ◌≢◌, ℕ, zero, suc, ◌/◌, ◌^◌, ◌<◌, List, [], ◌∷◌, ◌++◌, length, map, true, IsNone, All, AllPairs, Contains, Option, Some, None, slice_index, slice_set}
 use Rattle.std.specs.Option.{option_to_list}
 use Rattle.pa_machine.specs.declared.title.Title.{Title}
 use Rattle.pa_machine.specs.declared.word.SlotName.{SlotName}

@@ -1,4 +1,4 @@
-use Rattle.std.proofs.Common.{◌≡◌, ◌+◌, ◌++◌, ◌∷◌, ◌∙◌, [], List, Option, Some, None, take, drop, length, length-append, refl, ap, sym, subst, arith}
+use Rattle.std.proofs.Common.{◌≡◌, ◌+◌, ◌++◌, ◌∷◌, ◌∙◌, [], List, Option, take, drop, length, length-append, refl, ap, sym, subst, arith}
 use Rattle.std.specs.Prelude.{◌↔◌, IsNone}
 use Rattle.std.specs.Option.{option_to_list}
 use Rattle.arrayvec.specs.ArrayVec.{ArrayVec}

@@ -1,4 +1,4 @@
-use Rattle.std.proofs.Common.{◌≡◌, ℕ, ◌/◌, ◌%◌, ap}
+use Rattle.std.proofs.Common.{ℕ, ◌/◌, ◌%◌, ap}
 use Rattle.pa_machine.specs.declared.word.SlotName.{SlotName}
 use Rattle.pa_machine.specs.Links.{linked_name}
 use Rattle.pa_link.proofs.link.name_in.Goals as goal

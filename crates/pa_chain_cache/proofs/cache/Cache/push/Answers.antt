@@ -1,4 +1,4 @@
-use Rattle.std.proofs.Common.{◌≡◌, ◌≤◌, refl, sym, subst, ap, length}
+use Rattle.std.proofs.Common.{◌≤◌, refl, sym, subst, ap, length}
 use Rattle.std.specs.Prelude.{Contains}
 use Rattle.pa_machine.specs.Links.{link_to}
 use Rattle.pa_buckets.specs.Bands.{limit_of}

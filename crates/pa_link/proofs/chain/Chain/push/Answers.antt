@@ -1,5 +1,4 @@
 use Rattle.std.proofs.Common.{◌≡◌, ◌∙◌, ap, sym, subst, arith}
-use Rattle.pa_machine.specs.Links.{link_to}
 use Rattle.pa_region.specs.Shares.{byte_word_count}
 use Rattle.pa_link.specs.Chains.{IsChain, after_link}
 use Rattle.pa_link.specs.declared.chain.ChainParts.{ChainParts}
