@@ -1,5 +1,5 @@
 -- What `replay`, `model`, `gen`, `resize`, `verdicts` and `dangling` print.
-use Rattle.std.proofs.Common.{◌≡◌, ◌∙◌, ℕ, ◌+◌, List, Some, refl, ap, ◌≤◌, ◌++◌, codes, length, length-append, arith}
+use Rattle.std.proofs.Common.{◌≡◌, ◌∙◌, ℕ, List, Some, refl, ap, ◌≤◌, ◌++◌, codes, length}
 use Rattle.pa_trace.specs.declared.script.Trace.{Trace}
 use Rattle.std.specs.List.{flat_map}
 use Rattle.pa_trace.specs.Grammar.{IsTraceText}
@@ -21,7 +21,6 @@ use Rattle.pa_resize.specs.declared.verdict.Verdict.{Verdict}
 use Rattle.pa_resize.specs.Expansion.{IsExpanded}
 use Rattle.pa_runner.specs.Whole.{IsHeldRun}
 use Rattle.pa_model.specs.Played.{IsInputPlayed}
-use Rattle.pa_audit_input.specs.Input.{most_audited}
 use Rattle.pa_cli.specs.Call.{Stream, IsRead}
 use Rattle.pa_cli.specs.Output.{output_with, IsReplayedAs, IsModelOutput, IsGenOutput, IsPairsText, IsResizeText, IsVerdictsText}
 use Rattle.pa_cli.specs.VerdictsText.{verdict_line}
@@ -84,9 +83,8 @@ pairs_printed t r report pairs freed slots left text written same sum found is p
 
 -- what is written of a script that was played is the output of `resize`
 pub script_resized : (s : Script) (t : Trace) (r : Run) (vs : List (ℕ × Verdict)) (front back : List ℕ) → IsExpanded s t r vs → HasCoreRun t r
-    → IsWithinLimits t → IsTraceText t front → length front ≤ most_bytes → IsRunText r back → length front + length back ≤ most_audited
-    → IsResizeText s (front ++ back)
-script_resized s t r vs front back expanded core limits traced few printed short = record {
+    → IsWithinLimits t → IsTraceText t front → length front ≤ most_bytes → IsRunText r back → IsResizeText s (front ++ back)
+script_resized s t r vs front back expanded core limits traced short printed = record {
   trace = t;
   run = r;
   verdicts = vs;
@@ -94,10 +92,9 @@ script_resized s t r vs front back expanded core limits traced few printed short
   core = core;
   front = front;
   back = back;
-  traced = record { limits = limits; text = traced; short = few };
+  traced = record { limits = limits; text = traced; short = short };
   printed = printed;
   parts = refl;
-  short = (let long = length-append front back in omega (arith, long, short));
 }
 
 -- what is written of its verdicts is the output of `verdicts`

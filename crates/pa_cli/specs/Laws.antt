@@ -14,9 +14,9 @@ OneThreadPrintsAsModel =
     (t : Trace) (run : Run) (words replayed modelled : List ℕ) → IsWithinLimits t → t.threads ≡ 1
     → IsReplayText t run words replayed → IsModelText t modelled → replayed ≡ modelled
 
--- what `resize` prints is an input that `audit` calls legal
+-- what `resize` prints is an input that `audit` calls legal, if it isn't too long for one
 abbrev pub ResizedIsLegalInput : Type 0
-ResizedIsLegalInput = (s : Script) (text : List ℕ) → IsResizeText s text → IsLegalInput text
+ResizedIsLegalInput = (s : Script) (text : List ℕ) → IsResizeText s text → length text ≤ most_audited → IsLegalInput text
 
 -- and so is a trace with what `model` or `replay` prints of it, if that isn't too long for one
 abbrev pub ModelledIsLegalInput : Type 0

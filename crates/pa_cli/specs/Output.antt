@@ -1,5 +1,5 @@
 -- The output of each command.
-use Rattle.std.specs.Prelude.{◌≡◌, ℕ, ◌*◌, ◌≤◌, List, ◌++◌, Option, Some, None, codes, length}
+use Rattle.std.specs.Prelude.{◌≡◌, ℕ, ◌*◌, List, ◌++◌, Option, Some, None, codes, length}
 use Rattle.pa_trace.specs.declared.script.Trace.{Trace}
 use Rattle.pa_trace.specs.Grammar.{IsTraceText}
 use Rattle.pa_trace.specs.Limits.{IsInput, most_bytes}
@@ -123,7 +123,7 @@ pub record IsScriptRead (script : Script) (before after : Stream) : Type 0 where
   pub input : IsScriptInput script bytes
 
 -- The text is that of the trace to which the script comes, which is within the limits, and after it that of the trace's run in the order
--- of its lines, which has a run of the core. It has no more bytes than an input of `audit`.
+-- of its lines, which has a run of the core.
 pub record IsResizeText (script : Script) (text : List ℕ) : Type 0 where
   pub trace : Trace
   pub run : Run
@@ -135,7 +135,6 @@ pub record IsResizeText (script : Script) (text : List ℕ) : Type 0 where
   pub traced : IsInput trace front
   pub printed : IsRunText run back
   pub parts : text ≡ front ++ back
-  pub short : length text ≤ most_audited
 
 -- the text has what each resize of the script came to in such a run
 pub record IsVerdictsText (script : Script) (text : List ℕ) : Type 0 where

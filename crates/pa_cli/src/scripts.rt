@@ -12,7 +12,6 @@ ghost use Rattle.pa_cli.specs.VerdictsText.{resize_word, verdict_line};
 use crate::input::read_input;
 use crate::printed::Printed;
 use crate::status::Status;
-use pa_audit_input::MOST_AUDITED;
 use pa_io::Source;
 use pa_machine::OutOfMemory;
 use pa_record::write_run;
@@ -64,8 +63,7 @@ fn script_of<S: Source>(alloc: Global, source: &mut S) -> Result<Script, Status>
     Ok(read_script(alloc, input.as_slice())?)
 }
 
-// The text of the trace that the script comes to, and after it that of its run. It is given up where `audit` couldn't read as much; no
-// script is known that comes near to that.
+// The text of the trace that the script comes to, and after it that of its run.
 fn write_resized(alloc: Global, script: &Script) -> Result<Printed, OutOfMemory>
     requires { IsScriptWithin script.now }
     ensures { IfOk result (λ text. IsResizeText script.now (printed_bytes text)) }
@@ -73,9 +71,6 @@ fn write_resized(alloc: Global, script: &Script) -> Result<Printed, OutOfMemory>
     let expanded = expand(alloc, script)?;
     let trace = write_trace(alloc, &expanded.trace)?;
     let run = write_run(alloc, &expanded.run)?;
-    if trace.len() + run.len() > MOST_AUDITED {
-        return Err(OutOfMemory);
-    }
     Ok(Printed::Parts(trace, run))
 }
 
