@@ -1,5 +1,5 @@
 -- What follows from ops that a worker played one after the other: in every run that fits, the transitions of its registers and
--- of its lists, that each log segment is what its answer requires, and what it counted.
+-- of its lists, that each log segment is what its answer requires, what it counted, and the bytes that it booked to totals words.
 use Rattle.std.specs.Prelude.{◌≡◌, ℕ, List, ◌++◌, Contains}
 use Rattle.pa_region.specs.declared.view.View.{View}
 use Rattle.pa_logs.specs.Told.{ToldRecord, played_in}
@@ -9,6 +9,7 @@ use Rattle.pa_logs.specs.Reported.{CacheLeadsTo}
 use Rattle.pa_op_specs.specs.Stocks.{regs_of, listed_in}
 use Rattle.pa_op_specs.specs.Counts.{CountsBy}
 use Rattle.pa_op_specs.specs.Workers.{WorkerValue}
+use Rattle.pa_op_specs.specs.Booking.{BooksBy}
 use Rattle.pa_op_specs.specs.Outcomes.{Outcome, IsOutcome, IsSeenOf, ActsAreOf, row_facts}
 use Rattle.pa_op_specs.specs.Plays.{PlaysAll}
 
@@ -28,4 +29,6 @@ pub record PlaysFollow : Type 0 where
   pub told : (o : Outcome) (w v : WorkerValue) (xs : List ToldRecord) → PlaysAll w xs v → FitsAll o w.stock.partitions v.stock.view xs →
       AreTold o.sizes xs
   pub counts : (o : Outcome) (w v : WorkerValue) (xs : List ToldRecord) → PlaysAll w xs v →
-      FitsAll o w.stock.partitions v.stock.view xs → CountsBy o.homes o.sizes (played_in xs) w.counts v.counts
+      FitsAll o w.stock.partitions v.stock.view xs → CountsBy o.homes (played_in xs) w.counts v.counts
+  pub bytes : (o : Outcome) (w v : WorkerValue) (xs : List ToldRecord) → PlaysAll w xs v →
+      FitsAll o w.stock.partitions v.stock.view xs → BooksBy o.homes o.sizes (played_in xs) w v

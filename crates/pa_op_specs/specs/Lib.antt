@@ -1,6 +1,7 @@
 pub mod Stocks
 pub mod Counts
 pub mod Workers
+pub mod Booking
 pub mod Outcomes
 pub mod Entering
 pub mod Owing

@@ -1,11 +1,12 @@
--- What the log segment of an op owes to the totals words, and what a refusal leaves of the words.
-use Rattle.std.specs.Prelude.{◌≡◌, ℕ, ◌+◌, List, if◌then◌else◌, Option, Some, None, slice_index}
+-- What the log segment of an op owes to the totals words, that it adds nothing to them, and what a refusal leaves of the words.
+use Rattle.std.specs.Prelude.{◌≡◌, ℕ, ◌+◌, List, if◌then◌else◌, Option, Some, None, Contains, slice_index}
 use Rattle.std.specs.List.{sum_by}
 use Rattle.pa_trace.specs.declared.script.Op.{Op}
 use Rattle.pa_trace.specs.declared.script.Op.TheVariants as ops
 use Rattle.pa_record.specs.declared.entry.Answer.{Answer}
 use Rattle.pa_record.specs.declared.entry.Answer.TheVariants as answers
 use Rattle.pa_region.specs.declared.view.Entry.{Entry}
+use Rattle.pa_region.specs.declared.view.Entry.TheVariants.{Added}
 use Rattle.pa_region.specs.declared.view.View.{View}
 use Rattle.pa_region.specs.Totals.{is_of_kind, owes_as}
 use Rattle.pa_region.specs.Views.{Knows}
@@ -45,6 +46,15 @@ owed_by q (Some d) bytes = if is_of_kind q d.step d.found then bytes else 0
 -- A log segment owes to the totals words of each kind what the step of the op's answer does, by the registers before the op.
 abbrev pub OwesOf : List StockRegister → Op → Answer → List Entry → Type 0
 OwesOf registers op answer es = (q : ℕ) → sum_by (owes_as q) es ≡ owed_by q (step_in op answer) (bytes_stepped registers op answer)
+
+-- It adds nothing to the totals words.
+abbrev pub AddsNothing : List Entry → Type 0
+AddsNothing es = (word bytes : ℕ) → Contains es (Added word bytes) → ⊥
+
+-- A slot that an answer says was made has the bytes of this register's slot.
+abbrev pub IsMadeIn : StockRegister → Answer → Type 0
+IsMadeIn register (answers.Made seen usable) = usable + 8 ≡ bytes_in register
+IsMadeIn register answer = Unit {0}
 
 -- the answer says that the op wasn't done
 abbrev pub IsNotDone : Answer → Type 0

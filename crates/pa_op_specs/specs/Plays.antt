@@ -27,9 +27,10 @@ use Rattle.pa_logs.specs.Said.{ReadsIts}
 use Rattle.pa_op_specs.specs.Stocks.{StockValue, regs_of, listed_in}
 use Rattle.pa_op_specs.specs.Counts.{CountsBy}
 use Rattle.pa_op_specs.specs.Workers.{WorkerValue}
+use Rattle.pa_op_specs.specs.Booking.{BooksBy}
 use Rattle.pa_op_specs.specs.Outcomes.{Outcome, FitsRun, row_facts}
 use Rattle.pa_op_specs.specs.Entering.{EntersOwn, EntersAtHome}
-use Rattle.pa_op_specs.specs.Owing.{OwesOf, KeepsWords}
+use Rattle.pa_op_specs.specs.Owing.{OwesOf, AddsNothing, KeepsWords}
 
 -- What the seat had seen before the op, and after it. What the record hands on isn't more than it has seen then, and for an
 -- exchange it is what its entry carries.
@@ -84,19 +85,22 @@ pub record Does (before after : StockValue) (x : ToldRecord) : Type 0 where
   pub words : KeepsWords x.played.answer before.view after.view
   pub answers : (o : Outcome) → FitsRun o before.partitions after.view x → AnswersIn o before after x
 
--- so an op on this line does, with this answer, in whatever phase the line is
+-- So an op on this line does, with this answer, in whatever phase the line is. An op adds nothing to the totals words: a settling does.
 abbrev pub DoesOp : (line : ℕ) → Op → Answer → (before after : StockValue) → Type 0
 DoesOp line op answer before after =
     (phase : ℕ) → (x : ToldRecord)
-    × (x.played ≡ record { line = line; thread = before.thread; phase = phase; op = op; answer = answer }) × Does before after x
+    × (x.played ≡ record { line = line; thread = before.thread; phase = phase; op = op; answer = answer })
+    × Does before after x × AddsNothing x.stretch
 
--- An op was played: the worker has its record besides; its counts grew by the record's step, in every run that fits; and all else is
--- what the op did with its thread state.
+-- An op was played: the worker has its record besides; all else is what the op did with its thread state; and in every run that fits
+-- its counts grew by the record's step, and it booked the bytes of that to the totals words.
 pub record PlaysOne (before after : WorkerValue) (x : ToldRecord) : Type 0 where
   pub records : after.records ≡ before.records ++ entry_of x.played ∷ []
   pub does : Does before.stock after.stock x
   pub counts : (o : Outcome) → FitsRun o before.stock.partitions after.stock.view x →
-      CountsBy o.homes o.sizes (x.played ∷ []) before.counts after.counts
+      CountsBy o.homes (x.played ∷ []) before.counts after.counts
+  pub bytes : (o : Outcome) → FitsRun o before.stock.partitions after.stock.view x →
+      BooksBy o.homes o.sizes (x.played ∷ []) before after
 
 abbrev pub PlaysOp : (line : ℕ) → Op → Answer → (before after : WorkerValue) → Type 0
 PlaysOp line op answer before after =

@@ -2,11 +2,9 @@
 -- of the worker's last record.
 use Rattle.std.specs.Prelude.{◌≡◌, List, [], ◌∷◌, ◌++◌}
 use Rattle.pa_region.specs.declared.view.Entry.{Entry}
-use Rattle.pa_region.specs.Views.{least_stake}
 use Rattle.pa_logs.specs.Told.{ToldRecord, played_in}
-use Rattle.pa_totals.specs.declared.owed.Owed.{Owed}
-use Rattle.pa_totals.specs.Settled.{CanSettleAll, after_settle_all, all_added}
-use Rattle.pa_op_specs.specs.Workers.{WorkerValue, worker_with_view}
+use Rattle.pa_totals.specs.Settled.{none_owed, after_settle_all, all_added}
+use Rattle.pa_op_specs.specs.Workers.{WorkerValue, IsWorker, HasItsStake, worker_with_view}
 use Rattle.pa_op_specs.specs.Plays.{PlaysAll}
 
 -- the record with these entries at the end of its log segment
@@ -19,15 +17,14 @@ last_lengthened es [] = []
 last_lengthened es (x ∷ []) = lengthened es x ∷ []
 last_lengthened es (x ∷ y ∷ xs) = x ∷ last_lengthened es (y ∷ xs)
 
--- the worker after its seat settled this
-abbrev pub settled_worker : List Owed → WorkerValue → WorkerValue
-settled_worker owed w = worker_with_view (after_settle_all owed w.stock.view) w
+-- the worker after its seat settled what it owes
+abbrev pub settled_worker : WorkerValue → WorkerValue
+settled_worker w = record (worker_with_view (after_settle_all w.owed w.stock.view) w) { owed = none_owed }
 
--- If a worker played ops, at least one, and then settles what its log owes, it played ops with the same records and is settled. Only
--- the log segment of the last one is longer.
+-- If a worker played ops, at least one, and then settles what it owes, it played ops with the same records and is settled. Only the
+-- log segment of the last one is longer.
 abbrev pub SettlingEndsPhase : Type 0
 SettlingEndsPhase =
-    (owed : List Owed) (w v : WorkerValue) (x : ToldRecord) (xs : List ToldRecord) → PlaysAll w (x ∷ xs) v →
-    least_stake v.stock.view.stakes ≡ v.stock.thread → CanSettleAll owed v.stock.view →
-    PlaysAll w (last_lengthened (all_added owed) (x ∷ xs)) (settled_worker owed v)
-    × (played_in (last_lengthened (all_added owed) (x ∷ xs)) ≡ played_in (x ∷ xs))
+    (w v : WorkerValue) (x : ToldRecord) (xs : List ToldRecord) → PlaysAll w (x ∷ xs) v → IsWorker v → HasItsStake v.stock →
+    PlaysAll w (last_lengthened (all_added v.owed) (x ∷ xs)) (settled_worker v)
+    × (played_in (last_lengthened (all_added v.owed) (x ∷ xs)) ≡ played_in (x ∷ xs))

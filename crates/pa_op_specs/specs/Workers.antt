@@ -1,31 +1,45 @@
 -- A worker, as contracts see it, and what is always true of it.
 use Rattle.std.specs.Prelude.{◌≡◌, ℕ, ◌+◌, ◌<◌, ◌≤◌, List, [], Bool, false, length}
+use Rattle.std.specs.List.{sum_by}
 use Rattle.pa_record.specs.declared.entry.Entry.{Entry}
 use Rattle.pa_region.specs.declared.view.View.{View}
 use Rattle.pa_region.specs.Views.{stake_of}
+use Rattle.pa_region.specs.Takes.{log_of}
+use Rattle.pa_region.specs.Totals.{added_as, owes_as}
+use Rattle.pa_totals.specs.declared.owed.Owed.{Owed}
+use Rattle.pa_totals.specs.Settled.{owed_in, none_owed}
 use Rattle.pa_op_specs.specs.declared.counts.Count.{Count}
-use Rattle.pa_op_specs.specs.Counts.{AreOfSteps, counted_in, no_count}
+use Rattle.pa_op_specs.specs.Counts.{AreOfSteps, IsOwedBySteps, counted_in, no_count}
 use Rattle.pa_op_specs.specs.Stocks.{StockValue, IsStock, IsNewStock}
 
--- A worker: its thread state; its records so far, and for how many in all there is room; whether an op ran out of memory; and what
--- it counted of its steps, for each of 4 partitions.
+-- A worker: its thread state; its records so far, and for how many in all there is room; whether an op ran out of memory; what
+-- it counted of its steps, for each of 4 partitions; and of their bytes those that it owes to the totals words of each partition.
 pub record WorkerValue : Type 0 where
   pub stock : StockValue
   pub records : List Entry
   pub room : ℕ
   pub stopped : Bool
   pub counts : List Count
-
--- What is always true of it. There is a counted step in its budget for each record to come, and it counted at most one step for each
--- record.
-pub record IsWorker (w : WorkerValue) : Type 0 where
-  pub stock : IsStock w.stock
-  pub budget : w.room ≤ length w.records + w.stock.view.budget
-  pub counts : AreOfSteps (length w.records) w.counts
+  pub owed : List Owed
 
 -- it has its stake
 abbrev pub HasItsStake : StockValue → Type 0
 HasItsStake s = 0 < stake_of s.view s.thread
+
+-- While it has its stake, of each kind its log's steps owe at least what its log added and what is still owed.
+abbrev pub IsCovered : List Owed → StockValue → Type 0
+IsCovered owed s =
+    HasItsStake s → (q : ℕ) →
+    sum_by (added_as q) (log_of s.thread s.view) + owed_in q owed ≤ sum_by (owes_as q) (log_of s.thread s.view)
+
+-- What is always true of it. There is a counted step in its budget for each record to come; it counted at most one step for each
+-- record, and these owe what is owed; and that may be added to the totals words.
+pub record IsWorker (w : WorkerValue) : Type 0 where
+  pub stock : IsStock w.stock
+  pub budget : w.room ≤ length w.records + w.stock.view.budget
+  pub counts : AreOfSteps (length w.records) w.counts
+  pub owed : IsOwedBySteps (length w.records) w.owed
+  pub covered : IsCovered w.owed w.stock
 
 -- it can play an op: it isn't stopped, it has its stake, and there is room for one more record
 pub record CanPlayOp (w : WorkerValue) : Type 0 where
@@ -52,3 +66,4 @@ pub record IsNewWorker (thread partitions lines : ℕ) (v : View) (w : WorkerVal
   pub room : w.room ≡ lines
   pub going : w.stopped ≡ false
   pub counts : (p : ℕ) → counted_in w.counts p ≡ no_count
+  pub owed : w.owed ≡ none_owed

@@ -1,14 +1,12 @@
-use pa_record::Tally;
-
-/// What the steps of a worker did with the slots of one partition.
+/// How many slots of one partition the steps of a worker changed so.
 #[derive(Clone, Copy, Debug, PartialEq, Eq)]
 pub struct Count {
     /// The slots that it made live.
-    pub issued: Tally,
+    pub issued: u64,
     /// Those that it freed.
-    pub freed: Tally,
+    pub freed: u64,
     /// Those that it freed while `raw_ptr`s pointed to them.
-    pub entered: Tally,
+    pub entered: u64,
     /// The freed slots that left quarantine when it reset their last `raw_ptr`.
-    pub left: Tally,
+    pub left: u64,
 }
