@@ -384,6 +384,7 @@ entered_does s after line op answer es thread partitions entering says phase = (
     words = say.words;
     answers = λ o fits. say.answers o fits.run fits.many fits.seen (line_acts o x say.it fits.run fits.acts);
   },
+  λ word bytes among. entering.each (Added word bytes) among,
 )
   where
     x : ToldRecord

@@ -12,10 +12,12 @@ use Rattle.pa_logs.specs.Reported.{CacheLeadsTo}
 use Rattle.pa_op_specs.specs.Stocks.{regs_of, listed_in}
 use Rattle.pa_op_specs.specs.Workers.{WorkerValue}
 use Rattle.pa_op_specs.specs.Counts.{CountsBy}
+use Rattle.pa_op_specs.specs.Booking.{BooksBy}
 use Rattle.pa_op_specs.specs.Outcomes.{Outcome, IsSeenOf, FitsRun, row_facts}
 use Rattle.pa_op_specs.specs.Plays.{PlaysOne, PlaysAll, AnswersIn}
 use Rattle.pa_op_specs.specs.Following.{FitsAll}
 use Rattle.pa_op_specs.proofs.Counting.{counts_none, counts_append}
+use Rattle.pa_op_specs.proofs.Booking.{books_none, books_append}
 
 pub composes : (w u v : WorkerValue) (xs ys : List ToldRecord) → PlaysAll w xs u → PlaysAll u ys v → PlaysAll w (xs ++ ys) v
 composes w u v [] ys same rest = subst (λ z. PlaysAll z ys v) same rest
@@ -78,8 +80,14 @@ told o w v (y ∷ ys) (next, one, more) fits = λ x among.
       | inr later ↦ told o next v ys more rest x later
     ]
 
-pub counts : (o : Outcome) (w v : WorkerValue) (xs : List ToldRecord) → PlaysAll w xs v → FitsAll o w.stock.partitions v.stock.view xs → CountsBy o.homes o.sizes (played_in xs) w.counts v.counts
-counts o w v [] same fits = subst (λ (z : WorkerValue). CountsBy o.homes o.sizes [] w.counts z.counts) (sym same) (counts_none o.homes o.sizes w.counts)
+pub counts : (o : Outcome) (w v : WorkerValue) (xs : List ToldRecord) → PlaysAll w xs v → FitsAll o w.stock.partitions v.stock.view xs → CountsBy o.homes (played_in xs) w.counts v.counts
+counts o w v [] same fits = subst (λ (z : WorkerValue). CountsBy o.homes [] w.counts z.counts) (sym same) (counts_none o.homes w.counts)
 counts o w v (x ∷ xs) (next, one, more) fits =
     let (first, rest) = first_fits o w next v x xs one more fits in
-    counts_append o.homes o.sizes (x.played ∷ []) (played_in xs) w.counts next.counts v.counts (one.counts o first) (counts o next v xs more rest)
+    counts_append o.homes (x.played ∷ []) (played_in xs) w.counts next.counts v.counts (one.counts o first) (counts o next v xs more rest)
+
+pub bytes : (o : Outcome) (w v : WorkerValue) (xs : List ToldRecord) → PlaysAll w xs v → FitsAll o w.stock.partitions v.stock.view xs → BooksBy o.homes o.sizes (played_in xs) w v
+bytes o w v [] same fits = subst (λ (z : WorkerValue). BooksBy o.homes o.sizes [] w z) (sym same) (books_none o.homes o.sizes w)
+bytes o w v (x ∷ xs) (next, one, more) fits =
+    let (first, rest) = first_fits o w next v x xs one more fits in
+    books_append o.homes o.sizes (x.played ∷ []) (played_in xs) w next v (one.bytes o first) (bytes o next v xs more rest)

@@ -4,10 +4,13 @@ pub mod Touching
 pub mod Owing
 pub mod Quiet
 pub mod Stocks
+pub mod Stakes
 pub mod Refusing
 pub mod Following
 pub mod Settling
 pub mod Counting
+pub mod Booking
+pub mod Growing
 pub mod Weighing
 pub mod Entered
 pub mod Batches

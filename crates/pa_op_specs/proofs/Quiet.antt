@@ -142,6 +142,7 @@ touched_does s w registers caches op answer es touched quiet owes words says lin
           home = say.home;
         };
   },
+  λ word bytes among. touched.each (Added word bytes) among,
 )
   where
     x : ToldRecord

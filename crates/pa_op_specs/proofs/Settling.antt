@@ -1,5 +1,5 @@
 -- Additions to totals words at the end of a log segment change nothing of what its record says.
-use Rattle.std.proofs.Common.{◌≡◌, ℕ, Bool, true, false, List, [], ◌∷◌, ◌++◌, map, Option, Some, None, refl, sym, ◌∙◌, ap, subst, arith, inl, inr}
+use Rattle.std.proofs.Common.{◌≡◌, ℕ, ◌+◌, ◌*◌, ◌<◌, Bool, true, false, List, [], ◌∷◌, ◌++◌, map, Option, Some, None, refl, sym, ◌∙◌, ap, subst, arith, inl, inr}
 use Rattle.std.specs.Prelude.{◌==◌, Contains, if◌then◌else◌}
 use Rattle.std.specs.List.{sum_by}
 use Rattle.std.proofs.lemmas.List.{append-nil, append_assoc}
@@ -10,6 +10,7 @@ use Rattle.pa_machine.specs.declared.title.Title.{Title}
 use Rattle.pa_machine.specs.declared.word.SlotName.{SlotName}
 use Rattle.pa_machine.specs.declared.word.Step.{Step}
 use Rattle.pa_machine.specs.declared.word.Step.TheVariants as steps
+use Rattle.pa_trace.specs.Limits.{most_partitions}
 use Rattle.pa_trace.specs.declared.script.Op.{Op}
 use Rattle.pa_trace.specs.declared.script.Op.TheVariants as ops
 use Rattle.pa_record.specs.declared.entry.Answer.{Answer}
@@ -23,7 +24,7 @@ use Rattle.pa_region.specs.declared.view.View.{View}
 use Rattle.pa_region.specs.Views.{least_stake}
 use Rattle.pa_region.specs.Lists.{list_of, entered_in}
 use Rattle.pa_region.specs.Takes.{log_of}
-use Rattle.pa_region.specs.Totals.{owes_as}
+use Rattle.pa_region.specs.Totals.{owes_as, added_to}
 use Rattle.pa_rules.specs.Played.{step_of}
 use Rattle.pa_rules.specs.Registers.{Regs}
 use Rattle.pa_logs.specs.Told.{ToldRecord, played_in}
@@ -32,13 +33,16 @@ use Rattle.pa_logs.specs.Said.{ReadsIts}
 use Rattle.pa_logs.specs.Indices.{Enters}
 use Rattle.pa_logs.proofs.Listing.{entered_append}
 use Rattle.pa_totals.specs.declared.owed.Owed.{Owed}
-use Rattle.pa_totals.specs.Settled.{CanSettleAll, after_settle_all, all_added, LeavesSettleAll, SettleAllLeaves}
+use Rattle.pa_totals.specs.Settled.{owed_to, owed_at, none_owed, CanSettleAll, after_settle_all, all_added, LeavesSettleAll, SettleAllLeaves}
+use Rattle.pa_totals.proofs.Settling.{owed_none, owed_at_none}
 use Rattle.pa_op_specs.specs.Stocks.{StockValue, regs_of}
 use Rattle.pa_op_specs.specs.Workers.{WorkerValue}
+use Rattle.pa_op_specs.specs.Booking.{booked}
 use Rattle.pa_op_specs.specs.Outcomes.{Outcome, ActsAreOf, FitsRun}
 use Rattle.pa_op_specs.specs.Entering.{EntersCells, EntersOwn}
 use Rattle.pa_op_specs.specs.Plays.{Does, PlaysOne, PlaysAll}
 use Rattle.pa_op_specs.specs.Settling.{lengthened, last_lengthened, settled_worker, SettlingEndsPhase}
+use Rattle.pa_op_specs.proofs.Stakes.{least_is, can_settle}
 
 -- ---- additions
 
@@ -312,17 +316,39 @@ module _ (leaves : SettleAllLeaves) (owed : List Owed) where
           let own = does.same.0 in
           left.other_logs k (λ e. grind (arith, nat_tests)) ∙ same
 
-  one_on : (w v : WorkerValue) (x : ToldRecord) → PlaysOne w v x → least_stake v.stock.view.stakes ≡ v.stock.thread → CanSettleAll owed v.stock.view →
-      PlaysOne w (settled_worker owed v) (lengthened (all_added owed) x)
+
+-- ---- a worker that settles what it owes
+
+-- what it booked stays
+booked_on : SettleAllLeaves → (v : WorkerValue) → least_stake v.stock.view.stakes ≡ v.stock.thread → CanSettleAll v.owed v.stock.view →
+    (p q : ℕ) → p < most_partitions → q < 4 → booked (settled_worker v) p q ≡ booked v p q
+booked_on leaves v mine can p q low kind =
+    let k = 4 * p + q in
+    let left = leaves v.owed v.stock.view can in
+    let after = after_settle_all v.owed v.stock.view in
+    let log : log_of v.stock.thread after ≡ log_of v.stock.thread v.stock.view ++ all_added v.owed =
+    subst (λ (n : ℕ). log_of n after ≡ log_of n v.stock.view ++ all_added v.owed) mine left.log in
+    let a : sum_by (added_to k) (log_of v.stock.thread after) ≡ sum_by (added_to k) (log_of v.stock.thread v.stock.view ++ all_added v.owed) =
+    ap (sum_by (added_to k)) log in
+    let b = sum_by-append (added_to k) (log_of v.stock.thread v.stock.view) (all_added v.owed) in
+    let c = left.adds p q low kind in
+    let d : owed_to q (owed_at none_owed p) ≡ 0 = ap (owed_to q) (owed_at_none p) ∙ owed_none q in
+    omega arith
+
+module _ (leaves : SettleAllLeaves) where
+  one_on : (w v : WorkerValue) (x : ToldRecord) → PlaysOne w v x → least_stake v.stock.view.stakes ≡ v.stock.thread → CanSettleAll v.owed v.stock.view →
+      PlaysOne w (settled_worker v) (lengthened (all_added v.owed) x)
   one_on w v x one mine can = record {
     records = one.records;
-    does = does_on w.stock v.stock x one.does mine can;
-    counts = λ o fits. one.counts o (fits_back o w.stock.partitions v.stock.view x fits);
+    does = does_on leaves v.owed w.stock v.stock x one.does mine can;
+    counts = λ o fits. one.counts o (fits_back leaves v.owed o w.stock.partitions v.stock.view x fits);
+    bytes = λ o fits p q low kind.
+        booked_on leaves v mine can p q low kind ∙ one.bytes o (fits_back leaves v.owed o w.stock.partitions v.stock.view x fits) p q low kind;
   }
 
-  all_on : (w v : WorkerValue) (x : ToldRecord) (xs : List ToldRecord) → PlaysAll w (x ∷ xs) v → least_stake v.stock.view.stakes ≡ v.stock.thread → CanSettleAll owed v.stock.view →
-      PlaysAll w (last_lengthened (all_added owed) (x ∷ xs)) (settled_worker owed v)
-  all_on w v x [] (next, one, same) mine can = (settled_worker owed v, one_on w v x (subst (λ (z : WorkerValue). PlaysOne w z x) (sym same) one) mine can, refl)
+  all_on : (w v : WorkerValue) (x : ToldRecord) (xs : List ToldRecord) → PlaysAll w (x ∷ xs) v → least_stake v.stock.view.stakes ≡ v.stock.thread → CanSettleAll v.owed v.stock.view →
+      PlaysAll w (last_lengthened (all_added v.owed) (x ∷ xs)) (settled_worker v)
+  all_on w v x [] (next, one, same) mine can = (settled_worker v, one_on w v x (subst (λ (z : WorkerValue). PlaysOne w z x) (sym same) one) mine can, refl)
   all_on w v x (y ∷ xs) (next, one, more) mine can = (next, one, all_on next v y xs more mine can)
 
 same_records : (es : List Entry) (x : ToldRecord) (xs : List ToldRecord) → played_in (last_lengthened es (x ∷ xs)) ≡ played_in (x ∷ xs)
@@ -330,4 +356,6 @@ same_records es x [] = refl
 same_records es x (y ∷ xs) = ap (λ l. x.played ∷ l) (same_records es y xs)
 
 pub settling_ends : SettleAllLeaves → SettlingEndsPhase
-settling_ends leaves owed w v x xs plays mine can = (all_on leaves owed w v x xs plays mine can, same_records (all_added owed) x xs)
+settling_ends leaves w v x xs plays is stake =
+    let least = least_is v.stock.thread v.stock.view is.stock.stake stake in
+    (all_on leaves w v x xs plays least.0 (can_settle v.owed v.stock is.stock.stake stake is.covered), same_records (all_added v.owed) x xs)

@@ -13,7 +13,7 @@ use Rattle.pa_machine.specs.Kinds.{issues, frees, enters, leaves}
 use Rattle.pa_legal.specs.Tallies.{weight_of, one_of}
 use Rattle.pa_cells.specs.declared.handle.Handle.{Handle}
 use Rattle.pa_totals.specs.declared.owed.Owed.{Owed}
-use Rattle.pa_totals.specs.Settled.{owed_to, owed_at}
+use Rattle.pa_totals.specs.Settled.{owed_at}
 use Rattle.pa_op_specs.specs.declared.counts.Count.{Count}
 use Rattle.pa_rules.specs.declared.register.Register.TheVariants.{Empty, Own, Ref, Freed, Cleared}
 use Rattle.pa_op_specs.specs.Stocks.{StockRegister}
@@ -98,7 +98,10 @@ pub record AreOfSteps (steps : ℕ) (counts : List Count) : Type 0 where
 -- At most this many steps owe that: less than 2^32 bytes each.
 pub record IsOwedBySteps (steps : ℕ) (owed : List Owed) : Type 0 where
   pub count : length owed ≡ most_partitions
-  pub each : (p q : ℕ) → owed_to q (owed_at owed p) ≤ 4294967296 * steps
+  pub issued : (p : ℕ) → (owed_at owed p).issued ≤ 4294967296 * steps
+  pub freed : (p : ℕ) → (owed_at owed p).freed ≤ 4294967296 * steps
+  pub entered : (p : ℕ) → (owed_at owed p).entered ≤ 4294967296 * steps
+  pub left : (p : ℕ) → (owed_at owed p).left ≤ 4294967296 * steps
 
 -- The number grew by the slots of partition p with a step in these records that passes.
 abbrev pub GrewBy : (Step → ℕ → Bool) → (SlotName → ℕ) → ℕ → List Played → (before after : ℕ) → Type 0

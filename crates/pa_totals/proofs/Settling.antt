@@ -1,5 +1,5 @@
 -- One addition after the other.
-use Rattle.std.proofs.Common.{◌≡◌, ℕ, ◌+◌, ◌*◌, ◌%◌, ◌<◌, ◌≤◌, List, [], ◌∷◌, ◌++◌, Bool, true, false, refl, sym, ◌∙◌, ap, subst, arith, inl, inr}
+use Rattle.std.proofs.Common.{◌≡◌, ℕ, zero, suc, ◌+◌, ◌*◌, ◌%◌, ◌<◌, ◌≤◌, List, [], ◌∷◌, ◌++◌, Bool, true, false, refl, sym, ◌∙◌, ap, subst, arith, inl, inr}
 use Rattle.std.specs.Prelude.{◌==◌, if◌then◌else◌}
 use Rattle.std.specs.List.{sum_by}
 use Rattle.std.proofs.lemmas.List.{append_assoc}
@@ -15,7 +15,7 @@ use Rattle.pa_region.specs.Takes.{log_of}
 use Rattle.pa_region.specs.Leaves.{AddLeaves}
 use Rattle.pa_region.specs.Totals.{owes_as, added_as, after_add, CanAdd}
 use Rattle.pa_totals.specs.declared.owed.Owed.{Owed}
-use Rattle.pa_totals.specs.Settled.{nothing_owed, owed_to, CanSettle, after_settle, LeavesSettle, owed_at, CanSettleAll, after_settle_all}
+use Rattle.pa_totals.specs.Settled.{nothing_owed, owed_to, CanSettle, after_settle, LeavesSettle, owed_at, none_owed, owed_in, CanSettleAll, after_settle_all}
 
 -- what the least stake's log owes of kind q is at least so much
 abbrev pub HasRoom : (ℕ → ℕ) → View → Type 0
@@ -142,8 +142,15 @@ leaves_settle leaves p o v can =
 
 -- ---- all four partitions
 
--- nothing is owed to no kind
-owed_none : (q : ℕ) → owed_to q nothing_owed ≡ 0
+-- where nothing is owed, that is so in each partition and of each kind
+pub owed_at_none : (p : ℕ) → owed_at none_owed p ≡ nothing_owed
+owed_at_none zero = refl
+owed_at_none (suc zero) = refl
+owed_at_none (suc (suc zero)) = refl
+owed_at_none (suc (suc (suc zero))) = refl
+owed_at_none (suc (suc (suc (suc p)))) = refl
+
+pub owed_none : (q : ℕ) → owed_to q nothing_owed ≡ 0
 owed_none q = go (q == 0) (q == 1) (q == 2) (q == 3)
   where
     go : (a b c d : Bool) → ◌≡◌ {A = ℕ} (if a then 0 else (if b then 0 else (if c then 0 else (if d then 0 else 0)))) 0
@@ -152,6 +159,9 @@ owed_none q = go (q == 0) (q == 1) (q == 2) (q == 3)
     go false false true d = refl
     go false false false true = refl
     go false false false false = refl
+
+pub none_owed_in : (q : ℕ) → owed_in q none_owed ≡ 0
+none_owed_in q = let a = owed_none q in omega arith
 
 -- a settling leaves room for what else is owed
 settle_room : AddLeaves → (p : ℕ) (o : Owed) (v : View) (g : ℕ → ℕ) → p < 4 → HasRoom (λ q. owed_to q o + g q) v → HasRoom g (after_settle p o v)
