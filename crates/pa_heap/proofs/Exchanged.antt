@@ -14,7 +14,7 @@ use Rattle.pa_record.specs.Spans.{name_of}
 use Rattle.pa_record.specs.declared.root.RootEntry.{RootEntry}
 use Rattle.pa_lists.proofs.Members.{in_cases, not_in_none, not_some}
 use Rattle.pa_region.specs.declared.view.Entry.{Entry}
-use Rattle.pa_region.specs.declared.view.Entry.TheVariants.{Entered, Counted, Looked, Uncut}
+use Rattle.pa_region.specs.declared.view.Entry.TheVariants.{Entered, Counted, Looked, Added, Uncut}
 use Rattle.pa_region.specs.declared.view.Made.{Made}
 use Rattle.pa_region.specs.declared.view.View.{View}
 use Rattle.pa_region.specs.Views.{free_of, seen_of, seen_among, stake_of}
@@ -97,12 +97,15 @@ entered_is q m n among = go (5 == q) among
     go true among = elim (in_cases m n [] among) [ inl same ↦ sym same | inr none ↦ absurd (not_in_none n none) ]
     go false among = absurd (not_in_none n among)
 
--- it is no step, no look and no uncut of a title; and its answer is no other
+-- it is no step, no look and no uncut of a title, and no addition; and its answer is no other
 no_step : (m : Made) (t : Title) (step : Step) (found value : ℕ) → Entered 5 m ≡ Counted t step found value → ⊥
 no_step m t step found value e = cc
 
 no_look : (m : Made) (t : Title) (found : ℕ) → Entered 5 m ≡ Looked t found → ⊥
 no_look m t found e = cc
+
+no_addition : (m : Made) (word bytes : ℕ) → Entered 5 m ≡ Added word bytes → ⊥
+no_addition m word bytes e = cc
 
 no_uncut : (m : Made) (t : Title) → Entered 5 m ≡ Uncut t → ⊥
 no_uncut m t e = cc
@@ -188,6 +191,7 @@ swap_does line cell reg index given found s a b d is phase = (
           home = λ n f. absurd (not_some n f);
         };
   },
+  λ word bytes among. elim (in_cases (Entered 5 m) (Added word bytes) [] among) [ inl same ↦ absurd (no_addition m word bytes same) | inr none ↦ absurd (not_in_none _ none) ],
 )
   where
     swap : SwapsHandles line cell given found index a b

@@ -26,7 +26,8 @@ use Rattle.pa_op_specs.specs.Plays.{DoesOp}
 use Rattle.pa_op_specs.proofs.Registers.{regs_set}
 use Rattle.pa_op_specs.proofs.Seeing.{made_kept, slot_in_run, home_of, now_seen}
 use Rattle.pa_op_specs.proofs.Touching.{Touched, touched_entry}
-use Rattle.pa_thread_state.proofs.Leaving.{least_is, user_not_free}
+use Rattle.pa_op_specs.proofs.Stakes.{least_is}
+use Rattle.pa_thread_state.proofs.Leaving.{user_not_free}
 use Rattle.pa_op_specs.proofs.Stocks.{register_has}
 use Rattle.pa_thread_state.proofs.Looking.{seen_at}
 use Rattle.pa_op_specs.specs.Owing.{bytes_in}

@@ -1,7 +1,7 @@
 -- An issue of a free title to a register: what the op says, whatever came before.
 use Rattle.std.proofs.Common.{◌≡◌, ℕ, ◌+◌, ◌-◌, ◌<◌, ◌≤◌, List, [], ◌∷◌, ◌++◌, length, Some, refl, sym, ◌∙◌, ap, subst, arith, inl, inr}
 use Rattle.std.specs.Prelude.{Contains, slice_set}
-use Rattle.std.proofs.lemmas.List.{append-nil}
+use Rattle.std.proofs.lemmas.List.{append-nil, get_or-set_same}
 use Rattle.std.proofs.lemmas.List.Elements.{Contains-append_cases, filter-append}
 use Rattle.pa_machine.specs.declared.title.Title.{Title}
 use Rattle.pa_machine.specs.declared.word.Step.TheVariants as steps
@@ -38,13 +38,14 @@ use Rattle.pa_rules.specs.declared.register.Register.TheVariants.{Empty, Own, Re
 use Rattle.pa_op_specs.specs.Stocks.{StockRegister, StockValue, IsStock, HasNoHandle, register_in, as_reg, regs_of, titles_in, listed_in}
 use Rattle.pa_op_specs.specs.Workers.{HasItsStake}
 use Rattle.pa_op_specs.specs.Outcomes.{row_facts}
+use Rattle.pa_op_specs.specs.Owing.{IsMadeIn}
 use Rattle.pa_thread_state.specs.Changes.{IsBack}
 use Rattle.pa_thread_state.specs.Allocating.{Issues}
 use Rattle.pa_op_specs.specs.Plays.{DoesOp}
 use Rattle.pa_op_specs.proofs.Registers.{regs_set}
 use Rattle.pa_op_specs.proofs.Seeing.{made_kept, slot_in_run, home_of, more_seen, same_seen, now_seen}
 use Rattle.pa_op_specs.proofs.Touching.{entry_logs}
-use Rattle.pa_thread_state.proofs.Leaving.{least_is}
+use Rattle.pa_op_specs.proofs.Stakes.{least_is}
 use Rattle.pa_thread_state.proofs.Looking.{seen_at}
 use Rattle.pa_op_specs.proofs.Owing.{owes_made}
 use Rattle.pa_op_specs.proofs.Quiet.{quiet_record, same_titles}
@@ -203,3 +204,14 @@ issued_does counts line size r h acts es s mid after v cs answer before mid_is i
     (subst (λ a. DoesOp line (ops.Alloc r h.partition size) a s (issued base h r word)) (sym (j.answer_is ∙ ap (λ x. answers.Made x (h.title.len - 8)) seen_is))
     (made_does counts line size r word h acts es s v cs before (subst (λ (z : StockValue). IsStock z) mid_is is) (subst (λ (z : StockValue). HasItsStake z) mid_is stake)
     j.able j.found j.number (subst (λ (z : StockValue). IsBack h z) mid_is back) inner below bare j.long few))
+
+-- the slot that was made is the register's
+pub issued_made : (h : Handle) (r : ℕ) (answer : Answer) (mid after : StockValue) → Issues h r answer mid after → IsStock mid → r < 64 →
+    IsMadeIn (register_in after.registers r) answer
+issued_made h r answer mid after j is below =
+    let inside : r < length mid.registers = let n = is.handles.count in omega arith in
+    let owns : register_in after.registers r ≡ Own h =
+    ap (λ (z : StockValue). register_in z.registers r) j.after_is ∙ get_or-set_same mid.registers r (Own h) Empty inside in
+    let here : IsMadeIn (Own h) (answers.Made j.seen (h.title.len - 8)) = let n = j.long in omega arith in
+    subst (λ (a : Answer). IsMadeIn (register_in after.registers r) a) (sym j.answer_is)
+    (subst (λ (x : StockRegister). IsMadeIn x (answers.Made j.seen (h.title.len - 8))) (sym owns) here)

@@ -28,7 +28,8 @@ use Rattle.pa_op_specs.specs.Workers.{HasItsStake}
 use Rattle.pa_op_specs.specs.Outcomes.{Outcome, row_facts}
 use Rattle.pa_op_specs.specs.Plays.{DoesOp}
 use Rattle.pa_op_specs.proofs.Seeing.{made_kept, slot_in_run, home_of}
-use Rattle.pa_thread_state.proofs.Leaving.{least_is, user_not_free, touched_look}
+use Rattle.pa_op_specs.proofs.Stakes.{least_is}
+use Rattle.pa_thread_state.proofs.Leaving.{user_not_free, touched_look}
 use Rattle.pa_op_specs.proofs.Stocks.{register_has}
 use Rattle.pa_op_specs.proofs.Quiet.{quiet_record, quiet_does}
 use Rattle.pa_op_specs.proofs.Refusing.{IsNoSwap, enters_no_cells}

@@ -38,7 +38,8 @@ use Rattle.pa_op_specs.specs.Outcomes.{row_facts}
 use Rattle.pa_op_specs.specs.Plays.{DoesOp}
 use Rattle.pa_op_specs.proofs.Seeing.{made_kept, slot_in_run, home_of}
 use Rattle.pa_op_specs.proofs.Touching.{Touches, Touched, entry_logs, touched_both}
-use Rattle.pa_thread_state.proofs.Leaving.{least_is, user_not_free, touched_look}
+use Rattle.pa_op_specs.proofs.Stakes.{least_is}
+use Rattle.pa_thread_state.proofs.Leaving.{user_not_free, touched_look}
 use Rattle.pa_op_specs.proofs.Stocks.{register_has, register_owns}
 use Rattle.pa_thread_state.proofs.Looking.{seen_at, looked_stock, looked_stake}
 use Rattle.pa_heap.proofs.Looking.{in_use}

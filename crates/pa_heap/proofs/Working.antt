@@ -1,43 +1,85 @@
--- A worker's op: the record, and what the op did with its thread state.
-use Rattle.std.proofs.Common.{◌≡◌, ℕ, ◌<◌, Bool, List, [], ◌∷◌, ◌++◌, length, refl, sym, ◌∙◌, ap, subst, arith}
+-- A worker's op: the record, what the op did with its thread state, and what it owes then.
+use Rattle.std.proofs.Common.{◌≡◌, ℕ, ◌+◌, ◌<◌, ◌≤◌, Bool, List, [], ◌∷◌, ◌++◌, length, refl, sym, ◌∙◌, ap, subst, arith}
 use Rattle.std.proofs.lemmas.List.{length-append}
 use Rattle.pa_trace.specs.declared.script.Op.{Op}
 use Rattle.pa_record.specs.declared.entry.Answer.{Answer}
 use Rattle.pa_record.specs.declared.entry.Entry.{Entry}
 use Rattle.pa_region.specs.Views.{stake_of}
+use Rattle.pa_rules.specs.declared.played.Played.{Played}
 use Rattle.pa_rules.specs.Played.{entry_of}
+use Rattle.pa_logs.specs.Touches.{step_in, step_by}
+use Rattle.pa_totals.specs.declared.owed.Owed.{Owed}
+use Rattle.pa_totals.specs.Settled.{owed_in}
 use Rattle.pa_op_specs.specs.declared.counts.Count.{Count}
 use Rattle.pa_op_specs.specs.Stocks.{StockValue}
-use Rattle.pa_op_specs.specs.Workers.{WorkerValue, CanPlayOp, KeepsOn}
+use Rattle.pa_op_specs.specs.Workers.{WorkerValue, HasItsStake, IsCovered, CanPlayOp, KeepsOn}
+use Rattle.pa_op_specs.specs.Owing.{bytes_stepped, owed_by}
 use Rattle.pa_op_specs.specs.Plays.{DoesOp, PlaysOp}
+use Rattle.pa_op_specs.proofs.Booking.{op_books, op_covered}
+use Rattle.pa_op_specs.proofs.Growing.{at_least}
 use Rattle.pa_op_specs.proofs.Weighing.{CountsOp}
 
 pub plays_op : (line : ℕ) (op : Op) (answer : Answer) (before after : WorkerValue) →
     after.records ≡ before.records ++ record { line = line; thread = before.stock.thread; answer = answer } ∷ [] →
-    DoesOp line op answer before.stock after.stock → CountsOp line op answer before.stock after.stock before.counts after.counts → PlaysOp line op answer before after
+    DoesOp line op answer before.stock after.stock →
+    CountsOp line op answer before.stock after.stock before.counts after.counts before.owed after.owed → PlaysOp line op answer before after
 plays_op line op answer before after records does counts phase =
-    let (x, is, done) = does phase in
-    (x, is, record { records = records ∙ ap (λ p. before.records ++ entry_of p ∷ []) (sym is); does = done; counts = counts phase x is done })
+    let (x, is, done, none) = does phase in (
+      x,
+      is,
+      record {
+        records = records ∙ ap (λ p. before.records ++ entry_of p ∷ []) (sym is);
+        does = done;
+        counts = λ o fits. (counts phase x is done o fits).0;
+        bytes = λ o fits. op_books o.homes o.sizes x before after done none (counts phase x is done o fits).1;
+      },
+    )
 
--- The same by what the calls leave: the thread state, the records with one more, and the counts.
-pub worker_plays : (line : ℕ) (op : Op) (answer : Answer) (w : WorkerValue) (after : StockValue) (records : List Entry) (counts : List Count) (thread room : ℕ) (stopped : Bool) →
+-- The same by what the calls leave: the thread state, the records with one more, the counts, and what is owed.
+pub worker_plays : (line : ℕ) (op : Op) (answer : Answer) (w : WorkerValue) (after : StockValue) (records : List Entry) (counts : List Count)
+    (owed : List Owed) (thread room : ℕ) (stopped : Bool) →
     records ≡ w.records ++ record { line = line; thread = thread; answer = answer } ∷ [] → thread ≡ after.thread → DoesOp line op answer w.stock after →
-    CountsOp line op answer w.stock after w.counts counts →
-    PlaysOp line op answer w (record { stock = after; records = records; room = room; stopped = stopped; counts = counts })
-worker_plays line op answer w after records counts thread room stopped items at does counted =
-    let (x, is, done) = does 0 in
-    plays_op line op answer w (record { stock = after; records = records; room = room; stopped = stopped; counts = counts })
+    CountsOp line op answer w.stock after w.counts counts w.owed owed →
+    PlaysOp line op answer w (record { stock = after; records = records; room = room; stopped = stopped; counts = counts; owed = owed })
+worker_plays line op answer w after records counts owed thread room stopped items at does counted =
+    let (x, is, done, none) = does 0 in
+    plays_op line op answer w (record { stock = after; records = records; room = room; stopped = stopped; counts = counts; owed = owed })
     (items ∙ ap (λ k. w.records ++ record { line = line; thread = k; answer = answer } ∷ []) (at ∙ done.same.0)) does counted
 
 -- and it goes on
-pub worker_goes_on : (line : ℕ) (op : Op) (answer : Answer) (w : WorkerValue) (after : StockValue) (records : List Entry) (counts : List Count) (e : Entry) → records ≡ w.records ++ e ∷ [] → CanPlayOp w →
-    DoesOp line op answer w.stock after →
-    KeepsOn w (record { stock = after; records = records; room = w.room; stopped = w.stopped; counts = counts })
-worker_goes_on line op answer w after records counts e items can does =
-    let (x, is, done) = does 0 in
+pub worker_goes_on : (line : ℕ) (op : Op) (answer : Answer) (w : WorkerValue) (after : StockValue) (records : List Entry) (counts : List Count)
+    (owed : List Owed) (e : Entry) → records ≡ w.records ++ e ∷ [] → CanPlayOp w → DoesOp line op answer w.stock after →
+    KeepsOn w (record { stock = after; records = records; room = w.room; stopped = w.stopped; counts = counts; owed = owed })
+worker_goes_on line op answer w after records counts owed e items can does =
+    let (x, is, done, none) = does 0 in
     record {
       going = can.going;
       stake = subst (λ k. 0 < stake_of after.view k) (sym done.same.0) (let e = done.stakes w.stock.thread in let h = can.stake in omega arith);
       count = ap length items ∙ length-append w.records (e ∷ []);
       room = refl;
     }
+
+-- the counts, and what is owed, by what the calls say of them
+pub counts_by : (line : ℕ) (op : Op) (answer : Answer) (before after : StockValue) (cs ds es : List Count) (os ps rs : List Owed) → ds ≡ es → ps ≡ rs →
+    CountsOp line op answer before after cs es os rs → CountsOp line op answer before after cs ds os ps
+counts_by line op answer before after cs ds es os ps rs counted owes counts =
+    subst (λ (zs : List Owed). CountsOp line op answer before after cs ds os zs) (sym owes)
+    (subst (λ (zs : List Count). CountsOp line op answer before after cs zs os rs) (sym counted) counts)
+
+-- what is owed after an op may still be added
+pub covered_after : (line : ℕ) (op : Op) (answer : Answer) (before after : StockValue) (os ps rs : List Owed) → DoesOp line op answer before after → ps ≡ rs →
+    ((q : ℕ) → owed_in q rs ≤ owed_in q os + owed_by q (step_in op answer) (bytes_stepped before.registers op answer)) →
+    HasItsStake before → IsCovered os before → IsCovered ps after
+covered_after line op answer before after os ps rs does owes less stake covered =
+    let (x, is, done, none) = does 0 in
+    subst (λ (zs : List Owed). IsCovered zs after) (sym owes)
+    (op_covered before after x os rs done none
+    (λ q. subst (λ (y : Played). owed_in q rs ≤ owed_in q os + owed_by q (step_by y) (bytes_stepped before.registers y.op y.answer)) (sym is) (less q))
+    stake covered)
+
+-- so if it owes no more than before
+pub covered_still : (line : ℕ) (op : Op) (answer : Answer) (before after : StockValue) (os : List Owed) → DoesOp line op answer before after →
+    HasItsStake before → IsCovered os before → IsCovered os after
+covered_still line op answer before after os does stake covered =
+    covered_after line op answer before after os os os does refl
+    (λ q. at_least (owed_in q os) (owed_by q (step_in op answer) (bytes_stepped before.registers op answer))) stake covered

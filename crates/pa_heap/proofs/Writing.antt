@@ -29,7 +29,8 @@ use Rattle.pa_thread_state.specs.Changes.{CanFill, LooksAtSlot, WritesTo}
 use Rattle.pa_op_specs.specs.Plays.{DoesOp}
 use Rattle.pa_op_specs.proofs.Seeing.{made_kept, slot_in_run, home_of, now_seen}
 use Rattle.pa_op_specs.proofs.Touching.{Touched, touched_entry, touched_both}
-use Rattle.pa_thread_state.proofs.Leaving.{least_is, clean_own, user_not_free, touched_look}
+use Rattle.pa_op_specs.proofs.Stakes.{least_is}
+use Rattle.pa_thread_state.proofs.Leaving.{clean_own, user_not_free, touched_look}
 use Rattle.pa_op_specs.proofs.Stocks.{register_has, register_owns}
 use Rattle.pa_thread_state.proofs.Looking.{seen_at, looked_stock, looked_stake}
 use Rattle.pa_heap.proofs.Looking.{looked_does}

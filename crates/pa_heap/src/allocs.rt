@@ -4,11 +4,13 @@ ghost use Rattle.pa_buckets.specs.Classes.{IsClassOf};
 ghost use Rattle.pa_direct.specs.Shapes.{greatest_size, IsDirectSize};
 ghost use Rattle.pa_trace.specs.declared.script.Op.TheVariants as ops;
 ghost use Rattle.pa_trace.specs.Limits.{register_count};
+ghost use Rattle.pa_totals.specs.Settled.{none_owed};
 ghost use Rattle.pa_op_specs.specs.Stocks.{HasNoHandle, register_in, titles_in};
 ghost use Rattle.pa_op_specs.specs.Workers.{HasItsStake, CanPlayOp, KeepsOn};
+ghost use Rattle.pa_op_specs.specs.Owing.{IsMadeIn};
 ghost use Rattle.pa_op_specs.specs.Plays.{DoesOp, PlaysOp};
 
-use crate::counts::{count_step, made, owned};
+use crate::counts::{count_step, made, owe_step, owed_none, owned};
 use crate::worker::{Worker, enter};
 use pa_buckets::{Class, class_of, raw_of};
 use pa_cells::Handle;
@@ -22,7 +24,7 @@ use std::sync::Wait;
 
 impl<N: Name> Worker<N> {
     /// An allocation of this size in a partition, on this line: then the register owns the slot. It waits for the lock of the
-    /// partition's root if it needs that. If it runs out of memory the worker is stopped, and all else is as before.
+    /// partition's root if it needs that. If it runs out of memory the worker is stopped and owes nothing, and all else is as before.
     pub fn alloc<R: Wait>(
         &mut self,
         rt: &R,
@@ -38,18 +40,22 @@ impl<N: Name> Worker<N> {
         ensures plays { IfOk result (λ answer. PlaysOp line (ops.Alloc reg partition size) answer self.old self.new) }
         ensures goes_on { OnOk result (KeepsOn self.old self.new) }
         ensures stops { OnErr result (self.new.stopped ≡ true) }
-        ensures same { OnErr result (self.new ≡ record self.old { stopped = true }) }
+        ensures same { OnErr result (self.new ≡ record self.old { stopped = true; owed = none_owed }) }
     {
         match alloc(&mut self.stock, rt, heap, line, reg, partition, size) {
             Ok(answer) => {
                 self.stock.kept();
                 let handle = owned(self.stock.register(reg));
-                count_step(&mut self.counts, Step::Issue, handle, made(&answer));
+                let seen = made(&answer);
+                count_step(&mut self.counts, Step::Issue, &handle, &seen);
+                owe_step(&mut self.owed, Step::Issue, &handle, &seen);
                 enter(&mut self.records, self.stock.thread(), line, answer);
                 Ok(answer)
             }
             Err(OutOfMemory) => {
+                self.stock.kept();
                 self.stopped = true;
+                self.owed = owed_none();
                 Err(OutOfMemory)
             }
         }
@@ -72,6 +78,7 @@ fn alloc<N: Name, R: Wait>(
     requires reg { reg < register_count }
     requires partition { partition < stock.old.partitions }
     ensures does { IfOk result (λ answer. DoesOp line (ops.Alloc reg partition size) answer stock.old stock.new) }
+    ensures made { IfOk result (IsMadeIn (register_in stock.new.registers reg)) }
     ensures budget { stock.old.view.budget ≤ stock.new.view.budget + 1 }
     ensures same { OnErr result (stock.new ≡ stock.old) }
 {
@@ -100,6 +107,7 @@ fn request<N: Name, R: Wait>(
     requires partition { partition < stock.old.partitions }
     requires none { HasNoHandle (register_in stock.old.registers reg) }
     ensures does { IfOk result (λ answer. DoesOp line (ops.Alloc reg partition size) answer stock.old stock.new) }
+    ensures made { IfOk result (IsMadeIn (register_in stock.new.registers reg)) }
     ensures budget { stock.old.view.budget ≤ stock.new.view.budget + 1 }
     ensures same { OnErr result (stock.new ≡ stock.old) }
 {
@@ -131,6 +139,7 @@ fn alloc_slot<N: Name, R: Wait>(
     requires none { HasNoHandle (register_in stock.old.registers reg) }
     requires class { (size ≤ greatest_size) × IsClassOf (max size 1 + 8) class }
     ensures does { IfOk result (λ answer. DoesOp line (ops.Alloc reg partition size) answer stock.old stock.new) }
+    ensures made { IfOk result (IsMadeIn (register_in stock.new.registers reg)) }
     ensures budget { stock.old.view.budget ≤ stock.new.view.budget + 1 }
     ensures same { OnErr result (stock.new ≡ stock.old) }
 {
@@ -171,6 +180,7 @@ fn alloc_filled<N: Name, R: Wait>(
     requires class { (size ≤ greatest_size) × IsClassOf (max size 1 + 8) class }
     requires empty { titles_in stock.old.caches partition class ≡ [] }
     ensures does { IfOk result (λ answer. DoesOp line (ops.Alloc reg partition size) answer stock.old stock.new) }
+    ensures made { IfOk result (IsMadeIn (register_in stock.new.registers reg)) }
     ensures budget { stock.old.view.budget ≤ stock.new.view.budget + 1 }
     ensures same { OnErr result (stock.new ≡ stock.old) }
 {
@@ -214,6 +224,7 @@ fn alloc_map<N: Name, R: Wait>(
     requires none { HasNoHandle (register_in stock.old.registers reg) }
     requires direct { IsDirectSize size }
     ensures does { IfOk result (λ answer. DoesOp line (ops.Alloc reg partition size) answer stock.old stock.new) }
+    ensures made { IfOk result (IsMadeIn (register_in stock.new.registers reg)) }
     ensures budget { stock.old.view.budget ≤ stock.new.view.budget + 1 }
     ensures same { OnErr result (stock.new ≡ stock.old) }
 {

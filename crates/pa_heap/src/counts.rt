@@ -1,67 +1,81 @@
-//! What a worker counts of its steps, for the lines of the report.
-ghost use Rattle.std.specs.Prelude.{◌≡◌, ℕ, ◌+◌, ◌<◌, IfSome, true};
+//! What a worker counts of its steps, for the lines of the report, and what it owes to the totals words.
+ghost use Rattle.std.specs.Prelude.{◌≡◌, ℕ, ◌+◌, ◌*◌, ◌<◌, ◌≤◌, IfSome};
 ghost use Rattle.pa_trace.specs.Limits.{most_partitions};
-ghost use Rattle.pa_op_specs.specs.Counts.{AreOfSteps, IsOfSteps, after_step, counts_after, done_seen, made_seen, owned_in, pointed_in, one_slot_more};
+ghost use Rattle.pa_totals.specs.Settled.{none_owed};
+ghost use Rattle.pa_op_specs.specs.Counts.{AreOfSteps, IsOwedBySteps, after_step, owed_after_step, counts_after, owed_after, done_seen, made_seen, owned_in, pointed_in};
 
 use pa_cells::Handle;
 use pa_machine::{Step, Word, refs, returns};
 use pa_op_specs::Count;
-use pa_record::{Answer, Seen, Tally};
+use pa_record::{Answer, Seen};
 use pa_rules::Register;
+use pa_totals::Owed;
 use pa_trace::MOST_PARTITIONS;
-
-// Nothing counted yet.
-const NONE: Tally = Tally { slots: 0, bytes: 0 };
 
 // The count of a partition at the start.
 pub(crate) const START: Count = Count {
-    issued: NONE,
-    freed: NONE,
-    entered: NONE,
-    left: NONE,
+    issued: 0,
+    freed: 0,
+    entered: 0,
+    left: 0,
 };
+
+// Nothing is owed to the words of a partition.
+const NOTHING: Owed = Owed {
+    issued: 0,
+    freed: 0,
+    entered: 0,
+    left: 0,
+};
+
+// Nothing is owed to any.
+pub(crate) fn owed_none() -> [Owed; MOST_PARTITIONS as usize]
+    ensures { result ≡ none_owed }
+{
+    [NOTHING; MOST_PARTITIONS as usize]
+}
 
 // Counts what an op did on the slot of a handle, if it made the step and found this.
 pub(crate) fn count_step(
     counts: &mut [Count; MOST_PARTITIONS as usize],
     step: Step,
-    handle: Option<Handle>,
-    seen: Option<Seen>,
+    handle: &Option<Handle>,
+    seen: &Option<Seen>,
 )
     requires small { AreOfSteps 4294967295 counts.old }
-    requires handle { IfSome handle (λ h. h.partition < most_partitions) }
-    ensures counts { counts.new ≡ counts_after step handle seen counts.old }
+    requires handle { IfSome handle.now (λ h. h.partition < most_partitions) }
+    ensures counts { counts.new ≡ counts_after step handle.now seen.now counts.old }
     ensures small { (n : ℕ) → AreOfSteps n counts.old → AreOfSteps (n + 1) counts.new }
 {
     if let Some(handle) = handle
         && let Some(seen) = seen
     {
         let place = handle.partition as usize;
-        counts[place] = stepped(counts[place], step, seen.found, handle.title.len);
+        counts[place] = stepped(counts[place], step, seen.found);
     }
 }
 
-// A partition's count after a step on a slot of this many bytes.
-fn stepped(count: Count, step: Step, found: Word, bytes: u32) -> Count
-    requires issued { IsOfSteps 4294967295 count.issued }
-    requires freed { IsOfSteps 4294967295 count.freed }
-    requires entered { IsOfSteps 4294967295 count.entered }
-    requires left { IsOfSteps 4294967295 count.left }
-    ensures { result ≡ after_step step found.0 bytes count }
+// A partition's count after a step that found this.
+fn stepped(count: Count, step: Step, found: Word) -> Count
+    requires issued { count.issued ≤ 4294967295 }
+    requires freed { count.freed ≤ 4294967295 }
+    requires entered { count.entered ≤ 4294967295 }
+    requires left { count.left ≤ 4294967295 }
+    ensures { result ≡ after_step step found.0 count }
 {
     let mut count = count;
     match step {
-        Step::Issue => count.issued = one_more(count.issued, bytes),
+        Step::Issue => count.issued += 1,
         Step::Copy => {}
         Step::Reset => {
             if returns(step, found) {
-                count.left = one_more(count.left, bytes);
+                count.left += 1;
             }
         }
         Step::Free => {
-            count.freed = one_more(count.freed, bytes);
+            count.freed += 1;
             if refs(found) > 0 {
-                count.entered = one_more(count.entered, bytes);
+                count.entered += 1;
             }
         }
         Step::Write => {}
@@ -69,15 +83,53 @@ fn stepped(count: Count, step: Step, found: Word, bytes: u32) -> Count
     count
 }
 
-// One slot of this many bytes more.
-fn one_more(tally: Tally, bytes: u32) -> Tally
-    requires { IsOfSteps 4294967295 tally }
-    ensures { result ≡ one_slot_more true bytes tally }
+// Adds what an op on the slot of a handle owes, if it made the step and found this.
+pub(crate) fn owe_step(
+    owed: &mut [Owed; MOST_PARTITIONS as usize],
+    step: Step,
+    handle: &Option<Handle>,
+    seen: &Option<Seen>,
+)
+    requires small { IsOwedBySteps 4294967295 owed.old }
+    requires handle { IfSome handle.now (λ h. h.partition < most_partitions) }
+    ensures owed { owed.new ≡ owed_after step handle.now seen.now owed.old }
+    ensures small { (n : ℕ) → IsOwedBySteps n owed.old → IsOwedBySteps (n + 1) owed.new }
 {
-    Tally {
-        slots: tally.slots + 1,
-        bytes: tally.bytes + u64::from(bytes),
+    if let Some(handle) = handle
+        && let Some(seen) = seen
+    {
+        let place = handle.partition as usize;
+        owed[place] = owing(owed[place], step, seen.found, handle.title.len);
     }
+}
+
+// What is owed to a partition's words after a step that found this, on a slot of this many bytes.
+fn owing(owed: Owed, step: Step, found: Word, bytes: u32) -> Owed
+    requires issued { owed.issued ≤ 4294967296 * 4294967295 }
+    requires freed { owed.freed ≤ 4294967296 * 4294967295 }
+    requires entered { owed.entered ≤ 4294967296 * 4294967295 }
+    requires left { owed.left ≤ 4294967296 * 4294967295 }
+    ensures { result ≡ owed_after_step step found.0 bytes owed }
+{
+    let bytes = u64::from(bytes);
+    let mut owed = owed;
+    match step {
+        Step::Issue => owed.issued += bytes,
+        Step::Copy => {}
+        Step::Reset => {
+            if returns(step, found) {
+                owed.left += bytes;
+            }
+        }
+        Step::Free => {
+            owed.freed += bytes;
+            if refs(found) > 0 {
+                owed.entered += bytes;
+            }
+        }
+        Step::Write => {}
+    }
+    owed
 }
 
 // The handle of the slot that a register owns.

@@ -2,11 +2,13 @@
 ghost use Rattle.std.specs.Prelude.{◌≡◌, ◌<◌, ◌≤◌, IfOk, OnOk, OnErr, true};
 ghost use Rattle.pa_trace.specs.declared.script.Op.TheVariants as ops;
 ghost use Rattle.pa_trace.specs.Limits.{register_count, cell_count};
+ghost use Rattle.pa_totals.specs.Settled.{none_owed};
 ghost use Rattle.pa_op_specs.specs.Workers.{HasItsStake, CanPlayOp, KeepsOn};
 ghost use Rattle.pa_thread_state.specs.Exchanging.{IsUndone};
 ghost use Rattle.pa_thread_state.specs.Stopping.{KeepsItsStake};
 ghost use Rattle.pa_op_specs.specs.Plays.{DoesOp, PlaysOp};
 
+use crate::counts::owed_none;
 use crate::worker::{Worker, enter};
 use pa_cells::{givers_lack_handles, takers_have_handles};
 use pa_machine::OutOfMemory;
@@ -34,6 +36,7 @@ impl<N: Name> Worker<N> {
         ensures goes_on { OnOk result (KeepsOn self.old self.new) }
         ensures stops { OnErr result (self.new.stopped ≡ true) }
         ensures stake { OnErr result (KeepsItsStake self.old.stock self.new.stock) }
+        ensures settled { OnErr result (self.new.owed ≡ none_owed) }
         ensures undone { OnErr result (IsUndone self.old.stock self.new.stock) }
         ensures kept { OnErr result ((self.new.records ≡ self.old.records) × (self.new.room ≡ self.old.room)) }
     {
@@ -43,7 +46,9 @@ impl<N: Name> Worker<N> {
                 Ok(answer)
             }
             Err(OutOfMemory) => {
+                self.stock.kept();
                 self.stopped = true;
+                self.owed = owed_none();
                 Err(OutOfMemory)
             }
         }

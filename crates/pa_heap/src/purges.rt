@@ -1,10 +1,12 @@
 //! A worker's purge: all its lists go back, and each root decommits its empty spans.
 ghost use Rattle.std.specs.Prelude.{◌≡◌, ◌<◌, IfOk, OnOk, OnErr, true};
 ghost use Rattle.pa_trace.specs.declared.script.Op.TheVariants as ops;
+ghost use Rattle.pa_totals.specs.Settled.{none_owed};
 ghost use Rattle.pa_op_specs.specs.Workers.{HasItsStake, CanPlayOp, KeepsOn};
 ghost use Rattle.pa_op_specs.specs.Plays.{DoesOp, PlaysOp};
 ghost use Rattle.pa_thread_state.specs.Stopping.{KeepsItsStake};
 
+use crate::counts::owed_none;
 use crate::worker::{Worker, enter};
 use pa_machine::OutOfMemory;
 use pa_record::Answer;
@@ -26,6 +28,7 @@ impl<N: Name> Worker<N> {
         ensures goes_on { OnOk result (KeepsOn self.old self.new) }
         ensures stops { OnErr result (self.new.stopped ≡ true) }
         ensures stake { OnErr result (KeepsItsStake self.old.stock self.new.stock) }
+        ensures settled { OnErr result (self.new.owed ≡ none_owed) }
     {
         match purge(&mut self.stock, rt, heap, line) {
             Ok(answer) => {
@@ -33,7 +36,9 @@ impl<N: Name> Worker<N> {
                 Ok(answer)
             }
             Err(OutOfMemory) => {
+                self.stock.kept();
                 self.stopped = true;
+                self.owed = owed_none();
                 Err(OutOfMemory)
             }
         }

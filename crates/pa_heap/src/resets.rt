@@ -2,11 +2,12 @@
 ghost use Rattle.std.specs.Prelude.{◌≡◌, ◌+◌, ◌<◌, ◌≤◌, IfOk, OnOk, OnErr, true};
 ghost use Rattle.pa_trace.specs.declared.script.Op.TheVariants as ops;
 ghost use Rattle.pa_trace.specs.Limits.{register_count};
+ghost use Rattle.pa_totals.specs.Settled.{none_owed};
 ghost use Rattle.pa_op_specs.specs.Workers.{HasItsStake, CanPlayOp, KeepsOn};
 ghost use Rattle.pa_op_specs.specs.Plays.{DoesOp, PlaysOp};
 ghost use Rattle.pa_thread_state.specs.Stopping.{KeepsItsStake};
 
-use crate::counts::{count_step, done, pointed};
+use crate::counts::{count_step, done, owe_step, owed_none, pointed};
 use crate::worker::{Worker, enter};
 use pa_cells::slots_stay_seen;
 use pa_machine::{OutOfMemory, Step};
@@ -31,17 +32,22 @@ impl<N: Name> Worker<N> {
         ensures goes_on { OnOk result (KeepsOn self.old self.new) }
         ensures stops { OnErr result (self.new.stopped ≡ true) }
         ensures stake { OnErr result (KeepsItsStake self.old.stock self.new.stock) }
+        ensures settled { OnErr result (self.new.owed ≡ none_owed) }
     {
         self.stock.kept();
         let handle = pointed(self.stock.register(reg));
         match play_reset(&mut self.stock, rt, heap, line, reg) {
             Ok(answer) => {
-                count_step(&mut self.counts, Step::Reset, handle, done(&answer));
+                let seen = done(&answer);
+                count_step(&mut self.counts, Step::Reset, &handle, &seen);
+                owe_step(&mut self.owed, Step::Reset, &handle, &seen);
                 enter(&mut self.records, self.stock.thread(), line, answer);
                 Ok(answer)
             }
             Err(OutOfMemory) => {
+                self.stock.kept();
                 self.stopped = true;
+                self.owed = owed_none();
                 self.room = self.records.len() as u32;
                 Err(OutOfMemory)
             }

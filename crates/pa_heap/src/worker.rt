@@ -7,21 +7,24 @@ ghost use Rattle.pa_region.specs.Lending.{CanHost, stake_parcel};
 ghost use Rattle.pa_rules.specs.Caches.{SameLists, listed_slots};
 ghost use Rattle.pa_rules.specs.Report.{listed_bytes};
 ghost use Rattle.pa_op_specs.specs.Stocks.{IsForThread, listed_in};
+ghost use Rattle.pa_totals.specs.Settled.{none_owed};
 ghost use Rattle.pa_op_specs.specs.Workers.{IsWorker, IsNewWorker, HasItsStake, worker_with_view};
+ghost use Rattle.pa_op_specs.specs.Settling.{settled_worker};
 ghost use Rattle.pa_heap.specs.Closing.{HasTold};
 
-use crate::counts::START;
+use crate::counts::{START, owed_none};
 use pa_machine::OutOfMemory;
 use pa_op_specs::Count;
 use pa_record::{Answer, Entry, Tally};
 use pa_region::{Name, Note};
 use pa_thread_state::{Heap, Stock};
+use pa_totals::Owed;
 use pa_trace::MOST_PARTITIONS;
 use std::alloc::Global;
 use std::marker::Model;
 
 /// A worker plays the lines of one thread. Contracts see its thread's state, its records so far, how many records it has room
-/// for in all, whether it ran out of memory, and what it counted.
+/// for in all, whether it ran out of memory, what it counted, and what it owes to the totals words.
 #[derive(Drop)]
 pub struct Worker<N: Name> {
     pub(crate) stock: Stock<N>,
@@ -29,21 +32,24 @@ pub struct Worker<N: Name> {
     pub(crate) room: u32,
     pub(crate) stopped: bool,
     pub(crate) counts: [Count; MOST_PARTITIONS as usize],
+    pub(crate) owed: [Owed; MOST_PARTITIONS as usize],
 }
 
 impl<N: Name> Model for Worker<N> {
     ghost use Rattle.std.specs.Prelude.{◌+◌, ◌≤◌, length, vec_capacity};
-    ghost use Rattle.pa_op_specs.specs.Counts.{AreOfSteps};
-    ghost use Rattle.pa_op_specs.specs.Workers.{WorkerValue};
+    ghost use Rattle.pa_op_specs.specs.Counts.{AreOfSteps, IsOwedBySteps};
+    ghost use Rattle.pa_op_specs.specs.Workers.{WorkerValue, IsCovered};
 
     ghost Value = { WorkerValue };
 
     ghost view = { λ w.
-        record { stock = w.stock; records = w.records.items; room = w.room; stopped = w.stopped; counts = w.counts } };
+        record { stock = w.stock; records = w.records.items; room = w.room; stopped = w.stopped; counts = w.counts; owed = w.owed } };
 
     ghost invariant = { λ w. (w.room ≤ vec_capacity w.records)
         × (w.room ≤ length w.records.items + w.stock.view.budget)
-        × AreOfSteps (length w.records.items) w.counts };
+        × AreOfSteps (length w.records.items) w.counts
+        × IsOwedBySteps (length w.records.items) w.owed
+        × IsCovered w.owed w.stock };
 }
 
 impl<N: Name> Worker<N> {
@@ -64,12 +70,14 @@ impl<N: Name> Worker<N> {
     {
         let records = Vec::with_capacity(alloc, lines as usize)?;
         let stock = Stock::open(alloc, note, thread, partitions)?;
+        stock.kept();
         Ok(Worker {
             stock,
             records,
             room: lines,
             stopped: false,
             counts: [START; MOST_PARTITIONS as usize],
+            owed: owed_none(),
         })
     }
 
@@ -85,15 +93,26 @@ impl<N: Name> Worker<N> {
         self.stock.tell(heap.region())
     }
 
-    /// Takes the stake back, with what the note has seen. The lists are as they were, each title at its number.
+    /// Takes the stake back, with what the note has seen, if it owes nothing. The lists are as they were, each title at its number.
     pub fn hear(&mut self, heap: &Heap<N>, note: Note)
         requires region { note.region ≡ N.region }
         requires none { (k : ℕ) → stake_of self.old.stock.view k ≡ 0 }
+        requires settled { self.old.owed ≡ none_owed }
         requires note { IsForThread self.old.stock.thread note.view }
         ensures heard { self.new ≡ worker_with_view (united self.old.stock.view note.view) self.old }
         ensures lists { SameLists (listed_in self.new.stock) (listed_in self.old.stock) }
     {
         self.stock.hear(heap.region(), note);
+        self.stock.kept();
+    }
+
+    /// Adds what it owes to the totals words, in bytes; then it owes nothing.
+    pub fn settle(&mut self, heap: &Heap<N>)
+        requires stake { HasItsStake self.old.stock }
+        ensures settled { self.new ≡ settled_worker self.old }
+        ensures stake { HasItsStake self.new.stock }
+    {
+        self.stock.settle_totals(heap.region(), &mut self.owed);
     }
 
     /// Recalls what the type keeps. It costs nothing.
@@ -130,6 +149,7 @@ impl<N: Name> Worker<N> {
             room: _,
             stopped: _,
             counts: _,
+            owed: _,
         } = self;
         stock.into_note()
     }

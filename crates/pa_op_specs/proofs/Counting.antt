@@ -1,5 +1,5 @@
 -- What a worker counts of a step, and what it owes then; and that both stay small.
-use Rattle.std.proofs.Common.{◌≡◌, ℕ, ◌+◌, ◌*◌, ◌<◌, ◌≤◌, Bool, true, false, List, [], ◌∷◌, ◌++◌, length, Option, Some, None, refl, sym, ◌∙◌, ap, arith, inl, inr}
+use Rattle.std.proofs.Common.{◌≡◌, ℕ, zero, suc, ◌+◌, ◌*◌, ◌<◌, ◌≤◌, Bool, true, false, List, [], ◌∷◌, ◌++◌, length, Option, Some, None, refl, sym, ◌∙◌, ap, arith, inl, inr}
 use Rattle.std.specs.Prelude.{◌==◌, ◌&&◌, if◌then◌else◌, slice_index_or, slice_set}
 use Rattle.std.proofs.lemmas.Bool.{cases_Bool, cases_eq, eq-eqb, ne_eqb}
 use Rattle.std.proofs.lemmas.List.Sums.{sum_by-cons}
@@ -246,4 +246,24 @@ owed_none_by steps = record {
   freed = λ p. none_at steps p (λ o. o.freed) refl;
   entered = λ p. none_at steps p (λ o. o.entered) refl;
   left = λ p. none_at steps p (λ o. o.left) refl;
+}
+
+-- nor counts anything
+counted_at_none : (p : ℕ) → counted_in (no_count ∷ no_count ∷ no_count ∷ no_count ∷ []) p ≡ no_count
+counted_at_none zero = refl
+counted_at_none (suc zero) = refl
+counted_at_none (suc (suc zero)) = refl
+counted_at_none (suc (suc (suc zero))) = refl
+counted_at_none (suc (suc (suc (suc p)))) = refl
+
+none_counted_at : (steps p : ℕ) (part : Count → ℕ) → part no_count ≡ 0 → part (counted_in (no_count ∷ no_count ∷ no_count ∷ no_count ∷ []) p) ≤ steps
+none_counted_at steps p part none = let a = ap part (counted_at_none p) in omega arith
+
+pub counts_none_by : (steps : ℕ) → AreOfSteps steps (no_count ∷ no_count ∷ no_count ∷ no_count ∷ [])
+counts_none_by steps = record {
+  count = refl;
+  issued = λ p. none_counted_at steps p (λ c. c.issued) refl;
+  freed = λ p. none_counted_at steps p (λ c. c.freed) refl;
+  entered = λ p. none_counted_at steps p (λ c. c.entered) refl;
+  left = λ p. none_counted_at steps p (λ c. c.left) refl;
 }

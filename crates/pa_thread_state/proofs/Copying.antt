@@ -15,7 +15,8 @@ use Rattle.pa_op_specs.specs.Stocks.{StockRegister, StockValue, IsStock, HasHand
 use Rattle.pa_op_specs.specs.Workers.{HasItsStake}
 use Rattle.pa_op_specs.proofs.Registers.{sum_set, made_set}
 use Rattle.pa_op_specs.proofs.Seeing.{made_kept, made_for_kept}
-use Rattle.pa_thread_state.proofs.Leaving.{least_is, clean_own}
+use Rattle.pa_op_specs.proofs.Stakes.{least_is}
+use Rattle.pa_thread_state.proofs.Leaving.{clean_own}
 use Rattle.pa_op_specs.proofs.Stocks.{register_has, stock_with}
 
 -- the thread state after a copy that found this word

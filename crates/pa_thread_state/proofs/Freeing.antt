@@ -24,7 +24,8 @@ use Rattle.pa_op_specs.specs.Stocks.{StockValue, IsStock, register_in, owns_one,
 use Rattle.pa_op_specs.specs.Workers.{HasItsStake}
 use Rattle.pa_op_specs.proofs.Registers.{sum_set, made_set}
 use Rattle.pa_op_specs.proofs.Seeing.{made_for_kept}
-use Rattle.pa_thread_state.proofs.Leaving.{least_is, clean_own}
+use Rattle.pa_op_specs.proofs.Stakes.{least_is}
+use Rattle.pa_thread_state.proofs.Leaving.{clean_own}
 use Rattle.pa_op_specs.proofs.Stocks.{register_owns, stock_with}
 
 -- the view after the content was poisoned and a free found this word

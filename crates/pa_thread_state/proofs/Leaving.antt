@@ -1,9 +1,7 @@
 -- How steps, looks and reads of its own handles change a view, if its one stake is a thread's.
-use Rattle.std.proofs.Common.{◌≡◌, ℕ, ◌+◌, ◌<◌, ◌≤◌, Bool, true, false, ◌&&◌, List, [], ◌∷◌, refl, ap, arith, inl, inr}
-use Rattle.std.specs.Prelude.{◌==◌}
+use Rattle.std.proofs.Common.{◌≡◌, ℕ, ◌+◌, ◌<◌, ◌≤◌, Bool, true, false, ◌&&◌, List, [], ◌∷◌, refl, arith}
 use Rattle.std.specs.List.{sum_by}
 use Rattle.std.proofs.lemmas.List.Sums.{sum_by-cons}
-use Rattle.std.proofs.lemmas.Bool.Decides.{eqb_tells}
 use Rattle.pa_machine.specs.declared.title.Title.{Title}
 use Rattle.pa_machine.specs.declared.title.OwnState.{OwnState}
 use Rattle.pa_machine.specs.declared.title.OwnState.TheVariants.{Clean, Dirty, Poisoned}
@@ -13,54 +11,15 @@ use Rattle.pa_machine.specs.Titles.{same_title, same_state}
 use Rattle.pa_machine.specs.Holdings.{one}
 use Rattle.pa_region.specs.declared.view.Entry.TheVariants.{Counted, Looked}
 use Rattle.pa_region.specs.declared.view.OwnTitle.{OwnTitle}
-use Rattle.pa_region.specs.declared.view.Stake.{Stake}
 use Rattle.pa_region.specs.declared.view.View.{View}
-use Rattle.pa_region.specs.Views.{free_of, own_of, own_as, seen_of, stake_of, least_stake, HasStake}
+use Rattle.pa_region.specs.Views.{free_of, own_of, own_as, seen_of, least_stake, HasStake}
 use Rattle.pa_region.specs.Waiting.{is_unclean, unclean_of}
 use Rattle.pa_region.specs.Moves.{CanCount, IsFound, after_count, after_look, value_of}
 use Rattle.pa_region.specs.Leaves.{CountLeaves, LookLeaves, takes_free}
 use Rattle.pa_region.specs.Aware.{IsAware}
 use Rattle.pa_region.specs.Shares.{IsUser}
-use Rattle.pa_op_specs.specs.Stocks.{HoldsStake}
 use Rattle.pa_op_specs.proofs.Seeing.{now_seen}
 use Rattle.pa_op_specs.proofs.Touching.{Touched, touched_entry}
-
--- if all stakes have one number, the least one isn't below it
-least_from : (r : ℕ) (ss : List Stake) → r ≤ 16 → ((k : ℕ) → (k ≡ r → ⊥) → sum_by (λ (s : Stake). one (s.number == k)) ss ≡ 0) → r ≤ least_stake ss
-least_from r [] small only = small
-least_from r (s ∷ ss) small only =
-    let again = least_from r ss small (λ k other. let c = sum_by-cons (λ (x : Stake). one (x.number == k)) s ss in let z = only k other in omega arith) in
-    elim (eqb_tells s.number r) [
-      | inl y ↦ omega arith
-      | inr n ↦ elim (eqb_tells s.number s.number) [
-        | inl here ↦
-            (let z = only s.number n.1 in
-            let c : sum_by (λ (x : Stake). one (x.number == s.number)) (s ∷ ss) ≡ one (s.number == s.number) + sum_by (λ (x : Stake). one (x.number == s.number)) ss = sum_by-cons (λ (x : Stake). one (x.number == s.number)) s ss in
-            let d : one (s.number == s.number) ≡ 1 = ap one here.0 in
-            absurd (omega arith))
-        | inr never ↦ absurd (never.1 refl)
-      ]
-    ]
-
--- a stake that is there isn't below the least one
-least_at_most : (r : ℕ) (ss : List Stake) → 0 < sum_by (λ (s : Stake). one (s.number == r)) ss → least_stake ss ≤ r
-least_at_most r [] has = absurd (omega arith)
-least_at_most r (s ∷ ss) has = elim (eqb_tells s.number r) [
-  | inl y ↦ omega arith
-  | inr n ↦
-      (let c = sum_by-cons (λ (x : Stake). one (x.number == r)) s ss in
-      let d : one (s.number == r) ≡ 0 = ap one n.0 in
-      let again = least_at_most r ss (omega arith) in
-      omega arith)
-]
-
--- the least stake of a worker's seat is its thread's
-pub least_is : (thread : ℕ) (v : View) → HoldsStake thread v → 0 < stake_of v thread → (least_stake v.stakes ≡ thread) × HasStake v
-least_is thread v holds has =
-    let small = holds.small in
-    let a = least_from thread v.stakes (omega arith) holds.only in
-    let b = least_at_most thread v.stakes has in
-    (omega arith, omega arith)
 
 -- an Own among clean ones is a clean one
 pub clean_own : (v : View) (t : Title) → unclean_of v ≡ 0 → own_of v t ≤ own_as v t Clean

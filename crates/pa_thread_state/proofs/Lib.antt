@@ -28,3 +28,4 @@ pub mod Popping
 pub mod Receiving
 pub mod Released
 pub mod Allocated
+pub mod Settled

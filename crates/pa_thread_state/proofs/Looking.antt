@@ -13,7 +13,7 @@ use Rattle.pa_cells.specs.declared.handle.Handle.{Handle}
 use Rattle.pa_op_specs.specs.Stocks.{StockValue, IsStock, register_in}
 use Rattle.pa_op_specs.specs.Workers.{HasItsStake}
 use Rattle.pa_op_specs.proofs.Seeing.{made_for_kept}
-use Rattle.pa_thread_state.proofs.Leaving.{least_is}
+use Rattle.pa_op_specs.proofs.Stakes.{least_is}
 use Rattle.pa_op_specs.proofs.Stocks.{stock_with}
 
 -- what a look at a handle's slot answers

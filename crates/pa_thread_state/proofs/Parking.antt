@@ -29,7 +29,8 @@ use Rattle.pa_op_specs.specs.Workers.{HasItsStake}
 use Rattle.pa_thread_state.specs.Exchanging.{handle_register, register_of}
 use Rattle.pa_op_specs.proofs.Registers.{sum_set, made_set}
 use Rattle.pa_op_specs.proofs.Seeing.{made_for_kept}
-use Rattle.pa_thread_state.proofs.Leaving.{least_is, clean_own}
+use Rattle.pa_op_specs.proofs.Stakes.{least_is}
+use Rattle.pa_thread_state.proofs.Leaving.{clean_own}
 use Rattle.pa_op_specs.proofs.Stocks.{register_owns, register_points, stock_kept, stock_with}
 use Rattle.pa_op_specs.proofs.Entered.{Rests}
 use Rattle.pa_root.proofs.Seeing.{free_kept}

@@ -13,7 +13,7 @@ use Rattle.pa_op_specs.specs.Stocks.{StockValue, IsStock, register_in, owns_one,
 use Rattle.pa_op_specs.specs.Workers.{HasItsStake}
 use Rattle.pa_op_specs.proofs.Registers.{sum_set, made_set}
 use Rattle.pa_op_specs.proofs.Seeing.{made_for_kept}
-use Rattle.pa_thread_state.proofs.Leaving.{least_is}
+use Rattle.pa_op_specs.proofs.Stakes.{least_is}
 use Rattle.pa_op_specs.proofs.Stocks.{register_points, stock_with}
 
 -- the thread state after a reset that found this word

@@ -20,7 +20,7 @@ use Rattle.pa_op_specs.specs.Stocks.{StockValue, IsStock, register_in}
 use Rattle.pa_op_specs.specs.Workers.{HasItsStake}
 use Rattle.pa_thread_state.specs.Changes.{CanFill}
 use Rattle.pa_op_specs.proofs.Seeing.{made_for_kept}
-use Rattle.pa_thread_state.proofs.Leaving.{least_is}
+use Rattle.pa_op_specs.proofs.Stakes.{least_is}
 use Rattle.pa_op_specs.proofs.Stocks.{register_owns, stock_with}
 
 -- the view after stores of the value and a step that found this word

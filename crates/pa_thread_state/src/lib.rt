@@ -17,6 +17,7 @@ mod opening;
 mod purges;
 mod releases;
 mod roots;
+mod settles;
 mod stock;
 mod takes;
 

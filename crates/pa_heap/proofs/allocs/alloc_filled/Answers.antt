@@ -6,7 +6,7 @@ use Rattle.pa_op_specs.specs.Plays.{DoesOp}
 use Rattle.pa_record.specs.declared.entry.Answer.TheVariants as answers
 use Rattle.pa_root.specs.declared.fault.FillFault.{FillFault}
 use Rattle.pa_region.specs.Views.{free_of, own_of, ref_of}
-use Rattle.pa_heap.proofs.Issuing.{issued_budget}
+use Rattle.pa_heap.proofs.Issuing.{issued_made, issued_budget}
 use Rattle.pa_heap.proofs.Allocated.{fill_issues, fill_does}
 use Rattle.pa_heap.proofs.Fulling.{full_class_does}
 use Rattle.pa_heap.proofs.allocs.alloc_filled.Goals as goal
@@ -60,3 +60,7 @@ returns-in-Err-Full-clause-does g c =
     (full_class_does c.args.line c.args.size c.args.reg c.args.partition c.in-Err-Full.entry c.args.class c.args.stock.now c.fill_list.new.self
     (subst (λ (f : FillFault). FindsNone c.args.line c.args.partition 1 (Some c.args.class) c.args.stock.now c.fill_list.new.self f) c.in-Err-Full.field-0-is c.in-Err-Full.ensures.none)
     c.kept.ensures.stock c.kept.ensures.aware c.kept-in-Err-Full.ensures.aware c.requires.partition c.requires.none c.requires.class.0 c.requires.class.1 c.requires.empty)
+
+pub returns-in-Ok-clause-made : goal.returns-in-Ok-clause-made
+returns-in-Ok-clause-made g c =
+    issued_made (listed_slot c.args.partition c.args.class c.in-Ok.title) c.args.reg c.issue.result c.fill_list.new.self c.issue.new.self c.issue.ensures c.kept-in-Ok.ensures.stock c.requires.reg

@@ -3,7 +3,7 @@ use Rattle.pa_direct.specs.declared.maps.Shape.{Shape}
 use Rattle.pa_thread_state.specs.Allocating.{FindsNone}
 use Rattle.pa_root.specs.declared.fault.FillFault.{FillFault}
 use Rattle.pa_root.specs.declared.fault.FillFault.TheVariants.{Full}
-use Rattle.pa_heap.proofs.Issuing.{issued_budget}
+use Rattle.pa_heap.proofs.Issuing.{issued_made, issued_budget}
 use Rattle.pa_heap.proofs.Allocated.{map_issues, map_does}
 use Rattle.pa_thread_state.proofs.Fetching.{mapped_slot}
 use Rattle.pa_heap.proofs.Fulling.{full_map_does}
@@ -50,3 +50,7 @@ returns-in-Err-Full-clause-does g c =
     (subst (λ (n : ℕ). FindsNone c.args.line c.args.partition n None c.args.stock.now c.map_title.new.self (Full c.in-Err-Full.entry)) shape
     (subst (λ (f : FillFault). FindsNone c.args.line c.args.partition c.in-Some.shape.supers None c.args.stock.now c.map_title.new.self f) c.in-Err-Full.field-0-is c.in-Err-Full.ensures.none))
     c.kept.ensures.stock c.kept.ensures.aware c.kept-in-Err-Full.ensures.aware c.requires.partition c.requires.none c.requires.direct
+
+pub returns-in-Ok-clause-made : goal.returns-in-Ok-clause-made
+returns-in-Ok-clause-made g c =
+    issued_made (mapped_slot c.args.partition c.in-Ok.title) c.args.reg c.issue.result c.map_title.new.self c.issue.new.self c.issue.ensures c.kept-in-Ok.ensures.stock c.requires.reg

@@ -1,46 +1,76 @@
-use Rattle.std.proofs.Common.{◌≡◌, ◌+◌, List, [], ◌∷◌, length, ◌∙◌, sym, ap, subst, arith, true}
+use Rattle.std.proofs.Common.{◌≡◌, ◌+◌, List, [], ◌∷◌, length, ◌∙◌, sym, ap, subst, arith, true, ◌≤◌}
 use Rattle.std.proofs.lemmas.List.{length-append}
 use Rattle.pa_machine.specs.declared.word.Step.TheVariants as steps
 use Rattle.pa_trace.specs.declared.script.Op.TheVariants as ops
-use Rattle.pa_op_specs.specs.declared.counts.Count.{Count}
-use Rattle.pa_op_specs.specs.Counts.{AreOfSteps, counts_after, owned_in, made_seen}
+use Rattle.pa_op_specs.specs.Counts.{AreOfSteps, IsOwedBySteps, counts_after, owed_after, owned_in, made_seen}
 use Rattle.pa_op_specs.specs.Stocks.{StockValue, register_in}
-use Rattle.pa_op_specs.specs.Workers.{WorkerValue, CanPlayOp, KeepsOn}
+use Rattle.pa_op_specs.specs.Workers.{WorkerValue, CanPlayOp, KeepsOn, IsCovered}
 use Rattle.pa_op_specs.specs.Plays.{PlaysOp}
-use Rattle.pa_op_specs.proofs.Weighing.{CountsOp, alloc_counts}
-use Rattle.pa_heap.proofs.Working.{worker_plays, worker_goes_on}
+use Rattle.pa_op_specs.proofs.Growing.{alloc_less}
+use Rattle.pa_op_specs.proofs.Weighing.{alloc_counts}
+use Rattle.pa_heap.proofs.Working.{worker_plays, worker_goes_on, counts_by, covered_after}
+use Rattle.pa_totals.specs.declared.owed.Owed.{Owed}
+use Rattle.pa_totals.specs.Settled.{none_owed}
+use Rattle.pa_op_specs.proofs.Stakes.{covered_by_rule}
+use Rattle.pa_op_specs.proofs.Counting.{owed_none_by}
 use Rattle.pa_heap.proofs.worker.Worker.alloc.Goals as goal
 
 pub invariant_of-self : goal.invariant_of-self
 invariant_of-self g c =
-    let long : length c.enter.new.records.items ≡ length c.self.inside.records.items + 1 = ap length c.enter.ensures.items ∙ length-append c.self.inside.records.items (_ ∷ []) in (
+    let long : length c.enter.new.records.items ≡ length c.self.inside.records.items + 1 = ap length c.enter.ensures.items ∙ length-append c.self.inside.records.items (_ ∷ []) in
+    let owes : c.owe_step.new.owed ≡ owed_after steps.Issue (owned_in (register_in c.alloc.new.stock.registers c.args.reg)) (made_seen c.in-Ok.answer) c.self.inside.owed =
+    c.owe_step.ensures.owed ∙ ap (λ h. owed_after steps.Issue h c.made-seen.result c.self.inside.owed) (c.owned-handle.ensures ∙ ap owned_in c.register.ensures)
+    ∙ ap (λ s. owed_after steps.Issue (owned_in (register_in c.alloc.new.stock.registers c.args.reg)) s c.self.inside.owed) c.made-seen.ensures in
+    let stake = (subst (λ (z : WorkerValue). CanPlayOp z) (sym c.self.view_is) c.requires.ready).stake in (
       omega (arith, c.self.invariant.0, c.enter.ensures.room),
       omega (arith, long, c.self.invariant.1, c.alloc.ensures.budget),
       subst (λ n. AreOfSteps n c.count_step.new.counts) (sym long) (c.count_step.ensures.small (length c.self.inside.records.items) c.self.invariant.2),
+      subst (λ n. IsOwedBySteps n c.owe_step.new.owed) (sym long) (c.owe_step.ensures.small (length c.self.inside.records.items) c.self.invariant.3),
+      covered_after c.args.line (ops.Alloc c.args.reg c.args.partition c.args.size) c.in-Ok.answer c.self.inside.stock c.alloc.new.stock c.self.inside.owed c.owe_step.new.owed
+          (owed_after steps.Issue (owned_in (register_in c.alloc.new.stock.registers c.args.reg)) (made_seen c.in-Ok.answer) c.self.inside.owed) c.in-Ok.ensures.does owes
+          (λ q. alloc_less q c.args.reg c.in-Ok.answer c.self.inside.owed c.self.invariant.3.count c.requires.reg c.args.partition c.args.size c.self.inside.stock c.alloc.new.stock c.kept.ensures.stock c.in-Ok.ensures.made)
+          stake c.self.invariant.4,
     )
+
+pub invariant_of-self-in-Err : goal.invariant_of-self-in-Err
+invariant_of-self-in-Err g c = (
+  c.self.invariant.0,
+  (let same = ap (λ (z : StockValue). z.view.budget) c.in-Err.ensures.same in omega (arith, c.self.invariant.1, same)),
+  c.self.invariant.2,
+  subst (λ (os : List Owed). IsOwedBySteps (length c.self.inside.records.items) os) (sym c.owed_none-self-inside.ensures)
+      (owed_none_by (length c.self.inside.records.items)),
+  subst (λ (os : List Owed). IsCovered os c.alloc.new.stock) (sym c.owed_none-self-inside.ensures)
+      (covered_by_rule c.alloc.new.stock c.kept-in-Err.ensures.stock.stake c.kept-in-Err.ensures.aware),
+)
 
 pub returns-in-Ok-clause-plays : goal.returns-in-Ok-clause-plays
 returns-in-Ok-clause-plays g c =
-    let w : WorkerValue = record { stock = c.self.inside.stock; records = c.self.inside.records.items; room = c.self.inside.room; stopped = c.self.inside.stopped; counts = c.self.inside.counts } in
+    let w : WorkerValue = record { stock = c.self.inside.stock; records = c.self.inside.records.items; room = c.self.inside.room; stopped = c.self.inside.stopped; counts = c.self.inside.counts; owed = c.self.inside.owed } in
     let counted : c.count_step.new.counts ≡ counts_after steps.Issue (owned_in (register_in c.alloc.new.stock.registers c.args.reg)) (made_seen c.in-Ok.answer) w.counts =
-    c.count_step.ensures.counts ∙ ap (λ h. counts_after steps.Issue h c.made.result w.counts) (c.owned-handle.ensures ∙ ap owned_in c.register.ensures)
-    ∙ ap (λ s. counts_after steps.Issue (owned_in (register_in c.alloc.new.stock.registers c.args.reg)) s w.counts) c.made.ensures in
-    subst (λ (z : WorkerValue). PlaysOp c.args.line (ops.Alloc c.args.reg c.args.partition c.args.size) c.in-Ok.answer z (record { stock = c.alloc.new.stock; records = c.enter.new.records.items; room = c.self.inside.room; stopped = c.self.inside.stopped; counts = c.count_step.new.counts }))
+    c.count_step.ensures.counts ∙ ap (λ h. counts_after steps.Issue h c.made-seen.result w.counts) (c.owned-handle.ensures ∙ ap owned_in c.register.ensures)
+    ∙ ap (λ s. counts_after steps.Issue (owned_in (register_in c.alloc.new.stock.registers c.args.reg)) s w.counts) c.made-seen.ensures in
+    let owes : c.owe_step.new.owed ≡ owed_after steps.Issue (owned_in (register_in c.alloc.new.stock.registers c.args.reg)) (made_seen c.in-Ok.answer) w.owed =
+    c.owe_step.ensures.owed ∙ ap (λ h. owed_after steps.Issue h c.made-seen.result w.owed) (c.owned-handle.ensures ∙ ap owned_in c.register.ensures)
+    ∙ ap (λ s. owed_after steps.Issue (owned_in (register_in c.alloc.new.stock.registers c.args.reg)) s w.owed) c.made-seen.ensures in
+    subst (λ (z : WorkerValue). PlaysOp c.args.line (ops.Alloc c.args.reg c.args.partition c.args.size) c.in-Ok.answer z (record { stock = c.alloc.new.stock; records = c.enter.new.records.items; room = c.self.inside.room; stopped = c.self.inside.stopped; counts = c.count_step.new.counts; owed = c.owe_step.new.owed }))
     c.self.view_is
-    (worker_plays c.args.line (ops.Alloc c.args.reg c.args.partition c.args.size) c.in-Ok.answer w c.alloc.new.stock c.enter.new.records.items c.count_step.new.counts c.thread.result c.self.inside.room c.self.inside.stopped
+    (worker_plays c.args.line (ops.Alloc c.args.reg c.args.partition c.args.size) c.in-Ok.answer w c.alloc.new.stock c.enter.new.records.items c.count_step.new.counts c.owe_step.new.owed c.thread.result c.self.inside.room c.self.inside.stopped
     c.enter.ensures.items c.thread.ensures c.in-Ok.ensures.does
-    (subst (λ (ds : List Count). CountsOp c.args.line (ops.Alloc c.args.reg c.args.partition c.args.size) c.in-Ok.answer w.stock c.alloc.new.stock w.counts ds) (sym counted)
-    (alloc_counts c.args.line c.in-Ok.answer w.stock c.alloc.new.stock w.counts c.self.invariant.2.count c.args.reg c.args.partition c.args.size c.kept.ensures.stock c.requires.reg)))
+    (counts_by c.args.line (ops.Alloc c.args.reg c.args.partition c.args.size) c.in-Ok.answer w.stock c.alloc.new.stock w.counts c.count_step.new.counts (counts_after steps.Issue (owned_in (register_in c.alloc.new.stock.registers c.args.reg)) (made_seen c.in-Ok.answer) w.counts)
+    w.owed c.owe_step.new.owed (owed_after steps.Issue (owned_in (register_in c.alloc.new.stock.registers c.args.reg)) (made_seen c.in-Ok.answer) w.owed) counted owes
+    (alloc_counts c.args.line c.in-Ok.answer w.stock c.alloc.new.stock w.counts c.self.invariant.2.count w.owed c.self.invariant.3.count c.args.reg c.args.partition c.args.size c.kept.ensures.stock c.requires.reg)))
 
 pub returns-in-Ok-clause-goes_on : goal.returns-in-Ok-clause-goes_on
 returns-in-Ok-clause-goes_on g c =
-    let w : WorkerValue = record { stock = c.self.inside.stock; records = c.self.inside.records.items; room = c.self.inside.room; stopped = c.self.inside.stopped; counts = c.self.inside.counts } in
-    subst (λ (z : WorkerValue). KeepsOn z (record { stock = c.alloc.new.stock; records = c.enter.new.records.items; room = c.self.inside.room; stopped = c.self.inside.stopped; counts = c.count_step.new.counts }))
+    let w : WorkerValue = record { stock = c.self.inside.stock; records = c.self.inside.records.items; room = c.self.inside.room; stopped = c.self.inside.stopped; counts = c.self.inside.counts; owed = c.self.inside.owed } in
+    subst (λ (z : WorkerValue). KeepsOn z (record { stock = c.alloc.new.stock; records = c.enter.new.records.items; room = c.self.inside.room; stopped = c.self.inside.stopped; counts = c.count_step.new.counts; owed = c.owe_step.new.owed }))
     c.self.view_is
-    (worker_goes_on c.args.line (ops.Alloc c.args.reg c.args.partition c.args.size) c.in-Ok.answer w c.alloc.new.stock c.enter.new.records.items c.count_step.new.counts _ c.enter.ensures.items (subst (λ (z : WorkerValue). CanPlayOp z) (sym c.self.view_is) c.requires.ready)
+    (worker_goes_on c.args.line (ops.Alloc c.args.reg c.args.partition c.args.size) c.in-Ok.answer w c.alloc.new.stock c.enter.new.records.items c.count_step.new.counts c.owe_step.new.owed _ c.enter.ensures.items (subst (λ (z : WorkerValue). CanPlayOp z) (sym c.self.view_is) c.requires.ready)
     c.in-Ok.ensures.does)
 
 pub returns-in-Err-clause-same : goal.returns-in-Err-clause-same
 returns-in-Err-clause-same g c =
-    let halted : StockValue → WorkerValue = λ s. record { stock = s; records = c.self.inside.records.items; room = c.self.inside.room; stopped = true; counts = c.self.inside.counts } in
-    ap halted c.in-Err.ensures.same ∙ ap (λ (z : WorkerValue). record z { stopped = true }) c.self.view_is
+    let w : WorkerValue = record { stock = c.self.inside.stock; records = c.self.inside.records.items; room = c.self.inside.room; stopped = c.self.inside.stopped; counts = c.self.inside.counts; owed = c.self.inside.owed } in
+    ap (λ (s : StockValue). record w { stock = s; stopped = true; owed = c.owed_none-self-inside.result }) c.in-Err.ensures.same
+    ∙ (ap (λ (os : List Owed). record w { stopped = true; owed = os }) c.owed_none-self-inside.ensures
+    ∙ ap (λ (z : WorkerValue). record z { stopped = true; owed = none_owed }) c.self.view_is)

@@ -1,44 +1,71 @@
-use Rattle.std.proofs.Common.{◌≡◌, ◌+◌, List, [], ◌∷◌, length, ◌∙◌, sym, ap, subst, arith}
+use Rattle.std.proofs.Common.{◌≡◌, ◌+◌, List, [], ◌∷◌, length, ◌∙◌, sym, ap, subst, arith, ◌≤◌}
 use Rattle.std.proofs.lemmas.List.{length-append}
 use Rattle.pa_machine.specs.declared.word.Step.TheVariants as steps
 use Rattle.pa_trace.specs.declared.script.Op.TheVariants as ops
-use Rattle.pa_op_specs.specs.declared.counts.Count.{Count}
-use Rattle.pa_op_specs.specs.Counts.{AreOfSteps, counts_after, owned_in, done_seen}
+use Rattle.pa_op_specs.specs.Counts.{AreOfSteps, IsOwedBySteps, counts_after, owed_after, owned_in, done_seen}
 use Rattle.pa_op_specs.specs.Stocks.{register_in}
-use Rattle.pa_op_specs.specs.Workers.{WorkerValue, CanPlayOp, KeepsOn}
+use Rattle.pa_op_specs.specs.Workers.{WorkerValue, CanPlayOp, KeepsOn, IsCovered}
 use Rattle.pa_op_specs.specs.Plays.{PlaysOp}
-use Rattle.pa_op_specs.proofs.Weighing.{CountsOp, free_counts}
+use Rattle.pa_op_specs.proofs.Growing.{free_less}
+use Rattle.pa_op_specs.proofs.Weighing.{free_counts}
 use Rattle.pa_thread_state.specs.Stopping.{KeepsItsStake}
-use Rattle.pa_heap.proofs.Working.{worker_plays, worker_goes_on}
+use Rattle.pa_heap.proofs.Working.{worker_plays, worker_goes_on, counts_by, covered_after}
+use Rattle.pa_totals.specs.declared.owed.Owed.{Owed}
+use Rattle.pa_op_specs.proofs.Stakes.{covered_by_rule}
+use Rattle.pa_op_specs.proofs.Counting.{owed_none_by}
 use Rattle.pa_heap.proofs.worker.Worker.free.Goals as goal
 
 pub invariant_of-self : goal.invariant_of-self
 invariant_of-self g c =
-    let long : length c.enter.new.records.items ≡ length c.self.inside.records.items + 1 = ap length c.enter.ensures.items ∙ length-append c.self.inside.records.items (_ ∷ []) in (
+    let long : length c.enter.new.records.items ≡ length c.self.inside.records.items + 1 = ap length c.enter.ensures.items ∙ length-append c.self.inside.records.items (_ ∷ []) in
+    let owes : c.owe_step.new.owed ≡ owed_after steps.Free (owned_in (register_in c.self.inside.stock.registers c.args.reg)) (done_seen c.in-Ok.answer) c.self.inside.owed =
+    c.owe_step.ensures.owed ∙ ap (λ h. owed_after steps.Free h c.done-seen.result c.self.inside.owed) (c.owned-handle.ensures ∙ ap owned_in c.register.ensures)
+    ∙ ap (λ s. owed_after steps.Free (owned_in (register_in c.self.inside.stock.registers c.args.reg)) s c.self.inside.owed) c.done-seen.ensures in
+    let stake = (subst (λ (z : WorkerValue). CanPlayOp z) (sym c.self.view_is) c.requires.ready).stake in (
       omega (arith, c.self.invariant.0, c.enter.ensures.room),
       omega (arith, long, c.self.invariant.1, c.in-Ok.ensures.budget),
       subst (λ n. AreOfSteps n c.count_step.new.counts) (sym long) (c.count_step.ensures.small (length c.self.inside.records.items) c.self.invariant.2),
+      subst (λ n. IsOwedBySteps n c.owe_step.new.owed) (sym long) (c.owe_step.ensures.small (length c.self.inside.records.items) c.self.invariant.3),
+      covered_after c.args.line (ops.Free c.args.reg) c.in-Ok.answer c.self.inside.stock c.play_free.new.stock c.self.inside.owed c.owe_step.new.owed
+          (owed_after steps.Free (owned_in (register_in c.self.inside.stock.registers c.args.reg)) (done_seen c.in-Ok.answer) c.self.inside.owed) c.in-Ok.ensures.does owes
+          (λ q. free_less q c.args.reg c.in-Ok.answer c.self.inside.owed c.self.invariant.3.count c.requires.reg c.self.inside.stock c.kept.ensures.stock)
+          stake c.self.invariant.4,
     )
+
+pub invariant_of-self-in-Err : goal.invariant_of-self-in-Err
+invariant_of-self-in-Err g c = (
+  omega arith,
+  omega arith,
+  c.self.invariant.2,
+  subst (λ (os : List Owed). IsOwedBySteps (length c.self.inside.records.items) os) (sym c.owed_none-self-inside.ensures)
+      (owed_none_by (length c.self.inside.records.items)),
+  subst (λ (os : List Owed). IsCovered os c.play_free.new.stock) (sym c.owed_none-self-inside.ensures)
+      (covered_by_rule c.play_free.new.stock c.kept-in-Err.ensures.stock.stake c.kept-in-Err.ensures.aware),
+)
 
 pub returns-in-Ok-clause-plays : goal.returns-in-Ok-clause-plays
 returns-in-Ok-clause-plays g c =
-    let w : WorkerValue = record { stock = c.self.inside.stock; records = c.self.inside.records.items; room = c.self.inside.room; stopped = c.self.inside.stopped; counts = c.self.inside.counts } in
+    let w : WorkerValue = record { stock = c.self.inside.stock; records = c.self.inside.records.items; room = c.self.inside.room; stopped = c.self.inside.stopped; counts = c.self.inside.counts; owed = c.self.inside.owed } in
     let counted : c.count_step.new.counts ≡ counts_after steps.Free (owned_in (register_in w.stock.registers c.args.reg)) (done_seen c.in-Ok.answer) w.counts =
-    c.count_step.ensures.counts ∙ ap (λ h. counts_after steps.Free h c.done.result w.counts) (c.owned-handle.ensures ∙ ap owned_in c.register.ensures)
-    ∙ ap (λ s. counts_after steps.Free (owned_in (register_in w.stock.registers c.args.reg)) s w.counts) c.done.ensures in
-    subst (λ (z : WorkerValue). PlaysOp c.args.line (ops.Free c.args.reg) c.in-Ok.answer z (record { stock = c.play_free.new.stock; records = c.enter.new.records.items; room = c.self.inside.room; stopped = c.self.inside.stopped; counts = c.count_step.new.counts }))
+    c.count_step.ensures.counts ∙ ap (λ h. counts_after steps.Free h c.done-seen.result w.counts) (c.owned-handle.ensures ∙ ap owned_in c.register.ensures)
+    ∙ ap (λ s. counts_after steps.Free (owned_in (register_in w.stock.registers c.args.reg)) s w.counts) c.done-seen.ensures in
+    let owes : c.owe_step.new.owed ≡ owed_after steps.Free (owned_in (register_in w.stock.registers c.args.reg)) (done_seen c.in-Ok.answer) w.owed =
+    c.owe_step.ensures.owed ∙ ap (λ h. owed_after steps.Free h c.done-seen.result w.owed) (c.owned-handle.ensures ∙ ap owned_in c.register.ensures)
+    ∙ ap (λ s. owed_after steps.Free (owned_in (register_in w.stock.registers c.args.reg)) s w.owed) c.done-seen.ensures in
+    subst (λ (z : WorkerValue). PlaysOp c.args.line (ops.Free c.args.reg) c.in-Ok.answer z (record { stock = c.play_free.new.stock; records = c.enter.new.records.items; room = c.self.inside.room; stopped = c.self.inside.stopped; counts = c.count_step.new.counts; owed = c.owe_step.new.owed }))
     c.self.view_is
-    (worker_plays c.args.line (ops.Free c.args.reg) c.in-Ok.answer w c.play_free.new.stock c.enter.new.records.items c.count_step.new.counts c.thread.result c.self.inside.room c.self.inside.stopped
+    (worker_plays c.args.line (ops.Free c.args.reg) c.in-Ok.answer w c.play_free.new.stock c.enter.new.records.items c.count_step.new.counts c.owe_step.new.owed c.thread.result c.self.inside.room c.self.inside.stopped
     c.enter.ensures.items c.thread.ensures c.in-Ok.ensures.does
-    (subst (λ (ds : List Count). CountsOp c.args.line (ops.Free c.args.reg) c.in-Ok.answer w.stock c.play_free.new.stock w.counts ds) (sym counted)
-    (free_counts c.args.line c.in-Ok.answer w.stock c.play_free.new.stock w.counts c.self.invariant.2.count c.args.reg c.kept.ensures.stock c.requires.reg)))
+    (counts_by c.args.line (ops.Free c.args.reg) c.in-Ok.answer w.stock c.play_free.new.stock w.counts c.count_step.new.counts (counts_after steps.Free (owned_in (register_in w.stock.registers c.args.reg)) (done_seen c.in-Ok.answer) w.counts)
+    w.owed c.owe_step.new.owed (owed_after steps.Free (owned_in (register_in w.stock.registers c.args.reg)) (done_seen c.in-Ok.answer) w.owed) counted owes
+    (free_counts c.args.line c.in-Ok.answer w.stock c.play_free.new.stock w.counts c.self.invariant.2.count w.owed c.self.invariant.3.count c.args.reg c.kept.ensures.stock c.requires.reg)))
 
 pub returns-in-Ok-clause-goes_on : goal.returns-in-Ok-clause-goes_on
 returns-in-Ok-clause-goes_on g c =
-    let w : WorkerValue = record { stock = c.self.inside.stock; records = c.self.inside.records.items; room = c.self.inside.room; stopped = c.self.inside.stopped; counts = c.self.inside.counts } in
-    subst (λ (z : WorkerValue). KeepsOn z (record { stock = c.play_free.new.stock; records = c.enter.new.records.items; room = c.self.inside.room; stopped = c.self.inside.stopped; counts = c.count_step.new.counts }))
+    let w : WorkerValue = record { stock = c.self.inside.stock; records = c.self.inside.records.items; room = c.self.inside.room; stopped = c.self.inside.stopped; counts = c.self.inside.counts; owed = c.self.inside.owed } in
+    subst (λ (z : WorkerValue). KeepsOn z (record { stock = c.play_free.new.stock; records = c.enter.new.records.items; room = c.self.inside.room; stopped = c.self.inside.stopped; counts = c.count_step.new.counts; owed = c.owe_step.new.owed }))
     c.self.view_is
-    (worker_goes_on c.args.line (ops.Free c.args.reg) c.in-Ok.answer w c.play_free.new.stock c.enter.new.records.items c.count_step.new.counts _ c.enter.ensures.items (subst (λ (z : WorkerValue). CanPlayOp z) (sym c.self.view_is) c.requires.ready)
+    (worker_goes_on c.args.line (ops.Free c.args.reg) c.in-Ok.answer w c.play_free.new.stock c.enter.new.records.items c.count_step.new.counts c.owe_step.new.owed _ c.enter.ensures.items (subst (λ (z : WorkerValue). CanPlayOp z) (sym c.self.view_is) c.requires.ready)
     c.in-Ok.ensures.does)
 
 pub returns-in-Err-clause-stake : goal.returns-in-Err-clause-stake

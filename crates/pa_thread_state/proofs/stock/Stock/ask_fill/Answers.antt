@@ -6,7 +6,7 @@ use Rattle.pa_root.specs.Handing.{FillGives}
 use Rattle.pa_op_specs.specs.Stocks.{StockValue, IsStock}
 use Rattle.pa_op_specs.specs.Workers.{HasItsStake}
 use Rattle.pa_thread_state.specs.Allocating.{GivesNone, FindsNone}
-use Rattle.pa_thread_state.proofs.Leaving.{least_is}
+use Rattle.pa_op_specs.proofs.Stakes.{least_is}
 use Rattle.pa_thread_state.proofs.Parking.{kept_stock}
 use Rattle.pa_region.specs.Views.{least_stake}
 use Rattle.pa_thread_state.proofs.Receiving.{err_weaker, for_keeps, none_stock, finds_none}

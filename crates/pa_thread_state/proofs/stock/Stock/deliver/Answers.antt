@@ -3,7 +3,7 @@ use Rattle.std.specs.Prelude.{OnOk}
 use Rattle.pa_op_specs.specs.Stocks.{StockValue}
 use Rattle.pa_op_specs.specs.Workers.{HasItsStake}
 use Rattle.pa_thread_state.specs.Homing.{ComesHome}
-use Rattle.pa_thread_state.proofs.Leaving.{least_is}
+use Rattle.pa_op_specs.proofs.Stakes.{least_is}
 use Rattle.pa_thread_state.proofs.Homing.{delivered_stock, same_view}
 use Rattle.pa_thread_state.proofs.stock.Stock.deliver.Goals as goal
 

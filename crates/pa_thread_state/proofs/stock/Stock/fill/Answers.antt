@@ -2,7 +2,7 @@ use Rattle.std.proofs.Common.{◌∙◌, sym, subst, ap, length, inl}
 use Rattle.pa_region.specs.declared.view.View.{View}
 use Rattle.pa_op_specs.specs.Stocks.{StockValue, IsStock}
 use Rattle.pa_thread_state.specs.Changes.{CanFill}
-use Rattle.pa_thread_state.proofs.Leaving.{least_is}
+use Rattle.pa_op_specs.proofs.Stakes.{least_is}
 use Rattle.pa_thread_state.proofs.Writing.{filled_sound}
 use Rattle.pa_thread_state.proofs.Ready.{inside, inside_budget, inside_own}
 use Rattle.pa_thread_state.proofs.stock.Stock.fill.Goals as goal

@@ -10,7 +10,7 @@ use Rattle.pa_cache.specs.Caches.{batch_after}
 use Rattle.pa_op_specs.specs.Stocks.{StockValue, titles_in}
 use Rattle.pa_op_specs.specs.Workers.{HasItsStake}
 use Rattle.pa_thread_state.specs.Giving.{GivesBatch, HandsBack}
-use Rattle.pa_thread_state.proofs.Leaving.{least_is}
+use Rattle.pa_op_specs.proofs.Stakes.{least_is}
 use Rattle.pa_thread_state.proofs.Lists.{in_batch}
 use Rattle.pa_thread_state.proofs.HandedBack.{batch_free, batch_done, back_stock, seen_fill}
 use Rattle.pa_thread_state.proofs.stock.Stock.give_batch.Goals as goal

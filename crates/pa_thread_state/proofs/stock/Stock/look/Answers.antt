@@ -1,7 +1,7 @@
 use Rattle.std.proofs.Common.{◌∙◌, sym, subst}
 use Rattle.pa_region.specs.declared.view.View.{View}
 use Rattle.pa_op_specs.specs.Stocks.{StockValue, IsStock}
-use Rattle.pa_thread_state.proofs.Leaving.{least_is}
+use Rattle.pa_op_specs.proofs.Stakes.{least_is}
 use Rattle.pa_op_specs.proofs.Stocks.{register_has}
 use Rattle.pa_thread_state.proofs.Looking.{looked_stock}
 use Rattle.pa_thread_state.proofs.Ready.{inside}

@@ -8,7 +8,7 @@ use Rattle.pa_op_specs.specs.Stocks.{StockValue, titles_in, listed_in}
 use Rattle.pa_op_specs.specs.Workers.{HasItsStake}
 use Rattle.pa_thread_state.specs.Giving.{GivesTail}
 use Rattle.pa_thread_state.specs.Purging.{PurgesRoot}
-use Rattle.pa_thread_state.proofs.Leaving.{least_is}
+use Rattle.pa_op_specs.proofs.Stakes.{least_is}
 use Rattle.pa_thread_state.proofs.Parking.{kept_stock}
 use Rattle.pa_thread_state.proofs.Purging.{GivesLists, lists_none, lists_stake, lists_thread, lists_more, slots_none, slots_more, purges_root}
 use Rattle.pa_thread_state.proofs.stock.Stock.purge_partition.Goals as goal

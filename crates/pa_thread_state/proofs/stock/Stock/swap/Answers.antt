@@ -2,7 +2,7 @@ use Rattle.std.proofs.Common.{◌∙◌, sym, subst}
 use Rattle.pa_op_specs.specs.Stocks.{StockValue}
 use Rattle.pa_op_specs.specs.Workers.{HasItsStake}
 use Rattle.pa_thread_state.specs.Exchanging.{SwapsHandles}
-use Rattle.pa_thread_state.proofs.Leaving.{least_is}
+use Rattle.pa_op_specs.proofs.Stakes.{least_is}
 use Rattle.pa_thread_state.proofs.Parking.{kept_stock}
 use Rattle.pa_thread_state.proofs.Exchanged.{exchanges_is}
 use Rattle.pa_thread_state.proofs.stock.Stock.swap.Goals as goal
