@@ -81,7 +81,7 @@ module _ (t : Trace) (c : Course) (limits : IsWithinLimits t) (course : IsCourse
       let next : n + 1 ≡ suc n = omega arith in
       subst (λ m. Hears k (c.seats n) (c.ends n k) (c.starts m k)) next (course.hears n k low high few)
 
-  is_after : (k n : ℕ) → 1 ≤ n → n ≤ phases_in t.lines → k < t.threads → IsOf k (c.starts n k) → IsOf k (c.ends n k)
+  pub is_after : (k n : ℕ) → 1 ≤ n → n ≤ phases_in t.lines → k < t.threads → IsOf k (c.starts n k) → IsOf k (c.ends n k)
   is_after k n low high few is =
       let (thread, many) = stays (c.starts n k) (c.ends n k) (c.plays n k) (course.plays n k low high few) in
       record { thread = thread ∙ is.thread; many = many ∙ is.many }

@@ -17,6 +17,7 @@ use Rattle.pa_rules.specs.Caches.{NoActs}
 use Rattle.pa_logs.specs.Said.{IsLineSaid, LayersSay}
 use Rattle.pa_logs.proofs.Said.{layers_tell_all}
 use Rattle.pa_op_specs.specs.Counts.{CountsBy}
+use Rattle.pa_op_specs.specs.Booking.{BooksBy}
 use Rattle.pa_op_specs.specs.Stocks.{titles_in}
 use Rattle.pa_op_specs.specs.Outcomes.{Outcome, FitsRun}
 use Rattle.pa_op_specs.specs.Plays.{Does, PlaysAll}
@@ -79,14 +80,17 @@ does n = record {
   };
 }
 
--- it counts nothing
-no_counts : (o : Outcome) (n : ℕ) → CountsBy o.homes o.sizes ((small_record n).played ∷ []) [] []
+-- it counts nothing, and books nothing
+no_counts : (o : Outcome) (n : ℕ) → CountsBy o.homes ((small_record n).played ∷ []) [] []
 no_counts o n = record {
-  issued = λ p low. record { slots = refl; bytes = refl };
-  freed = λ p low. record { slots = refl; bytes = refl };
-  entered = λ p low. record { slots = refl; bytes = refl };
-  left = λ p low. record { slots = refl; bytes = refl };
+  issued = λ p low. refl;
+  freed = λ p low. refl;
+  entered = λ p low. refl;
+  left = λ p low. refl;
 }
+
+no_bytes : (o : Outcome) (n : ℕ) → BooksBy o.homes o.sizes ((small_record n).played ∷ []) (small_worker (small_before n)) (small_worker (small_until n))
+no_bytes o n p q low kind = omega arith
 
 -- ---- the seats
 
@@ -123,14 +127,15 @@ begins = record {
     room = refl;
     going = refl;
     counts = λ p. refl;
+    owed = refl;
   };
   log = refl;
 }
 
 plays : (n : ℕ) → 1 ≤ n → n ≤ 2 → PlaysAll (small_worker (small_before n)) (small_record n ∷ []) (small_worker (small_until n))
 plays = two_phases (λ n. PlaysAll (small_worker (small_before n)) (small_record n ∷ []) (small_worker (small_until n)))
-    (small_worker (small_until 1), record { records = refl; does = does 1; counts = λ o fits. no_counts o 1 }, refl)
-    (small_worker (small_until 2), record { records = refl; does = does 2; counts = λ o fits. no_counts o 2 }, refl)
+    (small_worker (small_until 1), record { records = refl; does = does 1; counts = λ o fits. no_counts o 1; bytes = λ o fits. no_bytes o 1 }, refl)
+    (small_worker (small_until 2), record { records = refl; does = does 2; counts = λ o fits. no_counts o 2; bytes = λ o fits. no_bytes o 2 }, refl)
 
 lines : (n k : ℕ) → 1 ≤ n → n ≤ 2 → k < 1 → record { line = small_line n; thread = 0; phase = n; op = (small_record n).played.op } ∷ [] ≡ lines_in small_trace.lines n k
 lines n k low high few =
@@ -158,6 +163,7 @@ course = record {
   begins = λ k few. let first : 0 ≡ k = omega arith in subst (λ j. BeginsNew j 1 (small_worker [])) first begins;
   plays = λ n k low high few. plays n low high;
   lines = lines;
+  settled = λ n k low high few. refl;
   tells = λ n low high. tells n;
   hears = λ n k low high few. hears n k low high;
   keeps = λ n low high. sees_itself small_seat;

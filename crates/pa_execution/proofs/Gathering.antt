@@ -31,11 +31,11 @@ use Rattle.pa_execution.proofs.Playing.{sees_itself, sees_then}
 
 -- ---- the logs of two lists of stakes
 
-abbrev how_often : ℕ → List Stake → ℕ
+abbrev pub how_often : ℕ → List Stake → ℕ
 how_often k ss = sum_by (λ (s : Stake). one (eqb s.number k)) ss
 
 -- a number that no stake has, has no log; and a stake of the first list has its log
-none_logged : (k : ℕ) (ss : List Stake) → how_often k ss ≡ 0 → log_among k ss ≡ []
+pub none_logged : (k : ℕ) (ss : List Stake) → how_often k ss ≡ 0 → log_among k ss ≡ []
 none_logged k [] none = refl
 none_logged k (s ∷ ss) none =
     let c = sum_by-cons (λ (x : Stake). one (eqb x.number k)) s ss in

@@ -6,6 +6,7 @@ use Rattle.pa_region.specs.declared.view.View.{View}
 use Rattle.pa_trace.specs.declared.script.Trace.{Trace}
 use Rattle.pa_rules.specs.Played.{op_line_of}
 use Rattle.pa_logs.specs.Told.{ToldRecord, played_in}
+use Rattle.pa_totals.specs.Settled.{none_owed}
 use Rattle.pa_op_specs.specs.Workers.{WorkerValue}
 use Rattle.pa_op_specs.specs.Plays.{PlaysAll}
 use Rattle.pa_execution.specs.Courses.{Course, BeginsNew, HasSeenAll, HasHeardAll, Hears, lines_in}
@@ -46,6 +47,7 @@ begins t starts new = (
       begins = new;
       plays = λ n k low high. absurd (omega arith);
       lines = λ n k low high. absurd (omega arith);
+      settled = λ n k low high. absurd (omega arith);
       tells = λ n low high. absurd (omega arith);
       hears = λ n k low high. absurd (omega arith);
       keeps = λ n low high. absurd (omega arith);
@@ -110,7 +112,7 @@ module _ (t : Trace) (n : ℕ) (c : Course) (starts ends : ℕ → WorkerValue) 
       ])
 
   module _ (played : (k : ℕ) → k < t.threads → PlaysAll (starts k) (plays k) (ends k) × (map op_line_of (played_in (plays k)) ≡ lines_in t.lines (suc n) k))
-      (tells : HasHeardAll t.threads ends seat) where
+      (settles : (k : ℕ) → k < t.threads → (ends k).owed ≡ none_owed) (tells : HasHeardAll t.threads ends seat) where
     all_played : (m k : ℕ) → 1 ≤ m → m ≤ suc n → k < t.threads → PlaysAll (d.starts m k) (d.plays m k) (d.ends m k)
     all_played m k low high few = elim (cases_eq m (suc n)) [
       | inl e ↦ rw (eq-eqb m (suc n) e) (played k few).0
@@ -123,6 +125,12 @@ module _ (t : Trace) (n : ℕ) (c : Course) (starts ends : ℕ → WorkerValue) 
       | inr ne ↦ ap (λ xs. map op_line_of (played_in xs)) (agree.plays m k low (omega arith)) ∙ begun.course.lines m k low (omega arith) few
     ]
 
+    all_settled : (m k : ℕ) → 1 ≤ m → m ≤ suc n → k < t.threads → (d.ends m k).owed ≡ none_owed
+    all_settled m k low high few = elim (cases_eq m (suc n)) [
+      | inl e ↦ ap (λ (w : WorkerValue). w.owed) (last_ends m k e) ∙ settles k few
+      | inr ne ↦ ap (λ (w : WorkerValue). w.owed) (agree.ends m k low (omega arith)) ∙ begun.course.settled m k low (omega arith) few
+    ]
+
     all_told : (m : ℕ) → 1 ≤ m → m ≤ suc n → HasHeardAll t.threads (d.ends m) (d.seats m)
     all_told m low high = elim (cases_eq m (suc n)) [
       | inl e ↦ subst (λ b. HasHeardAll t.threads (λ k. if b then ends k else c.ends m k) (if b then seat else c.seats m)) (sym (eq-eqb m (suc n) e)) tells
@@ -133,7 +141,7 @@ module _ (t : Trace) (n : ℕ) (c : Course) (starts ends : ℕ → WorkerValue) 
 
     ended : (1 ≤ n → HasSeenAll (c.seats n) seat) → HasEnded t (suc n) d ends seat
     ended more = record {
-      course = record { begins = first_new; plays = all_played; lines = all_lines; tells = all_told; hears = heard; keeps = kept more };
+      course = record { begins = first_new; plays = all_played; lines = all_lines; settled = all_settled; tells = all_told; hears = heard; keeps = kept more };
       ends = λ k few. last_ends (suc n) k refl;
       seat = last_seats (suc n) refl;
     }
@@ -142,8 +150,10 @@ phase_ends : (t : Trace) (n : ℕ) (c : Course) (starts ends : ℕ → WorkerVal
     ((k : ℕ) → k < t.threads → PlaysPhase t (suc n) k (starts k) (ends k)) → HasHeardAll t.threads ends seat →
     (1 ≤ n → HasSeenAll (c.seats n) seat) → (d : Course) × Agree n c d × HasEnded t (suc n) d ends seat
 phase_ends t n c starts ends seat begun each tells more =
-    let chosen = choose (λ k xs. PlaysAll (starts k) xs (ends k) × (map op_line_of (played_in xs) ≡ lines_in t.lines (suc n) k)) t.threads (λ k few. let e = each k few in (e.0, (e.1, e.2))) in
-    (d t n c starts ends seat chosen.0 begun, agree t n c starts ends seat chosen.0 begun, ended t n c starts ends seat chosen.0 begun chosen.1 tells more)
+    let chosen = choose (λ k xs. PlaysAll (starts k) xs (ends k) × (map op_line_of (played_in xs) ≡ lines_in t.lines (suc n) k)) t.threads
+    (λ k few. let (xs, all, lines, settled) = each k few in (xs, (all, lines))) in
+    let settles : (k : ℕ) → k < t.threads → (ends k).owed ≡ none_owed = λ k few. let (xs, all, lines, settled) = each k few in settled in
+    (d t n c starts ends seat chosen.0 begun, agree t n c starts ends seat chosen.0 begun, ended t n c starts ends seat chosen.0 begun chosen.1 settles tells more)
 
 goes_on : (t : Trace) (n : ℕ) (c : Course) (ends starts : ℕ → WorkerValue) (seat : View) → 1 ≤ n → HasEnded t n c ends seat →
     ((k : ℕ) → k < t.threads → Hears k seat (ends k) (starts k)) → HasBegun t n c starts

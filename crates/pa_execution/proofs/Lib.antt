@@ -10,6 +10,7 @@ pub mod Heaping
 pub mod Keepers
 pub mod Example
 pub mod Recording
+pub mod Adding
 pub mod Lining
 pub mod Growing
 pub mod Gathering

@@ -11,6 +11,7 @@ use Rattle.pa_trace.specs.declared.script.Trace.{Trace}
 use Rattle.pa_rules.specs.Played.{OpLine, op_lines, op_line_of}
 use Rattle.pa_rules.specs.Caches.{SameLists}
 use Rattle.pa_logs.specs.Told.{ToldRecord, played_in}
+use Rattle.pa_totals.specs.Settled.{none_owed}
 use Rattle.pa_op_specs.specs.Stocks.{listed_in}
 use Rattle.pa_op_specs.specs.Workers.{WorkerValue, IsNewWorker, worker_with_view}
 use Rattle.pa_op_specs.specs.Plays.{PlaysAll}
@@ -63,12 +64,14 @@ pub record Hears (k : ℕ) (seat : View) (before after : WorkerValue) : Type 0 w
 -- The first `phases` phases of the trace went so.
 --   begins: at the start each worker is new
 --   plays, lines: in each phase each plays its lines, in order
+--   settled: and owes nothing to the totals words at its end
 --   tells, hears: then all lend their stakes to the main seat, and if a phase follows they get them back
 --   keeps: the main seat forgets nothing
 pub record IsCourse (t : Trace) (phases : ℕ) (c : Course) : Type 0 where
   pub begins : (k : ℕ) → k < t.threads → BeginsNew k t.partitions (c.starts 1 k)
   pub plays : (n k : ℕ) → 1 ≤ n → n ≤ phases → k < t.threads → PlaysAll (c.starts n k) (c.plays n k) (c.ends n k)
   pub lines : (n k : ℕ) → 1 ≤ n → n ≤ phases → k < t.threads → map op_line_of (played_in (c.plays n k)) ≡ lines_in t.lines n k
+  pub settled : (n k : ℕ) → 1 ≤ n → n ≤ phases → k < t.threads → (c.ends n k).owed ≡ none_owed
   pub tells : (n : ℕ) → 1 ≤ n → n ≤ phases → HasHeardAll t.threads (c.ends n) (c.seats n)
   pub hears : (n k : ℕ) → 1 ≤ n → n < phases → k < t.threads → Hears k (c.seats n) (c.ends n k) (c.starts (n + 1) k)
   pub keeps : (n : ℕ) → 1 ≤ n → n < phases → HasSeenAll (c.seats n) (c.seats (n + 1))

@@ -14,6 +14,7 @@ use Rattle.pa_rules.specs.Legal.{IsLegalTold}
 use Rattle.pa_rules.specs.Told.{Told}
 use Rattle.pa_logs.specs.Told.{ToldRecord}
 use Rattle.pa_logs.specs.Said.{IsLineSaid, LayersSay}
+use Rattle.pa_totals.specs.Settled.{none_owed}
 use Rattle.pa_op_specs.specs.Stocks.{StockValue}
 use Rattle.pa_op_specs.specs.Workers.{WorkerValue}
 use Rattle.pa_execution.specs.Courses.{Course}
@@ -52,7 +53,7 @@ small_stock = record { thread = 0; partitions = 1; view = small_view; registers 
 
 -- the worker with these records
 abbrev pub small_worker : List Entry → WorkerValue
-small_worker es = record { stock = small_stock; records = es; room = 2; stopped = false; counts = [] }
+small_worker es = record { stock = small_stock; records = es; room = 2; stopped = false; counts = []; owed = none_owed }
 
 -- the line of phase 1, and that of phase 2; the record of each
 abbrev pub small_line : ℕ → ℕ
@@ -115,8 +116,8 @@ small_told = record {
   report = small_report 1 ∷ small_report 2 ∷ [];
 }
 
--- It is a whole run's execution, and its report's lines are what its worker counted; so these are right, all layers meet their
--- obligations, and the run is legal.
+-- It is a whole run's execution, and its report's lines are what its worker counted and the totals words say; so these are right,
+-- all layers meet their obligations, and the run is legal.
 pub record SmallCourseFits : Type 0 where
   pub run : IsWholeRun small_trace small_told small_course small_seat []
   pub counted : (l : ReportLine) → Contains small_told.report l → IsLineBy small_trace small_course small_seat l

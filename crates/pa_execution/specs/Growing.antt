@@ -4,6 +4,7 @@ use Rattle.pa_region.specs.declared.view.View.{View}
 use Rattle.pa_trace.specs.declared.script.Trace.{Trace}
 use Rattle.pa_rules.specs.Played.{op_line_of}
 use Rattle.pa_logs.specs.Told.{ToldRecord, played_in}
+use Rattle.pa_totals.specs.Settled.{none_owed}
 use Rattle.pa_op_specs.specs.Workers.{WorkerValue}
 use Rattle.pa_op_specs.specs.Plays.{PlaysAll}
 use Rattle.pa_execution.specs.Courses.{Course, IsCourse, BeginsNew, HasSeenAll, HasHeardAll, Hears, lines_in}
@@ -27,10 +28,10 @@ pub record HasEnded (t : Trace) (phases : ℕ) (c : Course) (workers : ℕ → W
   pub ends : (k : ℕ) → k < t.threads → c.ends phases k ≡ workers k
   pub seat : c.seats phases ≡ main
 
--- the worker of thread k played its lines of phase n, in order
+-- the worker of thread k played its lines of phase n, in order, and owes nothing to the totals words at the end
 abbrev pub PlaysPhase : Trace → ℕ → ℕ → (before after : WorkerValue) → Type 0
 PlaysPhase t n k before after =
-    (xs : List ToldRecord) × PlaysAll before xs after × (map op_line_of (played_in xs) ≡ lines_in t.lines n k)
+    (xs : List ToldRecord) × PlaysAll before xs after × (map op_line_of (played_in xs) ≡ lines_in t.lines n k) × (after.owed ≡ none_owed)
 
 -- How executions grow.
 --   begins: at the start no phase is over

@@ -1,5 +1,6 @@
--- A line of the report, from what the workers counted and have cached at the end of its phase, and from the census of its root.
-use Rattle.std.specs.Prelude.{◌≡◌, ℕ, zero, suc, ◌+◌, ◌-◌, List, length, Contains}
+-- A line of the report, from what the workers counted and have cached at the end of its phase, from the totals words, and from the
+-- census of its root.
+use Rattle.std.specs.Prelude.{◌≡◌, ℕ, zero, suc, ◌+◌, ◌-◌, ◌*◌, List, length, Contains}
 use Rattle.pa_buckets.specs.Limits.{class_count}
 use Rattle.pa_trace.specs.declared.script.Trace.{Trace}
 use Rattle.pa_record.specs.declared.report.ReportLine.{ReportLine}
@@ -10,6 +11,7 @@ use Rattle.pa_rules.specs.Caches.{listed_slots}
 use Rattle.pa_rules.specs.Report.{listed_bytes, census_of}
 use Rattle.pa_rules.specs.Told.{Told}
 use Rattle.pa_logs.specs.Said.{IsCensusBy, IsLineSaid}
+use Rattle.pa_totals.specs.Settled.{added_in}
 use Rattle.pa_cells.specs.Cells.{Exchange}
 use Rattle.pa_op_specs.specs.declared.counts.Count.{Count}
 use Rattle.pa_op_specs.specs.Counts.{counted_in}
@@ -24,22 +26,31 @@ abbrev pub sum_over : (ℕ → ℕ) → ℕ → ℕ
 sum_over f zero = 0
 sum_over f (suc k) = f k + sum_over f k
 
--- The tally is what went into partition p minus what went out of it, as these workers counted it.
-pub record IsLeftOf (into out : Count → Tally) (p threads : ℕ) (workers : ℕ → WorkerValue) (tally : Tally) : Type 0 where
-  pub slots : tally.slots ≡ sum_over (λ k. (into (counted_in (workers k).counts p)).slots) threads
-      - sum_over (λ k. (out (counted_in (workers k).counts p)).slots) threads
-  pub bytes : tally.bytes ≡ sum_over (λ k. (into (counted_in (workers k).counts p)).bytes) threads
-      - sum_over (λ k. (out (counted_in (workers k).counts p)).bytes) threads
+-- The tally is what went into partition p minus what went out of it: the slots as these workers counted them, the bytes as they were
+-- added to the partition's totals words of kinds i and j, by the logs of a seat.
+pub record IsLeftOf (into out : Count → ℕ) (i j p threads : ℕ) (workers : ℕ → WorkerValue) (seat : View) (tally : Tally) : Type 0 where
+  pub slots : tally.slots ≡ sum_over (λ k. into (counted_in (workers k).counts p)) threads
+      - sum_over (λ k. out (counted_in (workers k).counts p)) threads
+  pub bytes : tally.bytes ≡ added_in seat (4 * p + i) - added_in seat (4 * p + j)
+
+-- so the tallies of live and of quarantined slots are
+abbrev pub IsLiveOf : (p threads : ℕ) → (ℕ → WorkerValue) → View → Tally → Type 0
+IsLiveOf p threads workers seat tally =
+    IsLeftOf (λ (n : Count). n.issued) (λ (n : Count). n.freed) 0 1 p threads workers seat tally
+
+abbrev pub IsQuarantinedOf : (p threads : ℕ) → (ℕ → WorkerValue) → View → Tally → Type 0
+IsQuarantinedOf p threads workers seat tally =
+    IsLeftOf (λ (n : Count). n.entered) (λ (n : Count). n.left) 2 3 p threads workers seat tally
 
 -- The tally is what the lists of these workers have of partition p.
 pub record IsCachedBy (p threads : ℕ) (workers : ℕ → WorkerValue) (tally : Tally) : Type 0 where
   pub slots : tally.slots ≡ sum_over (λ k. listed_slots (listed_in (workers k).stock p) 0 class_count) threads
   pub bytes : tally.bytes ≡ sum_over (λ k. listed_bytes (λ class. length (listed_in (workers k).stock p class)) 0 class_count) threads
 
--- The line agrees with the workers, as they were at the end of its phase, and with the root of its partition.
+-- The line agrees with the workers and the main seat, as they were at the end of its phase, and with the root of its partition.
 pub record IsLineBy (t : Trace) (c : Course) (v : View) (l : ReportLine) : Type 0 where
-  pub live : IsLeftOf (λ (n : Count). n.issued) (λ (n : Count). n.freed) l.partition t.threads (c.ends l.phase) l.live
-  pub quarantined : IsLeftOf (λ (n : Count). n.entered) (λ (n : Count). n.left) l.partition t.threads (c.ends l.phase) l.quarantined
+  pub live : IsLiveOf l.partition t.threads (c.ends l.phase) (c.seats l.phase) l.live
+  pub quarantined : IsQuarantinedOf l.partition t.threads (c.ends l.phase) (c.seats l.phase) l.quarantined
   pub cached : IsCachedBy l.partition t.threads (c.ends l.phase) l.cached
   pub root : IsCensusBy (list_of l.partition (c.seats l.phase)) (list_of 4 v) (census_of l)
 
