@@ -137,9 +137,9 @@ owed_kind step found bytes q o = go (q == 0) (q == 1) (q == 2) (q == 3)
   where
     go : (a b c d : Bool) →
         (if a then more_if (issues step found) bytes o.issued else (if b then more_if (frees step found) bytes o.freed else
-            (if c then more_if (enters step found) bytes o.entered else (if d then more_if (leaves step found) bytes o.left else 0))))
+        (if c then more_if (enters step found) bytes o.entered else (if d then more_if (leaves step found) bytes o.left else 0))))
         ≡ more_if (if a then issues step found else (if b then frees step found else (if c then enters step found else (d && leaves step found)))) bytes
-            (if a then o.issued else (if b then o.freed else (if c then o.entered else (if d then o.left else 0))))
+        (if a then o.issued else (if b then o.freed else (if c then o.entered else (if d then o.left else 0))))
     go true b c d = refl
     go false true c d = refl
     go false false true d = refl

@@ -316,7 +316,6 @@ module _ (leaves : SettleAllLeaves) (owed : List Owed) where
           let own = does.same.0 in
           left.other_logs k (λ e. grind (arith, nat_tests)) ∙ same
 
-
 -- ---- a worker that settles what it owes
 
 -- what it booked stays

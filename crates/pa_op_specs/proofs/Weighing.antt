@@ -91,9 +91,10 @@ module _ (home size : SlotName → ℕ) (line thread phase : ℕ) (cs : List Cou
       let marks = ap (mark_of_answer line op) is ∙ marked in
       let there = ap home slot ∙ at.home_is in
       subst (λ n. Weighs home size (played_so op answer ∷ []) cs (counts_after step (Some h) (Some seen) cs)
-          os (owed_after step (Some (record h { title = record h.title { len = n } })) (Some seen) os)) (ap size slot ∙ at.size_is)
-      (counts_step home size (played_so op answer) (mark_at line seen (Some step)) step marks refl h.partition cs inside there,
-      owed_step home size (played_so op answer) (mark_at line seen (Some step)) step marks refl h.partition os within there)
+      os (owed_after step (Some (record h { title = record h.title { len = n } })) (Some seen) os)) (ap size slot ∙ at.size_is) (
+        counts_step home size (played_so op answer) (mark_at line seen (Some step)) step marks refl h.partition cs inside there,
+        owed_step home size (played_so op answer) (mark_at line seen (Some step)) step marks refl h.partition os within there,
+      )
 
   -- ---- op by op
 
@@ -164,9 +165,10 @@ module _ (home size : SlotName → ℕ) (line thread phase : ℕ) (cs : List Cou
       ap (λ a. counts_after steps.Issue (owned_in q) a cs) (ap made_seen is ∙ none) ∙ counts_unseen steps.Issue (owned_in q) cs in
       let also_same : owed_after steps.Issue (owned_in q) (made_seen answer) os ≡ os =
       ap (λ a. owed_after steps.Issue (owned_in q) a os) (ap made_seen is ∙ none) ∙ owed_unseen steps.Issue (owned_in q) os in
-      let stay = stays (ops.Alloc r partition asked) answer given is None unmarked tt in
-      (subst (λ ds. CountsBy home (played_so (ops.Alloc r partition asked) answer ∷ []) cs ds) (sym same) stay.0,
-      subst (λ ps. OwesBy home size (played_so (ops.Alloc r partition asked) answer ∷ []) os ps) (sym also_same) stay.1)
+      let stay = stays (ops.Alloc r partition asked) answer given is None unmarked tt in (
+        subst (λ ds. CountsBy home (played_so (ops.Alloc r partition asked) answer ∷ []) cs ds) (sym same) stay.0,
+        subst (λ ps. OwesBy home size (played_so (ops.Alloc r partition asked) answer ∷ []) os ps) (sym also_same) stay.1,
+      )
 
   made_some : (q : StockRegister) (r partition asked usable : ℕ) (answer : Answer) (seen : Seen) → ((h : Handle) → q ≡ Own h → IsAtHome home size h) → answer ≡ answers.Made seen usable → as_reg q ≡ reg.Own seen.slot →
       Weighs home size (played_so (ops.Alloc r partition asked) answer ∷ []) cs (counts_after steps.Issue (owned_in q) (made_seen answer) cs) os (owed_after steps.Issue (owned_in q) (made_seen answer) os)
