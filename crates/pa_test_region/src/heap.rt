@@ -54,7 +54,8 @@ fn play<N: Name, R: Abort>(rt: &R, alloc: Global, region: Region, seat: Seat) ->
     ];
     assert!(rt; worker.records() == records.as_slice());
     assert!(rt; worker.cached(0) == Tally { slots: 0, bytes: 0 });
-    assert!(rt; worker.counts()[0].issued == Tally { slots: 0, bytes: 0 });
+    assert!(rt; worker.counts()[0].issued == 0);
+    worker.settle(&heap);
     let told = worker.tell(&heap);
     worker.hear(&heap, told);
     assert!(rt; worker.records().len() == 3);

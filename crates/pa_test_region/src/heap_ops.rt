@@ -103,8 +103,7 @@ fn play<N: Name, R: Abort + Wait>(
             }
     );
     assert!(rt; swapped == Answer::Swapped { entry: 0 });
-    let bytes = 16;
-    assert!(rt; worker.counts()[0].left == Tally { slots: 1, bytes });
+    assert!(rt; worker.counts()[0].left == 1);
     assert!(rt;
         worker.cached(0)
             == Tally {

@@ -1,4 +1,5 @@
-use Rattle.std.proofs.Common.{ap, length, arith}
+use Rattle.std.proofs.Common.{◌∙◌, ap, length, arith}
+use Rattle.pa_op_specs.specs.Workers.{WorkerValue}
 use Rattle.pa_test_region.proofs.heap.play.Goals as goal
 
 pub write-requires-clause-ready : goal.write-requires-clause-ready
@@ -23,3 +24,7 @@ deref-requires-clause-ready g c =
       stake = second.stake;
       room = (let a = first.count in let b = first.room in let d = new.room in let e = second.count in let f = second.room in omega arith);
     }
+
+pub hear-requires-clause-settled : goal.hear-requires-clause-settled
+hear-requires-clause-settled g c =
+    ap (λ (w : WorkerValue). w.owed) c.tell-told.ensures.left ∙ ap (λ (w : WorkerValue). w.owed) c.settle.ensures.settled
