@@ -28,7 +28,7 @@ module _ (t : Trace) (n : ℕ) (c : Course) (queues : List (List LineOp)) (befor
       courses_grow.ends t n c (worker_in before) (worker_in passed.ends) seat begun
       (λ k few.
       let (xs, all, of) = (passed.played k (omega arith)).plays (n + 1) in
-      (xs, all, of ∙ (ap (λ j. map (in_phase (n + 1) j) (queue_in queues k)) (ready.thread k (omega arith)) ∙ lines k few)))
+      (xs, all, of ∙ (ap (λ j. map (in_phase (n + 1) j) (queue_in queues k)) (ready.thread k (omega arith)) ∙ lines k few), passed.settled k (omega arith)))
       heard_all (λ some. sees_then (c.seats n) first seat (more some) passed.heard.grows)
 
   -- a worker that got its stake back from the main seat

@@ -9,6 +9,7 @@ use Rattle.pa_region.specs.Lending.{stake_parcel}
 use Rattle.pa_region.specs.Aware.{IsAware}
 use Rattle.pa_rules.specs.Caches.{SameLists}
 use Rattle.pa_region.proofs.LendBack.{given_stake, given_beside}
+use Rattle.pa_totals.specs.Settled.{none_owed}
 use Rattle.pa_op_specs.specs.Stocks.{IsForThread, listed_in}
 use Rattle.pa_op_specs.specs.Workers.{WorkerValue, worker_with_view}
 use Rattle.pa_execution.specs.Gathering.{IsMain, HasHeardSome, HasAnswered, told_worker}
@@ -126,13 +127,15 @@ hear_more k before now whole seat next d w hearing few is' lists' left =
 
 -- what the next worker needs to get its stake back
 pub hear_ready : (k : ℕ) (before now : List WorkerValue) (whole seat : View) (d : WorkerValue) → IsHearing k before now whole seat → k < length before → length before ≤ 16 → HasEveryStake whole →
-    HaveNone before → ((get_or now k d).stock.thread ≡ k) × (0 < stake_of seat k) × ((j : ℕ) → stake_of (get_or now k d).stock.view j ≡ 0)
+    HaveNone before →
+    ((get_or now k d).stock.thread ≡ k) × (0 < stake_of seat k) × ((j : ℕ) → stake_of (get_or now k d).stock.view j ≡ 0) × ((get_or now k d).owed ≡ none_owed)
 hear_ready k before now whole seat d hearing few small every none =
     let long = hearing.count in
     let same : get_or now k d ≡ worker_in before k = get_or_default now k d no_worker (omega arith) ∙ hearing.heard.others k (omega arith) in (
       ap (λ (z : WorkerValue). z.stock.thread) same ∙ none.thread k few,
       let s = hearing.answered.stakes k (omega arith) in let e = every k (omega arith) in omega arith,
       λ j. ap (λ (z : WorkerValue). stake_of z.stock.view j) same ∙ none.each k few j,
+      ap (λ (z : WorkerValue). z.owed) same ∙ none.settled k few,
     )
 
 -- a note with the stake of thread k is for it

@@ -81,6 +81,7 @@ module _ (queues : List (List LineOp)) (before after : List WorkerValue) (first 
     ends = back.ends;
     count = back.count;
     played = λ k low. (back.played k low).played (sym (ap (λ (w : WorkerValue). w.stopped) (back.told.told k low)) ∙ going k (omega arith));
+    settled = λ k low. (back.played k low).settled (sym (ap (λ (w : WorkerValue). w.stopped) (back.told.told k low)) ∙ going k (omega arith));
     heard = back.heard;
     told = back.told;
   }
@@ -99,6 +100,7 @@ module _ (queues : List (List LineOp)) (before after : List WorkerValue) (first 
     ends = over.ends;
     count = over.count;
     played = over.played;
+    settled = over.settled;
     heard = heard_asked (length before) (length before) (worker_in over.ends) first seat next over.heard asked;
     told = over.told;
   }

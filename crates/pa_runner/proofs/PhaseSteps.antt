@@ -131,6 +131,7 @@ module _ (t : Trace) (i phase : ℕ) (workers : List WorkerValue) (queues : List
     count = going.count ∙ sym going.many;
     thread = λ k low. let m = going.many in (going.each k (omega arith)).thread;
     each = λ k low. let m = going.many in place_ready t i k (queue_in queues k) (worker_in workers k) (going.each k (omega arith));
+    settled = λ k low. let m = going.many in (going.each k (omega arith)).settled;
   }
 
   pub main_here : IsMain (length workers) seat
@@ -159,6 +160,9 @@ module _ (t : Trace) (i phase : ℕ) (workers : List WorkerValue) (queues : List
           let few : k < length workers = omega arith in
           ap (λ (w : WorkerValue). w.stock.thread) (passed.told.told k few) ∙ (same_thread (passed.played k few) ∙ ready_here.thread k few);
       each = λ k low. passed.told.none k (omega arith);
+      settled = λ k low.
+          let few : k < length workers = omega arith in
+          ap (λ (w : WorkerValue). w.owed) (passed.told.told k few) ∙ passed.settled k few;
     }
 
     module _ (aware : IsAware next) (told : View) (now : List ReportLine) (said : IsReported phase t.partitions (length workers) (worker_in after) told next report now) where
@@ -215,7 +219,8 @@ module _ (t : Trace) (i phase : ℕ) (workers : List WorkerValue) (queues : List
             let whole = passed.heard.told k low in
             omega arith in
             subst (IsAtPlace t (i + 1) k []) (sym is)
-            (place_next t i begins.low k (queue_in queues k) (worker_in workers k) (worker_in passed.ends k) (united before note) begins.is (going.each k few) (passed.played k low) has)
+            (place_next t i begins.low k (queue_in queues k) (worker_in workers k) (worker_in passed.ends k) (united before note) begins.is (going.each k few) (passed.played k low)
+            (passed.settled k low) has)
 
         pub going_next : length again ≡ length after → cleared ≡ replicate (length queues) [] → HasAnswered (length after) (length after) next last →
             IsUnderWay t (i + 1) (phase + 1) again cleared last now

@@ -14,6 +14,7 @@ use Rattle.pa_lists.proofs.Members.{in_cases, not_in_none}
 use Rattle.pa_region.specs.declared.view.View.{View}
 use Rattle.pa_region.specs.Views.{stake_of}
 use Rattle.pa_rules.specs.Played.{OpLine}
+use Rattle.pa_totals.specs.Settled.{none_owed}
 use Rattle.pa_op_specs.specs.Workers.{WorkerValue, worker_with_view}
 use Rattle.pa_execution.specs.Courses.{lines_in}
 use Rattle.pa_execution.proofs.Playing.{stays}
@@ -75,6 +76,7 @@ place_start t k queue w begins none = subst (λ (q : List LineOp). IsAtPlace t 0
   stake =
       subst (λ (v : View). 0 < stake_of v w.stock.thread) (sym begins.new.stock.view)
       (subst (λ n. 0 < stake_of begins.view n) (sym begins.new.stock.thread_is) begins.stake);
+  settled = begins.new.owed;
   room = begins.new.room;
   count = let e = ap (λ (es : List Entry). length es) begins.new.records in omega arith;
   limits = tt;
@@ -104,6 +106,7 @@ module _ (t : Trace) (i : ℕ) (low : i < length t.lines) where
       partitions = at.partitions;
       going = at.going;
       stake = at.stake;
+      settled = at.settled;
       room = at.room;
       count =
           let a : lines_by thread (take (i + 1) t.lines) ≡ lines_by thread (take i t.lines) + 1 =
@@ -128,6 +131,7 @@ module _ (t : Trace) (i : ℕ) (low : i < length t.lines) where
       partitions = at.partitions;
       going = at.going;
       stake = at.stake;
+      settled = at.settled;
       room = at.room;
       count =
           let a : lines_by k (take (i + 1) t.lines) ≡ lines_by k (take i t.lines) + 0 =
@@ -145,9 +149,9 @@ module _ (t : Trace) (i : ℕ) (low : i < length t.lines) where
     }
 
   -- a new phase begins: the worker played its lines, and has heard
-  pub place_next : (k : ℕ) (queue : List LineOp) (w ended : WorkerValue) (v : View) → get_or t.lines i Phase ≡ Phase → IsAtPlace t i k queue w → PlaysLines queue w ended → 0 < stake_of v k →
-      IsAtPlace t (i + 1) k [] (worker_with_view v ended)
-  place_next k queue w ended v is at played has =
+  pub place_next : (k : ℕ) (queue : List LineOp) (w ended : WorkerValue) (v : View) → get_or t.lines i Phase ≡ Phase → IsAtPlace t i k queue w → PlaysLines queue w ended →
+      ended.owed ≡ none_owed → 0 < stake_of v k → IsAtPlace t (i + 1) k [] (worker_with_view v ended)
+  place_next k queue w ended v is at played settled has =
       let (xs, all, of) = played.plays 0 in
       let (thread, many) = stays w ended xs all in
       record {
@@ -155,6 +159,7 @@ module _ (t : Trace) (i : ℕ) (low : i < length t.lines) where
         partitions = many ∙ at.partitions;
         going = played.going;
         stake = subst (λ n. 0 < stake_of v n) (sym (thread ∙ at.thread)) has;
+        settled = settled;
         room = played.room ∙ at.room;
         count =
             let a : lines_by k (take (i + 1) t.lines) ≡ lines_by k (take i t.lines) + 0 = lines_with i t.lines Phase Phase k low is ∙ lines_by_more k (take i t.lines) Phase in

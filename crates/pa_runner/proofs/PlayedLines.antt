@@ -1,7 +1,8 @@
 -- A worker plays lines one after the other.
-use Rattle.std.proofs.Common.{◌≡◌, true, false, ℕ, zero, suc, ◌+◌, ◌<◌, ◌≤◌, List, [], ◌∷◌, ◌++◌, length, map, refl, sym, ◌∙◌, ap, subst, arith, inl, inr, append-nil, append_assoc}
+use Rattle.std.proofs.Common.{◌≡◌, Bool, true, false, ℕ, zero, suc, ◌+◌, ◌<◌, ◌≤◌, ◌==◌, List, [], ◌∷◌, ◌++◌, length, map, refl, sym, ◌∙◌, ap, subst, arith, inl, inr, append-nil, append_assoc}
 use Rattle.std.proofs.Common.{take, drop, get_or}
 use Rattle.std.proofs.Math.Seq.{take_all}
+use Rattle.std.proofs.lemmas.Bool.{eqb-true}
 use Rattle.std.proofs.lemmas.List.{map-append, length-map, length-append, take_more}
 use Rattle.pa_trace.specs.declared.script.Op.{Op}
 use Rattle.pa_trace.specs.declared.script.Op.TheVariants.{Purge}
@@ -16,8 +17,10 @@ use Rattle.pa_lists.proofs.Members.{in_cases, not_in_none}
 use Rattle.pa_rules.specs.declared.played.Played.{Played}
 use Rattle.pa_rules.specs.Played.{op_line_of, entry_of}
 use Rattle.pa_logs.specs.Told.{ToldRecord, played_in}
-use Rattle.pa_op_specs.specs.Workers.{WorkerValue, HasItsStake, CanPlayOp, KeepsOn}
-use Rattle.pa_op_specs.specs.Plays.{PlaysOp}
+use Rattle.pa_totals.specs.Settled.{none_owed, all_added}
+use Rattle.pa_op_specs.specs.Workers.{WorkerValue, IsWorker, HasItsStake, CanPlayOp, KeepsOn}
+use Rattle.pa_op_specs.specs.Plays.{PlaysOp, PlaysAll}
+use Rattle.pa_op_specs.specs.Settling.{SettlingEndsPhase, last_lengthened, settled_worker}
 use Rattle.pa_thread_state.specs.Stopping.{KeepsItsStake}
 use Rattle.pa_op_specs.proofs.Following.{composes}
 use Rattle.pa_execution.proofs.Playing.{stays}
@@ -177,18 +180,68 @@ pub same_thread : {ds : List LineOp} {w v : WorkerValue} → PlaysLines ds w v �
 same_thread {ds} {w} {v} played = let (xs, all, of) = played.plays 0 in (stays w v xs all).0
 
 -- a worker that stopped before it did anything has its stake
-pub stopped_keeps : (w v : WorkerValue) → HasItsStake w.stock → v ≡ record w { stopped = true } → KeepsItsStake w.stock v.stock
+pub stopped_keeps : (w v : WorkerValue) → HasItsStake w.stock → v ≡ record w { stopped = true; owed = none_owed } → KeepsItsStake w.stock v.stock
 stopped_keeps w v stake same = subst (λ (z : WorkerValue). KeepsItsStake w.stock z.stock) (sym same) (record { thread = refl; stake = stake })
 
--- it is back, when all lines were played, and when it stopped at one
-pub back_all : (ds : List LineOp) (i : ℕ) (u v : WorkerValue) → length ds ≤ i → PlaysLines (take i ds) u v → IsPlayed ds u v
-back_all ds i u v past played =
+-- ---- whether there are lines
+
+pub none_there : (n : ℕ) (b : Bool) → b ≡ (n == 0) → b ≡ true → n ≡ 0
+none_there n b is so = eqb-true n 0 (sym is ∙ so)
+
+pub some_there : (n : ℕ) (b : Bool) → b ≡ (n == 0) → b ≡ false → 0 < n
+some_there zero b is none = let no : true ≡ false = sym is ∙ none in absurd cc
+some_there (suc n) b is none = omega arith
+
+-- ---- it settles what it owes
+
+module _ (ends : SettlingEndsPhase) (ds : List LineOp) (u v : WorkerValue) (some : 0 < length ds) (kept : IsWorker v) (played : PlaysLines ds u v) where
+  settled_plays : (phase : ℕ) (xs : List ToldRecord) → PlaysAll u xs v → map op_line_of (played_in xs) ≡ map (in_phase phase u.stock.thread) ds →
+      (ys : List ToldRecord) × PlaysAll u ys (settled_worker v) × (map op_line_of (played_in ys) ≡ map (in_phase phase u.stock.thread) ds)
+  settled_plays phase [] all of = absurd (let a = ap (λ os. length os) of in let b = length-map ds (in_phase phase u.stock.thread) in omega arith)
+  settled_plays phase (x ∷ xs) all of =
+      let (more, same) = ends u v x xs all kept played.stake in
+      (last_lengthened (all_added v.owed) (x ∷ xs), more, ap (map op_line_of) same ∙ of)
+
+  -- it played the same lines
+  settled_lines : HasItsStake (settled_worker v).stock → PlaysLines ds u (settled_worker v)
+  settled_lines stake = record {
+    plays = λ phase. let (xs, all, of) = played.plays phase in settled_plays phase xs all of;
+    going = played.going;
+    stake = stake;
+    records = played.records;
+    room = played.room;
+  }
+
+-- ---- it is back, when all lines were played, and when it stopped at one
+
+back_whole : (ds : List LineOp) (u v : WorkerValue) → PlaysLines ds u v → v.owed ≡ none_owed → IsPlayed ds u v
+back_whole ds u v whole settled = record { keeps = record { thread = same_thread whole; stake = whole.stake }; played = λ going. whole; settled = λ going. settled }
+
+-- it had no lines
+pub back_none : (ds : List LineOp) (i : ℕ) (u v : WorkerValue) → length ds ≤ i → length ds ≡ 0 → PlaysLines (take i ds) u v → u.owed ≡ none_owed → IsPlayed ds u v
+back_none ds i u v past none played settled =
     let whole = all_lines ds i u v past played in
-    record { keeps = record { thread = same_thread whole; stake = whole.stake }; played = λ going. whole }
+    let (xs, all, of) = whole.plays 0 in
+    back_whole ds u v whole (owes xs all of)
+  where
+    owes : (xs : List ToldRecord) → PlaysAll u xs v → map op_line_of (played_in xs) ≡ map (in_phase 0 u.stock.thread) ds → v.owed ≡ none_owed
+    owes [] same of = ap (λ (w : WorkerValue). w.owed) same ∙ settled
+    owes (x ∷ xs) more of = absurd (let a = ap (λ os. length os) of in let b = length-map ds (in_phase 0 u.stock.thread) in omega arith)
+
+-- it had some, and settled then
+pub back_settled : SettlingEndsPhase → (ds : List LineOp) (i : ℕ) (u v w : WorkerValue) → length ds ≤ i → 0 < length ds → PlaysLines (take i ds) u v → IsWorker v → w ≡ settled_worker v →
+    HasItsStake w.stock → IsPlayed ds u w
+back_settled ends ds i u v w past some played kept is stake =
+    let whole = all_lines ds i u v past played in
+    subst (IsPlayed ds u) (sym is) (back_whole ds u (settled_worker v) (settled_lines ends ds u v some kept whole (subst (λ (z : WorkerValue). HasItsStake z.stock) is stake)) refl)
 
 pub back_stopped : (ds before : List LineOp) (u w v : WorkerValue) → PlaysLines before u w → KeepsItsStake w.stock v.stock → v.stopped ≡ true → IsPlayed ds u v
 back_stopped ds before u w v played keeps stopped =
-    record { keeps = record { thread = keeps.thread ∙ same_thread played; stake = keeps.stake }; played = λ going. let no : true ≡ false = sym stopped ∙ going in absurd cc }
+    record {
+      keeps = record { thread = keeps.thread ∙ same_thread played; stake = keeps.stake };
+      played = λ going. let no : true ≡ false = sym stopped ∙ going in absurd cc;
+      settled = λ going. let no : true ≡ false = sym stopped ∙ going in absurd cc;
+    }
 
 -- after the next line was played, without running out of memory
 pub next_ok : {T E : Type 0} (ds : List LineOp) (i : ℕ) (d : LineOp) (u w v : WorkerValue) (r : Result T E) (x : T) → r ≡ Ok x → OnOk r (PlaysLines (get_or ds i d ∷ []) w v) → i < length ds →

@@ -18,6 +18,7 @@ use Rattle.pa_execution.specs.Courses.{Course}
 use Rattle.pa_execution.specs.Growing.{Agree, HasEnded}
 use Rattle.pa_execution.specs.Gathering.{told_worker}
 use Rattle.pa_execution.specs.Lines.{sum_over, IsLeftOf, IsCachedBy}
+use Rattle.pa_execution.proofs.Adding.{sum_same}
 use Rattle.pa_runner.specs.Phases.{HaveTold, worker_in}
 use Rattle.pa_runner.specs.Reporting.{IsLineFor, IsReported}
 use Rattle.pa_runner.specs.UnderWay.{IsReportOf}
@@ -28,31 +29,20 @@ pub record HaveTheSame (threads : ℕ) (workers others : ℕ → WorkerValue) : 
   pub counts : (k : ℕ) → k < threads → (others k).counts ≡ (workers k).counts
   pub lists : (k : ℕ) → k < threads → listed_in (others k).stock ≡ listed_in (workers k).stock
 
-sum_same : (f g : ℕ → ℕ) (n : ℕ) → ((k : ℕ) → k < n → g k ≡ f k) → sum_over g n ≡ sum_over f n
-sum_same f g zero same = refl
-sum_same f g (suc n) same =
-    let here = same n (omega arith) in
-    let rest = sum_same f g n (λ k low. same k (omega arith)) in
-    omega arith
-
 module _ (threads : ℕ) (workers others : ℕ → WorkerValue) (same : HaveTheSame threads workers others) where
   counts_same : (measure : Count → ℕ) (p : ℕ) → sum_over (λ k. measure (counted_in (others k).counts p)) threads ≡ sum_over (λ k. measure (counted_in (workers k).counts p)) threads
   counts_same measure p =
       sum_same (λ k. measure (counted_in (workers k).counts p)) (λ k. measure (counted_in (others k).counts p)) threads
       (λ k low. ap (λ (cs : List Count). measure (counted_in cs p)) (same.counts k low))
 
-  left_same : (into out : Count → Tally) (p : ℕ) (tally : Tally) → IsLeftOf into out p threads workers tally → IsLeftOf into out p threads others tally
-  left_same into out p tally left = record {
+  left_same : (into out : Count → ℕ) (i j p : ℕ) (seat : View) (tally : Tally) → IsLeftOf into out i j p threads workers seat tally → IsLeftOf into out i j p threads others seat tally
+  left_same into out i j p seat tally left = record {
     slots =
         let s = left.slots in
-        let a = counts_same (λ n. (into n).slots) p in
-        let b = counts_same (λ n. (out n).slots) p in
+        let a = counts_same into p in
+        let b = counts_same out p in
         omega arith;
-    bytes =
-        let s = left.bytes in
-        let a = counts_same (λ n. (into n).bytes) p in
-        let b = counts_same (λ n. (out n).bytes) p in
-        omega arith;
+    bytes = left.bytes;
   }
 
   cached_same : (p : ℕ) (tally : Tally) → IsCachedBy p threads workers tally → IsCachedBy p threads others tally
@@ -70,8 +60,8 @@ module _ (threads : ℕ) (workers others : ℕ → WorkerValue) (same : HaveTheS
   line_same : (phase : ℕ) (seat : View) (l : ReportLine) → IsLineFor phase threads workers seat l → IsLineFor phase threads others seat l
   line_same phase seat l line = record {
     phase_is = line.phase_is;
-    live = left_same (λ (n : Count). n.issued) (λ (n : Count). n.freed) l.partition l.live line.live;
-    quarantined = left_same (λ (n : Count). n.entered) (λ (n : Count). n.left) l.partition l.quarantined line.quarantined;
+    live = left_same (λ (n : Count). n.issued) (λ (n : Count). n.freed) 0 1 l.partition seat l.live line.live;
+    quarantined = left_same (λ (n : Count). n.entered) (λ (n : Count). n.left) 2 3 l.partition seat l.quarantined line.quarantined;
     cached = cached_same l.partition l.cached line.cached;
     root = line.root;
   }

@@ -1,5 +1,5 @@
 -- The lines of a phase's report, partition by partition.
-use Rattle.std.proofs.Common.{◌≡◌, ℕ, zero, suc, ◌+◌, ◌-◌, List, [], ◌∷◌, ◌++◌, refl, sym, ◌∙◌, ap, subst, arith, inl, inr, append-nil, append_assoc}
+use Rattle.std.proofs.Common.{◌≡◌, ℕ, zero, suc, ◌+◌, ◌-◌, ◌*◌, List, [], ◌∷◌, ◌++◌, refl, sym, ◌∙◌, ap, subst, arith, inl, inr, append-nil, append_assoc}
 use Rattle.std.proofs.lemmas.Bool.{cases_eq, eq-eqb, ne_eqb}
 use Rattle.std.proofs.lemmas.List.{map-append}
 use Rattle.std.proofs.lemmas.List.Elements.{Contains-push_cases}
@@ -12,27 +12,38 @@ use Rattle.pa_region.specs.Views.{HasEveryStake}
 use Rattle.pa_region.specs.Lists.{list_of, IsBeginning}
 use Rattle.pa_region.specs.Takes.{log_of}
 use Rattle.pa_region.specs.Lending.{Keeps, Lends}
+use Rattle.pa_region.specs.Aware.{IsAware}
 use Rattle.pa_region.proofs.LendBack.{keeps_on}
 use Rattle.pa_rules.specs.Report.{partitions_of, census_of}
 use Rattle.pa_logs.specs.Said.{IsCensusBy}
+use Rattle.pa_totals.specs.Settled.{added_in}
 use Rattle.pa_op_specs.specs.declared.counts.Count.{Count}
 use Rattle.pa_thread_state.specs.Censuses.{TellsCensus, HasSameLists}
 use Rattle.pa_op_specs.specs.Workers.{WorkerValue}
-use Rattle.pa_execution.specs.Lines.{IsLeftOf}
-use Rattle.pa_runner.specs.Reporting.{IsCountedBy, IsLineFor, HasAsked, IsReported}
+use Rattle.pa_execution.specs.Lines.{IsLeftOf, IsLiveOf, IsQuarantinedOf}
+use Rattle.pa_execution.proofs.Adding.{added_same}
+use Rattle.pa_runner.specs.Reporting.{IsCountedBy, AreCountedBy, IsBalance, IsLineFor, HasAsked, IsReported}
 
 -- ---- what went in minus what went out
 
-pub left_by : (into out : Count → Tally) (p threads : ℕ) (workers : ℕ → WorkerValue) (a b t : Tally) → IsCountedBy into p threads workers a → IsCountedBy out p threads workers b →
-    t ≡ record { slots = a.slots - b.slots; bytes = a.bytes - b.bytes } → IsLeftOf into out p threads workers t
-left_by into out p threads workers a b t of_a of_b left =
-    let x = of_a.slots in
-    let y = of_a.bytes in
-    let u = of_b.slots in
-    let v = of_b.bytes in
+pub left_by : (into out : Count → ℕ) (i j p threads : ℕ) (workers : ℕ → WorkerValue) (seat : View) (a b bytes : ℕ) (t : Tally) → IsCountedBy into p threads workers a → IsCountedBy out p threads workers b →
+    bytes ≡ added_in seat (4 * p + i) - added_in seat (4 * p + j) → t ≡ record { slots = a - b; bytes = bytes } → IsLeftOf into out i j p threads workers seat t
+left_by into out i j p threads workers seat a b bytes t of_a of_b of_bytes left =
     let s = ap (λ (q : Tally). q.slots) left in
-    let z = ap (λ (q : Tally). q.bytes) left in
-    record { slots = omega arith; bytes = omega arith }
+    record { slots = omega arith; bytes = ap (λ (q : Tally). q.bytes) left ∙ of_bytes }
+
+-- both tallies of a line
+pub live_by : (p threads : ℕ) (workers : ℕ → WorkerValue) (seat : View) (n : Count) (bytes : ℕ × ℕ) (t : Tally) → AreCountedBy p threads workers n → IsBalance p seat bytes →
+    t ≡ record { slots = n.issued - n.freed; bytes = bytes.0 } → IsLiveOf p threads workers seat t
+live_by p threads workers seat n bytes t of balance left =
+    let e : 4 * p + 0 ≡ 4 * p = omega arith in
+    left_by (λ (x : Count). x.issued) (λ (x : Count). x.freed) 0 1 p threads workers seat n.issued n.freed bytes.0 t of.issued of.freed
+    (balance.live ∙ ap (λ k. added_in seat k - added_in seat (4 * p + 1)) (sym e)) left
+
+pub quarantined_by : (p threads : ℕ) (workers : ℕ → WorkerValue) (seat : View) (n : Count) (bytes : ℕ × ℕ) (t : Tally) → AreCountedBy p threads workers n → IsBalance p seat bytes →
+    t ≡ record { slots = n.entered - n.left; bytes = bytes.1 } → IsQuarantinedOf p threads workers seat t
+quarantined_by p threads workers seat n bytes t of balance left =
+    left_by (λ (x : Count). x.entered) (λ (x : Count). x.left) 2 3 p threads workers seat n.entered n.left bytes.1 t of.entered of.left balance.quarantined left
 
 -- ---- a seat that asks
 
@@ -80,11 +91,17 @@ census_still p c seat next same tells list pools begins pool =
     subst (λ (journal : List Made). IsCensusBy journal list c) (sym (same p))
     (tells list pools (subst (λ (ms : List Made). IsBeginning ms list) (same 4) begins) pool)
 
-line_still : (phase threads : ℕ) (workers : ℕ → WorkerValue) (seat next : View) (l : ReportLine) → HasSameLists seat next → IsLineFor phase threads workers seat l → IsLineFor phase threads workers next l
-line_still phase threads workers seat next l same line = record {
+left_still : (into out : Count → ℕ) (i j p threads : ℕ) (workers : ℕ → WorkerValue) (seat next : View) (t : Tally) → ((k : ℕ) → added_in next k ≡ added_in seat k) →
+    IsLeftOf into out i j p threads workers seat t → IsLeftOf into out i j p threads workers next t
+left_still into out i j p threads workers seat next t same left =
+    record { slots = left.slots; bytes = (let a = same (4 * p + i) in let b = same (4 * p + j) in let e = left.bytes in omega arith) }
+
+line_still : (phase threads : ℕ) (workers : ℕ → WorkerValue) (seat next : View) (l : ReportLine) → HasSameLists seat next → ((k : ℕ) → added_in next k ≡ added_in seat k) →
+    IsLineFor phase threads workers seat l → IsLineFor phase threads workers next l
+line_still phase threads workers seat next l same added line = record {
   phase_is = line.phase_is;
-  live = line.live;
-  quarantined = line.quarantined;
+  live = left_still (λ (n : Count). n.issued) (λ (n : Count). n.freed) 0 1 l.partition threads workers seat next l.live added line.live;
+  quarantined = left_still (λ (n : Count). n.entered) (λ (n : Count). n.left) 2 3 l.partition threads workers seat next l.quarantined added line.quarantined;
   cached = line.cached;
   root = census_still l.partition (census_of l) seat next same line.root;
 }
@@ -106,20 +123,24 @@ report_none phase threads workers seat before = record {
 }
 
 pub report_more : (phase p r threads : ℕ) (workers : ℕ → WorkerValue) (first seat next : View) (before now after : List ReportLine) (l : ReportLine) → IsReported phase p threads workers first seat before now →
-    HasEveryStake first → Lends r [] seat next → (HasEveryStake seat → HasSameLists seat next) → IsLineFor phase threads workers next l → l.partition ≡ p → after ≡ now ++ l ∷ [] →
+    IsAware first → HasEveryStake first → Lends r [] seat next → (HasEveryStake seat → HasSameLists seat next) → IsLineFor phase threads workers next l → l.partition ≡ p →
+    after ≡ now ++ l ∷ [] →
     IsReported phase (p + 1) threads workers first next before after
-report_more phase p r threads workers first seat next before now after l so every lends lists line at behind =
+report_more phase p r threads workers first seat next before now after l so aware every lends lists line at behind =
     let same = lists (asked_every first seat so.asked every) in
+    let then = asked_more r first seat next so.asked lends same in
+    let added : (k : ℕ) → added_in next k ≡ added_in seat k = λ k. added_same first next aware then.keeps.stakes then.logs k
+    ∙ sym (added_same first seat aware so.asked.keeps.stakes so.asked.logs k) in
     let place : (l.phase, l.partition) ≡ (phase, 0 + p) = (let f : l.partition ≡ 0 + p = omega arith in ap (λ n. (n, l.partition)) line.phase_is ∙ ap (λ q. (phase, q)) f) in
     record {
-      asked = asked_more r first seat next so.asked lends same;
+      asked = then;
       lines = so.lines ++ l ∷ [];
       behind = behind ∙ (ap (λ ls. ls ++ l ∷ []) so.behind ∙ append_assoc before so.lines (l ∷ []));
       places =
           map-append (λ (x : ReportLine). (x.phase, x.partition)) so.lines (l ∷ [])
           ∙ (ap (λ qs. qs ++ (l.phase, l.partition) ∷ []) so.places ∙ (ap (λ q. partitions_of phase 0 p ++ q ∷ []) place ∙ sym (one_place phase 0 p)));
       right = λ x has. elim (Contains-push_cases so.lines l x has) [
-        | inl old ↦ line_still phase threads workers seat next x same (so.right x old)
+        | inl old ↦ line_still phase threads workers seat next x same added (so.right x old)
         | inr e ↦ subst (IsLineFor phase threads workers next) e line
       ];
     }

@@ -9,7 +9,7 @@ use Rattle.pa_record.specs.declared.report.Tally.{Tally}
 use Rattle.pa_rules.specs.Caches.{listed_slots}
 use Rattle.pa_rules.specs.Report.{listed_bytes}
 use Rattle.pa_op_specs.specs.declared.counts.Count.{Count}
-use Rattle.pa_op_specs.specs.Counts.{IsOfSteps, AreOfSteps, counted_in, no_count}
+use Rattle.pa_op_specs.specs.Counts.{AreOfSteps, counted_in, no_count}
 use Rattle.pa_op_specs.specs.Stocks.{StockValue, IsStock, listed_in, titles_in}
 use Rattle.pa_op_specs.specs.Workers.{WorkerValue, IsWorker}
 use Rattle.pa_execution.specs.Lines.{sum_over, IsCachedBy}
@@ -38,11 +38,10 @@ count_at ws i p d w counts e is low kept same small =
 
 -- ---- counts
 
--- The tally is what the first i workers counted; it is small, since each counted at most one step for each of its records.
-pub record IsAdding (part : Count → Tally) (p i : ℕ) (ws : List WorkerValue) (t : Tally) : Type 0 where
-  pub by : IsCountedBy part p i (worker_in ws) t
-  pub few : t.slots ≤ 65536 * i
-  pub small : t.bytes ≤ 281474976710656 * i
+-- So many slots the first i workers counted; they are few, since each counted at most one step for each of its records.
+pub record IsAdding (part : Count → ℕ) (p i : ℕ) (ws : List WorkerValue) (slots : ℕ) : Type 0 where
+  pub by : IsCountedBy part p i (worker_in ws) slots
+  pub few : slots ≤ 65536 * i
 
 pub record AreAdding (p i : ℕ) (ws : List WorkerValue) (n : Count) : Type 0 where
   pub issued : IsAdding (λ (c : Count). c.issued) p i ws n.issued
@@ -50,54 +49,36 @@ pub record AreAdding (p i : ℕ) (ws : List WorkerValue) (n : Count) : Type 0 wh
   pub entered : IsAdding (λ (c : Count). c.entered) p i ws n.entered
   pub left : IsAdding (λ (c : Count). c.left) p i ws n.left
 
-adding_more : (part : Count → Tally) (p i steps : ℕ) (ws : List WorkerValue) (t more : Tally) → more ≡ part (counted_in (worker_in ws i).counts p) → IsOfSteps steps (part (counted_in (worker_in ws i).counts p)) →
-    steps ≤ 65536 → IsAdding part p i ws t → IsAdding part p (i + 1) ws (record { slots = t.slots + more.slots; bytes = t.bytes + more.bytes })
-adding_more part p i steps ws t more is of few adding =
-    let a = sum_more (λ k. (part (counted_in (worker_in ws k).counts p)).slots) i in
-    let b = sum_more (λ k. (part (counted_in (worker_in ws k).counts p)).bytes) i in
-    let c = ap (λ (n : Tally). n.slots) is in
-    let d = ap (λ (n : Tally). n.bytes) is in
-    let e = of.slots in
-    let f = of.bytes in
-    let g = adding.by.slots in
-    let h = adding.by.bytes in
+adding_more : (part : Count → ℕ) (p i steps : ℕ) (ws : List WorkerValue) (slots more : ℕ) → more ≡ part (counted_in (worker_in ws i).counts p) → part (counted_in (worker_in ws i).counts p) ≤ steps →
+    steps ≤ 65536 → IsAdding part p i ws slots → IsAdding part p (i + 1) ws (slots + more)
+adding_more part p i steps ws slots more is of few adding =
+    let a = sum_more (λ k. part (counted_in (worker_in ws k).counts p)) i in
+    let b = adding.by in
     let u = adding.few in
-    let v = adding.small in
-    record { by = record { slots = omega arith; bytes = omega arith }; few = omega arith; small = omega arith }
+    record { by = omega arith; few = omega arith }
 
--- the next worker's tally is small
-pub fits_more : (part : Count → Tally) (p i steps : ℕ) (ws : List WorkerValue) (t more : Tally) → more ≡ part (counted_in (worker_in ws i).counts p) → IsOfSteps steps (part (counted_in (worker_in ws i).counts p)) →
-    steps ≤ 65536 → i < 16 → IsAdding part p i ws t → (t.slots + more.slots < 2 ^ 64) × (t.bytes + more.bytes < 2 ^ 64)
-fits_more part p i steps ws t more is of few low adding =
-    let c = ap (λ (n : Tally). n.slots) is in
-    let d = ap (λ (n : Tally). n.bytes) is in
-    let e = of.slots in
-    let f = of.bytes in
-    let u = adding.few in
-    let v = adding.small in
-    (omega arith, omega arith)
+module _ (p i : ℕ) (ws : List WorkerValue) (n more : Count) (is : more ≡ counted_in (worker_in ws i).counts p) (of : AreOfSteps (length (worker_in ws i).records) (worker_in ws i).counts)
+    (few : length (worker_in ws i).records ≤ 65536) (adding : AreAdding p i ws n) where
+  pub add_more : (after : Count) → after.issued ≡ n.issued + more.issued → after.freed ≡ n.freed + more.freed → after.entered ≡ n.entered + more.entered → after.left ≡ n.left + more.left →
+      AreAdding p (i + 1) ws after
+  add_more after a b c d =
+      let steps = length (worker_in ws i).records in
+      record {
+        issued = subst (IsAdding (λ (x : Count). x.issued) p (i + 1) ws) (sym a)
+            (adding_more (λ (x : Count). x.issued) p i steps ws n.issued more.issued (ap (λ (x : Count). x.issued) is) (of.issued p) few adding.issued);
+        freed = subst (IsAdding (λ (x : Count). x.freed) p (i + 1) ws) (sym b)
+            (adding_more (λ (x : Count). x.freed) p i steps ws n.freed more.freed (ap (λ (x : Count). x.freed) is) (of.freed p) few adding.freed);
+        entered = subst (IsAdding (λ (x : Count). x.entered) p (i + 1) ws) (sym c)
+            (adding_more (λ (x : Count). x.entered) p i steps ws n.entered more.entered (ap (λ (x : Count). x.entered) is) (of.entered p) few adding.entered);
+        left = subst (IsAdding (λ (x : Count). x.left) p (i + 1) ws) (sym d)
+            (adding_more (λ (x : Count). x.left) p i steps ws n.left more.left (ap (λ (x : Count). x.left) is) (of.left p) few adding.left);
+      }
+
+-- ---- lists
 
 -- two tallies together
 abbrev pub together : Tally → Tally → Tally
 together a b = record { slots = a.slots + b.slots; bytes = a.bytes + b.bytes }
-
-pub add_more : (p i : ℕ) (ws : List WorkerValue) (n more after : Count) → more ≡ counted_in (worker_in ws i).counts p → AreOfSteps (length (worker_in ws i).records) (worker_in ws i).counts →
-    length (worker_in ws i).records ≤ 65536 → AreAdding p i ws n → after.issued ≡ together n.issued more.issued → after.freed ≡ together n.freed more.freed →
-    after.entered ≡ together n.entered more.entered → after.left ≡ together n.left more.left → AreAdding p (i + 1) ws after
-add_more p i ws n more after is of few adding a b c d =
-    let steps = length (worker_in ws i).records in
-    record {
-      issued = subst (IsAdding (λ (x : Count). x.issued) p (i + 1) ws) (sym a)
-          (adding_more (λ (x : Count). x.issued) p i steps ws n.issued more.issued (ap (λ (x : Count). x.issued) is) (of.issued p) few adding.issued);
-      freed = subst (IsAdding (λ (x : Count). x.freed) p (i + 1) ws) (sym b)
-          (adding_more (λ (x : Count). x.freed) p i steps ws n.freed more.freed (ap (λ (x : Count). x.freed) is) (of.freed p) few adding.freed);
-      entered = subst (IsAdding (λ (x : Count). x.entered) p (i + 1) ws) (sym c)
-          (adding_more (λ (x : Count). x.entered) p i steps ws n.entered more.entered (ap (λ (x : Count). x.entered) is) (of.entered p) few adding.entered);
-      left = subst (IsAdding (λ (x : Count). x.left) p (i + 1) ws) (sym d)
-          (adding_more (λ (x : Count). x.left) p i steps ws n.left more.left (ap (λ (x : Count). x.left) is) (of.left p) few adding.left);
-    }
-
--- ---- lists
 
 -- The tally is what the lists of the first i workers have; it is small, since no list is long.
 pub record IsCaching (p i : ℕ) (ws : List WorkerValue) (t : Tally) : Type 0 where

@@ -6,6 +6,7 @@ use Rattle.pa_region.specs.Views.{stake_of}
 use Rattle.pa_region.specs.Hands.{given_after, united}
 use Rattle.pa_region.specs.Lending.{stake_parcel}
 use Rattle.pa_rules.specs.Caches.{SameLists}
+use Rattle.pa_totals.specs.Settled.{none_owed}
 use Rattle.pa_op_specs.specs.Stocks.{listed_in}
 use Rattle.pa_op_specs.specs.Workers.{WorkerValue, HasItsStake, worker_with_view}
 use Rattle.pa_execution.specs.Gathering.{HasHeardSome, HasAnswered, told_worker}
@@ -20,6 +21,7 @@ no_worker = record {
   room = 0;
   stopped = true;
   counts = [];
+  owed = none_owed;
 }
 
 abbrev pub worker_in : List WorkerValue → ℕ → WorkerValue
@@ -28,11 +30,12 @@ worker_in workers k = slice_index_or workers k no_worker
 abbrev pub queue_in : List (List LineOp) → ℕ → List LineOp
 queue_in queues k = slice_index_or queues k []
 
--- each worker's thread is its index, and it can play its lines
+-- each worker's thread is its index, it can play its lines, and it owes nothing to the totals words
 pub record AreReady (queues : List (List LineOp)) (workers : List WorkerValue) : Type 0 where
   pub count : length queues ≡ length workers
   pub thread : (k : ℕ) → k < length workers → (worker_in workers k).stock.thread ≡ k
   pub each : (k : ℕ) → k < length workers → CanPlay (queue_in queues k) (worker_in workers k)
+  pub settled : (k : ℕ) → k < length workers → (worker_in workers k).owed ≡ none_owed
 
 -- all workers are back from their lines
 abbrev pub ArePlayed : List (List LineOp) → (before after : List WorkerValue) → Type 0
@@ -47,10 +50,11 @@ pub record HaveStakes (workers : List WorkerValue) : Type 0 where
   pub thread : (k : ℕ) → k < length workers → (worker_in workers k).stock.thread ≡ k
   pub each : (k : ℕ) → k < length workers → HasItsStake (worker_in workers k).stock
 
--- each worker has handed its stake over, and has none
+-- each worker has handed its stake over, and has none; and it owes nothing to the totals words
 pub record HaveNone (workers : List WorkerValue) : Type 0 where
   pub thread : (k : ℕ) → k < length workers → (worker_in workers k).stock.thread ≡ k
   pub each : (k : ℕ) → k < length workers → (j : ℕ) → stake_of (worker_in workers k).stock.view j ≡ 0
+  pub settled : (k : ℕ) → k < length workers → (worker_in workers k).owed ≡ none_owed
 
 -- the first `count` workers handed their stakes over, and the others are as they were
 pub record HaveTold (count : ℕ) (before after : List WorkerValue) : Type 0 where
@@ -79,11 +83,12 @@ pub record HaveReturned (queues : List (List LineOp)) (before after : List Worke
   pub heard : HasHeardSome (length before) (length before) (worker_in ends) first seat
   pub told : HaveTold (length before) ends after
 
--- A phase with these lines passed: each worker played its own and was as `ends` then, and all handed their stake to the main
--- seat, which was `first` before.
+-- A phase with these lines passed: each worker played its own and was as `ends` then, owing nothing to the totals words, and all
+-- handed their stake to the main seat, which was `first` before.
 pub record HasPassed (queues : List (List LineOp)) (before after : List WorkerValue) (first seat : View) : Type 0 where
   pub ends : List WorkerValue
   pub count : length ends ≡ length before
   pub played : (k : ℕ) → k < length before → PlaysLines (queue_in queues k) (worker_in before k) (worker_in ends k)
+  pub settled : (k : ℕ) → k < length before → (worker_in ends k).owed ≡ none_owed
   pub heard : HasHeardSome (length before) (length before) (worker_in ends) first seat
   pub told : HaveTold (length before) ends after

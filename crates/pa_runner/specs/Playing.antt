@@ -5,6 +5,7 @@ use Rattle.pa_trace.specs.Limits.{IsOpWithin}
 use Rattle.pa_record.specs.declared.entry.Entry.{Entry}
 use Rattle.pa_rules.specs.Played.{OpLine, op_line_of}
 use Rattle.pa_logs.specs.Told.{ToldRecord, played_in}
+use Rattle.pa_totals.specs.Settled.{none_owed}
 use Rattle.pa_op_specs.specs.Workers.{WorkerValue, HasItsStake}
 use Rattle.pa_op_specs.specs.Plays.{PlaysAll}
 use Rattle.pa_thread_state.specs.Stopping.{KeepsItsStake}
@@ -47,7 +48,9 @@ pub record PlaysLines (lines : List LineOp) (before after : WorkerValue) : Type 
       × (map (λ (e : Entry). e.line) es ≡ map (λ (due : LineOp). due.line) lines)
   pub room : after.room ≡ before.room
 
--- A worker is back from these lines: it has its stake still, and if it isn't stopped, it played them.
+-- A worker is back from these lines: it has its stake still, and if it isn't stopped, it played them and owes nothing to the totals
+-- words.
 pub record IsPlayed (lines : List LineOp) (before after : WorkerValue) : Type 0 where
   pub keeps : KeepsItsStake before.stock after.stock
   pub played : after.stopped ≡ false → PlaysLines lines before after
+  pub settled : after.stopped ≡ false → after.owed ≡ none_owed

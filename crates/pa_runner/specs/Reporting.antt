@@ -1,34 +1,39 @@
 -- The lines of the report at the end of a phase, when all workers have handed over and a main seat has every stake.
-use Rattle.std.specs.Prelude.{◌≡◌, ℕ, List, ◌++◌, map, Contains}
+use Rattle.std.specs.Prelude.{◌≡◌, ℕ, ◌+◌, ◌-◌, ◌*◌, List, ◌++◌, map, Contains}
 use Rattle.pa_record.specs.declared.report.ReportLine.{ReportLine}
-use Rattle.pa_record.specs.declared.report.Tally.{Tally}
 use Rattle.pa_region.specs.declared.view.View.{View}
 use Rattle.pa_region.specs.Lending.{Keeps}
 use Rattle.pa_region.specs.Takes.{log_of}
 use Rattle.pa_rules.specs.Report.{partitions_of, census_of}
+use Rattle.pa_totals.specs.Settled.{added_in}
 use Rattle.pa_op_specs.specs.declared.counts.Count.{Count}
 use Rattle.pa_op_specs.specs.Counts.{counted_in}
 use Rattle.pa_thread_state.specs.Censuses.{TellsCensus, HasSameLists}
 use Rattle.pa_op_specs.specs.Workers.{WorkerValue}
-use Rattle.pa_execution.specs.Lines.{sum_over, IsLeftOf, IsCachedBy}
+use Rattle.pa_execution.specs.Lines.{sum_over, IsLiveOf, IsQuarantinedOf, IsCachedBy}
 
--- The tally is what the first `threads` workers counted of partition p.
-pub record IsCountedBy (part : Count → Tally) (p threads : ℕ) (workers : ℕ → WorkerValue) (tally : Tally) : Type 0 where
-  pub slots : tally.slots ≡ sum_over (λ k. (part (counted_in (workers k).counts p)).slots) threads
-  pub bytes : tally.bytes ≡ sum_over (λ k. (part (counted_in (workers k).counts p)).bytes) threads
+-- So many slots of partition p the first `threads` workers counted.
+abbrev pub IsCountedBy : (part : Count → ℕ) → (p threads : ℕ) → (workers : ℕ → WorkerValue) → (slots : ℕ) → Type 0
+IsCountedBy part p threads workers slots = slots ≡ sum_over (λ k. part (counted_in (workers k).counts p)) threads
 
--- each of four tallies is
+-- each of four counts is so
 pub record AreCountedBy (p threads : ℕ) (workers : ℕ → WorkerValue) (count : Count) : Type 0 where
   pub issued : IsCountedBy (λ (n : Count). n.issued) p threads workers count.issued
   pub freed : IsCountedBy (λ (n : Count). n.freed) p threads workers count.freed
   pub entered : IsCountedBy (λ (n : Count). n.entered) p threads workers count.entered
   pub left : IsCountedBy (λ (n : Count). n.left) p threads workers count.left
 
--- The line is of this phase, and says what the workers counted and have cached, and the census of its root, as a seat has seen it.
+-- So many bytes of partition p are live, and so many quarantined, by what the logs of a seat added to the totals words.
+pub record IsBalance (p : ℕ) (seat : View) (bytes : ℕ × ℕ) : Type 0 where
+  pub live : bytes.0 ≡ added_in seat (4 * p) - added_in seat (4 * p + 1)
+  pub quarantined : bytes.1 ≡ added_in seat (4 * p + 2) - added_in seat (4 * p + 3)
+
+-- The line is of this phase, and says what the workers counted and have cached, and the totals words and the census of its root, as a
+-- seat has seen them.
 pub record IsLineFor (phase threads : ℕ) (workers : ℕ → WorkerValue) (seat : View) (l : ReportLine) : Type 0 where
   pub phase_is : l.phase ≡ phase
-  pub live : IsLeftOf (λ (n : Count). n.issued) (λ (n : Count). n.freed) l.partition threads workers l.live
-  pub quarantined : IsLeftOf (λ (n : Count). n.entered) (λ (n : Count). n.left) l.partition threads workers l.quarantined
+  pub live : IsLiveOf l.partition threads workers seat l.live
+  pub quarantined : IsQuarantinedOf l.partition threads workers seat l.quarantined
   pub cached : IsCachedBy l.partition threads workers l.cached
   pub root : TellsCensus l.partition seat (census_of l)
 

@@ -10,6 +10,7 @@ use Rattle.pa_record.specs.declared.report.ReportLine.{ReportLine}
 use Rattle.pa_region.specs.declared.view.View.{View}
 use Rattle.pa_rules.specs.Legal.{phases_in}
 use Rattle.pa_rules.specs.Report.{phases_of}
+use Rattle.pa_totals.specs.Settled.{none_owed}
 use Rattle.pa_op_specs.specs.Workers.{WorkerValue, HasItsStake}
 use Rattle.pa_execution.specs.Courses.{Course, HasSeenAll, lines_in}
 use Rattle.pa_execution.specs.Growing.{HasBegun}
@@ -26,12 +27,13 @@ RiseTo n [] last = n ≤ last
 RiseTo n (due ∷ rest) last = (n ≤ due.line) × RiseTo (due.line + 1) rest last
 
 -- At line index i of the trace the worker of thread k has a record of each of its lines of the phases that are over, and its queue
--- has its lines of this phase, up to that index.
+-- has its lines of this phase, up to that index. It owes nothing to the totals words.
 pub record IsAtPlace (t : Trace) (i k : ℕ) (queue : List LineOp) (w : WorkerValue) : Type 0 where
   pub thread : w.stock.thread ≡ k
   pub partitions : w.stock.partitions ≡ t.partitions
   pub going : w.stopped ≡ false
   pub stake : HasItsStake w.stock
+  pub settled : w.owed ≡ none_owed
   pub room : w.room ≡ lines_by k t.lines
   pub count : length w.records + length queue ≡ lines_by k (take i t.lines)
   pub limits : AllByRecursion (λ (due : LineOp). IsOpWithin t.partitions due.op) queue

@@ -7,6 +7,7 @@ ghost use Rattle.pa_region.specs.Lending.{stake_parcel};
 ghost use Rattle.pa_region.specs.Waiting.{unclean_of};
 ghost use Rattle.pa_region.specs.Aware.{IsAware};
 ghost use Rattle.pa_rules.specs.Caches.{SameLists};
+ghost use Rattle.pa_totals.specs.Settled.{none_owed};
 ghost use Rattle.pa_op_specs.specs.Stocks.{IsForThread, listed_in};
 ghost use Rattle.pa_op_specs.specs.Workers.{HasItsStake, worker_with_view};
 ghost use Rattle.pa_execution.specs.Gathering.{IsMain, HasHeardSome, HasAnswered, told_worker};
@@ -37,6 +38,7 @@ impl<R: Threads + Wait + Sync, N: Name + Send + Sync, G: Gate> Playing<'_, R, N,
         let play = |k: usize, worker: &mut Worker<N>|
             requires thread { (k < length queues.now) × (k < most_threads) × (worker.old.stock.thread ≡ k) }
             requires ready { CanPlay (queue_in queues.now k) worker.old }
+            requires settled { worker.old.owed ≡ none_owed }
             ensures { IsPlayed (queue_in queues.entry.now k) worker.old worker.new }
         { self.play_lines(worker, k as u32, queues[k].as_slice()) };
         thread::for_each_mut(self.rt, workers, threads, &play);
@@ -115,6 +117,7 @@ fn hear<N: Name>(heap: &Heap<N>, worker: &mut Worker<N>, seat: &mut Seat, thread
     requires clean { unclean_of seat.old.view ≡ 0 }
     requires stake { 0 < stake_of seat.old.view thread }
     requires none { (k : ℕ) → stake_of worker.old.stock.view k ≡ 0 }
+    requires settled { worker.old.owed ≡ none_owed }
     ensures region { seat.new.region ≡ N.region }
     ensures left { seat.new.view ≡ left_after (stake_parcel thread) seat.old.view }
     ensures heard { worker.new ≡ worker_with_view (united worker.old.stock.view (given_after (stake_parcel thread) seat.old.view)) worker.old }

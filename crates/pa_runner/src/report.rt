@@ -7,7 +7,7 @@ ghost use Rattle.pa_rules.specs.Report.{census_of};
 ghost use Rattle.pa_thread_state.specs.Censuses.{TellsCensus};
 ghost use Rattle.pa_execution.specs.Lines.{IsCachedBy};
 ghost use Rattle.pa_runner.specs.Phases.{worker_in};
-ghost use Rattle.pa_runner.specs.Reporting.{AreCountedBy, HasAsked, IsLineFor, IsReported};
+ghost use Rattle.pa_runner.specs.Reporting.{AreCountedBy, HasAsked, IsBalance, IsLineFor, IsReported};
 
 use crate::phases::Playing;
 use pa_heap::Worker;
@@ -18,8 +18,8 @@ use pa_region::{Name, Seat};
 use std::sync::Wait;
 
 impl<R: Wait, N: Name, G> Playing<'_, R, N, G> {
-    /// Appends the lines of a phase to a report: for each partition what the workers counted and have cached, and the census of
-    /// its root. If there is no memory for them, the main seat has what it had all the same.
+    /// Appends the lines of a phase to a report: for each partition what the workers counted and have cached, the bytes that the
+    /// totals words say, and the census of its root. If there is no memory for them, the main seat has what it had all the same.
     pub fn report_phase(
         &self,
         workers: &[Worker<N>],
@@ -37,21 +37,24 @@ impl<R: Wait, N: Name, G> Playing<'_, R, N, G> {
         ensures reported { OnOk result (IsReported phase self.now.trace.now.partitions (length workers.now) (worker_in workers.now)
             seat.old.view seat.new.view report.old.items report.new.items) }
     {
+        seat.aware();
         let partitions = self.trace.partitions;
         for partition in 0..partitions {
             let census = self.heap.census(self.rt, seat, partition);
-            let line = line_of(workers, phase, partition, &census);
+            let bytes = self.heap.balance(seat, partition);
+            let line = line_of(workers, phase, partition, bytes, &census);
             report.push(line)?;
         }
         Ok(())
     }
 }
 
-// The line of a partition, from this census of its root.
+// The line of a partition, from its live and its quarantined bytes and this census of its root.
 fn line_of<N: Name>(
     workers: &[Worker<N>],
     phase: u32,
     partition: u32,
+    bytes: (u64, u64),
     census: &Census,
 ) -> ReportLine
     requires partition { partition < most_partitions }
@@ -59,14 +62,15 @@ fn line_of<N: Name>(
     requires few { (k : ℕ) → k < length workers.now → length (worker_in workers.now k).records ≤ 65536 }
     ensures partition { result.partition ≡ partition }
     ensures census { census_of result ≡ census.now }
-    ensures right { (seat : View) → TellsCensus partition seat census.now → IsLineFor phase (length workers.now) (worker_in workers.now) seat result }
+    ensures right { (seat : View) → TellsCensus partition seat census.now → IsBalance partition seat bytes →
+        IsLineFor phase (length workers.now) (worker_in workers.now) seat result }
 {
     let count = counted_by(workers, partition);
     ReportLine {
         phase,
         partition,
-        live: left_of(count.issued, count.freed),
-        quarantined: left_of(count.entered, count.left),
+        live: left_of(count.issued, count.freed, bytes.0),
+        quarantined: left_of(count.entered, count.left, bytes.1),
         cached: cached_by(workers, partition),
         root: census.root,
         committed: census.committed,
@@ -78,13 +82,14 @@ fn line_of<N: Name>(
     }
 }
 
-// What went in minus what went out. No more goes out than in: a law of the run says so (`WentIn` of pa_legal), and nothing here.
-fn left_of(into: Tally, out: Tally) -> Tally
-    ensures { result ≡ record { slots = into.slots - out.slots; bytes = into.bytes - out.bytes } }
+// The slots that went in minus those that went out, with these bytes. No more goes out than in: a law of the run says so (`WentIn` of
+// pa_legal), and nothing here.
+fn left_of(into: u64, out: u64, bytes: u64) -> Tally
+    ensures { result ≡ record { slots = into - out; bytes = bytes } }
 {
     Tally {
-        slots: into.slots.saturating_sub(out.slots),
-        bytes: into.bytes.saturating_sub(out.bytes),
+        slots: into.saturating_sub(out),
+        bytes,
     }
 }
 
@@ -96,21 +101,36 @@ fn counted_by<N: Name>(workers: &[Worker<N>], partition: u32) -> Count
     ensures { AreCountedBy partition (length workers.now) (worker_in workers.now) result }
 {
     let mut sum = Count {
-        issued: NONE,
-        freed: NONE,
-        entered: NONE,
-        left: NONE,
+        issued: 0,
+        freed: 0,
+        entered: 0,
+        left: 0,
     };
     for worker in workers {
         worker.kept();
         let counts = worker.counts();
-        let count = counts[partition as usize];
-        sum.issued = sum.issued.and(count.issued);
-        sum.freed = sum.freed.and(count.freed);
-        sum.entered = sum.entered.and(count.entered);
-        sum.left = sum.left.and(count.left);
+        sum = both(sum, counts[partition as usize]);
     }
     sum
+}
+
+// Two counts together.
+fn both(first: Count, second: Count) -> Count
+    requires issued { first.issued + second.issued < 2 ^ 64 }
+    requires freed { first.freed + second.freed < 2 ^ 64 }
+    requires entered { first.entered + second.entered < 2 ^ 64 }
+    requires left { first.left + second.left < 2 ^ 64 }
+    ensures issued { result.issued ≡ first.issued + second.issued }
+    ensures freed { result.freed ≡ first.freed + second.freed }
+    ensures entered { result.entered ≡ first.entered + second.entered }
+    ensures left { result.left ≡ first.left + second.left }
+{
+    Count {
+        issued: first.issued + second.issued,
+        freed: first.freed + second.freed,
+        entered: first.entered + second.entered,
+        left: first.left + second.left,
+    }
 }
 
 // What the lists of the workers have of a partition.

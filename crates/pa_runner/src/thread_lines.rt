@@ -1,6 +1,7 @@
 //! The lines of one thread in one phase, one after the other.
 ghost use Rattle.std.specs.Prelude.{◌≡◌, ◌∷◌, [], IfOk, OnOk, OnErr, true};
 ghost use Rattle.pa_trace.specs.Limits.{IsOpWithin};
+ghost use Rattle.pa_totals.specs.Settled.{none_owed};
 ghost use Rattle.pa_op_specs.specs.Workers.{CanPlayOp, KeepsOn};
 ghost use Rattle.pa_op_specs.specs.Plays.{PlaysOp};
 ghost use Rattle.pa_thread_state.specs.Stopping.{KeepsItsStake};
@@ -10,6 +11,7 @@ use crate::gate::Gate;
 use crate::phases::Playing;
 use pa_heap::Worker;
 use pa_machine::OutOfMemory;
+use pa_op_specs::settlings_end_phases;
 use pa_record::Answer;
 use pa_region::Name;
 use pa_thread_state::Heap;
@@ -25,11 +27,12 @@ pub struct LineOp {
 }
 
 impl<R: Threads + Wait + Sync, N: Name, G: Gate> Playing<'_, R, N, G> {
-    /// Plays a thread's lines in their order. If an op runs out of memory the worker is stopped, and plays no more; it has its
-    /// stake all the same.
+    /// Plays a thread's lines in their order, and adds the bytes of its steps to the totals words then. If an op runs out of memory the
+    /// worker is stopped, and plays no more; it has its stake all the same.
     pub fn play_lines(&self, worker: &mut Worker<N>, thread: u32, lines: &[LineOp])
         requires thread { worker.old.stock.thread ≡ thread }
         requires ready { CanPlay lines.now worker.old }
+        requires settled { worker.old.owed ≡ none_owed }
         ensures { IsPlayed lines.now worker.old worker.new }
     {
         for due in lines {
@@ -38,6 +41,13 @@ impl<R: Threads + Wait + Sync, N: Name, G: Gate> Playing<'_, R, N, G> {
                 Err(OutOfMemory) => return,
             }
         }
+        // A worker without lines has no record whose log segment could have the additions, and it owes nothing.
+        if lines.is_empty() {
+            return;
+        }
+        settlings_end_phases();
+        worker.kept();
+        worker.settle(self.heap);
     }
 
     // Plays one line, between the two calls of the gate.

@@ -36,6 +36,12 @@ hear-requires-clause-none g c =
     let low : c.loop-k.k < length c.args.workers.now = omega arith in
     (hear_ready c.loop-k.k c.args.workers.now c.loop-k.workers c.args.seat.now.view c.loop-k.seat.view _ c.loop-k.invariant.hearing low c.requires.few c.requires.every c.requires.none).2
 
+pub hear-requires-clause-settled : goal.hear-requires-clause-settled
+hear-requires-clause-settled g c =
+    let long = c.loop-k.invariant.hearing.count in
+    let low : c.loop-k.k < length c.args.workers.now = omega arith in
+    (hear_ready c.loop-k.k c.args.workers.now c.loop-k.workers c.args.seat.now.view c.loop-k.seat.view _ c.loop-k.invariant.hearing low c.requires.few c.requires.every c.requires.none).3
+
 pub loop-k-preserved : goal.loop-k-preserved
 loop-k-preserved g c =
     let long = c.loop-k.invariant.hearing.count in

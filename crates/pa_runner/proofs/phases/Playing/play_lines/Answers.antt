@@ -1,5 +1,5 @@
-use Rattle.std.proofs.Common.{◌∙◌}
-use Rattle.pa_runner.proofs.PlayedLines.{plays_none, next_ready, next_limits, next_new, next_ok, same_thread, back_all, back_stopped}
+use Rattle.std.proofs.Common.{length, ◌∙◌}
+use Rattle.pa_runner.proofs.PlayedLines.{plays_none, next_ready, next_limits, next_new, next_ok, same_thread, none_there, some_there, back_none, back_settled, back_stopped}
 use Rattle.pa_runner.proofs.phases.Playing.play_lines.Goals as goal
 
 pub loop-due-init : goal.loop-due-init
@@ -27,5 +27,13 @@ pub returns-in-Err : goal.returns-in-Err
 returns-in-Err g c =
     back_stopped c.args.lines.now _ c.args.worker.now c.loop-due.worker c.play_line.new.worker c.loop-due.invariant.played c.in-Err.ensures.stake c.in-Err.ensures.stops
 
+pub returns-then-is_empty : goal.returns-then-is_empty
+returns-then-is_empty g c =
+    back_none c.args.lines.now c.loop-due.due-index c.args.worker.now c.loop-due.worker c.loop-due-test.false
+    (none_there (length c.args.lines.now) c.is_empty.result c.is_empty.ensures c.if-is_empty.true) c.loop-due.invariant.played c.requires.settled
+
 pub returns : goal.returns
-returns g c = back_all c.args.lines.now c.loop-due.due-index c.args.worker.now c.loop-due.worker c.loop-due-test.false c.loop-due.invariant.played
+returns g c =
+    back_settled c.settlings_end_phases.ensures c.args.lines.now c.loop-due.due-index c.args.worker.now c.loop-due.worker c.settle.new.self c.loop-due-test.false
+    (some_there (length c.args.lines.now) c.is_empty.result c.is_empty.ensures c.if-is_empty.false) c.loop-due.invariant.played c.kept.ensures
+    c.settle.ensures.settled c.settle.ensures.stake

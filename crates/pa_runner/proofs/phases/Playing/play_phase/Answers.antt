@@ -11,5 +11,5 @@ for_each_mut-requires-clause-accepts g c κs within i p low at =
     let count = c.requires.ready.count in
     let many = c.requires.many.1 in (
       (omega arith, omega arith, ap (λ (w : WorkerValue). w.stock.thread) here ∙ c.requires.ready.thread i low),
-      (subst (CanPlay (queue_in c.args.queues.now i)) (sym here) (c.requires.ready.each i low), search rules),
+      (subst (CanPlay (queue_in c.args.queues.now i)) (sym here) (c.requires.ready.each i low), (ap (λ (w : WorkerValue). w.owed) here ∙ c.requires.ready.settled i low, search rules)),
     )
