@@ -29,7 +29,8 @@ least_from r (s ∷ ss) small only =
       | inr n ↦ elim (eqb_tells s.number s.number) [
         | inl here ↦
             (let z = only s.number n.1 in
-            let c : sum_by (λ (x : Stake). one (x.number == s.number)) (s ∷ ss) ≡ one (s.number == s.number) + sum_by (λ (x : Stake). one (x.number == s.number)) ss = sum_by-cons (λ (x : Stake). one (x.number == s.number)) s ss in
+            let c : sum_by (λ (x : Stake). one (x.number == s.number)) (s ∷ ss) ≡ one (s.number == s.number) + sum_by (λ (x : Stake). one (x.number == s.number)) ss =
+            sum_by-cons (λ (x : Stake). one (x.number == s.number)) s ss in
             let d : one (s.number == s.number) ≡ 1 = ap one here.0 in
             absurd (omega arith))
         | inr never ↦ absurd (never.1 refl)

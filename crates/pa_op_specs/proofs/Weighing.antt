@@ -98,12 +98,16 @@ module _ (home size : SlotName → ℕ) (line thread phase : ℕ) (cs : List Cou
 
   -- ---- op by op
 
-  copy_to_row : (q : Reg) (s : SlotName) (regs after : Regs) (from to : ℕ) (answer : Answer) → CopyToRow q s regs to answer after → Weighs home size (played_so (ops.Copy from to) answer ∷ []) cs cs os os
-  copy_to_row reg.Empty s regs after from to answer (seen, slot, is, b) = stays (ops.Copy from to) answer (answers.Done seen) is (Some (mark_at line seen (Some steps.Copy))) refl (refl, refl, refl, refl)
+  copy_to_row : (q : Reg) (s : SlotName) (regs after : Regs) (from to : ℕ) (answer : Answer) → CopyToRow q s regs to answer after → Weighs home size
+      (played_so (ops.Copy from to) answer ∷ []) cs cs os os
+  copy_to_row reg.Empty s regs after from to answer (seen, slot, is, b) = stays (ops.Copy from to) answer (answers.Done seen) is
+      (Some (mark_at line seen (Some steps.Copy))) refl (refl, refl, refl, refl)
   copy_to_row (reg.Own t) s regs after from to answer (is, b) = stays (ops.Copy from to) answer answers.Filled is None refl tt
   copy_to_row (reg.Ref t) s regs after from to answer (is, b) = stays (ops.Copy from to) answer answers.Filled is None refl tt
-  copy_to_row reg.Freed s regs after from to answer (seen, slot, is, b) = stays (ops.Copy from to) answer (answers.Done seen) is (Some (mark_at line seen (Some steps.Copy))) refl (refl, refl, refl, refl)
-  copy_to_row reg.Cleared s regs after from to answer (seen, slot, is, b) = stays (ops.Copy from to) answer (answers.Done seen) is (Some (mark_at line seen (Some steps.Copy))) refl (refl, refl, refl, refl)
+  copy_to_row reg.Freed s regs after from to answer (seen, slot, is, b) = stays (ops.Copy from to) answer (answers.Done seen) is
+      (Some (mark_at line seen (Some steps.Copy))) refl (refl, refl, refl, refl)
+  copy_to_row reg.Cleared s regs after from to answer (seen, slot, is, b) = stays (ops.Copy from to) answer (answers.Done seen) is
+      (Some (mark_at line seen (Some steps.Copy))) refl (refl, refl, refl, refl)
 
   copy_row : (q : Reg) (regs after : Regs) (from to : ℕ) (answer : Answer) → CopyRow q regs to answer after → Weighs home size (played_so (ops.Copy from to) answer ∷ []) cs cs os os
   copy_row reg.Empty regs after from to answer (is, b) = stays (ops.Copy from to) answer answers.Nothing is None refl tt
@@ -114,10 +118,14 @@ module _ (home size : SlotName → ℕ) (line thread phase : ℕ) (cs : List Cou
 
   write_row : (q : Reg) (regs after : Regs) (r value : ℕ) (answer : Answer) → WriteRow q regs answer after → Weighs home size (played_so (ops.Write r value) answer ∷ []) cs cs os os
   write_row reg.Empty regs after r value answer (is, b) = stays (ops.Write r value) answer answers.Nothing is None refl tt
-  write_row (reg.Own s) regs after r value answer (seen, slot, b, inl (some, is)) = stays (ops.Write r value) answer (answers.Shared seen) is (Some (mark_at line seen None)) refl (refl, refl, refl, refl)
-  write_row (reg.Own s) regs after r value answer (seen, slot, b, inr (none, is)) = stays (ops.Write r value) answer (answers.Done seen) is (Some (mark_at line seen (Some steps.Write))) refl (refl, refl, refl, refl)
-  write_row (reg.Ref s) regs after r value answer (seen, slot, b, inl (some, is)) = stays (ops.Write r value) answer (answers.NotOwner seen) is (Some (mark_at line seen None)) refl (refl, refl, refl, refl)
-  write_row (reg.Ref s) regs after r value answer (seen, slot, b, inr (none, is)) = stays (ops.Write r value) answer (answers.StaleUse (Some seen)) is (Some (mark_at line seen None)) refl (refl, refl, refl, refl)
+  write_row (reg.Own s) regs after r value answer (seen, slot, b, inl (some, is)) = stays (ops.Write r value) answer (answers.Shared seen) is
+      (Some (mark_at line seen None)) refl (refl, refl, refl, refl)
+  write_row (reg.Own s) regs after r value answer (seen, slot, b, inr (none, is)) = stays (ops.Write r value) answer (answers.Done seen) is
+      (Some (mark_at line seen (Some steps.Write))) refl (refl, refl, refl, refl)
+  write_row (reg.Ref s) regs after r value answer (seen, slot, b, inl (some, is)) = stays (ops.Write r value) answer (answers.NotOwner seen) is
+      (Some (mark_at line seen None)) refl (refl, refl, refl, refl)
+  write_row (reg.Ref s) regs after r value answer (seen, slot, b, inr (none, is)) = stays (ops.Write r value) answer (answers.StaleUse (Some seen)) is
+      (Some (mark_at line seen None)) refl (refl, refl, refl, refl)
   write_row reg.Freed regs after r value answer (is, b) = stays (ops.Write r value) answer (answers.StaleUse None) is None refl tt
   write_row reg.Cleared regs after r value answer (is, b) = stays (ops.Write r value) answer (answers.StaleUse None) is None refl tt
 
@@ -129,7 +137,8 @@ module _ (home size : SlotName → ℕ) (line thread phase : ℕ) (cs : List Cou
   read_from_row s facts regs after r place answer (b, inr (inside, seen, value, slot, inr (freed, is))) =
       stays (ops.Read r place) answer (answers.Dangling seen value) is (Some (mark_at line seen None)) refl (refl, refl, refl, refl)
 
-  read_row : (q : Reg) (facts : Facts) (regs after : Regs) (r place : ℕ) (answer : Answer) → ReadRow q facts regs place answer after → Weighs home size (played_so (ops.Read r place) answer ∷ []) cs cs os os
+  read_row : (q : Reg) (facts : Facts) (regs after : Regs) (r place : ℕ) (answer : Answer) → ReadRow q facts regs place answer after → Weighs home size
+      (played_so (ops.Read r place) answer ∷ []) cs cs os os
   read_row reg.Empty facts regs after r place answer (is, b) = stays (ops.Read r place) answer answers.Nothing is None refl tt
   read_row (reg.Own s) facts regs after r place answer row = read_from_row s facts regs after r place answer row
   read_row (reg.Ref s) facts regs after r place answer row = read_from_row s facts regs after r place answer row
@@ -159,7 +168,8 @@ module _ (home size : SlotName → ℕ) (line thread phase : ℕ) (cs : List Cou
 
   -- an allocation that made nothing, and one that made the slot which the register then owns
   made_none : (q : StockRegister) (r partition asked : ℕ) (answer given : Answer) → answer ≡ given → mark_of_answer line (ops.Alloc r partition asked) given ≡ None → made_seen given ≡ None →
-      Weighs home size (played_so (ops.Alloc r partition asked) answer ∷ []) cs (counts_after steps.Issue (owned_in q) (made_seen answer) cs) os (owed_after steps.Issue (owned_in q) (made_seen answer) os)
+      Weighs home size (played_so (ops.Alloc r partition asked) answer ∷ []) cs (counts_after steps.Issue (owned_in q) (made_seen answer) cs) os
+      (owed_after steps.Issue (owned_in q) (made_seen answer) os)
   made_none q r partition asked answer given is unmarked none =
       let same : counts_after steps.Issue (owned_in q) (made_seen answer) cs ≡ cs =
       ap (λ a. counts_after steps.Issue (owned_in q) a cs) (ap made_seen is ∙ none) ∙ counts_unseen steps.Issue (owned_in q) cs in
@@ -170,19 +180,23 @@ module _ (home size : SlotName → ℕ) (line thread phase : ℕ) (cs : List Cou
         subst (λ ps. OwesBy home size (played_so (ops.Alloc r partition asked) answer ∷ []) os ps) (sym also_same) stay.1,
       )
 
-  made_some : (q : StockRegister) (r partition asked usable : ℕ) (answer : Answer) (seen : Seen) → ((h : Handle) → q ≡ Own h → IsAtHome home size h) → answer ≡ answers.Made seen usable → as_reg q ≡ reg.Own seen.slot →
-      Weighs home size (played_so (ops.Alloc r partition asked) answer ∷ []) cs (counts_after steps.Issue (owned_in q) (made_seen answer) cs) os (owed_after steps.Issue (owned_in q) (made_seen answer) os)
+  made_some : (q : StockRegister) (r partition asked usable : ℕ) (answer : Answer) (seen : Seen) → ((h : Handle) → q ≡ Own h → IsAtHome home size h) → answer ≡
+      answers.Made seen usable → as_reg q ≡ reg.Own seen.slot →
+      Weighs home size (played_so (ops.Alloc r partition asked) answer ∷ []) cs (counts_after steps.Issue (owned_in q) (made_seen answer) cs) os
+      (owed_after steps.Issue (owned_in q) (made_seen answer) os)
   made_some Empty r partition asked usable answer seen at is owns = absurd cc
   made_some (Own h) r partition asked usable answer seen at is owns =
       let slot : seen.slot ≡ name_of h.title = cc in
-      subst (λ a. Weighs home size (played_so (ops.Alloc r partition asked) answer ∷ []) cs (counts_after steps.Issue (Some h) (made_seen a) cs) os (owed_after steps.Issue (Some h) (made_seen a) os)) (sym is)
+      subst (λ a. Weighs home size (played_so (ops.Alloc r partition asked) answer ∷ []) cs (counts_after steps.Issue (Some h) (made_seen a) cs) os
+      (owed_after steps.Issue (Some h) (made_seen a) os)) (sym is)
       (steps_on (ops.Alloc r partition asked) answer (answers.Made seen usable) seen steps.Issue h is refl slot (at h refl))
   made_some (Ref h) r partition asked usable answer seen at is owns = absurd cc
   made_some Freed r partition asked usable answer seen at is owns = absurd cc
   made_some Cleared r partition asked usable answer seen at is owns = absurd cc
 
   request_row : (q : StockRegister) (facts : Facts) (regs after : Regs) (r partition asked : ℕ) (answer : Answer) → ((h : Handle) → q ≡ Own h → IsAtHome home size h) → after r ≡ as_reg q →
-      RequestRow facts regs r asked answer after → Weighs home size (played_so (ops.Alloc r partition asked) answer ∷ []) cs (counts_after steps.Issue (owned_in q) (made_seen answer) cs) os (owed_after steps.Issue (owned_in q) (made_seen answer) os)
+      RequestRow facts regs r asked answer after → Weighs home size (played_so (ops.Alloc r partition asked) answer ∷ []) cs
+      (counts_after steps.Issue (owned_in q) (made_seen answer) cs) os (owed_after steps.Issue (owned_in q) (made_seen answer) os)
   request_row q facts regs after r partition asked answer at is_q (inl (large, is, b)) = made_none q r partition asked answer answers.TooLarge is refl refl
   request_row q facts regs after r partition asked answer at is_q (inr (inl (few, seen, is, b))) =
       let owns : as_reg q ≡ reg.Own seen.slot = sym is_q ∙ (b r ∙ rw (eq-eqb r r refl) refl) in
@@ -190,7 +204,8 @@ module _ (home size : SlotName → ℕ) (line thread phase : ℕ) (cs : List Cou
   request_row q facts regs after r partition asked answer at is_q (inr (inr (few, entry, is, b))) = made_none q r partition asked answer (answers.Full entry) is refl refl
 
   alloc_row : (old : Reg) (q : StockRegister) (facts : Facts) (regs after : Regs) (r partition asked : ℕ) (answer : Answer) → ((h : Handle) → q ≡ Own h → IsAtHome home size h) → after r ≡ as_reg q →
-      AllocRow old facts regs r asked answer after → Weighs home size (played_so (ops.Alloc r partition asked) answer ∷ []) cs (counts_after steps.Issue (owned_in q) (made_seen answer) cs) os (owed_after steps.Issue (owned_in q) (made_seen answer) os)
+      AllocRow old facts regs r asked answer after → Weighs home size (played_so (ops.Alloc r partition asked) answer ∷ []) cs
+      (counts_after steps.Issue (owned_in q) (made_seen answer) cs) os (owed_after steps.Issue (owned_in q) (made_seen answer) os)
   alloc_row reg.Empty q facts regs after r partition asked answer at is_q row = request_row q facts regs after r partition asked answer at is_q row
   alloc_row (reg.Own s) q facts regs after r partition asked answer at is_q (is, b) = made_none q r partition asked answer answers.Filled is refl refl
   alloc_row (reg.Ref s) q facts regs after r partition asked answer at is_q (is, b) = made_none q r partition asked answer answers.Filled is refl refl
@@ -220,21 +235,28 @@ module _ (line : ℕ) (answer : Answer) (before after : StockValue) (cs : List C
   purge_counts = counts_by_row line ops.Purge answer before after cs cs os os (λ phase o run seen begins row.
       stays o.homes o.sizes line before.thread phase cs four os also ops.Purge answer (answers.Purged row.0) row.1 None refl tt)
 
-  pub reset_counts : (r : ℕ) → IsStock before → r < 64 → CountsOp line (ops.Reset r) answer before after cs (counts_after steps.Reset (pointed_in (register_in before.registers r)) (done_seen answer) cs) os (owed_after steps.Reset (pointed_in (register_in before.registers r)) (done_seen answer) os)
-  reset_counts r is below = counts_by_row line (ops.Reset r) answer before after cs (counts_after steps.Reset (pointed_in (register_in before.registers r)) (done_seen answer) cs) os (owed_after steps.Reset (pointed_in (register_in before.registers r)) (done_seen answer) os)
+  pub reset_counts : (r : ℕ) → IsStock before → r < 64 → CountsOp line (ops.Reset r) answer before after cs
+      (counts_after steps.Reset (pointed_in (register_in before.registers r)) (done_seen answer) cs) os (owed_after steps.Reset (pointed_in (register_in before.registers r)) (done_seen answer) os)
+  reset_counts r is below = counts_by_row line (ops.Reset r) answer before after cs
+      (counts_after steps.Reset (pointed_in (register_in before.registers r)) (done_seen answer) cs) os (owed_after steps.Reset (pointed_in (register_in before.registers r)) (done_seen answer) os)
       (λ phase o run seen begins row.
       reset_row o.homes o.sizes line before.thread phase cs four os also (register_in before.registers r) (regs_of before.registers) (regs_of after.registers) r answer
       (λ h ref. at_home o before h run (seen_before o before.view after.view begins seen) (register_has before r h is below (inr ref)).1) row)
 
-  pub free_counts : (r : ℕ) → IsStock before → r < 64 → CountsOp line (ops.Free r) answer before after cs (counts_after steps.Free (owned_in (register_in before.registers r)) (done_seen answer) cs) os (owed_after steps.Free (owned_in (register_in before.registers r)) (done_seen answer) os)
-  free_counts r is below = counts_by_row line (ops.Free r) answer before after cs (counts_after steps.Free (owned_in (register_in before.registers r)) (done_seen answer) cs) os (owed_after steps.Free (owned_in (register_in before.registers r)) (done_seen answer) os)
+  pub free_counts : (r : ℕ) → IsStock before → r < 64 → CountsOp line (ops.Free r) answer before after cs
+      (counts_after steps.Free (owned_in (register_in before.registers r)) (done_seen answer) cs) os (owed_after steps.Free (owned_in (register_in before.registers r)) (done_seen answer) os)
+  free_counts r is below = counts_by_row line (ops.Free r) answer before after cs
+      (counts_after steps.Free (owned_in (register_in before.registers r)) (done_seen answer) cs) os (owed_after steps.Free (owned_in (register_in before.registers r)) (done_seen answer) os)
       (λ phase o run seen begins row.
       free_row o.homes o.sizes line before.thread phase cs four os also (register_in before.registers r) (regs_of before.registers) (regs_of after.registers) r answer
       (λ h own. at_home o before h run (seen_before o before.view after.view begins seen) (register_has before r h is below (inl own)).1) row)
 
   pub alloc_counts : (r partition asked : ℕ) → IsStock after → r < 64 →
-      CountsOp line (ops.Alloc r partition asked) answer before after cs (counts_after steps.Issue (owned_in (register_in after.registers r)) (made_seen answer) cs) os (owed_after steps.Issue (owned_in (register_in after.registers r)) (made_seen answer) os)
-  alloc_counts r partition asked is below = counts_by_row line (ops.Alloc r partition asked) answer before after cs (counts_after steps.Issue (owned_in (register_in after.registers r)) (made_seen answer) cs) os (owed_after steps.Issue (owned_in (register_in after.registers r)) (made_seen answer) os)
+      CountsOp line (ops.Alloc r partition asked) answer before after cs (counts_after steps.Issue (owned_in (register_in after.registers r)) (made_seen answer) cs) os
+      (owed_after steps.Issue (owned_in (register_in after.registers r)) (made_seen answer) os)
+  alloc_counts r partition asked is below = counts_by_row line (ops.Alloc r partition asked) answer before after cs
+      (counts_after steps.Issue (owned_in (register_in after.registers r)) (made_seen answer) cs) os (owed_after steps.Issue (owned_in (register_in after.registers r)) (made_seen answer) os)
       (λ phase o run seen begins row.
-      alloc_row o.homes o.sizes line before.thread phase cs four os also (regs_of before.registers r) (register_in after.registers r) (row_facts o) (regs_of before.registers) (regs_of after.registers) r partition asked answer
+      alloc_row o.homes o.sizes line before.thread phase cs four os also (regs_of before.registers r) (register_in after.registers r) (row_facts o)
+      (regs_of before.registers) (regs_of after.registers) r partition asked answer
       (λ h own. at_home o after h run seen (register_has after r h is below (inl own)).1) refl row)

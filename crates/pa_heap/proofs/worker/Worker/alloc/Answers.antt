@@ -28,7 +28,8 @@ invariant_of-self g c =
       subst (λ n. IsOwedBySteps n c.owe_step.new.owed) (sym long) (c.owe_step.ensures.small (length c.self.inside.records.items) c.self.invariant.3),
       covered_after c.args.line (ops.Alloc c.args.reg c.args.partition c.args.size) c.in-Ok.answer c.self.inside.stock c.alloc.new.stock c.self.inside.owed c.owe_step.new.owed
           (owed_after steps.Issue (owned_in (register_in c.alloc.new.stock.registers c.args.reg)) (made_seen c.in-Ok.answer) c.self.inside.owed) c.in-Ok.ensures.does owes
-          (λ q. alloc_less q c.args.reg c.in-Ok.answer c.self.inside.owed c.self.invariant.3.count c.requires.reg c.args.partition c.args.size c.self.inside.stock c.alloc.new.stock c.kept.ensures.stock c.in-Ok.ensures.made)
+          (λ q. alloc_less q c.args.reg c.in-Ok.answer c.self.inside.owed c.self.invariant.3.count c.requires.reg c.args.partition c.args.size c.self.inside.stock
+          c.alloc.new.stock c.kept.ensures.stock c.in-Ok.ensures.made)
           stake c.self.invariant.4,
     )
 
@@ -45,32 +46,72 @@ invariant_of-self-in-Err g c = (
 
 pub returns-in-Ok-clause-plays : goal.returns-in-Ok-clause-plays
 returns-in-Ok-clause-plays g c =
-    let w : WorkerValue = record { stock = c.self.inside.stock; records = c.self.inside.records.items; room = c.self.inside.room; stopped = c.self.inside.stopped; counts = c.self.inside.counts; owed = c.self.inside.owed } in
+    let w : WorkerValue = record {
+      stock = c.self.inside.stock;
+      records = c.self.inside.records.items;
+      room = c.self.inside.room;
+      stopped = c.self.inside.stopped;
+      counts = c.self.inside.counts;
+      owed = c.self.inside.owed;
+    } in
     let counted : c.count_step.new.counts ≡ counts_after steps.Issue (owned_in (register_in c.alloc.new.stock.registers c.args.reg)) (made_seen c.in-Ok.answer) w.counts =
     c.count_step.ensures.counts ∙ ap (λ h. counts_after steps.Issue h c.made-seen.result w.counts) (c.owned-handle.ensures ∙ ap owned_in c.register.ensures)
     ∙ ap (λ s. counts_after steps.Issue (owned_in (register_in c.alloc.new.stock.registers c.args.reg)) s w.counts) c.made-seen.ensures in
     let owes : c.owe_step.new.owed ≡ owed_after steps.Issue (owned_in (register_in c.alloc.new.stock.registers c.args.reg)) (made_seen c.in-Ok.answer) w.owed =
     c.owe_step.ensures.owed ∙ ap (λ h. owed_after steps.Issue h c.made-seen.result w.owed) (c.owned-handle.ensures ∙ ap owned_in c.register.ensures)
     ∙ ap (λ s. owed_after steps.Issue (owned_in (register_in c.alloc.new.stock.registers c.args.reg)) s w.owed) c.made-seen.ensures in
-    subst (λ (z : WorkerValue). PlaysOp c.args.line (ops.Alloc c.args.reg c.args.partition c.args.size) c.in-Ok.answer z (record { stock = c.alloc.new.stock; records = c.enter.new.records.items; room = c.self.inside.room; stopped = c.self.inside.stopped; counts = c.count_step.new.counts; owed = c.owe_step.new.owed }))
+    subst (λ (z : WorkerValue). PlaysOp c.args.line (ops.Alloc c.args.reg c.args.partition c.args.size) c.in-Ok.answer z
+    (record {
+      stock = c.alloc.new.stock;
+      records = c.enter.new.records.items;
+      room = c.self.inside.room;
+      stopped = c.self.inside.stopped;
+      counts = c.count_step.new.counts;
+      owed = c.owe_step.new.owed;
+    }))
     c.self.view_is
-    (worker_plays c.args.line (ops.Alloc c.args.reg c.args.partition c.args.size) c.in-Ok.answer w c.alloc.new.stock c.enter.new.records.items c.count_step.new.counts c.owe_step.new.owed c.thread.result c.self.inside.room c.self.inside.stopped
+    (worker_plays c.args.line (ops.Alloc c.args.reg c.args.partition c.args.size) c.in-Ok.answer w c.alloc.new.stock c.enter.new.records.items c.count_step.new.counts
+    c.owe_step.new.owed c.thread.result c.self.inside.room c.self.inside.stopped
     c.enter.ensures.items c.thread.ensures c.in-Ok.ensures.does
-    (counts_by c.args.line (ops.Alloc c.args.reg c.args.partition c.args.size) c.in-Ok.answer w.stock c.alloc.new.stock w.counts c.count_step.new.counts (counts_after steps.Issue (owned_in (register_in c.alloc.new.stock.registers c.args.reg)) (made_seen c.in-Ok.answer) w.counts)
+    (counts_by c.args.line (ops.Alloc c.args.reg c.args.partition c.args.size) c.in-Ok.answer w.stock c.alloc.new.stock w.counts c.count_step.new.counts
+    (counts_after steps.Issue (owned_in (register_in c.alloc.new.stock.registers c.args.reg)) (made_seen c.in-Ok.answer) w.counts)
     w.owed c.owe_step.new.owed (owed_after steps.Issue (owned_in (register_in c.alloc.new.stock.registers c.args.reg)) (made_seen c.in-Ok.answer) w.owed) counted owes
-    (alloc_counts c.args.line c.in-Ok.answer w.stock c.alloc.new.stock w.counts c.self.invariant.2.count w.owed c.self.invariant.3.count c.args.reg c.args.partition c.args.size c.kept.ensures.stock c.requires.reg)))
+    (alloc_counts c.args.line c.in-Ok.answer w.stock c.alloc.new.stock w.counts c.self.invariant.2.count w.owed c.self.invariant.3.count c.args.reg c.args.partition
+    c.args.size c.kept.ensures.stock c.requires.reg)))
 
 pub returns-in-Ok-clause-goes_on : goal.returns-in-Ok-clause-goes_on
 returns-in-Ok-clause-goes_on g c =
-    let w : WorkerValue = record { stock = c.self.inside.stock; records = c.self.inside.records.items; room = c.self.inside.room; stopped = c.self.inside.stopped; counts = c.self.inside.counts; owed = c.self.inside.owed } in
-    subst (λ (z : WorkerValue). KeepsOn z (record { stock = c.alloc.new.stock; records = c.enter.new.records.items; room = c.self.inside.room; stopped = c.self.inside.stopped; counts = c.count_step.new.counts; owed = c.owe_step.new.owed }))
+    let w : WorkerValue = record {
+      stock = c.self.inside.stock;
+      records = c.self.inside.records.items;
+      room = c.self.inside.room;
+      stopped = c.self.inside.stopped;
+      counts = c.self.inside.counts;
+      owed = c.self.inside.owed;
+    } in
+    subst (λ (z : WorkerValue). KeepsOn z (record {
+      stock = c.alloc.new.stock;
+      records = c.enter.new.records.items;
+      room = c.self.inside.room;
+      stopped = c.self.inside.stopped;
+      counts = c.count_step.new.counts;
+      owed = c.owe_step.new.owed;
+    }))
     c.self.view_is
-    (worker_goes_on c.args.line (ops.Alloc c.args.reg c.args.partition c.args.size) c.in-Ok.answer w c.alloc.new.stock c.enter.new.records.items c.count_step.new.counts c.owe_step.new.owed _ c.enter.ensures.items (subst (λ (z : WorkerValue). CanPlayOp z) (sym c.self.view_is) c.requires.ready)
+    (worker_goes_on c.args.line (ops.Alloc c.args.reg c.args.partition c.args.size) c.in-Ok.answer w c.alloc.new.stock c.enter.new.records.items c.count_step.new.counts
+    c.owe_step.new.owed _ c.enter.ensures.items (subst (λ (z : WorkerValue). CanPlayOp z) (sym c.self.view_is) c.requires.ready)
     c.in-Ok.ensures.does)
 
 pub returns-in-Err-clause-same : goal.returns-in-Err-clause-same
 returns-in-Err-clause-same g c =
-    let w : WorkerValue = record { stock = c.self.inside.stock; records = c.self.inside.records.items; room = c.self.inside.room; stopped = c.self.inside.stopped; counts = c.self.inside.counts; owed = c.self.inside.owed } in
+    let w : WorkerValue = record {
+      stock = c.self.inside.stock;
+      records = c.self.inside.records.items;
+      room = c.self.inside.room;
+      stopped = c.self.inside.stopped;
+      counts = c.self.inside.counts;
+      owed = c.self.inside.owed;
+    } in
     ap (λ (s : StockValue). record w { stock = s; stopped = true; owed = c.owed_none-self-inside.result }) c.in-Err.ensures.same
     ∙ (ap (λ (os : List Owed). record w { stopped = true; owed = os }) c.owed_none-self-inside.ensures
     ∙ ap (λ (z : WorkerValue). record z { stopped = true; owed = none_owed }) c.self.view_is)

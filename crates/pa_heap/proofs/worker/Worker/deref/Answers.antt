@@ -16,22 +16,54 @@ invariant_of-self g c =
       omega (arith, long, c.self.invariant.1, c.deref-answer.ensures.budget),
       are_within (length c.self.inside.records.items) (length c.enter.new.records.items) c.self.inside.counts (omega arith) c.self.invariant.2,
       owed_within (length c.self.inside.records.items) (length c.enter.new.records.items) c.self.inside.owed (omega arith) c.self.invariant.3,
-      covered_still c.args.line (ops.Read c.args.reg c.args.place) c.deref-answer.result c.self.inside.stock c.deref-answer.new.stock c.self.inside.owed (c.deref-answer.ensures.does c.args.line) stake c.self.invariant.4,
+      covered_still c.args.line (ops.Read c.args.reg c.args.place) c.deref-answer.result c.self.inside.stock c.deref-answer.new.stock c.self.inside.owed
+          (c.deref-answer.ensures.does c.args.line) stake c.self.invariant.4,
     )
 
 pub returns-clause-plays : goal.returns-clause-plays
 returns-clause-plays g c =
-    let w : WorkerValue = record { stock = c.self.inside.stock; records = c.self.inside.records.items; room = c.self.inside.room; stopped = c.self.inside.stopped; counts = c.self.inside.counts; owed = c.self.inside.owed } in
-    subst (λ (z : WorkerValue). PlaysOp c.args.line (ops.Read c.args.reg c.args.place) c.deref-answer.result z (record { stock = c.deref-answer.new.stock; records = c.enter.new.records.items; room = c.self.inside.room; stopped = c.self.inside.stopped; counts = c.self.inside.counts; owed = c.self.inside.owed }))
+    let w : WorkerValue = record {
+      stock = c.self.inside.stock;
+      records = c.self.inside.records.items;
+      room = c.self.inside.room;
+      stopped = c.self.inside.stopped;
+      counts = c.self.inside.counts;
+      owed = c.self.inside.owed;
+    } in
+    subst (λ (z : WorkerValue). PlaysOp c.args.line (ops.Read c.args.reg c.args.place) c.deref-answer.result z
+    (record {
+      stock = c.deref-answer.new.stock;
+      records = c.enter.new.records.items;
+      room = c.self.inside.room;
+      stopped = c.self.inside.stopped;
+      counts = c.self.inside.counts;
+      owed = c.self.inside.owed;
+    }))
     c.self.view_is
-    (worker_plays c.args.line (ops.Read c.args.reg c.args.place) c.deref-answer.result w c.deref-answer.new.stock c.enter.new.records.items c.self.inside.counts c.self.inside.owed c.thread.result c.self.inside.room c.self.inside.stopped
+    (worker_plays c.args.line (ops.Read c.args.reg c.args.place) c.deref-answer.result w c.deref-answer.new.stock c.enter.new.records.items c.self.inside.counts
+    c.self.inside.owed c.thread.result c.self.inside.room c.self.inside.stopped
     c.enter.ensures.items c.thread.ensures (c.deref-answer.ensures.does c.args.line)
     (read_counts c.args.line c.deref-answer.result w.stock c.deref-answer.new.stock w.counts c.self.invariant.2.count w.owed c.self.invariant.3.count c.args.reg c.args.place))
 
 pub returns-clause-goes_on : goal.returns-clause-goes_on
 returns-clause-goes_on g c =
-    let w : WorkerValue = record { stock = c.self.inside.stock; records = c.self.inside.records.items; room = c.self.inside.room; stopped = c.self.inside.stopped; counts = c.self.inside.counts; owed = c.self.inside.owed } in
-    subst (λ (z : WorkerValue). KeepsOn z (record { stock = c.deref-answer.new.stock; records = c.enter.new.records.items; room = c.self.inside.room; stopped = c.self.inside.stopped; counts = c.self.inside.counts; owed = c.self.inside.owed }))
+    let w : WorkerValue = record {
+      stock = c.self.inside.stock;
+      records = c.self.inside.records.items;
+      room = c.self.inside.room;
+      stopped = c.self.inside.stopped;
+      counts = c.self.inside.counts;
+      owed = c.self.inside.owed;
+    } in
+    subst (λ (z : WorkerValue). KeepsOn z (record {
+      stock = c.deref-answer.new.stock;
+      records = c.enter.new.records.items;
+      room = c.self.inside.room;
+      stopped = c.self.inside.stopped;
+      counts = c.self.inside.counts;
+      owed = c.self.inside.owed;
+    }))
     c.self.view_is
-    (worker_goes_on c.args.line (ops.Read c.args.reg c.args.place) c.deref-answer.result w c.deref-answer.new.stock c.enter.new.records.items c.self.inside.counts c.self.inside.owed _ c.enter.ensures.items (subst (λ (z : WorkerValue). CanPlayOp z) (sym c.self.view_is) c.requires.ready)
+    (worker_goes_on c.args.line (ops.Read c.args.reg c.args.place) c.deref-answer.result w c.deref-answer.new.stock c.enter.new.records.items c.self.inside.counts
+    c.self.inside.owed _ c.enter.ensures.items (subst (λ (z : WorkerValue). CanPlayOp z) (sym c.self.view_is) c.requires.ready)
     (c.deref-answer.ensures.does c.args.line))

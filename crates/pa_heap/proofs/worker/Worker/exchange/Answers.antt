@@ -37,19 +37,50 @@ invariant_of-self-in-Err g c = (
 
 pub returns-in-Ok-clause-plays : goal.returns-in-Ok-clause-plays
 returns-in-Ok-clause-plays g c =
-    let w : WorkerValue = record { stock = c.self.inside.stock; records = c.self.inside.records.items; room = c.self.inside.room; stopped = c.self.inside.stopped; counts = c.self.inside.counts; owed = c.self.inside.owed } in
-    subst (λ (z : WorkerValue). PlaysOp c.args.line (ops.Swap c.args.cell c.args.reg) c.in-Ok.answer z (record { stock = c.exchange.new.stock; records = c.enter.new.records.items; room = c.self.inside.room; stopped = c.self.inside.stopped; counts = c.self.inside.counts; owed = c.self.inside.owed }))
+    let w : WorkerValue = record {
+      stock = c.self.inside.stock;
+      records = c.self.inside.records.items;
+      room = c.self.inside.room;
+      stopped = c.self.inside.stopped;
+      counts = c.self.inside.counts;
+      owed = c.self.inside.owed;
+    } in
+    subst (λ (z : WorkerValue). PlaysOp c.args.line (ops.Swap c.args.cell c.args.reg) c.in-Ok.answer z
+    (record {
+      stock = c.exchange.new.stock;
+      records = c.enter.new.records.items;
+      room = c.self.inside.room;
+      stopped = c.self.inside.stopped;
+      counts = c.self.inside.counts;
+      owed = c.self.inside.owed;
+    }))
     c.self.view_is
-    (worker_plays c.args.line (ops.Swap c.args.cell c.args.reg) c.in-Ok.answer w c.exchange.new.stock c.enter.new.records.items c.self.inside.counts c.self.inside.owed c.thread.result c.self.inside.room c.self.inside.stopped
+    (worker_plays c.args.line (ops.Swap c.args.cell c.args.reg) c.in-Ok.answer w c.exchange.new.stock c.enter.new.records.items c.self.inside.counts c.self.inside.owed
+    c.thread.result c.self.inside.room c.self.inside.stopped
     c.enter.ensures.items c.thread.ensures c.in-Ok.ensures.does
     (swap_counts c.args.line c.in-Ok.answer w.stock c.exchange.new.stock w.counts c.self.invariant.2.count w.owed c.self.invariant.3.count c.args.cell c.args.reg))
 
 pub returns-in-Ok-clause-goes_on : goal.returns-in-Ok-clause-goes_on
 returns-in-Ok-clause-goes_on g c =
-    let w : WorkerValue = record { stock = c.self.inside.stock; records = c.self.inside.records.items; room = c.self.inside.room; stopped = c.self.inside.stopped; counts = c.self.inside.counts; owed = c.self.inside.owed } in
-    subst (λ (z : WorkerValue). KeepsOn z (record { stock = c.exchange.new.stock; records = c.enter.new.records.items; room = c.self.inside.room; stopped = c.self.inside.stopped; counts = c.self.inside.counts; owed = c.self.inside.owed }))
+    let w : WorkerValue = record {
+      stock = c.self.inside.stock;
+      records = c.self.inside.records.items;
+      room = c.self.inside.room;
+      stopped = c.self.inside.stopped;
+      counts = c.self.inside.counts;
+      owed = c.self.inside.owed;
+    } in
+    subst (λ (z : WorkerValue). KeepsOn z (record {
+      stock = c.exchange.new.stock;
+      records = c.enter.new.records.items;
+      room = c.self.inside.room;
+      stopped = c.self.inside.stopped;
+      counts = c.self.inside.counts;
+      owed = c.self.inside.owed;
+    }))
     c.self.view_is
-    (worker_goes_on c.args.line (ops.Swap c.args.cell c.args.reg) c.in-Ok.answer w c.exchange.new.stock c.enter.new.records.items c.self.inside.counts c.self.inside.owed _ c.enter.ensures.items (subst (λ (z : WorkerValue). CanPlayOp z) (sym c.self.view_is) c.requires.ready)
+    (worker_goes_on c.args.line (ops.Swap c.args.cell c.args.reg) c.in-Ok.answer w c.exchange.new.stock c.enter.new.records.items c.self.inside.counts c.self.inside.owed
+    _ c.enter.ensures.items (subst (λ (z : WorkerValue). CanPlayOp z) (sym c.self.view_is) c.requires.ready)
     c.in-Ok.ensures.does)
 
 pub returns-in-Err-clause-stake : goal.returns-in-Err-clause-stake

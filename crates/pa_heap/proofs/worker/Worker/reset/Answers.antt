@@ -45,27 +45,59 @@ invariant_of-self-in-Err g c = (
 
 pub returns-in-Ok-clause-plays : goal.returns-in-Ok-clause-plays
 returns-in-Ok-clause-plays g c =
-    let w : WorkerValue = record { stock = c.self.inside.stock; records = c.self.inside.records.items; room = c.self.inside.room; stopped = c.self.inside.stopped; counts = c.self.inside.counts; owed = c.self.inside.owed } in
+    let w : WorkerValue = record {
+      stock = c.self.inside.stock;
+      records = c.self.inside.records.items;
+      room = c.self.inside.room;
+      stopped = c.self.inside.stopped;
+      counts = c.self.inside.counts;
+      owed = c.self.inside.owed;
+    } in
     let counted : c.count_step.new.counts ≡ counts_after steps.Reset (pointed_in (register_in w.stock.registers c.args.reg)) (done_seen c.in-Ok.answer) w.counts =
     c.count_step.ensures.counts ∙ ap (λ h. counts_after steps.Reset h c.done-seen.result w.counts) (c.pointed-handle.ensures ∙ ap pointed_in c.register.ensures)
     ∙ ap (λ s. counts_after steps.Reset (pointed_in (register_in w.stock.registers c.args.reg)) s w.counts) c.done-seen.ensures in
     let owes : c.owe_step.new.owed ≡ owed_after steps.Reset (pointed_in (register_in w.stock.registers c.args.reg)) (done_seen c.in-Ok.answer) w.owed =
     c.owe_step.ensures.owed ∙ ap (λ h. owed_after steps.Reset h c.done-seen.result w.owed) (c.pointed-handle.ensures ∙ ap pointed_in c.register.ensures)
     ∙ ap (λ s. owed_after steps.Reset (pointed_in (register_in w.stock.registers c.args.reg)) s w.owed) c.done-seen.ensures in
-    subst (λ (z : WorkerValue). PlaysOp c.args.line (ops.Reset c.args.reg) c.in-Ok.answer z (record { stock = c.play_reset.new.stock; records = c.enter.new.records.items; room = c.self.inside.room; stopped = c.self.inside.stopped; counts = c.count_step.new.counts; owed = c.owe_step.new.owed }))
+    subst (λ (z : WorkerValue). PlaysOp c.args.line (ops.Reset c.args.reg) c.in-Ok.answer z
+    (record {
+      stock = c.play_reset.new.stock;
+      records = c.enter.new.records.items;
+      room = c.self.inside.room;
+      stopped = c.self.inside.stopped;
+      counts = c.count_step.new.counts;
+      owed = c.owe_step.new.owed;
+    }))
     c.self.view_is
-    (worker_plays c.args.line (ops.Reset c.args.reg) c.in-Ok.answer w c.play_reset.new.stock c.enter.new.records.items c.count_step.new.counts c.owe_step.new.owed c.thread.result c.self.inside.room c.self.inside.stopped
+    (worker_plays c.args.line (ops.Reset c.args.reg) c.in-Ok.answer w c.play_reset.new.stock c.enter.new.records.items c.count_step.new.counts c.owe_step.new.owed
+    c.thread.result c.self.inside.room c.self.inside.stopped
     c.enter.ensures.items c.thread.ensures c.in-Ok.ensures.does
-    (counts_by c.args.line (ops.Reset c.args.reg) c.in-Ok.answer w.stock c.play_reset.new.stock w.counts c.count_step.new.counts (counts_after steps.Reset (pointed_in (register_in w.stock.registers c.args.reg)) (done_seen c.in-Ok.answer) w.counts)
+    (counts_by c.args.line (ops.Reset c.args.reg) c.in-Ok.answer w.stock c.play_reset.new.stock w.counts c.count_step.new.counts
+    (counts_after steps.Reset (pointed_in (register_in w.stock.registers c.args.reg)) (done_seen c.in-Ok.answer) w.counts)
     w.owed c.owe_step.new.owed (owed_after steps.Reset (pointed_in (register_in w.stock.registers c.args.reg)) (done_seen c.in-Ok.answer) w.owed) counted owes
     (reset_counts c.args.line c.in-Ok.answer w.stock c.play_reset.new.stock w.counts c.self.invariant.2.count w.owed c.self.invariant.3.count c.args.reg c.kept.ensures.stock c.requires.reg)))
 
 pub returns-in-Ok-clause-goes_on : goal.returns-in-Ok-clause-goes_on
 returns-in-Ok-clause-goes_on g c =
-    let w : WorkerValue = record { stock = c.self.inside.stock; records = c.self.inside.records.items; room = c.self.inside.room; stopped = c.self.inside.stopped; counts = c.self.inside.counts; owed = c.self.inside.owed } in
-    subst (λ (z : WorkerValue). KeepsOn z (record { stock = c.play_reset.new.stock; records = c.enter.new.records.items; room = c.self.inside.room; stopped = c.self.inside.stopped; counts = c.count_step.new.counts; owed = c.owe_step.new.owed }))
+    let w : WorkerValue = record {
+      stock = c.self.inside.stock;
+      records = c.self.inside.records.items;
+      room = c.self.inside.room;
+      stopped = c.self.inside.stopped;
+      counts = c.self.inside.counts;
+      owed = c.self.inside.owed;
+    } in
+    subst (λ (z : WorkerValue). KeepsOn z (record {
+      stock = c.play_reset.new.stock;
+      records = c.enter.new.records.items;
+      room = c.self.inside.room;
+      stopped = c.self.inside.stopped;
+      counts = c.count_step.new.counts;
+      owed = c.owe_step.new.owed;
+    }))
     c.self.view_is
-    (worker_goes_on c.args.line (ops.Reset c.args.reg) c.in-Ok.answer w c.play_reset.new.stock c.enter.new.records.items c.count_step.new.counts c.owe_step.new.owed _ c.enter.ensures.items (subst (λ (z : WorkerValue). CanPlayOp z) (sym c.self.view_is) c.requires.ready)
+    (worker_goes_on c.args.line (ops.Reset c.args.reg) c.in-Ok.answer w c.play_reset.new.stock c.enter.new.records.items c.count_step.new.counts c.owe_step.new.owed _
+    c.enter.ensures.items (subst (λ (z : WorkerValue). CanPlayOp z) (sym c.self.view_is) c.requires.ready)
     c.in-Ok.ensures.does)
 
 pub returns-in-Err-clause-stake : goal.returns-in-Err-clause-stake

@@ -8,7 +8,14 @@ use Rattle.pa_heap.proofs.worker.Worker.settle.Goals as goal
 
 pub returns-clause-settled : goal.returns-clause-settled
 returns-clause-settled g c =
-    let w : WorkerValue = record { stock = c.self.inside.stock; records = c.self.inside.records.items; room = c.self.inside.room; stopped = c.self.inside.stopped; counts = c.self.inside.counts; owed = c.self.inside.owed } in
+    let w : WorkerValue = record {
+      stock = c.self.inside.stock;
+      records = c.self.inside.records.items;
+      room = c.self.inside.room;
+      stopped = c.self.inside.stopped;
+      counts = c.self.inside.counts;
+      owed = c.self.inside.owed;
+    } in
     ap (λ (s : StockValue). record w { stock = s; owed = c.settle_totals.new.owed }) c.settle_totals.ensures.view
     ∙ (ap (λ (os : List Owed). record w { stock = record w.stock { view = after_settle_all w.owed w.stock.view }; owed = os }) c.settle_totals.ensures.settled
     ∙ ap (λ (z : WorkerValue). settled_worker z) c.self.view_is)
