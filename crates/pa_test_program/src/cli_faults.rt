@@ -96,7 +96,8 @@ pub fn answered<R: Threads + Wait + Sync>(
     with_write_refused(rt, alloc, line, text, u64::MAX)
 }
 
-// Each write of a command fails in turn, and what was written before it is there.
+// Each write of a command fails in turn, and what was written before it is there: each write but the last has a part of at most
+// 10 bytes, and the one after the last isn't made.
 fn writes_fail<R: Threads + Wait + Sync>(
     rt: &R,
     alloc: Global,
@@ -104,20 +105,22 @@ fn writes_fail<R: Threads + Wait + Sync>(
     text: &[u8],
 ) -> Result<(), Fail> {
     let (_, whole) = answered(rt, alloc, line, text)?;
-    let writes = (whole.len() as u64).div_ceil(10);
-    if writes == 0 {
-        return Err("nothing is written".into());
-    }
-    for number in 0..writes {
+    let mut before = 0;
+    for number in 0..whole.len() as u64 {
         let (status, part) = with_write_refused(rt, alloc, line, text, number)?;
-        if status != Status::WriteFault
-            || part.len() as u64 != number.saturating_mul(10)
-            || !whole.as_slice().starts_with(part.as_slice())
-        {
-            return Err("another status, or no first part".into());
+        let more = part.len().saturating_sub(before);
+        if !whole.as_slice().starts_with(part.as_slice()) || more > 10 {
+            return Err("no first part".into());
         }
+        if status == Status::Done && number > 0 && part.len() == whole.len() {
+            return Ok(());
+        }
+        if status != Status::WriteFault || (more == 0) != (number == 0) {
+            return Err("another status, or a write of nothing".into());
+        }
+        before = part.len();
     }
-    Ok(())
+    Err("more writes than bytes".into())
 }
 
 #[test]
