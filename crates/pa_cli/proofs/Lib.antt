@@ -10,3 +10,4 @@ mod Parsed
 mod Right
 mod Legal
 mod Written
+mod Firsts

@@ -1,12 +1,20 @@
--- What is proved of the texts of `replay`, `model` and `resize`.
-use Rattle.std.specs.Prelude.{◌≡◌, ℕ, ◌≤◌, List, ◌++◌, length}
+-- What is proved of the texts of `replay`, `model` and `resize`, and of the answers.
+use Rattle.std.specs.Prelude.{◌≡◌, ℕ, ◌<◌, ◌≤◌, ◌⊎◌, List, ◌++◌, length}
 use Rattle.pa_trace.specs.declared.script.Trace.{Trace}
 use Rattle.pa_trace.specs.Limits.{IsInput, IsWithinLimits}
 use Rattle.pa_record.specs.declared.run.Run.{Run}
 use Rattle.pa_script.specs.declared.script.Script.{Script}
 use Rattle.pa_audit_input.specs.Input.{most_audited}
 use Rattle.pa_audit_input.specs.Judged.{IsLegalInput}
+use Rattle.pa_rules.specs.declared.verdict.Clause.{Clause}
+use Rattle.pa_cli.specs.declared.command.Command.{Command}
+use Rattle.pa_cli.specs.declared.command.Command.TheVariants.{Audit, Dangling}
+use Rattle.pa_cli.specs.declared.status.Status.{Status}
+use Rattle.pa_cli.specs.declared.status.Status.TheVariants.{ReadFault, NotLegal}
+use Rattle.pa_cli.specs.Call.{Call}
+use Rattle.pa_cli.specs.Command.{AsksFor}
 use Rattle.pa_cli.specs.Output.{IsReplayText, IsModelText, IsResizeText}
+use Rattle.pa_cli.specs.Cause.{IsRightCall}
 
 -- what `replay` prints of a trace of one thread is what `model` prints of it
 abbrev pub OneThreadPrintsAsModel : Type 0
@@ -28,3 +36,14 @@ abbrev pub ReplayedIsLegalInput : Type 0
 ReplayedIsLegalInput =
     (t : Trace) (run : Run) (words front text : List ℕ) → IsInput t front → IsReplayText t run words text
     → length (front ++ text) ≤ most_audited → IsLegalInput (front ++ text)
+
+-- only `audit` and `dangling` are answered with a clause that a run breaks
+abbrev pub OnlyAuditRefutes : Type 0
+OnlyAuditRefutes =
+    (clause : Clause) (n : ℕ) (c : Call) (command : Command) → IsRightCall (NotLegal clause n) c → AsksFor command c.words
+    → (command ≡ Audit) ⊎ (command ≡ Dangling)
+
+-- if the count of the source's faults rose in a call, that is the answer, whatever else is wrong with what was read
+abbrev pub AReadFaultComesFirst : Type 0
+AReadFaultComesFirst =
+    (status : Status) (c : Call) → IsRightCall status c → c.source.faults < c.source_after.faults → status ≡ ReadFault

@@ -1,4 +1,5 @@
 ghost use Rattle.pa_cli.specs.Laws.{OneThreadPrintsAsModel, ResizedIsLegalInput, ModelledIsLegalInput, ReplayedIsLegalInput};
+ghost use Rattle.pa_cli.specs.Laws.{OnlyAuditRefutes, AReadFaultComesFirst};
 
 use pa_one_run::one_file_run;
 use pa_record::one_run_for_a_text;
@@ -17,4 +18,14 @@ pub fn printed_runs_are_legal_inputs()
     ensures resized { ResizedIsLegalInput }
     ensures modelled { ModelledIsLegalInput }
     ensures replayed { ReplayedIsLegalInput }
+{}
+
+/// Only `audit` and `dangling` are answered with a clause that a run breaks.
+pub fn only_audit_refutes()
+    ensures { OnlyAuditRefutes }
+{}
+
+/// If the count of the source's faults rose in a call, the status is `ReadFault`, whatever else is wrong with what was read.
+pub fn a_read_fault_comes_first()
+    ensures { AReadFaultComesFirst }
 {}
