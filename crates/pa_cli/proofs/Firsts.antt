@@ -1,14 +1,13 @@
 -- What the answers say of each other: who is told of a broken clause, and that a fault of the source comes first.
 use Rattle.std.proofs.Common.{arith, ◌≡◌, ◌∙◌, ◌<◌, ◌⊎◌, ℕ, List, inl, inr, refl, ap, sym, subst}
-use Rattle.pa_rules.specs.declared.verdict.Clause.{Clause}
 use Rattle.pa_cli.specs.declared.command.Command.{Command}
 use Rattle.pa_cli.specs.declared.command.Command.TheVariants.{Replay, Model, Audit, Dangling, Layout, Trace, Gen, Help, Version, Resize, Verdicts}
 use Rattle.pa_cli.specs.declared.status.Status.{Status}
 use Rattle.pa_cli.specs.declared.status.Status.TheVariants.{Done, BadCommand, BadLine, Limit, ReadFault, WriteFault, OutOfMemory, NotLegal}
 use Rattle.pa_cli.specs.Call.{Stream, Call}
-use Rattle.pa_cli.specs.Command.{Reading, ReadsNothing, ReadsTrace, ReadsScript, ReadsRun, ReadsSome, Needs, needs_of, most_read, AsksFor, AsksToRead}
+use Rattle.pa_cli.specs.Command.{ReadsNothing, ReadsRun, ReadsSome, Needs, needs_of, most_read, AsksFor, AsksToRead}
 use Rattle.pa_cli.specs.Output.{Output, output_with, IsOutputOf, IsOutput}
-use Rattle.pa_cli.specs.Cause.{IsRightCall, ReadsForInput}
+use Rattle.pa_cli.specs.Cause.{ReadsForInput}
 use Rattle.pa_cli.specs.Laws.{OnlyAuditRefutes, AReadFaultComesFirst}
 use Rattle.pa_cli.proofs.Commands.{one_needs}
 use Rattle.pa_cli.proofs.Refusing.{read_stopped}
