@@ -14,6 +14,7 @@ use Rattle.pa_execution.proofs.Playing.{sees_then}
 use Rattle.pa_runner.specs.declared.thread_lines.LineOp.{LineOp}
 use Rattle.pa_runner.specs.Playing.{in_phase}
 use Rattle.pa_runner.specs.Phases.{AreReady, HaveHeard, HeardFrom, HasPassed, queue_in, worker_in}
+use Rattle.pa_runner.proofs.Behind.{thread_is}
 
 module _ (t : Trace) (n : ℕ) (c : Course) (queues : List (List LineOp)) (before after : List WorkerValue) (first seat : View) (many : length before ≡ t.threads) (passed : HasPassed queues before after first seat)
     (aware : IsAware seat) where
@@ -28,7 +29,7 @@ module _ (t : Trace) (n : ℕ) (c : Course) (queues : List (List LineOp)) (befor
       courses_grow.ends t n c (worker_in before) (worker_in passed.ends) seat begun
       (λ k few.
       let (xs, all, of) = (passed.played k (omega arith)).plays (n + 1) in
-      (xs, all, of ∙ (ap (λ j. map (in_phase (n + 1) j) (queue_in queues k)) (ready.thread k (omega arith)) ∙ lines k few), passed.settled k (omega arith)))
+      (xs, all, of ∙ (ap (λ j. map (in_phase (n + 1) j) (queue_in queues k)) (thread_is queues before ready k (omega arith)) ∙ lines k few), passed.settled k (omega arith)))
       heard_all (λ some. sees_then (c.seats n) first seat (more some) passed.heard.grows)
 
   -- a worker that got its stake back from the main seat

@@ -6,6 +6,7 @@ mod Tracing
 mod PlayedLines
 mod MergedRecords
 mod Gathered
+mod Behind
 mod Passing
 mod Coursing
 mod Counted

@@ -12,6 +12,7 @@ use Rattle.pa_execution.proofs.Playing.{sees_then}
 use Rattle.pa_runner.specs.declared.thread_lines.LineOp.{LineOp}
 use Rattle.pa_runner.specs.Phases.{AreReady, ArePlayed, AreGoing, HaveStakes, HaveTold, HaveReturned, HasPassed, no_worker, queue_in, worker_in}
 use Rattle.pa_runner.specs.Reporting.{HasAsked}
+use Rattle.pa_runner.proofs.Behind.{thread_is}
 
 -- one more isn't stopped
 pub going_more : (ws : List WorkerValue) (i : ℕ) (d : WorkerValue) (b : Bool) → ((k : ℕ) → k < i → (worker_in ws k).stopped ≡ false) → i < length ws →
@@ -26,7 +27,7 @@ going_more ws i d b before low is off k less = elim (cases_eq k i) [
 -- each has its stake, whether it is stopped or not
 pub returned_stakes : (queues : List (List LineOp)) (before ends : List WorkerValue) → AreReady queues before → length ends ≡ length before → ArePlayed queues before ends → HaveStakes ends
 returned_stakes queues before ends ready count played = record {
-  thread = λ k low. (played k (omega arith)).keeps.thread ∙ ready.thread k (omega arith);
+  thread = λ k low. (played k (omega arith)).keeps.thread ∙ thread_is queues before ready k (omega arith);
   each = λ k low. (played k (omega arith)).keeps.stake;
 }
 

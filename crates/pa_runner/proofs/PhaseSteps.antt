@@ -33,6 +33,7 @@ use Rattle.pa_runner.specs.Reporting.{IsReported}
 use Rattle.pa_runner.specs.Tracing.{lines_by}
 use Rattle.pa_runner.specs.UnderWay.{BeginsPhase, IsAtPlace, IsUnderWay, IsReportOf}
 use Rattle.pa_runner.specs.Whole.{HasPlayed}
+use Rattle.pa_runner.proofs.Behind.{thread_is}
 use Rattle.pa_runner.proofs.Tracing.{phase_whole, phase_next, phase_same, all_seen}
 use Rattle.pa_runner.proofs.Counted.{count_few}
 use Rattle.pa_runner.proofs.Coursing.{phase_grows, phase_begins}
@@ -129,7 +130,7 @@ module _ (t : Trace) (i phase : ℕ) (workers : List WorkerValue) (queues : List
   pub ready_here : AreReady queues workers
   ready_here = record {
     count = going.count ∙ sym going.many;
-    thread = λ k low. let m = going.many in (going.each k (omega arith)).thread;
+    thread = λ k low. let m = going.many in (going.each k (omega arith)).thread ∙ omega arith;
     each = λ k low. let m = going.many in place_ready t i k (queue_in queues k) (worker_in workers k) (going.each k (omega arith));
     settled = λ k low. let m = going.many in (going.each k (omega arith)).settled;
   }
@@ -158,7 +159,7 @@ module _ (t : Trace) (i phase : ℕ) (workers : List WorkerValue) (queues : List
     none_then count = record {
       thread = λ k low.
           let few : k < length workers = omega arith in
-          ap (λ (w : WorkerValue). w.stock.thread) (passed.told.told k few) ∙ (same_thread (passed.played k few) ∙ ready_here.thread k few);
+          ap (λ (w : WorkerValue). w.stock.thread) (passed.told.told k few) ∙ (same_thread (passed.played k few) ∙ thread_is queues workers ready_here k few);
       each = λ k low. passed.told.none k (omega arith);
       settled = λ k low.
           let few : k < length workers = omega arith in

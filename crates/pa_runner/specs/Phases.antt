@@ -1,5 +1,5 @@
 -- The workers of all threads in a phase: those that can play, have played, have handed their stake over or got it back.
-use Rattle.std.specs.Prelude.{◌≡◌, ℕ, ◌<◌, ◌≤◌, List, [], true, false, length, slice_index_or}
+use Rattle.std.specs.Prelude.{◌≡◌, ℕ, ◌+◌, ◌<◌, ◌≤◌, List, [], true, false, length, slice_index_or}
 use Rattle.pa_region.specs.declared.view.View.{View}
 use Rattle.pa_region.specs.Start.{first_view}
 use Rattle.pa_region.specs.Views.{stake_of}
@@ -30,12 +30,17 @@ worker_in workers k = slice_index_or workers k no_worker
 abbrev pub queue_in : List (List LineOp) → ℕ → List LineOp
 queue_in queues k = slice_index_or queues k []
 
--- each worker's thread is its index, it can play its lines, and it owes nothing to the totals words
-pub record AreReady (queues : List (List LineOp)) (workers : List WorkerValue) : Type 0 where
+-- The workers from thread `first` on, with the queues of these threads: each worker's thread is its place from there, it can play its
+-- lines, and it owes nothing to the totals words.
+pub record AreReadyFrom (first : ℕ) (queues : List (List LineOp)) (workers : List WorkerValue) : Type 0 where
   pub count : length queues ≡ length workers
-  pub thread : (k : ℕ) → k < length workers → (worker_in workers k).stock.thread ≡ k
+  pub thread : (k : ℕ) → k < length workers → (worker_in workers k).stock.thread ≡ first + k
   pub each : (k : ℕ) → k < length workers → CanPlay (queue_in queues k) (worker_in workers k)
   pub settled : (k : ℕ) → k < length workers → (worker_in workers k).owed ≡ none_owed
+
+-- all workers are
+abbrev pub AreReady : List (List LineOp) → List WorkerValue → Type 0
+AreReady queues workers = AreReadyFrom 0 queues workers
 
 -- all workers are back from their lines
 abbrev pub ArePlayed : List (List LineOp) → (before after : List WorkerValue) → Type 0

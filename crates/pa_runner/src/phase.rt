@@ -1,5 +1,6 @@
-//! One phase: the workers play their lines, each on its own thread; then they lend their stakes to the main seat.
-ghost use Rattle.std.specs.Prelude.{◌≡◌, ℕ, ◌<◌, ◌≤◌, length};
+//! One phase: the workers play their lines, beside each other; then they lend their stakes to the main seat.
+ghost use Rattle.std.specs.Prelude.{◌≡◌, ◌↔◌, ℕ, ◌+◌, ◌<◌, ◌≤◌, Any, IsTrue, length};
+ghost use Rattle.std.specs.Thread.{IsSync};
 ghost use Rattle.pa_trace.specs.Limits.{most_threads};
 ghost use Rattle.pa_region.specs.Views.{HasEveryStake, stake_of};
 ghost use Rattle.pa_region.specs.Hands.{left_after, given_after, united};
@@ -12,54 +13,97 @@ ghost use Rattle.pa_op_specs.specs.Stocks.{IsForThread, listed_in};
 ghost use Rattle.pa_op_specs.specs.Workers.{HasItsStake, worker_with_view};
 ghost use Rattle.pa_execution.specs.Gathering.{IsMain, HasHeardSome, HasAnswered, told_worker};
 ghost use Rattle.pa_runner.specs.Playing.{CanPlay, IsPlayed};
-ghost use Rattle.pa_runner.specs.Phases.{AreReady, ArePlayed, HaveStakes, HaveTold, HaveNone, HaveHeard, queue_in, worker_in};
+ghost use Rattle.pa_runner.specs.Phases.{AreReady, AreReadyFrom, ArePlayed, HaveStakes, HaveTold, HaveNone, HaveHeard, worker_in};
 
 use crate::gate::Gate;
 use crate::phases::Playing;
 use crate::queue::Queue;
+use crate::thread_lines::LineOp;
 use pa_heap::Worker;
 use pa_region::{Mark, Name, Seat};
 use pa_thread_state::Heap;
 use std::marker::{Send, Sync};
 use std::sync::Wait;
-use std::thread;
-use std::thread::Threads;
+use std::thread::{Threads, join_mut};
 
 impl<R: Threads + Wait + Sync, N: Name + Send + Sync, G: Gate> Playing<'_, R, N, G> {
-    /// Each worker plays its lines, on a thread of its own if it gets one, and else on this one; no thread is started if at most one
-    /// worker has lines. It returns when all have played.
+    /// Each worker plays its lines, on a thread of its own if it gets one, and else on this one. It starts a thread for each worker
+    /// that has lines but for the last one of them, which plays on this one. It returns when all have played.
     pub fn play_phase(&self, workers: &mut [Worker<N>], queues: &[Queue])
-        requires many { (0 < length workers.old) × (length workers.old ≤ most_threads) }
+        requires few { length workers.old ≤ most_threads }
         requires ready { AreReady queues.now workers.old }
         ensures count { length workers.new ≡ length workers.old }
         ensures played { ArePlayed queues.now workers.old workers.new }
     {
-        let threads = threads_for(queues, workers.len());
-        let play = |k: usize, worker: &mut Worker<N>|
-            requires thread { (k < length queues.now) × (k < most_threads) × (worker.old.stock.thread ≡ k) }
-            requires ready { CanPlay (queue_in queues.now k) worker.old }
-            requires settled { worker.old.owed ≡ none_owed }
-            ensures { IsPlayed (queue_in queues.entry.now k) worker.old worker.new }
-        { self.play_lines(worker, k as u32, queues[k].as_slice()) };
-        thread::for_each_mut(self.rt, workers, threads, &play);
+        self.play_from(0, workers, queues);
+    }
+
+    // The workers from this thread on play their lines. If the first of them has lines and one behind it too, they play beside each
+    // other; else all that the first one does is done here, before the others play.
+    #[cycle(playing)]
+    fn play_from(&self, first: u32, workers: &mut [Worker<N>], queues: &[Queue])
+        requires few { first + length workers.old ≤ most_threads }
+        requires ready { AreReadyFrom first queues.now workers.old }
+        ensures count { length workers.new ≡ length workers.old }
+        ensures played { ArePlayed queues.now workers.old workers.new }
+    {
+        let Some((worker, rest)) = workers.split_first_mut() else {
+            return;
+        };
+        let Some((queue, others)) = queues.split_first() else {
+            return;
+        };
+        let lines = queue.as_slice();
+        if lines.is_empty() || !have_lines(others) {
+            self.play_lines(worker, first, lines);
+            self.play_from(first + 1, rest, others);
+        } else {
+            self.play_beside(first, worker, lines, rest, others);
+        }
+    }
+
+    // The worker of this thread plays its lines on a thread of its own if it gets one, and else on this one, after those behind it.
+    #[cycle(playing)]
+    fn play_beside(
+        &self,
+        first: u32,
+        worker: &mut Worker<N>,
+        lines: &[LineOp],
+        rest: &mut [Worker<N>],
+        others: &[Queue],
+    )
+        requires few { first + 1 + length rest.old ≤ most_threads }
+        requires thread { worker.old.stock.thread ≡ first }
+        requires ready { CanPlay lines.now worker.old }
+        requires settled { worker.old.owed ≡ none_owed }
+        requires others { AreReadyFrom (first + 1) others.now rest.old }
+        ensures played { IsPlayed lines.now worker.old worker.new }
+        ensures count { length rest.new ≡ length rest.old }
+        ensures others { ArePlayed others.now rest.old rest.new }
+    {
+        let mut one = ||
+            requires sync { IsSync R.row × IsSync G.row }
+            requires thread { worker.now.stock.thread ≡ first }
+            requires ready { CanPlay lines.now worker.now }
+            requires settled { worker.now.owed ≡ none_owed }
+            ensures { IsPlayed lines.entry.now worker.entry.now worker.exit.now }
+        { self.play_lines(worker, first, lines) };
+        let mut behind = ||
+            requires sync { IsSync R.row × IsSync G.row }
+            requires few { first + 1 + length rest.now ≤ most_threads }
+            requires ready { AreReadyFrom (first + 1) others.now rest.now }
+            ensures count { length rest.exit.now ≡ length rest.entry.now }
+            ensures played { ArePlayed others.entry.now rest.entry.now rest.exit.now }
+        { self.play_from(first + 1, rest, others) };
+        join_mut(self.rt, &mut one, &mut behind);
     }
 }
 
-// How many threads to use for these lines: one, which is the caller's, if at most one worker has any; else one for each worker.
-fn threads_for(queues: &[Queue], workers: usize) -> usize
-    requires { 0 < workers }
-    ensures { (0 < result) × (result ≤ workers) }
+// Whether some queue has a line.
+fn have_lines(queues: &[Queue]) -> bool
+    ensures { IsTrue result ↔ Any (λ lines. 0 < length lines) queues.now }
 {
-    let mut found = false;
-    for queue in queues {
-        if !queue.as_slice().is_empty() {
-            if found {
-                return workers;
-            }
-            found = true;
-        }
-    }
-    1
+    queues.iter().any(|queue| !queue.as_slice().is_empty())
 }
 
 /// Each worker hands its stake to the main seat, which then has every stake, each with its log, and has seen what they have seen.
