@@ -14,8 +14,7 @@ use crate::printed::Printed;
 use crate::status::Status;
 use pa_io::Source;
 use pa_machine::OutOfMemory;
-use pa_record::write_run;
-use pa_resize::{Verdict, expand};
+use pa_resize::{Verdict, expand, expand_text};
 use pa_script::{Script, read_script};
 use pa_text::{Text, push_byte, push_bytes, push_number};
 use pa_trace::{MOST_BYTES, write_trace};
@@ -68,10 +67,9 @@ fn write_resized(alloc: Global, script: &Script) -> Result<Printed, OutOfMemory>
     requires { IsScriptWithin script.now }
     ensures { IfOk result (λ text. IsResizeText script.now (printed_bytes text)) }
 {
-    let expanded = expand(alloc, script)?;
+    let expanded = expand_text(alloc, script)?;
     let trace = write_trace(alloc, &expanded.trace)?;
-    let run = write_run(alloc, &expanded.run)?;
-    Ok(Printed::Parts(trace, run))
+    Ok(Printed::Parts(trace, expanded.run))
 }
 
 // The text of what each resize of the script comes to.

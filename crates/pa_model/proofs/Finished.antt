@@ -1,17 +1,16 @@
 -- The end of a player that others drive: its run goes on from what was played.
-use Rattle.std.proofs.Common.{◌≡◌, ℕ, List, [], ◌++◌, refl, sym, ap, ◌∙◌, subst, arith}
+use Rattle.std.proofs.Common.{◌≡◌, ℕ, List, [], refl, sym, ap, subst, arith}
 use Rattle.std.proofs.lemmas.List.{append-nil}
 use Rattle.pa_trace.specs.declared.script.Trace.{Trace}
 use Rattle.pa_record.specs.declared.run.Run.{Run}
-use Rattle.pa_rules.specs.Told.{Told, told_by, records_of}
+use Rattle.pa_rules.specs.Told.{told_by, records_of}
 use Rattle.pa_player.specs.Asks.{CanEnd}
 use Rattle.pa_player.specs.Changes.{phase_ended}
 use Rattle.pa_player.specs.Playing.{journals}
-use Rattle.pa_player.specs.Told.{Lists, IsToldRun, history_in}
+use Rattle.pa_player.specs.Told.{IsToldRun, IsToldText, history_in}
 use Rattle.pa_player.proofs.Ended.{lists_of, told_same}
 use Rattle.pa_player.proofs.Reporting.{end_ready}
-use Rattle.pa_model.specs.declared.player.Player.{Player}
-use Rattle.pa_model.specs.Player.{trace_so_far, records_so_far, IsGoing, GoesOnFrom, IsFinished}
+use Rattle.pa_model.specs.Player.{Player, trace_so_far, records_so_far, IsGoing, GoesOnFrom, IsFinished, IsPrinted}
 use Rattle.pa_model.proofs.AllTold.{all_told}
 
 pub can_end : (p : Player) → IsGoing p → CanEnd p.inner
@@ -38,3 +37,6 @@ finishes p run going told =
       records = records;
       goes_on = subst (λ ps. GoesOnFrom p ps (told_by run)) (sym records) (subst (GoesOnFrom p (records_so_far p)) (sym is) on);
     }
+
+pub is_printed : (p : Player) (text : List ℕ) → IsGoing p → IsToldText (phase_ended p.inner).told text → IsPrinted p (trace_so_far p) text
+is_printed p text going is = record { run = is.run; finished = finishes p is.run going is.lists; printed = is.text }

@@ -1,30 +1,25 @@
 -- A player that others drive: before the first line, and a line more.
-use Rattle.std.proofs.Common.{◌≡◌, ℕ, ◌+◌, ◌<◌, ◌≤◌, List, [], ◌∷◌, ◌++◌, length, map, Option, Some, None, refl, sym, ap, ap₂, ◌∙◌, subst, arith, append_assoc}
+use Rattle.std.proofs.Common.{◌≡◌, ℕ, ◌+◌, ◌<◌, List, [], ◌∷◌, ◌++◌, length, map, Option, Some, None, refl, sym, ap, ap₂, ◌∙◌, subst, arith, append_assoc}
 use Rattle.std.specs.List.{AllByRecursion}
 use Rattle.std.proofs.lemmas.List.{append-nil, map-append, length_push}
 use Rattle.pa_trace.specs.declared.line.Head.{Head}
 use Rattle.pa_trace.specs.declared.script.Line.{Line}
 use Rattle.pa_trace.specs.declared.script.Line.TheVariants.{Phase, Do}
-use Rattle.pa_trace.specs.declared.script.Op.{Op}
-use Rattle.pa_trace.specs.declared.script.Op.TheVariants.{Read}
 use Rattle.pa_trace.specs.Limits.{IsHeadWithin, IsLineWithin}
 use Rattle.pa_record.specs.declared.entry.Answer.{Answer}
 use Rattle.pa_record.specs.declared.entry.Entry.{Entry}
 use Rattle.pa_rules.specs.declared.played.Played.{Played}
 use Rattle.pa_rules.specs.Legal.{phases_in}
 use Rattle.pa_rules.specs.Played.{OpLine, op_lines, AreLines, entry_of, played}
-use Rattle.pa_rules.specs.Told.{Told}
 use Rattle.pa_rules.proofs.Recorded.{records_are_lines}
 use Rattle.pa_slot_effects.specs.Turns.{played_at}
 use Rattle.pa_slot_effects.proofs.Lines.{lines_more}
-use Rattle.pa_player.specs.Player.{Player as LinePlayer}
 use Rattle.pa_player.specs.Begun.{IsBegun}
 use Rattle.pa_player.specs.Playing.{journals, IsPlaying}
 use Rattle.pa_player.specs.Plays.{CanGoOn, IsReady, TellsOn, GoesTo, record_of}
 use Rattle.pa_player.specs.Told.{history_in}
 use Rattle.pa_player.proofs.Start.{begins_playing}
-use Rattle.pa_model.specs.declared.player.Player.{Player}
-use Rattle.pa_model.specs.Player.{records_so_far, WasPlayed, IsGoing, IsNew, GoesOnFrom, IsLater, IsRecorded, PlaysLine}
+use Rattle.pa_model.specs.Player.{Player, records_so_far, WasPlayed, IsGoing, IsNew, IsLater, IsRecorded, PlaysLine}
 
 -- ---- before the first line
 

@@ -1,39 +1,34 @@
 -- What a register owns after the lines so far, in each run that goes on from there; and the read of an owner's first word.
-use Rattle.std.proofs.Common.{◌≡◌, ℕ, ◌+◌, ◌<◌, ◌≤◌, List, [], ◌∷◌, ◌++◌, length, Option, Some, None, Contains, refl, sym, ap, ◌∙◌, subst, arith, zero, suc}
+use Rattle.std.proofs.Common.{◌≡◌, ℕ, ◌<◌, List, [], ◌∷◌, ◌++◌, length, Option, Some, None, Contains, refl, sym, ap, ◌∙◌, subst, arith, zero, suc}
 use Rattle.std.proofs.lemmas.List.Elements.{Contains-append_left}
-use Rattle.pa_machine.specs.declared.title.Title.{Title}
 use Rattle.pa_machine.specs.declared.word.SlotName.{SlotName}
 use Rattle.pa_machine.proofs.Runs.{same_slot_yes}
 use Rattle.pa_trace.specs.declared.script.Line.{Line}
 use Rattle.pa_trace.specs.declared.script.Line.TheVariants.{Phase, Do}
 use Rattle.pa_trace.specs.declared.script.Op.TheVariants.{Read}
 use Rattle.pa_record.specs.declared.entry.Answer.{Answer}
-use Rattle.pa_record.specs.declared.entry.Answer.TheVariants.{Made, Value}
+use Rattle.pa_record.specs.declared.entry.Answer.TheVariants.{Made}
 use Rattle.pa_record.specs.declared.entry.Seen.{Seen}
-use Rattle.pa_record.specs.declared.history.CellEntry.{CellEntry}
-use Rattle.pa_record.specs.declared.root.RootEntry.{RootEntry}
 use Rattle.pa_record.specs.Spans.{name_of}
 use Rattle.pa_record.proofs.PoolSteps.{slice_get_more}
 use Rattle.pa_rules.specs.declared.played.Played.{Played}
 use Rattle.pa_rules.specs.Cells.{IsExchange}
-use Rattle.pa_rules.specs.Registers.{AllRegs, RowsTo, no_regs, made_of, usable_or, usable_in}
+use Rattle.pa_rules.specs.Registers.{RowsTo, no_regs, made_of, usable_or, usable_in}
 use Rattle.pa_rules.specs.Report.{HasSize}
 use Rattle.pa_rules.specs.Roots.{Journals}
-use Rattle.pa_rules.specs.Told.{Told}
 use Rattle.pa_slot_effects.specs.Known.{facts_of}
 use Rattle.pa_slot_effects.proofs.Rows.{rows_end, usable_made}
 use Rattle.pa_slot_effects.proofs.Words.{used_made}
 use Rattle.pa_player.specs.declared.handle.Handle.{Handle}
 use Rattle.pa_player.specs.declared.handle.Handle.TheVariants.{Empty, Own, Ref, Freed, Cleared}
 use Rattle.pa_player.specs.declared.table.Slot.{Slot}
-use Rattle.pa_player.specs.Playing.{journals, register_at, reg_of, shown, IsPlaying}
+use Rattle.pa_player.specs.Playing.{journals, register_at, reg_of, shown}
 use Rattle.pa_player.specs.Plays.{GoesTo, ReadsOwnOn}
 use Rattle.pa_player.specs.Tables.{slot_at, title_owned, IsIn}
 use Rattle.pa_player.proofs.Ended.{size_on}
 use Rattle.pa_player.proofs.Going.{let_out_sized}
 use Rattle.pa_model.specs.declared.player.Handed.{Handed}
-use Rattle.pa_model.specs.declared.player.Player.{Player}
-use Rattle.pa_model.specs.Player.{records_so_far, IsGoing, GoesOnFrom, OwnsNothing, IsOwned, AreRegsAfter, Owns, ReadsOwned, owned_of, owned_by}
+use Rattle.pa_model.specs.Player.{Player, records_so_far, IsGoing, IsOwned, AreRegsAfter, Owns, ReadsOwned, owned_of, owned_by}
 use Rattle.pa_model.proofs.Going.{records_are}
 
 -- ---- usable numbers

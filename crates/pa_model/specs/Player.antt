@@ -1,6 +1,5 @@
 -- A player that others drive, line by line: what it holds, and what each call leaves.
 use Rattle.std.specs.Prelude.{◌≡◌, ℕ, ◌+◌, List, [], ◌∷◌, ◌++◌, length, Option, Some, None}
-use Rattle.pa_machine.specs.declared.word.SlotName.{SlotName}
 use Rattle.pa_machine.specs.declared.title.Title.{Title}
 use Rattle.pa_trace.specs.declared.line.Head.{Head}
 use Rattle.pa_trace.specs.declared.script.Line.{Line}
@@ -15,7 +14,7 @@ use Rattle.pa_record.specs.declared.entry.Answer.TheVariants.{Value}
 use Rattle.pa_record.specs.declared.history.CellEntry.{CellEntry}
 use Rattle.pa_record.specs.declared.root.RootEntry.{RootEntry}
 use Rattle.pa_record.specs.declared.run.Run.{Run}
-use Rattle.pa_record.specs.RunText.{IsPrintable}
+use Rattle.pa_record.specs.RunText.{IsPrintable, IsRunText}
 use Rattle.pa_record.specs.Spans.{name_of}
 use Rattle.pa_rules.specs.declared.played.Played.{Played}
 use Rattle.pa_rules.specs.declared.register.Register.TheVariants.{Empty, Own, Ref, Freed, Cleared}
@@ -30,11 +29,15 @@ use Rattle.pa_core_run.specs.Playing.{HasCoreRun}
 use Rattle.pa_player.specs.Player.{Player as LinePlayer}
 use Rattle.pa_player.specs.Playing.{journals, register_at, IsPlaying}
 use Rattle.pa_player.specs.Tables.{title_owned}
-use Rattle.pa_player.specs.Told.{history_in}
+use Rattle.pa_player.specs.Told.{Lists, history_in}
 use Rattle.pa_model.specs.declared.player.Handed.{Handed}
-use Rattle.pa_model.specs.declared.player.Player.{Player}
+use Rattle.pa_model.specs.declared.player.Player.{Player as PlayerTo}
 
 -- ---- what a player holds
+
+-- a player, whose output is seen as lists
+abbrev pub Player : Type 0
+Player = PlayerTo Lists
 
 -- the lines so far as a trace, and their records with the ops
 abbrev pub trace_so_far : Player → Trace
@@ -143,3 +146,9 @@ pub record IsFinished (p : Player) (t : Trace) (run : Run) : Type 0 where
   pub printable : IsPrintable run
   pub records : records_of t (told_by run) ≡ records_so_far p
   pub goes_on : GoesOnFrom p (records_of t (told_by run)) (told_by run)
+
+-- the text is that of such a run
+pub record IsPrinted (p : Player) (t : Trace) (text : List ℕ) : Type 0 where
+  pub run : Run
+  pub finished : IsFinished p t run
+  pub printed : IsRunText run text

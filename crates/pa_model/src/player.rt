@@ -1,18 +1,20 @@
 ghost use Rattle.std.specs.Prelude.{◌≡◌, ◌<◌, IfOk, IfSome, length};
+ghost use Rattle.pa_trace.specs.Unread.{trace_with};
 ghost use Rattle.pa_trace.specs.Limits.{IsHeadWithin, IsLineWithin, register_count};
 ghost use Rattle.pa_record.specs.declared.run.Run.{Run};
-ghost use Rattle.pa_model.specs.Player.{IsFinished, IsGoing, IsNew, Owns, PlaysLine, ReadsOwned, owned_by, owned_of, trace_so_far};
+ghost use Rattle.pa_model.specs.Player.{IsFinished, IsGoing, IsNew, IsPrinted, Owns, PlaysLine, ReadsOwned, owned_by, owned_of, trace_so_far};
 
 use pa_machine::{OutOfMemory, SlotName, Title};
-use pa_player::{ListOutput, Player as LinePlayer, Told};
+use pa_player::{ListOutput, Output, Player as LinePlayer, TextOutput, Told};
 use pa_record::{Answer, Run};
 use pa_trace::{Head, Line, Lines, Trace};
 use std::alloc::Global;
 
-/// A trace that is played line by line, by lines that a caller chooses as it goes. It keeps its lines.
+/// A trace that is played line by line, by lines that a caller chooses as it goes. It keeps its lines. Its run is kept as lists, or
+/// printed as it is played.
 #[derive(Drop)]
-pub struct Player {
-    pub(crate) inner: LinePlayer<Told<ListOutput>>,
+pub struct Player<T> {
+    pub(crate) inner: LinePlayer<T>,
     pub(crate) head: Head,
     pub(crate) lines: Vec<Line>,
     pub(crate) alloc: Global,
@@ -26,7 +28,7 @@ pub struct Handed {
     pub partition: u32,
 }
 
-impl Player {
+impl Player<Told<ListOutput>> {
     /// No line yet: `region` super pages, 1 to 16, `partitions`, 1 to 4, and `threads`, 1 to 16. Out of memory is the only
     /// error.
     pub fn new(
@@ -34,7 +36,7 @@ impl Player {
         region: u32,
         partitions: u32,
         threads: u32,
-    ) -> Result<Player, OutOfMemory>
+    ) -> Result<Player<Told<ListOutput>>, OutOfMemory>
         requires { IsHeadWithin region partitions threads }
         ensures { IfOk result (IsNew (record { region = region; partitions = partitions; threads = threads })) }
     {
@@ -51,6 +53,61 @@ impl Player {
         })
     }
 
+    /// The run of the lines, in their order. Out of memory is the only error.
+    pub fn finish(self) -> Result<Run, OutOfMemory>
+        requires { IsGoing self }
+        ensures { IfOk result (IsFinished self (trace_so_far self)) }
+    {
+        let (_, run) = self.finish_traced()?;
+        Ok(run)
+    }
+
+    /// The trace of the lines, and its run, in their order. Out of memory is the only error.
+    pub fn finish_traced(self) -> Result<(Trace, Run), OutOfMemory>
+        requires { IsGoing self }
+        ensures { IfOk result (λ both. IsFinished self both.0 both.1) }
+    {
+        let run = self.inner.finish()?.into_run(self.alloc)?;
+        Ok((trace_of(self.head, self.lines), run))
+    }
+}
+
+impl Player<Told<TextOutput>> {
+    /// No line yet, as in `new`, of a player that prints its run. Memory is reserved for the records of so many lines.
+    pub fn printing(
+        alloc: Global,
+        region: u32,
+        partitions: u32,
+        threads: u32,
+        lines: usize,
+    ) -> Result<Player<Told<TextOutput>>, OutOfMemory>
+        requires { IsHeadWithin region partitions threads }
+        ensures { IfOk result (IsNew (record { region = region; partitions = partitions; threads = threads })) }
+    {
+        let told = Told::new(alloc, TextOutput::new(alloc, partitions, lines)?)?;
+        Ok(Player {
+            inner: LinePlayer::new(alloc, region, partitions, threads, told)?,
+            head: Head {
+                region,
+                partitions,
+                threads,
+            },
+            lines: Vec::new(alloc),
+            alloc,
+        })
+    }
+
+    /// The trace of the lines, and the text of its run, in their order. Out of memory is the only error.
+    pub fn finish_printed(self) -> Result<(Trace, Vec<u8>), OutOfMemory>
+        requires { IsGoing self }
+        ensures { IfOk result (λ both. IsPrinted self both.0 both.1.items) }
+    {
+        let run = self.inner.finish()?.into_text()?;
+        Ok((trace_of(self.head, self.lines), run))
+    }
+}
+
+impl<O: Output> Player<Told<O>> {
     /// Plays a line. Returns its answer, and none of a line that begins a phase. Out of memory is the only error; after it
     /// the player can't be used.
     pub fn line(&mut self, line: Line) -> Result<Option<Answer>, OutOfMemory>
@@ -76,29 +133,17 @@ impl Player {
     {
         owned_by(self.inner.owned(thread, reg))
     }
+}
 
-    /// The run of the lines, in their order. Out of memory is the only error.
-    pub fn finish(self) -> Result<Run, OutOfMemory>
-        requires { IsGoing self }
-        ensures { IfOk result (IsFinished self (trace_so_far self)) }
-    {
-        let (_, run) = self.finish_traced()?;
-        Ok(run)
-    }
-
-    /// The trace of the lines, and its run, in their order. Out of memory is the only error.
-    pub fn finish_traced(self) -> Result<(Trace, Run), OutOfMemory>
-        requires { IsGoing self }
-        ensures { IfOk result (λ both. IsFinished self both.0 both.1) }
-    {
-        let run = self.inner.finish()?.into_run(self.alloc)?;
-        let trace = Trace {
-            region: self.head.region,
-            partitions: self.head.partitions,
-            threads: self.head.threads,
-            lines: Lines::of(self.lines),
-        };
-        Ok((trace, run))
+// The trace with this head and these lines.
+fn trace_of(head: Head, lines: Vec<Line>) -> Trace
+    ensures { result ≡ trace_with head lines.items }
+{
+    Trace {
+        region: head.region,
+        partitions: head.partitions,
+        threads: head.threads,
+        lines: Lines::of(lines),
     }
 }
 

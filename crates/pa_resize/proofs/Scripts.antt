@@ -13,8 +13,7 @@ use Rattle.pa_script.specs.declared.script.ScriptLine.{ScriptLine}
 use Rattle.pa_script.specs.Limits.{IsScriptWithin, IsScriptLineWithin}
 use Rattle.pa_rules.specs.declared.played.Played.{Played}
 use Rattle.pa_rules.specs.Told.{Told, told_by, records_of}
-use Rattle.pa_model.specs.declared.player.Player.{Player}
-use Rattle.pa_model.specs.Player.{trace_so_far, IsNew, IsFinished}
+use Rattle.pa_model.specs.Player.{Player, trace_so_far, IsNew, IsFinished}
 use Rattle.pa_resize.specs.declared.verdict.Verdict.{Verdict}
 use Rattle.pa_resize.specs.Expansion.{ScriptPiece, IsPiece, ArePieces, verdict_noted, verdicts_of, IsExpanded}
 use Rattle.pa_resize.specs.Playing.{PlaysScriptLine, IsScriptPlayed, script_head}

@@ -18,8 +18,7 @@ use Rattle.pa_rules.specs.Registers.{AllRegs}
 use Rattle.pa_rules.specs.Roots.{Journals}
 use Rattle.pa_rules.specs.Sizes.{slot_size_for}
 use Rattle.pa_model.specs.declared.player.Handed.{Handed}
-use Rattle.pa_model.specs.declared.player.Player.{Player}
-use Rattle.pa_model.specs.Player.{records_so_far, IsGoing, IsRecorded, PlaysLine, Owns, ReadsOwned, owned_by}
+use Rattle.pa_model.specs.Player.{Player, records_so_far, IsGoing, IsRecorded, PlaysLine, Owns, ReadsOwned, owned_by}
 use Rattle.pa_resize.specs.declared.verdict.Verdict.{Verdict}
 use Rattle.pa_resize.specs.declared.verdict.Verdict.TheVariants.{NotOwn, Shared, TooLarge, Kept, NoRoom, Moved}
 use Rattle.pa_resize.specs.Expansion.{did, spare, moving, Object, IsLook, NeedsOther, HasNoRoom, IsResized, IsRecordOf}

@@ -13,6 +13,7 @@ use Rattle.pa_record.specs.declared.entry.Seen.{Seen}
 use Rattle.pa_record.specs.declared.entry.Answer.{Answer}
 use Rattle.pa_record.specs.declared.entry.Answer.TheVariants.{Value, Full}
 use Rattle.pa_record.specs.declared.run.Run.{Run}
+use Rattle.pa_record.specs.RunText.{IsRunText}
 use Rattle.pa_script.specs.declared.script.Script.{Script}
 use Rattle.pa_script.specs.declared.script.ScriptLine.{ScriptLine}
 use Rattle.pa_script.specs.declared.script.ScriptLine.TheVariants.{Plain, Resize}
@@ -25,6 +26,7 @@ use Rattle.pa_rules.specs.Report.{HasSize}
 use Rattle.pa_rules.specs.Roots.{Journals}
 use Rattle.pa_rules.specs.Sizes.{slot_size_for}
 use Rattle.pa_rules.specs.Told.{Told, told_by, records_of}
+use Rattle.pa_core_run.specs.Playing.{HasCoreRun}
 use Rattle.pa_model.specs.Player.{OwnsNothing, AreRegsAfter}
 use Rattle.pa_resize.specs.declared.verdict.Verdict.{Verdict}
 use Rattle.pa_resize.specs.declared.verdict.Verdict.TheVariants.{NotOwn, Shared, TooLarge, Kept, NoRoom, Moved}
@@ -141,3 +143,11 @@ pub record IsExpanded (s : Script) (t : Trace) (run : Run) (vs : List (ℕ × Ve
   pub records : flat_map (λ (x : ScriptPiece). x.records) pieces ≡ records_of t (told_by run)
   pub each : ArePieces (records_of t (told_by run)) (told_by run) [] pieces
   pub verdicts : vs ≡ verdicts_of 2 pieces
+
+-- the script comes to this trace, and this is the text of its run in the order of its lines, which has a run of the core
+pub record IsExpandedText (s : Script) (t : Trace) (text : List ℕ) : Type 0 where
+  pub run : Run
+  pub verdicts : List (ℕ × Verdict)
+  pub expanded : IsExpanded s t run verdicts
+  pub core : HasCoreRun t run
+  pub printed : IsRunText run text

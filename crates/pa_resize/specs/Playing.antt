@@ -11,8 +11,7 @@ use Rattle.pa_rules.specs.declared.played.Played.{Played}
 use Rattle.pa_rules.specs.Legal.{phases_in}
 use Rattle.pa_rules.specs.Registers.{AllRegs}
 use Rattle.pa_rules.specs.Told.{Told}
-use Rattle.pa_model.specs.declared.player.Player.{Player}
-use Rattle.pa_model.specs.Player.{records_so_far, IsGoing, GoesOnFrom, IsLater, AreRegsAfter}
+use Rattle.pa_model.specs.Player.{Player, records_so_far, IsGoing, GoesOnFrom, IsLater, AreRegsAfter}
 use Rattle.pa_resize.specs.declared.verdict.Verdict.{Verdict}
 use Rattle.pa_resize.specs.Expansion.{did, ScriptPiece, IsResized, IsPiece, ArePieces, verdicts_of}
 

@@ -13,13 +13,14 @@ use crate::verdict::Verdict;
 use pa_direct::GREATEST_SIZE;
 use pa_machine::{OutOfMemory, refs};
 use pa_model::Player;
+use pa_player::{Output, Told};
 use pa_record::{Answer, Seen};
 use pa_script::{NAMED, ScriptLine};
 use pa_trace::{Line, Op};
 
 // Plays a line of a script. Returns its verdict if it is a resize.
-pub(crate) fn play_line(
-    player: &mut Player,
+pub(crate) fn play_line<O: Output>(
+    player: &mut Player<Told<O>>,
     line: ScriptLine,
 ) -> Result<Option<Verdict>, OutOfMemory>
     requires going { IsGoing player.old }
@@ -40,7 +41,12 @@ pub(crate) fn play_line(
 }
 
 // Gives what a register owns another size.
-fn resize(player: &mut Player, thread: u32, reg: u32, size: u32) -> Result<Verdict, OutOfMemory>
+fn resize<O: Output>(
+    player: &mut Player<Told<O>>,
+    thread: u32,
+    reg: u32,
+    size: u32,
+) -> Result<Verdict, OutOfMemory>
     requires going { IsGoing player.old }
     requires few { length player.old.lines.items + 6 ≤ 65535 }
     requires thread { thread < player.old.head.threads }
@@ -74,7 +80,11 @@ fn resize(player: &mut Player, thread: u32, reg: u32, size: u32) -> Result<Verdi
 }
 
 // Reads the first word of what a register owns. Returns what was found of its slot, and the value.
-fn look(player: &mut Player, thread: u32, reg: u32) -> Result<(Seen, u64), OutOfMemory>
+fn look<O: Output>(
+    player: &mut Player<Told<O>>,
+    thread: u32,
+    reg: u32,
+) -> Result<(Seen, u64), OutOfMemory>
     requires going { IsGoing player.old }
     requires few { length player.old.lines.items < 65535 }
     requires thread { thread < player.old.head.threads }
@@ -90,7 +100,12 @@ fn look(player: &mut Player, thread: u32, reg: u32) -> Result<(Seen, u64), OutOf
 }
 
 // Writes the value to what was allocated into the spare register, frees what the register owns, and hands the new slot over.
-fn hand_over(player: &mut Player, thread: u32, reg: u32, value: u64) -> Result<(), OutOfMemory>
+fn hand_over<O: Output>(
+    player: &mut Player<Told<O>>,
+    thread: u32,
+    reg: u32,
+    value: u64,
+) -> Result<(), OutOfMemory>
     requires going { IsGoing player.old }
     requires few { length player.old.lines.items + 4 ≤ 65535 }
     requires thread { thread < player.old.head.threads }
@@ -112,7 +127,11 @@ fn hand_over(player: &mut Player, thread: u32, reg: u32, value: u64) -> Result<(
 }
 
 // Plays an op, and returns its answer.
-fn play_op(player: &mut Player, thread: u32, op: Op) -> Result<Answer, OutOfMemory>
+fn play_op<O: Output>(
+    player: &mut Player<Told<O>>,
+    thread: u32,
+    op: Op,
+) -> Result<Answer, OutOfMemory>
     requires going { IsGoing player.old }
     requires few { length player.old.lines.items < 65535 }
     requires thread { thread < player.old.head.threads }

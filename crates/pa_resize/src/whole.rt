@@ -3,16 +3,22 @@ ghost use Rattle.pa_trace.specs.Limits.{IsWithinLimits};
 ghost use Rattle.pa_record.specs.RunText.{IsPrintable};
 ghost use Rattle.pa_core_run.specs.Playing.{HasCoreRun};
 ghost use Rattle.pa_script.specs.Limits.{IsScriptWithin};
-ghost use Rattle.pa_resize.specs.Expansion.{IsExpanded, verdict_noted};
+ghost use Rattle.pa_model.specs.Player.{IsNew};
+ghost use Rattle.pa_resize.specs.Expansion.{IsExpanded, IsExpandedText, verdict_noted};
+ghost use Rattle.pa_resize.specs.Playing.{IsScriptPlayed, script_head};
 
 use crate::lines::play_line;
 use crate::verdict::Verdict;
 use pa_machine::OutOfMemory;
 use pa_model::Player;
+use pa_player::{Output, Told};
 use pa_record::Run;
 use pa_script::Script;
 use pa_trace::Trace;
 use std::alloc::Global;
+
+// A resize becomes at most so many lines of a trace: memory for their records is reserved ahead.
+const LINES: usize = 6;
 
 /// What a script comes to: a trace, its run in the order of its lines, and the verdict of each resize with the number of its
 /// line in the script, where the head is line 1.
@@ -21,6 +27,13 @@ pub struct Expanded {
     pub trace: Trace,
     pub run: Run,
     pub verdicts: Vec<(u32, Verdict)>,
+}
+
+/// The trace that a script comes to, and the text of its run in the order of its lines.
+#[derive(Drop)]
+pub struct ExpandedText {
+    pub trace: Trace,
+    pub run: Vec<u8>,
 }
 
 /// Plays a script, whose resizes become ops as it is played. A line of a trace is itself. A resize of what a register owns
@@ -34,19 +47,52 @@ pub fn expand(alloc: Global, script: &Script) -> Result<Expanded, OutOfMemory>
     ensures printable { IfOk result (λ e. IsPrintable e.run) }
 {
     let mut player = Player::new(alloc, script.region, script.partitions, script.threads)?;
-    let mut verdicts = Vec::new(alloc);
-    let mut number: u32 = 2;
-    for line in script.lines.as_slice() {
-        let verdict = play_line(&mut player, *line)?;
-        note(&mut verdicts, number, verdict)?;
-        number += 1;
-    }
+    let verdicts = play_all(alloc, script, &mut player)?;
     let (trace, run) = player.finish_traced()?;
     Ok(Expanded {
         trace,
         run,
         verdicts,
     })
+}
+
+/// Plays a script in the same way. Its run is printed as it is played.
+pub fn expand_text(alloc: Global, script: &Script) -> Result<ExpandedText, OutOfMemory>
+    requires { IsScriptWithin script.now }
+    ensures expanded { IfOk result (λ e. IsExpandedText script.now e.trace e.run.items) }
+    ensures within { IfOk result (λ e. IsWithinLimits e.trace) }
+{
+    let lines = LINES * script.lines.as_slice().len();
+    let mut player = Player::printing(
+        alloc,
+        script.region,
+        script.partitions,
+        script.threads,
+        lines,
+    )?;
+    play_all(alloc, script, &mut player)?;
+    let (trace, run) = player.finish_printed()?;
+    Ok(ExpandedText { trace, run })
+}
+
+// Plays all lines of a script, before which there were none. Returns the verdicts.
+fn play_all<O: Output>(
+    alloc: Global,
+    script: &Script,
+    player: &mut Player<Told<O>>,
+) -> Result<Vec<(u32, Verdict)>, OutOfMemory>
+    requires within { IsScriptWithin script.now }
+    requires new { IsNew (script_head script.now) player.old }
+    ensures { IfOk result (λ verdicts. IsScriptPlayed (script_head script.now) script.now.lines player.new verdicts.items) }
+{
+    let mut verdicts = Vec::new(alloc);
+    let mut number: u32 = 2;
+    for line in script.lines.as_slice() {
+        let verdict = play_line(player, *line)?;
+        note(&mut verdicts, number, verdict)?;
+        number += 1;
+    }
+    Ok(verdicts)
 }
 
 // Appends the verdict of a line, if it has one.

@@ -6,8 +6,7 @@ use Rattle.pa_trace.specs.declared.line.Head.{Head}
 use Rattle.pa_trace.specs.declared.script.Line.{Line}
 use Rattle.pa_trace.specs.declared.script.Trace.{Trace}
 use Rattle.pa_trace.specs.Limits.{IsLineWithin, IsWithinLimits}
-use Rattle.pa_model.specs.declared.player.Player.{Player}
-use Rattle.pa_model.specs.Player.{IsGoing, IsNew}
+use Rattle.pa_model.specs.Player.{Player, IsGoing, IsNew}
 use Rattle.pa_test_resize.specs.Driven.{IsDriven}
 
 abbrev pub head_in : Trace → Head

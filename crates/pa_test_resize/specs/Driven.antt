@@ -1,8 +1,7 @@
 -- A player that tests drive.
 use Rattle.std.specs.Prelude.{◌≡◌, [], ◌∷◌, ◌++◌}
 use Rattle.pa_trace.specs.declared.script.Line.{Line}
-use Rattle.pa_model.specs.declared.player.Player.{Player}
-use Rattle.pa_model.specs.Player.{IsGoing}
+use Rattle.pa_model.specs.Player.{Player, IsGoing}
 
 -- one line more was played
 pub record IsDriven (p : Player) (line : Line) (q : Player) : Type 0 where

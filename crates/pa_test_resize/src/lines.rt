@@ -6,13 +6,18 @@ ghost use Rattle.pa_test_resize.specs.Driven.{IsDriven};
 
 use pa_machine::OutOfMemory;
 use pa_model::{Player, play};
+use pa_player::{ListOutput, Told};
 use pa_record::{Answer, Run, write_run};
 use pa_trace::{Line, Op, Trace, read_trace};
 use std::alloc::Global;
 use std::test::Fail;
 
 // Plays a line, and appends its answer if it has one.
-fn play_line(player: &mut Player, line: Line, answers: &mut Vec<Answer>) -> Result<(), OutOfMemory>
+fn play_line(
+    player: &mut Player<Told<ListOutput>>,
+    line: Line,
+    answers: &mut Vec<Answer>,
+) -> Result<(), OutOfMemory>
     requires going { IsGoing player.old }
     requires few { length player.old.lines.items < 65535 }
     requires within { IsLineWithin player.old.head.partitions player.old.head.threads line }

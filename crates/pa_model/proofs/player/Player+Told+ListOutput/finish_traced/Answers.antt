@@ -1,10 +1,9 @@
-use Rattle.std.proofs.Common.{List, sym, subst}
-use Rattle.pa_trace.specs.declared.script.Line.{Line}
+use Rattle.std.proofs.Common.{sym, subst}
 use Rattle.pa_trace.specs.declared.script.Trace.{Trace}
 use Rattle.pa_player.specs.Told.{Lists, IsToldRun}
 use Rattle.pa_model.specs.Player.{IsFinished}
 use Rattle.pa_model.proofs.Finished.{can_end, finishes}
-use Rattle.pa_model.proofs.player.Player.finish_traced.Goals as goal
+use Rattle.pa_model.proofs.player.Player+Told+ListOutput.finish_traced.Goals as goal
 
 pub finish-requires : goal.finish-requires
 finish-requires c = can_end c.args.self c.requires
@@ -13,5 +12,4 @@ pub returns : goal.returns
 returns c =
     let p = c.args.self in
     let told = subst (λ (x : Lists). IsToldRun x c.in_ok-run.run') c.in_ok-finish.ensures c.in_ok-run.ensures in
-    let t : List Line → Trace = λ ls. record { region = p.head.region; partitions = p.head.partitions; threads = p.head.threads; lines = ls } in
-    subst (λ (ls : List Line). IsFinished p (t ls) c.in_ok-run.run') (sym c.of.ensures) (finishes p c.in_ok-run.run' c.requires told)
+    subst (λ (t : Trace). IsFinished p t c.in_ok-run.run') (sym c.trace_of.ensures) (finishes p c.in_ok-run.run' c.requires told)
