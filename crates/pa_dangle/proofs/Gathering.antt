@@ -1,13 +1,13 @@
 -- The pairs as they are gathered, and put in order.
 use Rattle.std.proofs.Common.{◌≡◌, ℕ, ◌+◌, ◌<◌, ◌≤◌, List, [], ◌∷◌, ◌++◌, get_or, length, Some, cond, refl, sym, ◌∙◌, ap, subst, arith, inl, inr}
-use Rattle.std.specs.Prelude.{Contains, AllPairs, filter, ◌==◌}
+use Rattle.std.specs.Prelude.{All, Contains, AllPairs, filter, ◌==◌}
 use Rattle.std.specs.List.Sorted.{IsPermutation, IsNonDecreasingBy}
 use Rattle.std.proofs.lemmas.Bool.{cases_lt, cases_eq, eq-eqb, ne_eqb}
-use Rattle.std.proofs.lemmas.List.Elements.{Contains-get_or, Contains-push_cases, Contains-push, Contains-append_left}
+use Rattle.std.proofs.lemmas.List.Elements.{All-contains, Contains-get_or, Contains-push_cases, Contains-push, Contains-append_left}
 use Rattle.std.proofs.lemmas.List.Sorted.{Contains-permutation, IsPermutation-sym, sum_by-IsPermutation}
 use Rattle.std.proofs.lemmas.List.Sums.{sum_by-cons}
 use Rattle.pa_lists.proofs.Members.{of_some, first_in, later_in}
-use Rattle.pa_lists.proofs.Indexed.{in_at}
+use Rattle.pa_lists.proofs.Indexed.{in_at, at_in}
 use Rattle.pa_lists.proofs.Pairs.{pairs_tail, pairs_head, pairs_push}
 use Rattle.pa_machine.specs.Run.{Mark, IsQuarantined, Slots}
 use Rattle.pa_record.specs.declared.history.CellEntry.{CellEntry}
@@ -18,7 +18,7 @@ use Rattle.pa_rules.proofs.Rising.{rises}
 use Rattle.pa_rules.proofs.Running.{mark_from}
 use Rattle.pa_audit_records.proofs.Walking.{here_is}
 use Rattle.pa_dangle.specs.declared.found.Pair.{Pair}
-use Rattle.pa_dangle.specs.Collected.{AreCollected, IsPairFrom, rank_of}
+use Rattle.pa_dangle.specs.Collected.{AreCollected, IsNoUse, IsPairFrom, rank_of}
 use Rattle.pa_dangle.specs.Pairs.{AreFound, IsPairOf, StandsAbove, keeps_slot, uses_on}
 use Rattle.pa_dangle.proofs.Coupling.{own_lines}
 use Rattle.pa_dangle.proofs.Finding.{at_here}
@@ -40,6 +40,14 @@ collected_skip cells ps pairs k d below none h = record {
   ];
   rise = h.rise;
 }
+
+-- where no record is a use, there are no pairs
+pub collected_none : (cells : Cells) (ps : List Played) (pairs : List Pair) → pairs ≡ [] → All IsNoUse ps → AreCollected cells ps pairs (length ps)
+collected_none cells ps pairs none h = rw none (record {
+  each = λ p among. absurd (omega (arith, among.1));
+  whole = λ i x m less at mark q. absurd (All-contains IsNoUse ps x h (at_in ps i x at) m mark q);
+  rise = λ i j d less below. absurd (omega (arith, below));
+})
 
 pub collected_push : (cells : Cells) (ps : List Played) (pairs : List Pair) (k : ℕ) (d : Played) (p : Pair) → RiseByLine ps → k < length ps → IsPairFrom cells ps (get_or ps k d) p
     → AreCollected cells ps pairs k → AreCollected cells ps (pairs ++ p ∷ []) (k + 1)

@@ -8,6 +8,10 @@ use Rattle.pa_rules.specs.RecordDemands.{IsRecord}
 use Rattle.pa_dangle.specs.declared.found.Pair.{Pair}
 use Rattle.pa_dangle.specs.Pairs.{IsPairOf}
 
+-- the record is no use of a slot in quarantine
+abbrev pub IsNoUse : Played → Type 0
+IsNoUse x = (m : Mark) → mark_of x ≡ Some m → IsQuarantined m.found → ⊥
+
 -- the pair of the use that a record made
 pub record IsPairFrom (cells : ℕ → List CellEntry) (ps : List Played) (x : Played) (p : Pair) : Type 0 where
   pub free : Mark

@@ -11,7 +11,7 @@ ghost use Rattle.pa_rules.specs.Rising.{RiseByLine};
 ghost use Rattle.pa_legal.specs.Owners.{HaveHandles};
 ghost use Rattle.pa_audit_records.specs.Rows.{IsPlayedWithin};
 ghost use Rattle.pa_dangle.specs.declared.numbers.Kind.TheVariants.{Issued, Freed};
-ghost use Rattle.pa_dangle.specs.Collected.{AreCollected, IsPairFrom, rank_of};
+ghost use Rattle.pa_dangle.specs.Collected.{AreCollected, IsNoUse, IsPairFrom, rank_of};
 ghost use Rattle.pa_dangle.specs.Origins.{HasOrigin};
 ghost use Rattle.pa_dangle.specs.Pairs.{AreFound, keeps_slot, use_by};
 ghost use Rattle.pa_dangle.specs.Steps.{seen_by_answer, AreStepsOf, SawUse};
@@ -162,13 +162,28 @@ fn found_at(
     pair_of(records, cells, issues, frees, told, seen, from)
 }
 
-// The pairs by the lines of the uses.
+// Whether no record uses a slot in quarantine.
+fn uses_none(records: &[Played]) -> bool
+    ensures { IsTrue result → All IsNoUse records.now }
+{
+    for record in records {
+        if used_by(*record).is_some() {
+            return false;
+        }
+    }
+    true
+}
+
+// The pairs by the lines of the uses. Where there are none, no table is made.
 fn collect(alloc: Global, records: &[Played], cells: &[History]) -> Result<Vec<Pair>, OutOfMemory>
     requires few { length records.now < 2 ^ 32 }
     requires within { All IsPlayedWithin records.now }
     requires handles { HaveHandles (history_at cells.now) records.now }
     ensures { IfOk result (λ pairs. AreCollected (history_at cells.now) records.now pairs.items (length records.now)) }
 {
+    if uses_none(records) {
+        return Ok(Vec::new(alloc));
+    }
     let issues = steps_by_number(alloc, records, Kind::Issued)?;
     let frees = steps_by_number(alloc, records, Kind::Freed)?;
     let mut ways = ways_of(alloc, records, cells)?;

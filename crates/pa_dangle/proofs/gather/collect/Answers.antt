@@ -1,7 +1,7 @@
-use Rattle.std.proofs.Common.{◌≡◌, ◌+◌, length, sym, ap, subst, arith}
+use Rattle.std.proofs.Common.{◌≡◌, ◌+◌, length, refl, sym, ap, subst, arith}
 use Rattle.pa_rules.specs.Cells.{history_at}
 use Rattle.pa_dangle.specs.Collected.{AreCollected}
-use Rattle.pa_dangle.proofs.Gathering.{collected_push, collected_skip}
+use Rattle.pa_dangle.proofs.Gathering.{collected_none, collected_push, collected_skip}
 use Rattle.pa_dangle.proofs.Leading.{ways_back}
 use Rattle.pa_dangle.proofs.gather.collect.Goals.{in-Some+in_ok-push, in_default}
 use Rattle.pa_dangle.proofs.gather.collect.Goals as goal
@@ -33,3 +33,7 @@ returns c =
     let l = c.loop-record in
     let end : l.record-index ≡ length c.args.records.now = omega (arith, c.loop-record-test.false, l.auto.record-index-end) in
     subst (λ n. AreCollected (history_at c.args.cells.now) c.args.records.now l.pairs.items n) end l.invariant.pairs
+
+pub returns-then-uses_none : goal.returns-then-uses_none
+returns-then-uses_none c =
+    collected_none (history_at c.args.cells.now) c.args.records.now c.new.result.items c.new.ensures.items (c.if-uses_none.ensures refl)
