@@ -1,11 +1,10 @@
-ghost use Rattle.std.specs.Prelude.{◌+◌, ◌^◌, ◌<◌};
-
 use pa_buckets::{Class, SpanShape, cache_limit, class_of, fill_count, raw_of, slot_size, span_of};
 
-// The class of a request of that many bytes.
-fn number_for(size: u32) -> Option<u32>
-    requires { size + 8 < 2 ^ 32 }
-{
+// The class of a request of that many bytes, none if there is no such request.
+fn number_for(size: u32) -> Option<u32> {
+    if size > u32::MAX - 8 {
+        return None;
+    }
     class_of(raw_of(size)).map(|class| class.number())
 }
 
@@ -25,6 +24,14 @@ fn requests_on_both_sides_of_an_edge(rt: HostRuntime) {
     assert!(rt; number_for(33521656) == None);
 }
 
+// Whether there is a class of this number, with slots of this size in spans of this shape.
+fn has_shape(number: u32, slot: u32, shape: SpanShape) -> bool {
+    match Class::of(number) {
+        Some(class) => slot_size(class) == slot && span_of(class) == shape,
+        None => false,
+    }
+}
+
 #[test]
 fn span_shapes(rt: HostRuntime) {
     let shapes = [
@@ -42,15 +49,17 @@ fn span_shapes(rt: HostRuntime) {
             slots,
             waste,
         };
-        match Class::of(number) {
-            Some(class) => {
-                assert!(rt; slot_size(class) == slot, "size at {number}");
-                assert!(rt; span_of(class) == shape, "span at {number}");
-            }
-            None => assert!(rt; false, "no class {number}"),
-        }
+        assert!(rt; has_shape(number, slot, shape), "class {number}");
     }
     assert!(rt; Class::of(59) == None);
+}
+
+// Whether there is a class of this number, with this limit of its cache and this count of a fill.
+fn has_limits(number: u32, limit: u32, count: u32) -> bool {
+    match Class::of(number) {
+        Some(class) => cache_limit(class) == limit && fill_count(class) == count,
+        None => false,
+    }
 }
 
 #[test]
@@ -66,12 +75,6 @@ fn limits_on_both_sides_of_an_edge(rt: HostRuntime) {
         (58, 0, 1),
     ];
     for (number, limit, count) in edges {
-        match Class::of(number) {
-            Some(class) => {
-                assert!(rt; cache_limit(class) == limit, "limit at {number}");
-                assert!(rt; fill_count(class) == count, "count at {number}");
-            }
-            None => assert!(rt; false, "no class {number}"),
-        }
+        assert!(rt; has_limits(number, limit, count), "class {number}");
     }
 }

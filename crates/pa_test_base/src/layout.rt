@@ -2,18 +2,18 @@ use pa_layout::{Kind, kind_of, meta_start, page_of, page_start, super_page_of, s
 
 #[test]
 fn first_and_last_pages(rt: HostRuntime) {
-    assert_eq!(rt; page_start(0, 1), 16384);
-    assert_eq!(rt; page_start(2047, 127), 4294950912);
-    assert_eq!(rt; meta_start(0, 0), 4096);
-    assert_eq!(rt; meta_start(0, 1), 4128);
-    assert_eq!(rt; meta_start(2047, 127), 4292878304);
-    assert_eq!(rt; super_page_of(2097151), 0);
-    assert_eq!(rt; super_page_of(2097152), 1);
-    assert_eq!(rt; page_of(2097151), 127);
-    assert_eq!(rt; page_of(2097152), 0);
-    assert_eq!(rt; supers_for(2064384), 1);
-    assert_eq!(rt; supers_for(2064385), 2);
-    assert_eq!(rt; supers_for(4294967295), 2049);
+    assert!(rt; page_start(0, 1) == 16384);
+    assert!(rt; page_start(2047, 127) == 4294950912);
+    assert!(rt; meta_start(0, 0) == 4096);
+    assert!(rt; meta_start(0, 1) == 4128);
+    assert!(rt; meta_start(2047, 127) == 4292878304);
+    assert!(rt; super_page_of(2097151) == 0);
+    assert!(rt; super_page_of(2097152) == 1);
+    assert!(rt; page_of(2097151) == 127);
+    assert!(rt; page_of(2097152) == 0);
+    assert!(rt; supers_for(2064384) == 1);
+    assert!(rt; supers_for(2064385) == 2);
+    assert!(rt; supers_for(4294967295) == 2049);
 }
 
 #[test]

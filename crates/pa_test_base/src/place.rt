@@ -69,6 +69,11 @@ fn fill(
     Ok(())
 }
 
+// Whether a slot or a direct map has this name and is out.
+fn is_out(placement: &Placement, name: SlotName) -> bool {
+    placement.out(name) != None
+}
+
 // The slot that starts there is returned. At most that many steps were made before.
 fn give(rt: &impl Abort, placement: &mut Placement, steps: u32, start: u32) -> Result<(), Fail>
     requires turn { placement.old.turn ≤ 32 * steps }
@@ -81,7 +86,7 @@ fn give(rt: &impl Abort, placement: &mut Placement, steps: u32, start: u32) -> R
         return Err(Fail::new("the slot isn't out"));
     };
     placement.give(&[title]);
-    assert!(rt; placement.out(name) == None);
+    assert!(rt; !is_out(placement, name));
     Ok(())
 }
 
@@ -151,13 +156,19 @@ fn unmap(
     assert!(rt; pool.taken(0, 1));
     let went = placement.unmap(pool, title);
     assert!(rt; went == entry);
-    assert!(rt; placement.out(name) == None);
+    assert!(rt; !is_out(placement, name));
     Ok(())
 }
 
-// The census with these numbers, in the report's order.
-fn census(slots: u64, bytes: u64, committed: u64, states: [u32; 4]) -> Census {
-    Census {
+// Whether the census has these numbers, in the report's order.
+fn has_census(
+    placement: &Placement,
+    slots: u64,
+    bytes: u64,
+    committed: u64,
+    states: [u32; 4],
+) -> bool {
+    let due = Census {
         root: Tally { slots, bytes },
         committed,
         reserved: 2097152,
@@ -165,7 +176,14 @@ fn census(slots: u64, bytes: u64, committed: u64, states: [u32; 4]) -> Census {
         active: states[1],
         empty: states[2],
         decommitted: states[3],
-    }
+    };
+    placement.census() == due
+}
+
+// Whether so many spans are full, and so many bytes committed and reserved.
+fn has_bytes(placement: &Placement, full: u32, committed: u64, reserved: u64) -> bool {
+    let census = placement.census();
+    census.full == full && census.committed == committed && census.reserved == reserved
 }
 
 #[test]
@@ -184,7 +202,7 @@ fn a_short_fill(rt: HostRuntime) -> Result<(), Fail> {
         let expected = Expected { pool: made, starts };
         fill(&rt, &mut placement, &mut pool, at, class, want, expected)?;
     }
-    assert!(rt; placement.census() == census(0, 0, 2056192, [4, 0, 0, 0]));
+    assert!(rt; has_census(&placement, 0, 0, 2056192, [4, 0, 0, 0]));
     assert!(rt; pool.entries() == 2);
     assert!(rt; pool.taken(0, 1));
     assert!(rt; !pool.taken(0, 2));
@@ -211,7 +229,7 @@ fn the_ring_of_empty_spans(rt: HostRuntime) -> Result<(), Fail> {
         starts: &[1064960],
     };
     fill(&rt, &mut placement, &mut pool, 34, 43, 1, last)?;
-    assert!(rt; placement.census() == census(16, 1048576, 1048576, [1, 0, 15, 1]));
+    assert!(rt; has_census(&placement, 16, 1048576, 1048576, [1, 0, 15, 1]));
     Ok(())
 }
 
@@ -229,13 +247,13 @@ fn a_purge(rt: HostRuntime) -> Result<(), Fail> {
         give(&rt, &mut placement, 1 + at, 16384 + 16 * at)?;
     }
     placement.purge();
-    assert!(rt; placement.census() == census(256, 4096, 0, [0, 0, 0, 1]));
+    assert!(rt; has_census(&placement, 256, 4096, 0, [0, 0, 0, 1]));
     let second = Expected {
         pool: None,
         starts: &starts,
     };
     fill(&rt, &mut placement, &mut pool, 10, 0, 8, second)?;
-    assert!(rt; placement.census() == census(248, 3968, 4096, [0, 1, 0, 0]));
+    assert!(rt; has_census(&placement, 248, 3968, 4096, [0, 1, 0, 0]));
     Ok(())
 }
 
@@ -249,7 +267,7 @@ fn a_direct_map_again(rt: HostRuntime) -> Result<(), Fail> {
     map(&rt, &mut placement, &mut pool, 3, 3, false)?;
     unmap(&rt, &mut placement, &mut pool, 4, 2, 4)?;
     map(&rt, &mut placement, &mut pool, 5, 5, true)?;
-    assert!(rt; placement.census() == census(0, 0, 2002944, [0, 0, 0, 0]));
+    assert!(rt; has_census(&placement, 0, 0, 2002944, [0, 0, 0, 0]));
     assert!(rt; pool.entries() == 6);
     Ok(())
 }
@@ -286,10 +304,7 @@ fn as_many_spans_as_there_are(rt: HostRuntime) -> Result<(), Fail> {
     }
     let asked = fill_pages(&rt, &mut placement, &mut pool, 1152, 0)?;
     assert!(rt; asked == Some(64));
-    let census = placement.census();
-    assert!(rt; census.full == 8064);
-    assert!(rt; census.committed == 132120576);
-    assert!(rt; census.reserved == 134217728);
+    assert!(rt; has_bytes(&placement, 8064, 132120576, 134217728));
     Ok(())
 }
 
@@ -319,9 +334,7 @@ fn as_many_direct_maps_as_there_are(rt: HostRuntime) -> Result<(), Fail> {
         map_one(&rt, &mut placement, &mut pool, at, 1)?;
     }
     map_one(&rt, &mut placement, &mut pool, 64, 0)?;
-    let census = placement.census();
-    assert!(rt; census.committed == 128188416);
-    assert!(rt; census.reserved == 134217728);
+    assert!(rt; has_bytes(&placement, 0, 128188416, 134217728));
     Ok(())
 }
 
@@ -389,17 +402,17 @@ fn slots_by_their_pages(rt: HostRuntime) -> Result<(), Fail> {
         start: 53248,
         born: 1,
     };
-    assert!(rt; placement.out(later) == None);
+    assert!(rt; !is_out(&placement, later));
     let behind = SlotName {
         start: 2150400,
         born: 0,
     };
-    assert!(rt; placement.out(behind) == None);
+    assert!(rt; !is_out(&placement, behind));
     let starts = [83968, 53248, 16384];
     'gives: for at in 0..3 {
         give(&rt, &mut placement, 2 + at, starts[at as usize])?;
     }
-    assert!(rt; placement.census() == census(258, 24576, 65536, [0, 1, 1, 0]));
+    assert!(rt; has_census(&placement, 258, 24576, 65536, [0, 1, 1, 0]));
     Ok(())
 }
 

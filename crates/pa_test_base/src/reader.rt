@@ -10,7 +10,7 @@ fn items_are_told(rt: HostRuntime) {
         answer: Answer::Full { entry: 7 },
     };
     let read = line_at(b"e 4294967295 3 full 7\nend\n");
-    assert_eq!(rt; read, Some((Item::Record(entry), b"end\n".as_slice())));
+    assert!(rt; read == Some((Item::Record(entry), b"end\n".as_slice())));
     let entry = PoolEntry {
         line: 9,
         partition: 1,
@@ -20,10 +20,7 @@ fn items_are_told(rt: HostRuntime) {
         },
     };
     let read = line_at(b"p 0 9 1 take 2 none\n");
-    assert_eq!(rt;
-        read,
-        Some((Item::Pool { index: 0, entry }, b"".as_slice()))
-    );
+    assert!(rt; read == Some((Item::Pool { index: 0, entry }, b"".as_slice())));
 }
 
 // A line of each kind is read.

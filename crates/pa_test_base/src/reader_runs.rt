@@ -4,7 +4,7 @@ use crate::run_texts::{
     DIRECT_MAP_AGAIN, GAPS, HEAD_ALONE, PURGE_LISTS, QUARANTINE, REGISTERS, SECOND_FREE,
     SHORT_FILL, SMALLEST, STALE_RESET, TWO_THREADS, WRITES,
 };
-use pa_record::write_run;
+use pa_record::{Run, write_run};
 use pa_run_reader::{RunFault, read_run};
 use std::alloc::Global;
 use std::test::Fail;
@@ -35,25 +35,35 @@ fn texts_are_read_and_written_again(rt: HostRuntime) -> Result<(), Fail> {
         GAPS,
     ];
     for text in texts {
-        assert_eq!(rt; written_again(rt.alloc(), text)?.as_slice(), text);
+        assert!(rt; written_again(rt.alloc(), text)?.as_slice() == text);
     }
     Ok(())
+}
+
+// How many entries a partition's journal has, and the line of the second; none if there is no such journal.
+fn journal_told(run: &Run, place: usize) -> Option<(usize, Option<u32>)> {
+    let entries = run.roots.get(place)?.entries();
+    Some((entries.len(), entries.get(1).map(|entry| entry.line)))
+}
+
+// The same of a cell's history.
+fn history_told(run: &Run, place: usize) -> Option<(usize, Option<u32>)> {
+    let entries = run.cells.get(place)?.entries();
+    Some((entries.len(), entries.get(1).map(|entry| entry.line)))
 }
 
 // Entries are in the lists of their partitions and cells.
 #[test]
 fn entries_stand_in_their_lists(rt: HostRuntime) -> Result<(), Fail> {
     let run = read_run(rt.alloc(), GAPS)?;
-    assert_eq!(rt; run.roots.len(), 4);
-    assert_eq!(rt; run.roots[0].entries().len(), 0);
-    assert_eq!(rt; run.roots[1].entries().len(), 2);
-    assert_eq!(rt; run.roots[1].entries()[1].line, 3);
-    assert_eq!(rt; run.roots[3].entries().len(), 1);
-    assert_eq!(rt; run.cells.len(), 64);
-    assert_eq!(rt; run.cells[5].entries().len(), 1);
-    assert_eq!(rt; run.cells[62].entries().len(), 0);
-    assert_eq!(rt; run.cells[63].entries().len(), 2);
-    assert_eq!(rt; run.cells[63].entries()[1].line, 3);
+    assert!(rt; run.roots.len() == 4);
+    assert!(rt; journal_told(&run, 0) == Some((0, None)));
+    assert!(rt; journal_told(&run, 1) == Some((2, Some(3))));
+    assert!(rt; journal_told(&run, 3) == Some((1, None)));
+    assert!(rt; run.cells.len() == 64);
+    assert!(rt; history_told(&run, 5) == Some((1, None)));
+    assert!(rt; history_told(&run, 62) == Some((0, None)));
+    assert!(rt; history_told(&run, 63) == Some((2, Some(3))));
     Ok(())
 }
 
@@ -113,20 +123,14 @@ fn bad_lines_are_named(rt: HostRuntime) {
         (b"run 1\nc 1 0 2 - -\nc 2 1 3 - -\nend\n", 3),
     ];
     for (text, line) in texts {
-        assert_eq!(rt; fault_of(rt.alloc(), text), Some(RunFault::BadLine(line)));
+        assert!(rt; fault_of(rt.alloc(), text) == Some(RunFault::BadLine(line)));
     }
 }
 
 // A fault is printed.
 #[test]
 fn faults_are_printed(rt: HostRuntime) -> Result<(), Fail> {
-    assert_eq!(rt;
-        format!(in rt.alloc(); "{}", RunFault::BadLine(7))?.as_str(),
-        "bad line 7"
-    );
-    assert_eq!(rt;
-        format!(in rt.alloc(); "{}", RunFault::OutOfMemory)?.as_str(),
-        "out of memory"
-    );
+    assert!(rt; format!(in rt.alloc(); "{}", RunFault::BadLine(7))?.as_str() == "bad line 7");
+    assert!(rt; format!(in rt.alloc(); "{}", RunFault::OutOfMemory)?.as_str() == "out of memory");
     Ok(())
 }

@@ -10,10 +10,7 @@ const HEAD: &str = "script 1 region 1 partitions 2 threads 2\n";
 fn reads_scripts(rt: HostRuntime) -> Result<(), Fail> {
     let text = format!(in rt.alloc(); "{HEAD}phase\n1 X c62 r62\n1 S r62 4294967295\n")?;
     let script = read_script(rt.alloc(), text.as_bytes())?;
-    assert_eq!(rt;
-        (script.region, script.partitions, script.threads),
-        (1, 2, 2)
-    );
+    assert!(rt; (script.region, script.partitions, script.threads) == (1, 2, 2));
     let lines = script.lines.as_slice();
     let swap = Line::Do {
         thread: 1,
@@ -24,10 +21,10 @@ fn reads_scripts(rt: HostRuntime) -> Result<(), Fail> {
         reg: 62,
         size: u32::MAX,
     };
-    assert_eq!(rt; lines.len(), 3);
-    assert_eq!(rt; lines[0], ScriptLine::Plain(Line::Phase));
-    assert_eq!(rt; lines[1], ScriptLine::Plain(swap));
-    assert_eq!(rt; lines[2], resize);
+    assert!(rt; lines.len() == 3);
+    assert!(rt; lines[0] == ScriptLine::Plain(Line::Phase));
+    assert!(rt; lines[1] == ScriptLine::Plain(swap));
+    assert!(rt; lines[2] == resize);
     Ok(())
 }
 
@@ -50,9 +47,8 @@ fn names_faults_of_scripts(rt: HostRuntime) -> Result<(), Fail> {
         "0 S r99 8",
         "0 A r63 p9 8 \n",
     ] {
-        assert_eq!(rt;
-            fault_of(rt.alloc(), line)?,
-            Some(TraceFault::BadLine(2)),
+        assert!(rt;
+            fault_of(rt.alloc(), line)? == Some(TraceFault::BadLine(2)),
             "{line}"
         );
     }
@@ -66,17 +62,13 @@ fn names_faults_of_scripts(rt: HostRuntime) -> Result<(), Fail> {
         "0 X c0 r63\n",
         "0 A r0 p2 8\n",
     ] {
-        assert_eq!(rt;
-            fault_of(rt.alloc(), line)?,
-            Some(TraceFault::Limit(2)),
+        assert!(rt;
+            fault_of(rt.alloc(), line)? == Some(TraceFault::Limit(2)),
             "{line}"
         );
     }
     let trace = "trace 1 region 1 partitions 1 threads 1\n";
-    assert_eq!(rt;
-        read_script(rt.alloc(), trace.as_bytes()).err(),
-        Some(TraceFault::BadLine(1))
-    );
+    assert!(rt; read_script(rt.alloc(), trace.as_bytes()).err() == Some(TraceFault::BadLine(1)));
     Ok(())
 }
 
@@ -89,9 +81,9 @@ fn reads_the_most_lines(rt: HostRuntime) -> Result<(), Fail> {
         text.push_str("0 P\n")?;
     }
     let script = read_script(rt.alloc(), text.as_bytes())?;
-    assert_eq!(rt; script.lines.as_slice().len(), 9_999);
+    assert!(rt; script.lines.as_slice().len() == 9_999);
     text.push_str("x")?;
     let fault = read_script(rt.alloc(), text.as_bytes()).err();
-    assert_eq!(rt; fault, Some(TraceFault::Limit(10_001)));
+    assert!(rt; fault == Some(TraceFault::Limit(10_001)));
     Ok(())
 }

@@ -124,8 +124,8 @@ fn memory_gives_short_pieces_and_chosen_faults(rt: HostRuntime) -> Result<(), Fa
     for (len, answer, buffer) in steps {
         let mut into = [b'.'; 8];
         assert!(rt; len <= 8 && len > 0);
-        assert_eq!(rt; source.read(&mut into[..len]), answer);
-        assert_eq!(rt; into.as_slice(), buffer);
+        assert!(rt; source.read(&mut into[..len]) == answer);
+        assert!(rt; into.as_slice() == buffer);
     }
     Ok(())
 }
@@ -142,8 +142,8 @@ fn memory_takes_short_pieces_up_to_its_room(rt: HostRuntime) -> Result<(), Fail>
     ];
     for (from, answer, written) in steps {
         assert!(rt; !from.is_empty());
-        assert_eq!(rt; sink.write(from), answer);
-        assert_eq!(rt; sink.written(), written);
+        assert!(rt; sink.write(from) == answer);
+        assert!(rt; sink.written() == written);
     }
     Ok(())
 }
@@ -153,12 +153,12 @@ fn whole_texts_go_through(rt: HostRuntime) -> Result<(), Fail> {
     let text = b"a text of twenty-two b";
     let mut source = MemSource::new(rt.alloc(), text, 3, &[])?;
     let bytes = read_all(rt.alloc(), &mut source)?;
-    assert_eq!(rt; bytes.as_slice(), text.as_slice());
+    assert!(rt; bytes.as_slice() == text.as_slice());
     let mut sink = MemSink::new(rt.alloc(), 22, 5, &[])?;
-    assert_eq!(rt; write_all(&mut sink, &bytes), Ok(()));
-    assert_eq!(rt; sink.written(), text.as_slice());
-    assert_eq!(rt; write_all(&mut sink, b"c"), Err(Failed));
-    assert_eq!(rt; sink.written(), text.as_slice());
+    assert!(rt; write_all(&mut sink, &bytes) == Ok(()));
+    assert!(rt; sink.written() == text.as_slice());
+    assert!(rt; write_all(&mut sink, b"c") == Err(Failed));
+    assert!(rt; sink.written() == text.as_slice());
     Ok(())
 }
 
@@ -173,8 +173,8 @@ fn reader_fails_in_mid_stream(rt: HostRuntime) {
     ];
     for (answer, faults) in steps {
         let mut into = [0; 8];
-        assert_eq!(rt; source.read(&mut into), answer);
-        assert_eq!(rt; source.faults, faults);
+        assert!(rt; source.read(&mut into) == answer);
+        assert!(rt; source.faults == faults);
     }
     let mut again = StdSource::new(Stumbling { reads: 0 });
     assert!(rt; matches!(read_all(rt.alloc(), &mut again), Err(Trouble::Fault)));
@@ -194,16 +194,16 @@ fn writer_faults_are_counted(rt: HostRuntime) {
             taken: 0,
             flushes: 0,
         });
-        assert_eq!(rt; sink.write(b"abc"), answer);
-        assert_eq!(rt; sink.faults, faults);
-        assert_eq!(rt; sink.writer.taken, taken);
-        assert_eq!(rt; sink.writer.flushes, flushes);
+        assert!(rt; sink.write(b"abc") == answer);
+        assert!(rt; sink.faults == faults);
+        assert!(rt; sink.writer.taken == taken);
+        assert!(rt; sink.writer.flushes == flushes);
     }
 }
 
 #[test]
 fn failure_has_a_text(rt: HostRuntime) -> Result<(), Fail> {
     let text = format!(in rt.alloc(); "{}", Failed)?;
-    assert_eq!(rt; text.as_str(), "a read or a write failed");
+    assert!(rt; text.as_str() == "a read or a write failed");
     Ok(())
 }

@@ -9,15 +9,15 @@ fn a_text_grows_and_is_cut(rt: HostRuntime) -> Result<(), Fail> {
     for _ in 0..3000u32 {
         text.push(b"abc")?;
     }
-    assert_eq!(rt; text.len(), 9000);
+    assert!(rt; text.len() == 9000);
     text.truncate(9001);
     text.truncate(4);
     text.push(b"")?;
     text.push(b"xy")?;
     text.append(b"-many-")?;
     text.push(b"z")?;
-    assert_eq!(rt; text.as_slice(), b"abcaxy-many-z".as_slice());
-    assert_eq!(rt; text.into_vec().as_slice(), b"abcaxy-many-z".as_slice());
+    assert!(rt; text.as_slice() == b"abcaxy-many-z".as_slice());
+    assert!(rt; text.into_vec().as_slice() == b"abcaxy-many-z".as_slice());
     Ok(())
 }
 
@@ -48,7 +48,7 @@ fn numbers_words_and_names_are_spelled(rt: HostRuntime) -> Result<(), Fail> {
         },
     )?;
     let text = b"0 4294967295 18446744073709551615 0123456789abcdef 00004000.0 fedcba98.17";
-    assert_eq!(rt; out.as_slice(), text.as_slice());
+    assert!(rt; out.as_slice() == text.as_slice());
     Ok(())
 }
 
@@ -64,7 +64,7 @@ fn numbers_of_each_length_are_spelled(rt: HostRuntime) -> Result<(), Fail> {
         push_byte(&mut out, b' ')?;
     }
     let text = b"9 10 99 100 999 1000 9999 10000 99999 100000 999999 ";
-    assert_eq!(rt; out.as_slice(), text.as_slice());
+    assert!(rt; out.as_slice() == text.as_slice());
     Ok(())
 }
 
@@ -79,7 +79,7 @@ fn words_are_read(rt: HostRuntime) {
         (b"efefefefefefefef g", 0xefef_efef_efef_efef, b" g"),
     ];
     for (bytes, value, rest) in read {
-        assert_eq!(rt; word_at(bytes), Some((value, rest)));
+        assert!(rt; word_at(bytes) == Some((value, rest)));
     }
     let refused: [&[u8]; 9] = [
         b"",
@@ -93,6 +93,6 @@ fn words_are_read(rt: HostRuntime) {
         b"-000000000000000",
     ];
     for bytes in refused {
-        assert_eq!(rt; word_at(bytes), None);
+        assert!(rt; word_at(bytes) == None);
     }
 }

@@ -136,10 +136,7 @@ const HEADS_OVER: [&str; 9] = [
 fn reads_and_writes_each_line(rt: HostRuntime) -> Result<(), Fail> {
     let text = format!(in rt.alloc(); "{HEAD}{LINES}")?;
     let trace = read_trace(rt.alloc(), text.as_bytes())?;
-    assert_eq!(rt;
-        (trace.region, trace.partitions, trace.threads),
-        (16, 4, 16)
-    );
+    assert!(rt; (trace.region, trace.partitions, trace.threads) == (16, 4, 16));
     let at = |thread, op| Line::Do { thread, op };
     let lines = [
         at(
@@ -180,9 +177,9 @@ fn reads_and_writes_each_line(rt: HostRuntime) -> Result<(), Fail> {
         Line::Phase,
         at(15, Op::Purge),
     ];
-    assert_eq!(rt; trace.lines.as_slice(), lines.as_slice());
+    assert!(rt; trace.lines.as_slice() == lines.as_slice());
     let written = write_trace(rt.alloc(), &trace)?;
-    assert_eq!(rt; written.as_slice(), text.as_bytes());
+    assert!(rt; written.as_slice() == text.as_bytes());
     Ok(())
 }
 
@@ -194,12 +191,9 @@ fn reads_heads(rt: HostRuntime) -> Result<(), Fail> {
         ("trace 1 region 16 partitions 4 threads 16\n", (16, 4, 16)),
     ] {
         let trace = read_trace(rt.alloc(), text.as_bytes())?;
-        assert_eq!(rt; (trace.region, trace.partitions, trace.threads), head);
-        assert_eq!(rt; trace.lines.as_slice().len(), 0);
-        assert_eq!(rt;
-            write_trace(rt.alloc(), &trace)?.as_slice(),
-            text.as_bytes()
-        );
+        assert!(rt; (trace.region, trace.partitions, trace.threads) == head);
+        assert!(rt; trace.lines.as_slice().len() == 0);
+        assert!(rt; write_trace(rt.alloc(), &trace)?.as_slice() == text.as_bytes());
     }
     Ok(())
 }
@@ -225,10 +219,10 @@ fn fault_of_parts(
 fn names_faults_of_heads(rt: HostRuntime) -> Result<(), Fail> {
     for text in BAD_HEADS {
         let bad = Some(TraceFault::BadLine(1));
-        assert_eq!(rt; fault_of(rt.alloc(), text), bad, "{text}");
+        assert!(rt; fault_of(rt.alloc(), text) == bad, "{text}");
         if text.ends_with("\n") {
             let fault = fault_of_parts(rt.alloc(), text, "99 P\n", "x")?;
-            assert_eq!(rt; fault, bad, "{text}");
+            assert!(rt; fault == bad, "{text}");
         }
     }
     Ok(())
@@ -238,10 +232,9 @@ fn names_faults_of_heads(rt: HostRuntime) -> Result<(), Fail> {
 fn names_limits_of_heads(rt: HostRuntime) -> Result<(), Fail> {
     for text in HEADS_OVER {
         let limit = Some(TraceFault::Limit(1));
-        assert_eq!(rt; fault_of(rt.alloc(), text), limit, "{text}");
-        assert_eq!(rt;
-            fault_of_parts(rt.alloc(), text, "x\n", "")?,
-            limit,
+        assert!(rt; fault_of(rt.alloc(), text) == limit, "{text}");
+        assert!(rt;
+            fault_of_parts(rt.alloc(), text, "x\n", "")? == limit,
             "{text}"
         );
     }
@@ -317,9 +310,8 @@ fn limits_by_the_head(rt: HostRuntime) -> Result<(), Fail> {
         ("2 A r0 p2 8\n", Some(TraceFault::Limit(2))),
         ("3 A r0 p2 8", Some(TraceFault::BadLine(2))),
     ] {
-        assert_eq!(rt;
-            fault_of_parts(rt.alloc(), head, line, "")?,
-            fault,
+        assert!(rt;
+            fault_of_parts(rt.alloc(), head, line, "")? == fault,
             "{line}"
         );
     }
@@ -340,7 +332,7 @@ fn reads_long_numbers(rt: HostRuntime) -> Result<(), Fail> {
     ] {
         let front = format!(in rt.alloc(); "{HEAD}{front}")?;
         let found = fault_of_parts(rt.alloc(), &front, &digits, end)?;
-        assert_eq!(rt; found, Some(fault), "{front}{end}");
+        assert!(rt; found == Some(fault), "{front}{end}");
     }
     Ok(())
 }
@@ -360,9 +352,8 @@ fn counts_lines(rt: HostRuntime) -> Result<(), Fail> {
         ("0 P\nx", Some(TraceFault::Limit(65_537))),
         ("x\n0 P\n", Some(TraceFault::BadLine(65_536))),
     ] {
-        assert_eq!(rt;
-            fault_of_parts(rt.alloc(), HEAD, &lines, end)?,
-            fault,
+        assert!(rt;
+            fault_of_parts(rt.alloc(), HEAD, &lines, end)? == fault,
             "{end}"
         );
     }
@@ -385,7 +376,7 @@ fn counts_bytes(rt: HostRuntime) -> Result<(), Fail> {
     ] {
         let front = format!(in rt.alloc(); "{HEAD}{front}")?;
         let found = fault_of_parts(rt.alloc(), &front, &blank, end)?;
-        assert_eq!(rt; found, Some(fault), "{front}{end}");
+        assert!(rt; found == Some(fault), "{front}{end}");
     }
     Ok(())
 }
@@ -400,7 +391,7 @@ fn counts_bytes_of_a_head(rt: HostRuntime) -> Result<(), Fail> {
         ("xx", TraceFault::Limit(1)),
     ] {
         let found = fault_of_parts(rt.alloc(), &blank, end, "")?;
-        assert_eq!(rt; found, Some(fault), "{end}");
+        assert!(rt; found == Some(fault), "{end}");
     }
     Ok(())
 }
@@ -412,7 +403,7 @@ fn tells_faults(rt: HostRuntime) -> Result<(), Fail> {
         (TraceFault::Limit(65_537), "limit at line 65537"),
         (TraceFault::OutOfMemory, "out of memory"),
     ] {
-        assert_eq!(rt; format!(in rt.alloc(); "{fault}")?.as_str(), text);
+        assert!(rt; format!(in rt.alloc(); "{fault}")?.as_str() == text);
     }
     Ok(())
 }

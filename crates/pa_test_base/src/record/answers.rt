@@ -101,7 +101,7 @@ e 9 0 stale-use
 e 10 0 stale-use 00004000.0 0000000003000002
 e 11 0 shared 00004000.0 0000000003000003
 ";
-    assert_eq!(rt; out.as_slice(), text.as_slice());
+    assert!(rt; out.as_slice() == text.as_slice());
     Ok(())
 }
 
@@ -134,6 +134,6 @@ e 8 0 full 63
 e 9 0 swapped 1
 e 65536 15 purged 7
 ";
-    assert_eq!(rt; out.as_slice(), text.as_slice());
+    assert!(rt; out.as_slice() == text.as_slice());
     Ok(())
 }

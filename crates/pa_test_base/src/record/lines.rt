@@ -78,7 +78,7 @@ p 4 8 0 give 1 0
 p 5 9 0 take 1 0
 end
 ";
-    assert_eq!(rt; text.as_slice(), due.as_slice());
+    assert!(rt; text.as_slice() == due.as_slice());
     Ok(())
 }
 
@@ -112,7 +112,7 @@ s 1 0 live 0 0 quarantined 0 0 cached 0 0 root 0 0 committed 0 reserved 0 full 0
 s 1 1 live 0 0 quarantined 0 0 cached 0 0 root 0 0 committed 0 reserved 0 full 0 active 0 empty 0 decommitted 0
 end
 ";
-    assert_eq!(rt; text.as_slice(), due.as_slice());
+    assert!(rt; text.as_slice() == due.as_slice());
     Ok(())
 }
 
@@ -146,7 +146,7 @@ fn the_report_is_printed(rt: HostRuntime) -> Result<(), Fail> {
 s 4294967295 3 live 1 2 quarantined 3 4 cached 5 6 root 7 18446744073709551615 committed 8 reserved 9 full 10 active 11 empty 12 decommitted 13
 end
 ";
-    assert_eq!(rt; text.as_slice(), due.as_slice());
+    assert!(rt; text.as_slice() == due.as_slice());
     Ok(())
 }
 
@@ -177,6 +177,6 @@ fn exchanges_are_printed(rt: HostRuntime) -> Result<(), Fail> {
 c 0 1 132 - own:00004000.0
 c 2 0 4 ref:00004000.0 ref:fedcba98.0
 ";
-    assert_eq!(rt; out.as_slice(), due.as_slice());
+    assert!(rt; out.as_slice() == due.as_slice());
     Ok(())
 }

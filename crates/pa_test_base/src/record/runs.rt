@@ -35,7 +35,7 @@ p 0 2 0 take 1 0
 s 1 0 live 0 0 quarantined 0 0 cached 8 128 root 248 3968 committed 4096 reserved 2097152 full 0 active 1 empty 0 decommitted 0
 end
 ";
-    assert_eq!(rt; text.as_slice(), due.as_slice());
+    assert!(rt; text.as_slice() == due.as_slice());
     Ok(())
 }
 
@@ -94,7 +94,7 @@ p 1 7 0 take 1 none
 s 1 0 live 4 2056192 quarantined 0 0 cached 0 0 root 0 0 committed 2056192 reserved 2097152 full 4 active 0 empty 0 decommitted 0
 end
 ";
-    assert_eq!(rt; text.as_slice(), due.as_slice());
+    assert!(rt; text.as_slice() == due.as_slice());
     Ok(())
 }
 
@@ -145,6 +145,6 @@ p 0 2 0 take 1 0
 s 1 0 live 2 32 quarantined 0 0 cached 6 96 root 248 3968 committed 4096 reserved 2097152 full 0 active 1 empty 0 decommitted 0
 end
 ";
-    assert_eq!(rt; text.as_slice(), due.as_slice());
+    assert!(rt; text.as_slice() == due.as_slice());
     Ok(())
 }
