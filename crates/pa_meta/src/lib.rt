@@ -6,5 +6,5 @@ mod numbers;
 mod store;
 mod words;
 
-pub use meta::{read_meta, write_meta};
+pub use meta::{read_meta, read_state, write_meta};
 pub use store::MetaStore;

@@ -3,8 +3,9 @@ ghost use Rattle.pa_spans.specs.declared.span.Span.{Span};
 ghost use Rattle.pa_records.specs.Words.{record_word, IsRecordAt};
 ghost use Rattle.pa_meta.specs.Meta.{HasRawRecord, after_record};
 
-use crate::numbers::{both, counts, span_in};
+use crate::numbers::{both, counts, span_in, state_in};
 use crate::words::{load_word, record_start, store_word};
+use pa_buckets::State;
 use pa_region::{Region, Seat};
 use pa_spans::Span;
 
@@ -47,4 +48,17 @@ pub fn read_meta(region: &Region, seat: &mut Seat, at: u32) -> Span
     let neighbours = load_word(region, seat, start + 16);
     let turn = load_word(region, seat, start + 24);
     span_in(counts, slots, neighbours, turn)
+}
+
+/// The state of the span whose record the page at this offset has, in bytes: one load.
+pub fn read_state(region: &Region, seat: &mut Seat, at: u32) -> State
+    requires region { seat.old.region ≡ region.now }
+    requires raw { HasRawRecord seat.old.view at }
+    requires record { (s : Span) × IsRecordAt seat.old.view.words (record_word at) s }
+    ensures seat { seat.new ≡ seat.old }
+    ensures state { (s : Span) → IsRecordAt seat.old.view.words (record_word at) s → result ≡ s.state }
+{
+    let start = record_start(at);
+    let counts = load_word(region, seat, start);
+    state_in(counts)
 }

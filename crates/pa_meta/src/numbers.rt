@@ -1,4 +1,4 @@
-ghost use Rattle.std.specs.Prelude.{◌≡◌, ◌+◌, ◌*◌, ◌^◌, ◌<◌};
+ghost use Rattle.std.specs.Prelude.{◌≡◌, ℕ, ◌+◌, ◌*◌, ◌^◌, ◌<◌};
 ghost use Rattle.pa_buckets.specs.declared.spans.State.{State};
 ghost use Rattle.pa_buckets.specs.Limits.{class_count};
 ghost use Rattle.pa_spans.specs.declared.span.Span.{Span};
@@ -77,4 +77,11 @@ pub(crate) fn span_in(counts: u64, slots: u64, neighbours: u64, turn: u64) -> Sp
         next: (neighbours / 4294967296) as u32,
         turn,
     }
+}
+
+// The state of the span of which this is word 0.
+pub(crate) fn state_in(counts: u64) -> State
+    ensures { (s : Span) (slots neighbours turn : ℕ) → AreRecordOf s counts slots neighbours turn → result ≡ s.state }
+{
+    state_of_number(counts / 256 % 256)
 }
