@@ -1,9 +1,15 @@
 mod Chained
 mod Decommitting
+mod Finding
+mod Fitting
 mod Moves
 mod Oldest
+mod Provisioning
+mod Pushing
 mod Returning
 mod Seats
 mod Settling
 mod Starting
 mod Staying
+mod Taking
+mod Tops

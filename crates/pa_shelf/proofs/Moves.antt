@@ -96,6 +96,7 @@ change_kept v w l x at to r s t k is_for same stand few stored = record {
   maps = k.maps;
   page = k.page;
   turn = ap (λ n. turn_after to n t) k.turn ∙ turn_enters at to l.lists x t (ap (λ (y : SpanRecord). y.state) is_for.is);
+  apart = k.apart;
   pages = λ u payload. (same u).1 (k.pages u payload);
   stand = stand;
   few = few;

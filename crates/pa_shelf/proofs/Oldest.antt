@@ -20,7 +20,7 @@ empty_used x is none = let no : state.Empty ≡ state.None = sym is ∙ none in 
 pub state_at : (spans : ℕ → SpanRecord) (has : ℕ → Type 0) (ss : List Span) (s : Span) → AreStored spans has ss → Contains ss s → (spans s.place).state ≡ s.state
 state_at spans has ss s st among = ap (λ (x : SpanRecord). x.state) (st.numbers s among)
 
-turn_at : (spans : ℕ → SpanRecord) (has : ℕ → Type 0) (ss : List Span) (s : Span) → AreStored spans has ss → Contains ss s → (spans s.place).turn ≡ s.turn
+pub turn_at : (spans : ℕ → SpanRecord) (has : ℕ → Type 0) (ss : List Span) (s : Span) → AreStored spans has ss → Contains ss s → (spans s.place).turn ≡ s.turn
 turn_at spans has ss s st among = ap (λ (x : SpanRecord). x.turn) (st.numbers s among)
 
 -- an empty span is in the ring

@@ -63,7 +63,7 @@ parts_alike a b size head len =
     ap (λ (n : ℕ). record a { slot_len = n }) size
     ∙ (ap (λ (h : Option SlotName). record b { head = h; len = a.len }) head ∙ ap (λ (n : ℕ). record b { len = n }) len)
 
-list_parts : (s : Span) (n : ℕ) (ns : List ℕ) → s.allocated + length s.free ≡ s.provisioned → s.free ≡ ns →
+pub list_parts : (s : Span) (n : ℕ) (ns : List ℕ) → s.allocated + length s.free ≡ s.provisioned → s.free ≡ ns →
     parts_of_record (record_with s 0 0) (title_at s n) ≡ chain_of s
 list_parts s n [] listed e =
     let many : length s.free ≡ 0 = ap length e in

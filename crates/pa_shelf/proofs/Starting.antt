@@ -1,7 +1,8 @@
 -- What a shelf shows at the start, and what the words have of the root that it shows.
-use Rattle.std.proofs.Common.{◌≡◌, ℕ, false, [], refl, arith}
+use Rattle.std.proofs.Common.{◌≡◌, ◌≢◌, ℕ, false, [], refl, arith}
 use Rattle.pa_lists.proofs.Members.{not_in_none}
 use Rattle.pa_lists.proofs.Pairs.{pairs_none}
+use Rattle.pa_record.specs.declared.taken.SuperPage.{SuperPage}
 use Rattle.pa_record.specs.Spans.{same_place}
 use Rattle.pa_spans.proofs.Beginning.{new_lists_stand}
 use Rattle.pa_records.specs.Words.{spans_in}
@@ -19,6 +20,7 @@ no_shelf_is_new v = record {
     maps = refl;
     page = refl;
     turn = refl;
+    apart = pairs_none (λ (a b : SuperPage). a.number ≢ b.number);
     pages = λ u payload. absurd (no_page u payload);
     stand = new_lists_stand (spans_in v.words) (HasSpanAt v []) (λ h. no_page 0 h.payload) (λ u h. absurd (no_page u h.payload));
     few = omega arith;

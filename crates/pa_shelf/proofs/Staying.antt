@@ -51,6 +51,7 @@ records_stay v w l r keeps k =
       maps = k.maps;
       page = k.page;
       turn = k.turn;
+      apart = k.apart;
       pages = λ u payload. has_kept l.supers v w u keeps (k.pages u payload);
       stand = stays l.lists (spans_in v.words) (spans_in w.words) (HasSpanAt v l.supers) (HasSpanAt w l.supers) k.stand (record {
         on = λ u h. (has_kept l.supers v w u keeps h, same_listed (spans_in v.words u) (spans_in w.words u) (same u h));

@@ -1,5 +1,5 @@
 -- The spans of a root in records and chains: what is kept beside its seat, and which root that shows with the seat's view.
-use Rattle.std.specs.Prelude.{◌≡◌, ℕ, ◌+◌, ◌<◌, ◌≤◌, List, [], length, Contains, slice_index}
+use Rattle.std.specs.Prelude.{◌≡◌, ◌≢◌, ℕ, ◌+◌, ◌<◌, ◌≤◌, List, [], length, AllPairs, Contains, slice_index}
 use Rattle.pa_machine.specs.declared.title.Title.{Title}
 use Rattle.pa_machine.specs.Links.{first_word, front_of}
 use Rattle.pa_buckets.specs.Table.{slot_of}
@@ -33,13 +33,14 @@ no_shelf = record { supers = []; maps = []; page = 0; lists = no_lists }
 abbrev pub chain_of : Span → ChainParts
 chain_of s = record { slot_len = slot_of s.class; head = front_of (slot_names (titles_free s)); len = length s.free }
 
--- The records keep the root: it has these super pages, direct maps and turn; each payload page has a record of its own; the lists
--- stand for the spans that the words have, and these are the root's spans.
+-- The records keep the root: it has these super pages, which differ in number, direct maps and turn; each payload page has a record
+-- of its own; the lists stand for the spans that the words have, and these are the root's spans.
 pub record RecordsRoot (v : View) (l : ShelfParts) (r : Root) : Type 0 where
   pub supers : r.supers ≡ l.supers
   pub maps : r.maps ≡ l.maps
   pub page : r.page ≡ l.page
   pub turn : r.turn ≡ l.lists.turn
+  pub apart : AllPairs (λ (a b : SuperPage). a.number ≢ b.number) l.supers
   pub pages : (u : ℕ) → IsPayloadOf l.supers u → HasSpanAt v l.supers u
   pub stand : Stand l.lists (spans_in v.words) (HasSpanAt v l.supers)
   pub few : length l.lists.ring ≤ 17
@@ -56,7 +57,8 @@ pub record ShowsRoot (v : View) (l : ShelfParts) (r : Root) : Type 0 where
 
 -- the records of these super pages are the same in another view, which holds them as raw too
 pub record KeepsRecords (supers : List SuperPage) (v w : View) : Type 0 where
-  pub words : (u q : ℕ) → IsPayloadOf supers u → record_word u ≤ q → q < record_word u + 4 → slice_index w.words q ≡ slice_index v.words q
+  pub words : (u q : ℕ) → IsPayloadOf supers u → record_word u ≤ q → q < record_word u + 4 →
+      slice_index w.words q ≡ slice_index v.words q
   pub raw : (u : ℕ) → IsPayloadOf supers u → HasRawRecord v u → HasRawRecord w u
 
 -- and it holds the free slots, with the same first words
@@ -66,7 +68,8 @@ KeepsChains v w ss = (s : Span) → Contains ss s → (t : Title) → Contains (
 
 -- then it shows the root too
 abbrev pub ShownStays : Type 0
-ShownStays = (v w : View) (l : ShelfParts) (r : Root) → KeepsRecords l.supers v w → KeepsChains v w r.spans → ShowsRoot v l r → ShowsRoot w l r
+ShownStays = (v w : View) (l : ShelfParts) (r : Root) → KeepsRecords l.supers v w → KeepsChains v w r.spans →
+    ShowsRoot v l r → ShowsRoot w l r
 
 -- The title is slot n of the span s of a sound root that is shown, and it is out of the root; the span starts at the offset.
 pub record IsBackAt (v : View) (l : ShelfParts) (at : ℕ) (t : Title) (r : Root) (s : Span) (n : ℕ) : Type 0 where

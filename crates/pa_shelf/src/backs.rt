@@ -83,7 +83,7 @@ fn push_onto(region: &Region, own: &mut Seat, span: &Span, title: Title)
 }
 
 // The chain of the span that has this record, and such slots.
-fn parts_in(span: &Span, title: Title) -> ChainParts
+pub(crate) fn parts_in(span: &Span, title: Title) -> ChainParts
     requires { span.now.allocated ≤ span.now.provisioned }
     ensures same { result ≡ parts_of_record span.now title }
     ensures none { IsNone result.head ↔ (result.len ≡ 0) }

@@ -3,8 +3,10 @@
 
 mod backs;
 mod changes;
+mod finds;
 mod laws;
 mod shelf;
+mod takes;
 
 pub use laws::{no_shelf_is_new, shown_is_in_words, shown_stays};
 pub use shelf::Shelf;

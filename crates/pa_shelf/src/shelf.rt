@@ -59,7 +59,8 @@ impl Shelf {
         requires turn { self.old.lists.turn < 2 ^ 63 }
         ensures region { own.new.region ≡ own.old.region }
         ensures view { Rerecorded self.old.supers own.old.view own.new.view }
-        ensures shown { (r : Root) → IsSound r → ShowsRoot own.old.view self.old r → ShowsRoot own.new.view self.new (oldest_decommitted r) }
+        ensures shown { (r : Root) → IsSound r → ShowsRoot own.old.view self.old r →
+            ShowsRoot own.new.view self.new (oldest_decommitted r) }
     {
         own.aware();
         if let Some(at) = self.lists.first_empty() {
@@ -104,8 +105,8 @@ impl Shelf {
         ensures region { own.new.region ≡ own.old.region }
         ensures view { Rerecorded self.old.supers own.old.view own.new.view }
         ensures lists { self.new ≡ record self.old { lists = lists_entered at to self.old.lists span } }
-        ensures kept { (r : Root) (s t : RootSpan) → RecordsRoot own.old.view self.old r → Contains r.spans s → IsRecordFor at span s t →
-            RecordsRoot own.new.view self.new (entered to t r) }
+        ensures kept { (r : Root) (s t : RootSpan) → RecordsRoot own.old.view self.old r → Contains r.spans s →
+            IsRecordFor at span s t → RecordsRoot own.new.view self.new (entered to t r) }
         ensures oldest { result ≡ oldest_of self.new.lists.ring }
     {
         let mut store = MetaStore::new(region, own, &self.supers);

@@ -1,0 +1,105 @@
+-- Slots that are taken from a span.
+use Rattle.std.specs.Prelude.{◌≡◌, ℕ, ◌+◌, ◌*◌, ◌/◌, ◌<◌, ◌≤◌, ◌==◌, max, min, if◌then◌else◌, List, [], map, length, Option, Some, None, Contains}
+use Rattle.pa_lists.specs.Numbers.{numbers}
+use Rattle.pa_machine.specs.declared.title.Title.{Title}
+use Rattle.pa_machine.specs.declared.word.SlotName.{SlotName}
+use Rattle.pa_buckets.specs.declared.spans.State.{State}
+use Rattle.pa_buckets.specs.declared.spans.State.TheVariants as state
+use Rattle.pa_buckets.specs.Table.{slot_of, slots_of}
+use Rattle.pa_record.specs.Spans.{Span, title_at, with_free, more_slots}
+use Rattle.pa_record.specs.Root.{Root, Took, taken_from}
+use Rattle.pa_record.specs.Sound.{IsSound}
+use Rattle.pa_region.specs.declared.view.View.{View}
+use Rattle.pa_region.specs.Views.{free_of}
+use Rattle.pa_spans.specs.declared.span.Span.{Span as SpanRecord}
+use Rattle.pa_spans.specs.Lists.{StaysListed}
+use Rattle.pa_records.specs.Words.{spans_in}
+use Rattle.pa_records.specs.Records.{record_with, titles_free}
+use Rattle.pa_records.specs.Stored.{alone}
+use Rattle.pa_link.specs.Chains.{IsChain}
+use Rattle.pa_shelf.specs.Shelves.{ShelfParts, ShowsRoot, chain_of}
+
+-- the first of two, or the second where there is no first one
+abbrev pub first_some : Option ℕ → Option ℕ → Option ℕ
+first_some None o = o
+first_some (Some n) o = Some n
+
+-- where the span starts, if there is one; and the slot, 0 if there is none
+abbrev pub start_of : Option Span → Option ℕ
+start_of None = None
+start_of (Some s) = Some s.place
+
+abbrev pub name_start : Option SlotName → ℕ
+name_start None = 0
+name_start (Some s) = s.start
+
+-- the first slot of a span; and the slots that are side by side with it: the one with a number, and so many from a number on
+abbrev pub first_title : Span → Title
+first_title s = record { start = s.place; len = slot_of s.class; born = s.born }
+
+abbrev pub slot_beside : Title → ℕ → Title
+slot_beside first n = record { start = first.start + first.len * n; len = first.len; born = first.born }
+
+abbrev pub slots_beside : Title → ℕ → ℕ → List Title
+slots_beside first from count = map (slot_beside first) (numbers from count)
+
+-- the record of a span once the front of its list was taken; the next slot starts there
+abbrev pub without_front_of : ℕ → SpanRecord → SpanRecord
+without_front_of head x = record x { allocated = x.allocated + 1; head = head }
+
+-- the state of a span of this class with so many slots out, once one was taken
+abbrev pub state_out : ℕ → ℕ → State
+state_out class allocated = if allocated == slots_of class then state.Full else state.Active
+
+-- The record of a span that starts there, once more of its slots were provisioned: as many pages are committed as one slot more
+-- needs, at least one, and its slots are those that fit into them.
+abbrev pub pages_more : SpanRecord → ℕ
+pages_more x = max (x.committed + 1) ((slot_of x.class * (x.provisioned + 1) + 4095) / 4096)
+
+abbrev pub slots_more : SpanRecord → ℕ
+slots_more x = min (4096 * pages_more x / slot_of x.class) (slots_of x.class)
+
+abbrev pub with_more : ℕ → SpanRecord → SpanRecord
+with_more at x = record x {
+  provisioned = slots_more x;
+  committed = pages_more x;
+  made = max x.made (slots_more x);
+  head = at + slot_of x.class * x.provisioned;
+}
+
+-- A slot can be taken from the span s of a sound root that is shown, which starts at the offset: not all of its slots are out. If its
+-- list is empty, the seat holds the slots free that are provisioned then.
+pub record IsTakeAt (v : View) (l : ShelfParts) (at : ℕ) (r : Root) (s : Span) : Type 0 where
+  pub sound : IsSound r
+  pub shown : ShowsRoot v l r
+  pub among : Contains r.spans s
+  pub here : s.place ≡ at
+  pub less : s.allocated < slots_of s.class
+  pub held : s.free ≡ [] → (n : ℕ) → s.provisioned ≤ n → n < more_slots s → 0 < free_of v (title_at s n)
+
+-- and x is the record that the words have of it, and t its first slot
+pub record IsTakeOf (v : View) (l : ShelfParts) (x : SpanRecord) (t : Title) (r : Root) (s : Span) : Type 0 where
+  pub take : IsTakeAt v l t.start r s
+  pub read : x ≡ spans_in v.words t.start
+  pub first : t ≡ first_title s
+
+-- Its list isn't empty now: the view has the chain of it, and x is the record of the span with that list. The record in the words
+-- is still the one that it was.
+pub record IsReadyAt (v : View) (l : ShelfParts) (x : SpanRecord) (t : Title) (r : Root) (s : Span) : Type 0 where
+  pub sound : IsSound r
+  pub shown : ShowsRoot v l r
+  pub among : Contains r.spans s
+  pub less : s.allocated < slots_of s.class
+  pub first : t ≡ first_title s
+  pub listed : StaysListed (spans_in v.words t.start) x
+  pub is : alone x ≡ record_with (with_free s) 0 0
+  pub chain : IsChain v (chain_of (with_free s)) (titles_free (with_free s))
+
+-- the root after a take from the span, and the slot that was taken
+abbrev pub take_of : Span → Root → Took
+take_of s r = taken_from (Some (record { span = s; root = r })) r
+
+-- of a seat's view only words are others
+pub record Rewritten (v w : View) : Type 0 where
+  pub rest : w ≡ record v { words = w.words; since = record v.since { stored = w.since.stored } }
+  pub long : length w.words ≡ length v.words
