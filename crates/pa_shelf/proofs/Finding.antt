@@ -9,9 +9,9 @@ use Rattle.pa_buckets.specs.declared.spans.State.TheVariants as state
 use Rattle.pa_buckets.specs.Table.{slot_of, pages_of, slots_of}
 use Rattle.pa_buckets.proofs.SpanRule.{FollowsRule-of}
 use Rattle.pa_record.specs.declared.taken.SuperPage.{SuperPage}
-use Rattle.pa_record.specs.Spans.{Span, same_state, same_place, title_at}
+use Rattle.pa_record.specs.Spans.{Span, same_state, same_place}
 use Rattle.pa_record.specs.Root.{Root}
-use Rattle.pa_record.specs.Sound.{StateSays, IsCounted}
+use Rattle.pa_record.specs.Sound.{StateSays}
 use Rattle.pa_record.proofs.Places.{place_tells}
 use Rattle.pa_record.proofs.Entering.{same_state-true}
 use Rattle.pa_record.proofs.Slots.{slot_within}

@@ -1,21 +1,20 @@
 -- A span whose list is empty is provisioned: what stays, and that a slot can be taken then.
-use Rattle.std.proofs.Common.{◌≡◌, ℕ, zero, suc, ◌+◌, ◌-◌, ◌*◌, ◌/◌, ◌%◌, ◌<◌, ◌≤◌, max, inl, inr, List, map, length, [], ◌∷◌, refl, sym, ◌∙◌, ap, subst, arith}
+use Rattle.std.proofs.Common.{◌≡◌, ℕ, zero, suc, ◌+◌, ◌-◌, ◌*◌, ◌/◌, ◌%◌, ◌<◌, ◌≤◌, inl, inr, List, map, length, [], refl, sym, ◌∙◌, ap, subst, arith}
 use Rattle.std.specs.Prelude.{◌≢◌, AllPairs, Contains}
 use Rattle.std.proofs.lemmas.List.Elements.{All-contains}
 use Rattle.std.proofs.Math.Nat.{mul-le-mul_left}
 use Rattle.pa_lists.specs.Numbers.{numbers}
 use Rattle.pa_lists.proofs.Different.{numbers_length, numbers_in}
 use Rattle.pa_lists.proofs.Joined.{map_cases}
-use Rattle.pa_lists.proofs.Members.{not_in_none}
 use Rattle.pa_lists.proofs.Tests.{times_whole}
 use Rattle.pa_machine.specs.declared.title.Title.{Title}
-use Rattle.pa_machine.specs.Links.{front_of, first_word}
+use Rattle.pa_machine.specs.Links.{front_of}
 use Rattle.pa_machine.proofs.Same.{title_is}
 use Rattle.pa_layout.specs.Pages.{super_page_at}
 use Rattle.pa_buckets.specs.Table.{slot_of, pages_of, slots_of}
 use Rattle.pa_buckets.proofs.Facts.{IsRow-of}
 use Rattle.pa_record.specs.declared.taken.SuperPage.{SuperPage}
-use Rattle.pa_record.specs.Spans.{Span, title_at, name_of, more_slots, provisioned_more, with_list, with_free}
+use Rattle.pa_record.specs.Spans.{Span, title_at, more_slots, provisioned_more, with_list, with_free}
 use Rattle.pa_record.specs.Root.{Root}
 use Rattle.pa_record.proofs.SpanSteps.{list_cases, more_than, size_some}
 use Rattle.pa_record.proofs.Slots.{one_slot}
@@ -29,7 +28,7 @@ use Rattle.pa_records.specs.Words.{record_word, IsRecordAt, spans_in}
 use Rattle.pa_records.specs.Records.{front_start, record_with, titles_free}
 use Rattle.pa_records.specs.Stored.{alone}
 use Rattle.pa_meta.specs.Meta.{HasRawRecord}
-use Rattle.pa_meta.specs.Stores.{IsPayloadOf, HasSpanAt}
+use Rattle.pa_meta.specs.Stores.{HasSpanAt}
 use Rattle.pa_link.specs.declared.chain.ChainParts.{ChainParts}
 use Rattle.pa_link.specs.Chains.{slot_names, IsChain, Relinked, SameBeside}
 use Rattle.pa_link.proofs.Gaps.{free_same}
@@ -146,15 +145,15 @@ push_chains v w l r s from count shown among real listed one p z member y inside
     let same_free = free_same v w p.relinked y in (
       omega arith,
       p.beside (y.start / 8) (λ t pushed e.
-      let (n, least, most, t_is) = pushed_in s from count t pushed in
-      let starts : (title_at s n).start / 8 ≡ (title_at z m).start / 8 =
-      ap (λ (u : Title). u.start / 8) t_is ∙ (e ∙ sym (ap (λ (u : Title). u.start / 8) is)) in
-      let both = never_listed v l r s z n m p.aware shown (real s among) (real z member) among member (p.held n least most) free_at starts in
-      let high = p.high in let low = p.low in
-      let (span, number) = one z member n m (omega arith) numbered both in
-      let below = listed z member m numbered in
-      let many = ap (λ (u : Span). u.provisioned) span in
-      omega arith),
+          let (n, least, most, t_is) = pushed_in s from count t pushed in
+          let starts : (title_at s n).start / 8 ≡ (title_at z m).start / 8 =
+          ap (λ (u : Title). u.start / 8) t_is ∙ (e ∙ sym (ap (λ (u : Title). u.start / 8) is)) in
+          let both = never_listed v l r s z n m p.aware shown (real s among) (real z member) among member (p.held n least most) free_at starts in
+          let high = p.high in let low = p.low in
+          let (span, number) = one z member n m (omega arith) numbered both in
+          let below = listed z member m numbered in
+          let many = ap (λ (u : Span). u.provisioned) span in
+          omega arith),
     )
 
 -- so the root is shown, and a slot can be taken

@@ -1,5 +1,5 @@
 -- Slots that are side by side are pushed from the last to the first.
-use Rattle.std.proofs.Common.{◌≡◌, ℕ, suc, ◌+◌, ◌-◌, ◌*◌, ◌<◌, ◌≤◌, List, map, ◌∷◌, [], Option, Some, None, refl, sym, ◌∙◌, ap, subst, arith}
+use Rattle.std.proofs.Common.{◌≡◌, ℕ, ◌+◌, ◌-◌, ◌*◌, ◌<◌, ◌≤◌, List, ◌∷◌, [], Option, Some, None, refl, sym, ◌∙◌, ap, subst, arith}
 use Rattle.std.specs.Prelude.{Contains, IsNone, ◌++◌}
 use Rattle.std.specs.Option.{option_to_list}
 use Rattle.std.proofs.Math.Nat.{mul-le-mul_left}
@@ -16,7 +16,7 @@ use Rattle.pa_region.specs.declared.view.View.{View}
 use Rattle.pa_region.specs.Views.{free_of}
 use Rattle.pa_link.specs.declared.chain.ChainParts.{ChainParts}
 use Rattle.pa_link.specs.Chains.{slot_names, IsChain, Relinked, SameBeside, after_link}
-use Rattle.pa_link.proofs.Gaps.{relinked_none, relinked_once, relinked_more, beside_once, free_same}
+use Rattle.pa_link.proofs.Gaps.{relinked_none, relinked_once, relinked_more, beside_once}
 use Rattle.pa_shelf.specs.Taking.{slot_beside, slots_beside}
 use Rattle.pa_shelf.proofs.Returning.{parts_alike}
 
@@ -108,6 +108,6 @@ all_pushed v w first from count c p =
     let at : from + count - count ≡ from = omega arith in
     let chain : IsChain w c (slots_beside first from count) = subst (λ n. IsChain w c (slots_beside first n count)) at p.chain in (
       subst (λ (d : ChainParts). IsChain w d (slots_beside first from count))
-      (parts_alike c (record { slot_len = first.len; head = front_of (slot_names (slots_beside first from count)); len = count }) p.size chain.head p.many) chain,
+          (parts_alike c (record { slot_len = first.len; head = front_of (slot_names (slots_beside first from count)); len = count }) p.size chain.head p.many) chain,
       subst (λ n. SameBeside (slots_beside first n count) v.words w.words) at p.beside,
     )

@@ -1,5 +1,5 @@
 -- The front of a span's list is taken: what is shown then.
-use Rattle.std.proofs.Common.{◌≡◌, ℕ, ◌+◌, ◌-◌, ◌^◌, ◌<◌, ◌≤◌, inl, inr, Bool, true, false, if◌then◌else◌, List, map, length, [], ◌∷◌, Option, Some, None, refl, sym, ◌∙◌, ap, subst, arith}
+use Rattle.std.proofs.Common.{◌≡◌, ℕ, ◌^◌, ◌<◌, ◌≤◌, inl, inr, Bool, true, false, if◌then◌else◌, List, map, length, [], ◌∷◌, refl, sym, ◌∙◌, ap, subst, arith}
 use Rattle.std.specs.Prelude.{◌≢◌, Contains}
 use Rattle.std.proofs.lemmas.Bool.{cases_Bool}
 use Rattle.std.proofs.lemmas.Bool.Decides.{eqb_tells}
@@ -12,7 +12,6 @@ use Rattle.pa_buckets.specs.declared.spans.State.{State}
 use Rattle.pa_buckets.specs.declared.spans.State.TheVariants as state
 use Rattle.pa_buckets.specs.Table.{slot_of, slots_of}
 use Rattle.pa_buckets.proofs.Facts.{IsRow-of}
-use Rattle.pa_record.specs.declared.taken.SuperPage.{SuperPage}
 use Rattle.pa_record.specs.Spans.{Span, same_state, title_at, with_list, with_free, without_front, state_in_use}
 use Rattle.pa_record.specs.Root.{Root, in_state, entered, front_taken}
 use Rattle.pa_record.proofs.SpanSteps.{HasFront, size_some, list_cases, with_free_front}
@@ -26,12 +25,12 @@ use Rattle.pa_records.specs.Words.{spans_in}
 use Rattle.pa_records.specs.Records.{front_start, record_with, titles_free}
 use Rattle.pa_records.specs.Stored.{alone}
 use Rattle.pa_meta.specs.Meta.{HasRawRecord}
-use Rattle.pa_meta.specs.Stores.{IsPayloadOf, HasSpanAt, Rerecorded}
+use Rattle.pa_meta.specs.Stores.{IsPayloadOf, Rerecorded}
 use Rattle.pa_link.specs.declared.chain.ChainParts.{ChainParts}
 use Rattle.pa_link.specs.Chains.{slot_names, IsChain}
 use Rattle.pa_shelf.specs.Moving.{IsRecordFor, parts_of_record}
 use Rattle.pa_shelf.specs.Shelves.{ShelfParts, chain_of, RecordsRoot, ShowsRoot}
-use Rattle.pa_shelf.specs.Taking.{name_start, first_title, without_front_of, state_out, IsTakeOf, IsReadyAt, take_of}
+use Rattle.pa_shelf.specs.Taking.{name_start, without_front_of, state_out, IsTakeOf, IsReadyAt, take_of}
 use Rattle.pa_shelf.proofs.Chained.{chain_stays, entered_chain, chains_changed}
 use Rattle.pa_shelf.proofs.Decommitting.{ring_shrinks}
 use Rattle.pa_shelf.proofs.Returning.{record_is, list_parts}

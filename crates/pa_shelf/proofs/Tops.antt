@@ -1,5 +1,5 @@
 -- The head of a list is the span of greatest turn, so what the heads give is the span from which a slot is taken.
-use Rattle.std.proofs.Common.{◌≡◌, ℕ, ◌<◌, ◌≤◌, inl, inr, Bool, true, false, ◌==◌, if◌then◌else◌, List, Option, Some, None, refl, sym, ◌∙◌, ap, subst, arith}
+use Rattle.std.proofs.Common.{◌≡◌, ℕ, ◌<◌, inl, inr, Bool, true, false, ◌==◌, if◌then◌else◌, List, Option, Some, None, refl, sym, ◌∙◌, ap, subst, arith}
 use Rattle.std.specs.Prelude.{Contains}
 use Rattle.std.proofs.lemmas.Bool.{and_parts, and_from, eqb-true, eq-eqb}
 use Rattle.std.proofs.lemmas.Bool.Decides.{eqb_tells}
@@ -8,13 +8,12 @@ use Rattle.pa_buckets.specs.declared.spans.State.TheVariants as state
 use Rattle.pa_record.specs.Spans.{Span, is_in, is_of, same_state, latest, or_else, listed}
 use Rattle.pa_record.specs.Root.{Root}
 use Rattle.pa_record.specs.Sound.{IsSound}
-use Rattle.pa_record.specs.Steps.{IsLatest}
 use Rattle.pa_record.proofs.Choice.{latest_is}
 use Rattle.pa_record.proofs.Chosen.{is_latest}
 use Rattle.pa_record.proofs.Entering.{same_state-true, same_state-self}
 use Rattle.pa_region.specs.declared.view.View.{View}
 use Rattle.pa_spans.specs.declared.span.Span.{Span as SpanRecord}
-use Rattle.pa_spans.specs.Lists.{SpanListParts, HasList, IsMember, IsHead, Stand, list_head, top_of}
+use Rattle.pa_spans.specs.Lists.{HasList, IsMember, IsHead, list_head, top_of}
 use Rattle.pa_records.specs.Words.{spans_in}
 use Rattle.pa_records.specs.Stored.{AreStored}
 use Rattle.pa_meta.specs.Stores.{HasSpanAt}

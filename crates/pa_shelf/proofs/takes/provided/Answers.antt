@@ -1,4 +1,4 @@
-use Rattle.std.proofs.Common.{◌≡◌, ◌∙◌, ◌+◌, ◌-◌, ◌<◌, ◌≤◌, sym, arith}
+use Rattle.std.proofs.Common.{◌∙◌, ◌-◌, sym, arith}
 use Rattle.std.proofs.lemmas.Bool.{ltb-true, ltb-false}
 use Rattle.pa_shelf.proofs.Taking.{ready_listed}
 use Rattle.pa_shelf.proofs.Provisioning.{room_for, can_push, more_left, ready_pushed}

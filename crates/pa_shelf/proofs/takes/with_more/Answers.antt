@@ -1,4 +1,4 @@
-use Rattle.std.proofs.Common.{◌≡◌, ℕ, ◌+◌, ◌*◌, ◌/◌, ◌<◌, ◌≤◌, max, min, ap, arith}
+use Rattle.std.proofs.Common.{◌≡◌, ℕ, ◌≤◌, min, ap, arith}
 use Rattle.pa_buckets.specs.declared.spans.SpanShape.{SpanShape}
 use Rattle.pa_buckets.specs.Table.{slots_of}
 use Rattle.pa_shelf.proofs.Fitting.{are_small}

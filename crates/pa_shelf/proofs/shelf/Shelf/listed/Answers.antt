@@ -1,4 +1,4 @@
-use Rattle.std.proofs.Common.{◌≡◌, ◌∙◌, Option, ℕ, ap}
+use Rattle.std.proofs.Common.{◌∙◌, ap}
 use Rattle.pa_buckets.specs.declared.spans.State.{State}
 use Rattle.pa_buckets.specs.declared.spans.State.TheVariants as state
 use Rattle.pa_spans.specs.Lists.{top_of}

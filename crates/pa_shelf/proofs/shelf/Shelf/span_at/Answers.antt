@@ -7,7 +7,6 @@ use Rattle.pa_records.specs.Words.{record_word, IsRecordAt, spans_in}
 use Rattle.pa_records.proofs.Words.{span_is}
 use Rattle.pa_spans.specs.declared.span.Span.{Span}
 use Rattle.pa_meta.specs.Meta.{HasRawRecord}
-use Rattle.pa_meta.specs.Stores.{HasSpanAt}
 use Rattle.pa_shelf.specs.Shelves.{IsBackAt}
 use Rattle.pa_shelf.proofs.Finding.{inside, page_has, goes_on, is_first, at_last}
 use Rattle.pa_shelf.proofs.shelf.Shelf.span_at.Goals as goal

@@ -1,4 +1,4 @@
-use Rattle.std.proofs.Common.{◌≡◌, ◌∙◌, refl, sym, subst, ap}
+use Rattle.std.proofs.Common.{◌∙◌, refl, subst, ap}
 use Rattle.pa_machine.specs.declared.title.Title.{Title}
 use Rattle.pa_region.specs.Shares.{Share}
 use Rattle.pa_shelf.specs.Shelves.{ShelfParts}
@@ -18,18 +18,25 @@ read_meta-span-requires-clause-record c =
 pub provided-ready-requires-clause-able : goal.provided-ready-requires-clause-able
 provided-ready-requires-clause-able c =
     let (r, s, b) = c.requires.able in let l = c.args.self.now in
-    let t : Title = record { start = c.args.at; len = c.slot_size.result; born = c.born_in.result } in
-    (l, r, s, take_is c.read_meta-span.new.seat c.args.own.now l c.args.at r s c.read_meta-span.result t c.super_page_of.result c.deref.result.now b
-    c.read_meta-span.ensures.seat c.read_meta-span.ensures.span refl c.slot_size.ensures.size c.super_page_of.ensures.page
-    (c.deref.ensures.value ∙ ap (λ (p : ShelfParts). p.supers) c.self.view_is) c.born_in.ensures)
+    let t : Title = record { start = c.args.at; len = c.slot_size.result; born = c.born_in.result } in (
+      l,
+      r,
+      s,
+      take_is c.read_meta-span.new.seat c.args.own.now l c.args.at r s c.read_meta-span.result t c.super_page_of.result c.deref.result.now b
+          c.read_meta-span.ensures.seat c.read_meta-span.ensures.span refl c.slot_size.ensures.size c.super_page_of.ensures.page
+          (c.deref.ensures.value ∙ ap (λ (p : ShelfParts). p.supers) c.self.view_is) c.born_in.ensures,
+    )
 
 pub take_off-requires-clause-ready : goal.take_off-requires-clause-ready
 take_off-requires-clause-ready c =
     let (r, s, b) = c.requires.able in let l = c.args.self.now in
-    let t : Title = record { start = c.args.at; len = c.slot_size.result; born = c.born_in.result } in
-    (r, s, c.provided-ready.ensures.ready l r s (take_is c.read_meta-span.new.seat c.args.own.now l c.args.at r s c.read_meta-span.result t
-    c.super_page_of.result c.deref.result.now b c.read_meta-span.ensures.seat c.read_meta-span.ensures.span refl c.slot_size.ensures.size
-    c.super_page_of.ensures.page (c.deref.ensures.value ∙ ap (λ (p : ShelfParts). p.supers) c.self.view_is) c.born_in.ensures))
+    let t : Title = record { start = c.args.at; len = c.slot_size.result; born = c.born_in.result } in (
+      r,
+      s,
+      c.provided-ready.ensures.ready l r s (take_is c.read_meta-span.new.seat c.args.own.now l c.args.at r s c.read_meta-span.result t
+          c.super_page_of.result c.deref.result.now b c.read_meta-span.ensures.seat c.read_meta-span.ensures.span refl c.slot_size.ensures.size
+          c.super_page_of.ensures.page (c.deref.ensures.value ∙ ap (λ (p : ShelfParts). p.supers) c.self.view_is) c.born_in.ensures),
+    )
 
 pub returns-clause-title : goal.returns-clause-title
 returns-clause-title c r s b =
