@@ -7,6 +7,7 @@ mod Oldest
 mod Provisioning
 mod Pushing
 mod Returning
+mod Rewriting
 mod Seats
 mod Settling
 mod Starting

@@ -33,7 +33,7 @@ use Rattle.pa_link.specs.declared.chain.ChainParts.{ChainParts}
 use Rattle.pa_link.specs.Chains.{slot_names, IsChain, Relinked, SameBeside}
 use Rattle.pa_link.proofs.Gaps.{free_same}
 use Rattle.pa_shelf.specs.Shelves.{ShelfParts, chain_of, KeepsRecords, KeepsChains, ShowsRoot}
-use Rattle.pa_shelf.specs.Taking.{first_title, slot_beside, slots_beside, slots_more, with_more, IsTakeAt, IsTakeOf, IsReadyAt, Rewritten}
+use Rattle.pa_shelf.specs.Taking.{first_title, slot_beside, slots_beside, slots_more, with_more, IsTakeAt, IsTakeOf, IsReadyAt}
 use Rattle.pa_shelf.proofs.Chained.{apart}
 use Rattle.pa_shelf.proofs.Decommitting.{read_is}
 use Rattle.pa_shelf.proofs.Returning.{record_is, parts_alike}
@@ -276,12 +276,6 @@ take_is y z l at r s x t number supers b seat read start len number_is supers_ar
       first = first_is z.view l at r s x t number b x_is start len number_is (λ a apart among same.
           born a (subst (AllPairs (λ (b c : SuperPage). b.number ≢ c.number)) (sym supers_are) apart) (subst (λ zs. Contains zs a) (sym supers_are) among) same);
     })
-
-pub rewritten_on : (u v w : View) → Rewritten u v → Rewritten v w → Rewritten u w
-rewritten_on u v w first second = record {
-  rest = second.rest ∙ ap (λ (x : View). record x { words = w.words; since = record x.since { stored = w.since.stored } }) first.rest;
-  long = second.long ∙ first.long;
-}
 
 -- these slots can be pushed
 pub record CanPush (v : View) (t : Title) (from count : ℕ) : Type 0 where

@@ -52,7 +52,10 @@ records_stay v w l r keeps k =
       page = k.page;
       turn = k.turn;
       apart = k.apart;
+      small = k.small;
       pages = λ u payload. has_kept l.supers v w u keeps (k.pages u payload);
+      unused = λ u h none. let was = k.pages u h.payload in let e = same u was in
+          ap (λ (x : SpanRecord). x.turn) e ∙ k.unused u was (sym (ap (λ (x : SpanRecord). x.state) e) ∙ none);
       stand = stays l.lists (spans_in v.words) (spans_in w.words) (HasSpanAt v l.supers) (HasSpanAt w l.supers) k.stand (record {
         on = λ u h. (has_kept l.supers v w u keeps h, same_listed (spans_in v.words u) (spans_in w.words u) (same u h));
         back = λ u h. let was = k.pages u h.payload in inl (was, same_listed (spans_in v.words u) (spans_in w.words u) (same u was));

@@ -1,9 +1,10 @@
 -- A span that changes, and enters a state.
-use Rattle.std.specs.Prelude.{◌≡◌, ℕ, ◌+◌, ◌-◌, ◌==◌, if◌then◌else◌, Some, None}
+use Rattle.std.specs.Prelude.{◌≡◌, ℕ, ◌+◌, ◌-◌, ◌==◌, if◌then◌else◌, Some, None, length}
 use Rattle.pa_machine.specs.declared.title.Title.{Title}
 use Rattle.pa_buckets.specs.declared.spans.State.{State}
 use Rattle.pa_buckets.specs.declared.spans.State.TheVariants as state
 use Rattle.pa_record.specs.Spans.{Span, name_of}
+use Rattle.pa_region.specs.declared.view.View.{View}
 use Rattle.pa_spans.specs.declared.span.Span.{Span as SpanRecord}
 use Rattle.pa_records.specs.Records.{record_with}
 use Rattle.pa_records.specs.Stored.{alone}
@@ -39,3 +40,8 @@ with_front_of start x = record x { allocated = x.allocated - 1; head = start }
 -- the state of a span with so many slots out, once one came back
 abbrev pub state_with : ℕ → State
 state_with allocated = if allocated == 0 then state.Empty else state.Active
+
+-- of a seat's view only words are others
+pub record Rewritten (v w : View) : Type 0 where
+  pub rest : w ≡ record v { words = w.words; since = record v.since { stored = w.since.stored } }
+  pub long : length w.words ≡ length v.words

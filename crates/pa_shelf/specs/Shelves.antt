@@ -3,12 +3,14 @@ use Rattle.std.specs.Prelude.{◌≡◌, ◌≢◌, ℕ, ◌+◌, ◌<◌, ◌�
 use Rattle.pa_machine.specs.declared.title.Title.{Title}
 use Rattle.pa_machine.specs.Links.{first_word, front_of}
 use Rattle.pa_buckets.specs.Table.{slot_of}
+use Rattle.pa_buckets.specs.declared.spans.State.TheVariants as state
 use Rattle.pa_record.specs.declared.taken.SuperPage.{SuperPage}
 use Rattle.pa_record.specs.Spans.{Span, title_at, name_of}
 use Rattle.pa_record.specs.Root.{Root, new_root, IsOutOf}
 use Rattle.pa_record.specs.Sound.{IsSound}
 use Rattle.pa_region.specs.declared.view.View.{View}
 use Rattle.pa_region.specs.Views.{free_of}
+use Rattle.pa_spans.specs.declared.span.Span.{Span as SpanRecord}
 use Rattle.pa_spans.specs.Lists.{SpanListParts, Stand, no_lists}
 use Rattle.pa_records.specs.Words.{record_word, spans_in}
 use Rattle.pa_records.specs.Records.{titles_free, HasSpans}
@@ -33,15 +35,22 @@ no_shelf = record { supers = []; maps = []; page = 0; lists = no_lists }
 abbrev pub chain_of : Span → ChainParts
 chain_of s = record { slot_len = slot_of s.class; head = front_of (slot_names (titles_free s)); len = length s.free }
 
--- The records keep the root: it has these super pages, which differ in number, direct maps and turn; each payload page has a record
--- of its own; the lists stand for the spans that the words have, and these are the root's spans.
+-- a record that isn't in use has turn 0
+abbrev pub StartsAtZero : SpanRecord → Type 0
+StartsAtZero x = x.state ≡ state.None → x.turn ≡ 0
+
+-- The records keep the root: it has these super pages, which lie in a region and differ in number, direct maps and turn; each payload
+-- page has a record of its own, of turn 0 if it isn't in use; the lists stand for the spans that the words have, and these are the
+-- root's spans.
 pub record RecordsRoot (v : View) (l : ShelfParts) (r : Root) : Type 0 where
   pub supers : r.supers ≡ l.supers
   pub maps : r.maps ≡ l.maps
   pub page : r.page ≡ l.page
   pub turn : r.turn ≡ l.lists.turn
   pub apart : AllPairs (λ (a b : SuperPage). a.number ≢ b.number) l.supers
+  pub small : (a : SuperPage) → Contains l.supers a → a.number < 2048
   pub pages : (u : ℕ) → IsPayloadOf l.supers u → HasSpanAt v l.supers u
+  pub unused : (u : ℕ) → HasSpanAt v l.supers u → StartsAtZero (spans_in v.words u)
   pub stand : Stand l.lists (spans_in v.words) (HasSpanAt v l.supers)
   pub few : length l.lists.ring ≤ 17
   pub stored : AreStored (spans_in v.words) (HasSpanAt v l.supers) r.spans

@@ -1,5 +1,5 @@
 -- Slots that are taken from a span.
-use Rattle.std.specs.Prelude.{◌≡◌, ℕ, ◌+◌, ◌*◌, ◌/◌, ◌<◌, ◌≤◌, ◌==◌, max, min, if◌then◌else◌, List, [], map, length, Option, Some, None, Contains}
+use Rattle.std.specs.Prelude.{◌≡◌, ℕ, ◌+◌, ◌*◌, ◌/◌, ◌<◌, ◌≤◌, ◌==◌, max, min, if◌then◌else◌, List, [], map, Option, Some, None, Contains}
 use Rattle.pa_lists.specs.Numbers.{numbers}
 use Rattle.pa_machine.specs.declared.title.Title.{Title}
 use Rattle.pa_machine.specs.declared.word.SlotName.{SlotName}
@@ -98,8 +98,3 @@ pub record IsReadyAt (v : View) (l : ShelfParts) (x : SpanRecord) (t : Title) (r
 -- the root after a take from the span, and the slot that was taken
 abbrev pub take_of : Span → Root → Took
 take_of s r = taken_from (Some (record { span = s; root = r })) r
-
--- of a seat's view only words are others
-pub record Rewritten (v w : View) : Type 0 where
-  pub rest : w ≡ record v { words = w.words; since = record v.since { stored = w.since.stored } }
-  pub long : length w.words ≡ length v.words

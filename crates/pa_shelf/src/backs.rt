@@ -7,7 +7,7 @@ ghost use Rattle.pa_record.specs.Root.{Root, put_back, returned};
 ghost use Rattle.pa_region.specs.Views.{free_of};
 ghost use Rattle.pa_spans.specs.Lists.{oldest_of};
 ghost use Rattle.pa_link.specs.Chains.{IsChain, after_link};
-ghost use Rattle.pa_shelf.specs.Moving.{parts_of_record, pushed_parts, with_front_of, state_with};
+ghost use Rattle.pa_shelf.specs.Moving.{parts_of_record, pushed_parts, with_front_of, state_with, Rewritten};
 ghost use Rattle.pa_shelf.specs.Shelves.{ShowsRoot, IsBackAt};
 
 use crate::shelf::Shelf;
@@ -37,6 +37,7 @@ impl Shelf {
         ensures shown { (r : Root) (s : RootSpan) (n : ℕ) → IsBackAt own.old.view self.old at title r s n →
             ShowsRoot own.new.view self.new (put_back (name_of title) (Some s) r) }
         ensures oldest { result ≡ oldest_of self.new.lists.ring }
+        ensures rest { Rewritten own.old.view own.new.view }
     {
         own.aware();
         own.placed(title);
@@ -60,6 +61,7 @@ impl Shelf {
         ensures region { own.new.region ≡ own.old.region }
         ensures shown { (r : Root) (s : RootSpan) (n : ℕ) → IsBackAt own.old.view self.old at title r s n →
             ShowsRoot own.new.view self.new (returned (name_of title) r) }
+        ensures rest { Rewritten own.old.view own.new.view }
     {
         if let Some(oldest) = self.put_back(region, own, at, title) {
             let _ = oldest;

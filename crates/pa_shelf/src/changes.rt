@@ -5,6 +5,7 @@ ghost use Rattle.pa_record.specs.Root.{in_state};
 ghost use Rattle.pa_spans.specs.Lists.{Stand, StaysListed, lists_entered, oldest_of};
 ghost use Rattle.pa_records.specs.Stored.{AreStored};
 ghost use Rattle.pa_shelf.specs.Moving.{IsRecordFor};
+ghost use Rattle.pa_shelf.specs.Shelves.{StartsAtZero};
 
 use pa_buckets::State;
 use pa_spans::{Span, SpanLists, SpanStore};
@@ -26,6 +27,9 @@ pub(crate) fn change_in<S: SpanStore>(
     requires turn { lists.old.turn < 2 ^ 63 }
     ensures stored { (ss : List RootSpan) (s t : RootSpan) → AreStored (S.spans store.old) (S.has store.old) ss → Contains ss s →
         IsRecordFor at span s t → AreStored (S.spans store.new) (S.has store.new) (put (in_state to lists.old.turn t) ss) }
+    ensures unused { (ss : List RootSpan) (s t : RootSpan) → AreStored (S.spans store.old) (S.has store.old) ss → Contains ss s →
+        IsRecordFor at span s t → ((u : ℕ) → S.has store.old u → StartsAtZero (S.spans store.old u)) →
+        (u : ℕ) → S.has store.new u → StartsAtZero (S.spans store.new u) }
     ensures lists { lists.new ≡ lists_entered at to lists.old span }
     ensures has { (u : ℕ) → S.has store.new u ↔ S.has store.old u }
     ensures stand { Stand lists.new (S.spans store.new) (S.has store.new) }

@@ -6,7 +6,7 @@ ghost use Rattle.pa_record.specs.Sound.{IsSound};
 ghost use Rattle.pa_spans.specs.Lists.{Stand, StaysListed, lists_entered, oldest_of};
 ghost use Rattle.pa_records.specs.Words.{spans_in};
 ghost use Rattle.pa_meta.specs.Stores.{HasSpanAt, Rerecorded};
-ghost use Rattle.pa_shelf.specs.Moving.{IsRecordFor, without_pages_of};
+ghost use Rattle.pa_shelf.specs.Moving.{IsRecordFor, without_pages_of, Rewritten};
 ghost use Rattle.pa_shelf.specs.Shelves.{no_shelf, RecordsRoot, ShowsRoot};
 
 use crate::changes::change_in;
@@ -77,6 +77,7 @@ impl Shelf {
         requires turn { self.old.lists.turn + 16 < 2 ^ 63 }
         ensures region { own.new.region ≡ own.old.region }
         ensures shown { (r : Root) → IsSound r → ShowsRoot own.old.view self.old r → ShowsRoot own.new.view self.new (purged r) }
+        ensures rest { Rewritten own.old.view own.new.view }
     {
         let count = self.lists.empties();
         for done in 0..count {

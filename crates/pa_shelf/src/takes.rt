@@ -8,9 +8,9 @@ ghost use Rattle.pa_record.specs.Spans.{Span as RootSpan};
 ghost use Rattle.pa_record.specs.Root.{Root};
 ghost use Rattle.pa_region.specs.Views.{free_of};
 ghost use Rattle.pa_link.specs.Chains.{IsChain, Relinked, SameBeside, slot_names};
-ghost use Rattle.pa_shelf.specs.Moving.{parts_of_record};
+ghost use Rattle.pa_shelf.specs.Moving.{parts_of_record, Rewritten};
 ghost use Rattle.pa_shelf.specs.Shelves.{ShelfParts, ShowsRoot};
-ghost use Rattle.pa_shelf.specs.Taking.{name_start, first_title, slot_beside, slots_beside, without_front_of, state_out, with_more, IsTakeAt, IsTakeOf, IsReadyAt, Rewritten, take_of};
+ghost use Rattle.pa_shelf.specs.Taking.{name_start, first_title, slot_beside, slots_beside, without_front_of, state_out, with_more, IsTakeAt, IsTakeOf, IsReadyAt, take_of};
 
 use crate::backs::parts_in;
 use crate::shelf::Shelf;

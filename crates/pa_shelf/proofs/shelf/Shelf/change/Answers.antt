@@ -8,7 +8,7 @@ use Rattle.pa_records.specs.Stored.{AreStored}
 use Rattle.pa_shelf.specs.contracts.shelf.Shelf
 use Rattle.pa_records.specs.Words.{spans_in}
 use Rattle.pa_meta.specs.Stores.{HasSpanAt}
-use Rattle.pa_shelf.specs.Shelves.{ShelfParts, RecordsRoot}
+use Rattle.pa_shelf.specs.Shelves.{ShelfParts, StartsAtZero, RecordsRoot}
 use Rattle.pa_shelf.proofs.Seats.{IsStoreOf, stored_at, has_alike, stands_in, stands_out, stored_alike, stored_back}
 use Rattle.pa_shelf.proofs.Moves.{change_kept}
 use Rattle.pa_shelf.proofs.shelf.Shelf.change.Goals as goal
@@ -55,7 +55,13 @@ returns-clause-kept c r s t k among is_for =
     let stand = stands_out (lists_entered c.args.at c.args.to l c.args.span) y y new.region.now supers new.supers.now is_new
     (subst (λ (z : SpanListParts). Stand z (spans_in y.view.words) (stored_at y new.region.now new.supers.now)) c.change_in.ensures.lists c.change_in.ensures.stand) in
     let few = subst (λ (p : ShelfParts). length (lists_entered c.args.at c.args.to p.lists c.args.span).ring ≤ 17) (sym c.self.view_is) c.requires.few in
-    let done = change_kept a.view y.view (Shelf.the_view c.self.inside) c.args.span c.args.at c.args.to r s t kept is_for same stand few stored_after in
+    let both_old = has_alike a b old.region.now supers old.supers.now is_old in
+    let both_new = has_alike y y new.region.now supers new.supers.now is_new in
+    let before : (u : ℕ) → stored_at b old.region.now old.supers.now u → StartsAtZero (spans_in b.view.words u) = λ u h.
+    subst (λ (z : Share). StartsAtZero (spans_in z.view.words u)) (sym is_old.seat) (kept.unused u ((both_old u).0 h)) in
+    let unused : (u : ℕ) → HasSpanAt y.view supers u → StartsAtZero (spans_in y.view.words u) = λ u h.
+    c.change_in.ensures.unused r.spans s t stored_before among is_for before u ((both_new u).1 h) in
+    let done = change_kept a.view y.view (Shelf.the_view c.self.inside) c.args.span c.args.at c.args.to r s t kept is_for same unused stand few stored_after in
     let last : c.own-1.given.0 ≡ y = c.own-1.given.1 (sym (follows.0 ∙ c.new-store.ensures.same_reference)) in
     subst (λ (z : Share). RecordsRoot z.view (record (Shelf.the_view c.self.inside) { lists = c.change_in.new.lists }) (entered c.args.to t r)) (sym last)
     (subst (λ (z : SpanListParts). RecordsRoot y.view (record (Shelf.the_view c.self.inside) { lists = z }) (entered c.args.to t r)) (sym c.change_in.ensures.lists) done)

@@ -3,6 +3,7 @@ use Rattle.pa_record.specs.Spans.{name_of}
 use Rattle.pa_record.specs.Root.{put_back}
 use Rattle.pa_shelf.specs.Shelves.{ShowsRoot}
 use Rattle.pa_shelf.proofs.Settling.{settle_some, settle_none, back_is, returned_is}
+use Rattle.pa_shelf.proofs.Rewriting.{rewritten_on, of_records}
 use Rattle.pa_shelf.proofs.shelf.Shelf.give_back.Goals as goal
 
 pub decommit_oldest-requires-clause-shown : goal.decommit_oldest-requires-clause-shown
@@ -37,3 +38,8 @@ returns-in_default-clause-shown c r s n b =
     subst (ShowsRoot w m)
     (sym (returned_is v l c.args.at t r s n b ∙ settle_none w m after shown.kept (sym c.put_back.ensures.oldest ∙ c.in_default.is)))
     shown
+
+pub returns-in-Some-clause-rest : goal.returns-in-Some-clause-rest
+returns-in-Some-clause-rest c =
+    let w = c.put_back.new.own.view in let x = c.decommit_oldest.new.own.view in
+    rewritten_on c.args.own.now.view w x c.put_back.ensures.rest (of_records c.put_back.new.self.supers w x c.decommit_oldest.ensures.view)

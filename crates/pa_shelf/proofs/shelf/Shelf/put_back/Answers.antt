@@ -13,10 +13,11 @@ use Rattle.pa_records.specs.Records.{titles_free}
 use Rattle.pa_meta.specs.Stores.{HasSpanAt, Rerecorded}
 use Rattle.pa_link.specs.declared.chain.ChainParts.{ChainParts}
 use Rattle.pa_link.specs.Chains.{IsChain, after_link}
-use Rattle.pa_shelf.specs.Moving.{IsRecordFor, parts_of_record, pushed_parts, state_with}
+use Rattle.pa_shelf.specs.Moving.{IsRecordFor, parts_of_record, pushed_parts, state_with, Rewritten}
 use Rattle.pa_shelf.specs.Shelves.{RecordsRoot, chain_of}
 use Rattle.pa_shelf.proofs.Decommitting.{read_is}
 use Rattle.pa_shelf.proofs.Returning.{back_had, some_out, parts_are, not_listed, few_more, front_stays, pushed_kept, pushed_is, state_used, back_shown}
+use Rattle.pa_shelf.proofs.Rewriting.{rewritten_on, of_records, of_link}
 use Rattle.pa_shelf.proofs.shelf.Shelf.put_back.Goals as goal
 
 pub read_meta-span-requires-clause-raw : goal.read_meta-span-requires-clause-raw
@@ -105,3 +106,11 @@ returns-clause-shown c r s n b =
     back_shown (byte_word_count c.args.own.now.region) v w l c.change.new.self at t link r s n x y to b c.aware.ensures.aware c.placed.ensures.well
     c.requires.able (subst IsAware e c.aware-2.ensures.aware) (subst (λ (z : View). Rerecorded l.supers z w) e c.change.ensures.view) x_is c.with_front.ensures
     (c.state_back-to.ensures ∙ sym (ap (λ (z : SpanRecord). state_with z.allocated) c.with_front.ensures)) chain (moved r)
+
+pub returns-clause-rest : goal.returns-clause-rest
+returns-clause-rest c =
+    let v = c.args.own.now.view in let t = c.args.title in
+    let link = link_to (parts_of_record c.read_meta-span.result t).head in
+    let e = c.push_onto.ensures.view ∙ ap (λ (z : Share). after_link t link z.view) c.read_meta-span.ensures.seat in
+    rewritten_on v c.push_onto.new.own.view c.change.new.own.view (subst (Rewritten v) (sym e) (of_link t link v c.requires.able))
+    (of_records c.args.self.now.supers c.push_onto.new.own.view c.change.new.own.view c.change.ensures.view)

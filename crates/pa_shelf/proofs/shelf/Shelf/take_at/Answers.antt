@@ -2,8 +2,9 @@ use Rattle.std.proofs.Common.{◌∙◌, refl, subst, ap}
 use Rattle.pa_machine.specs.declared.title.Title.{Title}
 use Rattle.pa_region.specs.Shares.{Share}
 use Rattle.pa_shelf.specs.Shelves.{ShelfParts}
-use Rattle.pa_shelf.specs.Taking.{Rewritten}
-use Rattle.pa_shelf.proofs.Provisioning.{take_had, take_is, rewritten_on}
+use Rattle.pa_shelf.specs.Moving.{Rewritten}
+use Rattle.pa_shelf.proofs.Provisioning.{take_had, take_is}
+use Rattle.pa_shelf.proofs.Rewriting.{rewritten_on}
 use Rattle.pa_shelf.proofs.shelf.Shelf.take_at.Goals as goal
 
 pub read_meta-span-requires-clause-raw : goal.read_meta-span-requires-clause-raw
