@@ -80,7 +80,7 @@ few_left at l x few = elim (cases_Bool (same_state x.state state.Decommitted)) [
 ]
 
 -- a span without free slots
-empty_chain : (v : View) (s : Span) → s.free ≡ [] → IsChain v (chain_of s) (titles_free s)
+pub empty_chain : (v : View) (s : Span) → s.free ≡ [] → IsChain v (chain_of s) (titles_free s)
 empty_chain v s e = subst (λ (ns : List ℕ). IsChain v (chain_of (record s { free = ns })) (titles_free (record s { free = ns }))) (sym e) (record {
   many = refl;
   head = refl;

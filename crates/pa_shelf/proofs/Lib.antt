@@ -1,7 +1,9 @@
+mod Adding
 mod Chained
 mod Decommitting
 mod Finding
 mod Fitting
+mod Fresh
 mod Moves
 mod Oldest
 mod Provisioning

@@ -39,13 +39,13 @@ put_twice a b (t ∷ ts) same = elim (cases_Bool (same_place t b)) [
 pub enters_same_place : (to : State) (turn : ℕ) (t : Span) → same_place t (in_state to turn t) ≡ true
 enters_same_place to turn t = place_sym (in_state to turn t) t (like_place (in_state to turn t) t (in_state_like to turn t))
 
-there_is : (at : ℕ) (y x : SpanRecord) → (if at == at then x else y) ≡ x
+pub there_is : (at : ℕ) (y x : SpanRecord) → (if at == at then x else y) ≡ x
 there_is at y x = elim (eqb_tells at at) [
   | inl w ↦ ap (λ (b : Bool). if b then x else y) w.0
   | inr w ↦ absurd (w.1 refl)
 ]
 
-elsewhere_is : (u at : ℕ) (y x : SpanRecord) → u ≢ at → (if u == at then x else y) ≡ y
+pub elsewhere_is : (u at : ℕ) (y x : SpanRecord) → u ≢ at → (if u == at then x else y) ≡ y
 elsewhere_is u at y x other = elim (eqb_tells u at) [
   | inl w ↦ absurd (other w.1)
   | inr w ↦ ap (λ (b : Bool). if b then x else y) w.0

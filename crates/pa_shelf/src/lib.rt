@@ -1,6 +1,7 @@
 //! The spans of a root in records of the metadata pages, with their free slots in chains.
 #![tactic(auto)]
 
+mod adds;
 mod backs;
 mod changes;
 mod finds;
