@@ -1,11 +1,10 @@
 -- A span that starts on a page of which the record isn't in use: what a store has then.
-use Rattle.std.proofs.Common.{◌≡◌, ◌≢◌, ℕ, inl, inr, false, ◌==◌, if◌then◌else◌, List, ◌∷◌, ◌++◌, [], refl, sym, ◌∙◌, ap, subst}
+use Rattle.std.proofs.Common.{◌≡◌, ℕ, inl, inr, false, ◌==◌, if◌then◌else◌, List, ◌∷◌, ◌++◌, [], sym, ◌∙◌, ap, subst}
 use Rattle.std.specs.Prelude.{◌↔◌, Contains}
 use Rattle.std.proofs.lemmas.Bool.{cases_Bool}
 use Rattle.std.proofs.lemmas.Bool.Decides.{eqb_tells}
-use Rattle.std.proofs.lemmas.List.Elements.{Contains-push_cases, Contains-append_left, Contains-push}
+use Rattle.std.proofs.lemmas.List.Elements.{Contains-push_cases, Contains-append_left}
 use Rattle.pa_lists.proofs.Pairs.{pairs_push}
-use Rattle.pa_buckets.specs.declared.spans.State.TheVariants as state
 use Rattle.pa_record.specs.Spans.{Span, same_place}
 use Rattle.pa_record.specs.Root.{Root}
 use Rattle.pa_record.proofs.Places.{place_tells}

@@ -1,5 +1,5 @@
 -- The next free page of the current super page: its record isn't in use, and a span that starts there is shown.
-use Rattle.std.proofs.Common.{◌≡◌, ◌≢◌, ℕ, ◌+◌, ◌-◌, ◌*◌, ◌/◌, ◌%◌, ◌<◌, ◌≤◌, inl, inr, Bool, true, false, if◌then◌else◌, leb, List, length, ◌∷◌, ◌++◌, [], Option, Some, None, refl, sym, ◌∙◌, ap, subst, arith}
+use Rattle.std.proofs.Common.{◌≡◌, ◌≢◌, ℕ, ◌+◌, ◌-◌, ◌*◌, ◌/◌, ◌%◌, ◌<◌, ◌≤◌, inl, inr, true, if◌then◌else◌, length, ◌∷◌, ◌++◌, [], Option, Some, None, refl, sym, ◌∙◌, ap, subst, arith}
 use Rattle.std.specs.Prelude.{Contains, nat_le, slice_get}
 use Rattle.std.proofs.lemmas.Bool.{cases_Bool, both_ways, leb-true}
 use Rattle.std.proofs.lemmas.List.Elements.{Contains-push_cases}
@@ -10,8 +10,8 @@ use Rattle.pa_buckets.specs.declared.spans.State.TheVariants as state
 use Rattle.pa_buckets.specs.Table.{pages_of}
 use Rattle.pa_buckets.proofs.Facts.{IsRow-of}
 use Rattle.pa_record.specs.declared.taken.SuperPage.{SuperPage}
-use Rattle.pa_record.specs.Spans.{Span, same_state, bytes_of}
-use Rattle.pa_record.specs.Root.{Root, Found, current, at_page, new_span, with_span}
+use Rattle.pa_record.specs.Spans.{Span, same_state}
+use Rattle.pa_record.specs.Root.{Root, current, at_page, found_or_new, new_span, with_span}
 use Rattle.pa_record.specs.Sound.{IsSound}
 use Rattle.pa_record.proofs.SpanSteps.{size_some}
 use Rattle.pa_record.proofs.Entering.{same_state-true}
@@ -24,6 +24,7 @@ use Rattle.pa_meta.specs.Stores.{HasSpanAt, Rerecorded}
 use Rattle.pa_link.specs.Chains.{IsChain}
 use Rattle.pa_shelf.specs.Adding.{found_start, found_root, room_in, IsAddedAs}
 use Rattle.pa_shelf.specs.Shelves.{ShelfParts, chain_of, RecordsRoot, ShowsRoot}
+use Rattle.pa_shelf.specs.Taking.{start_of}
 use Rattle.pa_shelf.proofs.Chained.{chain_stays}
 use Rattle.pa_shelf.proofs.Decommitting.{empty_chain}
 use Rattle.pa_shelf.proofs.Finding.{one_number}
@@ -140,3 +141,13 @@ pub here_room : (v : View) (l : ShelfParts) (r : Root) (class : ℕ) (o : Option
     o ≡ room_in class l.page (slice_get l.supers (length l.supers - 1)) → room_in class r.page (current r) ≡ o
 here_room v l r class o k is =
     ap (λ n. room_in class n (current r)) k.page ∙ (ap (λ zs. room_in class l.page (slice_get zs (length zs - 1))) k.supers ∙ sym is)
+
+-- a span that is listed is found, and else a new one
+pub found_listed : (class : ℕ) (r : Root) (o : Option Span) (at : ℕ) → Some at ≡ start_of o →
+    (found_start (found_or_new class r o) ≡ Some at) × (found_root (found_or_new class r o) r ≡ r)
+found_listed class r None at e = let no : Some at ≡ None = e in absurd (cc)
+found_listed class r (Some s) at e = (sym e, refl)
+
+pub none_listed : (class : ℕ) (r : Root) (o : Option Span) → None ≡ start_of o → found_or_new class r o ≡ at_page class r (current r)
+none_listed class r None e = refl
+none_listed class r (Some s) e = let no : Some s.place ≡ None = sym e in absurd (cc)

@@ -5,7 +5,7 @@ ghost use Rattle.pa_buckets.specs.declared.spans.State.TheVariants as state;
 ghost use Rattle.pa_buckets.specs.Table.{pages_of};
 ghost use Rattle.pa_record.specs.declared.taken.SuperPage.{SuperPage};
 ghost use Rattle.pa_record.specs.Spans.{Span as RootSpan};
-ghost use Rattle.pa_record.specs.Root.{Root, current, at_page, new_span, with_span};
+ghost use Rattle.pa_record.specs.Root.{Root, current, at_page, span_for, new_span, with_span};
 ghost use Rattle.pa_record.specs.Sound.{IsSound};
 ghost use Rattle.pa_spans.specs.Lists.{Stand, IsOutside};
 ghost use Rattle.pa_records.specs.Words.{spans_in};
@@ -27,6 +27,23 @@ use pa_spans::{Span, SpanLists, SpanStore};
 const END: u32 = 127;
 
 impl Shelf {
+    /// Where the span starts from which a slot of the class is taken: the one that is listed, and else a new one, if the current super
+    /// page has room for it. `None` exactly where the pool has to be asked. It allocates nothing.
+    pub fn span_for(&mut self, region: &Region, own: &mut Seat, class: Class) -> Option<u32>
+        requires region { own.old.region ≡ region.now }
+        requires able { (r : Root) × IsSound r × ShowsRoot own.old.view self.old r }
+        ensures region { own.new.region ≡ own.old.region }
+        ensures start { (r : Root) → IsSound r → ShowsRoot own.old.view self.old r → result ≡ found_start (span_for class r) }
+        ensures shown { (r : Root) → IsSound r → ShowsRoot own.old.view self.old r →
+            ShowsRoot own.new.view self.new (found_root (span_for class r) r) }
+        ensures rest { Rewritten own.old.view own.new.view }
+    {
+        if let Some(at) = self.listed(class) {
+            return Some(at);
+        }
+        self.add_span(region, own, class)
+    }
+
     /// Starts a span of the class on the next free page of the current super page: none of its slots is provisioned. It answers
     /// where the span starts, `None` exactly where there is no room for it. It allocates nothing.
     pub fn add_span(&mut self, region: &Region, own: &mut Seat, class: Class) -> Option<u32>
@@ -58,13 +75,7 @@ impl Shelf {
     }
 
     // Starts a span of the class on the next free page of the current super page, which has room for it.
-    fn start_span(
-        &mut self,
-        region: &Region,
-        own: &mut Seat,
-        class: Class,
-        at: SuperPage,
-    ) -> u32
+    fn start_span(&mut self, region: &Region, own: &mut Seat, class: Class, at: SuperPage) -> u32
         requires region { own.old.region ≡ region.now }
         requires able { (r : Root) × IsSound r × ShowsRoot own.old.view self.old r × (current r ≡ Some at) × (r.page + pages_of class ≤ 127) }
         ensures region { own.new.region ≡ own.old.region }

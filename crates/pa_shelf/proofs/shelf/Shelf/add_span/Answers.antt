@@ -1,10 +1,8 @@
-use Rattle.std.proofs.Common.{◌≡◌, ◌∙◌, ◌+◌, ◌-◌, ◌*◌, ◌≤◌, length, Some, None, sym, subst, ap, arith}
+use Rattle.std.proofs.Common.{◌∙◌, ◌+◌, ◌-◌, ◌*◌, length, Some, sym, subst, ap, arith}
 use Rattle.std.specs.Prelude.{slice_get}
-use Rattle.pa_buckets.specs.Table.{pages_of}
-use Rattle.pa_record.specs.declared.taken.SuperPage.{SuperPage}
-use Rattle.pa_record.specs.Root.{Root, Found, current, at_page, new_span, with_span}
-use Rattle.pa_shelf.specs.Adding.{found_start, found_root, room_in}
-use Rattle.pa_shelf.specs.Shelves.{ShelfParts, RecordsRoot, ShowsRoot}
+use Rattle.pa_record.specs.Root.{current}
+use Rattle.pa_shelf.specs.Adding.{found_start, found_root}
+use Rattle.pa_shelf.specs.Shelves.{ShowsRoot}
 use Rattle.pa_shelf.proofs.Fresh.{here_room, room_some, found_some, found_none}
 use Rattle.pa_shelf.proofs.Rewriting.{rewritten_none}
 use Rattle.pa_shelf.proofs.shelf.Shelf.add_span.Goals as goal

@@ -1,10 +1,8 @@
-use Rattle.std.proofs.Common.{◌≡◌, ◌∙◌, ◌+◌, ◌<◌, ◌≤◌, length, sym, subst, ap, arith}
+use Rattle.std.proofs.Common.{◌≡◌, ◌∙◌, ◌+◌, sym, subst, ap, arith}
 use Rattle.pa_layout.specs.Pages.{page_place}
 use Rattle.pa_buckets.specs.declared.spans.SpanShape.{SpanShape}
 use Rattle.pa_buckets.specs.Table.{pages_of}
-use Rattle.pa_buckets.proofs.Facts.{IsRow-of}
 use Rattle.pa_lists.proofs.Indexed.{at_in}
-use Rattle.pa_record.specs.declared.taken.SuperPage.{SuperPage}
 use Rattle.pa_record.specs.Root.{new_span}
 use Rattle.std.specs.Prelude.{Contains}
 use Rattle.pa_meta.specs.Stores.{HasSpanAt}
