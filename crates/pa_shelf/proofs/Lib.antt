@@ -1,11 +1,13 @@
 mod Adding
 mod Chained
+mod Counting
 mod Decommitting
 mod Finding
 mod Fitting
 mod Fresh
 mod Moves
 mod Oldest
+mod Opening
 mod Provisioning
 mod Pushing
 mod Returning
@@ -14,5 +16,7 @@ mod Seats
 mod Settling
 mod Starting
 mod Staying
+mod Sums
 mod Taking
 mod Tops
+mod Totals

@@ -24,7 +24,7 @@ use pa_region::{Region, Seat};
 use pa_spans::{Span, SpanLists, SpanStore};
 
 // The most pages at which spans end: the last page of a super page is a guard.
-const END: u32 = 127;
+pub(crate) const END: u32 = 127;
 
 impl Shelf {
     /// Where the span starts from which a slot of the class is taken: the one that is listed, and else a new one, if the current super

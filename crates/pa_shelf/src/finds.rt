@@ -63,7 +63,7 @@ fn first_some(first: Option<u32>, second: Option<u32>) -> Option<u32>
 }
 
 // Whether no span starts at the page at this offset.
-fn starts_none(region: &Region, own: &mut Seat, at: u32) -> bool
+pub(crate) fn starts_none(region: &Region, own: &mut Seat, at: u32) -> bool
     requires region { own.old.region ≡ region.now }
     requires raw { HasRawRecord own.old.view at }
     requires record { (x : Span) × IsRecordAt own.old.view.words (record_word at) x }

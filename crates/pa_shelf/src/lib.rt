@@ -4,8 +4,10 @@
 mod adds;
 mod backs;
 mod changes;
+mod counts;
 mod finds;
 mod laws;
+mod opens;
 mod shelf;
 mod takes;
 

@@ -1,4 +1,4 @@
-ghost use Rattle.std.specs.Prelude.{◌≡◌, ◌≢◌, ◌+◌, ◌^◌, ◌<◌, ◌≤◌, Contains, length};
+ghost use Rattle.std.specs.Prelude.{◌≡◌, ◌≢◌, ◌+◌, ◌^◌, ◌<◌, ◌≤◌, Contains, IfOk, length};
 ghost use Rattle.pa_buckets.specs.declared.spans.State.TheVariants as state;
 ghost use Rattle.pa_record.specs.Spans.{Span as RootSpan};
 ghost use Rattle.pa_record.specs.Root.{Root, entered, oldest_decommitted, purged};
@@ -11,13 +11,16 @@ ghost use Rattle.pa_shelf.specs.Shelves.{no_shelf, RecordsRoot, ShowsRoot};
 
 use crate::changes::change_in;
 use pa_buckets::State;
-use pa_machine::Title;
+use pa_machine::{OutOfMemory, Title};
 use pa_meta::{MetaStore, read_meta};
 use pa_record::SuperPage;
 use pa_region::{Region, Seat};
 use pa_spans::{Span, SpanLists};
 use std::alloc::Global;
 use std::marker::Model;
+
+// The most super pages of a region.
+const SUPERS: usize = 16;
 
 /// The super pages of a root, its direct maps and the heads of its lists of spans. The spans' records stand in the metadata
 /// pages, and their free slots in chains: the root's seat has both. Contracts see it as the record `ShelfParts`; which root it shows,
@@ -31,24 +34,32 @@ pub struct Shelf {
 }
 
 impl Model for Shelf {
+    ghost use Rattle.std.specs.Prelude.{◌≡◌, ◌<◌, ◌≤◌, All, length};
+    ghost use Rattle.std.specs.Vec.{vec_capacity};
+    ghost use Rattle.pa_layout.specs.Limits.{most_supers};
+    ghost use Rattle.pa_record.specs.declared.taken.SuperPage.{SuperPage};
     ghost use Rattle.pa_shelf.specs.Shelves.{ShelfParts};
 
     ghost Value = { ShelfParts };
 
     ghost view = { λ s. record { supers = s.supers.items; maps = s.maps.items; page = s.page; lists = s.lists } };
+
+    ghost invariant = { λ s. (vec_capacity s.supers ≡ most_supers) × (length s.supers.items ≤ most_supers)
+        × All (λ (a : SuperPage). a.number < most_supers) s.supers.items };
 }
 
 impl Shelf {
-    /// A shelf without super pages. It allocates nothing.
-    pub fn new(alloc: Global) -> Shelf
-        ensures { result ≡ no_shelf }
+    /// A shelf without super pages, with memory for as many as a region has.
+    pub fn new(alloc: Global) -> Result<Shelf, OutOfMemory>
+        ensures { IfOk result (λ l. l ≡ no_shelf) }
     {
-        Shelf {
-            supers: Vec::new(alloc),
+        let supers = Vec::with_capacity(alloc, SUPERS)?;
+        Ok(Shelf {
+            supers,
             maps: Vec::new(alloc),
             page: 0,
             lists: SpanLists::new(),
-        }
+        })
     }
 
     /// Decommits the empty span of least turn: its free list is emptied, and its pages go back to the system. Nothing changes where
