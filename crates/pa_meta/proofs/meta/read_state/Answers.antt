@@ -1,6 +1,6 @@
-use Rattle.std.proofs.Common.{◌≡◌, ◌+◌, ◌*◌, ◌/◌, ◌∙◌, sym, subst, ap, arith}
+use Rattle.std.proofs.Common.{◌≡◌, ◌+◌, ◌/◌, ◌∙◌, sym, subst, ap, arith}
 use Rattle.std.specs.Prelude.{slice_index}
-use Rattle.pa_records.specs.Words.{record_byte, record_word, AreRecordOf}
+use Rattle.pa_records.specs.Words.{record_word, AreRecordOf}
 use Rattle.pa_meta.proofs.Writing.{raw_word}
 use Rattle.pa_meta.proofs.meta.read_state.Goals as goal
 
