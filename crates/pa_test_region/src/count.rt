@@ -31,16 +31,16 @@ fn a_slot_is_issued_and_pointed_to(rt: HostRuntime) -> Result<(), Fail> {
     a_cut_leaves_zeros();
     region.cut(&mut seat, first);
     region.cut(&mut seat, second);
-    assert_eq!(rt; issue(&region, &mut seat, first).0, 0);
-    assert_eq!(rt; copy(&region, &mut seat, first).0, 0x1000001);
-    assert_eq!(rt; look(&region, &mut seat, first).0, 0x2000003);
+    assert!(rt; issue(&region, &mut seat, first).0 == 0);
+    assert!(rt; copy(&region, &mut seat, first).0 == 0x1000001);
+    assert!(rt; look(&region, &mut seat, first).0 == 0x2000003);
     let (found, fate) = reset(&region, &mut seat, first);
-    assert_eq!(rt; found.0, 0x2000003);
-    assert_eq!(rt; fate, Fate::Kept);
-    assert_eq!(rt; issue(&region, &mut seat, second).0, 0);
+    assert!(rt; found.0 == 0x2000003);
+    assert!(rt; fate == Fate::Kept);
+    assert!(rt; issue(&region, &mut seat, second).0 == 0);
     let closed = region.close(seat);
-    assert_eq!(rt; closed.word(0x4008), 0x3000001);
-    assert_eq!(rt; closed.word(0x4018), 0x1000001);
+    assert!(rt; closed.word(0x4008) == 0x3000001);
+    assert!(rt; closed.word(0x4018) == 0x1000001);
     Ok(())
 }
 
@@ -74,8 +74,8 @@ fn two_threads_reset_a_slot(rt: HostRuntime) -> Result<(), Fail> {
     let shared = &region;
     let ((seat, first), ()) = thread::join(&rt, move || reset_by(shared, seat, title), || ());
     let ((), (_, second)) = thread::join(&rt, || (), move || reset_by(shared, seat, title));
-    assert_eq!(rt; first, (Word(0x3000005), Fate::Kept));
-    assert_eq!(rt; second, (Word(0x4000003), Fate::Kept));
+    assert!(rt; first == (Word(0x3000005), Fate::Kept));
+    assert!(rt; second == (Word(0x4000003), Fate::Kept));
     Ok(())
 }
 
@@ -100,17 +100,17 @@ fn bytes_are_cut_again(rt: HostRuntime) -> Result<(), Fail> {
     region.cut(&mut seat, old);
     region.uncut(&mut seat, old);
     region.cut(&mut seat, new);
-    assert_eq!(rt; issue(&region, &mut seat, new).0, 0);
+    assert!(rt; issue(&region, &mut seat, new).0 == 0);
     let closed = region.close(seat);
-    assert_eq!(rt; closed.word(0x4008), 0x1000001);
+    assert!(rt; closed.word(0x4008) == 0x1000001);
     Ok(())
 }
 
 #[test]
 fn a_new_region_is_closed(rt: HostRuntime) -> Result<(), Fail> {
     let (region, seat) = Region::new(rt.alloc(), 1, 0)?;
-    assert_eq!(rt; seat.stake(), 0);
+    assert!(rt; seat.stake() == 0);
     let closed = region.close(seat);
-    assert_eq!(rt; closed.word(0), 0);
+    assert!(rt; closed.word(0) == 0);
     Ok(())
 }

@@ -35,6 +35,19 @@ fn entry(line: u32, answer: Answer) -> Entry {
     }
 }
 
+// Whether a worker goes on after three lines that found nothing, and has neither slots nor handles.
+fn has_told_nothing<N: Name>(worker: &Worker<N>) -> bool {
+    let records = [
+        entry(2, Answer::Nothing),
+        entry(3, Answer::Nothing),
+        entry(5, Answer::Nothing),
+    ];
+    !worker.stopped()
+        && worker.records() == records.as_slice()
+        && worker.cached(0) == Tally { slots: 0, bytes: 0 }
+        && worker.counts()[0].issued == 0
+}
+
 // Three ops of a worker, and then its stake is handed over and taken back.
 fn play<N: Name, R: Abort>(rt: &R, alloc: Global, region: Region, seat: Seat) -> Result<(), Fail>
     requires regions { (region ≡ N.region) × (seat.region ≡ N.region) }
@@ -46,15 +59,7 @@ fn play<N: Name, R: Abort>(rt: &R, alloc: Global, region: Region, seat: Seat) ->
     assert!(rt; worker.copy(&heap, 2, 0, 63) == Answer::Nothing);
     assert!(rt; worker.write(&heap, 3, 5, 7) == Answer::Nothing);
     assert!(rt; worker.deref(&heap, 5, 63, 0) == Answer::Nothing);
-    assert!(rt; !worker.stopped());
-    let records = [
-        entry(2, Answer::Nothing),
-        entry(3, Answer::Nothing),
-        entry(5, Answer::Nothing),
-    ];
-    assert!(rt; worker.records() == records.as_slice());
-    assert!(rt; worker.cached(0) == Tally { slots: 0, bytes: 0 });
-    assert!(rt; worker.counts()[0].issued == 0);
+    assert!(rt; has_told_nothing(&worker));
     worker.settle(&heap);
     let told = worker.tell(&heap);
     worker.hear(&heap, told);
@@ -93,6 +98,12 @@ fn purged(line: u32) -> RootEntry {
     }
 }
 
+// Whether a worker goes on after two lines, both of them purges that gave nothing back.
+fn has_purged_nothing<N: Name>(worker: &Worker<N>, answers: [Answer; 2]) -> bool {
+    let nothing = Answer::Purged { slots: 0 };
+    answers == [nothing, nothing] && worker.records().len() == 2 && !worker.stopped()
+}
+
 // Two purges of a worker without lists: they say so, and the roots of the run's two partitions have an entry of each.
 fn purge_twice<N: Name, R: Abort + Wait>(
     rt: &R,
@@ -108,10 +119,7 @@ fn purge_twice<N: Name, R: Abort + Wait>(
     let mut worker = Worker::<N>::open(alloc, note, 2, 2, 3)?;
     let first = worker.purge(rt, &heap, 4)?;
     let second = worker.purge(rt, &heap, 7)?;
-    assert!(rt; first == Answer::Purged { slots: 0 });
-    assert!(rt; second == Answer::Purged { slots: 0 });
-    assert!(rt; worker.records().len() == 2);
-    assert!(rt; !worker.stopped());
+    assert!(rt; has_purged_nothing(&worker, [first, second]));
     let (_, _, first, second, third, fourth, _) = heap.parts();
     assert!(rt; was_purged(rt, &first, &[4, 7]));
     assert!(rt; was_purged(rt, &second, &[4, 7]));

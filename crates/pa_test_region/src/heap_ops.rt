@@ -33,6 +33,39 @@ fn seen(found: u64) -> Seen {
     }
 }
 
+// Whether these are the answers of the seven lines.
+fn are_due(answers: [Answer; 7]) -> bool {
+    let done = |found: u64| Answer::Done { seen: seen(found) };
+    let due = [
+        Answer::Made {
+            seen: seen(0),
+            usable: 8,
+        },
+        done(0x100_0001),
+        done(0x200_0001),
+        done(0x300_0003),
+        Answer::Dangling {
+            seen: seen(0x400_0002),
+            value: POISON,
+        },
+        done(0x400_0002),
+        Answer::Swapped { entry: 0 },
+    ];
+    answers == due
+}
+
+// Whether a worker goes on after seven lines, with one free that left a slot, and eight slots in its cache.
+fn has_ended<N: Name>(worker: &Worker<N>) -> bool {
+    let cached = Tally {
+        slots: 8,
+        bytes: 128,
+    };
+    !worker.stopped()
+        && worker.records().len() == 7
+        && worker.counts()[0].left == 1
+        && worker.cached(0) == cached
+}
+
 // The note of thread 0, out of the seat with which a heap's workers begin.
 fn hand_over(region: &Region, seat: &mut Seat) -> Note
     requires region { seat.old.region ≡ region.now }
@@ -65,54 +98,8 @@ fn play<N: Name, R: Abort + Wait>(
     let read = worker.deref(&heap, 6, 1, 0);
     let cleared = worker.reset(rt, &heap, 7, 1)?;
     let swapped = worker.exchange(rt, &heap, 8, 0, 1)?;
-    let seen_first = seen(0);
-    let usable = 8;
-    assert!(rt;
-        made == Answer::Made {
-            seen: seen_first,
-            usable
-        }
-    );
-    assert!(rt;
-        written
-            == Answer::Done {
-                seen: seen(0x100_0001)
-            }
-    );
-    assert!(rt;
-        copied
-            == Answer::Done {
-                seen: seen(0x200_0001)
-            }
-    );
-    assert!(rt;
-        freed
-            == Answer::Done {
-                seen: seen(0x300_0003)
-            }
-    );
-    let dangling = Answer::Dangling {
-        seen: seen(0x400_0002),
-        value: POISON,
-    };
-    assert!(rt; read == dangling);
-    assert!(rt;
-        cleared
-            == Answer::Done {
-                seen: seen(0x400_0002)
-            }
-    );
-    assert!(rt; swapped == Answer::Swapped { entry: 0 });
-    assert!(rt; worker.counts()[0].left == 1);
-    assert!(rt;
-        worker.cached(0)
-            == Tally {
-                slots: 8,
-                bytes: 128
-            }
-    );
-    assert!(rt; !worker.stopped());
-    assert!(rt; worker.records().len() == 7);
+    assert!(rt; are_due([made, written, copied, freed, read, cleared, swapped]));
+    assert!(rt; has_ended(&worker));
     Ok(())
 }
 

@@ -37,12 +37,12 @@ fn a_lent_stake_makes_entries(rt: HostRuntime) -> Result<(), Fail> {
     let keeper = region.hand(&mut seat, &[], 0, &[Mark::Keeper(4)]);
     let mut pool = keeper.seat();
     two_entries(&region, &mut seat, &mut pool);
-    assert_eq!(rt; seat.stake(), 0);
+    assert!(rt; seat.stake() == 0);
     let note = pool.note();
     region.take(&mut seat, note);
     list_and_log_meet(&seat, 0, 4);
     let closed = region.close(seat);
-    assert_eq!(rt; closed.word(0), 0);
+    assert!(rt; closed.word(0) == 0);
     Ok(())
 }
 
@@ -61,6 +61,6 @@ fn a_stake_is_lent_on(rt: HostRuntime) -> Result<(), Fail> {
         2,
         &[2, 0],
     );
-    assert_eq!(rt; seat.stake(), 0);
+    assert!(rt; seat.stake() == 0);
     Ok(())
 }

@@ -90,14 +90,14 @@ fn a_list_and_a_free_list_lie_side_by_side(rt: HostRuntime) -> Result<(), Fail> 
     cut_row(&region, &mut seat, 0, 256);
     let cached = chain_row(&region, &mut seat, 0, 256, 0, 8);
     let kept = chain_row(&region, &mut seat, 0, 256, 8, 256);
-    assert_eq!(rt; cached.len(), 8);
-    assert_eq!(rt; kept.len(), 248);
+    assert!(rt; cached.len() == 8);
+    assert!(rt; kept.len() == 248);
     let closed = region.close(seat);
-    assert_eq!(rt; closed.word(0x4000), 0x1040_0000_0000_0000);
-    assert_eq!(rt; closed.word(0x4070), 0);
-    assert_eq!(rt; closed.word(0x4080), 0x9040_0000_0000_0000);
-    assert_eq!(rt; closed.word(0x40f0), 0x0041_0000_0000_0000);
-    assert_eq!(rt; closed.word(0x4ff0), 0);
+    assert!(rt; closed.word(0x4000) == 0x1040_0000_0000_0000);
+    assert!(rt; closed.word(0x4070) == 0);
+    assert!(rt; closed.word(0x4080) == 0x9040_0000_0000_0000);
+    assert!(rt; closed.word(0x40f0) == 0x0041_0000_0000_0000);
+    assert!(rt; closed.word(0x4ff0) == 0);
     Ok(())
 }
 
@@ -106,10 +106,10 @@ fn a_link_has_the_generation_of_its_slot(rt: HostRuntime) -> Result<(), Fail> {
     let (region, mut seat) = Region::new(rt.alloc(), 1, 0)?;
     cut_row(&region, &mut seat, 2, 3);
     let chain = chain_row(&region, &mut seat, 2, 3, 1, 3);
-    assert_eq!(rt; chain.len(), 2);
+    assert!(rt; chain.len() == 2);
     let closed = region.close(seat);
-    assert_eq!(rt; closed.word(0x4010), 0x2040_0000_0200_0000);
-    assert_eq!(rt; closed.word(0x4020), 0);
+    assert!(rt; closed.word(0x4010) == 0x2040_0000_0200_0000);
+    assert!(rt; closed.word(0x4020) == 0);
     Ok(())
 }
 
@@ -119,11 +119,11 @@ fn titles_come_out_of_the_middle(rt: HostRuntime) -> Result<(), Fail> {
     cut_row(&region, &mut seat, 0, 65);
     let mut chain = chain_row(&region, &mut seat, 0, 65, 0, 65);
     let first = chain.take_after(&region, &mut seat, 32);
-    assert_eq!(rt; first.len(), 16);
+    assert!(rt; first.len() == 16);
     assert!(rt; go_up_from(0x4200, first.as_slice()));
-    assert_eq!(rt; chain.len(), 49);
+    assert!(rt; chain.len() == 49);
     let closed = region.close(seat);
-    assert_eq!(rt; closed.word(0x41f0), 0x0043_0000_0000_0000);
-    assert_eq!(rt; closed.word(0x4400), 0);
+    assert!(rt; closed.word(0x41f0) == 0x0043_0000_0000_0000);
+    assert!(rt; closed.word(0x4400) == 0);
     Ok(())
 }

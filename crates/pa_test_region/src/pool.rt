@@ -172,12 +172,8 @@ fn the_lowest_super_pages_come_first(rt: HostRuntime) -> Result<(), Fail> {
     let note = seat.note();
     let played = play::<Brand>(rt.alloc(), &region, &mut others, note);
     let (answers, entries) = played.ok_or(OutOfMemory)?;
-    assert_eq!(rt; answers.one, (0, 0));
-    assert_eq!(rt; answers.two, (1, 1));
-    assert_eq!(rt; answers.full, 2);
-    assert_eq!(rt; answers.gave, 3);
-    assert_eq!(rt; answers.again, (4, 0));
-    assert_eq!(rt; answers.gave_two, 5);
+    assert!(rt; [answers.one, answers.two, answers.again] == [(0, 0), (1, 1), (4, 0)]);
+    assert!(rt; [answers.full, answers.gave, answers.gave_two] == [2, 3, 5]);
     let due = [
         took(1, Some(0)),
         took(2, Some(1)),

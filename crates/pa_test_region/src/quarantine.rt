@@ -15,22 +15,22 @@ fn a_dangling_pointer_reads_poison(rt: HostRuntime) -> Result<(), Fail> {
     a_new_region_can_be_cut();
     region.cut(&mut seat, title);
     zero_fill(&region, &mut seat, title);
-    assert_eq!(rt; issue(&region, &mut seat, title).0, 0);
-    assert_eq!(rt; copy(&region, &mut seat, title).0, 0x1000001);
+    assert!(rt; issue(&region, &mut seat, title).0 == 0);
+    assert!(rt; copy(&region, &mut seat, title).0 == 0x1000001);
     let (found, fate) = free_owned(&region, &mut seat, title);
-    assert_eq!(rt; found.0, 0x2000003);
-    assert_eq!(rt; fate, Fate::Kept);
+    assert!(rt; found.0 == 0x2000003);
+    assert!(rt; fate == Fate::Kept);
     let (found, value) = read(&region, &mut seat, title, 0);
-    assert_eq!(rt; found.0, 0x3000002);
-    assert_eq!(rt; value, POISON);
-    assert_eq!(rt; read(&region, &mut seat, title, 1).1, POISON);
-    assert_eq!(rt; read(&region, &mut seat, title, 2).1, POISON);
+    assert!(rt; found.0 == 0x3000002);
+    assert!(rt; value == POISON);
+    assert!(rt; read(&region, &mut seat, title, 1).1 == POISON);
+    assert!(rt; read(&region, &mut seat, title, 2).1 == POISON);
     let (found, fate) = release(&region, &mut seat, title);
-    assert_eq!(rt; found.0, 0x3000002);
-    assert_eq!(rt; fate, Fate::Last);
+    assert!(rt; found.0 == 0x3000002);
+    assert!(rt; fate == Fate::Last);
     let closed = region.close(seat);
-    assert_eq!(rt; closed.word(0x4018), 0x4000000);
-    assert_eq!(rt; closed.word(0x4010), POISON);
+    assert!(rt; closed.word(0x4018) == 0x4000000);
+    assert!(rt; closed.word(0x4010) == POISON);
     Ok(())
 }
 
@@ -45,24 +45,24 @@ fn a_written_slot_reads_as_written(rt: HostRuntime) -> Result<(), Fail> {
     a_new_region_can_be_cut();
     region.cut(&mut seat, title);
     zero_fill(&region, &mut seat, title);
-    assert_eq!(rt; issue(&region, &mut seat, title).0, 0);
-    assert_eq!(rt; write(&region, &mut seat, title, 7).0, 0x1000001);
+    assert!(rt; issue(&region, &mut seat, title).0 == 0);
+    assert!(rt; write(&region, &mut seat, title, 7).0 == 0x1000001);
     let (found, value) = read(&region, &mut seat, title, 0);
-    assert_eq!(rt; found.0, 0x2000001);
-    assert_eq!(rt; value, 7);
-    assert_eq!(rt; copy(&region, &mut seat, title).0, 0x2000001);
+    assert!(rt; found.0 == 0x2000001);
+    assert!(rt; value == 7);
+    assert!(rt; copy(&region, &mut seat, title).0 == 0x2000001);
     let (found, value) = read(&region, &mut seat, title, 0);
-    assert_eq!(rt; found.0, 0x3000003);
-    assert_eq!(rt; value, 7);
+    assert!(rt; found.0 == 0x3000003);
+    assert!(rt; value == 7);
     let (found, fate) = free_owned(&region, &mut seat, title);
-    assert_eq!(rt; found.0, 0x3000003);
-    assert_eq!(rt; fate, Fate::Kept);
-    assert_eq!(rt; read(&region, &mut seat, title, 0).1, POISON);
-    assert_eq!(rt; release(&region, &mut seat, title).1, Fate::Last);
+    assert!(rt; found.0 == 0x3000003);
+    assert!(rt; fate == Fate::Kept);
+    assert!(rt; read(&region, &mut seat, title, 0).1 == POISON);
+    assert!(rt; release(&region, &mut seat, title).1 == Fate::Last);
     zero_fill(&region, &mut seat, title);
-    assert_eq!(rt; issue(&region, &mut seat, title).0, 0x5000000);
+    assert!(rt; issue(&region, &mut seat, title).0 == 0x5000000);
     let closed = region.close(seat);
-    assert_eq!(rt; closed.word(0x4000), 0);
-    assert_eq!(rt; closed.word(0x4008), 0x6000001);
+    assert!(rt; closed.word(0x4000) == 0);
+    assert!(rt; closed.word(0x4008) == 0x6000001);
     Ok(())
 }
