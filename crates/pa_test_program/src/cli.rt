@@ -56,11 +56,10 @@ fn a_trace_is_played_by_short_reads_and_writes(rt: HostRuntime) -> Result<(), Fa
     for piece in [1, 7, 1000] {
         let mut source = MemSource::new(rt.alloc(), TRACE, piece, &[])?;
         let mut sink = MemSink::new(rt.alloc(), TEXT.len(), piece, &[])?;
-        assert_eq!(rt;
-            run(&rt, rt.alloc(), &model, &mut source, &mut sink, &NoGate).status,
-            Status::Done
+        assert!(rt;
+            run(&rt, rt.alloc(), &model, &mut source, &mut sink, &NoGate).status == Status::Done
         );
-        assert_eq!(rt; sink.written(), TEXT);
+        assert!(rt; sink.written() == TEXT);
     }
     Ok(())
 }
@@ -86,10 +85,7 @@ fn the_first_faulty_line_is_named(rt: HostRuntime) -> Result<(), Fail> {
     for (text, status) in faulty {
         let mut source = MemSource::new(rt.alloc(), text, 11, &[])?;
         let mut sink = MemSink::new(rt.alloc(), 1000, 10, &[])?;
-        assert_eq!(rt;
-            run(&rt, rt.alloc(), &model, &mut source, &mut sink, &NoGate).status,
-            status
-        );
+        assert!(rt; run(&rt, rt.alloc(), &model, &mut source, &mut sink, &NoGate).status == status);
         assert!(rt; sink.written().is_empty());
     }
     Ok(())
@@ -102,9 +98,9 @@ fn a_second_read_that_fails_leaves_nothing_written(rt: HostRuntime) -> Result<()
     for text in texts {
         let mut source = MemSource::new(rt.alloc(), text, 20, &[1])?;
         let mut sink = MemSink::new(rt.alloc(), TEXT.len(), 10, &[])?;
-        assert_eq!(rt;
-            run(&rt, rt.alloc(), &model, &mut source, &mut sink, &NoGate).status,
-            Status::ReadFault
+        assert!(rt;
+            run(&rt, rt.alloc(), &model, &mut source, &mut sink, &NoGate).status
+                == Status::ReadFault
         );
         assert!(rt; sink.written().is_empty());
     }
@@ -116,11 +112,10 @@ fn a_third_write_that_fails_leaves_the_first_two(rt: HostRuntime) -> Result<(), 
     let model = words(rt.alloc(), &["model"])?;
     let mut source = MemSource::new(rt.alloc(), TRACE, 1000, &[])?;
     let mut sink = MemSink::new(rt.alloc(), TEXT.len(), 10, &[2])?;
-    assert_eq!(rt;
-        run(&rt, rt.alloc(), &model, &mut source, &mut sink, &NoGate).status,
-        Status::WriteFault
+    assert!(rt;
+        run(&rt, rt.alloc(), &model, &mut source, &mut sink, &NoGate).status == Status::WriteFault
     );
-    assert_eq!(rt; sink.written(), &TEXT[..20]);
+    assert!(rt; sink.written() == &TEXT[..20]);
     Ok(())
 }
 
@@ -169,13 +164,13 @@ fn other_words_leave_the_source_unread(rt: HostRuntime) -> Result<(), Fail> {
         let other = words(rt.alloc(), line)?;
         let mut source = MemSource::new(rt.alloc(), TRACE, 1000, &[0])?;
         let mut sink = MemSink::new(rt.alloc(), 10, 10, &[0])?;
-        assert_eq!(rt;
-            run(&rt, rt.alloc(), &other, &mut source, &mut sink, &NoGate).status,
-            Status::BadCommand
+        assert!(rt;
+            run(&rt, rt.alloc(), &other, &mut source, &mut sink, &NoGate).status
+                == Status::BadCommand
         );
         let mut into = [0; 100];
         assert!(rt; source.read(&mut into).is_err());
-        assert_eq!(rt; source.read(&mut into), Ok(TRACE.len()));
+        assert!(rt; source.read(&mut into) == Ok(TRACE.len()));
     }
     Ok(())
 }
@@ -186,12 +181,11 @@ fn an_input_is_read_to_one_byte_past_the_limit(rt: HostRuntime) -> Result<(), Fa
     let bytes = zeros(rt.alloc(), 4_194_307)?;
     let mut source = MemSource::new(rt.alloc(), &bytes, 1_000_000, &[])?;
     let mut sink = MemSink::new(rt.alloc(), 10, 10, &[])?;
-    assert_eq!(rt;
-        run(&rt, rt.alloc(), &model, &mut source, &mut sink, &NoGate).status,
-        Status::Limit(1)
+    assert!(rt;
+        run(&rt, rt.alloc(), &model, &mut source, &mut sink, &NoGate).status == Status::Limit(1)
     );
     let mut into = [0; 100];
-    assert_eq!(rt; source.read(&mut into), Ok(2));
+    assert!(rt; source.read(&mut into) == Ok(2));
     Ok(())
 }
 
@@ -235,7 +229,7 @@ fn layout_tells_where_a_request_is_placed(rt: HostRuntime) -> Result<(), Fail> {
         ("4294967295", b"too-large\n"),
     ];
     for (size, text) in lines {
-        assert_eq!(rt; told(&rt, rt.alloc(), &["layout", size])?.as_slice(), text);
+        assert!(rt; told(&rt, rt.alloc(), &["layout", size])?.as_slice() == text);
     }
     Ok(())
 }
@@ -259,7 +253,7 @@ fn trace_tells_a_generated_trace(rt: HostRuntime) -> Result<(), Fail> {
                 ends = ends.saturating_add(1);
             }
         }
-        assert_eq!(rt; ends, many);
+        assert!(rt; ends == many);
     }
     Ok(())
 }
@@ -272,8 +266,8 @@ fn gen_tells_a_summary_and_reads_nothing(rt: HostRuntime) -> Result<(), Fail> {
         let mut source = MemSource::new(rt.alloc(), TRACE, 1000, &[0])?;
         let mut sink = MemSink::new(rt.alloc(), 1000, 10, &[])?;
         let outcome = run(&rt, rt.alloc(), &line, &mut source, &mut sink, &NoGate);
-        assert_eq!(rt; outcome.status, Status::Done);
-        assert_eq!(rt; sink.written(), SUMMARY);
+        assert!(rt; outcome.status == Status::Done);
+        assert!(rt; sink.written() == SUMMARY);
         assert!(rt; outcome.run.is_some() && outcome.region.is_some());
         let mut into = [0; 100];
         assert!(rt; source.read(&mut into).is_err());
@@ -290,9 +284,8 @@ fn help_and_version_are_told(rt: HostRuntime) -> Result<(), Fail> {
             b"docs/FORMATS.md, which also says why a file is refused that looks right.\n"
         )
     );
-    assert_eq!(rt;
-        told(&rt, rt.alloc(), &["--version"])?.as_slice(),
-        b"partalloc 0.1.0\n".as_slice()
+    assert!(rt;
+        told(&rt, rt.alloc(), &["--version"])?.as_slice() == b"partalloc 0.1.0\n".as_slice()
     );
     Ok(())
 }
@@ -319,8 +312,8 @@ fn each_status_has_its_number_and_text(rt: HostRuntime) -> Result<(), Fail> {
         ),
     ];
     for (status, number, text) in told {
-        assert_eq!(rt; status.number(), number);
-        assert_eq!(rt; format!(in rt.alloc(); "{status}")?.as_str(), text);
+        assert!(rt; status.number() == number);
+        assert!(rt; format!(in rt.alloc(); "{status}")?.as_str() == text);
     }
     Ok(())
 }

@@ -62,10 +62,7 @@ fn joined(alloc: Global, parts: &[&[u8]]) -> Result<Vec<u8>, Fail> {
 fn a_legal_run_is_legal(rt: HostRuntime) -> Result<(), Fail> {
     let input = joined(rt.alloc(), &[TRACE, TEXT])?;
     for piece in [1, 7, 1000] {
-        assert_eq!(rt;
-            told(&rt, rt.alloc(), input.as_slice(), piece)?,
-            Status::Done
-        );
+        assert!(rt; told(&rt, rt.alloc(), input.as_slice(), piece)? == Status::Done);
     }
     Ok(())
 }
@@ -81,7 +78,7 @@ fn the_line_is_that_of_the_whole_input(rt: HostRuntime) -> Result<(), Fail> {
     ];
     for (made, freed, status) in broken {
         let input = joined(rt.alloc(), &[TRACE, HEAD, made, freed, REST, END])?;
-        assert_eq!(rt; told(&rt, rt.alloc(), input.as_slice(), 1000)?, status);
+        assert!(rt; told(&rt, rt.alloc(), input.as_slice(), 1000)? == status);
     }
     Ok(())
 }
@@ -105,7 +102,7 @@ fn the_first_faulty_line_of_either_part_is_named(rt: HostRuntime) -> Result<(), 
     ];
     for (parts, status) in faulty {
         let input = joined(rt.alloc(), parts)?;
-        assert_eq!(rt; told(&rt, rt.alloc(), input.as_slice(), 1000)?, status);
+        assert!(rt; told(&rt, rt.alloc(), input.as_slice(), 1000)? == status);
     }
     Ok(())
 }
@@ -122,7 +119,7 @@ fn a_read_or_a_write_that_fails_is_told(rt: HostRuntime) -> Result<(), Fail> {
         let mut source = MemSource::new(rt.alloc(), input.as_slice(), 100, reads)?;
         let mut sink = MemSink::new(rt.alloc(), 100, 100, writes)?;
         let outcome = run(&rt, rt.alloc(), &line, &mut source, &mut sink, &NoGate);
-        assert_eq!(rt; outcome.status, status);
+        assert!(rt; outcome.status == status);
         assert!(rt; sink.written().is_empty());
     }
     Ok(())

@@ -87,8 +87,8 @@ fn each_use_after_a_free_is_told(rt: HostRuntime) -> Result<(), Fail> {
     ];
     for (input, status, text) in rows {
         let (found, written) = answered(&rt, rt.alloc(), &["dangling"], input)?;
-        assert_eq!(rt; found, status);
-        assert_eq!(rt; written.as_slice(), text);
+        assert!(rt; found == status);
+        assert!(rt; written.as_slice() == text);
     }
     Ok(())
 }

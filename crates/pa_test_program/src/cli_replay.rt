@@ -108,7 +108,7 @@ fn replayed<R: Threads + Wait + Sync>(
 fn one_thread_is_replayed_in_its_order(rt: HostRuntime) -> Result<(), Fail> {
     for piece in [1, 7, 1000] {
         let text = replayed(&rt, rt.alloc(), TRACE, piece)?;
-        assert_eq!(rt; text.as_slice(), TEXT);
+        assert!(rt; text.as_slice() == TEXT);
     }
     Ok(())
 }
@@ -117,7 +117,7 @@ fn one_thread_is_replayed_in_its_order(rt: HostRuntime) -> Result<(), Fail> {
 fn what_was_freed_reads_poison_on_another_thread(rt: HostRuntime) -> Result<(), Fail> {
     for _ in 0..20 {
         let text = replayed(&rt, rt.alloc(), FREED, 1000)?;
-        assert_eq!(rt; text.as_slice(), FREED_TEXT);
+        assert!(rt; text.as_slice() == FREED_TEXT);
     }
     Ok(())
 }
@@ -137,7 +137,7 @@ fn a_read_beside_a_free_has_one_of_three_answers(rt: HostRuntime) -> Result<(), 
                 found = found.saturating_add(1);
             }
         }
-        assert_eq!(rt; found, 1);
+        assert!(rt; found == 1);
     }
     Ok(())
 }
@@ -168,7 +168,7 @@ fn what_is_refused_tells_no_run(rt: HostRuntime) -> Result<(), Fail> {
         let mut source = MemSource::new(rt.alloc(), text, 20, fails)?;
         let mut sink = MemSink::new(rt.alloc(), 1000, 10, &[])?;
         let outcome = run(&rt, rt.alloc(), &replay, &mut source, &mut sink, &NoGate);
-        assert_eq!(rt; outcome.status, status);
+        assert!(rt; outcome.status == status);
         assert!(rt; outcome.run.is_none() && outcome.region.is_none());
         assert!(rt; sink.written().is_empty());
     }
@@ -185,13 +185,13 @@ fn a_write_that_fails_leaves_the_run(rt: HostRuntime) -> Result<(), Fail> {
         run: played,
         region,
     } = run(&rt, rt.alloc(), &replay, &mut source, &mut sink, &NoGate);
-    assert_eq!(rt; status, Status::WriteFault);
-    assert_eq!(rt; sink.written(), &TEXT[..20]);
+    assert!(rt; status == Status::WriteFault);
+    assert!(rt; sink.written() == &TEXT[..20]);
     assert!(rt; region.is_some());
     let Some(played) = played else {
         return Err("no run".into());
     };
-    assert_eq!(rt; played.entries.len(), 2);
+    assert!(rt; played.entries.len() == 2);
     Ok(())
 }
 
@@ -201,7 +201,7 @@ fn model_tells_no_run(rt: HostRuntime) -> Result<(), Fail> {
     let mut source = MemSource::new(rt.alloc(), TRACE, 1000, &[])?;
     let mut sink = MemSink::new(rt.alloc(), TEXT.len(), 1000, &[])?;
     let outcome = run(&rt, rt.alloc(), &model, &mut source, &mut sink, &NoGate);
-    assert_eq!(rt; outcome.status, Status::Done);
+    assert!(rt; outcome.status == Status::Done);
     assert!(rt; outcome.run.is_none() && outcome.region.is_none());
     Ok(())
 }

@@ -78,8 +78,8 @@ fn a_script_is_played(rt: HostRuntime) -> Result<(), Fail> {
     for (script, status, resized, verdicts) in rows {
         for (command, text) in [("resize", resized), ("verdicts", verdicts)] {
             let (found, written) = answered(&rt, rt.alloc(), &[command], script)?;
-            assert_eq!(rt; found, status);
-            assert_eq!(rt; written.as_slice(), text);
+            assert!(rt; found == status);
+            assert!(rt; written.as_slice() == text);
         }
     }
     Ok(())

@@ -57,38 +57,32 @@ fn sixty_five_slots_spill_16_16_and_1(rt: HostRuntime) -> Result<(), Fail> {
     let (region, mut seat) = Region::new(rt.alloc(), 1, 0)?;
     let mut cache = Cache::new(rt.alloc(), class)?;
     fill(&region, &mut seat, &mut cache, 64);
-    assert_eq!(rt; cache.len(), 64);
+    assert!(rt; cache.len() == 64);
     assert!(rt; !cache.over());
     put_next(&region, &mut seat, &mut cache, 64);
-    assert_eq!(rt; cache.len(), 65);
+    assert!(rt; cache.len() == 65);
     assert!(rt; cache.over());
     // The front is the slot put last, at 0x4400. 32 stay, and the next one is 32 slots below it.
     let first = cache.spill(&region, &mut seat, 32);
-    assert_eq!(rt; first.len(), 16);
+    assert!(rt; first.len() == 16);
     assert!(rt; go_down_from(0x4200, first.as_slice()));
     let second = cache.spill(&region, &mut seat, 32);
-    assert_eq!(rt; second.len(), 16);
+    assert!(rt; second.len() == 16);
     assert!(rt; go_down_from(0x4100, second.as_slice()));
     let third = cache.spill(&region, &mut seat, 32);
-    assert_eq!(rt; third.len(), 1);
+    assert!(rt; third.len() == 1);
     assert!(rt; go_down_from(0x4000, third.as_slice()));
-    assert_eq!(rt; cache.spill(&region, &mut seat, 32).len(), 0);
-    assert_eq!(rt; cache.len(), 32);
+    assert!(rt; cache.spill(&region, &mut seat, 32).len() == 0);
+    assert!(rt; cache.len() == 32);
     assert!(rt; !cache.over());
-    assert_eq!(rt;
-        cache.pop(&region, &mut seat).map(|title| title.start),
-        Some(0x4400)
-    );
-    assert_eq!(rt;
-        cache.pop(&region, &mut seat).map(|title| title.start),
-        Some(0x43f0)
-    );
+    assert!(rt; cache.pop(&region, &mut seat).map(|title| title.start) == Some(0x4400));
+    assert!(rt; cache.pop(&region, &mut seat).map(|title| title.start) == Some(0x43f0));
     let behind = cache.batch(20);
-    assert_eq!(rt; behind.len(), 10);
+    assert!(rt; behind.len() == 10);
     assert!(rt; go_down_from(0x42a0, behind.as_slice()));
-    assert_eq!(rt; cache.len(), 30);
+    assert!(rt; cache.len() == 30);
     cache.cut(4);
-    assert_eq!(rt; cache.len(), 14);
+    assert!(rt; cache.len() == 14);
     assert!(rt; go_down_from(0x42a0, cache.batch(4).as_slice()));
     Ok(())
 }
@@ -103,20 +97,11 @@ fn loaded_slots_come_out_in_their_order(rt: HostRuntime) -> Result<(), Fail> {
     cache.kept();
     let all = cache.spill(&region, &mut seat, 0);
     assert!(rt; go_down_from(0x4020, all.as_slice()));
-    assert_eq!(rt; cache.len(), 0);
+    assert!(rt; cache.len() == 0);
     cache.load(&region, &mut seat, all.as_slice());
-    assert_eq!(rt;
-        cache.pop(&region, &mut seat).map(|title| title.start),
-        Some(0x4020)
-    );
-    assert_eq!(rt;
-        cache.pop(&region, &mut seat).map(|title| title.start),
-        Some(0x4010)
-    );
-    assert_eq!(rt;
-        cache.pop(&region, &mut seat).map(|title| title.start),
-        Some(0x4000)
-    );
+    assert!(rt; cache.pop(&region, &mut seat).map(|title| title.start) == Some(0x4020));
+    assert!(rt; cache.pop(&region, &mut seat).map(|title| title.start) == Some(0x4010));
+    assert!(rt; cache.pop(&region, &mut seat).map(|title| title.start) == Some(0x4000));
     assert!(rt; cache.pop(&region, &mut seat) == None);
     Ok(())
 }

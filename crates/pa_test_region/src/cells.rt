@@ -178,6 +178,32 @@ fn entry(line: u32, gave: Held, found: Held) -> CellEntry {
     CellEntry { line, gave, found }
 }
 
+// Whether cells 3 and 7 have the histories that the exchanges below leave, and the last of 64 cells none.
+fn are_histories(histories: &[History]) -> bool {
+    let third = [
+        entry(3, Held::Own(NAME), Held::Nothing),
+        entry(5, Held::Nothing, Held::Own(NAME)),
+        entry(7, Held::Ref(NAME), Held::Nothing),
+    ];
+    let seventh = [
+        entry(4, Held::Ref(NAME), Held::Nothing),
+        entry(6, Held::Own(NAME), Held::Ref(NAME)),
+    ];
+    is_history(histories.get(3), &third)
+        && is_history(histories.get(7), &seventh)
+        && is_history(histories.get(63), &[])
+        && histories.get(64).is_none()
+}
+
+// Whether there is such a cell, and in it nothing, or the slot's Own, or a Ref of it.
+fn is_parked(cell: Option<&Option<Parked>>, own: Option<bool>) -> bool {
+    match (cell, own) {
+        (Some(found), Some(own)) => is_handle(found, own),
+        (Some(found), None) => found.is_none(),
+        (None, _) => false,
+    }
+}
+
 // Two cells: the Own goes into cell 3 and the Ref into cell 7, and from there the Ref goes on into cell 3.
 fn exchange_here<N: Name, R: Abort>(
     rt: &R,
@@ -203,21 +229,10 @@ fn exchange_here<N: Name, R: Abort>(
     let (index, found) = swap(&mut cells, region, seat, 7, 3, other).ok_or("no memory")?;
     assert!(rt; index == 2 && found.is_none());
     let (histories, parked, _) = cells.close();
-    let third = [
-        entry(3, Held::Own(NAME), Held::Nothing),
-        entry(5, Held::Nothing, Held::Own(NAME)),
-        entry(7, Held::Ref(NAME), Held::Nothing),
-    ];
-    assert!(rt; is_history(histories.get(3), &third));
-    let seventh = [
-        entry(4, Held::Ref(NAME), Held::Nothing),
-        entry(6, Held::Own(NAME), Held::Ref(NAME)),
-    ];
-    assert!(rt; is_history(histories.get(7), &seventh));
-    assert!(rt; is_history(histories.get(63), &[]) && histories.get(64).is_none());
-    assert!(rt; parked.get(3).is_some_and(|found| is_handle(found, false)));
-    assert!(rt; parked.get(7).is_some_and(|found| is_handle(found, true)));
-    assert!(rt; parked.get(0).is_some_and(|found| found.is_none()));
+    assert!(rt; are_histories(&histories));
+    assert!(rt; is_parked(parked.get(3), Some(false)));
+    assert!(rt; is_parked(parked.get(7), Some(true)));
+    assert!(rt; is_parked(parked.get(0), None));
     Ok(())
 }
 

@@ -122,20 +122,20 @@ fn a_chain_answers_as_a_list_does(rt: HostRuntime) -> Result<(), Fail> {
     let mut listed = Listed::new(rt.alloc(), class)?;
     let mut chained = Chained::new(class);
     fill_both(&region, &mut seat, &mut listed, &mut chained);
-    assert_eq!(rt; chained.len(), 65);
+    assert!(rt; chained.len() == 65);
     assert!(rt; chained.over());
     assert!(rt; spill_alike(&region, &mut seat, &mut listed, &mut chained, 32));
     assert!(rt; spill_alike(&region, &mut seat, &mut listed, &mut chained, 32));
     assert!(rt; spill_alike(&region, &mut seat, &mut listed, &mut chained, 32));
-    assert_eq!(rt; chained.len(), 32);
+    assert!(rt; chained.len() == 32);
     assert!(rt; !chained.over());
     assert!(rt; pop_alike(&region, &mut seat, &mut listed, &mut chained, 24));
-    assert_eq!(rt; listed.len(), 8);
+    assert!(rt; listed.len() == 8);
     if listed.len() <= 8 {
         reload(&region, &mut seat, &mut listed, &mut chained);
     }
-    assert_eq!(rt; chained.len(), 8);
+    assert!(rt; chained.len() == 8);
     assert!(rt; pop_alike(&region, &mut seat, &mut listed, &mut chained, 9));
-    assert_eq!(rt; chained.len(), 0);
+    assert!(rt; chained.len() == 0);
     Ok(())
 }

@@ -173,11 +173,11 @@ fn of_three_threads_one_is_last(rt: HostRuntime) -> Result<(), Fail> {
     let (owner, others) = let_go(&rt, &region, owner, first, second, title);
     let (mut owner, freed) = owner;
     let ((first, one), (second, two)) = others;
-    assert_eq!(rt; last(freed) + last(one) + last(two), 1);
+    assert!(rt; last(freed) + last(one) + last(two) == 1);
     take_back(&region, &mut owner, first);
     take_back(&region, &mut owner, second);
     let closed = region.close(owner);
-    assert_eq!(rt; closed.word(0x4008), 0x0000_0000_0600_0000);
+    assert!(rt; closed.word(0x4008) == 0x0000_0000_0600_0000);
     Ok(())
 }
 
@@ -298,9 +298,9 @@ fn a_reader_beside_a_free_reads_what_it_may(rt: HostRuntime) -> Result<(), Fail>
     for round in 0..12u32 {
         let (right, lasts, content, word) = one_round(&rt, rt.alloc(), 100 * round)?;
         assert!(rt; right);
-        assert_eq!(rt; lasts, 1);
-        assert_eq!(rt; content, POISON);
-        assert_eq!(rt; word, 0x0000_0000_0500_0000);
+        assert!(rt; lasts == 1);
+        assert!(rt; content == POISON);
+        assert!(rt; word == 0x0000_0000_0500_0000);
     }
     Ok(())
 }
