@@ -6,6 +6,7 @@ use pa_io::{MemSink, MemSource};
 use pa_record::Answer;
 use pa_region::Name;
 use pa_runner::Gate;
+use std::alloc::Global;
 use std::marker::Sync;
 use std::sync::Wait;
 use std::sync::atomic::{AtomicU64, Ordering};
@@ -35,6 +36,29 @@ e 2 0 made 00004000.0 8 0000000000000000
 e 3 1 made 00004080.0 8 0000000000000000
 e 5 0 made 00008100.0 24 0000000000000000
 e 6 1 made 00008000.0 24 0000000000000000
+r 0 0 2 fill ";
+
+// The same by threads 1 and 3 of five, of which the others have no lines.
+const IDLE_TRACE: &[u8] = b"trace 1 region 1 partitions 1 threads 5
+1 A r0 p0 8
+3 A r0 p0 8
+phase
+1 A r1 p0 24
+3 A r1 p0 24
+";
+
+const IDLE_SECOND_FIRST: &[u8] = b"run 1
+e 2 1 made 00004080.0 8 0000000000000000
+e 3 3 made 00004000.0 8 0000000000000000
+e 5 1 made 00008000.0 24 0000000000000000
+e 6 3 made 00008100.0 24 0000000000000000
+r 0 0 3 fill ";
+
+const IDLE_FIRST_FIRST: &[u8] = b"run 1
+e 2 1 made 00004000.0 8 0000000000000000
+e 3 3 made 00004080.0 8 0000000000000000
+e 5 1 made 00008100.0 24 0000000000000000
+e 6 3 made 00008000.0 24 0000000000000000
 r 0 0 2 fill ";
 
 // How often a thread looks whether it may go on.
@@ -142,27 +166,34 @@ impl Gate for Holding {
     }
 }
 
+// Whether `replay` of a trace whose threads are held so begins with these records, with the gate called once for each line.
+fn plays_as_held<R: Threads + Wait + Sync>(
+    rt: &R,
+    alloc: Global,
+    trace: &[u8],
+    holds: [Hold; 2],
+    records: &[u8],
+) -> Result<bool, Fail> {
+    let replay = words(alloc, &["replay"])?;
+    let gate = Holding::new(holds);
+    let mut source = MemSource::new(alloc, trace, 1000, &[])?;
+    let mut sink = MemSink::new(alloc, 10_000, 1000, &[])?;
+    let outcome = run(rt, alloc, &replay, &mut source, &mut sink, &gate);
+    Ok(outcome.status == Status::Done && gate.is_once() && sink.written().starts_with(records))
+}
+
 #[test]
 fn threads_play_beside_each_other(rt: HostRuntime) -> Result<(), Fail> {
-    let replay = words(rt.alloc(), &["replay"])?;
-    let orders: [([Hold; 2], &[u8]); 2] = [
-        (
-            [Hold { line: 2, until: 3 }, Hold { line: 6, until: 5 }],
-            SECOND_FIRST,
-        ),
-        (
-            [Hold { line: 3, until: 2 }, Hold { line: 5, until: 6 }],
-            FIRST_FIRST,
-        ),
+    let second_first = [Hold { line: 2, until: 3 }, Hold { line: 6, until: 5 }];
+    let first_first = [Hold { line: 3, until: 2 }, Hold { line: 5, until: 6 }];
+    let cases = [
+        (TRACE, second_first, SECOND_FIRST),
+        (TRACE, first_first, FIRST_FIRST),
+        (IDLE_TRACE, second_first, IDLE_SECOND_FIRST),
+        (IDLE_TRACE, first_first, IDLE_FIRST_FIRST),
     ];
-    for (holds, records) in orders {
-        let gate = Holding::new(holds);
-        let mut source = MemSource::new(rt.alloc(), TRACE, 1000, &[])?;
-        let mut sink = MemSink::new(rt.alloc(), 10_000, 1000, &[])?;
-        let outcome = run(&rt, rt.alloc(), &replay, &mut source, &mut sink, &gate);
-        assert!(rt; outcome.status == Status::Done);
-        assert!(rt; gate.is_once());
-        assert!(rt; sink.written().starts_with(records));
+    for (trace, holds, records) in cases {
+        assert!(rt; plays_as_held(&rt, rt.alloc(), trace, holds, records)?);
     }
     Ok(())
 }
