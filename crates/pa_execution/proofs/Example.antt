@@ -77,6 +77,7 @@ does n = record {
     unmaps = λ seen p asked slot e is. absurd cc;
     makes = λ p m e low among. absurd (not_in_none m among);
     home = λ m is. absurd cc;
+    signs = refl;
   };
 }
 

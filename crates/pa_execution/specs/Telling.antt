@@ -11,6 +11,7 @@ use Rattle.pa_rules.specs.Told.{Told}
 use Rattle.pa_logs.specs.Told.{played_in, is_of_thread, told_until}
 use Rattle.pa_logs.specs.Standing.{OnlyUnmapsUncut}
 use Rattle.pa_logs.specs.Said.{RunnerSays, PoolTells, RootsTell, CellsTell, HeapTells, IsLineSaid, LayersSay}
+use Rattle.pa_timeline.specs.Timeline.{HasOutline}
 use Rattle.pa_cells.specs.Cells.{Exchange}
 use Rattle.pa_execution.specs.Courses.{Course, IsCourse, Closes}
 use Rattle.pa_execution.specs.Merged.{told_in, lists_at, swaps_of, IsLeftBehind}
@@ -67,3 +68,10 @@ CoursesTellAll =
     (t : Trace) (r : Told) (c : Course) (v : View) (xs : List Exchange) → IsWholeRun t r c v xs →
     ((l : ReportLine) → Contains r.report l → IsLineSaid t r v (told_in t c) (lists_at t c l.phase) (c.seats l.phase) l) →
     LayersSay t r v (told_in t c)
+
+-- Then the run has an outline.
+abbrev pub CoursesTellOutline : Type 0
+CoursesTellOutline =
+    (t : Trace) (r : Told) (c : Course) (v : View) (xs : List Exchange) → IsWholeRun t r c v xs →
+    ((l : ReportLine) → Contains r.report l → IsLineSaid t r v (told_in t c) (lists_at t c l.phase) (c.seats l.phase) l) →
+    HasOutline t r

@@ -88,7 +88,7 @@ reset_listed counts s r word c h is aware stake budget below ref found back clas
     let touched = touched_count counts s.thread steps.Reset t word s.view refl can found (least_is s.thread s.view is.stake stake).0 (user_not_free s.view t aware knows.0) in
     let rs = slice_set s.registers r Cleared in
     touched_does s w rs (put_in_front h.partition c t s.caches) (ops.Reset r) (answers.Done (seen_at h word)) (Counted t steps.Reset word 0 ∷ []) touched
-    (record { room = λ j e. cc; cells = λ list x none. none })
+    (record { room = λ j e. cc; no_swap = λ j e. cc; cells = λ list x none. none })
     (owes_done s.registers (ops.Reset r) (seen_at h word) t.len (Counted t steps.Reset word 0 ∷ []) ([], tt, refl) (ap bytes_in ref)) (λ refused. absurd refused)
     (λ line phase o run sees none.
     let slot = slot_in_run o w h run sees (made_kept h s.view w refl knows.1) in
@@ -118,7 +118,7 @@ free_listed counts owns states s r word c h is aware stake budget below own foun
     let can = can_step states owns s r h is stake budget below own in
     let rs = slice_set s.registers r Freed in
     touched_does s w rs (put_in_front h.partition c t s.caches) (ops.Free r) (answers.Done (seen_at h word)) (Counted t steps.Free word 0 ∷ []) touched
-    (record { room = λ j e. cc; cells = λ list x none. none })
+    (record { room = λ j e. cc; no_swap = λ j e. cc; cells = λ list x none. none })
     (owes_done s.registers (ops.Free r) (seen_at h word) t.len (Counted t steps.Free word 0 ∷ []) ([], tt, refl) (ap bytes_in own)) (λ refused. absurd refused)
     (λ line phase o run sees none.
     let slot = slot_in_run o w h run sees (made_kept h s.view w refl knows.1) in

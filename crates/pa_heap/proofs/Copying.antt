@@ -67,7 +67,7 @@ copied_does counts s from to word h is aware stake budget below within has bare 
     let seen : Seen = record { slot = name_of t; found = record { 0 = word } } in
     quiet_does s w (slice_set s.registers to (Ref h)) (ops.Copy from to) (answers.Done seen) (Counted t steps.Copy word 0 ∷ []) is.lists
     (touched_count counts s.thread steps.Copy t word s.view refl can found (least_is s.thread s.view is.stake stake).0 (user_not_free s.view t aware knows.0))
-    (record { room = λ j e. cc; cells = λ list x none. none })
+    (record { room = λ j e. cc; no_swap = λ j e. cc; cells = λ list x none. none })
     (owes_done s.registers (ops.Copy from to) seen t.len (Counted t steps.Copy word 0 ∷ []) ([], tt, refl) (handle_bytes (register_in s.registers from) h has)) (λ refused. absurd refused)
     (λ line phase o run sees none same.
     let slot = slot_in_run o w h run sees (made_kept h s.view w refl knows.1) in

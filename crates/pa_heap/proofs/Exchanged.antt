@@ -33,6 +33,7 @@ use Rattle.pa_root.specs.Handing.{numbered_by}
 use Rattle.pa_cells.specs.Handles.{ParkedHandle, GiversLackHandles, held_as}
 use Rattle.pa_cells.specs.Cells.{exchange_entry}
 use Rattle.pa_rules.specs.declared.register.Register.TheVariants.{Empty, Own, Ref, Freed, Cleared}
+use Rattle.pa_step_order.proofs.Shaping.{shapes_have_signs}
 use Rattle.pa_op_specs.specs.Stocks.{StockRegister, StockValue, IsStock, HasNoHandle, register_in, as_reg, regs_of, titles_in, listed_in}
 use Rattle.pa_op_specs.specs.Workers.{HasItsStake}
 use Rattle.pa_op_specs.specs.Outcomes.{Outcome, IsOutcome, ActsAreOf}
@@ -189,6 +190,7 @@ swap_does line cell reg index given found s a b d is phase = (
           unmaps = λ seen p asked slot f done among on act. absurd (not_done index seen done);
           makes = λ p n f low among says. absurd (not_in_none n (subst (λ (ms : List Made). Contains ms n) (other_list p m (λ e. omega arith)) among));
           home = λ n f. absurd (not_some n f);
+          signs = shapes_have_signs.swapped o.partitions index o.roots x is.swap.made refl refl;
         };
   },
   λ word bytes among. elim (in_cases (Entered 5 m) (Added word bytes) [] among) [ inl same ↦ absurd (no_addition m word bytes same) | inr none ↦ absurd (not_in_none _ none) ],

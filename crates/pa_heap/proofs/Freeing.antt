@@ -64,7 +64,7 @@ freed_does counts owns states s r word h is aware stake budget below own found s
     let inside : r < length s.registers = let n = is.handles.count in omega arith in
     quiet_does s w (slice_set s.registers r Freed) (ops.Free r) (answers.Done (seen_at h word)) (Counted t steps.Free word 0 ∷ []) is.lists
     (touched_free counts owns states s r word h is stake budget below own found (user_not_free s.view t aware knows.0))
-    (record { room = λ j e. cc; cells = λ list x none. none })
+    (record { room = λ j e. cc; no_swap = λ j e. cc; cells = λ list x none. none })
     (owes_done s.registers (ops.Free r) (seen_at h word) t.len (Counted t steps.Free word 0 ∷ []) ([], tt, refl) (ap bytes_in own)) (λ refused. absurd refused)
     (λ line phase o run sees none same.
     let slot = slot_in_run o w h run sees (made_kept h s.view w refl knows.1) in

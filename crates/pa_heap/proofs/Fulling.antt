@@ -32,6 +32,7 @@ use Rattle.pa_pool.specs.Calls.{take_entry}
 use Rattle.pa_root.specs.declared.fault.FillFault.TheVariants.{Full}
 use Rattle.pa_root.specs.Handing.{IsFullFor, numbered_by, root_entry}
 use Rattle.pa_root.specs.Making.{EntersTwo}
+use Rattle.pa_step_order.proofs.Shaping.{shapes_have_signs}
 use Rattle.pa_op_specs.specs.Stocks.{StockValue, IsStock, HasNoHandle, register_in, as_reg, regs_of, titles_in, listed_in}
 use Rattle.pa_op_specs.specs.Outcomes.{Outcome, IsSeenOf, row_facts}
 use Rattle.pa_thread_state.specs.Allocating.{FindsNone}
@@ -121,6 +122,7 @@ full_does line size r p j count class s w full is aware now inner bare few makes
               | inr none ↦ absurd (not_in_none e.act none)
             ]);
         home = λ m e. absurd (not_some m e);
+        signs = asks.signs ∙ shapes_have_signs.only o.partitions line p o.roots (a ∷ []) run.past (only_acts o x it line p (a ∷ []) line_acts low refl);
       };
     })
   where

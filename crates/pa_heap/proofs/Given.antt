@@ -1,5 +1,5 @@
 -- A reset or a free does what it should if its step was followed by giving slots back.
-use Rattle.std.proofs.Common.{◌≡◌, ℕ, ◌+◌, ◌<◌, Bool, true, false, List, [], ◌∷◌, map, Some, refl, sym, ◌∙◌, ap, subst, arith, inl, inr}
+use Rattle.std.proofs.Common.{◌≡◌, ℕ, ◌+◌, ◌<◌, Bool, true, false, List, [], ◌∷◌, map, Some, None, refl, sym, ◌∙◌, ap, subst, arith, inl, inr}
 use Rattle.std.specs.Prelude.{◌==◌, Contains, filter, nat_lt, if◌then◌else◌}
 use Rattle.std.proofs.lemmas.Bool.Decides.{nat_tests, eqb_tells}
 use Rattle.pa_machine.specs.declared.title.Title.{Title}
@@ -10,9 +10,11 @@ use Rattle.pa_trace.specs.declared.script.Op.{Op}
 use Rattle.pa_record.specs.declared.entry.Seen.{Seen}
 use Rattle.pa_record.specs.declared.entry.Answer.TheVariants as answers
 use Rattle.pa_record.specs.declared.numbered.Numbered.{Numbered}
+use Rattle.pa_record.specs.declared.root.RootAct.{RootAct}
 use Rattle.pa_record.specs.declared.root.RootEntry.{RootEntry}
 use Rattle.pa_record.specs.declared.root.RootAct.TheVariants.{Give, Unmap}
 use Rattle.pa_record.specs.Numbers.{root_numbers}
+use Rattle.pa_record.specs.Root.{asked_by}
 use Rattle.pa_record.specs.Spans.{name_of}
 use Rattle.pa_lists.proofs.Joined.{map_cases}
 use Rattle.pa_lists.proofs.Members.{in_cases, not_in_none}
@@ -24,13 +26,16 @@ use Rattle.pa_region.specs.Views.{seen_of}
 use Rattle.pa_region.specs.Lists.{entered_in}
 use Rattle.pa_rules.specs.Played.{mark_of_answer, mark_at}
 use Rattle.pa_rules.specs.Registers.{Row}
-use Rattle.pa_rules.specs.Caches.{Cache, CacheRow, ReturnRow, SameLists, acts_of, gives, kept, spilled, with_list}
+use Rattle.pa_rules.specs.Caches.{Cache, CacheRow, ReturnRow, SameLists, acts_of, gives, kept, spilled, with_list, OnlyActs}
 use Rattle.pa_rules.specs.Roots.{Journals, IsFreeing, MakesEntry}
 use Rattle.pa_logs.specs.Told.{ToldRecord}
 use Rattle.pa_logs.specs.Touches.{IsStepTold, IsToldBy, is_touch, title_of}
 use Rattle.pa_logs.specs.Indices.{Enters, asks}
 use Rattle.pa_logs.specs.Said.{ReadsIts}
 use Rattle.pa_root.specs.Handing.{root_entry}
+use Rattle.pa_step_order.specs.Signs.{Stepped}
+use Rattle.pa_step_order.specs.Shapes.{numbers_on}
+use Rattle.pa_step_order.proofs.Shaping.{shapes_have_signs}
 use Rattle.pa_cells.specs.declared.handle.Handle.{Handle}
 use Rattle.pa_cells.specs.Handles.{HasSeenMade, SlotsStaySeen}
 use Rattle.pa_op_specs.specs.Stocks.{StockRegister, StockValue, regs_of, listed_in}
@@ -90,6 +95,15 @@ no_uncut p ms t among = let (m, there, is) = map_cases (Entered p) ms (Uncut t) 
 
 pub step_no_uncut : (t u : Title) (step : Step) (word value : ℕ) → Counted t step word value ≡ Uncut u → ⊥
 step_no_uncut t u step word value e = cc
+
+-- the numbers of entries that were made of acts
+pub numbers_again : (line : ℕ) (acts : List RootAct) → map root_numbers (map (root_entry line) acts) ≡ map (numbers_on line) acts
+numbers_again line [] = refl
+numbers_again line (act ∷ acts) = ap (λ ns. numbers_on line act ∷ ns) (numbers_again line acts)
+
+-- a give names no entry of the pool
+pub gives_name_none : (xs : List Numbered) (act : RootAct) → Contains (gives xs) act → asked_by act ≡ None
+gives_name_none xs act among = let (slots, is) = in_gives xs act among in ap asked_by is
 
 -- ---- slots are given
 
@@ -203,6 +217,10 @@ gives_does stays op step h class word line s after w rs ms is of thread partitio
     answers_in : (phase : ℕ) (o : Outcome) → IsOutcome o → IsSeenOf o after.view → LineActs o (x phase) (it phase) → AnswersIn o s after (x phase)
     answers_in phase o run sees line_acts =
         let slot = slot_in_run o after.view h run sees (stays h w after.view is.made (came.lists h.partition)) in
+        let only : OnlyActs o.roots line h.partition (gives gone) = (
+          line_acts.here h.partition low ∙ (own (h.partition == h.partition) refl ∙ acts_back line (gives gone)),
+          λ q differs. none_here o (x phase) (it phase) line_acts q (other q (q == h.partition) refl differs),
+        ) in
         record {
           told = is.told o.sizes es ([], tt, ap (λ fs. Counted h.title step word 0 ∷ fs) (none_touches h.partition ms) ∙ ap (λ u. Counted u step word 0 ∷ []) (sym slot.title));
           row = subst (λ r. Row (row_facts o) op (regs_of s.registers) (answers.Done (seen_at h word)) (regs_of r)) (sym registers) (is.row o);
@@ -210,10 +228,7 @@ gives_does stays op step h class word line s after w rs ms is of thread partitio
             h.partition,
             class,
             slot.class class of,
-            (
-              line_acts.here h.partition low ∙ (own (h.partition == h.partition) refl ∙ acts_back line (gives gone)),
-              λ q differs. none_here o (x phase) (it phase) line_acts q (other q (q == h.partition) refl differs),
-            ),
+            only,
             lists,
           ));
           reader = is.reader o (x phase);
@@ -221,4 +236,7 @@ gives_does stays op step h class word line s after w rs ms is of thread partitio
           makes = makes_each (x phase) (it phase) o.pools
               (λ q e lower among. let (slots, give) = give_all q (q == h.partition) e among in subst (λ act. MakesEntry o.pools q act op) (sym give) (inl is.freeing));
           home = λ m e. (h.partition, home_of o h.partition (mark_at line (seen_at h word) (Some step)) m (sym (is.mark line) ∙ e) slot.size);
+          signs = ap (λ ys. Stepped ∷ ys)
+              (shapes_have_signs.entries line h.partition ms (gives gone) low (says ∙ numbers_again line (gives gone)) (gives_name_none gone)
+              ∙ shapes_have_signs.only o.partitions line h.partition o.roots (gives gone) run.past only);
         }

@@ -2,7 +2,7 @@
 use Rattle.std.proofs.Common.{◌≡◌, ℕ, ◌+◌, ◌-◌, ◌<◌, ◌≤◌, List, [], ◌∷◌, ◌++◌, length, Some, refl, sym, ◌∙◌, ap, subst, arith, inl, inr}
 use Rattle.std.specs.Prelude.{Contains, slice_set}
 use Rattle.std.proofs.lemmas.List.{append-nil, get_or-set_same}
-use Rattle.std.proofs.lemmas.List.Elements.{Contains-append_cases, filter-append}
+use Rattle.std.proofs.lemmas.List.Elements.{Contains-append_cases, filter-append, filter_map-append}
 use Rattle.pa_machine.specs.declared.title.Title.{Title}
 use Rattle.pa_machine.specs.declared.word.Step.TheVariants as steps
 use Rattle.pa_machine.specs.Count.{number_of}
@@ -35,6 +35,8 @@ use Rattle.pa_logs.specs.Touches.{is_touch, touches}
 use Rattle.pa_cells.specs.declared.handle.Handle.{Handle}
 use Rattle.pa_cache.specs.Caches.{CacheList}
 use Rattle.pa_rules.specs.declared.register.Register.TheVariants.{Empty, Own, Ref, Freed, Cleared}
+use Rattle.pa_step_order.specs.Signs.{Stepped, sign_of}
+use Rattle.pa_step_order.proofs.Shaping.{shapes_have_signs}
 use Rattle.pa_op_specs.specs.Stocks.{StockRegister, StockValue, IsStock, HasNoHandle, register_in, as_reg, regs_of, titles_in, listed_in}
 use Rattle.pa_op_specs.specs.Workers.{HasItsStake}
 use Rattle.pa_op_specs.specs.Outcomes.{row_facts}
@@ -159,6 +161,8 @@ made_does counts line size r word h acts es s v cs before is stake can found num
                 let at = act_at line h.partition p acts e among in
                 subst (λ q. MakesEntry o.pools q e.act op) (sym at.0) (before.makes o.pools e.act r at.1));
             home = λ m e. (h.partition, home_of o h.partition (mark_at line (seen_at h word) (Some steps.Issue)) m e slot.size);
+            signs = filter_map-append sign_of es (Counted t steps.Issue word 0 ∷ [])
+                ∙ ap (λ ys. ys ++ Stepped ∷ []) (before.asks.signs ∙ shapes_have_signs.only o.partitions line h.partition o.roots acts run.past only);
           };
     })
   where

@@ -50,6 +50,7 @@ IsOfLook answer s = ⊥
 -- what follows for such an answer
 record Lookingly (op : Op) (answer : Answer) (seen : Seen) : Type 0 where
   room : (j : ℕ) → answer ≡ answers.Full j → ⊥
+  no_swap : (j : ℕ) → answer ≡ answers.Swapped j → ⊥
   owes : (registers : List StockRegister) (t : Title) (found : ℕ) → OwesOf registers op answer (Looked t found ∷ [])
   told : (sizes : SlotName → ℕ) (es : List Entry) → IsLookTold (title_of sizes seen.slot) seen.found.0 es → IsToldBy sizes op answer es
   lists : (partitions : ℕ) (roots : Journals) (x : Played) (cache after : Cache) → NoActs roots x.line → SameLists after cache → CacheRow partitions roots x answer cache after
@@ -61,15 +62,15 @@ lookingly op (answers.Done s) seen is = absurd is
 lookingly op (answers.Value s value) seen is = absurd is
 lookingly op (answers.Dangling s value) seen is = absurd is
 lookingly op (answers.SecondFree None) seen is = absurd is
-lookingly op (answers.SecondFree (Some s)) seen is = record { room = λ j e. cc; owes = λ registers t found q. refl; told = λ sizes es h. subst (λ x. IsToldBy sizes op (answers.SecondFree (Some x)) es) (sym is) h; lists = λ n roots x c d none same. (none, same); home = λ line. ap (λ x. Some (mark_at line x None)) is }
-lookingly op (answers.NotOwner s) seen is = record { room = λ j e. cc; owes = λ registers t found q. refl; told = λ sizes es h. subst (λ x. IsToldBy sizes op (answers.NotOwner x) es) (sym is) h; lists = λ n roots x c d none same. (none, same); home = λ line. ap (λ x. Some (mark_at line x None)) is }
+lookingly op (answers.SecondFree (Some s)) seen is = record { room = λ j e. cc; no_swap = λ j e. cc; owes = λ registers t found q. refl; told = λ sizes es h. subst (λ x. IsToldBy sizes op (answers.SecondFree (Some x)) es) (sym is) h; lists = λ n roots x c d none same. (none, same); home = λ line. ap (λ x. Some (mark_at line x None)) is }
+lookingly op (answers.NotOwner s) seen is = record { room = λ j e. cc; no_swap = λ j e. cc; owes = λ registers t found q. refl; told = λ sizes es h. subst (λ x. IsToldBy sizes op (answers.NotOwner x) es) (sym is) h; lists = λ n roots x c d none same. (none, same); home = λ line. ap (λ x. Some (mark_at line x None)) is }
 lookingly op answers.StaleReset seen is = absurd is
 lookingly op (answers.StaleUse None) seen is = absurd is
-lookingly op (answers.StaleUse (Some s)) seen is = record { room = λ j e. cc; owes = λ registers t found q. refl; told = λ sizes es h. subst (λ x. IsToldBy sizes op (answers.StaleUse (Some x)) es) (sym is) h; lists = λ n roots x c d none same. (none, same); home = λ line. ap (λ x. Some (mark_at line x None)) is }
+lookingly op (answers.StaleUse (Some s)) seen is = record { room = λ j e. cc; no_swap = λ j e. cc; owes = λ registers t found q. refl; told = λ sizes es h. subst (λ x. IsToldBy sizes op (answers.StaleUse (Some x)) es) (sym is) h; lists = λ n roots x c d none same. (none, same); home = λ line. ap (λ x. Some (mark_at line x None)) is }
 lookingly op answers.Nothing seen is = absurd is
 lookingly op answers.Filled seen is = absurd is
 lookingly op answers.NotRef seen is = absurd is
-lookingly op (answers.Shared s) seen is = record { room = λ j e. cc; owes = λ registers t found q. refl; told = λ sizes es h. subst (λ x. IsToldBy sizes op (answers.Shared x) es) (sym is) h; lists = λ n roots x c d none same. (none, same); home = λ line. ap (λ x. Some (mark_at line x None)) is }
+lookingly op (answers.Shared s) seen is = record { room = λ j e. cc; no_swap = λ j e. cc; owes = λ registers t found q. refl; told = λ sizes es h. subst (λ x. IsToldBy sizes op (answers.Shared x) es) (sym is) h; lists = λ n roots x c d none same. (none, same); home = λ line. ap (λ x. Some (mark_at line x None)) is }
 lookingly op answers.OutOfRange seen is = absurd is
 lookingly op answers.TooLarge seen is = absurd is
 lookingly op (answers.Full entry) seen is = absurd is
@@ -90,7 +91,7 @@ looked_does looks s op answer reg word h is aware stake below has found no_swap 
     let least = least_is s.thread s.view is.stake stake in
     quiet_does s w s.registers op answer (Looked t word ∷ []) is.lists
     (touched_look looks s.thread t word s.view least.1 found least.0 (user_not_free s.view t aware knows.0))
-    (record { room = l.room; cells = enters_no_cells op no_swap })
+    (record { room = l.room; no_swap = l.no_swap; cells = enters_no_cells op no_swap })
     (l.owes s.registers t word) (λ refused q known. refl)
     (λ line phase o run sees none same.
     let slot = slot_in_run o w h run sees (made_kept h s.view w refl knows.1) in

@@ -1,8 +1,9 @@
 -- A purge does what it should: partition after partition, and what the op says then.
-use Rattle.std.proofs.Common.{◌≡◌, ℕ, zero, suc, ◌+◌, ◌-◌, ◌<◌, ◌≤◌, Bool, true, false, List, [], ◌∷◌, ◌++◌, length, map, filter, refl, sym, ◌∙◌, ap, subst, arith, inl, inr}
+use Rattle.std.proofs.Common.{◌≡◌, ℕ, zero, suc, ◌+◌, ◌-◌, ◌<◌, ◌≤◌, Bool, true, false, List, [], ◌∷◌, ◌++◌, length, map, filter, flat_map, None, append_assoc, refl, sym, ◌∙◌, ap, subst, arith, inl, inr}
 use Rattle.std.specs.Prelude.{◌==◌, nat_lt, if◌then◌else◌, Contains}
+use Rattle.std.specs.List.{filter_map, range_with_len}
 use Rattle.std.proofs.lemmas.List.{append-nil, map-append}
-use Rattle.std.proofs.lemmas.List.Elements.{Contains-append_cases, filter-append}
+use Rattle.std.proofs.lemmas.List.Elements.{Contains-append_cases, filter-append, filter_map-append}
 use Rattle.std.proofs.lemmas.Bool.{le-ltb}
 use Rattle.std.proofs.lemmas.Bool.Decides.{nat_tests, eqb_tells}
 use Rattle.pa_machine.specs.declared.title.Title.{Title}
@@ -16,17 +17,20 @@ use Rattle.pa_record.specs.declared.root.RootAct.{RootAct}
 use Rattle.pa_record.specs.declared.root.RootAct.TheVariants.{Purge}
 use Rattle.pa_record.specs.declared.root.RootEntry.{RootEntry}
 use Rattle.pa_record.specs.Numbers.{root_numbers}
+use Rattle.pa_record.specs.Root.{asked_by}
 use Rattle.pa_lists.proofs.Members.{in_cases, not_in_none, first_in, not_some}
 use Rattle.pa_region.specs.declared.view.Entry.{Entry}
 use Rattle.pa_region.specs.declared.view.Entry.TheVariants.{Entered, Uncut}
 use Rattle.pa_region.specs.declared.view.Made.{Made}
 use Rattle.pa_region.specs.Views.{free_of, seen_of, stake_of}
 use Rattle.pa_region.specs.Lists.{entered_in}
-use Rattle.pa_rules.specs.Caches.{gives, purge_acts, listed_slots, all_listed}
+use Rattle.pa_rules.specs.Caches.{gives, purge_acts, listed_slots, all_listed, acts_of}
 use Rattle.pa_rules.specs.Roots.{MakesEntry}
 use Rattle.pa_logs.specs.Touches.{is_touch, touches}
 use Rattle.pa_logs.specs.Indices.{Enters, asks}
 use Rattle.pa_root.specs.Handing.{root_entry, numbered_by}
+use Rattle.pa_step_order.specs.Signs.{Sign, sign_of, act_signs}
+use Rattle.pa_step_order.proofs.Shaping.{shapes_have_signs}
 use Rattle.pa_op_specs.specs.Stocks.{StockRegister, StockValue, IsStock, titles_in, listed_in, listed_slot, regs_of}
 use Rattle.pa_op_specs.specs.Workers.{HasItsStake}
 use Rattle.pa_op_specs.specs.Outcomes.{Outcome, IsOutcome, IsSeenOf}
@@ -38,6 +42,7 @@ use Rattle.pa_op_specs.proofs.Quiet.{same_titles, quiet_record}
 use Rattle.pa_op_specs.proofs.Entered.{Entering, acts_in, entering_none, entering_both, entered_here, entered_elsewhere, makes_each, entered_does}
 use Rattle.pa_op_specs.proofs.Batches.{in_gives, gives_ask_none, acts_back, act_among}
 use Rattle.pa_thread_state.proofs.HandedBack.{gives_enters}
+use Rattle.pa_heap.proofs.Given.{numbers_again, gives_name_none}
 use Rattle.pa_logs.proofs.Listing.{entered_append}
 
 -- ---- entries of lists are no touches
@@ -74,6 +79,7 @@ pub record Purging (line n slots : ℕ) (s now : StockValue) : Type 0 where
   says : (p : ℕ) → p < n → map (λ (m : Made). m.numbers) (entered_in p stretch) ≡ map root_numbers (map (root_entry line) (purge_acts (listed_in s p) 0 59))
   none : (p : ℕ) → n ≤ p → entered_in p stretch ≡ []
   quiet : touches stretch ≡ []
+  signs : filter_map sign_of stretch ≡ flat_map (λ p. flat_map (act_signs line p) (purge_acts (listed_in s p) 0 59)) (range_with_len 0 n)
   uncut : (t : Title) → Contains stretch (Uncut t) → ⊥
   kept : (q c : ℕ) → titles_in now.caches q c ≡ (if nat_lt q n then [] else titles_in s.caches q c)
   numbers : (m : ℕ) (t : Title) → IsWellFormed m t → 0 < free_of now.view t → seen_of now.view t ≡ seen_of s.view t
@@ -88,6 +94,7 @@ purging_none line s = record {
   says = λ p low. absurd (omega arith);
   none = λ p far. refl;
   quiet = refl;
+  signs = refl;
   uncut = λ t among. not_in_none (Uncut t) among;
   kept = λ q c. none_below q (titles_in s.caches q c);
   numbers = λ m t well free. refl;
@@ -136,6 +143,30 @@ kept_more n q ts us is = go (q == n) (nat_lt q n) (nat_lt q (n + 1)) refl refl r
     go false false true e f g is = absurd (grind (arith, nat_tests))
     go false false false e f g is = is
 
+-- a range of one number more, and pieces that are the same at each number of a range
+range_more : {A : Type 0} (f : ℕ → List A) (a n : ℕ) → flat_map f (range_with_len a (n + 1)) ≡ flat_map f (range_with_len a n) ++ f (a + n)
+range_more f a zero = append-nil (f a) ∙ ap f (let e : a ≡ a + 0 = omega arith in e)
+range_more f a (suc n) =
+    ap (λ k. flat_map f (range_with_len a k)) (let e : suc n + 1 ≡ suc (n + 1) = omega arith in e)
+    ∙ ap (λ ys. f a ++ ys) (range_more f (a + 1) n ∙ ap (λ k. flat_map f (range_with_len (a + 1) n) ++ f k) (let e : (a + 1) + n ≡ a + suc n = omega arith in e))
+    ∙ sym (append_assoc (f a) (flat_map f (range_with_len (a + 1) n)) (f (a + suc n)))
+
+range_same : {A : Type 0} (f g : ℕ → List A) (a n : ℕ) → ((p : ℕ) → p < a + n → f p ≡ g p) → flat_map f (range_with_len a n) ≡ flat_map g (range_with_len a n)
+range_same f g a zero same = refl
+range_same f g a (suc n) same =
+    ap (λ ys. ys ++ flat_map f (range_with_len (a + 1) n)) (same a (omega arith)) ∙ ap (λ ys. g a ++ ys) (range_same f g (a + 1) n (λ p low. same p (omega arith)))
+
+-- a purge names no entry of the pool
+purge_names_none : (lists : ℕ → List Numbered) (i n : ℕ) (act : RootAct) → Contains (purge_acts lists i n) act → asked_by act ≡ None
+purge_names_none lists i zero act among = elim (in_cases Purge act [] among) [
+  | inl same ↦ ap asked_by (sym same)
+  | inr none ↦ absurd (not_in_none act none)
+]
+purge_names_none lists i (suc n) act among = elim (Contains-append_cases (gives (lists i)) (purge_acts lists (i + 1) n) act among) [
+  | inl first ↦ gives_name_none (lists i) act first
+  | inr later ↦ purge_names_none lists (i + 1) n act later
+]
+
 pub purging_more : (line n slots more : ℕ) (s now next : StockValue) → IsStock now → Purging line n slots s now → PurgesRoot line n more now next →
     n < s.partitions → n < 4 → Purging line (n + 1) (slots + more) s next
 purging_more line n slots more s now next is some (more_is, given) below low = record {
@@ -154,6 +185,15 @@ purging_more line n slots more s now next is some (more_is, given) below low = r
   none = λ p far.
       entered_append p some.stretch es ∙ (ap (λ ms. ms ++ entered_in p es) (some.none p (omega arith)) ∙ entered_elsewhere n p given.entries (λ e. omega arith));
   quiet = filter-append is_touch some.stretch es ∙ (ap (λ ms. ms ++ touches es) some.quiet ∙ entered_quiet n given.entries);
+  signs =
+      let acts : ℕ → List RootAct = λ p. purge_acts (listed_in s p) 0 59 in
+      let signs_in : ℕ → List Sign = λ p. flat_map (act_signs line p) (acts p) in
+      let here = acts_same (listed_in now n) (listed_in s n) 0 59 lists in
+      let entered = shapes_have_signs.entries line n given.entries (purge_acts (listed_in now n) 0 59) low
+      (given.says ∙ numbers_again line (purge_acts (listed_in now n) 0 59)) (purge_names_none (listed_in now n) 0 59) in
+      filter_map-append sign_of some.stretch es ∙ ap (λ ys. ys ++ filter_map sign_of es) some.signs
+      ∙ ap (λ ys. flat_map signs_in (range_with_len 0 n) ++ ys) (entered ∙ ap (flat_map (act_signs line n)) here)
+      ∙ sym (range_more signs_in 0 n ∙ ap (λ k. flat_map signs_in (range_with_len 0 n) ++ signs_in k) (let e : 0 + n ≡ n = omega arith in e));
   uncut = λ t among. elim (Contains-append_cases some.stretch es (Uncut t) among) [
     | inl first ↦ some.uncut t first
     | inr second ↦ no_uncut n given.entries t second
@@ -238,6 +278,12 @@ purge_does line slots s now is still some =
             unmaps = λ seen p asked slot e done among on act. absurd (not_done seen done);
             makes = makes_each (quiet_record s now.view line phase ops.Purge (answers.Purged slots) some.stretch) (it phase) o.pools (λ p e low among. makes p e o.pools among);
             home = λ m e. absurd (not_some m e);
+            signs = some.signs ∙ ap (λ n. flat_map (λ p. flat_map (act_signs line p) (purge_acts (listed_in s p) 0 59)) (range_with_len 0 n)) (sym many)
+                ∙ range_same (λ p. flat_map (act_signs line p) (purge_acts (listed_in s p) 0 59)) (λ p. flat_map (act_signs line p) (acts_of o.roots line p)) 0 o.partitions
+                (λ p low.
+                let below : p < s.partitions = subst (λ n. p < n) many (let b : p < o.partitions = omega arith in b) in
+                ap (flat_map (act_signs line p))
+                (sym (acts.here p (few p below) ∙ (ap acts_in (roots_at p below) ∙ acts_back line (purge_acts (listed_in s p) 0 59)))));
           };
     })
   where

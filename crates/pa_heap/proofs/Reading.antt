@@ -194,7 +194,8 @@ module _ (looks : LookLeaves) (entries : EntryLeaves) (s : StockValue) (n reg pl
   pub read_does : (owns : OwnsChange) (answer : Answer) → IsOfRead answer (seen_at h word) value → (line : ℕ) → DoesOp line (ops.Read reg place) answer s (read_stock s h word place value)
   read_does owns (answers.Value seen v) (same, equal, held) line = subst (λ q. DoesOp line (ops.Read reg place) (answers.Value q v) s (read_stock s h word place value)) (sym same)
       (subst (λ q. DoesOp line (ops.Read reg place) (answers.Value (seen_at h word) q) s (read_stock s h word place value)) (sym equal)
-      (quiet_does s w s.registers (ops.Read reg place) (answers.Value (seen_at h word) value) es is.lists (touched looks owns) (record { room = λ j e. cc; cells = λ list x none. none })
+      (quiet_does s w s.registers (ops.Read reg place) (answers.Value (seen_at h word) value) es is.lists (touched looks owns)
+      (record { room = λ j e. cc; no_swap = λ j e. cc; cells = λ list x none. none })
       (λ q. refl) (λ refused. absurd refused)
       (λ line phase o run sees none same.
       let slot = slot_in_run o w h run sees (made_kept h s.view w refl (register_has s reg h is below has).1) in
@@ -210,7 +211,8 @@ module _ (looks : LookLeaves) (entries : EntryLeaves) (s : StockValue) (n reg pl
       }) line))
   read_does owns (answers.Dangling seen v) (same, equal, held) line = subst (λ q. DoesOp line (ops.Read reg place) (answers.Dangling q v) s (read_stock s h word place value)) (sym same)
       (subst (λ q. DoesOp line (ops.Read reg place) (answers.Dangling (seen_at h word) q) s (read_stock s h word place value)) (sym equal)
-      (quiet_does s w s.registers (ops.Read reg place) (answers.Dangling (seen_at h word) value) es is.lists (touched looks owns) (record { room = λ j e. cc; cells = λ list x none. none })
+      (quiet_does s w s.registers (ops.Read reg place) (answers.Dangling (seen_at h word) value) es is.lists (touched looks owns)
+      (record { room = λ j e. cc; no_swap = λ j e. cc; cells = λ list x none. none })
       (λ q. refl) (λ refused. absurd refused)
       (λ line phase o run sees none same.
       let slot = slot_in_run o w h run sees (made_kept h s.view w refl (register_has s reg h is below has).1) in

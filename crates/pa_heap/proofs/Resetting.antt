@@ -46,7 +46,7 @@ cleared_does counts s r word h is aware stake budget below ref found stays =
     let inside : r < length s.registers = let n = is.handles.count in omega arith in
     quiet_does s w (slice_set s.registers r Cleared) (ops.Reset r) (answers.Done (seen_at h word)) (Counted t steps.Reset word 0 ∷ []) is.lists
     (touched_count counts s.thread steps.Reset t word s.view refl (can_reset s r h is stake budget below ref) found (least_is s.thread s.view is.stake stake).0 (user_not_free s.view t aware knows.0))
-    (record { room = λ j e. cc; cells = λ list x none. none })
+    (record { room = λ j e. cc; no_swap = λ j e. cc; cells = λ list x none. none })
     (owes_done s.registers (ops.Reset r) (seen_at h word) t.len (Counted t steps.Reset word 0 ∷ []) ([], tt, refl) (ap bytes_in ref)) (λ refused. absurd refused)
     (λ line phase o run sees none same.
     let slot = slot_in_run o w h run sees (made_kept h s.view w refl knows.1) in

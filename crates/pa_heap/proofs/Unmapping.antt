@@ -11,6 +11,7 @@ use Rattle.pa_layout.specs.Pages.{supers_for}
 use Rattle.pa_record.specs.declared.entry.Answer.TheVariants as answers
 use Rattle.pa_record.specs.declared.numbered.Numbered.{Numbered}
 use Rattle.pa_record.specs.declared.pool.PoolEntry.{PoolEntry}
+use Rattle.pa_record.specs.declared.root.RootAct.{RootAct}
 use Rattle.pa_record.specs.declared.root.RootEntry.{RootEntry}
 use Rattle.pa_record.specs.declared.root.RootAct.TheVariants.{Unmap}
 use Rattle.pa_record.specs.Numbers.{root_numbers}
@@ -25,7 +26,7 @@ use Rattle.pa_region.specs.Views.{seen_of}
 use Rattle.pa_region.specs.Lists.{list_of}
 use Rattle.pa_rules.specs.Played.{mark_at}
 use Rattle.pa_rules.specs.Registers.{Row}
-use Rattle.pa_rules.specs.Caches.{IsDirect, SameLists, acts_of}
+use Rattle.pa_rules.specs.Caches.{IsDirect, SameLists, acts_of, OnlyActs}
 use Rattle.pa_rules.specs.Roots.{MakesEntry}
 use Rattle.pa_lists.proofs.Parts.{parts_at}
 use Rattle.pa_logs.proofs.Filters.{get_in}
@@ -36,6 +37,8 @@ use Rattle.pa_pool.specs.Calls.{give_entry}
 use Rattle.pa_root.specs.Handing.{UnmapTakes, at_number_seen, root_entry}
 use Rattle.pa_cells.specs.declared.handle.Handle.{Handle}
 use Rattle.pa_cells.specs.Handles.{HandsOut, HasSeenMade, SlotsStaySeen}
+use Rattle.pa_step_order.specs.Signs.{Stepped}
+use Rattle.pa_step_order.proofs.Shaping.{shapes_have_signs}
 use Rattle.pa_op_specs.specs.Stocks.{StockRegister, StockValue, regs_of, listed_in}
 use Rattle.pa_op_specs.specs.Outcomes.{Outcome, IsOutcome, IsSeenOf, row_facts}
 use Rattle.pa_op_specs.specs.Entering.{HasSeenSome}
@@ -227,6 +230,11 @@ unmap_does stays op step h word line s after w rs y note is direct thread partit
     answers_in phase o run sees line_acts =
         let seen_made = stays h w after.view is.made (came.lists h.partition) in
         let slot = slot_in_run o after.view h run sees seen_made in
+        let unmap : RootAct = Unmap takes.asked (at_number_seen note h.title) in
+        let only : OnlyActs o.roots line h.partition (unmap ∷ []) = (
+          line_acts.here h.partition low ∙ ap acts_in (own (h.partition == h.partition) refl),
+          λ q differs. none_here o (x phase) (it phase) line_acts q (other q (q == h.partition) refl differs),
+        ) in
         record {
           told = is.told o.sizes es ([], tt, ap (λ u. Counted u step word 0 ∷ []) (sym slot.title));
           row = subst (λ r. Row (row_facts o) op (regs_of s.registers) (answers.Done (seen_at h word)) (regs_of r)) (sym registers) (is.row o);
@@ -235,10 +243,7 @@ unmap_does stays op step h word line s after w rs y note is direct thread partit
             takes.asked,
             seen_of note h.title,
             direct_in_run o after.view h sees seen_made direct,
-            (
-              line_acts.here h.partition low ∙ ap acts_in (own (h.partition == h.partition) refl),
-              λ q differs. none_here o (x phase) (it phase) line_acts q (other q (q == h.partition) refl differs),
-            ),
+            only,
             lists,
           ));
           reader = is.reader o (x phase);
@@ -247,4 +252,7 @@ unmap_does stays op step h word line s after w rs y note is direct thread partit
           makes = makes_each (x phase) (it phase) o.pools
               (λ q e lower among. subst (λ (f : RootEntry). MakesEntry o.pools q f.act op) (in_one q (q == h.partition) e among) is.freeing);
           home = λ m e. (h.partition, home_of o h.partition (mark_at line (seen_at h word) (Some step)) m (sym (is.mark line) ∙ e) slot.size);
+          signs = ap (λ ys. Stepped ∷ ys)
+              (shapes_have_signs.asked line h.partition takes.asked unmap pool made low takes.enters.is_made.says refl
+              ∙ shapes_have_signs.only o.partitions line h.partition o.roots (unmap ∷ []) run.past only);
         }

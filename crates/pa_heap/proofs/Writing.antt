@@ -98,7 +98,7 @@ filled_does counts looks owns states fills n s reg value first word h is aware s
     (λ free. held (let e = frees in omega arith)) in
     quiet_does s w s.registers (ops.Write reg value) (answers.Done (seen_at h word)) (Looked t first ∷ Counted t steps.Write word value ∷ []) is.lists
     (touched_both s.thread (Looked t first) (Counted t steps.Write word value) s.view u w one_look step)
-    (record { room = λ j e. cc; cells = λ list x empty. empty })
+    (record { room = λ j e. cc; no_swap = λ j e. cc; cells = λ list x empty. empty })
     (owes_done s.registers (ops.Write reg value) (seen_at h word) t.len (Looked t first ∷ Counted t steps.Write word value ∷ [])
     (Looked t first ∷ [], ((first, refl), tt), refl) (ap bytes_in own)) (λ refused. absurd refused)
     (λ line phase o run sees no_acts same.

@@ -2,6 +2,7 @@
 -- the root that names it.
 use Rattle.std.proofs.Common.{◌≡◌, ℕ, ◌<◌, List, [], ◌∷◌, ◌++◌, map, Option, Some, None, refl, sym, ◌∙◌, ap, subst, arith, ◌⊎◌, inl, inr}
 use Rattle.std.specs.Prelude.{◌==◌, Contains, filter, if◌then◌else◌}
+use Rattle.std.specs.List.{filter_map, flat_map}
 use Rattle.std.proofs.lemmas.Bool.Decides.{eqb_tells}
 use Rattle.pa_record.specs.declared.pool.PoolEntry.{PoolEntry}
 use Rattle.pa_record.specs.declared.root.RootAct.{RootAct}
@@ -20,6 +21,9 @@ use Rattle.pa_logs.specs.Told.{ToldRecord}
 use Rattle.pa_logs.specs.Indices.{Enters, AskedNone, AskedOnce, asks, is_asked}
 use Rattle.pa_root.specs.Handing.{root_entry}
 use Rattle.pa_root.specs.Making.{EntersOne, EntersTwo}
+use Rattle.pa_lists.proofs.Elements.{in_one}
+use Rattle.pa_step_order.specs.Signs.{sign_of, act_signs}
+use Rattle.pa_step_order.proofs.Shaping.{shapes_have_signs}
 use Rattle.pa_op_specs.specs.Outcomes.{Outcome}
 use Rattle.pa_op_specs.proofs.Entered.{LineActs, none_here, acts_in, entered_here, entered_elsewhere}
 use Rattle.pa_logs.proofs.Listing.{entered_append}
@@ -50,6 +54,7 @@ pub record Asks (line p : ℕ) (acts : List RootAct) (es : List Entry) (w : View
   pub pools_are : map (λ (m : Made). m.numbers) (entered_in 4 es) ≡ map pool_numbers pools
   pub asked : (x : ToldRecord) (it : Enters x) → (entered_in 4 x.stretch ≡ entered_in 4 es) → (it.roots ≡ root_at line p acts) → (it.pools ≡ pools) →
       AskedNone x it ⊎ AskedOnce (list_of 4 w) x it
+  pub signs : filter_map sign_of es ≡ flat_map (act_signs line p) acts
 
 -- what a record with that log segment entered
 abbrev pub it_asks : (line p : ℕ) (acts : List RootAct) (es : List Entry) (w : View) (x : ToldRecord) → Asks line p acts es w → ((q : ℕ) → entered_in q x.stretch ≡ entered_in q es) → Enters x
@@ -94,6 +99,7 @@ asks_none line p w = record {
   pools = [];
   pools_are = refl;
   asked = λ x it same roots pools. inl (record { pools = pools; roots = λ q. ap (λ (f : ℕ → List RootEntry). filter asks (f q)) roots ∙ ap (filter asks) (none q) });
+  signs = refl;
 }
   where
     none : (q : ℕ) → root_at line p [] q ≡ []
@@ -120,6 +126,7 @@ asks_one j r p line act v u w one low quiet = record {
   pools = [];
   pools_are = ap (map (λ (m : Made). m.numbers)) (none_of_pool p one.made low);
   asked = λ x it same roots pools. inl (record { pools = pools; roots = λ q. ap (λ (f : ℕ → List RootEntry). filter asks (f q)) roots ∙ none q });
+  signs = shapes_have_signs.entries line p (one.made ∷ []) (act ∷ []) low (ap (λ ns. ns ∷ []) one.is_made.says) (λ a among. ap asked_by (sym (in_one act a among)) ∙ quiet);
 }
   where
     none : (q : ℕ) → filter asks (root_at line p (act ∷ []) q) ≡ []
@@ -162,6 +169,7 @@ asks_two a j r p line taken act v u w two low names at more = record {
       index_is = two.is_pool.index;
     };
   });
+  signs = shapes_have_signs.asked line p a act two.pool two.made low two.is_made.says names;
 }
   where
     here : filter asks (root_at line p (act ∷ []) taken.partition) ≡ root_entry line act ∷ []

@@ -31,6 +31,7 @@ use Rattle.pa_op_specs.specs.Outcomes.{Outcome, IsOutcome, IsSeenOf, ActsAreOf, 
 use Rattle.pa_op_specs.specs.Entering.{EntersCells}
 use Rattle.pa_op_specs.specs.Owing.{OwesOf, KeepsWords}
 use Rattle.pa_op_specs.specs.Plays.{DoesOp}
+use Rattle.pa_step_order.proofs.Shaping.{shapes_have_signs}
 use Rattle.pa_op_specs.proofs.Touching.{Touches, Touched}
 
 -- entries that touch enter nothing
@@ -97,6 +98,7 @@ kept_of_line (f ∷ es) line e among is none =
 -- the op is no exchange, and wasn't refused for lack of room
 pub record IsQuiet (op : Op) (answer : Answer) : Type 0 where
   pub room : (j : ℕ) → answer ≡ answers.Full j → ⊥
+  pub no_swap : (j : ℕ) → answer ≡ answers.Swapped j → ⊥
   pub cells : (list : List Made) (x : ToldRecord) → entered_in 5 x.stretch ≡ [] → EntersCells op list x
 
 pub touched_does : (s : StockValue) (w : View) (registers : List StockRegister) (caches : List CacheList) (op : Op) (answer : Answer) (es : List Entry) →
@@ -140,6 +142,7 @@ touched_does s w registers caches op answer es touched quiet owes words says lin
           unmaps = λ seen p asked slot e is among on act. absurd (kept_of_line (o.roots p) line e among on (here p));
           makes = λ p m e low among is. absurd (not_in_none m (subst (λ ms. Contains ms m) (none p) among));
           home = say.home;
+          signs = shapes_have_signs.quiet o.sizes o.partitions o.roots x say.told none here quiet.no_swap;
         };
   },
   λ word bytes among. touched.each (Added word bytes) among,

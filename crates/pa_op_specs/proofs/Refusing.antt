@@ -82,6 +82,7 @@ IsPlain (answers.Purged slots) = ⊥
 -- what follows for such an answer
 record Plainly (op : Op) (answer : Answer) : Type 0 where
   room : (j : ℕ) → answer ≡ answers.Full j → ⊥
+  no_swap : (j : ℕ) → answer ≡ answers.Swapped j → ⊥
   told : (sizes : SlotName → ℕ) → IsToldBy sizes op answer []
   owes : (registers : List StockRegister) → OwesOf registers op answer []
   lists : (partitions : ℕ) (roots : Journals) (x : Played) (cache after : Cache) → NoActs roots x.line → SameLists after cache → CacheRow partitions roots x answer cache after
@@ -92,18 +93,74 @@ plainly op (answers.Made seen usable) is = absurd is
 plainly op (answers.Done seen) is = absurd is
 plainly op (answers.Value seen value) is = absurd is
 plainly op (answers.Dangling seen value) is = absurd is
-plainly op (answers.SecondFree None) is = record { room = λ j e. cc; told = λ sizes. refl; owes = λ rs q. refl; lists = λ n roots x c d none same. (none, same); home = λ line m e. not_some m e }
+plainly op (answers.SecondFree None) is = record {
+  room = λ j e. cc;
+  no_swap = λ j e. cc;
+  told = λ sizes. refl;
+  owes = λ rs q. refl;
+  lists = λ n roots x c d none same. (none, same);
+  home = λ line m e. not_some m e;
+}
 plainly op (answers.SecondFree (Some seen)) is = absurd is
 plainly op (answers.NotOwner seen) is = absurd is
-plainly op answers.StaleReset is = record { room = λ j e. cc; told = λ sizes. refl; owes = λ rs q. refl; lists = λ n roots x c d none same. (none, same); home = λ line m e. not_some m e }
-plainly op (answers.StaleUse None) is = record { room = λ j e. cc; told = λ sizes. refl; owes = λ rs q. refl; lists = λ n roots x c d none same. (none, same); home = λ line m e. not_some m e }
+plainly op answers.StaleReset is = record {
+  room = λ j e. cc;
+  no_swap = λ j e. cc;
+  told = λ sizes. refl;
+  owes = λ rs q. refl;
+  lists = λ n roots x c d none same. (none, same);
+  home = λ line m e. not_some m e;
+}
+plainly op (answers.StaleUse None) is = record {
+  room = λ j e. cc;
+  no_swap = λ j e. cc;
+  told = λ sizes. refl;
+  owes = λ rs q. refl;
+  lists = λ n roots x c d none same. (none, same);
+  home = λ line m e. not_some m e;
+}
 plainly op (answers.StaleUse (Some seen)) is = absurd is
-plainly op answers.Nothing is = record { room = λ j e. cc; told = λ sizes. refl; owes = λ rs q. refl; lists = λ n roots x c d none same. (none, same); home = λ line m e. not_some m e }
-plainly op answers.Filled is = record { room = λ j e. cc; told = λ sizes. refl; owes = λ rs q. refl; lists = λ n roots x c d none same. (none, same); home = λ line m e. not_some m e }
-plainly op answers.NotRef is = record { room = λ j e. cc; told = λ sizes. refl; owes = λ rs q. refl; lists = λ n roots x c d none same. (none, same); home = λ line m e. not_some m e }
+plainly op answers.Nothing is = record {
+  room = λ j e. cc;
+  no_swap = λ j e. cc;
+  told = λ sizes. refl;
+  owes = λ rs q. refl;
+  lists = λ n roots x c d none same. (none, same);
+  home = λ line m e. not_some m e;
+}
+plainly op answers.Filled is = record {
+  room = λ j e. cc;
+  no_swap = λ j e. cc;
+  told = λ sizes. refl;
+  owes = λ rs q. refl;
+  lists = λ n roots x c d none same. (none, same);
+  home = λ line m e. not_some m e;
+}
+plainly op answers.NotRef is = record {
+  room = λ j e. cc;
+  no_swap = λ j e. cc;
+  told = λ sizes. refl;
+  owes = λ rs q. refl;
+  lists = λ n roots x c d none same. (none, same);
+  home = λ line m e. not_some m e;
+}
 plainly op (answers.Shared seen) is = absurd is
-plainly op answers.OutOfRange is = record { room = λ j e. cc; told = λ sizes. refl; owes = λ rs q. refl; lists = λ n roots x c d none same. (none, same); home = λ line m e. not_some m e }
-plainly op answers.TooLarge is = record { room = λ j e. cc; told = λ sizes. refl; owes = λ rs q. refl; lists = λ n roots x c d none same. (none, same); home = λ line m e. not_some m e }
+plainly op answers.OutOfRange is = record {
+  room = λ j e. cc;
+  no_swap = λ j e. cc;
+  told = λ sizes. refl;
+  owes = λ rs q. refl;
+  lists = λ n roots x c d none same. (none, same);
+  home = λ line m e. not_some m e;
+}
+plainly op answers.TooLarge is = record {
+  room = λ j e. cc;
+  no_swap = λ j e. cc;
+  told = λ sizes. refl;
+  owes = λ rs q. refl;
+  lists = λ n roots x c d none same. (none, same);
+  home = λ line m e. not_some m e;
+}
 plainly op (answers.Full entry) is = absurd is
 plainly op (answers.Swapped entry) is = absurd is
 plainly op (answers.Purged slots) is = absurd is
@@ -115,7 +172,7 @@ pub plain_does : (s : StockValue) (op : Op) (answer : Answer) → IsStock s → 
     (line : ℕ) → DoesOp line op answer s s
 plain_does s op answer is no_swap plain row reads =
     let p = plainly op answer plain in
-    quiet_does s s.view s.registers op answer [] is.lists (touched_none s.thread s.view) (record { room = p.room; cells = enters_no_cells op no_swap })
+    quiet_does s s.view s.registers op answer [] is.lists (touched_none s.thread s.view) (record { room = p.room; no_swap = p.no_swap; cells = enters_no_cells op no_swap })
     (p.owes s.registers) (λ refused q known. refl)
     (λ line phase o run sees none same. record {
       told = p.told o.sizes;

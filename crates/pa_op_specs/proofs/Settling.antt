@@ -36,6 +36,8 @@ use Rattle.pa_totals.specs.declared.owed.Owed.{Owed}
 use Rattle.pa_totals.specs.Settled.{owed_to, owed_at, none_owed, CanSettleAll, after_settle_all, all_added, LeavesSettleAll, SettleAllLeaves}
 use Rattle.pa_totals.proofs.Settling.{owed_none, owed_at_none}
 use Rattle.pa_op_specs.specs.Stocks.{StockValue, regs_of}
+use Rattle.pa_step_order.specs.Shapes.{AreAdditions}
+use Rattle.pa_step_order.proofs.Shaping.{shapes_have_signs}
 use Rattle.pa_op_specs.specs.Workers.{WorkerValue}
 use Rattle.pa_op_specs.specs.Booking.{booked}
 use Rattle.pa_op_specs.specs.Outcomes.{Outcome, ActsAreOf, FitsRun}
@@ -45,16 +47,6 @@ use Rattle.pa_op_specs.specs.Settling.{lengthened, last_lengthened, settled_work
 use Rattle.pa_op_specs.proofs.Stakes.{least_is, can_settle}
 
 -- ---- additions
-
--- these are all additions to totals words
-abbrev AreAdditions : List Entry → Type 0
-AreAdditions [] = Unit {0}
-AreAdditions (Counted t step found value ∷ es) = ⊥
-AreAdditions (Looked t found ∷ es) = ⊥
-AreAdditions (Read t place value since owned unclean ∷ es) = ⊥
-AreAdditions (Added word bytes ∷ es) = AreAdditions es
-AreAdditions (Entered keeper made ∷ es) = ⊥
-AreAdditions (Uncut t ∷ es) = ⊥
 
 -- the entry is none
 abbrev IsOther : Entry → Type 0
@@ -299,6 +291,7 @@ module _ (leaves : SettleAllLeaves) (owed : List Owed) where
           unmaps = a.unmaps;
           makes = λ p m e low among is. a.makes p m e low (subst (λ (ms : List Made). Contains ms m) (entered (all_added owed) added p x.stretch) among) is;
           home = a.home;
+          signs = shapes_have_signs.settled o.partitions o.roots x (all_added owed) added a.signs;
         };
   }
     where

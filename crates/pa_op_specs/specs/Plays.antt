@@ -24,6 +24,7 @@ use Rattle.pa_legal.specs.Known.{UnmapsNext}
 use Rattle.pa_logs.specs.Told.{ToldRecord}
 use Rattle.pa_logs.specs.Touches.{IsTold}
 use Rattle.pa_logs.specs.Said.{ReadsIts}
+use Rattle.pa_step_order.specs.Signs.{HasItsSigns}
 use Rattle.pa_op_specs.specs.Stocks.{StockValue, regs_of, listed_in}
 use Rattle.pa_op_specs.specs.Counts.{CountsBy}
 use Rattle.pa_op_specs.specs.Workers.{WorkerValue}
@@ -52,6 +53,7 @@ pub record HasSeenFor (v after : View) (x : ToldRecord) : Type 0 where
 --   unmaps: a direct map that it gives back is named at the number that its step left
 --   makes: what it entered in a journal its op makes
 --   home: a slot that it stepped on or looked at is of some partition, and has its length
+--   signs: its log segment has its counted step and its entries in their order
 pub record AnswersIn (o : Outcome) (before after : StockValue) (x : ToldRecord) : Type 0 where
   pub told : IsTold o.sizes x
   pub row : Row (row_facts o) x.played.op (regs_of before.registers) x.played.answer (regs_of after.registers)
@@ -61,6 +63,7 @@ pub record AnswersIn (o : Outcome) (before after : StockValue) (x : ToldRecord) 
   pub makes : (p : ℕ) (m : Made) (e : RootEntry) → p < most_partitions → Contains (entered_in p x.stretch) m → m.numbers ≡ root_numbers e →
       MakesEntry o.pools p e.act x.played.op
   pub home : (m : Mark) → mark_of x.played ≡ Some m → (p : ℕ) × HasSize o.roots p m.slot (o.sizes m.slot)
+  pub signs : HasItsSigns o.partitions o.roots x
 
 -- What an op did with the worker's thread state, and the annotated record that it is.
 --   thread, same: the record is of the worker's thread

@@ -1,0 +1,14 @@
+-- An execution with a right report has an outline: each record's log segment has its steps in their order.
+use Rattle.pa_logs.specs.Said.{sizes_in}
+use Rattle.pa_step_order.proofs.Signing.{segments_follow}
+use Rattle.pa_step_order.proofs.Whole.{outline_follows}
+use Rattle.pa_execution.specs.Merged.{told_in}
+use Rattle.pa_execution.specs.Telling.{CoursesTellOutline}
+use Rattle.pa_execution.proofs.Fitting.{answer}
+use Rattle.pa_execution.proofs.Keepers.{courses_tell_all}
+
+pub courses_tell_outline : CoursesTellOutline
+courses_tell_outline t r c v xs run lines =
+    outline_follows t r v (told_in t c) (courses_tell_all t r c v xs run lines) (λ x among.
+    let is = answer t r c v xs run x among in
+    segments_follow (sizes_in t r) t.partitions r.roots x run.left.past is.told is.signs)
