@@ -19,7 +19,10 @@ mod top;
 
 pub use alone::run_alone;
 pub use command::plays_threads;
-pub use laws::{a_read_fault_comes_first, one_thread_prints_as_model, only_audit_refutes, printed_runs_are_legal_inputs};
+pub use laws::{
+    a_read_fault_comes_first, one_thread_prints_as_model, only_audit_refutes,
+    printed_runs_are_legal_inputs,
+};
 pub use outcome::Outcome;
 pub use status::Status;
 pub use top::run;

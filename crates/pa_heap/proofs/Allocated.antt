@@ -23,7 +23,9 @@ use Rattle.pa_thread_state.specs.Changes.{IsBack}
 use Rattle.pa_thread_state.specs.Allocating.{TakesFront, FillsList, MapsTitle, Issues, with_listed}
 use Rattle.pa_op_specs.specs.Plays.{DoesOp}
 use Rattle.pa_heap.proofs.Issuing.{issued_does}
+use Rattle.pa_heap.proofs.Relinking.{relinked_back, brings_relinked, back_relinked}
 use Rattle.pa_heap.proofs.Taking.{front_back, front_brings}
+use Rattle.pa_thread_state.proofs.Chained.{stock_relinked}
 use Rattle.pa_thread_state.proofs.Fetching.{fill_asking, mapped_slot, map_asking, map_back}
 use Rattle.pa_heap.proofs.Fetching.{fill_back, fill_brings, map_brings}
 
@@ -72,20 +74,24 @@ front_does counts line size p c r t s mid after answer front inner came few clas
 abbrev pub Awares : View → View → View → Type 0
 Awares v u n = IsAware v × IsAware u × IsAware n × IsAware (united u n)
 
-pub fill_awares : (line p c : ℕ) (t : Title) (s mid : StockValue) (f : FillsList line p c t s mid) → IsAware s.view → IsAware mid.view → Awares s.view f.asked f.note
-fill_awares line p c t s mid f aware now = (aware, f.awares.0, f.awares.1, subst (λ (z : StockValue). IsAware z.view) f.after_is now)
+pub fill_awares : (line p c : ℕ) (t : Title) (s mid : StockValue) (f : FillsList line p c t s mid) → IsAware s.view → Awares s.view f.asked f.note
+fill_awares line p c t s mid f aware = (aware, f.awares.0, f.awares.1, f.awares.2)
 
 pub fill_issues : (line p c r : ℕ) (t : Title) (s mid : StockValue) → FillsList line p c t s mid → p < 4 → Came s mid r → CanIssueTo (listed_slot p c t) s mid r
 fill_issues line p c r t s mid f low came =
-    let awares = fill_awares line p c t s mid f came.aware came.now_aware in
+    let awares = fill_awares line p c t s mid f came.aware in
     let asking = fill_asking line p c (fill_of c) s f.asked f.note (t ∷ f.rest) f.gives came.stock awares f.long low in
+    let re = f.loaded.relinked in
     record {
-      back = subst (λ (z : StockValue). IsBack (listed_slot p c t) z) (sym f.after_is) (fill_back line p c s f.asked f.note t f.rest f.gives came.stock awares f.long low f.small);
-      stake = subst (λ (z : StockValue). HasItsStake z) (sym f.after_is)
-          (let e = asking.keeps.stakes s.thread in let h = came.stake in let both = united_stakes f.asked f.note s.thread in omega arith);
-      bare = subst (λ (z : StockValue). HasNoHandle (register_in z.registers r)) (sym f.after_is) came.bare;
+      back = subst (λ (z : StockValue). IsBack (listed_slot p c t) z) (sym f.loaded.after_is)
+          (back_relinked (listed_slot p c t) (record s { view = united f.asked f.note; caches = with_listed p c f.rest s.caches }) mid.view re
+          (fill_back line p c s f.asked f.note t f.rest f.gives came.stock awares f.long low f.small));
+      stake = subst (λ (z : StockValue). HasItsStake z) (sym f.loaded.after_is)
+          (let e = asking.keeps.stakes s.thread in let h = came.stake in let both = united_stakes f.asked f.note s.thread in
+          let same : stake_of mid.view s.thread ≡ stake_of (united f.asked f.note) s.thread = ap (λ (v : View). stake_of v s.thread) re.rest in omega arith);
+      bare = subst (λ (z : StockValue). HasNoHandle (register_in z.registers r)) (sym f.loaded.after_is) came.bare;
       budget =
-          let e : mid.view.budget ≡ f.asked.budget + f.note.budget = ap (λ (z : StockValue). z.view.budget) f.after_is in
+          let e : mid.view.budget ≡ f.asked.budget + f.note.budget = ap (λ (v : View). v.budget) re.rest in
           let k = asking.keeps.budget in omega arith;
     }
 
@@ -94,10 +100,14 @@ pub fill_does : CountLeaves → (line size p c r words : ℕ) (t : Title) (s mid
 fill_does counts line size p c r words t s mid after answer f inner came few class well issue =
     let low : p < 4 = let most = came.stock.partitions in omega arith in
     let can = fill_issues line p c r t s mid f low came in
-    let awares = fill_awares line p c t s mid f came.aware came.now_aware in
-    issued_does counts line size r (listed_slot p c t) _ _ s mid after (united f.asked f.note) (with_listed p c f.rest s.caches) answer
-    (fill_brings line size p c s f.asked f.note t f.rest f.gives came.stock awares f.long low f.small f.empty class (subst (λ (z : StockValue). IsStock z) f.after_is came.now) words well)
-    f.after_is came.now can.stake can.back issue inner came.below came.bare few
+    let awares = fill_awares line p c t s mid f came.aware in
+    let both = united f.asked f.note in
+    let sound = stock_relinked (record s { view = mid.view; caches = with_listed p c f.rest s.caches }) both (relinked_back both mid.view f.loaded.relinked)
+    (subst (λ (z : StockValue). IsStock z) f.loaded.after_is came.now) in
+    issued_does counts line size r (listed_slot p c t) _ _ s mid after mid.view (with_listed p c f.rest s.caches) answer
+    (brings_relinked line size (listed_slot p c t) _ _ s both mid.view (with_listed p c f.rest s.caches) f.loaded.relinked
+    (fill_brings line size p c s f.asked f.note t f.rest f.gives came.stock awares f.long low f.small f.empty class sound words well))
+    f.loaded.after_is came.now can.stake can.back issue inner came.below came.bare few
 
 -- ---- a direct map
 

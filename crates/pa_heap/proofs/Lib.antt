@@ -18,6 +18,7 @@ pub mod Settling
 pub mod Playing
 pub mod Purged
 pub mod Issuing
+pub mod Relinking
 pub mod Taking
 pub mod Fetching
 pub mod Fulling

@@ -237,20 +237,20 @@ spill_does stays op step h class word line s after w rs is sound of class_is sma
     stake_here : (k : ℕ) → View → ℕ
     stake_here k v = stake_of v k
 
-    view : after.view ≡ spills.between.view
-    view = ap (λ (z : StockValue). z.view) spills.front
+    view : after.view ≡ record spills.between.view { words = after.view.words; since = record spills.between.view.since { stored = after.view.since.stored } }
+    view = spills.front.relinked.rest
 
     thread : after.thread ≡ spills.between.thread
-    thread = ap (λ (z : StockValue). z.thread) spills.front
+    thread = ap (λ (z : StockValue). z.thread) spills.front.after_is
 
     partitions : after.partitions ≡ spills.between.partitions
-    partitions = ap (λ (z : StockValue). z.partitions) spills.front
+    partitions = ap (λ (z : StockValue). z.partitions) spills.front.after_is
 
     registers : after.registers ≡ spills.between.registers
-    registers = ap (λ (z : StockValue). z.registers) spills.front
+    registers = ap (λ (z : StockValue). z.registers) spills.front.after_is
 
     caches : after.caches ≡ put_in_front h.partition class h.title spills.between.caches
-    caches = ap (λ (z : StockValue). z.caches) spills.front
+    caches = ap (λ (z : StockValue). z.caches) spills.front.after_is
 
     before_lists : SameLists (listed_in (record s { view = w; registers = rs })) (listed_in s)
     before_lists = step_lists op step h word s w rs is of

@@ -1,14 +1,16 @@
 -- A seat takes others in.
-use Rattle.std.proofs.Common.{◌≡◌, ℕ, List, [], ◌∷◌, ◌++◌, refl, sym, ◌∙◌, ap, subst, arith, append-nil}
+use Rattle.std.proofs.Common.{◌≡◌, ℕ, ◌/◌, ◌<◌, List, [], ◌∷◌, ◌++◌, length, refl, sym, ◌∙◌, ap, subst, arith, inl, inr, append-nil}
 use Rattle.std.specs.List.{sum_by}
 use Rattle.std.specs.Prelude.{◌==◌}
 use Rattle.std.proofs.lemmas.List.Sums.{sum_by-append}
-use Rattle.pa_machine.specs.Titles.{same_title}
+use Rattle.pa_machine.specs.declared.title.Title.{Title}
+use Rattle.pa_machine.specs.Titles.{same_title, IsWellFormed}
 use Rattle.pa_machine.specs.Holdings.{one}
 use Rattle.pa_region.specs.declared.view.Keeper.{Keeper}
 use Rattle.pa_region.specs.declared.view.OwnTitle.{OwnTitle}
 use Rattle.pa_region.specs.declared.view.Stake.{Stake}
 use Rattle.pa_region.specs.declared.view.View.{View}
+use Rattle.pa_region.specs.Views.{Knows, free_of}
 use Rattle.pa_region.specs.Pairs.{log_among}
 use Rattle.pa_region.specs.Waiting.{is_unclean}
 use Rattle.pa_region.specs.Lists.{list_of}
@@ -17,7 +19,7 @@ use Rattle.pa_region.specs.Aware.{IsAware}
 use Rattle.pa_region.specs.Lending.{CanHost}
 use Rattle.pa_region.proofs.LendBack.{begins_on}
 use Rattle.pa_region.proofs.SeenJoin.{seen_left, seen_right}
-use Rattle.pa_region.proofs.TakeLaws.{left_begins, right_begins, left_whole, right_whole}
+use Rattle.pa_region.proofs.TakeLaws.{left_begins, right_begins, left_known, right_known, left_whole, right_whole}
 use Rattle.pa_heap.specs.Closing.{IsWithin, TakesOthersIn, LeavesPool, LeavesRoot, LeavesWorker}
 use Rattle.pa_thread_state.proofs.Parking.{no_stakes}
 
@@ -29,6 +31,7 @@ within_same v = record {
   lists = λ k. ([], sym (append-nil (list_of k v)));
   own_lists = λ k has. refl;
   seen = λ t. omega arith;
+  firsts = λ n t well free. refl;
 }
 
 pub within_on : (u v w : View) → IsWithin u v → IsWithin v w → IsWithin u w
@@ -38,6 +41,7 @@ within_on u v w a b = record {
   lists = λ k. begins_on (list_of k u) (list_of k v) (list_of k w) (a.lists k) (b.lists k);
   own_lists = λ k has. let e = a.keepers k in b.own_lists k (omega arith) ∙ a.own_lists k has;
   seen = λ t. let e = a.seen t in let f = b.seen t in omega arith;
+  firsts = λ n t well free. b.firsts n t well (let e = a.frees t in omega arith) ∙ a.firsts n t well free;
 }
 
 pub takes_none : (v : View) → TakesOthersIn v v
@@ -51,39 +55,48 @@ takes_on u v w a b = record {
   clean = b.clean ∙ a.clean;
 }
 
+-- the first word of a free title is known
+pub first_known : (n : ℕ) (v : View) (t : Title) → IsWellFormed n t → 0 < free_of v t → Knows v (t.start / 8)
+first_known n v t well free =
+    let a = well.start_aligned in let b = well.long in
+    inr (inl (t, free, (omega arith, omega arith)))
+
 -- two views together have what each has
-pub left_within : (v w : View) → IsAware v → IsAware (united v w) → IsWithin v (united v w)
-left_within v w aware both = record {
+pub left_within : (v w : View) → IsAware v → IsAware (united v w) → length v.words ≡ length w.words → IsWithin v (united v w)
+left_within v w aware both long = record {
   frees = λ t. let e = sum_by-append (λ u. one (same_title u t)) v.frees w.frees in omega arith;
   keepers = λ k. let e = sum_by-append (λ (q : Keeper). one (q.number == k)) v.keepers w.keepers in omega arith;
   lists = λ k. left_begins v w k both;
   own_lists = λ k has. left_whole v w k aware both has;
   seen = λ t. seen_left t v.seen w.seen;
+  firsts = λ n t well free. left_known v w (t.start / 8) long (first_known n v t well free);
 }
 
-pub right_within : (v w : View) → IsAware w → IsAware (united v w) → IsWithin w (united v w)
-right_within v w aware both = record {
+pub right_within : (v w : View) → IsAware w → IsAware (united v w) → length v.words ≡ length w.words → IsWithin w (united v w)
+right_within v w aware both long = record {
   frees = λ t. let e = sum_by-append (λ u. one (same_title u t)) v.frees w.frees in omega arith;
   keepers = λ k. let e = sum_by-append (λ (q : Keeper). one (q.number == k)) v.keepers w.keepers in omega arith;
   lists = λ k. right_begins v w k both;
   own_lists = λ k has. right_whole v w k aware both has;
   seen = λ t. seen_right t v.seen w.seen;
+  firsts = λ n t well free. right_known v w (t.start / 8) both long (first_known n w t well free);
 }
 
 -- so a note without stakes is taken in
-pub joins : (v w after : View) → after ≡ united v w → CanHost w → IsAware v → IsAware w → IsAware after → TakesOthersIn v after × IsWithin w after
-joins v w after is host aware other both =
+pub joins : (v w after : View) → after ≡ united v w → CanHost w → IsAware v → IsAware w → IsAware after → length v.words ≡ length w.words →
+    TakesOthersIn v after × IsWithin w after
+joins v w after is host aware other both long =
     let all = subst IsAware is both in
     let none = no_stakes w.stakes host.0 in
     let stakes : v.stakes ++ w.stakes ≡ v.stakes = ap (λ (ss : List Stake). v.stakes ++ ss) none ∙ append-nil v.stakes in
     subst (λ (z : View). TakesOthersIn v z × IsWithin w z) (sym is) (
       record {
-        within = left_within v w aware all;
+        within = left_within v w aware all long;
         stakes = λ k. ap (λ (ss : List Stake). sum_by (λ (s : Stake). one (s.number == k)) ss) stakes;
         logs = λ k. ap (λ (ss : List Stake). log_among k ss) stakes;
         clean = let e = sum_by-append (λ (o : OwnTitle). one (is_unclean o.state)) v.owns w.owns in let n = host.1 in omega arith;
       },
-      right_within v w other all,
+      right_within v w other all long,
     )
 
 -- what was taken in stays so when more is taken in
@@ -96,4 +109,4 @@ root_on p v w left on =
     record { root = left.root; journal_is = left.journal_is; kept = left.kept; within = within_on left.root.view v w left.within on }
 
 pub worker_on : (v w : View) → {x : _} → LeavesWorker v x → IsWithin v w → LeavesWorker w x
-worker_on v w {x} left on = record { stock = left.stock; within = within_on x.stock.view v w left.within on }
+worker_on v w {x} left on = record { stock = left.stock; links = left.links; within = within_on x.stock.view v w left.within on }

@@ -1,6 +1,8 @@
 -- What a heap leaves when it is closed: one seat has what its parts had, and what they made is listed.
 use Rattle.std.specs.Prelude.{◌≡◌, ℕ, ◌*◌, ◌<◌, ◌≤◌, List, [], length, slice_index_or, All}
 use Rattle.pa_machine.specs.declared.title.Title.{Title}
+use Rattle.pa_machine.specs.Titles.{IsWellFormed}
+use Rattle.pa_machine.specs.Links.{AreLinked, first_word}
 use Rattle.pa_record.specs.declared.history.CellEntry.{CellEntry}
 use Rattle.pa_record.specs.declared.history.Held.TheVariants.{Nothing}
 use Rattle.pa_record.specs.declared.pool.PoolEntry.{PoolEntry}
@@ -25,17 +27,20 @@ use Rattle.pa_pool.specs.Pools.{PoolValue, IsPoolKept}
 use Rattle.pa_root.specs.Keeping.{RootState, IsRootSound}
 use Rattle.pa_cells.specs.Cells.{CellsHeld, Exchange, IsCells, AreExchanges}
 use Rattle.pa_heap.specs.declared.left.Left.{Left}
-use Rattle.pa_op_specs.specs.Stocks.{IsStock}
+use Rattle.pa_link.specs.Chains.{slot_names}
+use Rattle.pa_op_specs.specs.Stocks.{IsStock, titles_in}
 use Rattle.pa_op_specs.specs.Workers.{WorkerValue}
 
--- The view `whole` has each free title and each keeper that `part` has. It has seen all that `part` has seen, and of the lists of
--- those keepers no more.
+-- The view `whole` has each free title and each keeper that `part` has. It has seen all that `part` has seen, of the lists of
+-- those keepers no more, and it has the same first word of each of those titles.
 pub record IsWithin (part whole : View) : Type 0 where
   pub frees : (t : Title) → free_of part t ≤ free_of whole t
   pub keepers : (k : ℕ) → keeper_of part k ≤ keeper_of whole k
   pub lists : (k : ℕ) → IsBeginning (list_of k part) (list_of k whole)
   pub own_lists : (k : ℕ) → 0 < keeper_of part k → list_of k whole ≡ list_of k part
   pub seen : (t : Title) → seen_of part t ≤ seen_of whole t
+  pub firsts : (n : ℕ) (t : Title) → IsWellFormed n t → 0 < free_of part t →
+      first_word whole.words (name_of t) ≡ first_word part.words (name_of t)
 
 -- A seat took in others that had no stake and no unclean Own: it has the same stakes, each with the same log.
 pub record TakesOthersIn (before after : View) : Type 0 where
@@ -66,9 +71,10 @@ pub record LeavesCells (histories : List (List CellEntry)) (after : View) : Type
   pub kept : IsCells cells
   pub within : IsWithin cells.view after
 
--- a worker that handed its stake over, and its seat was taken in
+-- a worker that handed its stake over, and its seat was taken in; its lists are linked in the words that this knew
 pub record LeavesWorker (after : View) (w : WorkerValue) : Type 0 where
   pub stock : IsStock w.stock
+  pub links : (p class : ℕ) → AreLinked w.stock.view.words (slot_names (titles_in w.stock.caches p class))
   pub within : IsWithin w.stock.view after
 
 -- a worker that handed its stake over has none

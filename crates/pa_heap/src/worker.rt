@@ -6,7 +6,9 @@ ghost use Rattle.pa_region.specs.Hands.{left_after, given_after, united};
 ghost use Rattle.pa_region.specs.Lending.{CanHost, stake_parcel};
 ghost use Rattle.pa_rules.specs.Caches.{SameLists, listed_slots};
 ghost use Rattle.pa_rules.specs.Report.{listed_bytes};
-ghost use Rattle.pa_op_specs.specs.Stocks.{IsForThread, listed_in};
+ghost use Rattle.pa_machine.specs.Links.{AreLinked};
+ghost use Rattle.pa_link.specs.Chains.{slot_names};
+ghost use Rattle.pa_op_specs.specs.Stocks.{IsForThread, listed_in, titles_in};
 ghost use Rattle.pa_totals.specs.Settled.{none_owed};
 ghost use Rattle.pa_op_specs.specs.Workers.{IsWorker, IsNewWorker, HasItsStake, worker_with_view};
 ghost use Rattle.pa_op_specs.specs.Settling.{settled_worker};
@@ -118,6 +120,13 @@ impl<N: Name> Worker<N> {
     /// Recalls what the type keeps. It costs nothing.
     pub fn kept(&self)
         ensures { IsWorker self.now }
+    {
+        self.stock.kept();
+    }
+
+    // Its lists are linked in the words that its seat knows. It costs nothing.
+    pub(crate) fn linked(&self)
+        ensures { (p class : ℕ) → AreLinked self.now.stock.view.words (slot_names (titles_in self.now.stock.caches p class)) }
     {
         self.stock.kept();
     }

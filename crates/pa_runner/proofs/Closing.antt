@@ -1,10 +1,14 @@
 -- A heap was closed in which all phases of a trace were played: what it leaves is the whole run of their execution.
-use Rattle.std.proofs.Common.{◌≡◌, ℕ, ◌*◌, ◌<◌, ◌≤◌, List, [], ◌∷◌, length, map, filter, refl, sym, ◌∙◌, ap, subst, arith, inl, inr}
+use Rattle.std.proofs.Common.{◌≡◌, ℕ, ◌*◌, ◌/◌, ◌<◌, ◌≤◌, leb, List, [], ◌∷◌, length, map, filter, refl, sym, ◌∙◌, ap, subst, arith, inl, inr}
 use Rattle.std.specs.Prelude.{Contains, All, ◌==◌}
-use Rattle.std.proofs.lemmas.Bool.{cases_Bool, lt-ltb}
+use mathlib.Core.Path.{fun_ext}
+use Rattle.std.proofs.lemmas.Bool.{cases_Bool, cases_lt, le-leb, le-ltb, lt-ltb}
 use Rattle.std.proofs.lemmas.List.{get_or_past}
-use Rattle.std.proofs.lemmas.List.Elements.{All-get_or, All-from_get_or}
+use Rattle.std.proofs.lemmas.List.Elements.{All-get_or, All-from_get_or, All-map}
+use Rattle.pa_lists.proofs.Elements.{all_from_members}
 use Rattle.pa_machine.specs.declared.title.Title.{Title}
+use Rattle.pa_machine.specs.Links.{AreLinked, first_word}
+use Rattle.pa_machine.proofs.Links.{links_stay}
 use Rattle.pa_record.specs.declared.entry.Entry.{Entry}
 use Rattle.pa_record.specs.declared.numbered.Numbered.{Numbered}
 use Rattle.pa_record.specs.declared.report.ReportLine.{ReportLine}
@@ -18,21 +22,28 @@ use Rattle.pa_trace.specs.declared.script.Line.{Line}
 use Rattle.pa_trace.specs.declared.script.Trace.{Trace}
 use Rattle.pa_trace.specs.Limits.{IsWithinLimits}
 use Rattle.pa_rules.specs.Played.{entry_of}
-use Rattle.pa_rules.specs.Caches.{Cache}
-use Rattle.pa_rules.specs.Told.{Told}
+use Rattle.pa_rules.specs.declared.played.Played.{Played}
+use Rattle.pa_rules.specs.Caches.{Cache, Caches, CachesTo, no_caches}
+use Rattle.pa_rules.specs.Report.{until}
+use Rattle.pa_rules.specs.Told.{Told, records_of}
 use Rattle.pa_rules.specs.Legal.{phases_in, IsLegalTold}
 use Rattle.pa_rules.specs.Held.{IsHeldIn}
 use Rattle.pa_rules.proofs.Recorded.{records_are_lines}
+use Rattle.pa_timeline.specs.Timeline.{HasOutline}
 use Rattle.pa_logs.specs.Told.{ToldRecord, played_in, is_of_thread}
 use Rattle.pa_logs.specs.Touches.{title_of}
 use Rattle.pa_logs.specs.Said.{sizes_in, IsLineSaid, LayersSay, CloseSays}
 use Rattle.pa_logs.proofs.Due.{place_is}
+use Rattle.pa_logs.proofs.Filters.{filter_all}
+use Rattle.pa_logs.proofs.Reporting.{leads}
 use Rattle.pa_logs.proofs.Said.{layers_tell_all}
 use Rattle.pa_cells.specs.Cells.{Exchange}
 use Rattle.pa_cells.specs.Handles.{SlotsStaySeen}
 use Rattle.pa_root.specs.Handing.{at_number_seen}
+use Rattle.pa_link.specs.Chains.{slot_names}
 use Rattle.pa_heap.specs.declared.left.Left.{Left}
 use Rattle.pa_heap.specs.Closing.{LeavesWorker, HasTold, IsClosedBy, journal_left, history_left}
+use Rattle.pa_heap.proofs.TakingIn.{first_known}
 use Rattle.pa_op_specs.specs.Stocks.{titles_in, listed_in, listed_slot}
 use Rattle.pa_op_specs.specs.Workers.{WorkerValue}
 use Rattle.pa_op_specs.proofs.Seeing.{slot_in_run}
@@ -42,10 +53,12 @@ use Rattle.pa_execution.specs.Telling.{IsWholeRun}
 use Rattle.pa_execution.specs.Lines.{IsLineBy}
 use Rattle.pa_execution.proofs.Chaining.{sees_last}
 use Rattle.pa_execution.proofs.Fitting.{is_outcome, seen_of_it}
-use Rattle.pa_execution.proofs.Grouping.{are_lines, all_until}
+use Rattle.pa_execution.proofs.Grouping.{are_lines, all_until, within}
 use Rattle.pa_execution.proofs.Keepers.{courses_tell_all, lists_told}
 use Rattle.pa_execution.proofs.Lining.{courses_tell_lines}
+use Rattle.pa_execution.proofs.Outlining.{courses_tell_outline}
 use Rattle.pa_execution.proofs.Recording.{workers_have_theirs}
+use Rattle.pa_runner.specs.Linked.{HasLinkedLists}
 use Rattle.pa_runner.specs.Merging.{is_entry_of, IsMergeOf}
 use Rattle.pa_runner.specs.Phases.{no_worker, worker_in}
 use Rattle.pa_runner.specs.Whole.{HasPlayed}
@@ -58,6 +71,11 @@ entries_of t c = map entry_of (played_in (told_in t c))
 abbrev pub told_of : Trace → Course → Left → List ReportLine → Told
 told_of t c left report =
     record { entries = entries_of t c; roots = journal_left left; pools = left.pool.items; cells = history_left left; report = report }
+
+-- the names of titles at their numbers
+names_numbered : (v : View) (ts : List Title) → map (λ (m : Numbered). m.slot) (map (at_number_seen v) ts) ≡ slot_names ts
+names_numbered v [] = refl
+names_numbered v (u ∷ ts) = ap (λ ss. name_of u ∷ ss) (names_numbered v ts)
 
 -- the entries of a thread's records are those of its number
 thread_entries : (k : ℕ) (xs : List ToldRecord) → map entry_of (played_in (filter (is_of_thread k) xs)) ≡ filter (is_entry_of k) (map entry_of (played_in xs))
@@ -169,12 +187,58 @@ module _ (t : Trace) (workers : List WorkerValue) (seat : View) (report : List R
     pub is_legal : IsLegalTold t run_told
     is_legal = layers_tell_all.legal t run_told closed.last (told_in t went.course) all_say
 
+    pub has_outline : HasOutline t run_told
+    has_outline = courses_tell_outline t run_told went.course closed.last exchanges is_whole lines_said
+
     -- ---- what the closing seat needs
 
     -- what a worker had on its lists when it handed its stake over it had there at the end of the last phase
     same_lists : (k : ℕ) → k < t.threads → (worker_in workers k).stock.caches ≡ (went.course.ends (phases_in t.lines) k).stock.caches
     same_lists k few =
         ap (λ (w : WorkerValue). w.stock.caches) (went.told.told k few) ∙ ap (λ (w : WorkerValue). w.stock.caches) (sym (went.ended.ends k few))
+
+    -- the lists at the end are those to which the records lead
+    lists_lead : CachesTo t.partitions run_told.roots no_caches (records_of t run_told) (lists_at t went.course (phases_in t.lines))
+    lists_lead =
+        let n = phases_in t.lines in
+        let ts = told_in t went.course in
+        let ps = played_in ts in
+        let now : until n ps ≡ ps = filter_all (λ (x : Played). leb x.phase n) ps (λ x among.
+        let (y, there, is) = map_cases (λ (z : ToldRecord). z.played) ts x among in
+        le-leb x.phase n (subst (λ (z : Played). z.phase ≤ n) is (within t went.course limits went.ended.course y there).high)) in
+        let (after, to, same) = leads t.partitions run_told.roots no_caches (until n ps) (all_say.lists n) (λ k. all_say.heap.caches n k (omega arith) (omega arith)) in
+        subst (λ (c : Caches). CachesTo t.partitions run_told.roots no_caches (records_of t run_told) c) (fun_ext same ∙ lists_say n)
+        (subst (λ xs. CachesTo t.partitions run_told.roots no_caches xs after) (now ∙ all_say.runner.records) to)
+
+    -- each is linked in the words of the closed region
+    lists_linked : (k p class : ℕ) → AreLinked left.region (map (λ (m : Numbered). m.slot) (lists_at t went.course (phases_in t.lines) k p class))
+    lists_linked k p class = elim (cases_lt k t.threads) [
+      | inl few ↦
+          (let n = phases_in t.lines in
+          let last_worker = went.course.ends n k in
+          let w = worker_in workers k in
+          let count = went.same_count in
+          let leaves : LeavesWorker closed.last w = All-get_or (LeavesWorker closed.last) workers k no_worker (omega arith) closed.workers in
+          let ts = titles_in w.stock.caches p class in
+          let here : AreLinked left.region (slot_names ts) = links_stay w.stock.view.words left.region (slot_names ts)
+          (All-map (λ s. first_word left.region s ≡ first_word w.stock.view.words s) name_of ts
+          (all_from_members (λ u. first_word left.region (name_of u) ≡ first_word w.stock.view.words (name_of u)) ts (λ u among.
+          let well = leaves.stock.lists.well p class u among in
+          let free = leaves.stock.lists.free p class u among in
+          let more = leaves.within.frees u in
+          sym (closed.ends.values (u.start / 8) (first_known well.0 closed.last u well.1 (omega arith))) ∙ leaves.within.firsts well.0 u well.1 free)))
+          (leaves.links p class) in
+          let has : lists_at t went.course n k ≡ listed_in last_worker.stock = rw (lt-ltb k t.threads few) refl in
+          subst (λ (z : Cache). AreLinked left.region (map (λ (m : Numbered). m.slot) (z p class))) (sym has)
+          (subst (λ ss. AreLinked left.region ss) (sym (names_numbered last_worker.stock.view (titles_in last_worker.stock.caches p class)))
+          (subst (λ cs. AreLinked left.region (slot_names (titles_in cs p class))) (same_lists k few) here)))
+      | inr past ↦
+          (let none : lists_at t went.course (phases_in t.lines) k ≡ no_caches k = rw (le-ltb k t.threads past) refl in
+          subst (λ (z : Cache). AreLinked left.region (map (λ (m : Numbered). m.slot) (z p class))) (sym none) tt)
+    ]
+
+    pub has_lists : HasLinkedLists t run_told left.region
+    has_lists = record { all = lists_at t went.course (phases_in t.lines); are = lists_lead; linked = lists_linked }
 
     listed_free : SlotsStaySeen → (k p class : ℕ) (m : Numbered) → k < t.threads → p < t.partitions → class < 59 →
         Contains (lists_at t went.course (phases_in t.lines) k p class) m → 0 < free_of closed.last (title_of (sizes_in t run_told) m.slot)

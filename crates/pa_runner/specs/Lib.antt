@@ -5,4 +5,5 @@ pub mod Merging
 pub mod Opening
 pub mod Reporting
 pub mod UnderWay
+pub mod Linked
 pub mod Whole

@@ -12,6 +12,8 @@ mod cli_faults;
 #[cfg(test)]
 mod cli_gate;
 #[cfg(test)]
+mod cli_links;
+#[cfg(test)]
 mod cli_replay;
 #[cfg(test)]
 mod cli_scripts;

@@ -10,7 +10,7 @@ use Rattle.pa_region.specs.Hands.{united}
 use Rattle.pa_region.specs.Aware.{IsAware}
 use Rattle.pa_root.specs.Handing.{FillGives, MapGives}
 use Rattle.pa_op_specs.specs.Stocks.{StockValue, IsStock, titles_in}
-use Rattle.pa_thread_state.specs.Allocating.{Receives, CanLoad, FillsList, MapsTitle, with_listed}
+use Rattle.pa_thread_state.specs.Allocating.{BecomesList, Receives, CanLoad, FillsList, MapsTitle}
 use Rattle.pa_thread_state.proofs.Fetching.{fill_loads}
 use Rattle.pa_thread_state.proofs.Receiving.{first_rest}
 
@@ -29,18 +29,18 @@ fill_can_load line p c s a b n ts t rest asked gives first others receives is aw
     (aware, one, receives.aware, subst (λ (z : StockValue). IsAware z.view) e two) receives.long low small empty)
 
 pub fills_list : (line p c : ℕ) (s a b d : StockValue) (n : View) (ts : List Title) (t : Title) (rest : List Title) → a ≡ record s { view = a.view } →
-    FillGives s.thread p line c (fill_of c) s.view a.view n ts → t ≡ slice_index_or ts 0 t → rest ≡ remove ts 0 → Receives n a b → IsAware a.view → c < 59 →
-    titles_in s.caches p c ≡ [] → d ≡ record b { caches = with_listed p c rest b.caches } → FillsList line p c t s d
-fills_list line p c s a b d n ts t rest asked gives first others receives one small empty loaded = record {
+    FillGives s.thread p line c (fill_of c) s.view a.view n ts → t ≡ slice_index_or ts 0 t → rest ≡ remove ts 0 → Receives n a b → IsAware a.view → IsAware b.view → c < 59 →
+    titles_in s.caches p c ≡ [] → BecomesList p c rest b d → FillsList line p c t s d
+fills_list line p c s a b d n ts t rest asked gives first others receives one two small empty loaded = record {
   asked = a.view;
   note = n;
   rest = rest;
   gives = subst (λ xs. FillGives s.thread p line c (fill_of c) s.view a.view n xs) (first_rest ts t rest gives.some first others) gives;
-  awares = (one, receives.aware);
+  awares = (one, receives.aware, subst (λ (z : StockValue). IsAware z.view) receives.after_is two);
   long = receives.long;
   small = small;
   empty = empty;
-  after_is = loaded ∙ ap (λ (z : StockValue). record z { caches = with_listed p c rest z.caches }) (fill_received s a b n asked receives);
+  loaded = subst (λ (z : StockValue). BecomesList p c rest z d) (fill_received s a b n asked receives) loaded;
 }
 
 pub maps_title : (line p len : ℕ) (s a b : StockValue) (n : View) (t : Title) → a ≡ record s { view = a.view } → MapGives s.thread p line len s.view a.view n t →

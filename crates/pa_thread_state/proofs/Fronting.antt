@@ -148,12 +148,3 @@ cache_at s h c place cache is can small at value = cache_of s h.partition c plac
 pub listed_all : (s : StockValue) (p c : ℕ) (cache : CacheList) → IsStock s → cache.titles ≡ titles_in s.caches p c → HoldsFree s.view cache.titles
 listed_all s p c cache is titles =
     All-weaker (Contains cache.titles) (λ t. 0 < free_of s.view t) (λ t among. is.lists.free p c t (subst (λ ts. Contains ts t) titles among)) cache.titles (All-contains_itself cache.titles)
-
--- the caches after a push
-pub pushed_caches : (s : StockValue) (h : Handle) (c place : ℕ) (cache new : CacheList) → CacheAt s h.partition c place cache → place ≡ 59 * h.partition + c → new.class ≡ cache.class →
-    new.titles ≡ h.title ∷ cache.titles →
-    (new ≡ record { class = c; titles = h.title ∷ titles_in s.caches h.partition c }) × (slice_set s.caches place new ≡ put_in_front h.partition c h.title s.caches)
-pushed_caches s h c place cache new at where_is class titles =
-    let e : new ≡ record { class = c; titles = h.title ∷ titles_in s.caches h.partition c } =
-    ap (λ k. record { class = k; titles = new.titles }) (class ∙ at.class_is) ∙ ap (λ ts. record { class = c; titles = ts }) (titles ∙ ap (λ ts. h.title ∷ ts) at.titles_are) in
-    (e, ap (λ x. slice_set s.caches place x) e ∙ ap (λ k. slice_set s.caches k (record { class = c; titles = h.title ∷ titles_in s.caches h.partition c })) where_is)

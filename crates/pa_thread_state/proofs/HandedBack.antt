@@ -1,8 +1,8 @@
 -- Titles that go back to their root: what the seat and the thread state have then, and one entry after another.
 use Rattle.std.proofs.Common.{◌≡◌, ℕ, zero, suc, ◌+◌, ◌-◌, ◌*◌, ◌<◌, ◌≤◌, Bool, true, false, List, [], ◌∷◌, ◌++◌, length, map, refl, sym, ◌∙◌, ap, subst, arith, ◌⊎◌, inl, inr, append_assoc}
-use Rattle.std.specs.Prelude.{◌==◌, ◌≢◌, AllPairs, Contains, if◌then◌else◌, slice_index_or, slice_set}
+use Rattle.std.specs.Prelude.{◌==◌, ◌≢◌, AllPairs, Contains, if◌then◌else◌, slice_index, slice_index_or, slice_set}
 use Rattle.std.specs.List.{sum_by}
-use Rattle.std.proofs.lemmas.List.{append-nil, map-append, length-set}
+use Rattle.std.proofs.lemmas.List.{append-nil, map-append, length-set, get_or-set_same}
 use Rattle.std.proofs.lemmas.Bool.Decides.{eqb_tells}
 use Rattle.pa_machine.specs.declared.title.Title.{Title}
 use Rattle.pa_machine.specs.declared.event.Item.TheVariants.{Free}
@@ -22,7 +22,7 @@ use Rattle.pa_region.specs.declared.view.Made.{Made}
 use Rattle.pa_region.specs.declared.view.OwnTitle.{OwnTitle}
 use Rattle.pa_region.specs.declared.view.Stake.{Stake}
 use Rattle.pa_region.specs.declared.view.View.{View}
-use Rattle.pa_region.specs.Views.{free_of, own_of, ref_of, seen_of, least_stake}
+use Rattle.pa_region.specs.Views.{free_of, own_of, ref_of, seen_of, stake_of, least_stake}
 use Rattle.pa_region.specs.Waiting.{unclean_of}
 use Rattle.pa_region.specs.Pairs.{log_among}
 use Rattle.pa_region.specs.Lists.{list_of, IsBeginning}
@@ -45,9 +45,14 @@ use Rattle.pa_thread_state.specs.Giving.{Gives, GivesBatch, HandsBack, TakesBack
 use Rattle.pa_op_specs.proofs.Registers.{set_at}
 use Rattle.pa_op_specs.proofs.Stocks.{stock_kept}
 use Rattle.pa_thread_state.proofs.Parking.{made_for_more, owns_kept, refs_kept}
-use Rattle.pa_thread_state.proofs.Fronting.{cache_of, titles_at}
+use Rattle.pa_thread_state.proofs.Fronting.{titles_at}
 use Rattle.pa_op_specs.proofs.Entered.{TellsOf, Entering, if_none, entering_both, one_enters}
 use Rattle.pa_op_specs.proofs.Quiet.{same_titles}
+use Rattle.pa_thread_state.specs.Allocating.{BecomesList}
+use Rattle.pa_op_specs.specs.Workers.{HasItsStake}
+use Rattle.pa_link.specs.Chains.{Relinked}
+use Rattle.pa_thread_state.proofs.Chained.{stock_relinked}
+use Rattle.pa_thread_state.proofs.Staying.{words_again}
 use Rattle.pa_thread_state.proofs.Lists.{set_titles, this_list, in_rest, in_batch, rest_or_batch}
 use Rattle.pa_root.proofs.Seeing.{free_kept}
 
@@ -98,12 +103,14 @@ handed_back line p ts v left note w left_is note_is aware took =
 
 -- and one that took the note in again
 pub taken_back : BeginningsJoin → (ts : List Title) (v left note w : View) → left ≡ left_view ts v → IsParted v left note → IsParted w left note →
-    w ≡ united left note → IsAware w → TakesBack v w
-taken_back joins ts v left note w left_is parted again w_is aware = record {
+    note.words ≡ v.words → w ≡ united left note → IsAware w → TakesBack v w
+taken_back joins ts v left note w left_is parted again words w_is aware = record {
   things = λ x. let a = parted.things x in let b = again.things x in omega arith;
   unclean = let a = parted.unclean in let b = again.unclean in omega arith;
   budget = let a = parted.budget in let b = again.budget in omega arith;
   stakes = λ k. let a = parted.stakes k in let b = again.stakes k in omega arith;
+  words = λ q. subst (λ (z : View). slice_index z.words q ≡ slice_index v.words q) (sym w_is)
+      (words_again v left note q (ap (λ (z : View). z.words) left_is) words);
   lists = λ k.
       subst (λ ms. IsBeginning ms (list_of k w)) (ap (λ (z : View). list_of k z) left_is)
       (subst (λ z. IsBeginning (list_of k left) (list_of k z)) (sym w_is) (joins left note k (subst IsAware w_is aware)).0);
@@ -297,25 +304,72 @@ batch_stock stays s w new line p c keep is aware low small whole once hands soun
             rest_or_batch keep (titles_in s.caches p c) t whole
             (subst (λ us. Contains us t) (this_list p c (rest_after keep (titles_in s.caches p c)) (titles_in s.caches)) (subst (λ us. Contains us t) (kept p c) there)) batch
 
--- both, by what the calls say
-pub batch_done : KeptNumbersStay → SlotsStaySeen → (s : StockValue) (w : View) (cache new : CacheList) (titles : List Title) (place line p c keep : ℕ) →
-    IsStock s → IsAware s.view → IsAware w → p < 4 → c < 59 → place ≡ 59 * p + c → cache ≡ slice_index_or s.caches place cache →
-    titles ≡ batch_after keep (titles_in s.caches p c) → AllPairs ◌≢◌ titles → HandsBack s.thread line p titles s.view w →
-    IsCache new → new.class ≡ cache.class → new.titles ≡ rest_after keep cache.titles →
-    IsStock (record s { view = w; caches = slice_set s.caches place new }) × GivesBatch line p c keep s (record s { view = w; caches = slice_set s.caches place new })
-batch_done law stays s w cache new titles place line p c keep is aware now low small at value batch once hands sound class rest =
-    let where_is = cache_of s p c place cache is low small at value in
-    let ts = titles_in s.caches p c in
-    let once_here = subst (AllPairs ◌≢◌) batch once in
-    let hands_here = subst (λ us. HandsBack s.thread line p us s.view w) batch hands in
-    let class_is : new.class ≡ c = class ∙ where_is.class_is in
-    let titles_are : new.titles ≡ rest_after keep ts = rest ∙ ap (rest_after keep) where_is.titles_are in
-    let whole : AllPairs ◌≢◌ ts = subst (AllPairs ◌≢◌) (titles_at s.caches p c small) (is.lists.sound (cache_place p c)).different in
-    subst (λ k. IsStock (record s { view = w; caches = slice_set s.caches k new }) × GivesBatch line p c keep s (record s { view = w; caches = slice_set s.caches k new })) (sym at) (
-      batch_stock stays s w new line p c keep is aware low small whole once_here hands_here sound class_is titles_are,
-      batch_gives law s w (slice_set s.caches (cache_place p c) new) line p c keep is aware now low once_here hands_here
-          (λ q d. set_titles s.caches p c new q d low small is.lists.count ∙ ap (λ us. with_titles p c us (titles_in s.caches) q d) titles_are),
-    )
+-- what was entered is said of a view just as well before links were stored in it
+gives_before : (line p : ℕ) (batch : List Title) (left : ℕ → ℕ → List Title) (s : StockValue) (u : View) (after : StockValue) → Relinked s.view u →
+    Gives line p (Give (numbered_by u batch) ∷ []) left (record s { view = u }) after → Gives line p (Give (numbered_by s.view batch) ∷ []) left s after
+gives_before line p batch left s u after re gives =
+    let same = subst (λ (v : View). Gives line p (Give (numbered_by v batch) ∷ []) left (record s { view = v }) after) re.rest gives in
+    record {
+      entries = same.entries;
+      says = same.says;
+      logs = same.logs;
+      stakes = same.stakes;
+      budget = same.budget;
+      same = same.same;
+      lists = same.lists;
+      grows = same.grows;
+      numbers = same.numbers;
+      fewer = same.fewer;
+      frees = same.frees;
+      kept = same.kept;
+      listed = same.listed;
+    }
+
+-- the titles of a batch that was taken off its list are still free, and were seen made
+module _ (s b : StockValue) (p c keep : ℕ) (is : IsStock s) (takes : BecomesList p c (rest_after keep (titles_in s.caches p c)) s b) where
+  linked : IsStock (record s { view = b.view })
+  linked = stock_relinked s b.view takes.relinked is
+
+  pub taken_free : (t : Title) → Contains (batch_after keep (titles_in s.caches p c)) t → 0 < free_of b.view t
+  taken_free t among = batch_free (record s { view = b.view }) p c keep linked t among
+
+  pub taken_seen : (t : Title) → Contains (batch_after keep (titles_in s.caches p c)) t → HasSeenFill p b.view t
+  taken_seen t among = seen_fill (record s { view = b.view }) p c t linked (in_batch keep (titles_in s.caches p c) t among)
+
+  pub taken_thread : b.thread ≡ s.thread
+  taken_thread = ap (λ (z : StockValue). z.thread) takes.after_is
+
+  pub taken_stakes : (k : ℕ) → stake_of b.view k ≡ stake_of s.view k
+  taken_stakes k = ap (λ (v : View). stake_of v k) takes.relinked.rest
+
+  pub taken_budget : b.view.budget ≡ s.view.budget
+  taken_budget = ap (λ (v : View). v.budget) takes.relinked.rest
+
+  pub taken_stake : HasItsStake s → HasItsStake b
+  taken_stake stake = subst (λ k. 0 < stake_of b.view k) (sym taken_thread) (let e = taken_stakes s.thread in omega arith)
+
+  -- both, by what the calls say
+  pub batch_done : KeptNumbersStay → SlotsStaySeen → (w : View) (titles : List Title) (line : ℕ) → IsStock b → IsAware b.view → IsAware w → p < 4 → c < 59 →
+      titles ≡ batch_after keep (titles_in s.caches p c) → AllPairs ◌≢◌ titles → HandsBack b.thread line p titles b.view w →
+      IsStock (record b { view = w }) × GivesBatch line p c keep s (record b { view = w })
+  batch_done law stays w titles line now aware after low small batch once hands =
+      let ts = titles_in s.caches p c in
+      let m : StockValue = record s { view = b.view } in
+      let new : CacheList = record { class = c; titles = rest_after keep ts } in
+      let once_here = subst (AllPairs ◌≢◌) batch once in
+      let hands_here = subst (λ k. HandsBack k line p (batch_after keep ts) b.view w) taken_thread (subst (λ us. HandsBack b.thread line p us b.view w) batch hands) in
+      let whole : AllPairs ◌≢◌ ts = subst (AllPairs ◌≢◌) (titles_at s.caches p c small) (is.lists.sound (cache_place p c)).different in
+      let sound : IsCache new = subst IsCache (ap (λ (z : StockValue). slice_index_or z.caches (cache_place p c) no_cache) takes.after_is
+      ∙ get_or-set_same s.caches (cache_place p c) new no_cache (let n = is.lists.count in omega arith)) (now.lists.sound (cache_place p c)) in
+      let same : record b { view = w } ≡ record m { view = w; caches = slice_set s.caches (cache_place p c) new } =
+      ap (λ (z : StockValue). record z { view = w }) takes.after_is in (
+        subst IsStock (sym same) (batch_stock stays m w new line p c keep linked aware low small whole once_here hands_here sound refl refl),
+        subst (GivesBatch line p c keep s) (sym same)
+            (gives_before line p (batch_after keep ts) (with_titles p c (rest_after keep ts) (titles_in s.caches)) s b.view
+            (record m { view = w; caches = slice_set s.caches (cache_place p c) new }) takes.relinked
+            (batch_gives law m w (slice_set s.caches (cache_place p c) new) line p c keep linked aware after low once_here hands_here
+            (λ q d. set_titles s.caches p c new q d low small is.lists.count))),
+      )
 
 -- if it runs out of memory, the seat has what it had
 pub back_stock : SlotsStaySeen → (s : StockValue) (w : View) → IsStock s → TakesBack s.view w → IsStock (record s { view = w })

@@ -1,6 +1,6 @@
 -- A free title that goes back to its root from a worker's seat, or comes back if it can't: the thread state in between.
 use Rattle.std.proofs.Common.{◌≡◌, ℕ, ◌<◌, List, [], ◌∷◌, map, Option, Some, None, Result, Ok, Err, refl, sym, ◌∙◌, ap, subst, arith, inl, inr}
-use Rattle.std.specs.Prelude.{◌==◌, ◌≢◌, AllPairs, Contains, OnOk, OnErr}
+use Rattle.std.specs.Prelude.{◌==◌, ◌≢◌, All, AllPairs, Contains, OnOk, OnErr}
 use Rattle.std.specs.List.{sum_by}
 use Rattle.std.proofs.lemmas.List.{append-nil}
 use Rattle.std.proofs.lemmas.List.Sums.{sum_by-append}
@@ -35,6 +35,7 @@ use Rattle.pa_root.specs.Filling.{frees_parcel}
 use Rattle.pa_root.specs.Handing.{HasOnly, HasSeenFill, HasSeenMap, root_entry}
 use Rattle.pa_root.proofs.Parcels.{can_hand, note_has, keeps_but}
 use Rattle.pa_root.proofs.Together.{no_own_clean}
+use Rattle.pa_chain_cache.specs.Caches.{CacheParts, HoldsList}
 use Rattle.pa_cells.specs.declared.handle.Handle.{Handle}
 use Rattle.pa_cells.specs.Handles.{HandsOut, HasSeenMade, SlotsStaySeen}
 use Rattle.pa_op_specs.specs.Stocks.{StockValue, IsStock, register_in, titles_in, listed_in, listed_slot}
@@ -42,7 +43,9 @@ use Rattle.pa_thread_state.specs.Changes.{IsBack}
 use Rattle.pa_thread_state.specs.Homing.{ComesHome, GoesHome, without_title, note_of_title}
 use Rattle.pa_op_specs.proofs.Quiet.{same_titles}
 use Rattle.pa_op_specs.proofs.Seeing.{made_kept, made_for_kept}
-use Rattle.pa_thread_state.proofs.Parking.{made_for_more, kept_stock}
+use Rattle.pa_thread_state.proofs.Parking.{made_for_more}
+use Rattle.pa_thread_state.proofs.Chained.{lists_in}
+use Rattle.pa_thread_state.proofs.Staying.{HasThem, kept_has, same_has, after_as}
 use Rattle.pa_op_specs.proofs.Stocks.{stock_kept}
 use Rattle.pa_op_specs.proofs.Entered.{Entering, entering_none}
 use Rattle.pa_root.proofs.Showing.{all_stakes}
@@ -162,15 +165,28 @@ home_lists s h w r es is aware back left_aware after_aware lends p class =
     let well = is.lists.well p class t among in
     kept_number (without_title h.title s.view) w well.0 t left_aware after_aware lends.keeps well.1 (left_listed s h is aware back p class t among))
 
--- the seat that lent its stake for it, or kept it, has a sound thread state
-pub delivered_stock : {A E : Type 0} → SlotsStaySeen → (s : StockValue) (w note : View) (class : Option ℕ) (r p line : ℕ) (t : Title) (result : Result A E) → IsStock s →
-    OnOk result (ComesHome class r p line s.view w note t) → OnErr result (w ≡ s.view) → IsStock (record s { view = w })
-delivered_stock stays s w note class r p line t (Ok x) is comes same = kept_stock stays s w is (comes_lends class r p line s.view w note t comes).1.keeps
-delivered_stock stays s w note class r p line t (Err e) is comes same = subst (λ (v : View). IsStock (record s { view = v })) (sym same) is
+-- the seat that lent its stake for it, or kept it, has a sound thread state with its lists
+pub delivered_has : {A E : Type 0} → SlotsStaySeen → (s : StockValue) (cs : List CacheParts) (w note : View) (class : Option ℕ) (r p line : ℕ) (t : Title)
+    (result : Result A E) → s.caches ≡ lists_in s.view cs → IsStock s → All (HoldsList s.view) cs →
+    OnOk result (ComesHome class r p line s.view w note t) → OnErr result (w ≡ s.view) → HasThem s w s.registers cs
+delivered_has stays s cs w note class r p line t (Ok x) are is has comes same =
+    kept_has stays s w cs are is has (comes_lends class r p line s.view w note t comes).1.keeps
+delivered_has stays s cs w note class r p line t (Err e) are is has comes same = same_has s w cs are is has same
+
+-- and if it kept it, nothing changed
+pub delivered_same : {A E : Type 0} (s : StockValue) (cs : List CacheParts) (w : View) (result : Result A E) → HasThem s w s.registers cs →
+    OnErr result (w ≡ s.view) → OnErr result (record s { view = w; caches = lists_in w cs } ≡ s)
+delivered_same s cs w (Ok x) them same = tt
+delivered_same s cs w (Err e) them same = after_as s w s.view s.registers cs same them
 
 pub same_view : {A E : Type 0} (result : Result A E) (seat before : Share) → OnErr result (seat ≡ before) → OnErr result (seat.view ≡ before.view)
 same_view (Ok x) seat before same = tt
 same_view (Err e) seat before same = ap (λ (n : Share). n.view) same
+
+-- a fact that holds anyway
+pub any_ok : {A E : Type 0} (result : Result A E) (P : Type 0) → P → OnOk result P
+any_ok (Ok x) P is = is
+any_ok (Err e) P is = tt
 
 -- By what the calls say: it was handed over, and its root took it.
 pub went_home : (line : ℕ) (h : Handle) (s part after : StockValue) (note : View) → IsStock s → IsAware s.view → IsBack h s →

@@ -29,3 +29,5 @@ pub mod Receiving
 pub mod Released
 pub mod Allocated
 pub mod Settled
+pub mod Chained
+pub mod Staying

@@ -22,11 +22,14 @@ use Rattle.pa_root.specs.declared.fault.FillFault.TheVariants.{Full, OutOfMemory
 use Rattle.pa_root.specs.Handing.{HasOnly, EntersFor, IsFullFor}
 use Rattle.pa_root.proofs.Together.{no_own_clean}
 use Rattle.pa_cache.specs.Caches.{IsCache, HoldsFree}
+use Rattle.pa_chain_cache.specs.Caches.{CacheParts, HoldsList}
 use Rattle.pa_cells.specs.Handles.{SlotsStaySeen}
 use Rattle.pa_op_specs.specs.Stocks.{StockValue, IsStock, register_in}
 use Rattle.pa_thread_state.specs.Allocating.{CanLoad, GivesNone, FindsNone, with_listed}
 use Rattle.pa_op_specs.proofs.Stocks.{stock_kept}
-use Rattle.pa_thread_state.proofs.Parking.{kept_stock, made_for_more}
+use Rattle.pa_thread_state.proofs.Parking.{made_for_more}
+use Rattle.pa_thread_state.proofs.Chained.{lists_in}
+use Rattle.pa_thread_state.proofs.Staying.{HasThem, kept_has, same_has}
 use Rattle.pa_thread_state.proofs.Relisting.{relisted_stock}
 
 pub err_weaker : {A E : Type 0} (r : Result A E) (P Q : E → Type 0) → ((e : E) → P e → Q e) → IfErr r P → IfErr r Q
@@ -38,11 +41,13 @@ pub for_keeps : (j r p line : ℕ) (asked found : Option ℕ) (a : RootAct) (v u
 for_keeps j r p line None found a v u one = one.lends.keeps
 for_keeps j r p line (Some k) found a v u two = two.lends.keeps
 
--- the thread state is sound when the root gave nothing
-pub none_stock : SlotsStaySeen → (s : StockValue) (a b : Share) (r line p count : ℕ) (class : Option ℕ) (fault : FillFault) → IsStock s → a.view ≡ s.view →
-    GivesNone r line p count class a b fault → IsStock (record s { view = b.view })
-none_stock stays s a b r line p count class (Full j) is at full = kept_stock stays s b.view is (subst (λ v. Keeps v b.view) at full.enters.lends.keeps)
-none_stock stays s a b r line p count class OutOfMemory is at same = subst (λ v. IsStock (record s { view = v })) (sym (ap (λ (x : Share). x.view) same ∙ at)) is
+-- the thread state is sound when the root gave nothing, and has its lists
+pub none_has : SlotsStaySeen → (s : StockValue) (cs : List CacheParts) (a b : Share) (r line p count : ℕ) (class : Option ℕ) (fault : FillFault) →
+    s.caches ≡ lists_in s.view cs → IsStock s → All (HoldsList s.view) cs → a.view ≡ s.view → GivesNone r line p count class a b fault →
+    HasThem s b.view s.registers cs
+none_has stays s cs a b r line p count class (Full j) are is has at full =
+    kept_has stays s b.view cs are is has (subst (λ v. Keeps v b.view) at full.enters.lends.keeps)
+none_has stays s cs a b r line p count class OutOfMemory are is has at same = same_has s b.view cs are is has (ap (λ (x : Share). x.view) same ∙ at)
 
 -- and so it knows of it
 pub finds_none : (s : StockValue) (a b : Share) (r line p count : ℕ) (class : Option ℕ) (fault : FillFault) → a.view ≡ s.view → r ≡ s.thread →

@@ -17,6 +17,7 @@ use Rattle.pa_region.specs.Moves.{CanCount, IsFound, after_count}
 use Rattle.pa_region.specs.Hands.{united}
 use Rattle.pa_region.specs.Aware.{IsAware}
 use Rattle.pa_region.specs.Shares.{Share}
+use Rattle.pa_link.specs.Chains.{Relinked}
 use Rattle.pa_quarantine.specs.Filling.{zeroed}
 use Rattle.pa_cache.specs.Caches.{CacheList}
 use Rattle.pa_root.specs.declared.fault.FillFault.{FillFault}
@@ -30,6 +31,11 @@ use Rattle.pa_op_specs.specs.Stocks.{StockValue, cache_place, titles_in, listed_
 -- the caches when the list of a partition and a class has these titles
 abbrev pub with_listed : ℕ → ℕ → List Title → List CacheList → List CacheList
 with_listed p class titles caches = slice_set caches (cache_place p class) (record { class = class; titles = titles })
+
+-- These titles became the list of a partition and a class, and links were stored for them.
+pub record BecomesList (p class : ℕ) (titles : List Title) (before after : StockValue) : Type 0 where
+  pub after_is : after ≡ record before { view = after.view; caches = with_listed p class titles before.caches }
+  pub relinked : Relinked before.view after.view
 
 -- The front left the list of a partition and a class.
 pub record TakesFront (p class : ℕ) (t : Title) (before after : StockValue) : Type 0 where
@@ -85,11 +91,11 @@ pub record FillsList (line p class : ℕ) (t : Title) (before after : StockValue
   pub note : View
   pub rest : List Title
   pub gives : FillGives before.thread p line class (fill_of class) before.view asked note (t ∷ rest)
-  pub awares : IsAware asked × IsAware note
+  pub awares : IsAware asked × IsAware note × IsAware (united asked note)
   pub long : length asked.words ≡ length note.words
   pub small : class < class_count
   pub empty : titles_in before.caches p class ≡ []
-  pub after_is : after ≡ record before { view = united asked note; caches = with_listed p class rest before.caches }
+  pub loaded : BecomesList p class rest (record before { view = united asked note }) after
 
 -- A direct map of this many bytes came.
 pub record MapsTitle (line p len : ℕ) (t : Title) (before after : StockValue) : Type 0 where

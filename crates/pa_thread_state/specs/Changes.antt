@@ -14,6 +14,7 @@ use Rattle.pa_region.specs.declared.view.View.{View}
 use Rattle.pa_region.specs.Views.{free_of, idle_of, own_as}
 use Rattle.pa_region.specs.Moves.{IsFound, after_count, after_look}
 use Rattle.pa_region.specs.Loads.{after_read}
+use Rattle.pa_link.specs.Chains.{Relinked}
 use Rattle.pa_quarantine.specs.Filling.{filled}
 use Rattle.pa_cache.specs.Caches.{CacheList}
 use Rattle.pa_cells.specs.declared.handle.Handle.{Handle}
@@ -64,6 +65,11 @@ abbrev pub put_in_front : ℕ → ℕ → Title → List CacheList → List Cach
 put_in_front p class t caches =
     slice_set caches (cache_place p class) (record { class = class; titles = t ∷ titles_in caches p class })
 
+-- The title became the front of the list of its partition and class, and a link was stored for it.
+pub record BecomesFront (h : Handle) (class : ℕ) (before after : StockValue) : Type 0 where
+  pub after_is : after ≡ record before { view = after.view; caches = put_in_front h.partition class h.title before.caches }
+  pub relinked : Relinked before.view after.view
+
 -- A title that can be put at the front of a list: it is free, well formed and on no list, its slot was seen made for that list,
 -- and there is room.
 pub record CanList (h : Handle) (class : ℕ) (s : StockValue) : Type 0 where
@@ -88,5 +94,5 @@ NeedsRoot h s = (class : ℕ) → h.class ≡ Some class → limit_of class ≤ 
 abbrev pub IsPut : Bool → Handle → (before after : StockValue) → Type 0
 IsPut true h before after =
     (class : ℕ) × (h.class ≡ Some class) × (class < class_count) × (length (titles_in before.caches h.partition class) < limit_of class)
-    × (after ≡ record before { caches = put_in_front h.partition class h.title before.caches })
+    × BecomesFront h class before after
 IsPut false h before after = (after ≡ before) × NeedsRoot h before

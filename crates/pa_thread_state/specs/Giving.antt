@@ -1,5 +1,5 @@
 -- Titles that go back to the root of their partition: how that changes a worker's thread state, and what was entered for it.
-use Rattle.std.specs.Prelude.{◌≡◌, ℕ, ◌<◌, ◌≤◌, ◌==◌, ◌&&◌, ◌++◌, List, [], ◌∷◌, map, take, drop, Contains, if◌then◌else◌}
+use Rattle.std.specs.Prelude.{◌≡◌, ℕ, ◌<◌, ◌≤◌, ◌==◌, ◌&&◌, ◌++◌, List, [], ◌∷◌, map, take, drop, Contains, slice_index, if◌then◌else◌}
 use Rattle.pa_machine.specs.declared.title.Title.{Title}
 use Rattle.pa_machine.specs.Titles.{IsWellFormed}
 use Rattle.pa_machine.specs.Holdings.{Thing}
@@ -53,12 +53,13 @@ pub record HandsBack (r line p : ℕ) (titles : List Title) (v after : View) : T
   pub index : ℕ
   pub enters : EntersOne index r p (root_entry line (Give (numbered_by v titles))) left after
 
--- A seat took in again what it had handed over: it has what it had, and forgot nothing.
+-- A seat took in again what it had handed over: it has what it had, and forgot nothing, and each word is the same.
 pub record TakesBack (v after : View) : Type 0 where
   pub things : (x : Thing) → held_of_view after x ≡ held_of_view v x
   pub unclean : unclean_of after ≡ unclean_of v
   pub budget : after.budget ≡ v.budget
   pub stakes : (k : ℕ) → stake_of after k ≡ stake_of v k
+  pub words : (q : ℕ) → slice_index after.words q ≡ slice_index v.words q
   pub lists : (k : ℕ) → IsBeginning (list_of k v) (list_of k after)
 
 -- the lists with these titles in that of partition p and the class

@@ -11,7 +11,7 @@ use Rattle.pa_root.specs.Filling.{frees_parcel}
 use Rattle.pa_root.specs.Handing.{GiveTakes, UnmapTakes}
 use Rattle.pa_cells.specs.declared.handle.Handle.{Handle}
 use Rattle.pa_op_specs.specs.Stocks.{StockValue, listed_in}
-use Rattle.pa_thread_state.specs.Changes.{put_in_front}
+use Rattle.pa_thread_state.specs.Changes.{BecomesFront}
 use Rattle.pa_thread_state.specs.Giving.{GivesTail}
 
 -- What was entered for a title that came back to its root alone in a note: a slot of a class is given, a direct map unmapped.
@@ -38,7 +38,7 @@ pub record GoesHome (line : ℕ) (h : Handle) (before after : StockValue) : Type
 pub record Spills (line : ℕ) (h : Handle) (class : ℕ) (before after : StockValue) : Type 0 where
   pub between : StockValue
   pub gives : GivesTail line h.partition class (limit_of class / 2 - 1) before between
-  pub front : after ≡ record between { caches = put_in_front h.partition class h.title between.caches }
+  pub front : BecomesFront h class between after
 
 -- The slot is where it belongs: a direct map, or a slot of a class that keeps no list, is in its root; else its list spilled.
 abbrev pub IsSettled : ℕ → Handle → (before after : StockValue) → Type 0

@@ -10,7 +10,7 @@ ghost use Rattle.pa_region.specs.Shares.{byte_word_count};
 ghost use Rattle.pa_root.specs.Handing.{FillGives, HasOnly, MapGives};
 ghost use Rattle.pa_op_specs.specs.Stocks.{titles_in};
 ghost use Rattle.pa_op_specs.specs.Workers.{HasItsStake};
-ghost use Rattle.pa_thread_state.specs.Allocating.{CanLoad, FillsList, FindsNone, MapsTitle, Receives, with_listed};
+ghost use Rattle.pa_thread_state.specs.Allocating.{BecomesList, CanLoad, FillsList, FindsNone, MapsTitle, Receives};
 
 use crate::asks::{fill_from, map_from};
 use crate::heap::Heap;
@@ -19,6 +19,7 @@ use crate::stock::Stock;
 use arrayvec::ArrayVec;
 use pa_buckets::Class;
 use pa_cells::slots_stay_seen;
+use pa_chain_cache::other_lists_stay;
 use pa_direct::Shape;
 use pa_machine::Title;
 use pa_region::{Name, Note, Seat};
@@ -146,14 +147,14 @@ impl<N: Name> Stock<N> {
     fn load(&mut self, heap: &Heap<N>, partition: u32, class: Class, titles: &[Title])
         requires { CanLoad partition class titles.now self.old }
         ensures small { class < class_count }
-        ensures loaded { self.new ≡ record self.old { caches = with_listed partition class titles.now self.old.caches } }
+        ensures loaded { BecomesList partition class titles.now self.old self.new }
     {
+        other_lists_stay();
         self.kept();
         all_placed(&self.seat, titles);
         let place = place_of(partition, class);
         let cache = &mut self.caches[place];
         cache.load(heap.region(), &mut self.seat, titles);
-        cache.kept();
     }
 }
 

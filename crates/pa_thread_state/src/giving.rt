@@ -5,11 +5,12 @@ ghost use Rattle.pa_trace.specs.Limits.{most_partitions};
 ghost use Rattle.pa_region.specs.Views.{least_stake};
 ghost use Rattle.pa_region.specs.Lending.{CanLend};
 ghost use Rattle.pa_region.specs.Hands.{left_after, given_after, IsParted};
-ghost use Rattle.pa_cache.specs.Caches.{HoldsFree, batch_after};
+ghost use Rattle.pa_cache.specs.Caches.{HoldsFree, batch_after, rest_after};
 ghost use Rattle.pa_root.specs.Filling.{frees_parcel, free_item};
 ghost use Rattle.pa_root.specs.Handing.{HasOnly, HasSeenFill, GiveTakes};
 ghost use Rattle.pa_op_specs.specs.Stocks.{titles_in};
 ghost use Rattle.pa_op_specs.specs.Workers.{HasItsStake};
+ghost use Rattle.pa_thread_state.specs.Allocating.{BecomesList};
 ghost use Rattle.pa_thread_state.specs.Giving.{GivesTail, GivesBatch, HandsBack, TakesBack};
 ghost use Rattle.pa_thread_state.specs.Stopping.{KeepsItsStake};
 
@@ -20,6 +21,7 @@ use crate::stock::Stock;
 use arrayvec::ArrayVec;
 use pa_buckets::Class;
 use pa_cells::slots_stay_seen;
+use pa_chain_cache::other_lists_stay;
 use pa_machine::{Item, OutOfMemory, Title};
 use pa_region::{Name, Note, Region, Seat, beginnings_join, kept_numbers_stay};
 use pa_root::Root;
@@ -30,7 +32,8 @@ const BATCH: u32 = 16;
 
 impl<N: Name> Stock<N> {
     // Gives the titles of a list after its first `keep` back to the root of their partition, 16 at a time, each batch in
-    // one entry of the line. If it runs out of memory, those that were given stay given, and the others stay on the list.
+    // one entry of the line. If it runs out of memory, those that were given stay given, the seat has those of the batch that the
+    // root refused, which are on no list, and the others stay on the list.
     pub(crate) fn give_tail<R: Wait>(
         &mut self,
         rt: &R,
@@ -71,15 +74,25 @@ impl<N: Name> Stock<N> {
         }
     }
 
-    // The first 16 titles of a list after its first `keep`, or all of them if there are fewer.
-    fn batch_listed(&self, partition: u32, class: Class, keep: u32) -> ArrayVec<Title, 16>
+    // Takes the first 16 titles after the first `keep` off a list, or all of them if there are fewer. The seat still has them.
+    fn take_batch(
+        &mut self,
+        region: &Region,
+        partition: u32,
+        class: Class,
+        keep: u32,
+    ) -> ArrayVec<Title, 16>
+        requires region { region.now ≡ N.region }
         requires partition { partition < most_partitions }
-        ensures titles { result.items ≡ batch_after keep (titles_in self.now.caches partition class) }
+        ensures titles { result.items ≡ batch_after keep (titles_in self.old.caches partition class) }
         ensures different { AllPairs ◌≢◌ result.items }
+        ensures rest { BecomesList partition class (rest_after keep (titles_in self.old.caches partition class)) self.old self.new }
     {
+        other_lists_stay();
         self.kept();
         let place = place_of(partition, class);
-        self.caches[place].batch(keep)
+        let cache = &mut self.caches[place];
+        cache.spill(region, &mut self.seat, keep)
     }
 
     // Gives the first 16 titles of a list after its first `keep` back, or all of them if there are fewer.
@@ -101,14 +114,12 @@ impl<N: Name> Stock<N> {
     {
         kept_numbers_stay();
         slots_stay_seen();
+        let _ = class.number();
         self.kept();
-        let place = place_of(partition, class);
-        let titles = self.batch_listed(partition, class, keep);
+        let titles = self.take_batch(heap.region(), partition, class, keep);
+        self.kept();
         give_titles(rt, heap, &mut self.seat, line, partition, titles)?;
         self.seat.aware();
-        let cache = &mut self.caches[place];
-        cache.cut(keep);
-        cache.kept();
         Ok(())
     }
 }

@@ -81,6 +81,7 @@ impl<N: Name> Stock<N> {
         counted_steps_leave();
         states_are_owns();
         filled_words_have_the_value();
+        self.kept();
         self.placed(handle, reg);
         let found = pa_quarantine::write(region, &mut self.seat, handle.title, value);
         Seen {
@@ -126,6 +127,7 @@ impl<N: Name> Stock<N> {
         counted_steps_leave();
         owns_change();
         self.kept();
+        self.placed(handle, reg);
         let (found, fate) = pa_quarantine::release(region, &mut self.seat, handle.title);
         self.registers[reg as usize] = Register::Cleared;
         let seen = Seen {
@@ -151,6 +153,7 @@ impl<N: Name> Stock<N> {
         owns_change();
         states_are_owns();
         self.kept();
+        self.placed(handle, reg);
         let (found, fate) = pa_quarantine::free_owned(region, &mut self.seat, handle.title);
         self.registers[reg as usize] = Register::Freed;
         let seen = Seen {

@@ -152,6 +152,7 @@ impl<N: Name> Stock<N> {
         beginnings_join();
         slots_stay_seen();
         self.kept();
+        note.aware();
         heap.region().take(&mut self.seat, note);
         self.seat.aware();
     }

@@ -5,12 +5,14 @@ ghost use Rattle.pa_trace.specs.Limits.{most_partitions};
 ghost use Rattle.pa_rules.specs.Limits.{list_count};
 ghost use Rattle.pa_rules.specs.Caches.{listed_slots};
 ghost use Rattle.pa_rules.specs.Report.{listed_bytes};
+ghost use Rattle.pa_link.specs.Chains.{Relinked};
 ghost use Rattle.pa_op_specs.specs.Stocks.{listed_in, titles_in};
-ghost use Rattle.pa_thread_state.specs.Changes.{CanList, IsBack, IsPut, put_in_front};
+ghost use Rattle.pa_thread_state.specs.Changes.{BecomesFront, CanList, IsBack, IsPut};
 
 use crate::stock::Stock;
 use pa_buckets::{CLASSES, Class, cache_limit, rows_have_bounds, slot_size};
 use pa_cells::Handle;
+use pa_chain_cache::other_lists_stay;
 use pa_record::Tally;
 use pa_region::{Name, Region};
 
@@ -19,13 +21,13 @@ impl<N: Name> Stock<N> {
     pub(crate) fn list(&mut self, region: &Region, handle: &Handle, class: Class)
         requires region { region.now ≡ N.region }
         requires can { CanList handle.now class self.old }
-        ensures { self.new ≡ record self.old { caches = put_in_front handle.now.partition class handle.now.title self.old.caches } }
+        ensures { BecomesFront handle.now class self.old self.new }
     {
+        other_lists_stay();
         self.kept();
         let place = place_of(handle.partition, class);
         let cache = &mut self.caches[place];
         cache.push(region, &mut self.seat, handle.title);
-        cache.kept();
     }
 
     // How many titles the list of a partition and a class has.
@@ -72,7 +74,7 @@ impl<N: Name> Stock<N> {
         requires region { region.now ≡ N.region }
         requires back { IsBack handle.now self.old }
         ensures is { IsPut result handle.now self.old self.new }
-        ensures view { self.new.view ≡ self.old.view }
+        ensures view { Relinked self.old.view self.new.view }
     {
         match handle.class {
             None => false,

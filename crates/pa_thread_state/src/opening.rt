@@ -1,20 +1,22 @@
-ghost use Rattle.std.specs.Prelude.{◌≡◌, ℕ, ◌+◌, ◌%◌, ◌<◌, ◌≤◌, IfOk, replicate};
+ghost use Rattle.std.specs.Prelude.{◌≡◌, ℕ, ◌+◌, ◌%◌, ◌<◌, ◌≤◌, All, IfOk, map, replicate};
 ghost use Rattle.pa_buckets.specs.Limits.{class_count};
 ghost use Rattle.pa_trace.specs.Limits.{register_count, most_partitions};
 ghost use Rattle.pa_rules.specs.Limits.{list_count};
+ghost use Rattle.pa_region.specs.declared.view.View.{View};
 ghost use Rattle.pa_region.specs.Views.{stake_of};
 ghost use Rattle.pa_region.specs.Hands.{left_after, given_after, united};
 ghost use Rattle.pa_region.specs.Lending.{stake_parcel};
 ghost use Rattle.pa_rules.specs.Caches.{SameLists};
 ghost use Rattle.pa_rules.specs.declared.register.Register.TheVariants.{Empty};
+ghost use Rattle.pa_chain_cache.specs.Caches.{HoldsList, list_in};
 ghost use Rattle.pa_op_specs.specs.Stocks.{AreNoLists, IsForThread, IsNewStock, listed_in};
 ghost use Rattle.pa_op_specs.specs.Workers.{HasItsStake};
 
 use crate::listing::class_numbered;
 use crate::stock::Stock;
 use pa_buckets::{CLASSES, Class};
-use pa_cache::Cache;
 use pa_cells::{Handle, slots_stay_seen};
+use pa_chain_cache::Cache;
 use pa_machine::OutOfMemory;
 use pa_region::{Mark, Name, Note, Region, beginnings_join, free_numbers_stay, seen_numbers_join};
 use pa_rules::{LISTS, Register};
@@ -90,11 +92,12 @@ fn empty_registers() -> [Register<Handle>; 64]
 
 // The lists of a worker at the start.
 fn no_lists(alloc: Global) -> Result<Vec<Cache>, OutOfMemory>
-    ensures { IfOk result (λ v. AreNoLists list_count v.items) }
+    ensures lists { IfOk result (λ v. (w : View) → AreNoLists list_count (map (list_in w) v.items)) }
+    ensures holds { IfOk result (λ v. (w : View) → All (HoldsList w) v.items) }
 {
     let mut caches = Vec::with_capacity(alloc, LISTS as usize)?;
     for place in 0..LISTS {
-        caches.push(Cache::new(alloc, class_at(place))?)?;
+        caches.push(Cache::new(class_at(place)))?;
     }
     Ok(caches)
 }

@@ -1,5 +1,6 @@
 ghost use Rattle.std.specs.Prelude.{◌≡◌, ℕ, ◌<◌, ◌≤◌, length};
 ghost use Rattle.pa_machine.specs.Titles.{IsWellFormed};
+ghost use Rattle.pa_machine.specs.Links.{AreLinked};
 ghost use Rattle.pa_layout.specs.Limits.{most_words};
 ghost use Rattle.pa_record.specs.Spans.{name_of};
 ghost use Rattle.pa_trace.specs.Limits.{register_count};
@@ -7,17 +8,18 @@ ghost use Rattle.pa_region.specs.Aware.{IsAware};
 ghost use Rattle.pa_region.specs.Lending.{CanHost};
 ghost use Rattle.pa_region.specs.Views.{HasTitle, stake_of};
 ghost use Rattle.pa_region.specs.Shares.{byte_word_count};
-ghost use Rattle.pa_op_specs.specs.Stocks.{IsStock, HasHandleTo, register_in};
+ghost use Rattle.pa_link.specs.Chains.{slot_names};
+ghost use Rattle.pa_op_specs.specs.Stocks.{IsStock, HasHandleTo, register_in, titles_in};
 
-use pa_cache::Cache;
 use pa_cells::Handle;
+use pa_chain_cache::Cache;
 use pa_machine::{SlotName, Title};
 use pa_region::{Name, Note, Seat};
 use pa_rules::Register;
 use std::marker::{Model, PhantomData};
 
 /// A worker's thread state: its seat, its registers and its lists of free slots, with the number of its thread and of the run's
-/// partitions. `N` names the region.
+/// partitions. The lists are those that the words of its seat's view have. `N` names the region.
 #[derive(Drop)]
 pub struct Stock<N: Name> {
     pub(crate) thread: u32,
@@ -29,22 +31,25 @@ pub struct Stock<N: Name> {
 }
 
 impl<N: Name> Model for Stock<N> {
-    ghost use Rattle.std.specs.Prelude.{◌≡◌};
+    ghost use Rattle.std.specs.Prelude.{◌≡◌, All, map};
+    ghost use Rattle.pa_chain_cache.specs.Caches.{HoldsList, list_in};
     ghost use Rattle.pa_op_specs.specs.Stocks.{StockValue, IsStock};
 
     ghost Value = { StockValue };
 
     ghost view = { λ s.
-        record { thread = s.thread; partitions = s.partitions; view = s.seat.view; registers = s.registers; caches = s.caches.items } };
+        record { thread = s.thread; partitions = s.partitions; view = s.seat.view; registers = s.registers; caches = map (list_in s.seat.view) s.caches.items } };
 
     ghost invariant = { λ s. (s.seat.region ≡ N.region)
-        × IsStock (record { thread = s.thread; partitions = s.partitions; view = s.seat.view; registers = s.registers; caches = s.caches.items }) };
+        × IsStock (record { thread = s.thread; partitions = s.partitions; view = s.seat.view; registers = s.registers; caches = map (list_in s.seat.view) s.caches.items })
+        × All (HoldsList s.seat.view) s.caches.items };
 }
 
 impl<N: Name> Stock<N> {
     /// What the type keeps, and the type of its seat. It costs nothing.
     pub fn kept(&self)
         ensures stock { IsStock self.now }
+        ensures links { (p class : ℕ) → AreLinked self.now.view.words (slot_names (titles_in self.now.caches p class)) }
         ensures aware { IsAware self.now.view }
         ensures long { length self.now.view.words ≡ byte_word_count N.region }
     {

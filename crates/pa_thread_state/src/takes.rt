@@ -24,10 +24,7 @@ impl<N: Name> Stock<N> {
         self.kept();
         let place = place_of(partition, class);
         let cache = &mut self.caches[place];
-        cache.kept();
-        let front = cache.pop(region, &mut self.seat);
-        cache.kept();
-        front
+        cache.pop(region, &mut self.seat)
     }
 
     /// Issues the free title of a slot, and the register owns it: its content is zeroed before.

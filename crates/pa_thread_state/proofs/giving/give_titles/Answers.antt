@@ -50,9 +50,11 @@ pub returns-in-Err-clause-back : goal.returns-in-Err-clause-back
 returns-in-Err-clause-back g c =
     let ts = c.args.titles.items in let v = c.args.seat.now.view in
     let left : c.hand_free-note.new.seat.view ≡ left_view ts v = c.hand_free-note.ensures.left ∙ ap (λ us. left_view us v) c.as_slice.ensures.value in
+    let given : c.hand_free-note.result.view ≡ given_after (frees_parcel ts) v = c.hand_free-note.ensures.given ∙ ap (λ us. given_after (frees_parcel us) v) c.as_slice.ensures.value in
     let a : c.give_to.new.seat.view ≡ c.hand_free-note.new.seat.view = ap (λ (n : Share). n.view) c.in-Err.ensures.err in
     let b : c.in-Err.note.view ≡ c.hand_free-note.result.view = ap (λ (n : Share). n.view) c.in-Err.ensures.handed in
     let w = c.take.new.seat.view in
     let again = subst (λ z. IsParted w z c.hand_free-note.result.view) a (subst (λ z. IsParted w c.give_to.new.seat.view z) b c.take.ensures.parted) in
     let whole = c.take.ensures.view ∙ (ap (λ z. united z c.in-Err.note.view) a ∙ ap (λ z. united c.hand_free-note.new.seat.view z) b) in
-    taken_back c.beginnings_join.ensures ts v c.hand_free-note.new.seat.view c.hand_free-note.result.view w left c.hand_free-note.ensures.parted again whole c.aware-in-Err.ensures.aware
+    taken_back c.beginnings_join.ensures ts v c.hand_free-note.new.seat.view c.hand_free-note.result.view w left c.hand_free-note.ensures.parted again
+    (ap (λ (z : View). z.words) given) whole c.aware-in-Err.ensures.aware

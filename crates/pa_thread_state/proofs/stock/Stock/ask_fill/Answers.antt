@@ -1,42 +1,55 @@
-use Rattle.std.proofs.Common.{ℕ, Some, refl, sym, subst, ap}
+use Rattle.std.proofs.Common.{◌∙◌, ℕ, Some, refl, sym, subst, ap}
 use Rattle.std.specs.Prelude.{IfOk, IfErr}
 use Rattle.pa_root.specs.declared.fault.FillFault.{FillFault}
 use Rattle.pa_buckets.specs.Bands.{fill_of}
 use Rattle.pa_root.specs.Handing.{FillGives}
-use Rattle.pa_op_specs.specs.Stocks.{StockValue, IsStock}
+use Rattle.pa_op_specs.specs.Stocks.{StockValue}
 use Rattle.pa_op_specs.specs.Workers.{HasItsStake}
 use Rattle.pa_thread_state.specs.Allocating.{GivesNone, FindsNone}
 use Rattle.pa_op_specs.proofs.Stakes.{least_is}
-use Rattle.pa_thread_state.proofs.Parking.{kept_stock}
 use Rattle.pa_region.specs.Views.{least_stake}
-use Rattle.pa_thread_state.proofs.Receiving.{err_weaker, for_keeps, none_stock, finds_none}
+use Rattle.pa_thread_state.proofs.Receiving.{err_weaker, for_keeps, none_has, finds_none}
+use Rattle.pa_thread_state.proofs.Staying.{HasThem, stock_of, kept_has, after_as}
 use Rattle.pa_thread_state.proofs.stock.Stock.ask_fill.Goals as goal
 use Rattle.pa_lists.proofs.Tests.{either}
 
 pub fill_from-requires-clause-lender : goal.fill_from-requires-clause-lender
 fill_from-requires-clause-lender g c =
-    let i : StockValue = record { thread = c.self.inside.thread; partitions = c.self.inside.partitions; view = c.self.inside.seat.view; registers = c.self.inside.registers; caches = c.self.inside.caches.items } in
+    let i = stock_of c.self.inside.thread c.self.inside.partitions c.self.inside.seat.view c.self.inside.registers c.self.inside.caches.items in
     let stake = subst (λ (z : StockValue). HasItsStake z) (sym c.self.view_is) c.requires.stake in
     ((least_is i.thread i.view c.self.invariant.1.stake stake).1, c.self.invariant.1.handles.clean)
 
 pub invariant_of-self : goal.invariant_of-self
 invariant_of-self g c =
-    let i : StockValue = record { thread = c.self.inside.thread; partitions = c.self.inside.partitions; view = c.self.inside.seat.view; registers = c.self.inside.registers; caches = c.self.inside.caches.items } in
-    let r = least_stake i.view.stakes in (
-      c.fill_from.ensures.region,
-      either c.fill_from.result (λ a. FillGives r c.args.partition c.args.line c.args.class (fill_of c.args.class) i.view c.fill_from.new.seat.view a.0.view a.1.items)
-          (λ (f : FillFault). GivesNone r c.args.line c.args.partition 1 (Some c.args.class) c.self.inside.seat c.fill_from.new.seat f)
-          (IsStock (record i { view = c.fill_from.new.seat.view })) c.fill_from.ensures.gave c.fill_from.ensures.none
-          (λ a gives. kept_stock c.slots_stay_seen.ensures i c.fill_from.new.seat.view c.self.invariant.1 (for_keeps gives.index r c.args.partition c.args.line gives.asked (Some gives.first) _ i.view c.fill_from.new.seat.view gives.enters))
-          (λ f none. none_stock c.slots_stay_seen.ensures i c.self.inside.seat c.fill_from.new.seat r c.args.line c.args.partition 1 (Some c.args.class) f c.self.invariant.1 refl none),
-    )
+    let i = stock_of c.self.inside.thread c.self.inside.partitions c.self.inside.seat.view c.self.inside.registers c.self.inside.caches.items in
+    let w = c.fill_from.new.seat.view in
+    let cs = c.self.inside.caches.items in
+    let r = least_stake i.view.stakes in
+    let them = either c.fill_from.result (λ a. FillGives r c.args.partition c.args.line c.args.class (fill_of c.args.class) i.view w a.0.view a.1.items)
+    (λ (f : FillFault). GivesNone r c.args.line c.args.partition 1 (Some c.args.class) c.self.inside.seat c.fill_from.new.seat f)
+    (HasThem i w i.registers cs) c.fill_from.ensures.gave c.fill_from.ensures.none
+    (λ a gives. kept_has c.slots_stay_seen.ensures i w cs refl c.self.invariant.1 c.self.invariant.2
+    (for_keeps gives.index r c.args.partition c.args.line gives.asked (Some gives.first) _ i.view w gives.enters))
+    (λ f none. none_has c.slots_stay_seen.ensures i cs c.self.inside.seat c.fill_from.new.seat r c.args.line c.args.partition 1 (Some c.args.class) f refl c.self.invariant.1 c.self.invariant.2 refl none) in
+    (c.fill_from.ensures.region, them.stock, them.holds)
 
 pub returns-clause-same : goal.returns-clause-same
-returns-clause-same g c = ap (λ (z : StockValue). record z { view = c.fill_from.new.seat.view }) c.self.view_is
+returns-clause-same g c =
+    let i = stock_of c.self.inside.thread c.self.inside.partitions c.self.inside.seat.view c.self.inside.registers c.self.inside.caches.items in
+    let w = c.fill_from.new.seat.view in
+    let cs = c.self.inside.caches.items in
+    let r = least_stake i.view.stakes in
+    let them = either c.fill_from.result (λ a. FillGives r c.args.partition c.args.line c.args.class (fill_of c.args.class) i.view w a.0.view a.1.items)
+    (λ (f : FillFault). GivesNone r c.args.line c.args.partition 1 (Some c.args.class) c.self.inside.seat c.fill_from.new.seat f)
+    (HasThem i w i.registers cs) c.fill_from.ensures.gave c.fill_from.ensures.none
+    (λ a gives. kept_has c.slots_stay_seen.ensures i w cs refl c.self.invariant.1 c.self.invariant.2
+    (for_keeps gives.index r c.args.partition c.args.line gives.asked (Some gives.first) _ i.view w gives.enters))
+    (λ f none. none_has c.slots_stay_seen.ensures i cs c.self.inside.seat c.fill_from.new.seat r c.args.line c.args.partition 1 (Some c.args.class) f refl c.self.invariant.1 c.self.invariant.2 refl none) in
+    after_as i w w i.registers cs refl them ∙ ap (λ (z : StockValue). record z { view = w }) c.self.view_is
 
 pub returns-clause-gave : goal.returns-clause-gave
 returns-clause-gave g c =
-    let i : StockValue = record { thread = c.self.inside.thread; partitions = c.self.inside.partitions; view = c.self.inside.seat.view; registers = c.self.inside.registers; caches = c.self.inside.caches.items } in
+    let i = stock_of c.self.inside.thread c.self.inside.partitions c.self.inside.seat.view c.self.inside.registers c.self.inside.caches.items in
     let stake = subst (λ (z : StockValue). HasItsStake z) (sym c.self.view_is) c.requires.stake in
     let least = (least_is i.thread i.view c.self.invariant.1.stake stake).0 in
     subst (λ (z : StockValue). IfOk c.fill_from.result (λ a. FillGives z.thread c.args.partition c.args.line c.args.class (fill_of c.args.class) z.view c.fill_from.new.seat.view a.0.view a.1.items)) c.self.view_is
@@ -44,11 +57,20 @@ returns-clause-gave g c =
 
 pub returns-clause-none : goal.returns-clause-none
 returns-clause-none g c =
-    let i : StockValue = record { thread = c.self.inside.thread; partitions = c.self.inside.partitions; view = c.self.inside.seat.view; registers = c.self.inside.registers; caches = c.self.inside.caches.items } in
+    let i = stock_of c.self.inside.thread c.self.inside.partitions c.self.inside.seat.view c.self.inside.registers c.self.inside.caches.items in
+    let w = c.fill_from.new.seat.view in
+    let cs = c.self.inside.caches.items in
+    let r = least_stake i.view.stakes in
+    let them = either c.fill_from.result (λ a. FillGives r c.args.partition c.args.line c.args.class (fill_of c.args.class) i.view w a.0.view a.1.items)
+    (λ (f : FillFault). GivesNone r c.args.line c.args.partition 1 (Some c.args.class) c.self.inside.seat c.fill_from.new.seat f)
+    (HasThem i w i.registers cs) c.fill_from.ensures.gave c.fill_from.ensures.none
+    (λ a gives. kept_has c.slots_stay_seen.ensures i w cs refl c.self.invariant.1 c.self.invariant.2
+    (for_keeps gives.index r c.args.partition c.args.line gives.asked (Some gives.first) _ i.view w gives.enters))
+    (λ f none. none_has c.slots_stay_seen.ensures i cs c.self.inside.seat c.fill_from.new.seat r c.args.line c.args.partition 1 (Some c.args.class) f refl c.self.invariant.1 c.self.invariant.2 refl none) in
     let stake = subst (λ (z : StockValue). HasItsStake z) (sym c.self.view_is) c.requires.stake in
     let least = (least_is i.thread i.view c.self.invariant.1.stake stake).0 in
-    let r = least_stake i.view.stakes in
-    subst (λ (z : StockValue). IfErr c.fill_from.result (FindsNone c.args.line c.args.partition 1 (Some c.args.class) z (record i { view = c.fill_from.new.seat.view }))) c.self.view_is
+    subst (λ (z : StockValue). IfErr c.fill_from.result (FindsNone c.args.line c.args.partition 1 (Some c.args.class) z (stock_of i.thread i.partitions w i.registers cs))) c.self.view_is
+    (subst (λ (z : StockValue). IfErr c.fill_from.result (FindsNone c.args.line c.args.partition 1 (Some c.args.class) i z)) (sym (after_as i w w i.registers cs refl them))
     (err_weaker c.fill_from.result (GivesNone r c.args.line c.args.partition 1 (Some c.args.class) c.self.inside.seat c.fill_from.new.seat)
-    (FindsNone c.args.line c.args.partition 1 (Some c.args.class) i (record i { view = c.fill_from.new.seat.view }))
-    (λ f none. finds_none i c.self.inside.seat c.fill_from.new.seat r c.args.line c.args.partition 1 (Some c.args.class) f refl least none) c.fill_from.ensures.none)
+    (FindsNone c.args.line c.args.partition 1 (Some c.args.class) i (record i { view = w }))
+    (λ f none. finds_none i c.self.inside.seat c.fill_from.new.seat r c.args.line c.args.partition 1 (Some c.args.class) f refl least none) c.fill_from.ensures.none))

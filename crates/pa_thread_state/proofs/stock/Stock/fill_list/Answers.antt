@@ -1,7 +1,7 @@
-use Rattle.std.proofs.Common.{sym, subst, ap, ◌∙◌}
+use Rattle.std.proofs.Common.{sym, subst}
 use Rattle.std.specs.Prelude.{List}
 use Rattle.pa_machine.specs.declared.title.Title.{Title}
-use Rattle.pa_thread_state.specs.Allocating.{CanLoad, with_listed}
+use Rattle.pa_thread_state.specs.Allocating.{BecomesList, CanLoad}
 use Rattle.pa_thread_state.proofs.Allocated.{fill_can_load, fills_list}
 use Rattle.pa_thread_state.proofs.stock.Stock.fill_list.Goals as goal
 
@@ -19,5 +19,5 @@ pub returns-in-Ok-clause-filled : goal.returns-in-Ok-clause-filled
 returns-in-Ok-clause-filled g c =
     fills_list c.args.line c.args.partition c.args.class c.args.self.now c.ask_fill.new.self c.receive.new.self c.load.new.self c.in-Ok.note.view c.in-Ok.titles.items
     c.remove-title.result c.remove-title.new.self.items c.ask_fill.ensures.same c.in-Ok.ensures.gave c.remove-title.ensures.value c.remove-title.ensures.items
-    c.receive.ensures c.kept-in-Ok.ensures.aware c.number.ensures.bound c.requires.empty
-    (c.load.ensures.loaded ∙ ap (λ (ts : List Title). record c.receive.new.self { caches = with_listed c.args.partition c.args.class ts c.receive.new.self.caches }) c.as_slice.ensures.value)
+    c.receive.ensures c.kept-in-Ok.ensures.aware c.kept-in-Ok-2.ensures.aware c.number.ensures.bound c.requires.empty
+    (subst (λ (ts : List Title). BecomesList c.args.partition c.args.class ts c.receive.new.self c.load.new.self) c.as_slice.ensures.value c.load.ensures.loaded)

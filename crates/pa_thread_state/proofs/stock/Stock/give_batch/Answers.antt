@@ -1,89 +1,107 @@
-use Rattle.std.proofs.Common.{◌≡◌, ◌<◌, List, length, drop, ◌∙◌, sym, subst, ap, arith}
-use Rattle.std.specs.Prelude.{Contains, slice_set}
+use Rattle.std.proofs.Common.{◌≡◌, ◌/◌, ◌<◌, List, length, drop, ◌∙◌, refl, sym, subst, ap, arith}
+use Rattle.std.specs.Prelude.{Contains}
 use Rattle.std.proofs.lemmas.List.{length-take, length-drop}
 use Rattle.std.proofs.lemmas.List.Elements.{All-weaker, All-contains_itself}
 use Rattle.pa_machine.proofs.Outcomes.{any_err}
 use Rattle.pa_machine.specs.declared.title.Title.{Title}
+use Rattle.pa_region.specs.declared.view.View.{View}
 use Rattle.pa_region.specs.Views.{free_of}
-use Rattle.pa_region.specs.Aware.{IsAware}
-use Rattle.pa_cache.specs.Caches.{batch_after}
-use Rattle.pa_op_specs.specs.Stocks.{StockValue, titles_in}
+use Rattle.pa_cache.specs.Caches.{HoldsFree, batch_after}
+use Rattle.pa_root.specs.Handing.{HasSeenFill}
+use Rattle.pa_op_specs.specs.Stocks.{StockValue, IsStock, titles_in}
 use Rattle.pa_op_specs.specs.Workers.{HasItsStake}
 use Rattle.pa_thread_state.specs.Giving.{GivesBatch, HandsBack}
 use Rattle.pa_op_specs.proofs.Stakes.{least_is}
-use Rattle.pa_thread_state.proofs.Lists.{in_batch}
-use Rattle.pa_thread_state.proofs.HandedBack.{batch_free, batch_done, back_stock, seen_fill}
+use Rattle.pa_thread_state.proofs.HandedBack.{left_view, taken_free, taken_seen, taken_thread, taken_budget, taken_stake, batch_done, back_stock}
+use Rattle.pa_thread_state.proofs.Staying.{stock_of, has_still, after_as, firsts_left}
 use Rattle.pa_thread_state.proofs.stock.Stock.give_batch.Goals as goal
 
 pub give_titles-requires-clause-lender : goal.give_titles-requires-clause-lender
 give_titles-requires-clause-lender g c =
-    let i : StockValue = record { thread = c.self.inside.thread; partitions = c.self.inside.partitions; view = c.self.inside.seat.view; registers = c.self.inside.registers; caches = c.self.inside.caches.items } in
-    let stake = subst (λ (z : StockValue). HasItsStake z) (sym c.self.view_is) c.requires.stake in
+    let i = stock_of c.self.inside.thread c.self.inside.partitions c.self.inside.seat.view c.self.inside.registers c.self.inside.caches.items in
+    let s = c.args.self.now in let b = c.take_batch-titles.new.self in let p = c.args.partition in let class = c.args.class in let keep = c.args.keep in
+    let is = c.kept.ensures.stock in let takes = c.take_batch-titles.ensures.rest in
+    let stake = subst (λ (z : StockValue). HasItsStake z) (sym c.self.view_is) (taken_stake s b p class keep is takes c.requires.stake) in
     ((least_is i.thread i.view c.self.invariant.1.stake stake).1, c.self.invariant.1.handles.clean)
 
 pub give_titles-requires-clause-some : goal.give_titles-requires-clause-some
 give_titles-requires-clause-some g c =
     let ts = titles_in c.args.self.now.caches c.args.partition c.args.class in
-    let e : length c.batch_listed-titles.result.items ≡ length (batch_after c.args.keep ts) = ap (λ (us : List Title). length us) c.batch_listed-titles.ensures.titles in
+    let e : length c.take_batch-titles.result.items ≡ length (batch_after c.args.keep ts) = ap (λ (us : List Title). length us) c.take_batch-titles.ensures.titles in
     let some = c.requires.some in
     omega (arith, length-take 16 (drop c.args.keep ts), length-drop c.args.keep ts)
 
 pub give_titles-requires-clause-free : goal.give_titles-requires-clause-free
 give_titles-requires-clause-free g c =
-    let i : StockValue = record { thread = c.self.inside.thread; partitions = c.self.inside.partitions; view = c.self.inside.seat.view; registers = c.self.inside.registers; caches = c.self.inside.caches.items } in
-    let e = c.batch_listed-titles.ensures.titles ∙ ap (λ (z : StockValue). batch_after c.args.keep (titles_in z.caches c.args.partition c.args.class)) (sym c.self.view_is) in
-    let ts = c.batch_listed-titles.result.items in
-    All-weaker (Contains ts) (λ t. 0 < free_of i.view t)
-    (λ t among. batch_free i c.args.partition c.args.class c.args.keep c.self.invariant.1 t (subst (λ us. Contains us t) e among)) ts (All-contains_itself ts)
+    let s = c.args.self.now in let b = c.take_batch-titles.new.self in let p = c.args.partition in let class = c.args.class in let keep = c.args.keep in
+    let is = c.kept.ensures.stock in let takes = c.take_batch-titles.ensures.rest in
+    let ts = c.take_batch-titles.result.items in
+    subst (λ (z : StockValue). HoldsFree z.view ts) (sym c.self.view_is)
+    (All-weaker (Contains ts) (λ t. 0 < free_of b.view t)
+    (λ t among. taken_free s b p class keep is takes t (subst (λ us. Contains us t) c.take_batch-titles.ensures.titles among)) ts (All-contains_itself ts))
 
 pub give_titles-requires-clause-named : goal.give_titles-requires-clause-named
 give_titles-requires-clause-named g c t among =
-    let i : StockValue = record { thread = c.self.inside.thread; partitions = c.self.inside.partitions; view = c.self.inside.seat.view; registers = c.self.inside.registers; caches = c.self.inside.caches.items } in
-    let e = c.batch_listed-titles.ensures.titles ∙ ap (λ (z : StockValue). batch_after c.args.keep (titles_in z.caches c.args.partition c.args.class)) (sym c.self.view_is) in
-    seen_fill i c.args.partition c.args.class t c.self.invariant.1
-    (in_batch c.args.keep (titles_in i.caches c.args.partition c.args.class) t (subst (λ us. Contains us t) e among))
+    let s = c.args.self.now in let b = c.take_batch-titles.new.self in let p = c.args.partition in let class = c.args.class in let keep = c.args.keep in
+    let is = c.kept.ensures.stock in let takes = c.take_batch-titles.ensures.rest in
+    subst (λ (z : StockValue). HasSeenFill p z.view t) (sym c.self.view_is)
+    (taken_seen s b p class keep is takes t (subst (λ us. Contains us t) c.take_batch-titles.ensures.titles among))
 
 pub invariant_of-self-2 : goal.invariant_of-self-2
 invariant_of-self-2 g c =
-    let i : StockValue = record { thread = c.self.inside.thread; partitions = c.self.inside.partitions; view = c.self.inside.seat.view; registers = c.self.inside.registers; caches = c.self.inside.caches.items } in
-    let stake = subst (λ (z : StockValue). HasItsStake z) (sym c.self.view_is) c.requires.stake in
+    let i = stock_of c.self.inside.thread c.self.inside.partitions c.self.inside.seat.view c.self.inside.registers c.self.inside.caches.items in
+    let s = c.args.self.now in let b = c.take_batch-titles.new.self in let p = c.args.partition in let class = c.args.class in let keep = c.args.keep in
+    let is = c.kept.ensures.stock in let takes = c.take_batch-titles.ensures.rest in
+    let w = c.give_titles.new.seat.view in let cs = c.self.inside.caches.items in let line = c.args.line in let titles = c.take_batch-titles.result.items in
+    let stake = subst (λ (z : StockValue). HasItsStake z) (sym c.self.view_is) (taken_stake s b p class keep is takes c.requires.stake) in
     let least = (least_is i.thread i.view c.self.invariant.1.stake stake).0 in
-    let e = c.batch_listed-titles.ensures.titles ∙ ap (λ (z : StockValue). batch_after c.args.keep (titles_in z.caches c.args.partition c.args.class)) (sym c.self.view_is) in
-    let aware = subst (λ (z : StockValue). IsAware z.view) (sym c.self.view_is) c.kept.ensures.aware in
-    let hands = subst (λ r. HandsBack r c.args.line c.args.partition c.batch_listed-titles.result.items i.view c.give_titles.new.seat.view) least c.in_ok-give_titles.ensures.gave in (
-      c.give_titles.ensures.region,
-      (batch_done c.kept_numbers_stay.ensures c.slots_stay_seen.ensures i c.give_titles.new.seat.view c.index_mut-cache.result.now c.cut.new.self c.batch_listed-titles.result.items
-          c.place_of-place.result c.args.line c.args.partition c.args.class c.args.keep c.self.invariant.1 aware c.aware.ensures.aware c.requires.partition c.place_of-place.ensures.small
-          c.place_of-place.ensures.place c.index_mut-cache.ensures.value e c.batch_listed-titles.ensures.different hands c.kept-2.ensures c.cut.ensures.class c.cut.ensures.rest).0,
-    )
+    let hands = subst (λ r. HandsBack r line p titles i.view w) least c.in_ok-give_titles.ensures.gave in
+    let done = batch_done s b p class keep is takes c.kept_numbers_stay.ensures c.slots_stay_seen.ensures w titles line c.kept-2.ensures.stock c.kept-2.ensures.aware
+    c.aware.ensures.aware c.requires.partition c.number.ensures.bound c.take_batch-titles.ensures.titles c.take_batch-titles.ensures.different
+    (subst (λ (z : StockValue). HandsBack z.thread line p titles z.view w) c.self.view_is hands) in
+    let now = subst (λ (z : StockValue). IsStock (record z { view = w })) (sym c.self.view_is) done.0 in
+    let them = has_still i w i.registers cs refl c.self.invariant.1 c.self.invariant.2 now
+    (firsts_left i w hands.left now (ap (λ (v : View). v.words) hands.left_is) hands.enters.lends.keeps) in
+    (c.give_titles.ensures.region, them.stock, them.holds)
 
 pub returns-clause-gives : goal.returns-clause-gives
 returns-clause-gives g c =
-    let i : StockValue = record { thread = c.self.inside.thread; partitions = c.self.inside.partitions; view = c.self.inside.seat.view; registers = c.self.inside.registers; caches = c.self.inside.caches.items } in
-    let stake = subst (λ (z : StockValue). HasItsStake z) (sym c.self.view_is) c.requires.stake in
+    let i = stock_of c.self.inside.thread c.self.inside.partitions c.self.inside.seat.view c.self.inside.registers c.self.inside.caches.items in
+    let s = c.args.self.now in let b = c.take_batch-titles.new.self in let p = c.args.partition in let class = c.args.class in let keep = c.args.keep in
+    let is = c.kept.ensures.stock in let takes = c.take_batch-titles.ensures.rest in
+    let w = c.give_titles.new.seat.view in let cs = c.self.inside.caches.items in let line = c.args.line in let titles = c.take_batch-titles.result.items in
+    let stake = subst (λ (z : StockValue). HasItsStake z) (sym c.self.view_is) (taken_stake s b p class keep is takes c.requires.stake) in
     let least = (least_is i.thread i.view c.self.invariant.1.stake stake).0 in
-    let e = c.batch_listed-titles.ensures.titles ∙ ap (λ (z : StockValue). batch_after c.args.keep (titles_in z.caches c.args.partition c.args.class)) (sym c.self.view_is) in
-    let aware = subst (λ (z : StockValue). IsAware z.view) (sym c.self.view_is) c.kept.ensures.aware in
-    let hands = subst (λ r. HandsBack r c.args.line c.args.partition c.batch_listed-titles.result.items i.view c.give_titles.new.seat.view) least c.in_ok-give_titles.ensures.gave in
-    let w = c.give_titles.new.seat.view in
-    let place = c.place_of-place.result in
-    subst (λ (z : StockValue). GivesBatch c.args.line c.args.partition c.args.class c.args.keep z (record i { view = w; caches = slice_set i.caches place c.cut.new.self })) c.self.view_is
-    (batch_done c.kept_numbers_stay.ensures c.slots_stay_seen.ensures i w c.index_mut-cache.result.now c.cut.new.self c.batch_listed-titles.result.items
-    place c.args.line c.args.partition c.args.class c.args.keep c.self.invariant.1 aware c.aware.ensures.aware c.requires.partition c.place_of-place.ensures.small
-    c.place_of-place.ensures.place c.index_mut-cache.ensures.value e c.batch_listed-titles.ensures.different hands c.kept-2.ensures c.cut.ensures.class c.cut.ensures.rest).1
+    let hands = subst (λ r. HandsBack r line p titles i.view w) least c.in_ok-give_titles.ensures.gave in
+    let done = batch_done s b p class keep is takes c.kept_numbers_stay.ensures c.slots_stay_seen.ensures w titles line c.kept-2.ensures.stock c.kept-2.ensures.aware
+    c.aware.ensures.aware c.requires.partition c.number.ensures.bound c.take_batch-titles.ensures.titles c.take_batch-titles.ensures.different
+    (subst (λ (z : StockValue). HandsBack z.thread line p titles z.view w) c.self.view_is hands) in
+    let now = subst (λ (z : StockValue). IsStock (record z { view = w })) (sym c.self.view_is) done.0 in
+    let them = has_still i w i.registers cs refl c.self.invariant.1 c.self.invariant.2 now
+    (firsts_left i w hands.left now (ap (λ (v : View). v.words) hands.left_is) hands.enters.lends.keeps) in
+    subst (GivesBatch line p class keep s)
+    (sym (after_as i w w i.registers cs refl them ∙ ap (λ (z : StockValue). record z { view = w }) c.self.view_is)) done.1
 
 pub invariant_of-self : goal.invariant_of-self
 invariant_of-self g c =
-    let i : StockValue = record { thread = c.self.inside.thread; partitions = c.self.inside.partitions; view = c.self.inside.seat.view; registers = c.self.inside.registers; caches = c.self.inside.caches.items } in
-    (c.give_titles.ensures.region, back_stock c.slots_stay_seen.ensures i c.give_titles.new.seat.view c.self.invariant.1 c.in_err-give_titles.ensures.back)
+    let i = stock_of c.self.inside.thread c.self.inside.partitions c.self.inside.seat.view c.self.inside.registers c.self.inside.caches.items in
+    let w = c.give_titles.new.seat.view in let back = c.in_err-give_titles.ensures.back in
+    let them = has_still i w i.registers c.self.inside.caches.items refl c.self.invariant.1 c.self.invariant.2
+    (back_stock c.slots_stay_seen.ensures i w c.self.invariant.1 back) (λ p class t among. back.words (t.start / 8)) in
+    (c.give_titles.ensures.region, them.stock, them.holds)
 
 pub returns-in_err-give_titles-clause-budget : goal.returns-in_err-give_titles-clause-budget
-returns-in_err-give_titles-clause-budget g c = c.in_err-give_titles.ensures.back.budget ∙ ap (λ (z : StockValue). z.view.budget) c.self.view_is
+returns-in_err-give_titles-clause-budget g c =
+    let s = c.args.self.now in let b = c.take_batch-titles.new.self in let p = c.args.partition in let class = c.args.class in let keep = c.args.keep in
+    let is = c.kept.ensures.stock in let takes = c.take_batch-titles.ensures.rest in
+    c.in_err-give_titles.ensures.back.budget ∙ (ap (λ (z : StockValue). z.view.budget) c.self.view_is ∙ taken_budget s b p class keep is takes)
 
 pub returns-in_err-give_titles-clause-stake : goal.returns-in_err-give_titles-clause-stake
 returns-in_err-give_titles-clause-stake g c =
-    let stake = subst (λ (z : StockValue). HasItsStake z) (sym c.self.view_is) c.requires.stake in
+    let s = c.args.self.now in let b = c.take_batch-titles.new.self in let p = c.args.partition in let class = c.args.class in let keep = c.args.keep in
+    let is = c.kept.ensures.stock in let takes = c.take_batch-titles.ensures.rest in
+    let stake = subst (λ (z : StockValue). HasItsStake z) (sym c.self.view_is) (taken_stake s b p class keep is takes c.requires.stake) in
     any_err c.from_residual.result _ (record {
-      thread = ap (λ (z : StockValue). z.thread) c.self.view_is;
+      thread = ap (λ (z : StockValue). z.thread) c.self.view_is ∙ taken_thread s b p class keep is takes;
       stake = subst (λ n. 0 < n) (sym (c.in_err-give_titles.ensures.back.stakes c.self.inside.thread)) stake;
     })

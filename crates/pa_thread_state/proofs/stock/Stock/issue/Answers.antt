@@ -1,21 +1,24 @@
-use Rattle.std.proofs.Common.{◌<◌, ◌-◌, ◌∙◌, sym, subst, ap}
+use Rattle.std.proofs.Common.{◌<◌, ◌-◌, ◌∙◌, refl, sym, subst, ap, arith}
 use Rattle.std.specs.Prelude.{slice_set}
 use Rattle.pa_machine.specs.declared.word.SlotName.{SlotName}
 use Rattle.pa_machine.specs.declared.word.Step.TheVariants as steps
 use Rattle.pa_record.specs.declared.entry.Answer.TheVariants.{Made}
 use Rattle.pa_region.specs.declared.view.View.{View}
+use Rattle.pa_region.specs.Aware.{IsAware}
 use Rattle.pa_region.specs.Moves.{CanCount, after_count}
 use Rattle.pa_rules.specs.declared.register.Register.TheVariants.{Own}
-use Rattle.pa_op_specs.specs.Stocks.{StockValue, IsStock, HasNoHandle, register_in}
+use Rattle.pa_op_specs.specs.Stocks.{StockValue, HasNoHandle, register_in}
 use Rattle.pa_op_specs.specs.Workers.{HasItsStake}
 use Rattle.pa_thread_state.specs.Changes.{IsBack}
 use Rattle.pa_thread_state.specs.Allocating.{Issues}
-use Rattle.pa_thread_state.proofs.Issuing.{can_issue, issued_stock, issues}
+use Rattle.pa_thread_state.proofs.Issuing.{can_issue, issued_view, issued_stock, issues, not_listed}
+use Rattle.pa_thread_state.proofs.Looking.{seen_at}
+use Rattle.pa_thread_state.proofs.Staying.{stock_of, has_as, firsts_beside, filled_others}
 use Rattle.pa_thread_state.proofs.stock.Stock.issue.Goals as goal
 
 pub issue-found-requires-clause-able : goal.issue-found-requires-clause-able
 issue-found-requires-clause-able g c =
-    let i : StockValue = record { thread = c.self.inside.thread; partitions = c.self.inside.partitions; view = c.self.inside.seat.view; registers = c.self.inside.registers; caches = c.self.inside.caches.items } in
+    let i = stock_of c.self.inside.thread c.self.inside.partitions c.self.inside.seat.view c.self.inside.registers c.self.inside.caches.items in
     let t = c.args.handle.title in
     let back = subst (λ (z : StockValue). IsBack c.args.handle z) (sym c.self.view_is) c.requires.back in
     let stake = subst (λ (z : StockValue). HasItsStake z) (sym c.self.view_is) c.requires.stake in
@@ -24,29 +27,42 @@ issue-found-requires-clause-able g c =
 
 pub invariant_of-self : goal.invariant_of-self
 invariant_of-self g c =
-    let i : StockValue = record { thread = c.self.inside.thread; partitions = c.self.inside.partitions; view = c.self.inside.seat.view; registers = c.self.inside.registers; caches = c.self.inside.caches.items } in
+    let i = stock_of c.self.inside.thread c.self.inside.partitions c.self.inside.seat.view c.self.inside.registers c.self.inside.caches.items in
     let h = c.args.handle in
     let back = subst (λ (z : StockValue). IsBack h z) (sym c.self.view_is) c.requires.back in
     let bare = subst (λ (z : StockValue). HasNoHandle (register_in z.registers c.args.reg)) (sym c.self.view_is) c.requires.none in
     let stake = subst (λ (z : StockValue). HasItsStake z) (sym c.self.view_is) c.requires.stake in
     let budget = subst (λ (z : StockValue). 0 < z.view.budget) (sym c.self.view_is) c.requires.budget in
     let can = can_issue i h.title c.zero_fill.new.seat.view c.zero_fill.ensures.view c.self.invariant.1 stake budget back.free c.zero_fill.ensures.content in
-    let view = c.issue-found.ensures.view ∙ ap (λ (v : View). after_count steps.Issue h.title c.issue-found.result.0 v) c.zero_fill.ensures.view in (
-      c.issue-found.ensures.region ∙ (c.zero_fill.ensures.region ∙ c.self.invariant.0),
-      subst (λ (v : View). IsStock (record i { view = v; registers = slice_set i.registers c.args.reg (Own h) })) (sym view)
-          (issued_stock c.counted_steps_leave.ensures i c.args.reg c.issue-found.result.0 h c.self.invariant.1 (subst (λ (v : View). CanCount steps.Issue h.title v) c.zero_fill.ensures.view can) c.requires.reg bare back),
-    )
+    let view = c.issue-found.ensures.view ∙ ap (λ (v : View). after_count steps.Issue h.title c.issue-found.result.0 v) c.zero_fill.ensures.view in
+    let x = issued_view i.view h.title c.issue-found.result.0 in
+    let rs = slice_set i.registers c.args.reg (Own h) in
+    let them = has_as i c.issue-found.new.seat.view x rs c.self.inside.caches.items view refl c.self.invariant.1 c.self.invariant.2
+    (issued_stock c.counted_steps_leave.ensures i c.args.reg c.issue-found.result.0 h c.self.invariant.1 (subst (λ (v : View). CanCount steps.Issue h.title v) c.zero_fill.ensures.view can) c.requires.reg bare back)
+    (firsts_beside _ i x h.title c.self.invariant.1 (subst (λ (z : StockValue). IsAware z.view) (sym c.self.view_is) c.kept.ensures.aware) c.placed.ensures.well
+    (let has = back.free in omega arith) (not_listed i h back) (filled_others 0 h.title i.view.words)) in
+    (c.issue-found.ensures.region ∙ (c.zero_fill.ensures.region ∙ c.self.invariant.0), them.stock, them.holds)
 
 pub returns : goal.returns
 returns g c =
-    let i : StockValue = record { thread = c.self.inside.thread; partitions = c.self.inside.partitions; view = c.self.inside.seat.view; registers = c.self.inside.registers; caches = c.self.inside.caches.items } in
+    let i = stock_of c.self.inside.thread c.self.inside.partitions c.self.inside.seat.view c.self.inside.registers c.self.inside.caches.items in
     let h = c.args.handle in
     let back = subst (λ (z : StockValue). IsBack h z) (sym c.self.view_is) c.requires.back in
+    let bare = subst (λ (z : StockValue). HasNoHandle (register_in z.registers c.args.reg)) (sym c.self.view_is) c.requires.none in
     let stake = subst (λ (z : StockValue). HasItsStake z) (sym c.self.view_is) c.requires.stake in
     let budget = subst (λ (z : StockValue). 0 < z.view.budget) (sym c.self.view_is) c.requires.budget in
     let can = can_issue i h.title c.zero_fill.new.seat.view c.zero_fill.ensures.view c.self.invariant.1 stake budget back.free c.zero_fill.ensures.content in
-    let after : StockValue = record i { view = c.issue-found.new.seat.view; registers = slice_set i.registers c.args.reg (Own h) } in
-    subst (λ (z : StockValue). Issues h c.args.reg (Made (record { slot = c.slot_name-slot.result; found = c.issue-found.result }) (h.title.len - 8)) z after) c.self.view_is
-    (subst (λ (n : SlotName). Issues h c.args.reg (Made (record { slot = n; found = c.issue-found.result }) (h.title.len - 8)) i after) (sym c.slot_name-slot.ensures)
+    let view = c.issue-found.ensures.view ∙ ap (λ (v : View). after_count steps.Issue h.title c.issue-found.result.0 v) c.zero_fill.ensures.view in
+    let x = issued_view i.view h.title c.issue-found.result.0 in
+    let rs = slice_set i.registers c.args.reg (Own h) in
+    let them = has_as i c.issue-found.new.seat.view x rs c.self.inside.caches.items view refl c.self.invariant.1 c.self.invariant.2
+    (issued_stock c.counted_steps_leave.ensures i c.args.reg c.issue-found.result.0 h c.self.invariant.1 (subst (λ (v : View). CanCount steps.Issue h.title v) c.zero_fill.ensures.view can) c.requires.reg bare back)
+    (firsts_beside _ i x h.title c.self.invariant.1 (subst (λ (z : StockValue). IsAware z.view) (sym c.self.view_is) c.kept.ensures.aware) c.placed.ensures.well
+    (let has = back.free in omega arith) (not_listed i h back) (filled_others 0 h.title i.view.words)) in
+    subst (λ (z : StockValue). Issues h c.args.reg (Made (record { slot = c.slot_name-slot.result; found = c.issue-found.result }) (h.title.len - 8)) z
+    (stock_of i.thread i.partitions c.issue-found.new.seat.view rs c.self.inside.caches.items)) c.self.view_is
+    (subst (λ (n : SlotName). Issues h c.args.reg (Made (record { slot = n; found = c.issue-found.result }) (h.title.len - 8)) i
+    (stock_of i.thread i.partitions c.issue-found.new.seat.view rs c.self.inside.caches.items)) (sym c.slot_name-slot.ensures)
+    (subst (λ ls. Issues h c.args.reg (Made (seen_at h c.issue-found.result.0) (h.title.len - 8)) i (record i { view = c.issue-found.new.seat.view; registers = rs; caches = ls })) (sym them.same)
     (issues i c.args.reg c.issue-found.result.0 h c.zero_fill.new.seat.view c.issue-found.new.seat.view c.zero_fill.ensures.view c.issue-found.ensures.view
-    can c.issue-found.ensures.found c.aware.ensures.aware c.placed.ensures.well.long))
+    can c.issue-found.ensures.found c.aware.ensures.aware c.placed.ensures.well.long)))

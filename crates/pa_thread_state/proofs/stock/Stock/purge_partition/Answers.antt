@@ -9,8 +9,8 @@ use Rattle.pa_op_specs.specs.Workers.{HasItsStake}
 use Rattle.pa_thread_state.specs.Giving.{GivesTail}
 use Rattle.pa_thread_state.specs.Purging.{PurgesRoot}
 use Rattle.pa_op_specs.proofs.Stakes.{least_is}
-use Rattle.pa_thread_state.proofs.Parking.{kept_stock}
 use Rattle.pa_thread_state.proofs.Purging.{GivesLists, lists_none, lists_stake, lists_thread, lists_more, slots_none, slots_more, purges_root}
+use Rattle.pa_thread_state.proofs.Staying.{stock_of, kept_has, same_has, after_as}
 use Rattle.pa_thread_state.proofs.stock.Stock.purge_partition.Goals as goal
 
 pub loop-number-init : goal.loop-number-init
@@ -39,20 +39,31 @@ loop-number-preserved g c =
 
 pub purge_root-requires-clause-lender : goal.purge_root-requires-clause-lender
 purge_root-requires-clause-lender g c =
-    let i : StockValue = record { thread = c.self.inside.thread; partitions = c.self.inside.partitions; view = c.self.inside.seat.view; registers = c.self.inside.registers; caches = c.self.inside.caches.items } in
+    let i = stock_of c.self.inside.thread c.self.inside.partitions c.self.inside.seat.view c.self.inside.registers c.self.inside.caches.items in
     let has = lists_stake c.args.line c.args.partition c.loop-number.number c.args.self.now c.loop-number.self c.loop-number.invariant.some c.requires.stake in
     let stake = subst (λ (z : StockValue). HasItsStake z) (sym c.self.view_is) has in
     ((least_is i.thread i.view c.self.invariant.1.stake stake).1, c.self.invariant.1.handles.clean)
 
+pub invariant_of-self : goal.invariant_of-self
+invariant_of-self g c =
+    let i = stock_of c.self.inside.thread c.self.inside.partitions c.self.inside.seat.view c.self.inside.registers c.self.inside.caches.items in
+    let them = same_has i c.purge_root.new.seat.view c.self.inside.caches.items refl c.self.invariant.1 c.self.invariant.2
+    (ap (λ (n : Share). n.view) c.in_err-purge_root.ensures.err) in
+    (c.purge_root.ensures.region, them.stock, them.holds)
+
 pub invariant_of-self-2 : goal.invariant_of-self-2
 invariant_of-self-2 g c =
-    let i : StockValue = record { thread = c.self.inside.thread; partitions = c.self.inside.partitions; view = c.self.inside.seat.view; registers = c.self.inside.registers; caches = c.self.inside.caches.items } in
-    (c.purge_root.ensures.region, kept_stock c.slots_stay_seen.ensures i c.purge_root.new.seat.view c.self.invariant.1 c.in_ok-purge_root.ensures.entered.1.lends.keeps)
+    let i = stock_of c.self.inside.thread c.self.inside.partitions c.self.inside.seat.view c.self.inside.registers c.self.inside.caches.items in
+    let w = c.purge_root.new.seat.view in
+    let them = kept_has c.slots_stay_seen.ensures i w c.self.inside.caches.items refl c.self.invariant.1 c.self.invariant.2 c.in_ok-purge_root.ensures.entered.1.lends.keeps in
+    (c.purge_root.ensures.region, them.stock, them.holds)
 
 pub returns-clause-purges : goal.returns-clause-purges
 returns-clause-purges g c =
-    let i : StockValue = record { thread = c.self.inside.thread; partitions = c.self.inside.partitions; view = c.self.inside.seat.view; registers = c.self.inside.registers; caches = c.self.inside.caches.items } in
-    let p = c.args.partition in let line = c.args.line in let s = c.args.self.now in let now = c.loop-number.self in let w = c.purge_root.new.seat.view in
+    let i = stock_of c.self.inside.thread c.self.inside.partitions c.self.inside.seat.view c.self.inside.registers c.self.inside.caches.items in
+    let p = c.args.partition in let line = c.args.line in let s = c.args.self.now in let now = c.loop-number.self in
+    let w = c.purge_root.new.seat.view in
+    let them = kept_has c.slots_stay_seen.ensures i w c.self.inside.caches.items refl c.self.invariant.1 c.self.invariant.2 c.in_ok-purge_root.ensures.entered.1.lends.keeps in
     let has = lists_stake line p c.loop-number.number s now c.loop-number.invariant.some c.requires.stake in
     let stake = subst (λ (z : StockValue). HasItsStake z) (sym c.self.view_is) has in
     let least = (least_is i.thread i.view c.self.invariant.1.stake stake).0 in
@@ -61,7 +72,8 @@ returns-clause-purges g c =
     let count = subst (λ k. c.loop-number.slots + listed_slots (listed_in s p) k (59 - k) ≡ listed_slots (listed_in s p) 0 59) end c.loop-number.invariant.count in
     let entered = subst (λ r. PurgeEnters r p line i.view w) least c.in_ok-purge_root.ensures.entered in
     let enters = subst (λ (z : StockValue). PurgeEnters z.thread p line z.view w) c.self.view_is entered in
-    subst (λ (z : StockValue). PurgesRoot line p c.loop-number.slots s (record z { view = w })) (sym c.self.view_is)
+    subst (λ (z : StockValue). PurgesRoot line p c.loop-number.slots s z)
+    (sym (after_as i w w i.registers c.self.inside.caches.items refl them ∙ ap (λ (z : StockValue). record z { view = w }) c.self.view_is))
     (purges_root c.kept_numbers_stay.ensures s now w line p c.loop-number.slots c.kept-2.ensures.aware c.aware.ensures.aware c.requires.partition some enters count)
 
 pub returns-in_err-give_tail-clause-stake : goal.returns-in_err-give_tail-clause-stake

@@ -1,0 +1,22 @@
+use Rattle.std.proofs.Common.{◌≡◌, ◌<◌, ◌∙◌, length, sym, ap, arith}
+use Rattle.std.specs.Prelude.{map}
+use Rattle.std.proofs.lemmas.List.{get_or-map, length-map}
+use Rattle.pa_chain_cache.specs.Caches.{list_in}
+use Rattle.pa_op_specs.specs.Stocks.{StockValue, titles_in}
+use Rattle.pa_thread_state.proofs.Popping.{list_at}
+use Rattle.pa_thread_state.proofs.stock.Stock.count_listed.Goals as goal
+
+pub returns-clause-few : goal.returns-clause-few
+returns-clause-few g c =
+    let v = c.self.inside.seat.view in let cs = c.self.inside.caches.items in let x = c.index.result.now in
+    let p = c.args.partition in let class = c.args.class in let place = c.place_of-place.result in
+    let i : StockValue = record { thread = c.self.inside.thread; partitions = c.self.inside.partitions; view = v; registers = c.self.inside.registers; caches = map (list_in v) cs } in
+    let within : place < length cs =
+    let n = c.self.invariant.1.lists.count in let k = c.place_of-place.ensures.among in omega (arith, length-map cs (list_in v)) in
+    let at = list_at i p class place (list_in v x) c.self.invariant.1 c.requires c.place_of-place.ensures.small
+    c.place_of-place.ensures.place (ap (list_in v) c.index.ensures ∙ sym (get_or-map (list_in v) cs place x (list_in v x) within)) in
+    let len = c.len.ensures v in
+    let long : length (list_in v x).titles ≡ length (titles_in i.caches p class) = ap length at.titles_are in
+    let few = c.self.invariant.1.lists.few p class in
+    let kept = (c.rows_have_bounds.ensures.bounds class c.place_of-place.ensures.small).few_kept in
+    omega arith
