@@ -1,10 +1,12 @@
 mod Adding
 mod Chained
 mod Counting
+mod Cutting
 mod Decommitting
 mod Finding
 mod Fitting
 mod Fresh
+mod Mapping
 mod Moves
 mod Oldest
 mod Opening

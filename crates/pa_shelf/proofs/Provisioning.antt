@@ -33,7 +33,7 @@ use Rattle.pa_link.specs.declared.chain.ChainParts.{ChainParts}
 use Rattle.pa_link.specs.Chains.{slot_names, IsChain, Relinked, SameBeside}
 use Rattle.pa_link.proofs.Gaps.{free_same}
 use Rattle.pa_shelf.specs.Shelves.{ShelfParts, chain_of, KeepsRecords, KeepsChains, ShowsRoot}
-use Rattle.pa_shelf.specs.Taking.{first_title, slot_beside, slots_beside, slots_more, with_more, IsTakeAt, IsTakeOf, IsReadyAt}
+use Rattle.pa_shelf.specs.Taking.{first_title, slot_beside, slots_beside, slots_more, with_more, HasSlotAt, HasSlotOf, HoldsMore, IsTakeOf, IsReadyAt}
 use Rattle.pa_shelf.proofs.Chained.{apart}
 use Rattle.pa_shelf.proofs.Decommitting.{read_is}
 use Rattle.pa_shelf.proofs.Returning.{record_is, parts_alike}
@@ -47,13 +47,13 @@ pub record IsUsedUp (x : SpanRecord) (s : Span) : Type 0 where
   pub none : s.free ≡ []
   pub more : s.provisioned + 1 ≤ more_slots s
 
-pub used_up : (v : View) (l : ShelfParts) (x : SpanRecord) (t : Title) (r : Root) (s : Span) → IsTakeOf v l x t r s → x.provisioned ≤ x.allocated →
+pub used_up : (v : View) (l : ShelfParts) (x : SpanRecord) (t : Title) (r : Root) (s : Span) → HasSlotOf v l x t r s → x.provisioned ≤ x.allocated →
     IsUsedUp x s
 used_up v l x t r s b all =
-    let e = record_is v l r s t.start x b.take.shown.kept b.take.among b.take.here b.read in
+    let e = record_is v l r s t.start x b.at.shown.kept b.at.among b.at.here b.read in
     let a : x.allocated ≡ s.allocated = ap (λ (y : SpanRecord). y.allocated) e in
     let p : x.provisioned ≡ s.provisioned = ap (λ (y : SpanRecord). y.provisioned) e in
-    let c = (b.take.sound.spans s b.take.among).counted in let listed = c.listed in let less = b.take.less in
+    let c = (b.at.sound.spans s b.at.among).counted in let listed = c.listed in let less = b.at.less in
     let none : s.free ≡ [] = elim (list_cases s.free) [
       | inl nothing ↦ nothing
       | inr other ↦ let many = ap length other.2 in absurd (omega arith)
@@ -166,14 +166,14 @@ pub ready_more : (v w : View) (l : ShelfParts) (x y : SpanRecord) (t : Title) (r
       len = y.provisioned - x.provisioned;
     }) (slots_beside t x.provisioned (y.provisioned - x.provisioned)) → IsReadyAt w l y t r s
 ready_more v w l x y t r s b all aware y_is relinked beside chain =
-    let u = used_up v l x t r s b all in
-    let take = b.take in let shown = take.shown in let k = shown.kept in
+    let u = used_up v l x t r s b.slot all in
+    let take = b.slot.at in let shown = take.shown in let k = shown.kept in
     let c = (take.sound.spans s take.among).counted in
     let count = more_slots s - s.provisioned in
     let pm = provisioned_more s in
     let with_is : pm ≡ with_free s = sym (ap (λ xs. with_list xs s) u.none) in
     let pushed : slots_beside t x.provisioned (y.provisioned - x.provisioned) ≡ titles_free pm =
-    pushed_are t s x y b.first u.provisioned y_is (more_is x s u.is) in
+    pushed_are t s x y b.slot.first u.provisioned y_is (more_is x s u.is) in
     let more = u.more in
     let most : more_slots s ≤ slots_of s.class = omega arith in
     let p : IsPushed v w l s s.provisioned count = record {
@@ -181,7 +181,7 @@ ready_more v w l x y t r s b all aware y_is relinked beside chain =
       relinked = relinked;
       low = omega arith;
       high = omega arith;
-      held = λ n low high. take.held u.none n low (omega arith);
+      held = λ n low high. b.held u.none n low (omega arith);
       beside = subst (λ ts. SameBeside ts v.words w.words) pushed beside;
     } in
     let real : (z : Span) → Contains r.spans z → z.class < 59 = λ z member. (take.sound.spans z member).counted.class in
@@ -192,21 +192,21 @@ ready_more v w l x y t r s b all aware y_is relinked beside chain =
     let one = one_slot r s z n m take.sound take.among member below (omega arith) (ap (λ (q : Title). q.born) same) (ap (λ (q : Title). q.start) same) in
     (one.span, one.number)) p in
     let had : HasSpanAt v l.supers t.start = subst (HasSpanAt v l.supers) take.here (k.stored.had s take.among) in
-    let kept : spans_in w.words t.start ≡ x = spans_kept l.supers v w t.start keeps had ∙ sym b.read in
+    let kept : spans_in w.words t.start ≡ x = spans_kept l.supers v w t.start keeps had ∙ sym b.slot.read in
     let len_is : y.provisioned - x.provisioned ≡ length (numbers s.provisioned count) =
     ap (λ (z : SpanRecord). z.provisioned - x.provisioned) y_is
     ∙ (ap (λ n. n - x.provisioned) (more_is x s u.is) ∙ (ap (λ n. more_slots s - n) u.provisioned ∙ sym (numbers_length s.provisioned count))) in
     let own : IsChain w (chain_of pm) (titles_free pm) =
     subst (λ (d : ChainParts). IsChain w d (titles_free pm))
     (parts_alike (record { slot_len = t.len; head = front_of (slot_names (titles_free pm)); len = y.provisioned - x.provisioned }) (chain_of pm)
-    (ap (λ (z : Title). z.len) b.first) refl len_is)
+    (ap (λ (z : Title). z.len) b.slot.first) refl len_is)
     (subst (λ ts. IsChain w (record { slot_len = t.len; head = front_of (slot_names ts); len = y.provisioned - x.provisioned }) ts) pushed chain) in
     record {
       sound = take.sound;
       shown = shown_stays v w l r keeps chains shown;
       among = take.among;
       less = take.less;
-      first = b.first;
+      first = b.slot.first;
       listed = subst (λ (z : SpanRecord). StaysListed z y) (sym kept) (subst (StaysListed x) (sym y_is)
           (record { class = inl refl; state = refl; turn = refl; previous = refl; next = refl }));
       is = record_more x y s t.start take.here u y_is ∙ ap (λ (z : Span). record_with z 0 0) with_is;
@@ -219,21 +219,29 @@ pub record HasRoomFor (x : SpanRecord) (t : Title) : Type 0 where
   pub more : x.provisioned < slots_of x.class
   pub inside : t.start + slot_of x.class * slots_of x.class < 2097152 * 2048
 
-pub room_for : (v : View) (l : ShelfParts) (x : SpanRecord) (t : Title) (r : Root) (s : Span) → IsTakeOf v l x t r s → x.provisioned ≤ x.allocated →
+pub span_inside : (v : View) (l : ShelfParts) (x : SpanRecord) (t : Title) (r : Root) (s : Span) → HasSlotOf v l x t r s →
+    t.start < 2097152 * 2048 → t.start + slot_of s.class * slots_of s.class < 2097152 * 2048
+span_inside v l x t r s b small =
+    let row = IsRow-of s.class (b.at.sound.spans s b.at.among).counted.class in
+    let turned : slots_of s.class * slot_of s.class ≡ slot_of s.class * slots_of s.class = omega arith in
+    let pages = row.few_pages in let inside = row.inside in
+    let (a, page, place) = b.at.sound.placed s b.at.among in
+    let here = b.at.here in let first = place.first in let last = place.last in let at = place.place in
+    omega arith
+
+pub room_for : (v : View) (l : ShelfParts) (x : SpanRecord) (t : Title) (r : Root) (s : Span) → HasSlotOf v l x t r s → x.provisioned ≤ x.allocated →
     t.start < 2097152 * 2048 → HasRoomFor x t
 room_for v l x t r s b all small =
     let u = used_up v l x t r s b all in
-    let c = (b.take.sound.spans s b.take.among).counted in
+    let c = (b.at.sound.spans s b.at.among).counted in
     let row = IsRow-of s.class c.class in
     let p = u.provisioned in
     let committed : x.committed ≡ s.committed = ap (λ (y : SpanRecord). y.committed) u.is in
     let class : x.class ≡ s.class = ap (λ (y : SpanRecord). y.class) u.is in
     let slots : slots_of x.class ≡ slots_of s.class = ap slots_of class in
     let bytes : slot_of x.class * slots_of x.class ≡ slot_of s.class * slots_of s.class = ap (λ k. slot_of k * slots_of k) class in
-    let turned : slots_of s.class * slot_of s.class ≡ slot_of s.class * slots_of s.class = omega arith in
-    let used = row.used in let pages = row.few_pages in let inside = row.inside in let most = c.committed in let less = b.take.less in let all_out = u.all in
-    let (a, page, place) = b.take.sound.placed s b.take.among in
-    let here = b.take.here in let first = place.first in let last = place.last in let at = place.place in
+    let used = row.used in let pages = row.few_pages in let most = c.committed in let less = b.at.less in let all_out = u.all in
+    let inside = span_inside v l x t r s b small in
     record {
       committed = omega arith;
       more = omega arith;
@@ -241,7 +249,7 @@ room_for v l x t r s b all small =
     }
 
 -- the first slot of the span
-pub first_is : (v : View) (l : ShelfParts) (at : ℕ) (r : Root) (s : Span) (x : SpanRecord) (t : Title) (number : ℕ) → IsTakeAt v l at r s →
+pub first_is : (v : View) (l : ShelfParts) (at : ℕ) (r : Root) (s : Span) (x : SpanRecord) (t : Title) (number : ℕ) → HasSlotAt v l at r s →
     x ≡ spans_in v.words at → t.start ≡ at → t.len ≡ slot_of x.class → number ≡ super_page_at at →
     ((a : SuperPage) → AllPairs (λ (b c : SuperPage). b.number ≢ c.number) l.supers → Contains l.supers a → a.number ≡ number → t.born ≡ a.born) →
     t ≡ first_title s
@@ -259,23 +267,25 @@ first_is v l at r s x t number b read start len number_is born =
     in_super : (number page pages at n : ℕ) → at ≡ 2097152 * number + 16384 * page → page + pages ≤ 127 → 1 ≤ pages → n ≡ at / 2097152 → number ≡ n
     in_super number page pages at n is last some n_is = omega arith
 
-pub take_had : (v : View) (l : ShelfParts) (at : ℕ) (r : Root) (s : Span) → IsTakeAt v l at r s → HasSpanAt v l.supers at
+pub take_had : (v : View) (l : ShelfParts) (at : ℕ) (r : Root) (s : Span) → HasSlotAt v l at r s → HasSpanAt v l.supers at
 take_had v l at r s b = subst (HasSpanAt v l.supers) b.here (b.shown.kept.stored.had s b.among)
 
 -- and so the record that was read is that of the span, with its first slot
-pub take_is : (y z : Share) (l : ShelfParts) (at : ℕ) (r : Root) (s : Span) (x : SpanRecord) (t : Title) (number : ℕ) (supers : List SuperPage) →
-    IsTakeAt z.view l at r s → y ≡ z → ((a : SpanRecord) → IsRecordAt z.view.words (record_word at) a → x ≡ a) → t.start ≡ at → t.len ≡ slot_of x.class →
-    number ≡ super_page_at at → supers ≡ l.supers →
-    ((a : SuperPage) → AllPairs (λ (b c : SuperPage). b.number ≢ c.number) supers → Contains supers a → a.number ≡ number → t.born ≡ a.born) →
-    IsTakeOf y.view l x t r s
-take_is y z l at r s x t number supers b seat read start len number_is supers_are born =
+pub slot_is : (y z : Share) (l : ShelfParts) (at : ℕ) (r : Root) (s : Span) (x : SpanRecord) (t : Title) → HasSlotAt z.view l at r s → y ≡ z →
+    ((a : SpanRecord) → IsRecordAt z.view.words (record_word at) a → x ≡ a) → (x ≡ spans_in z.view.words at → t ≡ first_title s) → HasSlotOf y.view l x t r s
+slot_is y z l at r s x t b seat read first_if =
     let x_is = read_is z.view l.supers at x (take_had z.view l at r s b) read in
-    subst (λ (q : Share). IsTakeOf q.view l x t r s) (sym seat) (record {
-      take = subst (λ n. IsTakeAt z.view l n r s) (sym start) b;
-      read = subst (λ n. x ≡ spans_in z.view.words n) (sym start) x_is;
-      first = first_is z.view l at r s x t number b x_is start len number_is (λ a apart among same.
-          born a (subst (AllPairs (λ (b c : SuperPage). b.number ≢ c.number)) (sym supers_are) apart) (subst (λ zs. Contains zs a) (sym supers_are) among) same);
+    let first = first_if x_is in
+    let start : at ≡ t.start = sym (ap (λ (a : Title). a.start) first ∙ b.here) in
+    subst (λ (q : Share). HasSlotOf q.view l x t r s) (sym seat) (record {
+      at = subst (λ n. HasSlotAt z.view l n r s) start b;
+      read = subst (λ n. x ≡ spans_in z.view.words n) start x_is;
+      first = first;
     })
+
+pub take_is : (y z : Share) (l : ShelfParts) (x : SpanRecord) (t : Title) (r : Root) (s : Span) → y ≡ z → HoldsMore z.view s → HasSlotOf y.view l x t r s →
+    IsTakeOf y.view l x t r s
+take_is y z l x t r s seat held slot = record { slot = slot; held = subst (λ (q : Share). HoldsMore q.view s) (sym seat) held }
 
 -- these slots can be pushed
 pub record CanPush (v : View) (t : Title) (from count : ℕ) : Type 0 where
@@ -287,13 +297,13 @@ pub can_push : (v : View) (l : ShelfParts) (x y : SpanRecord) (t : Title) (r : R
     x.provisioned ≤ x.allocated → y ≡ with_more t.start x → t.start < 2097152 * 2048 → from ≡ x.provisioned → from + count ≡ y.provisioned →
     CanPush v t from count
 can_push v l x y t r s from count b all y_is small from_is end_is =
-    let u = used_up v l x t r s b all in
-    let room = room_for v l x t r s b all small in
-    let c = (b.take.sound.spans s b.take.among).counted in
+    let u = used_up v l x t r s b.slot all in
+    let room = room_for v l x t r s b.slot all small in
+    let c = (b.slot.at.sound.spans s b.slot.at.among).counted in
     let p : y.provisioned ≡ more_slots s = ap (λ (z : SpanRecord). z.provisioned) y_is ∙ more_is x s u.is in
     let e = u.provisioned in
     let class : x.class ≡ s.class = ap (λ (z : SpanRecord). z.class) u.is in
-    let size : t.len ≡ slot_of s.class = ap (λ (z : Title). z.len) b.first in
+    let size : t.len ≡ slot_of s.class = ap (λ (z : Title). z.len) b.slot.first in
     let some = size_some s.class c.class in
     let most : more_slots s ≤ slots_of s.class = omega arith in
     let up : t.len * (from + count) ≤ t.len * slots_of s.class = mul-le-mul_left t.len (omega arith) in
@@ -301,7 +311,7 @@ can_push v l x y t r s from count b all y_is small from_is end_is =
     ap (λ n. n * slots_of s.class) size ∙ sym (ap (λ k. slot_of k * slots_of k) class) in
     let inside = room.inside in
     record {
-      able = λ n low high. subst (λ (z : Title). 0 < free_of v (slot_beside z n)) (sym b.first) (b.take.held u.none n (omega arith) (omega arith));
+      able = λ n low high. subst (λ (z : Title). 0 < free_of v (slot_beside z n)) (sym b.slot.first) (b.held u.none n (omega arith) (omega arith));
       some = omega arith;
       inside = omega arith;
     }
@@ -310,7 +320,7 @@ can_push v l x y t r s from count b all y_is small from_is end_is =
 pub more_left : (v : View) (l : ShelfParts) (x y : SpanRecord) (t : Title) (r : Root) (s : Span) → IsTakeOf v l x t r s → x.provisioned ≤ x.allocated →
     y ≡ with_more t.start x → x.provisioned ≤ y.provisioned
 more_left v l x y t r s b all y_is =
-    let u = used_up v l x t r s b all in
+    let u = used_up v l x t r s b.slot all in
     let p : y.provisioned ≡ more_slots s = ap (λ (z : SpanRecord). z.provisioned) y_is ∙ more_is x s u.is in
     let e = u.provisioned in let more = u.more in
     omega arith

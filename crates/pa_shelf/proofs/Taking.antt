@@ -56,24 +56,24 @@ front v l x t r s b = with_free_front s (b.sound.spans s b.among).counted b.less
 pub ready_listed : (v : View) (l : ShelfParts) (x : SpanRecord) (t : Title) (r : Root) (s : Span) → IsTakeOf v l x t r s → x.allocated < x.provisioned →
     IsReadyAt v l x t r s
 ready_listed v l x t r s b some =
-    let k = b.take.shown.kept in
-    let e = record_is v l r s t.start x k b.take.among b.take.here b.read in
+    let k = b.slot.at.shown.kept in
+    let e = record_is v l r s t.start x k b.slot.at.among b.slot.at.here b.slot.read in
     let a : x.allocated ≡ s.allocated = ap (λ (y : SpanRecord). y.allocated) e in
     let p : x.provisioned ≡ s.provisioned = ap (λ (y : SpanRecord). y.provisioned) e in
-    let c = (b.take.sound.spans s b.take.among).counted in
+    let c = (b.slot.at.sound.spans s b.slot.at.among).counted in
     let same : s ≡ with_free s = elim (list_cases s.free) [
       | inl none ↦ let listed = c.listed in let zero = ap length none in absurd (omega arith)
       | inr other ↦ sym (ap (λ xs. with_list xs s) other.2)
     ] in
     record {
-      sound = b.take.sound;
-      shown = b.take.shown;
-      among = b.take.among;
-      less = b.take.less;
-      first = b.first;
-      listed = same_listed (spans_in v.words t.start) x b.read;
+      sound = b.slot.at.sound;
+      shown = b.slot.at.shown;
+      among = b.slot.at.among;
+      less = b.slot.at.less;
+      first = b.slot.first;
+      listed = same_listed (spans_in v.words t.start) x b.slot.read;
       is = e ∙ ap (λ (z : Span). record_with z 0 0) same;
-      chain = subst (λ (z : Span). IsChain v (chain_of z) (titles_free z)) same (b.take.shown.chains s b.take.among);
+      chain = subst (λ (z : Span). IsChain v (chain_of z) (titles_free z)) same (b.slot.at.shown.chains s b.slot.at.among);
     }
 
 -- the chain that the record has is that of the list

@@ -1,5 +1,6 @@
 pub mod Adding
 pub mod Counting
+pub mod Cutting
 pub mod Moving
 pub mod Opening
 pub mod Shelves

@@ -67,21 +67,32 @@ with_more at x = record x {
   head = at + slot_of x.class * x.provisioned;
 }
 
--- A slot can be taken from the span s of a sound root that is shown, which starts at the offset: not all of its slots are out. If its
--- list is empty, the seat holds the slots free that are provisioned then.
-pub record IsTakeAt (v : View) (l : ShelfParts) (at : ℕ) (r : Root) (s : Span) : Type 0 where
+-- A slot can be taken from the span s of a sound root that is shown, which starts at the offset: not all of its slots are out.
+pub record HasSlotAt (v : View) (l : ShelfParts) (at : ℕ) (r : Root) (s : Span) : Type 0 where
   pub sound : IsSound r
   pub shown : ShowsRoot v l r
   pub among : Contains r.spans s
   pub here : s.place ≡ at
   pub less : s.allocated < slots_of s.class
-  pub held : s.free ≡ [] → (n : ℕ) → s.provisioned ≤ n → n < more_slots s → 0 < free_of v (title_at s n)
 
 -- and x is the record that the words have of it, and t its first slot
-pub record IsTakeOf (v : View) (l : ShelfParts) (x : SpanRecord) (t : Title) (r : Root) (s : Span) : Type 0 where
-  pub take : IsTakeAt v l t.start r s
+pub record HasSlotOf (v : View) (l : ShelfParts) (x : SpanRecord) (t : Title) (r : Root) (s : Span) : Type 0 where
+  pub at : HasSlotAt v l t.start r s
   pub read : x ≡ spans_in v.words t.start
   pub first : t ≡ first_title s
+
+-- if its list is empty, the view has the slots free that are provisioned next
+abbrev pub HoldsMore : View → Span → Type 0
+HoldsMore v s = s.free ≡ [] → (n : ℕ) → s.provisioned ≤ n → n < more_slots s → 0 < free_of v (title_at s n)
+
+-- A slot can be taken from it, and the seat holds what is provisioned then.
+pub record IsTakeAt (v : View) (l : ShelfParts) (at : ℕ) (r : Root) (s : Span) : Type 0 where
+  pub slot : HasSlotAt v l at r s
+  pub held : HoldsMore v s
+
+pub record IsTakeOf (v : View) (l : ShelfParts) (x : SpanRecord) (t : Title) (r : Root) (s : Span) : Type 0 where
+  pub slot : HasSlotOf v l x t r s
+  pub held : HoldsMore v s
 
 -- Its list isn't empty now: the view has the chain of it, and x is the record of the span with that list. The record in the words
 -- is still the one that it was.

@@ -40,7 +40,6 @@ impl Shelf {
     pub fn census(&self, region: &Region, own: &mut Seat) -> Census
         requires region { own.old.region ≡ region.now }
         requires shown { (r : Root) × IsSound r × IsUsed r × ShowsRoot own.old.view self.now r }
-        requires few { length self.now.maps ≤ 2147483647 }
         ensures seat { own.new ≡ own.old }
         ensures census { (r : Root) → IsSound r → IsUsed r → ShowsRoot own.old.view self.now r → result ≡ census r }
     {

@@ -5,11 +5,14 @@ mod adds;
 mod backs;
 mod changes;
 mod counts;
+mod cuts;
 mod finds;
 mod laws;
+mod maps;
 mod opens;
 mod shelf;
 mod takes;
 
+pub use cuts::NewSlots;
 pub use laws::{no_shelf_is_new, shown_is_in_words, shown_stays};
 pub use shelf::Shelf;

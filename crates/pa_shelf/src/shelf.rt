@@ -19,7 +19,7 @@ use pa_spans::{Span, SpanLists};
 use std::alloc::Global;
 use std::marker::Model;
 
-// The most super pages of a region.
+// The most super pages of a region, and so the most direct maps.
 const SUPERS: usize = 16;
 
 /// The super pages of a root, its direct maps and the heads of its lists of spans. The spans' records stand in the metadata
@@ -45,18 +45,20 @@ impl Model for Shelf {
     ghost view = { λ s. record { supers = s.supers.items; maps = s.maps.items; page = s.page; lists = s.lists } };
 
     ghost invariant = { λ s. (vec_capacity s.supers ≡ most_supers) × (length s.supers.items ≤ most_supers)
-        × All (λ (a : SuperPage). a.number < most_supers) s.supers.items };
+        × All (λ (a : SuperPage). a.number < most_supers) s.supers.items
+        × (vec_capacity s.maps ≡ most_supers) × (length s.maps.items ≤ most_supers) };
 }
 
 impl Shelf {
-    /// A shelf without super pages, with memory for as many as a region has.
+    /// A shelf without super pages, with memory for as many as a region has, and for as many direct maps.
     pub fn new(alloc: Global) -> Result<Shelf, OutOfMemory>
         ensures { IfOk result (λ l. l ≡ no_shelf) }
     {
         let supers = Vec::with_capacity(alloc, SUPERS)?;
+        let maps = Vec::with_capacity(alloc, SUPERS)?;
         Ok(Shelf {
             supers,
-            maps: Vec::new(alloc),
+            maps,
             page: 0,
             lists: SpanLists::new(),
         })

@@ -15,7 +15,7 @@ ghost use Rattle.pa_shelf.specs.Taking.{name_start, first_title, slot_beside, sl
 use crate::backs::parts_in;
 use crate::shelf::Shelf;
 use pa_buckets::{Class, State, slot_size, span_of};
-use pa_layout::{SYSTEM_PAGE, super_page_of};
+use pa_layout::SYSTEM_PAGE;
 use pa_link::Chain;
 use pa_machine::Title;
 use pa_meta::read_meta;
@@ -37,11 +37,7 @@ impl Shelf {
         ensures rest { Rewritten own.old.view own.new.view }
     {
         let span = read_meta(region, own, at);
-        let first = Title {
-            start: at,
-            len: slot_size(span.class),
-            born: born_in(&self.supers, super_page_of(at)),
-        };
+        let first = self.first_of(&span, at);
         let ready = provided(region, own, span, first);
         self.take_off(region, own, ready, first)
     }
@@ -151,14 +147,14 @@ fn provided(region: &Region, own: &mut Seat, span: Span, first: Title) -> Span
 }
 
 // Whether the list of the span that has this record has a slot.
-fn has_list(span: &Span) -> bool
+pub(crate) fn has_list(span: &Span) -> bool
     ensures { result ≡ nat_lt span.now.allocated span.now.provisioned }
 {
     span.allocated < span.provisioned
 }
 
 // The record of the span that starts there, once more of its slots were provisioned.
-fn with_more(span: Span, at: u32) -> Span
+pub(crate) fn with_more(span: Span, at: u32) -> Span
     requires committed { span.committed ≤ 224 }
     requires more { span.provisioned < slots_of span.class }
     requires inside { at + slot_of span.class * slots_of span.class < 2 ^ 32 }
@@ -203,7 +199,7 @@ fn push_all(region: &Region, own: &mut Seat, first: Title, from: u32, count: u32
 }
 
 // The `born` of the super page with this number.
-fn born_in(supers: &[SuperPage], number: u32) -> u32
+pub(crate) fn born_in(supers: &[SuperPage], number: u32) -> u32
     ensures { (a : SuperPage) → AllPairs (λ (x y : SuperPage). x.number ≢ y.number) supers.now → Contains supers.now a →
         a.number ≡ number → result ≡ a.born }
 {

@@ -11,18 +11,18 @@ returns-then-has_list-clause-ready c l r s b =
 pub with_more-more-requires-clause-committed : goal.with_more-more-requires-clause-committed
 with_more-more-requires-clause-committed c =
     let (l, r, s, b) = c.requires.able in
-    (room_for c.args.own.now.view l c.args.span c.args.first r s b (ltb-false _ _ (sym c.has_list.ensures ∙ c.if-has_list.false)) (omega arith)).committed
+    (room_for c.args.own.now.view l c.args.span c.args.first r s b.slot (ltb-false _ _ (sym c.has_list.ensures ∙ c.if-has_list.false)) (omega arith)).committed
 
 pub with_more-more-requires-clause-more : goal.with_more-more-requires-clause-more
 with_more-more-requires-clause-more c =
     let (l, r, s, b) = c.requires.able in
-    (room_for c.args.own.now.view l c.args.span c.args.first r s b (ltb-false _ _ (sym c.has_list.ensures ∙ c.if-has_list.false)) (omega arith)).more
+    (room_for c.args.own.now.view l c.args.span c.args.first r s b.slot (ltb-false _ _ (sym c.has_list.ensures ∙ c.if-has_list.false)) (omega arith)).more
 
 pub with_more-more-requires-clause-inside : goal.with_more-more-requires-clause-inside
 with_more-more-requires-clause-inside c =
     let (l, r, s, b) = c.requires.able in
     let inside =
-    (room_for c.args.own.now.view l c.args.span c.args.first r s b (ltb-false _ _ (sym c.has_list.ensures ∙ c.if-has_list.false)) (omega arith)).inside in
+    (room_for c.args.own.now.view l c.args.span c.args.first r s b.slot (ltb-false _ _ (sym c.has_list.ensures ∙ c.if-has_list.false)) (omega arith)).inside in
     omega arith
 
 pub overflow_sub-count : goal.overflow_sub-count
