@@ -1,6 +1,7 @@
 mod Adding
 mod Chained
 mod Counting
+mod CutOut
 mod Cutting
 mod Decommitting
 mod Finding
@@ -9,6 +10,7 @@ mod Fresh
 mod Mapping
 mod Moves
 mod Oldest
+mod OneTake
 mod Opening
 mod Provisioning
 mod Pushing

@@ -5,9 +5,10 @@ use Rattle.pa_machine.specs.declared.title.Title.{Title}
 use Rattle.pa_machine.specs.declared.word.SlotName.{SlotName}
 use Rattle.pa_buckets.specs.declared.spans.State.{State}
 use Rattle.pa_buckets.specs.declared.spans.State.TheVariants as state
+use Rattle.pa_buckets.specs.Limits.{class_count}
 use Rattle.pa_buckets.specs.Table.{slot_of, slots_of}
 use Rattle.pa_record.specs.Spans.{Span, title_at, with_free, more_slots}
-use Rattle.pa_record.specs.Root.{Root, Took, taken_from}
+use Rattle.pa_record.specs.Root.{Root, Took, taken_from, span_for, one_take}
 use Rattle.pa_record.specs.Sound.{IsSound}
 use Rattle.pa_region.specs.declared.view.View.{View}
 use Rattle.pa_region.specs.Views.{free_of}
@@ -17,6 +18,7 @@ use Rattle.pa_records.specs.Words.{spans_in}
 use Rattle.pa_records.specs.Records.{record_with, titles_free}
 use Rattle.pa_records.specs.Stored.{alone}
 use Rattle.pa_link.specs.Chains.{IsChain}
+use Rattle.pa_shelf.specs.Adding.{found_start, found_root}
 use Rattle.pa_shelf.specs.Shelves.{ShelfParts, ShowsRoot, chain_of}
 
 -- the first of two, or the second where there is no first one
@@ -109,3 +111,11 @@ pub record IsReadyAt (v : View) (l : ShelfParts) (x : SpanRecord) (t : Title) (r
 -- the root after a take from the span, and the slot that was taken
 abbrev pub take_of : Span → Root → Took
 take_of s r = taken_from (Some (record { span = s; root = r })) r
+
+-- One take in parts: from the span that was found, or is new, a slot can be taken, and that is the root's one take. Where none was
+-- found, the root has no slot to give.
+pub record TakesAreInParts : Type 0 where
+  pub found : (v : View) (l : ShelfParts) (class at : ℕ) (r : Root) → IsSound r → class < class_count → found_start (span_for class r) ≡ Some at →
+      ShowsRoot v l (found_root (span_for class r) r) →
+      (s : Span) × HasSlotAt v l at (found_root (span_for class r) r) s × (take_of s (found_root (span_for class r) r) ≡ one_take class r)
+  pub none : (class : ℕ) (r : Root) → found_start (span_for class r) ≡ None → one_take class r ≡ record { root = r; title = None }

@@ -14,5 +14,7 @@ mod shelf;
 mod takes;
 
 pub use cuts::NewSlots;
-pub use laws::{no_shelf_is_new, shown_is_in_words, shown_stays};
+pub use laws::{
+    cuts_keep_shown, no_shelf_is_new, shown_is_in_words, shown_stays, takes_are_in_parts,
+};
 pub use shelf::Shelf;
