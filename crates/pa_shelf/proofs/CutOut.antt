@@ -1,5 +1,5 @@
 -- Titles that are cut out of raw bytes beside records: the root that is shown stays shown.
-use Rattle.std.proofs.Common.{◌≡◌, ℕ, ◌+◌, ◌-◌, ◌*◌, ◌/◌, ◌%◌, ◌<◌, ◌≤◌, ◌⊎◌, inl, inr, List, ◌∷◌, refl, ◌∙◌, ap, subst, arith}
+use Rattle.std.proofs.Common.{◌≡◌, ℕ, ◌+◌, ◌*◌, ◌/◌, ◌%◌, ◌<◌, ◌≤◌, ◌⊎◌, inl, inr, List, ◌∷◌, refl, ◌∙◌, ap, subst, arith}
 use Rattle.std.specs.Prelude.{Contains}
 use Rattle.std.proofs.lemmas.Bool.{cases_lt}
 use Rattle.std.proofs.lemmas.List.{get_or-set_other}
@@ -25,7 +25,7 @@ use Rattle.pa_region.proofs.Pieces.{held_split}
 use Rattle.pa_region.proofs.Stays.{low_held}
 use Rattle.pa_region.proofs.Parting.{raws_part}
 use Rattle.pa_region.proofs.Cutting.{inside_none}
-use Rattle.pa_records.specs.Words.{record_byte, record_word}
+use Rattle.pa_records.specs.Words.{record_byte}
 use Rattle.pa_records.specs.Records.{titles_free}
 use Rattle.pa_meta.specs.Meta.{HasRawRecord}
 use Rattle.pa_meta.proofs.Writing.{aligned}

@@ -1,5 +1,5 @@
 -- One take: the span that is found for it has a slot.
-use Rattle.std.proofs.Common.{◌≡◌, ℕ, ◌+◌, ◌<◌, inl, inr, Bool, if◌then◌else◌, ◌∷◌, [], Option, Some, None, refl, sym, ◌∙◌, ap, subst}
+use Rattle.std.proofs.Common.{◌≡◌, ℕ, ◌+◌, ◌<◌, inl, inr, Bool, if◌then◌else◌, Option, Some, None, refl, sym, ◌∙◌, ap, subst}
 use Rattle.std.specs.Prelude.{Contains, nat_le}
 use Rattle.std.proofs.lemmas.Bool.{cases_Bool, leb-true}
 use Rattle.std.proofs.lemmas.List.Elements.{Contains-push}
@@ -7,7 +7,7 @@ use Rattle.pa_lists.proofs.Members.{of_some, not_some}
 use Rattle.pa_buckets.specs.Table.{pages_of, slots_of}
 use Rattle.pa_record.specs.declared.taken.SuperPage.{SuperPage}
 use Rattle.pa_record.specs.Spans.{Span, listed}
-use Rattle.pa_record.specs.Root.{Root, Found, Took, current, new_span, with_span, at_page, found_or_new, span_for, taken_from, one_take}
+use Rattle.pa_record.specs.Root.{Root, Found, current, new_span, with_span, at_page, found_or_new, span_for, taken_from}
 use Rattle.pa_record.specs.Sound.{IsSound}
 use Rattle.pa_record.proofs.Filling.{listed_is, usable_less, with_span_sound, some_slots}
 use Rattle.pa_region.specs.declared.view.View.{View}

@@ -1,4 +1,4 @@
-use Rattle.std.proofs.Common.{◌∙◌, ◌+◌, ◌*◌, sym, arith}
+use Rattle.std.proofs.Common.{◌∙◌, sym, arith}
 use Rattle.std.proofs.lemmas.Bool.{ltb-true, ltb-false}
 use Rattle.pa_shelf.proofs.Cutting.{made_inside, cut_listed, cut_more}
 use Rattle.pa_shelf.proofs.Provisioning.{room_for}
