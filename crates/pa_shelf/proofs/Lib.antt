@@ -1,4 +1,5 @@
 mod Adding
+mod Batches
 mod Chained
 mod Counting
 mod CutOut

@@ -7,7 +7,7 @@ use Rattle.pa_buckets.specs.declared.spans.State.TheVariants as state
 use Rattle.pa_record.specs.declared.taken.SuperPage.{SuperPage}
 use Rattle.pa_record.specs.Spans.{Span, title_at, name_of}
 use Rattle.pa_record.specs.Root.{Root, new_root, IsOutOf}
-use Rattle.pa_record.specs.Sound.{IsSound}
+use Rattle.pa_record.specs.Sound.{IsSound, IsSettled}
 use Rattle.pa_region.specs.declared.view.View.{View}
 use Rattle.pa_region.specs.Views.{free_of}
 use Rattle.pa_spans.specs.declared.span.Span.{Span as SpanRecord}
@@ -89,6 +89,19 @@ pub record IsBackAt (v : View) (l : ShelfParts) (at : ℕ) (t : Title) (r : Root
   pub titled : t ≡ title_at s n
   pub out : IsOutOf s (name_of t) n
   pub some : 1 ≤ s.allocated
+
+-- the title is a slot of one of the root's spans, and out of it
+abbrev pub IsSlotOut : Root → Title → Type 0
+IsSlotOut r t = (s : Span) × Contains r.spans s × (n : ℕ) × IsOutOf s (name_of t) n × (t ≡ title_at s n)
+
+-- Slots are out of a sound root that is shown, of which at most 16 spans are empty; they have different names, and the view has them free.
+pub record AreBack (v : View) (l : ShelfParts) (ts : List Title) (r : Root) : Type 0 where
+  pub sound : IsSound r
+  pub settled : IsSettled r
+  pub shown : ShowsRoot v l r
+  pub out : (t : Title) → Contains ts t → IsSlotOut r t
+  pub once : AllPairs (λ (t u : Title). name_of t ≢ name_of u) ts
+  pub free : (t : Title) → Contains ts t → 0 < free_of v t
 
 -- at the start the root has nothing
 abbrev pub NoShelfIsNew : Type 0

@@ -3,12 +3,12 @@ ghost use Rattle.std.specs.Prelude.{◌≡◌, ◌↔◌, ℕ, ◌+◌, ◌-◌,
 ghost use Rattle.pa_machine.specs.declared.title.Title.{Title};
 ghost use Rattle.pa_machine.specs.Links.{link_to};
 ghost use Rattle.pa_record.specs.Spans.{Span as RootSpan, name_of};
-ghost use Rattle.pa_record.specs.Root.{Root, put_back, returned};
+ghost use Rattle.pa_record.specs.Root.{Root, put_back, returned, all_returned};
 ghost use Rattle.pa_region.specs.Views.{free_of};
 ghost use Rattle.pa_spans.specs.Lists.{oldest_of};
-ghost use Rattle.pa_link.specs.Chains.{IsChain, after_link};
+ghost use Rattle.pa_link.specs.Chains.{IsChain, slot_names, after_link};
 ghost use Rattle.pa_shelf.specs.Moving.{parts_of_record, pushed_parts, with_front_of, state_with, Rewritten};
-ghost use Rattle.pa_shelf.specs.Shelves.{ShowsRoot, IsBackAt};
+ghost use Rattle.pa_shelf.specs.Shelves.{ShowsRoot, IsBackAt, AreBack};
 
 use crate::shelf::Shelf;
 use pa_buckets::State;
@@ -66,6 +66,23 @@ impl Shelf {
         if let Some(oldest) = self.put_back(region, own, at, title) {
             let _ = oldest;
             self.decommit_oldest(region, own);
+        }
+    }
+
+    /// Takes slots back to their spans, one by one in this order, as `give_back` does. It allocates nothing.
+    pub fn give_all(&mut self, region: &Region, own: &mut Seat, titles: &[Title])
+        requires region { own.old.region ≡ region.now }
+        requires back { (r : Root) × AreBack own.old.view self.old titles.now r }
+        requires few { length titles.now ≤ 16 }
+        requires turn { self.old.lists.turn + 32 < 2 ^ 63 }
+        ensures region { own.new.region ≡ own.old.region }
+        ensures shown { (r : Root) → AreBack own.old.view self.old titles.now r →
+            ShowsRoot own.new.view self.new (all_returned (slot_names titles.now) r) }
+        ensures rest { Rewritten own.old.view own.new.view }
+    {
+        for title in titles {
+            let at = self.span_at(region, own, *title);
+            self.give_back(region, own, at, *title);
         }
     }
 }
