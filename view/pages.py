@@ -30,7 +30,7 @@ def data_of(text):
         "lines": None if in_file_order else heap.lines,
         "slots": [[int(s.name[:8], 16), s.partition, s.len, s.span.index if s.span else -1, s.number] for s in heap.slots],
         "names": [s.name for s in heap.slots],
-        "spans": [[s.start, s.born, s.pages, s.system_pages, s.size_class, s.size, s.slots] for s in heap.spans],
+        "spans": [[s.start, s.born, s.pages, s.system_pages, s.size_class, s.size, s.slots, s.record_place()] for s in heap.spans],
         "owners": [seen[5] for seen in heap.span_seen],
         "quarantine": heap.quarantine,
         "changes": heap.changes,

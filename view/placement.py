@@ -42,12 +42,24 @@ class Span:
         self.index, self.size_class, self.start, self.born = index, size_class, start, born
         self.size = SIZES[size_class]
         self.pages, self.system_pages, self.slots = SHAPES[size_class]
-        self.state, self.turn = NONE, None
+        self.state, self.turn = NONE, 0
         self.allocated = self.provisioned = self.made = self.committed = 0
         self.free = []
+        self.previous = self.next = None
 
     def slot(self, number):
         return f"{self.start + number * self.size:08x}.{self.born}"
+
+    def record(self):
+        """The four words of its record: 32 bytes of the metadata page of its super page."""
+        front = self.start + self.free[-1] * self.size if self.free else 0
+        before, after = (near.start if near else 0 for near in (self.previous, self.next))
+        counts = self.size_class | self.state << 8 | self.allocated << 16 | self.provisioned << 32 | self.committed << 48
+        return counts, front | self.made << 32, before | after << 32, self.turn
+
+    def record_place(self):
+        """Where its record begins: there are 32 bytes for each partition page, from the second system page of the super page on."""
+        return self.start // SUPER_PAGE * SUPER_PAGE + SYSTEM_PAGE + 32 * (self.start % SUPER_PAGE // PARTITION_PAGE)
 
     def provision(self):
         """One system page more, or as many as one slot more needs, and the slots that fit, in the order of their places."""
@@ -60,7 +72,8 @@ class Span:
 
 
 class Root:
-    """What a partition has: spans, the current super page with its next free page, and direct maps."""
+    """What a partition has: spans, the current super page with its next free page, and direct maps. The spans of a class and state
+    are a list, of which the one that came last is the first; a full span is in none."""
 
     def __init__(self, spans):
         self.all_spans = spans
@@ -69,16 +82,40 @@ class Root:
         self.homes = {}
         self.maps = {}
         self.current, self.next_page, self.turn = None, 1, 0
+        self.firsts, self.relinked = {}, []
 
     def enter(self, span, state):
-        """A span that enters another state takes the next turn."""
+        """A span that enters another state takes the next turn, leaves its list and becomes the first of another."""
         if span.state == state:
             return
+        self.leave(span)
         self.empty.discard(span)
         span.state, span.turn = state, self.turn
         self.turn += 1
         if state == EMPTY:
             self.empty.add(span)
+        if state != FULL:
+            self.join(span)
+
+    def leave(self, span):
+        """Its neighbours in its list become each other's."""
+        if span.previous:
+            span.previous.next = span.next
+            self.relinked.append(span.previous)
+        elif self.firsts.get((span.size_class, span.state)) is span:
+            self.firsts[span.size_class, span.state] = span.next
+        if span.next:
+            span.next.previous = span.previous
+            self.relinked.append(span.next)
+        span.previous = span.next = None
+
+    def join(self, span):
+        """It becomes the first of its list."""
+        span.next = self.firsts.get((span.size_class, span.state))
+        if span.next:
+            span.next.previous = span
+            self.relinked.append(span.next)
+        self.firsts[span.size_class, span.state] = span
 
     def listed(self, size_class):
         """The span that a take uses: active before empty before decommitted, the greatest turn first."""

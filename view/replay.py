@@ -43,9 +43,9 @@ class Heap:
         self.pool, self.pool_done = Pool(trace.region), 0
         self.supers = [(-1, 0)] * trace.region
         self.registers, self.cells = {}, {}
-        self.span_seen, self.sums = [], [[0] * 10 for _ in range(4)]
+        self.span_seen, self.record_seen, self.sums = [], {}, [[0] * 10 for _ in range(4)]
         self.moment, self.lines, self.quarantine, self.waiting = 0, [1], [], {}
-        self.changes = {name: [] for name in ("slots", "spans", "supers", "registers", "cells", "sums")}
+        self.changes = {name: [] for name in ("slots", "spans", "records", "supers", "registers", "cells", "sums")}
         self.phase_sums = []
 
     def play(self):
@@ -286,6 +286,16 @@ class Heap:
             self.add(partition, COMMITTED, 4096 * (span.committed - old[4]))
             self.span_seen[span.index] = (*now, partition)
             self.changes["spans"] += [self.moment, span.index, *now]
+        self.note_records(spans, self.roots[partition].relinked)
+
+    def note_records(self, spans, relinked):
+        """What changed of the records of these spans, and of those whose neighbours changed: each word as its two halves."""
+        for span in dict.fromkeys([*spans, *relinked]):
+            record = span.record()
+            if self.record_seen.get(span.index) != record:
+                self.record_seen[span.index] = record
+                self.changes["records"] += [self.moment, span.index, *(half for word in record for half in divmod(word, 1 << 32))]
+        relinked.clear()
 
     def add(self, partition, at, by):
         if by == 0:

@@ -90,7 +90,7 @@ function tellPage(where) {
   const { at, page } = where, use = logs.supers.get(at, 3), span = use === 1 ? spanOver(at, page) : -1;
   let told = "free";
   if (use === 2) told = `of the direct map ${data.names[directOver(at)]}`;
-  else if (use === 1 && page === 0) told = "guard pages, and one system page of metadata";
+  else if (use === 1 && page === 0) told = "guard pages, and one system page of metadata, with the records of spans";
   else if (use === 1 && page === 127) told = "guard";
   else if (use === 1 && span < 0) told = "payload, in no span";
   else if (span >= 0) {

@@ -149,10 +149,17 @@ function quarantineRow([slot, freed, refs, returned, uses]) {
 
 const placeOf = (slot) => ({ span: data.slots[slot][3], number: data.slots[slot][4], slot });
 
+// The record of the chosen span.
+function drawRecord(span) {
+  $("record").replaceChildren(...recordOf(span).flatMap(([digits, told]) => [make("dt", "mono", digits), make("dd", "", told)]));
+  $("record-title").textContent = `Its record: 32 bytes at ${hex(data.spans[span][7], 8)}, in the metadata page of the super page`;
+}
+
 // The captions of map and span.
 function drawCaptions() {
   const span = chosen.span;
-  if (span < 0 || !logs.spans.get(span, 2)) {
+  $("record-box").hidden = span < 0 || !logs.spans.get(span, 2);
+  if ($("record-box").hidden) {
     $("span-title").textContent = chosen.slot >= 0 ? "Direct map" : "Span";
     $("span-legend").hidden = true;
     $("span-caption").textContent = chosen.slot >= 0 ? `${data.names[chosen.slot]}: ${count(data.slots[chosen.slot][2])} bytes between guards` : "no span is chosen";
@@ -166,6 +173,7 @@ function drawCaptions() {
     `super page ${Math.floor(start / SUPER_PAGE)}, partition page${pages > 1 ? `s ${from} to ${from + pages - 1}` : ` ${from}`} · ${classOf(span)} · ` +
     `${STATES[logs.spans.get(span, 2)]} · ${get(3)} of ${count(slots)} out, ${get(4)} provisioned, ${get(5)} made · ` +
     `${get(6)} of ${count(system)} system pages committed`;
+  drawRecord(span);
 }
 
 function legends() {

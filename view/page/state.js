@@ -57,6 +57,7 @@ const second = (flat, at) => flat[at + 1];
 const logs = {
   slots: new Log(data.changes.slots, 5, data.slots.length, second),
   spans: new Log(data.changes.spans, 7, data.spans.length, second),
+  records: new Log(data.changes.records, 10, data.spans.length, second),
   supers: new Log(data.changes.supers, 4, data.region, second),
   registers: new Log(data.changes.registers, 5, data.threads * 64, (flat, at) => flat[at + 1] * 64 + flat[at + 2]),
   cells: new Log(data.changes.cells, 4, 64, second),

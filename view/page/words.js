@@ -63,6 +63,20 @@ function classOf(span) {
   return `class ${sizeClass}, ${plural(slots, "slot")} of ${count(size)} bytes`;
 }
 
+// The four words of a span's record, in hexadecimal, and what each says, from its first digit on.
+function recordOf(span) {
+  const half = (n) => logs.records.get(span, 2 + n), digits = (n) => hex(half(n), 8) + hex(half(n + 1), 8);
+  const start = (n) => (half(n) ? hex(half(n), 8) : "none");
+  const [state, out, provisioned, made, committed] = [2, 3, 4, 5, 6].map((at) => logs.spans.get(span, at));
+  const pages = plural(committed, "system page"), sizeClass = data.spans[span][4];
+  return [
+    [digits(0), `${pages} committed · ${plural(provisioned, "slot")} provisioned · ${count(out)} out · state ${state}, ${STATES[state]} · class ${sizeClass}`],
+    [digits(2), `${plural(made, "slot")} made · first free slot: ${start(3)}`],
+    [digits(4), `next span of its list: ${start(4)} · the previous one: ${start(5)}`],
+    [digits(6), `turn ${count(half(6) * 2 ** 32 + half(7))}`],
+  ];
+}
+
 // A list of any length of which only what is in sight is drawn.
 class Rows {
   constructor(box, titles, row, none) {

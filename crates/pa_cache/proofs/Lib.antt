@@ -1,2 +1,4 @@
 pub mod Middle
 pub mod Keeping
+pub mod Lists
+pub mod Calls

@@ -1,9 +1,9 @@
-//! A thread's cache of the free slots of one class: a list, front first.
-//!
-//! An allocation takes the front, and a slot that comes back becomes the front. A list that is longer than its class's
-//! limit keeps the first half of the limit, and the rest goes back to the root.
+//! A thread's cache of the free slots of one class, whose list is a chain: each slot has the link to the next one in its
+//! first content word, so that the cache takes no memory of its own.
 #![tactic(auto)]
 
 mod cache;
+mod laws;
 
 pub use cache::Cache;
+pub use laws::{lists_stay, other_lists_stay};

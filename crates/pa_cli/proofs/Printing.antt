@@ -18,11 +18,11 @@ use Rattle.pa_one_run.specs.Laws.{OneThreadInFileOrder}
 use Rattle.pa_core_run.specs.Playing.{HasCoreRun}
 use Rattle.pa_script.specs.declared.script.Script.{Script}
 use Rattle.pa_resize.specs.declared.verdict.Verdict.{Verdict}
-use Rattle.pa_resize.specs.Expansion.{IsExpanded}
+use Rattle.pa_resize.specs.Expansion.{IsExpanded, IsInputExpanded}
 use Rattle.pa_runner.specs.Whole.{IsHeldRun}
 use Rattle.pa_model.specs.Played.{IsInputPlayed}
 use Rattle.pa_cli.specs.Call.{Stream, IsRead}
-use Rattle.pa_cli.specs.Output.{output_with, IsReplayedAs, IsModelOutput, IsGenOutput, IsPairsText, IsResizeText, IsVerdictsText}
+use Rattle.pa_cli.specs.Output.{output_with, IsReplayedAs, IsModelOutput, IsGenOutput, IsPairsText, IsResizeOutput, IsVerdictsText}
 use Rattle.pa_cli.specs.VerdictsText.{verdict_line}
 use Rattle.pa_cli.proofs.Refusing.{read_whole}
 
@@ -49,6 +49,7 @@ run_replayed t r words text limits one_thread played printed = record {
     ordered = played.ordered;
     held = played.held;
     lists = played.lists;
+    spans = played.spans;
     long = played.long;
     printed = printed;
     alone = λ one. one_thread t r limits one played.legal;
@@ -69,6 +70,7 @@ run_summed rounds key t r words text generated played printed = record {
   ordered = played.ordered;
   held = played.held;
   lists = played.lists;
+  spans = played.spans;
   long = played.long;
   printed = printed;
 }
@@ -86,20 +88,26 @@ pairs_printed t r report pairs freed slots left text written same sum found is p
 }
 
 -- what is written of a script that was played is the output of `resize`
-pub script_resized : (s : Script) (t : Trace) (r : Run) (vs : List (ℕ × Verdict)) (front back : List ℕ) → IsExpanded s t r vs → HasCoreRun t r
-    → IsWithinLimits t → IsTraceText t front → length front ≤ most_bytes → IsRunText r back → IsResizeText s (front ++ back)
-script_resized s t r vs front back expanded core limits traced short printed = record {
-  trace = t;
-  run = r;
-  verdicts = vs;
-  expanded = expanded;
-  core = core;
-  front = front;
-  back = back;
-  traced = record { limits = limits; text = traced; short = short };
-  printed = printed;
-  parts = refl;
-}
+pub script_printed : (bytes front back : List ℕ) (before after : Stream) → IsRead most_bytes before after bytes → IsInputExpanded bytes front back
+    → IsResizeOutput before after (front ++ back)
+script_printed bytes front back before after read is =
+    let e = is.expanded in
+    record {
+      script = is.script;
+      read = record { bytes = bytes; read = read_whole most_bytes bytes before after read is.input.short; input = is.input };
+      played = record {
+        trace = e.trace;
+        run = e.run;
+        verdicts = e.verdicts;
+        expanded = e.expanded;
+        core = e.core;
+        front = front;
+        back = back;
+        traced = e.traced;
+        printed = e.printed;
+        parts = refl;
+      };
+    }
 
 -- what is written of its verdicts is the output of `verdicts`
 pub script_verdicts : (s : Script) (t : Trace) (r : Run) (vs shown : List (ℕ × Verdict)) (start lines whole text : List ℕ) → IsExpanded s t r vs → HasCoreRun t r

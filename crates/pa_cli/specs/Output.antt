@@ -13,8 +13,9 @@ use Rattle.pa_script.specs.Limits.{IsScriptInput}
 use Rattle.pa_rules.specs.Told.{told_by}
 use Rattle.pa_rules.specs.Legal.{IsLegal, IsFileRun}
 use Rattle.pa_rules.specs.Held.{IsHeldIn}
-use Rattle.pa_timeline.specs.Timeline.{HasOutline}
+use Rattle.pa_timeline.specs.Timeline.{HasTimeline}
 use Rattle.pa_runner.specs.Linked.{HasLinkedLists}
+use Rattle.pa_runner.specs.Recorded.{HasSpanRecords}
 use Rattle.pa_core_run.specs.Playing.{HasCoreRun}
 use Rattle.pa_summary.specs.SummaryText.{sums_at_end, summary_text}
 use Rattle.pa_dangle.specs.declared.found.Pair.{Pair}
@@ -53,15 +54,17 @@ pub record IsTraceRead (trace : Trace) (before after : Stream) : Type 0 where
   pub read : IsReadWhole most_bytes before after bytes
   pub input : IsInput trace bytes
 
--- The run is a legal run of the trace, and the closed region holds it, whose words are those of its super pages. All its steps but the
--- poisonings stand in one order in which it could have been played, one step after another: each number, list and cell was found as the
--- steps before left it. The words have the threads' lists, each linked through its free slots. The text is that of this run. If the
+-- The run is a legal run of the trace, and the closed region holds it, whose words are those of its super pages. All its steps stand in
+-- one order in which it could have been played, one step after another: each number, list and cell was found as the steps before left it,
+-- and each read gave what stood there. The words have the threads' lists, each linked through its free slots, and each partition's spans
+-- as its journal replays: their records in the metadata pages, and their free slots, linked too. The text is that of this run. If the
 -- trace has one thread, it is the sequential run, in the order of the lines.
 pub record IsReplayText (trace : Trace) (run : Run) (words text : List ℕ) : Type 0 where
   pub legal : IsLegal trace run
-  pub ordered : HasOutline trace (told_by run)
+  pub ordered : HasTimeline trace (told_by run)
   pub held : IsHeldIn trace (told_by run) words
   pub lists : HasLinkedLists trace (told_by run) words
+  pub spans : HasSpanRecords (told_by run) words
   pub long : length words ≡ 262144 * trace.region
   pub printed : IsRunText run text
   pub alone : trace.threads ≡ 1 → IsFileRun trace run
@@ -169,8 +172,8 @@ pub record IsGeneratedText (rounds key : ℕ) (text : List ℕ) : Type 0 where
   pub printed : IsTraceText trace text
 
 -- The output of `gen`: the text is the summary of a run of the trace generated from this number of rounds and this key. The run is a legal
--- run of that trace, all its steps but the poisonings stand in one order as those of `replay` do, and the region that was closed after it
--- holds it, whose words are those of its super pages and have the threads' lists.
+-- run of that trace, all its steps stand in one order as those of `replay` do, and the region that was closed after it holds it, whose
+-- words are those of its super pages and have the threads' lists and each partition's spans.
 pub record IsGenOutput (rounds key : ℕ) (out : Output) : Type 0 where
   pub trace : Trace
   pub run : Run
@@ -179,9 +182,10 @@ pub record IsGenOutput (rounds key : ℕ) (out : Output) : Type 0 where
   pub has_run : out.run ≡ Some run
   pub has_region : out.region ≡ Some words
   pub legal : IsLegal trace run
-  pub ordered : HasOutline trace (told_by run)
+  pub ordered : HasTimeline trace (told_by run)
   pub held : IsHeldIn trace (told_by run) words
   pub lists : HasLinkedLists trace (told_by run) words
+  pub spans : HasSpanRecords (told_by run) words
   pub long : length words ≡ 262144 * trace.region
   pub printed : out.text ≡ summary_text rounds key run
 

@@ -5,7 +5,7 @@ ghost use Rattle.pa_script.specs.Limits.{IsScriptWithin};
 ghost use Rattle.pa_cli.specs.Call.{stream_of};
 ghost use Rattle.pa_cli.specs.Command.{ReadsScript, needing};
 ghost use Rattle.pa_cli.specs.Cause.{IsRefusal};
-ghost use Rattle.pa_cli.specs.Output.{IsScriptRead, IsResizeText, IsVerdictsText, IsResizeOutput, IsVerdictsOutput};
+ghost use Rattle.pa_cli.specs.Output.{IsScriptRead, IsVerdictsText, IsResizeOutput, IsVerdictsOutput};
 ghost use Rattle.pa_cli.specs.PrintedText.{printed_bytes};
 ghost use Rattle.pa_cli.specs.VerdictsText.{resize_word, verdict_line};
 
@@ -14,14 +14,14 @@ use crate::printed::Printed;
 use crate::status::Status;
 use pa_io::Source;
 use pa_machine::OutOfMemory;
-use pa_resize::{Verdict, expand, expand_text};
+use pa_resize::{Verdict, expand, expand_input};
 use pa_script::{Script, read_script};
 use pa_text::{Text, push_byte, push_bytes, push_number};
-use pa_trace::{MOST_BYTES, write_trace};
+use pa_trace::MOST_BYTES;
 use std::alloc::Global;
 
 // The output of `resize`.
-#[tactic(auto, using(crate::proofs::Refusing::script_stopped))]
+#[tactic(auto, using(crate::proofs::Refusing::script_refused))]
 pub fn resize<S: Source>(alloc: Global, source: &mut S) -> Result<Printed, Status>
     ensures text { IfOk result (λ text. IsResizeOutput
         (stream_of (S.left source.old) (S.faults source.old))
@@ -30,8 +30,9 @@ pub fn resize<S: Source>(alloc: Global, source: &mut S) -> Result<Printed, Statu
         (stream_of (S.left source.old) (S.faults source.old))
         (stream_of (S.left source.new) (S.faults source.new))) }
 {
-    let script = script_of(alloc, source)?;
-    Ok(write_resized(alloc, &script)?)
+    let input = read_input(alloc, source, MOST_BYTES)?;
+    let expanded = expand_input(alloc, input.as_slice())?;
+    Ok(Printed::Parts(expanded.trace, expanded.run))
 }
 
 // The output of `verdicts`.
@@ -60,16 +61,6 @@ fn script_of<S: Source>(alloc: Global, source: &mut S) -> Result<Script, Status>
 {
     let input = read_input(alloc, source, MOST_BYTES)?;
     Ok(read_script(alloc, input.as_slice())?)
-}
-
-// The text of the trace that the script comes to, and after it that of its run.
-fn write_resized(alloc: Global, script: &Script) -> Result<Printed, OutOfMemory>
-    requires { IsScriptWithin script.now }
-    ensures { IfOk result (λ text. IsResizeText script.now (printed_bytes text)) }
-{
-    let expanded = expand_text(alloc, script)?;
-    let trace = write_trace(alloc, &expanded.trace)?;
-    Ok(Printed::Parts(trace, expanded.run))
 }
 
 // The text of what each resize of the script comes to.

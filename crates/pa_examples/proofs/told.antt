@@ -16,6 +16,7 @@ pub mod Ordered
 pub mod Otherwise
 pub mod PhaseEnds
 pub mod Played
+pub mod Poisonings
 pub mod Purge
 pub mod PurgeClosed
 pub mod PurgeSaid

@@ -6,5 +6,6 @@ pub mod WorkedHeld
 pub mod WorkedKnown
 pub mod WorkedEarly
 pub mod WorkedPlayed
+pub mod WorkedOrder
 pub mod WrongRuns
 pub mod told

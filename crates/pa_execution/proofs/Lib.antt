@@ -14,4 +14,4 @@ pub mod Adding
 pub mod Lining
 pub mod Growing
 pub mod Gathering
-pub mod Outlining
+pub mod Timing

@@ -5,13 +5,14 @@ use Rattle.pa_trace.specs.Limits.{IsWithinLimits, most_partitions}
 use Rattle.pa_record.specs.declared.report.ReportLine.{ReportLine}
 use Rattle.pa_region.specs.declared.view.View.{View}
 use Rattle.pa_region.specs.Lists.{list_of}
+use Rattle.pa_region.specs.Waiting.{unclean_of}
 use Rattle.pa_rules.specs.Played.{entry_of}
 use Rattle.pa_rules.specs.Legal.{phases_in}
 use Rattle.pa_rules.specs.Told.{Told}
 use Rattle.pa_logs.specs.Told.{played_in, is_of_thread, told_until}
 use Rattle.pa_logs.specs.Standing.{OnlyUnmapsUncut}
 use Rattle.pa_logs.specs.Said.{RunnerSays, PoolTells, RootsTell, CellsTell, HeapTells, IsLineSaid, LayersSay}
-use Rattle.pa_timeline.specs.Timeline.{HasOutline}
+use Rattle.pa_timeline.specs.Timeline.{HasTimeline}
 use Rattle.pa_cells.specs.Cells.{Exchange}
 use Rattle.pa_execution.specs.Courses.{Course, IsCourse, Closes}
 use Rattle.pa_execution.specs.Merged.{told_in, lists_at, swaps_of, IsLeftBehind}
@@ -69,9 +70,9 @@ CoursesTellAll =
     ((l : ReportLine) → Contains r.report l → IsLineSaid t r v (told_in t c) (lists_at t c l.phase) (c.seats l.phase) l) →
     LayersSay t r v (told_in t c)
 
--- Then the run has an outline.
-abbrev pub CoursesTellOutline : Type 0
-CoursesTellOutline =
+-- Then the run has a timeline, if the closing seat has no Own that isn't clean.
+abbrev pub CoursesTellTimeline : Type 0
+CoursesTellTimeline =
     (t : Trace) (r : Told) (c : Course) (v : View) (xs : List Exchange) → IsWholeRun t r c v xs →
     ((l : ReportLine) → Contains r.report l → IsLineSaid t r v (told_in t c) (lists_at t c l.phase) (c.seats l.phase) l) →
-    HasOutline t r
+    unclean_of v ≡ 0 → HasTimeline t r

@@ -4,7 +4,7 @@ ghost use Rattle.pa_execution.specs.Lines.{CoursesTellLines};
 ghost use Rattle.pa_execution.specs.Gathering.{WorkersTell, WorkersHear};
 ghost use Rattle.pa_execution.specs.Growing.{CoursesGrow};
 ghost use Rattle.pa_execution.specs.Telling.{CoursesTellAll, CoursesTellCells, CoursesTellHeap};
-ghost use Rattle.pa_execution.specs.Telling.{CoursesTellOutline, CoursesTellPool, CoursesTellRoots, CoursesTellRunner};
+ghost use Rattle.pa_execution.specs.Telling.{CoursesTellPool, CoursesTellRoots, CoursesTellRunner, CoursesTellTimeline};
 ghost use Rattle.pa_execution.specs.Telling.{CoursesLeaveNonePast, WorkersHaveTheirs};
 
 /// In an execution the ops of workers meet their obligations.
@@ -37,10 +37,10 @@ pub fn courses_tell_all()
     ensures { CoursesTellAll }
 {}
 
-/// An execution with a right report has an outline: all its steps but the poisonings stand in one order, in which each found what the
-/// steps before it left.
-pub fn courses_tell_outline()
-    ensures { CoursesTellOutline }
+/// An execution with a right report has a timeline, if the closing seat has no Own that isn't clean: all its steps stand in one order, in
+/// which each found what the steps before it left, and each read gave what stood there.
+pub fn courses_tell_timeline()
+    ensures { CoursesTellTimeline }
 {}
 
 /// A line of the report is right if it is what the workers counted and have cached, what was added to the totals words, and a root's

@@ -23,6 +23,8 @@ use Rattle.pa_region.specs.Waiting.{unclean_of}
 use Rattle.pa_region.specs.Aware.{IsAware}
 use Rattle.pa_region.specs.Ends.{IsEnd}
 use Rattle.pa_region.specs.Lists.{list_of}
+use Rattle.pa_records.specs.Records.{HasSpans, AreSpansIn}
+use Rattle.pa_records.proofs.Keeping.{spans_stay}
 use Rattle.pa_rules.specs.Cells.{IsChain}
 use Rattle.pa_legal.specs.Numbers.{moves_of, IsNumbered}
 use Rattle.pa_logs.specs.Listed.{IsJournalOf, IsPoolList}
@@ -31,6 +33,7 @@ use Rattle.pa_cells.specs.Cells.{Exchange, AreExchanges, cell_history}
 use Rattle.pa_heap.specs.declared.left.Left.{Left}
 use Rattle.pa_op_specs.specs.Workers.{WorkerValue}
 use Rattle.pa_heap.specs.Closing.{TakesOthersIn, LeavesPool, LeavesRoot, LeavesCells, LeavesWorker, LeavesLists, IsClosedBy, journal_left, root_left}
+use Rattle.pa_heap.proofs.Recorded.{keeps_spans}
 use Rattle.pa_heap.proofs.TakingIn.{takes_on, pool_on, root_on, worker_on}
 
 -- the pool's list is its entries, and they are those of its super pages
@@ -136,6 +139,14 @@ slots_left words l v p u law pool roots made stays = elim (cases_lt p 4) [
     no_slot : IsMade new_root u → 0 < free_of v u
     no_slot made = let below : made.1.0 < 0 = made.1.1 in absurd (omega arith)
 
+-- and the words of the region have each root, as its journal replays
+pub spans_left : (words : ℕ) (l : Left) (v : View) → JournalsFitPool → LeavesPool words l.pool.items v → LeavesRoots l v → IsEnd l.region v →
+    AreSpansIn l.pool.items (journal_left l) l.region
+spans_left words l v law pool roots ends p below =
+    let left = root_of l v p roots below in
+    subst (λ (r : Root). HasSpans l.region r) (root_fits p (journal_left l p) l.pool.items v law (pool_list words l.pool.items v pool) left).1
+    (spans_stay left.root.view.words l.region left.root.root (keeps_spans p left.root left.kept v l.region left.within ends) left.spans)
+
 -- a seat that has every stake still has it after it takes in more; and what it took in, all together
 pub every_on : (v w : View) → TakesOthersIn v w → HasEveryStake v → HasEveryStake w
 every_on v w takes every k below = let has = every k below in let same = takes.stakes k in omega arith
@@ -177,6 +188,7 @@ closed_by words told seat a b c d e f last l first second third fourth are law e
       ends = ends;
       long = long;
       lists = lists_left words l last law pool_there roots cells;
+      spans = spans_left words l last law pool_there roots ends;
       rooted = λ p u. slots_left words l last p u law pool_there roots;
       workers = All-weaker (LeavesWorker a) (LeavesWorker last) (λ w there. worker_on a last there from_a.within) told workers;
       clean = all.clean ∙ clean;

@@ -12,6 +12,7 @@ pub mod Exchanged
 pub mod Undone
 pub mod TakingIn
 pub mod Closed
+pub mod Recorded
 pub mod Given
 pub mod Unmapping
 pub mod Settling

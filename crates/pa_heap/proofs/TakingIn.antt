@@ -17,6 +17,8 @@ use Rattle.pa_region.specs.Lists.{list_of}
 use Rattle.pa_region.specs.Hands.{united}
 use Rattle.pa_region.specs.Aware.{IsAware}
 use Rattle.pa_region.specs.Lending.{CanHost}
+use Rattle.pa_region.proofs.HandStep.{knows_less}
+use Rattle.pa_region.proofs.JoinStep.{united_parts}
 use Rattle.pa_region.proofs.LendBack.{begins_on}
 use Rattle.pa_region.proofs.SeenJoin.{seen_left, seen_right}
 use Rattle.pa_region.proofs.TakeLaws.{left_begins, right_begins, left_known, right_known, left_whole, right_whole}
@@ -31,7 +33,7 @@ within_same v = record {
   lists = λ k. ([], sym (append-nil (list_of k v)));
   own_lists = λ k has. refl;
   seen = λ t. omega arith;
-  firsts = λ n t well free. refl;
+  known = λ q knows. (knows, refl);
 }
 
 pub within_on : (u v w : View) → IsWithin u v → IsWithin v w → IsWithin u w
@@ -41,7 +43,7 @@ within_on u v w a b = record {
   lists = λ k. begins_on (list_of k u) (list_of k v) (list_of k w) (a.lists k) (b.lists k);
   own_lists = λ k has. let e = a.keepers k in b.own_lists k (omega arith) ∙ a.own_lists k has;
   seen = λ t. let e = a.seen t in let f = b.seen t in omega arith;
-  firsts = λ n t well free. b.firsts n t well (let e = a.frees t in omega arith) ∙ a.firsts n t well free;
+  known = λ q knows. let (here, is) = a.known q knows in let (there, same) = b.known q here in (there, same ∙ is);
 }
 
 pub takes_none : (v : View) → TakesOthersIn v v
@@ -69,7 +71,8 @@ left_within v w aware both long = record {
   lists = λ k. left_begins v w k both;
   own_lists = λ k has. left_whole v w k aware both has;
   seen = λ t. seen_left t v.seen w.seen;
-  firsts = λ n t well free. left_known v w (t.start / 8) long (first_known n v t well free);
+  known = λ q knows.
+      (knows_less (united v w) v q (λ x. let e = (united_parts v w).things x in omega arith) knows, left_known v w q long knows);
 }
 
 pub right_within : (v w : View) → IsAware w → IsAware (united v w) → length v.words ≡ length w.words → IsWithin w (united v w)
@@ -79,7 +82,8 @@ right_within v w aware both long = record {
   lists = λ k. right_begins v w k both;
   own_lists = λ k has. right_whole v w k aware both has;
   seen = λ t. seen_right t v.seen w.seen;
-  firsts = λ n t well free. right_known v w (t.start / 8) both long (first_known n w t well free);
+  known = λ q knows.
+      (knows_less (united v w) w q (λ x. let e = (united_parts v w).things x in omega arith) knows, right_known v w q both long knows);
 }
 
 -- so a note without stakes is taken in
@@ -106,7 +110,7 @@ pool_on words v w left on =
 
 pub root_on : (p : ℕ) (v w : View) → {es : _} → LeavesRoot p es v → IsWithin v w → LeavesRoot p es w
 root_on p v w left on =
-    record { root = left.root; journal_is = left.journal_is; kept = left.kept; within = within_on left.root.view v w left.within on }
+    record { root = left.root; journal_is = left.journal_is; kept = left.kept; spans = left.spans; within = within_on left.root.view v w left.within on }
 
 pub worker_on : (v w : View) → {x : _} → LeavesWorker v x → IsWithin v w → LeavesWorker w x
 worker_on v w {x} left on = record { stock = left.stock; links = left.links; within = within_on x.stock.view v w left.within on }

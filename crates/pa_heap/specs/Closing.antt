@@ -1,8 +1,7 @@
 -- What a heap leaves when it is closed: one seat has what its parts had, and what they made is listed.
-use Rattle.std.specs.Prelude.{◌≡◌, ℕ, ◌*◌, ◌<◌, ◌≤◌, List, [], length, slice_index_or, All}
+use Rattle.std.specs.Prelude.{◌≡◌, ℕ, ◌*◌, ◌<◌, ◌≤◌, List, [], length, slice_index, slice_index_or, All}
 use Rattle.pa_machine.specs.declared.title.Title.{Title}
-use Rattle.pa_machine.specs.Titles.{IsWellFormed}
-use Rattle.pa_machine.specs.Links.{AreLinked, first_word}
+use Rattle.pa_machine.specs.Links.{AreLinked}
 use Rattle.pa_record.specs.declared.history.CellEntry.{CellEntry}
 use Rattle.pa_record.specs.declared.history.Held.TheVariants.{Nothing}
 use Rattle.pa_record.specs.declared.pool.PoolEntry.{PoolEntry}
@@ -14,12 +13,13 @@ use Rattle.pa_record.specs.Sound.{IsMade}
 use Rattle.pa_record.specs.Spans.{name_of}
 use Rattle.pa_trace.specs.Limits.{cell_count, most_partitions}
 use Rattle.pa_region.specs.declared.view.View.{View}
-use Rattle.pa_region.specs.Views.{free_of, seen_of, stake_of, HasEveryStake}
+use Rattle.pa_region.specs.Views.{Knows, free_of, seen_of, stake_of, HasEveryStake}
 use Rattle.pa_region.specs.Waiting.{unclean_of}
 use Rattle.pa_region.specs.Lists.{keeper_of, list_of, IsBeginning}
 use Rattle.pa_region.specs.Takes.{log_of}
 use Rattle.pa_region.specs.Aware.{IsAware}
 use Rattle.pa_region.specs.Ends.{IsEnd}
+use Rattle.pa_records.specs.Records.{HasSpans, AreSpansIn}
 use Rattle.pa_rules.specs.Cells.{IsChain}
 use Rattle.pa_legal.specs.Numbers.{AreNumbered}
 use Rattle.pa_logs.specs.Listed.{IsJournalOf, IsPoolList}
@@ -32,15 +32,14 @@ use Rattle.pa_op_specs.specs.Stocks.{IsStock, titles_in}
 use Rattle.pa_op_specs.specs.Workers.{WorkerValue}
 
 -- The view `whole` has each free title and each keeper that `part` has. It has seen all that `part` has seen, of the lists of
--- those keepers no more, and it has the same first word of each of those titles.
+-- those keepers no more, and it knows each word that `part` knows.
 pub record IsWithin (part whole : View) : Type 0 where
   pub frees : (t : Title) → free_of part t ≤ free_of whole t
   pub keepers : (k : ℕ) → keeper_of part k ≤ keeper_of whole k
   pub lists : (k : ℕ) → IsBeginning (list_of k part) (list_of k whole)
   pub own_lists : (k : ℕ) → 0 < keeper_of part k → list_of k whole ≡ list_of k part
   pub seen : (t : Title) → seen_of part t ≤ seen_of whole t
-  pub firsts : (n : ℕ) (t : Title) → IsWellFormed n t → 0 < free_of part t →
-      first_word whole.words (name_of t) ≡ first_word part.words (name_of t)
+  pub known : (q : ℕ) → Knows part q → Knows whole q × (slice_index whole.words q ≡ slice_index part.words q)
 
 -- A seat took in others that had no stake and no unclean Own: it has the same stakes, each with the same log.
 pub record TakesOthersIn (before after : View) : Type 0 where
@@ -57,11 +56,12 @@ pub record LeavesPool (words : ℕ) (entries : List PoolEntry) (after : View) : 
   pub kept : IsPoolKept pool
   pub within : IsWithin pool.view after
 
--- This is the journal of the root of partition p, and the root's seat was taken in.
+-- This is the journal of the root of partition p, and the root's seat was taken in. The words that this knew have the root.
 pub record LeavesRoot (p : ℕ) (journal : List RootEntry) (after : View) : Type 0 where
   pub root : RootState
   pub journal_is : root.journal ≡ journal
   pub kept : IsRootSound p root
+  pub spans : HasSpans root.view.words root.root
   pub within : IsWithin root.view after
 
 -- These are the histories of the cells, and the cells' seat was taken in.
@@ -113,8 +113,8 @@ pub record LeavesLists (words : ℕ) (last : View) (left : Left) : Type 0 where
 --   last: the view of the seat at the end, into which all others were taken
 --   aware, every, logs, within: it has every stake with the log that the seat had, and has seen what the seat had
 --   ends, long: the region's words are what it knows of them
---   lists: what is left says what it has seen
 --   lists: what is left agrees with what it has seen
+--   spans: the words have each root, as its journal replays
 --   workers: what each worker had was taken in too
 --   clean: each of its Owns is clean
 pub record IsClosedBy (words : ℕ) (told : List WorkerValue) (seat : View) (left : Left) : Type 0 where
@@ -126,6 +126,7 @@ pub record IsClosedBy (words : ℕ) (told : List WorkerValue) (seat : View) (lef
   pub ends : IsEnd left.region last
   pub long : length left.region ≡ words
   pub lists : LeavesLists words last left
+  pub spans : AreSpansIn left.pool.items (journal_left left) left.region
   pub rooted : (p : ℕ) (u : Title) → IsMade (root_left left p) u → (IsNameOut (root_left left p) (name_of u) → ⊥) → 0 < free_of last u
   pub workers : All (LeavesWorker last) told
   pub clean : unclean_of last ≡ 0

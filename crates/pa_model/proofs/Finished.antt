@@ -2,6 +2,7 @@
 use Rattle.std.proofs.Common.{◌≡◌, ℕ, List, [], refl, sym, ap, subst, arith}
 use Rattle.std.proofs.lemmas.List.{append-nil}
 use Rattle.pa_trace.specs.declared.script.Trace.{Trace}
+use Rattle.pa_trace.specs.Grammar.{IsTraceText}
 use Rattle.pa_record.specs.declared.run.Run.{Run}
 use Rattle.pa_rules.specs.Told.{told_by, records_of}
 use Rattle.pa_player.specs.Asks.{CanEnd}
@@ -16,7 +17,7 @@ use Rattle.pa_model.proofs.AllTold.{all_told}
 pub can_end : (p : Player) → IsGoing p → CanEnd p.inner
 can_end p going =
     let few = going.within.few in
-    end_ready p.head.region p.head.partitions p.head.threads p.lines.items p.inner (omega (arith, few)) going.playing
+    end_ready p.lines.head.region p.lines.head.partitions p.lines.head.threads p.lines.items p.inner (omega (arith, few)) going.playing
 
 pub finishes : (p : Player) (run : Run) → IsGoing p → IsToldRun (phase_ended p.inner).told run → IsFinished p (trace_so_far p) run
 finishes p run going told =
@@ -38,5 +39,6 @@ finishes p run going told =
       goes_on = subst (λ ps. GoesOnFrom p ps (told_by run)) (sym records) (subst (GoesOnFrom p (records_so_far p)) (sym is) on);
     }
 
-pub is_printed : (p : Player) (text : List ℕ) → IsGoing p → IsToldText (phase_ended p.inner).told text → IsPrinted p (trace_so_far p) text
-is_printed p text going is = record { run = is.run; finished = finishes p is.run going is.lists; printed = is.text }
+pub is_printed : (p : Player) (front text : List ℕ) → IsGoing p → IsTraceText (trace_so_far p) front → IsToldText (phase_ended p.inner).told text
+    → IsPrinted p front text
+is_printed p front text going traced is = record { run = is.run; finished = finishes p is.run going is.lists; traced = traced; printed = is.text }

@@ -24,7 +24,7 @@ use Rattle.pa_model.specs.Player.{Player, records_so_far, WasPlayed, IsGoing, Is
 -- ---- before the first line
 
 pub begins_new : (head : Head) (p : Player) → IsHeadWithin head.region head.partitions head.threads → IsBegun head.region head.partitions head.threads p.inner
-    → p.head ≡ head → p.lines.items ≡ [] → IsNew head p
+    → p.lines.head ≡ head → p.lines.items ≡ [] → IsNew head p
 begins_new head p within begun at none =
     let start : WasPlayed head [] p.inner = record {
       within = record { head = within; lines = tt; few = omega arith };
@@ -39,7 +39,7 @@ begins_new head p within begun at none =
 
 -- ---- the records so far
 
-pub records_are : (p : Player) → (h : IsPlaying p.head.region p.head.partitions p.head.threads p.lines.items p.inner) → records_so_far p ≡ h.ps
+pub records_are : (p : Player) → (h : IsPlaying p.lines.head.region p.lines.head.partitions p.lines.head.threads p.lines.items p.inner) → records_so_far p ≡ h.ps
 records_are p h = ap (played p.lines.items) (sym h.entries) ∙ records_are_lines.same p.lines.items h.ps h.told.lines
 
 -- a line that begins a phase is no op line
@@ -63,26 +63,26 @@ all_push P (x ∷ ls) l h last = (h.0, all_push P ls l h.1 last)
 
 -- ---- a line more
 
-module _ (p q : Player) (line : Line) (going : IsGoing p) (few : length p.lines.items < 65535) (within : IsLineWithin p.head.partitions p.head.threads line) where
-  can_go_on : CanGoOn p.head.region p.head.partitions p.head.threads p.lines.items line p.inner
+module _ (p q : Player) (line : Line) (going : IsGoing p) (few : length p.lines.items < 65535) (within : IsLineWithin p.lines.head.partitions p.lines.head.threads line) where
+  can_go_on : CanGoOn p.lines.head.region p.lines.head.partitions p.lines.head.threads p.lines.items line p.inner
   can_go_on = record { playing = going.playing; short = few; within = within; head = going.within.head }
 
   pub ready : IsReady line p.inner
-  ready = record { region = p.head.region; partitions = p.head.partitions; threads = p.head.threads; ls = p.lines.items; can = can_go_on }
+  ready = record { region = p.lines.head.region; partitions = p.lines.head.partitions; threads = p.lines.head.threads; ls = p.lines.items; can = can_go_on }
 
-  module _ (at : q.head ≡ p.head) (pushed : q.lines.items ≡ p.lines.items ++ line ∷ []) where
-    still_going : IsPlaying p.head.region p.head.partitions p.head.threads (p.lines.items ++ line ∷ []) q.inner → IsGoing q
+  module _ (at : q.lines.head ≡ p.lines.head) (pushed : q.lines.items ≡ p.lines.items ++ line ∷ []) where
+    still_going : IsPlaying p.lines.head.region p.lines.head.partitions p.lines.head.threads (p.lines.items ++ line ∷ []) q.inner → IsGoing q
     still_going playing =
         let old = going.within in
-        let next : WasPlayed p.head (p.lines.items ++ line ∷ []) q.inner = record {
+        let next : WasPlayed p.lines.head (p.lines.items ++ line ∷ []) q.inner = record {
           within = record {
             head = old.head;
-            lines = all_push (IsLineWithin p.head.partitions p.head.threads) p.lines.items line old.lines within;
+            lines = all_push (IsLineWithin p.lines.head.partitions p.lines.head.threads) p.lines.items line old.lines within;
             few = omega (arith, few, length_push p.lines.items line);
           };
           playing = playing;
         } in
-        subst (λ h. WasPlayed h q.lines.items q.inner) (sym at) (subst (λ ls. WasPlayed p.head ls q.inner) (sym pushed) next)
+        subst (λ h. WasPlayed h q.lines.items q.inner) (sym at) (subst (λ ls. WasPlayed p.lines.head ls q.inner) (sym pushed) next)
 
     later : (added : List Played) (es : List Entry) → records_so_far q ≡ records_so_far p ++ added → TellsOn es p.inner q.inner → IsLater p q
     later added es more tells ps r on = record {
@@ -100,7 +100,7 @@ module _ (p q : Player) (line : Line) (going : IsGoing p) (few : length p.lines.
           (a.0 ++ b.0, b.1 ∙ ap (λ xs. xs ++ b.0) a.1 ∙ append_assoc (history_in p.inner.told k) a.0 b.0);
     }
 
-    plays : (answer : Option Answer) (added : List Played) (es : List Entry) → IsPlaying p.head.region p.head.partitions p.head.threads (p.lines.items ++ line ∷ []) q.inner
+    plays : (answer : Option Answer) (added : List Played) (es : List Entry) → IsPlaying p.lines.head.region p.lines.head.partitions p.lines.head.threads (p.lines.items ++ line ∷ []) q.inner
         → TellsOn es p.inner q.inner → IsRecorded (length p.lines.items + 2) (phases_in p.lines.items) line answer added
         → map entry_of added ≡ es → AreLines (p.lines.items ++ line ∷ []) (going.playing.ps ++ added) → PlaysLine p line answer q
     plays answer added es playing tells recorded last lines =
@@ -120,10 +120,10 @@ module _ (p q : Player) (line : Line) (going : IsGoing p) (few : length p.lines.
         }
 
 -- the line was played with this answer
-pub plays_line : (p q : Player) (line : Line) (answer : Option Answer) → IsGoing p → length p.lines.items < 65535 → IsLineWithin p.head.partitions p.head.threads line
-    → q.head ≡ p.head → q.lines.items ≡ p.lines.items ++ line ∷ [] → GoesTo p.inner line answer q.inner → PlaysLine p line answer q
+pub plays_line : (p q : Player) (line : Line) (answer : Option Answer) → IsGoing p → length p.lines.items < 65535 → IsLineWithin p.lines.head.partitions p.lines.head.threads line
+    → q.lines.head ≡ p.lines.head → q.lines.items ≡ p.lines.items ++ line ∷ [] → GoesTo p.inner line answer q.inner → PlaysLine p line answer q
 plays_line p q Phase None going few within at pushed goes =
-    let to = goes p.head.region p.head.partitions p.head.threads p.lines.items (can_go_on p q Phase going few within) in
+    let to = goes p.lines.head.region p.lines.head.partitions p.lines.head.threads p.lines.items (can_go_on p q Phase going few within) in
     let old = going.playing in
     let lines : AreLines (p.lines.items ++ Phase ∷ []) (old.ps ++ []) =
     subst (λ xs. AreLines (p.lines.items ++ Phase ∷ []) xs) (sym (append-nil old.ps)) (old.told.lines ∙ sym (no_op 2 1 p.lines.items)) in
@@ -131,7 +131,7 @@ plays_line p q Phase None going few within at pushed goes =
 plays_line p q Phase (Some answer) going few within at pushed goes = absurd goes
 plays_line p q (Do thread op) None going few within at pushed goes = absurd goes
 plays_line p q (Do thread op) (Some answer) going few within at pushed goes =
-    let to = goes p.head.region p.head.partitions p.head.threads p.lines.items (can_go_on p q (Do thread op) going few within) in
+    let to = goes p.lines.head.region p.lines.head.partitions p.lines.head.threads p.lines.items (can_go_on p q (Do thread op) going few within) in
     let old = going.playing in
     let x : Played = played_at p.lines.items thread op answer in
     let e : ℕ → List Entry = λ n. record { line = n; thread = thread; answer = answer } ∷ [] in

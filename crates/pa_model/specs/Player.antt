@@ -7,7 +7,9 @@ use Rattle.pa_trace.specs.declared.script.Line.TheVariants.{Phase, Do}
 use Rattle.pa_trace.specs.declared.script.Op.TheVariants.{Read}
 use Rattle.pa_trace.specs.declared.script.Trace.{Trace}
 use Rattle.pa_trace.specs.Limits.{IsWithinLimits}
+use Rattle.pa_trace.specs.Grammar.{IsTraceText}
 use Rattle.pa_trace.specs.Unread.{trace_with}
+use Rattle.pa_trace_writer.specs.Lines.{LinesSoFar}
 use Rattle.pa_record.specs.declared.entry.Seen.{Seen}
 use Rattle.pa_record.specs.declared.entry.Answer.{Answer}
 use Rattle.pa_record.specs.declared.entry.Answer.TheVariants.{Value}
@@ -35,13 +37,13 @@ use Rattle.pa_model.specs.declared.player.Player.{Player as PlayerTo}
 
 -- ---- what a player holds
 
--- a player, whose output is seen as lists
+-- a player: its output is seen as lists, and its lines as their head and their list
 abbrev pub Player : Type 0
-Player = PlayerTo Lists
+Player = PlayerTo Lists LinesSoFar
 
 -- the lines so far as a trace, and their records with the ops
 abbrev pub trace_so_far : Player → Trace
-trace_so_far p = trace_with p.head p.lines.items
+trace_so_far p = trace_with p.lines.head p.lines.items
 
 abbrev pub records_so_far : Player → List Played
 records_so_far p = played p.lines.items p.inner.told.entries
@@ -53,12 +55,12 @@ pub record WasPlayed (head : Head) (ls : List Line) (p : LinePlayer) : Type 0 wh
 
 -- no call refused, so the lines so far were played
 abbrev pub IsGoing : Player → Type 0
-IsGoing p = WasPlayed p.head p.lines.items p.inner
+IsGoing p = WasPlayed p.lines.head p.lines.items p.inner
 
 -- no line was played yet
 pub record IsNew (start : Head) (p : Player) : Type 0 where
   pub going : IsGoing p
-  pub head : p.head ≡ start
+  pub head : p.lines.head ≡ start
   pub lines : p.lines.items ≡ []
   pub records : records_so_far p ≡ []
 
@@ -88,7 +90,7 @@ IsRecorded line phase (Do thread op) (Some answer) added =
 -- The line was played, with this answer.
 pub record PlaysLine (p : Player) (line : Line) (answer : Option Answer) (q : Player) : Type 0 where
   pub going : IsGoing q
-  pub head : q.head ≡ p.head
+  pub head : q.lines.head ≡ p.lines.head
   pub lines : q.lines.items ≡ p.lines.items ++ line ∷ []
   pub added : List Played
   pub recorded : IsRecorded (length p.lines.items + 2) (phases_in p.lines.items) line answer added
@@ -147,8 +149,9 @@ pub record IsFinished (p : Player) (t : Trace) (run : Run) : Type 0 where
   pub records : records_of t (told_by run) ≡ records_so_far p
   pub goes_on : GoesOnFrom p (records_of t (told_by run)) (told_by run)
 
--- the text is that of such a run
-pub record IsPrinted (p : Player) (t : Trace) (text : List ℕ) : Type 0 where
+-- these are the text of the trace, and that of such a run
+pub record IsPrinted (p : Player) (front text : List ℕ) : Type 0 where
   pub run : Run
-  pub finished : IsFinished p t run
+  pub finished : IsFinished p (trace_so_far p) run
+  pub traced : IsTraceText (trace_so_far p) front
   pub printed : IsRunText run text

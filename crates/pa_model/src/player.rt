@@ -1,22 +1,23 @@
 ghost use Rattle.std.specs.Prelude.{◌≡◌, ◌<◌, IfOk, IfSome, length};
-ghost use Rattle.pa_trace.specs.Unread.{trace_with};
 ghost use Rattle.pa_trace.specs.Limits.{IsHeadWithin, IsLineWithin, register_count};
+ghost use Rattle.pa_trace_writer.specs.Lines.{no_lines};
 ghost use Rattle.pa_record.specs.declared.run.Run.{Run};
+ghost use Rattle.pa_player.specs.Begun.{IsUntold};
 ghost use Rattle.pa_model.specs.Player.{IsFinished, IsGoing, IsNew, IsPrinted, Owns, PlaysLine, ReadsOwned, owned_by, owned_of, trace_so_far};
 
 use pa_machine::{OutOfMemory, SlotName, Title};
 use pa_player::{ListOutput, Output, Player as LinePlayer, TextOutput, Told};
 use pa_record::{Answer, Run};
-use pa_trace::{Head, Line, Lines, Trace};
+use pa_trace::{Head, Line, Trace};
+use pa_trace_writer::{Keeper, Kept, LineList, LineText};
 use std::alloc::Global;
 
-/// A trace that is played line by line, by lines that a caller chooses as it goes. It keeps its lines. Its run is kept as lists, or
-/// printed as it is played.
+/// A trace that is played line by line, by lines that a caller chooses as it goes. Its lines and its run are kept as lists, or
+/// printed as it is played: `T` is what its run is told to, and `L` what its lines are given to.
 #[derive(Drop)]
-pub struct Player<T> {
+pub struct Player<T, L> {
     pub(crate) inner: LinePlayer<T>,
-    pub(crate) head: Head,
-    pub(crate) lines: Vec<Line>,
+    pub(crate) lines: L,
     pub(crate) alloc: Global,
 }
 
@@ -28,7 +29,7 @@ pub struct Handed {
     pub partition: u32,
 }
 
-impl Player<Told<ListOutput>> {
+impl Player<Told<ListOutput>, Kept<LineList>> {
     /// No line yet: `region` super pages, 1 to 16, `partitions`, 1 to 4, and `threads`, 1 to 16. Out of memory is the only
     /// error.
     pub fn new(
@@ -36,21 +37,17 @@ impl Player<Told<ListOutput>> {
         region: u32,
         partitions: u32,
         threads: u32,
-    ) -> Result<Player<Told<ListOutput>>, OutOfMemory>
+    ) -> Result<Player<Told<ListOutput>, Kept<LineList>>, OutOfMemory>
         requires { IsHeadWithin region partitions threads }
         ensures { IfOk result (IsNew (record { region = region; partitions = partitions; threads = threads })) }
     {
+        let head = Head {
+            region,
+            partitions,
+            threads,
+        };
         let told = Told::new(alloc, ListOutput::new(alloc, partitions, 0)?)?;
-        Ok(Player {
-            inner: LinePlayer::new(alloc, region, partitions, threads, told)?,
-            head: Head {
-                region,
-                partitions,
-                threads,
-            },
-            lines: Vec::new(alloc),
-            alloc,
-        })
+        begin(alloc, head, told, Kept::of(LineList::new(alloc, head)))
     }
 
     /// The run of the lines, in their order. Out of memory is the only error.
@@ -68,52 +65,54 @@ impl Player<Told<ListOutput>> {
         ensures { IfOk result (λ both. IsFinished self both.0 both.1) }
     {
         let run = self.inner.finish()?.into_run(self.alloc)?;
-        Ok((trace_of(self.head, self.lines), run))
+        Ok((self.lines.into_keeper().into_trace(), run))
     }
 }
 
-impl Player<Told<TextOutput>> {
-    /// No line yet, as in `new`, of a player that prints its run. Memory is reserved for the records of so many lines.
+impl Player<Told<TextOutput>, Kept<LineText>> {
+    /// No line yet, as in `new`, of a player that prints its lines and its run. Memory is reserved for so many lines and their
+    /// records.
     pub fn printing(
         alloc: Global,
         region: u32,
         partitions: u32,
         threads: u32,
         lines: usize,
-    ) -> Result<Player<Told<TextOutput>>, OutOfMemory>
+    ) -> Result<Player<Told<TextOutput>, Kept<LineText>>, OutOfMemory>
         requires { IsHeadWithin region partitions threads }
         ensures { IfOk result (IsNew (record { region = region; partitions = partitions; threads = threads })) }
     {
+        let head = Head {
+            region,
+            partitions,
+            threads,
+        };
         let told = Told::new(alloc, TextOutput::new(alloc, partitions, lines)?)?;
-        Ok(Player {
-            inner: LinePlayer::new(alloc, region, partitions, threads, told)?,
-            head: Head {
-                region,
-                partitions,
-                threads,
-            },
-            lines: Vec::new(alloc),
+        begin(
             alloc,
-        })
+            head,
+            told,
+            Kept::of(LineText::new(alloc, head, lines)?),
+        )
     }
 
-    /// The trace of the lines, and the text of its run, in their order. Out of memory is the only error.
-    pub fn finish_printed(self) -> Result<(Trace, Vec<u8>), OutOfMemory>
+    /// The text of the trace of the lines, and that of its run, in their order. Out of memory is the only error.
+    pub fn finish_printed(self) -> Result<(Vec<u8>, Vec<u8>), OutOfMemory>
         requires { IsGoing self }
-        ensures { IfOk result (λ both. IsPrinted self both.0 both.1.items) }
+        ensures { IfOk result (λ both. IsPrinted self both.0.items both.1.items) }
     {
         let run = self.inner.finish()?.into_text()?;
-        Ok((trace_of(self.head, self.lines), run))
+        Ok((self.lines.into_keeper().into_text(), run))
     }
 }
 
-impl<O: Output> Player<Told<O>> {
+impl<O: Output, K: Keeper> Player<Told<O>, Kept<K>> {
     /// Plays a line. Returns its answer, and none of a line that begins a phase. Out of memory is the only error; after it
     /// the player can't be used.
     pub fn line(&mut self, line: Line) -> Result<Option<Answer>, OutOfMemory>
         requires going { IsGoing self.old }
         requires few { length self.old.lines.items < 65535 }
-        requires within { IsLineWithin self.old.head.partitions self.old.head.threads line }
+        requires within { IsLineWithin self.old.lines.head.partitions self.old.lines.head.threads line }
         ensures played { IfOk result (λ answer. PlaysLine self.old line answer self.new) }
         ensures owned { IfOk result (ReadsOwned self.old line) }
     {
@@ -125,26 +124,33 @@ impl<O: Output> Player<Told<O>> {
     /// The slot that a register of a thread owns after the lines so far. `None` exactly if it owns none.
     pub fn own(&self, thread: u32, reg: u32) -> Option<Handed>
         requires going { IsGoing self.now }
-        requires thread { thread < self.now.head.threads }
+        requires thread { thread < self.now.lines.head.threads }
         requires reg { reg < register_count }
         ensures owned_by { result ≡ owned_by self.now thread reg }
         ensures owned { Owns self.now thread reg result }
-        ensures partition { IfSome result (λ h. h.partition < self.now.head.partitions) }
+        ensures partition { IfSome result (λ h. h.partition < self.now.lines.head.partitions) }
     {
         owned_by(self.inner.owned(thread, reg))
     }
 }
 
-// The trace with this head and these lines.
-fn trace_of(head: Head, lines: Vec<Line>) -> Trace
-    ensures { result ≡ trace_with head lines.items }
+// A player before the first line, which tells its run to `told` and gives its lines to `lines`.
+fn begin<O: Output, K: Keeper>(
+    alloc: Global,
+    head: Head,
+    told: Told<O>,
+    lines: Kept<K>,
+) -> Result<Player<Told<O>, Kept<K>>, OutOfMemory>
+    requires within { IsHeadWithin head.region head.partitions head.threads }
+    requires told { IsUntold head.partitions told }
+    requires lines { lines ≡ no_lines head }
+    ensures { IfOk result (IsNew head) }
 {
-    Trace {
-        region: head.region,
-        partitions: head.partitions,
-        threads: head.threads,
-        lines: Lines::of(lines),
-    }
+    Ok(Player {
+        inner: LinePlayer::new(alloc, head.region, head.partitions, head.threads, told)?,
+        lines,
+        alloc,
+    })
 }
 
 // The slot of a title, and its partition.

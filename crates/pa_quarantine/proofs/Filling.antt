@@ -14,6 +14,7 @@ use Rattle.pa_region.specs.declared.view.OwnTitle.{OwnTitle}
 use Rattle.pa_region.specs.declared.view.View.{View}
 use Rattle.pa_region.specs.Views.{free_of, own_of, own_as, HasStake}
 use Rattle.pa_region.specs.Moves.{changed, is_own_of, filled_with, after_look}
+use Rattle.pa_region.specs.Waiting.{poisoned_owns}
 use Rattle.pa_region.specs.Stores.{after_store, HasRawWord, HasFreeContent, CanStore, poisoned_to, after_poison, own_to, CanPoison}
 use Rattle.pa_region.specs.declared.view.Entry.TheVariants.{Looked}
 use Rattle.pa_region.specs.Pairs.{last_entry, least_log}
@@ -126,12 +127,13 @@ poisoned_there law v t n has =
     (omega arith, omega arith)
 
 -- the next word may be poisoned
-pub poison_can : StatesAreOwns → OwnsChange → (t : Title) (j : ℕ) (v u : View) → j < content_count t → 0 < own_as v t Clean + own_as v t Dirty → HasStake v → u ≡ poisons_to t j v → CanPoison t j u
-poison_can states law t j v u below has stake same = subst (λ (x : View). CanPoison t j x) (sym same) (go j below)
+pub poison_can : StatesAreOwns → OwnsChange → (t : Title) (j : ℕ) (v u : View) → j < content_count t → 0 < own_as v t Clean + own_as v t Dirty → HasStake v →
+    poisoned_owns v ≡ 0 → u ≡ poisons_to t j v → CanPoison t j u
+poison_can states law t j v u below has stake none same = subst (λ (x : View). CanPoison t j x) (sym same) (go j below)
   where
     go : (k : ℕ) → k < content_count t → CanPoison t k (poisons_to t k v)
-    go zero less = (let o = open_to v t in omega arith, less, stake)
-    go (suc k) less = ((poisoned_there law v t (suc k) (open_own states v t has)).0, less, stake)
+    go zero less = (let o = open_to v t in omega arith, less, stake, none)
+    go (suc k) less = ((poisoned_there law v t (suc k) (open_own states v t has)).0, less, stake, refl)
 
 -- a change of the first Own that was changed
 changed_twice : (t : Title) (n m : ℕ) (os : List OwnTitle) → changed (is_own_of t) (poisoned_to m) (changed (is_own_of t) (poisoned_to n) os) ≡ changed (is_own_of t) (poisoned_to m) os

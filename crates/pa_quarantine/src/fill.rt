@@ -4,6 +4,7 @@ ghost use Rattle.pa_machine.specs.declared.word.Step.TheVariants.{Free, Write};
 ghost use Rattle.pa_machine.specs.Titles.{HasContentFrom};
 ghost use Rattle.pa_region.specs.Views.{HasStake, free_of, idle_of, own_as};
 ghost use Rattle.pa_region.specs.Moves.{HasHandle};
+ghost use Rattle.pa_region.specs.Waiting.{poisoned_owns};
 ghost use Rattle.pa_region.specs.Shares.{IsStepMade};
 ghost use Rattle.pa_quarantine.specs.Filling.{zeroed, poisoned, filled_share};
 
@@ -26,10 +27,12 @@ pub fn zero_fill(region: &Region, seat: &mut Seat, title: Title)
     }
 }
 
-/// Poisons every content word of the seat's Own, in address order, so that it can be freed.
+/// Poisons every content word of the seat's Own, in address order, so that it can be freed. It begins while no Own of the
+/// seat is poisoned.
 pub fn poison(region: &Region, seat: &mut Seat, title: Title)
     requires region { seat.old.region ≡ region.now }
     requires able { (0 < own_as seat.old.view title Clean + own_as seat.old.view title Dirty) × HasStake seat.old.view }
+    requires begins { poisoned_owns seat.old.view ≡ 0 }
     ensures region { seat.new.region ≡ seat.old.region }
     ensures view { seat.new.view ≡ poisoned title seat.old.view }
     ensures ready { HasHandle Free title seat.new.view }

@@ -7,6 +7,7 @@ ghost use Rattle.pa_machine.specs.Titles.{content_count, content_at};
 ghost use Rattle.pa_machine.specs.Titles.{poison as poison_word};
 ghost use Rattle.pa_region.specs.Views.{HasStake, free_of, own_of, own_as};
 ghost use Rattle.pa_region.specs.Moves.{CanCount, IsFound, after_look};
+ghost use Rattle.pa_region.specs.Waiting.{poisoned_owns};
 ghost use Rattle.pa_region.specs.Shares.{IsUser, IsStepMade};
 ghost use Rattle.pa_region.specs.Loads.{after_read};
 ghost use Rattle.pa_quarantine.specs.Filling.{poisoned_share};
@@ -17,10 +18,12 @@ use pa_machine::{Title, Word};
 use pa_region::{Region, Seat, looks_leave, owns_change, states_are_owns};
 
 /// The owner frees the slot: its content is poisoned, and then it is freed in one step. `Last` if and only if no
-/// `raw_ptr` points to it: then the seat holds the title free. Else the slot is quarantined.
+/// `raw_ptr` points to it: then the seat holds the title free. Else the slot is quarantined. No Own of the seat is poisoned
+/// before.
 pub fn free_owned(region: &Region, seat: &mut Seat, title: Title) -> (Word, Fate)
     requires region { seat.old.region ≡ region.now }
     requires able { (0 < own_as seat.old.view title Clean + own_as seat.old.view title Dirty) × HasStake seat.old.view × (0 < seat.old.view.budget) }
+    requires begins { poisoned_owns seat.old.view ≡ 0 }
     ensures made { IsStepMade Free title result.0.0 (poisoned_share title seat.old) seat.new }
     ensures fate { (result.1 ≡ Fate.Last) ↔ IsReturning Free result.0.0 }
     ensures last { result.1 ≡ Fate.Last → free_of seat.new.view title ≡ 1 }

@@ -1,5 +1,5 @@
 -- An addition to a totals word keeps the rule.
-use Rattle.std.proofs.Common.{◌≡◌, ℕ, ◌+◌, ◌-◌, ◌%◌, ◌<◌, ◌≤◌, Bool, true, false, List, length, map, set, refl, sym, ◌∙◌, ap, subst, arith, inl, inr}
+use Rattle.std.proofs.Common.{◌≡◌, ℕ, ◌+◌, ◌-◌, ◌%◌, ◌<◌, ◌≤◌, Bool, true, false, List, ◌∷◌, length, map, set, refl, sym, ◌∙◌, ap, subst, arith, inl, inr}
 use Rattle.std.specs.Prelude.{slice_index, ◌&&◌, nat_lt, if◌then◌else◌}
 use Rattle.std.specs.List.{sum_by}
 use mathlib.Core.Option.{some}
@@ -36,6 +36,8 @@ use Rattle.pa_region.proofs.ListPart.{lists_grown}
 use Rattle.pa_region.proofs.OneLog.{own_log}
 use Rattle.pa_region.proofs.ByNumber.{all_most}
 use Rattle.pa_region.proofs.OrderPart.{ending, order_plain}
+use Rattle.pa_region.proofs.StepsPart.{logging, eased_same, filled_entry}
+use Rattle.pa_region.proofs.StepsKept.{others_apart}
 
 -- the words of the bytes stay where a totals word is written
 bytes_beyond : (words : List ℕ) (p x : ℕ) → length words - 16 ≤ p → byte_words (set words p x) ≡ byte_words words
@@ -204,6 +206,7 @@ add_keeps k bytes words views i v r at_i can =
       history = r.history;
       list = r.list;
       all = ending e v r.all;
+      steps = logging e v ∷ r.steps;
       holders = rw beyond (holders_same (byte_words words) (total_of (shown words views)) (total_of (shown after (set views i w))) (idle_in views) (idle_in (set views i w))
           (budget_in views) (budget_in (set views i w))
           (logged_in views counted) (logged_in (set views i w) counted) r.holders same
@@ -235,4 +238,6 @@ add_keeps k bytes words views i v r at_i can =
       undone = undone_set views i v w at_i refl (λ u. let m = more (uncuts u) in omega arith) r.undone;
       totals = add_totals k bytes words views i v r at_i can;
       ordered = order_plain r.all r.list views i v w e at_i refl stake r.logs.each_stake (λ n. refl) (λ u word touch. absurd touch) r.ordered;
+      filled = filled_entry r.steps r.all r.history (total_of (shown words views)) (total_of (shown after (set views i w))) views i v w e at_i refl refl
+          (record { frees = λ u. refl; keeps = λ u x. refl; fills = λ u. tt }) tt (others_apart words views i v r at_i stake) (eased_same _ _ same) r.filled;
     }

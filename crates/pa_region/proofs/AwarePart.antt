@@ -3,7 +3,7 @@ use Rattle.std.proofs.Common.{◌≡◌, ℕ, ◌+◌, ◌<◌, ◌≤◌, Bool,
 use Rattle.std.specs.Prelude.{not, cond, if◌then◌else◌}
 use Rattle.std.specs.List.{sum_by, filter}
 use Rattle.std.proofs.lemmas.List.Sums.{sum_by-cons}
-use Rattle.std.proofs.lemmas.Bool.{cases_lt}
+use Rattle.std.proofs.lemmas.Bool.{cases_lt, cases_Bool}
 use Rattle.std.proofs.lemmas.Bool.Decides.{eqb_tells}
 use Rattle.pa_machine.specs.declared.title.Title.{Title}
 use Rattle.pa_machine.specs.Count.{number_of}
@@ -17,16 +17,17 @@ use Rattle.pa_region.specs.Views.{held_of_view, free_of, own_of, ref_of, stake_o
 use Rattle.pa_region.specs.History.{IsChained}
 use Rattle.pa_region.specs.Contents.{content_at_number}
 use Rattle.pa_region.specs.Pairs.{pairs, amount_by, logged_of_by}
-use Rattle.pa_region.specs.Waiting.{gave_no_poison, quiet_read, IsFreedElsewhere}
+use Rattle.pa_region.specs.Waiting.{gave_no_poison, quiet_read, poisoned_of, IsFreedElsewhere}
 use Rattle.pa_region.specs.AllReads.{HasAllLogs}
 use Rattle.pa_region.specs.Order.{HasOneOrder}
 use Rattle.pa_region.specs.Lists.{keeper_of, lease_of, list_of, made_with, entered_in}
 use Rattle.pa_region.specs.Hands.{Parcel, CanHand, left_after, given_after}
 use Rattle.pa_region.specs.Totals.{owes_as, added_as}
 use Rattle.pa_region.specs.Aware.{IsAware}
-use Rattle.pa_region.proofs.Adding.{one_eq}
 use Rattle.pa_region.proofs.Pieces.{frees_have, owns_have, refs_have}
-use Rattle.pa_region.proofs.HandStep.{each_filter, hand_parts}
+use Rattle.pa_region.proofs.HandStep.{each_filter, hand_parts, given_clean}
+use Rattle.pa_region.proofs.JoinStep.{no_stakes}
+use Rattle.pa_region.proofs.PoisonedOwns.{poisoned_unclean}
 use Rattle.pa_region.proofs.OrderPart.{order_of_view}
 
 -- w has a share of what v has: it holds no more, has some of its stakes and keepers, and knows and has seen the same
@@ -44,6 +45,7 @@ record IsShareOf (v w : View) : Type 0 where
   seen : w.seen ≡ v.seen
   lists : w.seen_lists ≡ v.seen_lists
   undone : (t : Title) → undone_of w t ≤ undone_of v t
+  poisoned : HasEveryStake w → (t : Title) → poisoned_of v t ≤ poisoned_of w t
 
 -- two views with the same stakes know the same of all logs
 same_logs : (v w : View) → w.stakes ≡ v.stakes → w.words ≡ v.words → HasAllLogs v → HasAllLogs w
@@ -67,10 +69,14 @@ same_logs v w e f a = record {
     named t mine = subst (λ (ss : List Stake). 0 < sum_by (λ (s : Stake). sum_by (names t) s.log) ss) e mine
 
 -- two views with the same stakes that have seen the same of the lists know the same order
-same_order : (v w : View) → w.stakes ≡ v.stakes → w.seen_lists ≡ v.seen_lists → HasOneOrder v → HasOneOrder w
-same_order v w stakes lists o = record {
+same_order : (v w : View) → w.stakes ≡ v.stakes → w.seen_lists ≡ v.seen_lists → ((t : Title) → poisoned_of v t ≤ poisoned_of w t) → HasOneOrder v → HasOneOrder w
+same_order v w stakes lists poisoned o = record {
   all = o.all;
   ordered = order_of_view o.all v w stakes lists o.ordered;
+  steps = o.steps;
+  logged = o.logged;
+  placed = o.placed;
+  freed = λ t none. o.freed t (let l = poisoned t in omega arith);
 }
 
 -- what is true of a view is true of a view that has a share of it
@@ -100,7 +106,7 @@ share_aware v w h a = record {
   handles = λ t has. rw h.seen (a.handles t (let o = owns t in let r = refs t in omega arith));
   covered = λ r q. h.covered r q (a.covered r q);
   all_logs = λ every. same_logs v w (h.whole every) h.words (a.all_logs (back every));
-  one_order = λ every. same_order v w (h.whole every) h.lists (a.one_order (back every));
+  one_order = λ every. same_order v w (h.whole every) h.lists (h.poisoned every) (a.one_order (back every));
   all_seen = λ every t. rw (h.seen, h.whole every) (a.all_seen (back every) t);
 }
   where
@@ -127,14 +133,6 @@ filter_all test other (s ∷ ss) flips none = go (test s) (filter_all test other
     go : (b : Bool) → (filter other ss ≡ [] → filter test ss ≡ ss) → cond (not b) (s ∷ filter other ss) (filter other ss) ≡ [] → cond b (s ∷ filter test ss) (filter test ss) ≡ s ∷ ss
     go true again e = ap (λ xs. s ∷ xs) (again e)
     go false again e = let l : length (s ∷ filter other ss) ≡ 0 = ap (λ (xs : List Stake). length xs) e in absurd (omega arith)
-
--- a view that has no stake of any number has none
-no_stakes : (ss : List Stake) → ((k : ℕ) → sum_by (λ (s : Stake). one (eqb s.number k)) ss ≡ 0) → ss ≡ []
-no_stakes [] none = refl
-no_stakes (s ∷ ss) none =
-    let c = sum_by-cons (λ (x : Stake). one (eqb x.number s.number)) s ss in
-    let z = none s.number in
-    elim (one_eq s.number s.number) [ inl y ↦ let e = y.0 in absurd (omega arith) | inr n ↦ absurd (n.1 refl) ]
 
 -- if one part has every stake, the other has none
 others_none : (v w u : View) → IsAware v → ((k : ℕ) → stake_of w k + stake_of u k ≡ stake_of v k) → HasEveryStake w → u.stakes ≡ []
@@ -218,7 +216,26 @@ left_aware p v can a =
       seen = refl;
       lists = refl;
       undone = λ t. let e = parts.undone t in omega arith;
+      poisoned = λ every t. let e = parts.poisoned t in let z = given_clean p v in let l = poisoned_unclean (given_after p v) t in omega arith;
     }) a
+
+-- a stake that is given is in the parcel
+given_stake : (p : Parcel) (k : ℕ) (ss : List Stake) → 0 < sum_by (λ (s : Stake). one (eqb s.number k)) (filter (λ (s : Stake). p.stakes s.number) ss) → p.stakes k ≡ true
+given_stake p k [] has = absurd (omega arith)
+given_stake p k (s ∷ ss) has = elim (cases_Bool (p.stakes s.number)) [
+  | inl y ↦ elim (eqb_tells s.number k) [
+    | inl z ↦ ap p.stakes (sym z.1) ∙ y
+    | inr n ↦
+        let c = sum_by-cons (λ (x : Stake). one (eqb x.number k)) s (filter (λ (x : Stake). p.stakes x.number) ss) in
+        let e : one (eqb s.number k) ≡ 0 = ap one n.0 in
+        let h : 0 < sum_by (λ (x : Stake). one (eqb x.number k)) (s ∷ filter (λ (x : Stake). p.stakes x.number) ss) = rw y at has in
+        given_stake p k ss (omega arith)
+  ]
+  | inr n ↦ given_stake p k ss (rw n at has)
+]
+
+first_given : (p : Parcel) (v : View) → HasEveryStake (given_after p v) → p.stakes 0 ≡ true
+first_given p v every = given_stake p 0 v.stakes (every 0 (omega arith))
 
 -- and of the view that gets it
 pub given_aware : (p : Parcel) (v : View) → CanHand p v → IsAware v → IsAware (given_after p v)
@@ -239,4 +256,5 @@ given_aware p v can a =
       seen = refl;
       lists = refl;
       undone = λ t. let e = parts.undone t in omega arith;
+      poisoned = λ every t. let z = can.clean 0 (first_given p v every) in let l = poisoned_unclean v t in omega arith;
     }) a

@@ -53,7 +53,7 @@ own_known words views i v t k at_i has j below =
     k.values.known i (content_place t j) v at_i (inr (inr (t, has, (content_covered (length (byte_words words)) t j (k.holders.good.divided.well t held) below).1)))
 
 -- an Own in a state, as the core holds it
-own_held : (words : List ℕ) (views : List View) (i : ℕ) (v : View) (t : Title) (a : OwnState) → get_elem? views i ≡ some v → 0 < own_as v t a →
+pub own_held : (words : List ℕ) (views : List View) (i : ℕ) (v : View) (t : Title) (a : OwnState) → get_elem? views i ≡ some v → 0 < own_as v t a →
     Holds (shown words views) i (OwnAs t a)
 own_held words views i v t a at_i has =
     let s = shown_held words views i v at_i (OwnAs t a) in
@@ -130,7 +130,7 @@ abbrev pub views_at : Step → Title → List ℕ → List View → ℕ → View
 views_at step t words views i v = set views i (after_count step t (count_word (byte_words words) t) v)
 
 -- the state in which the step takes the Own is the one that the view has it in
-state_is : (words : List ℕ) (views : List View) (i : ℕ) (v : View) (t : Title) (a b : OwnState) → IsKept words views → get_elem? views i ≡ some v →
+pub state_is : (words : List ℕ) (views : List View) (i : ℕ) (v : View) (t : Title) (a b : OwnState) → IsKept words views → get_elem? views i ≡ some v →
     0 < held_of_view v (OwnAs t a) → Holds (shown words views) i (OwnAs t b) → a ≡ b
 state_is words views i v t a b k at_i mine holds =
     let s = shown_held words views i v at_i (OwnAs t a) in

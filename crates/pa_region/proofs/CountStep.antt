@@ -19,17 +19,18 @@ use Rattle.pa_machine.specs.Events.{returned_at, total_of}
 use Rattle.pa_machine.proofs.Same.{title_self}
 use Rattle.pa_machine.proofs.Arith.{stepped_is, held_small}
 use Rattle.pa_machine.proofs.Amounts.{returned_cases, own_self}
+use Rattle.pa_machine.proofs.Totals.{tally_of}
 use Rattle.pa_machine.proofs.Happening.{happens_good}
 use Rattle.pa_region.specs.declared.view.OwnTitle.{OwnTitle}
 use Rattle.pa_region.specs.declared.view.Entry.{Entry}
 use Rattle.pa_region.specs.declared.view.View.{View}
-use Rattle.pa_region.specs.Views.{held_of_view, byte_words, shown, idle_of, idle_in, budget_in, low_in, uncut_in, stake_of, stakes_in, logged_of, logged_in, counted, counted_on, names, uncuts, seen_among, HasStake}
+use Rattle.pa_region.specs.Views.{held_of_view, byte_words, shown, idle_of, idle_in, budget_in, low_in, uncut_in, stake_of, stakes_in, logged_of, logged_in, counted, counted_on, names, uncuts, seen_among, least_stake, HasStake}
 use Rattle.pa_region.specs.History.{reached}
 use Rattle.pa_region.specs.Rule.{IsKept}
 use Rattle.pa_region.specs.Moves.{without, is_own_of, CanCount, moved, value_of, after_count}
 use Rattle.pa_region.proofs.Adding.{sum_set, one_lt, first_of}
-use Rattle.pa_region.proofs.Pieces.{HasPiece, handle_piece, total_set, held_within, lost_by, gained_by, moved_changes, owns_have, refs_have}
-use Rattle.pa_region.proofs.HolderPart.{IsCountStep, holders_count, held_after}
+use Rattle.pa_region.proofs.Pieces.{HasPiece, handle_piece, total_set, held_within, lost_by, gained_by, moved_changes, TakesOwn, owns_have, refs_have}
+use Rattle.pa_region.proofs.HolderPart.{IsCountStep, change_of, holders_count, held_after}
 use Rattle.pa_region.proofs.ReservationPart.{reservations_count}
 use Rattle.pa_region.proofs.NamePart.{named_more}
 use Rattle.pa_region.proofs.LogPart.{history_by, logs_count, reached_number}
@@ -47,11 +48,15 @@ use Rattle.pa_region.proofs.CountLists.{count_lists}
 use Rattle.pa_region.proofs.TotalsPart.{bytes_stay, totals_other, owes_few}
 use Rattle.pa_region.proofs.OneOrder.{touched_now}
 use Rattle.pa_region.proofs.OrderPart.{ending, order_plain}
+use Rattle.pa_region.proofs.CountFilled.{filled_counted}
+use Rattle.pa_region.proofs.CountReady.{count_ready, count_steady}
+use Rattle.pa_region.proofs.StepsPart.{logging}
 
 -- the step over all views
 count_step_of : (step : Step) (t : Title) (words : List ℕ) (views : List View) (i : ℕ) (v : View) → IsKept words views → get_elem? views i ≡ some v → CanCount step t v →
     (a : OwnState) × IsCountStep step t a (byte_words words) (total_of (shown words views))
     (total_of (shown (set words (count_place t) (stepped step (count_word (byte_words words) t))) (set views i (after_count step t (count_word (byte_words words) t) v))))
+    × TakesOwn step t a v
 count_step_of step t words views i v k at_i can =
     let word = count_word (byte_words words) t in
     let moves = moved_changes step t word v (handle_piece step t v can.0) in (
@@ -65,6 +70,7 @@ count_step_of step t words views i v k at_i can =
             let same : held_of_view (after_count step t word v) x ≡ held_of_view (moved step t word v) x = refl in
             omega arith;
       },
+      moves.2,
     )
 
 -- if a count is known to be 0 after the step on its title, it is
@@ -137,6 +143,7 @@ count_keeps step t words views i v k at_i can =
       history = history_by step t (value_of step t v) k.history;
       list = k.list;
       all = ending (entry_of step t word v) v k.all;
+      steps = logging (entry_of step t word v) v ∷ k.steps;
       holders = rw (at_place, more counted) (
           holders_count step t x.0 (byte_words words) (total_of (shown words views)) _ (idle_in views) (idle_in (set views i w)) (budget_in views) (budget_in (set views i w)) (logged_in views counted)
           k.holders x.1
@@ -185,6 +192,13 @@ count_keeps step t words views i v k at_i can =
           (owes_few words t step word (value_of step t v) (k.holders.good.divided.well t held) k.totals.small);
       ordered = order_plain k.all k.list views i v w (entry_of step t word v) at_i (rw (moved_stakes step t word v) refl) can.1 k.logs.each_stake (λ n. refl)
           (touched_now words views t k held) k.ordered;
+      filled =
+          let change = change_of step t x.0 (byte_words words) (total_of (shown words views)) (total_of (shown (set words (count_place t) (stepped step word)) (set views i w))) x.1 in
+          filled_counted t word (value_of step t v) (stepped step word) x.0 (record { stake = least_stake v.stakes; entry = entry_of step t word v }) k.steps k.all k.history
+          (total_of (shown words views)) (total_of (shown (set words (count_place t) (stepped step word)) (set views i w))) views k.filled
+          (tally_of (shown words views).holdings) (tally_of (shown (set words (count_place t) (stepped step word)) (set views i w)).holdings) step (least_stake v.stakes) (set views i w) refl
+          (count_ready step t words views i v k at_i can x.0 x.2) x.1.changes change.lost_here change.gained_here
+          (count_steady step t words views i v k at_i can);
     }
   where
     fresh : (n a : ℕ) → n ≤ a → one (ltb a n) ≡ 0

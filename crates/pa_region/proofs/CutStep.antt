@@ -38,6 +38,7 @@ use Rattle.pa_region.proofs.Parting.{raws_part}
 use Rattle.pa_region.proofs.Cutting.{outside_none, inside_none, titled_low, low_more, counted_names, uncut_names}
 use Rattle.pa_region.proofs.TotalsPart.{words_stay, totals_stay}
 use Rattle.pa_region.proofs.OrderPart.{order_same}
+use Rattle.pa_region.proofs.StepsPart.{eased_titles, filled_same}
 
 -- each byte of the title is raw in the view, once
 cut_raw : (t : Title) (words : List ℕ) (views : List View) (i : ℕ) (v : View) (b : ℕ) → IsKept words views → get_elem? views i ≡ some v → CanCut t v → Covers t b →
@@ -146,6 +147,7 @@ cut_keeps t words views i v k at_i can zero =
       history = k.history;
       list = k.list;
       all = k.all;
+      steps = k.steps;
       holders = record {
         good = happens_good (Cut i t) (shown words views) after k.holders.good event.0 event.1;
         known = λ u some_idle. let c = sum_set (λ (z : View). idle_of z u) views i v w at_i in k.holders.known u (omega arith);
@@ -201,6 +203,9 @@ cut_keeps t words views i v k at_i can zero =
       undone = undone_set views i v w at_i refl (λ u. let l = logs (uncuts u) in omega arith) k.undone;
       totals = totals_stay words words views i v w at_i refl k.totals (words_stay words);
       ordered = order_same k.all k.list views i v w at_i refl k.ordered;
+      filled = filled_same k.steps k.all k.history (total_of (shown words views)) (total_of after) views i v w at_i
+          (eased_titles _ _ (λ u state. let c = changes (OwnAs u state) in omega arith) (λ u. let c = changes (OwnOf u) in omega arith) (λ u. let c = changes (RefOf u) in omega arith))
+          refl (λ quiet. quiet) (λ did. did) (λ u some_own. some_own) k.filled;
     }
   where
     changes : Changes (total_of (shown words views)) (RawPiece t.start t.len ∷ []) (FreePiece t ∷ []) (total_of (shown words (set views i (titled t v))))

@@ -1,5 +1,5 @@
 -- An entry in a keeper's list keeps the rule.
-use Rattle.std.proofs.Common.{◌≡◌, ℕ, ◌+◌, ◌≤◌, List, length, set, refl, sym, ◌∙◌, ap, subst, arith, inl, inr}
+use Rattle.std.proofs.Common.{◌≡◌, ℕ, ◌+◌, ◌≤◌, List, ◌∷◌, length, set, refl, sym, ◌∙◌, ap, subst, arith, inl, inr}
 use mathlib.Core.Option.{some}
 use lib.ListN.{get_elem?}
 use Rattle.atomic_table.specs.Seated.{TableId}
@@ -31,6 +31,8 @@ use Rattle.pa_region.proofs.EntryReads.{entry_reads}
 use Rattle.pa_region.proofs.SeatStakes.{SameStakes}
 use Rattle.pa_region.proofs.TotalsPart.{words_stay, totals_other}
 use Rattle.pa_region.proofs.OrderPart.{ending, order_more}
+use Rattle.pa_region.proofs.StepsPart.{logging, eased_same, filled_entry}
+use Rattle.pa_region.proofs.StepsKept.{others_apart}
 use Rattle.pa_region.proofs.EnterLists.{list_with, list_grows, enter_lists}
 
 -- the core that is shown stays
@@ -59,6 +61,7 @@ enter_keeps k numbers words views i v r at_i can =
       history = r.history;
       list = list_with r.list k (new_entry numbers v);
       all = ending e v r.all;
+      steps = logging e v ∷ r.steps;
       holders = holders_same (byte_words words) (total_of (shown words views)) _ (idle_in views) (idle_in (set views i w)) (budget_in views) (budget_in (set views i w))
           (logged_in views counted) (logged_in (set views i w) counted) r.holders same
           (λ u some_idle. let c = sum_set (λ (z : View). idle_of z u) views i v w at_i in r.holders.known u (omega arith))
@@ -86,6 +89,8 @@ enter_keeps k numbers words views i v r at_i can =
       totals = totals_other words words views i v w e at_i refl stake r.totals (words_stay words) more (λ n. refl) (λ q. refl) (λ q. omega arith);
       ordered = order_more r.all r.list (list_with r.list k (new_entry numbers v)) views i v w e at_i refl stake r.logs.each_stake (list_grows r.list k (new_entry numbers v))
           (λ u word touch. absurd touch) r.ordered;
+      filled = filled_entry r.steps r.all r.history (total_of (shown words views)) (total_of (shown words (set views i w))) views i v w e at_i refl refl
+          (record { frees = λ u. refl; keeps = λ u x. refl; fills = λ u. tt }) tt (others_apart words views i v r at_i stake) (eased_same _ _ same) r.filled;
     }
   where
     once : (n : ℕ) → stakes_in views n ≤ 1

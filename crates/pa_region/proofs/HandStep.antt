@@ -1,7 +1,7 @@
 -- A hand keeps the rule.
 use Rattle.std.proofs.Common.{◌≡◌, ℕ, ◌+◌, ◌*◌, ◌<◌, ◌≤◌, Bool, true, false, ◌&&◌, List, [], ◌∷◌, ◌++◌, length, set, refl, sym, ap, subst, arith, inl, inr, eqb}
 use Rattle.std.specs.Prelude.{not, cond, slice_index}
-use Rattle.std.proofs.lemmas.Bool.{cases_Bool}
+use Rattle.std.proofs.lemmas.Bool.{cases_Bool, true≢false}
 use Rattle.std.specs.List.{sum_by, filter}
 use Rattle.core.specs.List.{AllByRecursion as Each}
 use Rattle.std.proofs.lemmas.List.Filters.{sum_by-filter_both}
@@ -20,7 +20,10 @@ use Rattle.pa_region.specs.Pairs.{pairs, amount_by}
 use Rattle.pa_region.specs.Waiting.{is_poisoned, is_unclean, unclean_of, IsReader}
 use Rattle.pa_region.proofs.ReadsSame.{reader_handed}
 use Rattle.pa_region.specs.Rule.{IsKept}
-use Rattle.pa_region.specs.Order.{by_stake, IsLoggedIn}
+use Rattle.pa_region.specs.Order.{OneStep, by_stake, IsAlone, IsLoggedIn}
+use Rattle.pa_region.specs.Filled.{IsSteady}
+use Rattle.pa_region.proofs.PoisonedOwns.{poisoned_unclean}
+use Rattle.pa_region.proofs.StepsPart.{steady_handed}
 use Rattle.pa_region.specs.Lists.{keeper_of, made_with, entered_in, list_of, IsListed, HasSeenFree}
 use Rattle.pa_region.specs.Hands.{Parcel, empty_of, left_after, given_after, CanHand, IsParted}
 use Rattle.pa_region.proofs.Pieces.{frees_have, owns_have, refs_have}
@@ -62,17 +65,27 @@ stakes_stay p [] none = refl
 stakes_stay p (s ∷ ss) none = rw (none s.number) (ap (λ xs. s ∷ xs) (stakes_stay p ss none))
 
 -- a view that has an unclean Own keeps its stakes
+stakes_kept : (p : Parcel) (v : View) → CanHand p v → 0 < unclean_of v → (left_after p v).stakes ≡ v.stakes
+stakes_kept p v can some_own = stakes_stay p v.stakes none
+  where
+    none : (k : ℕ) → p.stakes k ≡ false
+    none k = elim (cases_Bool (p.stakes k)) [ inl y ↦ let z = can.clean k y in absurd (omega arith) | inr n ↦ n ]
+
 left_stake : (p : Parcel) (v : View) → CanHand p v → (0 < unclean_of v → HasStake v) → 0 < unclean_of (left_after p v) → HasStake (left_after p v)
 left_stake p v can stake some_own =
     let u = (hand_parts p v can).unclean in
     let has = stake (omega arith) in
-    subst (λ (ss : List Stake). least_stake ss < 16) (sym (stakes_stay p v.stakes none)) has
-  where
-    none : (k : ℕ) → p.stakes k ≡ false
-    none k = elim (cases_Bool (p.stakes k)) [
-      | inl y ↦ let z = can.clean k y in let u = (hand_parts p v can).unclean in absurd (omega arith)
-      | inr n ↦ n
-    ]
+    subst (λ (ss : List Stake). least_stake ss < 16) (sym (stakes_kept p v can (omega arith))) has
+
+-- so it finds the steps steady
+left_steady : (steps : List OneStep) (p : Parcel) (v : View) → CanHand p v → IsSteady steps v → IsSteady steps (left_after p v)
+left_steady steps p v can s = record {
+  waits = λ t found is quiet. absurd (true≢false quiet);
+  near = λ t did some_own.
+      let e = (hand_parts p v can).poisoned t in
+      let l = poisoned_unclean v t in
+      subst (λ (ss : List Stake). IsAlone (least_stake ss) t steps) (sym (stakes_kept p v can (omega arith))) (s.near t did (omega arith));
+}
 
 -- a view that holds less knows less
 pub knows_less : (v w : View) (q : ℕ) → ((x : Thing) → held_of_view w x ≤ held_of_view v x) → Knows w q → Knows v q
@@ -165,3 +178,5 @@ hand_keeps p words views i v k at_i can =
     (each_parted (IsLoggedIn k.all) views i v l r at_i k.ordered.logs
     (each_filter (λ (s : Stake). s.log ≡ by_stake s.number k.all) (λ (s : Stake). not (p.stakes s.number)) v.stakes (k.ordered.logs i v at_i))
     (each_filter (λ (s : Stake). s.log ≡ by_stake s.number k.all) (λ (s : Stake). p.stakes s.number) v.stakes (k.ordered.logs i v at_i)))
+    (each_parted (IsSteady k.steps) views i v l r at_i k.filled.each_view (left_steady k.steps p v can (k.filled.each_view i v at_i))
+    (steady_handed k.steps r refl (λ t. let z = given_clean p v in let s = poisoned_unclean r t in omega arith)))

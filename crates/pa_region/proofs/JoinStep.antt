@@ -1,9 +1,9 @@
 -- A join keeps the rule.
-use Rattle.std.proofs.Common.{◌≡◌, ℕ, ◌+◌, ◌*◌, ◌<◌, ◌≤◌, ◌&&◌, List, [], ◌∷◌, ◌++◌, length, set, refl, sym, ◌∙◌, ap, subst, arith, ◌⊎◌, inl, inr, eqb, ltb, leb}
+use Rattle.std.proofs.Common.{◌≡◌, ℕ, ◌+◌, ◌*◌, ◌<◌, ◌≤◌, ◌&&◌, append-nil, List, [], ◌∷◌, ◌++◌, length, set, refl, sym, ◌∙◌, ap, subst, arith, ◌⊎◌, inl, inr, eqb, ltb, leb}
 use Rattle.std.specs.Prelude.{slice_index, if◌then◌else◌}
 use Rattle.std.specs.List.{sum_by}
-use Rattle.std.proofs.lemmas.List.Sums.{sum_by-append}
-use Rattle.std.proofs.lemmas.Bool.{cases_lt, lt-ltb, le-ltb}
+use Rattle.std.proofs.lemmas.List.Sums.{sum_by-append, sum_by-cons}
+use Rattle.std.proofs.lemmas.Bool.{cases_lt, lt-ltb, le-ltb, true≢false}
 use mathlib.Core.Option.{some}
 use lib.ListN.{get_elem?}
 use Rattle.pa_machine.specs.declared.title.Title.{Title}
@@ -17,12 +17,16 @@ use Rattle.pa_region.specs.declared.view.Made.{Made}
 use Rattle.pa_region.specs.declared.view.Stake.{Stake}
 use Rattle.pa_region.specs.declared.view.Keeper.{Keeper}
 use Rattle.pa_region.specs.declared.view.View.{View}
-use Rattle.pa_region.specs.Views.{raw_piece, own_piece, held_of_view, byte_words, Knows, free_of, own_of, ref_of, idle_of, seen_of, least_stake}
+use Rattle.pa_region.specs.Views.{raw_piece, own_piece, held_of_view, byte_words, Knows, free_of, own_of, ref_of, idle_of, stake_of, seen_of, least_stake}
 use Rattle.pa_region.specs.Pairs.{pairs, amount_by}
 use Rattle.pa_region.specs.Waiting.{is_poisoned, is_unclean, IsReader}
+use Rattle.pa_region.proofs.Adding.{one_eq}
 use Rattle.pa_region.proofs.ReadsSame.{reader_handed}
 use Rattle.pa_region.specs.Rule.{IsKept}
-use Rattle.pa_region.specs.Order.{by_stake, IsLoggedIn}
+use Rattle.pa_region.specs.Order.{OneStep, by_stake, IsAlone, IsLoggedIn}
+use Rattle.pa_region.specs.Filled.{IsSteady}
+use Rattle.pa_region.proofs.PoisonedOwns.{poisoned_unclean}
+use Rattle.pa_region.proofs.StepsPart.{steady_handed}
 use Rattle.pa_region.specs.Lists.{keeper_of, list_of, made_with, entered_in, IsBeginning, IsKnownTo, IsListed, HasSeenFree}
 use Rattle.pa_region.specs.Hands.{CanTake, IsParted, knowing, merged, united, spent_of}
 use Rattle.pa_region.proofs.Pieces.{held_split, frees_have}
@@ -192,6 +196,26 @@ spent_knows w q (inl raw) = absurd (omega arith)
 spent_knows w q (inr (inl free)) = let h = free.1 in absurd (omega arith)
 spent_knows w q (inr (inr own)) = let h = own.1 in absurd (omega arith)
 
+-- a view that has no stake of any number has none
+pub no_stakes : (ss : List Stake) → ((k : ℕ) → sum_by (λ (s : Stake). one (eqb s.number k)) ss ≡ 0) → ss ≡ []
+no_stakes [] none = refl
+no_stakes (s ∷ ss) none =
+    let c = sum_by-cons (λ (x : Stake). one (eqb x.number s.number)) s ss in
+    let z = none s.number in
+    elim (one_eq s.number s.number) [ inl y ↦ let e = y.0 in absurd (omega arith) | inr n ↦ absurd (n.1 refl) ]
+
+-- a view that gets stakes has no poisoned Own, so two together find the steps steady
+united_steady : (steps : List OneStep) (v w : View) → CanTake v w → IsSteady steps v → IsSteady steps (united v w)
+united_steady steps v w can s = record {
+  waits = λ t found is quiet. absurd (true≢false quiet);
+  near = λ t did some_own.
+      let e = sum_by-append (λ (o : OwnTitle). one (same_title o.title t && is_poisoned o.state)) v.owns w.owns in
+      let l = poisoned_unclean w t in
+      let z = can.clean in
+      let none : w.stakes ≡ [] = no_stakes w.stakes (λ k. elim (cases_lt 0 (stake_of w k)) [ inl y ↦ let c = can.apart k t y in absurd (omega arith) | inr n ↦ omega arith ]) in
+      subst (λ (ss : List Stake). IsAlone (least_stake ss) t steps) (sym (ap (λ (ss : List Stake). v.stakes ++ ss) none ∙ append-nil v.stakes)) (s.near t did (omega arith));
+}
+
 -- a join keeps the rule
 pub join_keeps : (words : List ℕ) (views : List View) (i j : ℕ) (v w : View) → IsKept words views → get_elem? views i ≡ some v → get_elem? views j ≡ some w → (j ≡ i → ⊥) →
     get_elem? (set views i (united v w)) j ≡ some w → CanTake v w → IsKept words (set (set views i (united v w)) j (spent_of w))
@@ -226,6 +250,8 @@ join_keeps words views i j v w k at_i was_j ne at_j can =
     (reader_handed k.history (byte_words words) spent refl (λ some_own. absurd (omega arith))))
     (each_joined (IsLoggedIn k.all) views i j v w both spent at_i at_j k.ordered.logs
     (each_append (λ (s : Stake). s.log ≡ by_stake s.number k.all) v.stakes w.stakes (k.ordered.logs i v at_i) (k.ordered.logs j w was_j)) tt)
+    (each_joined (IsSteady k.steps) views i j v w both spent at_i at_j k.filled.each_view (united_steady k.steps v w can (k.filled.each_view i v at_i))
+    (steady_handed k.steps spent refl (λ t. refl)))
   where
     free_place : (m : ℕ) (u : View) (t : Title) → get_elem? views m ≡ some u → 0 < free_of u t → count_word u.words t ≡ count_word (byte_words words) t
     free_place m u t at_m free = free_word_known words views m u t k.holders.good k.values at_m free

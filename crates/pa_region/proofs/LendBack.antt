@@ -1,17 +1,16 @@
 -- A stake that is lent and comes back.
-use Rattle.std.proofs.Common.{◌≡◌, ℕ, ◌+◌, ◌<◌, ◌≤◌, Bool, true, false, ◌&&◌, ◌||◌, List, [], ◌∷◌, ◌++◌, length, refl, sym, ◌∙◌, ap, subst, arith, inl, inr, eqb, append_assoc}
+use Rattle.std.proofs.Common.{◌≡◌, ℕ, ◌+◌, ◌<◌, Bool, true, false, ◌&&◌, ◌||◌, List, [], ◌∷◌, ◌++◌, length, refl, sym, ◌∙◌, ap, subst, arith, inl, inr, eqb, append_assoc}
 use Rattle.std.specs.Prelude.{not}
 use Rattle.std.specs.List.{sum_by, filter}
 use Rattle.std.proofs.lemmas.List.{append-nil}
-use Rattle.std.proofs.lemmas.List.Sums.{sum_by-cons, sum_by-append, sum_by-le-sum_by}
+use Rattle.std.proofs.lemmas.List.Sums.{sum_by-cons, sum_by-append}
 use Rattle.std.proofs.lemmas.Bool.{cases_Bool, cases_lt}
 use Rattle.std.proofs.lemmas.Bool.Decides.{eqb_tells}
 use Rattle.pa_machine.specs.declared.title.Title.{Title}
-use Rattle.pa_machine.specs.declared.title.OwnState.{OwnState}
-use Rattle.pa_machine.specs.declared.title.OwnState.TheVariants.{Clean, Dirty, Poisoned}
 use Rattle.pa_machine.specs.Count.{number_of}
 use Rattle.pa_machine.specs.Titles.{same_title, IsWellFormed, count_place, count_word}
 use Rattle.pa_machine.specs.Holdings.{FreeTitle, one}
+use Rattle.pa_region.proofs.PoisonedOwns.{poisoned_unclean}
 use Rattle.pa_region.proofs.Pieces.{frees_have}
 use Rattle.pa_region.specs.declared.view.OwnTitle.{OwnTitle}
 use Rattle.pa_region.specs.declared.view.Entry.{Entry}
@@ -21,7 +20,7 @@ use Rattle.pa_region.specs.declared.view.Keeper.{Keeper}
 use Rattle.pa_region.specs.declared.view.View.{View}
 use Rattle.pa_region.specs.Views.{free_of, stake_of, seen_of, least_stake, HasStake}
 use Rattle.pa_region.specs.Pairs.{log_among}
-use Rattle.pa_region.specs.Waiting.{is_poisoned, is_unclean, poisoned_of, unclean_of}
+use Rattle.pa_region.specs.Waiting.{poisoned_of, unclean_of}
 use Rattle.pa_region.specs.Lists.{keeper_of, list_of, IsBeginning}
 use Rattle.pa_region.specs.Hands.{CanHand, left_after, given_after, united}
 use Rattle.pa_region.specs.Entries.{new_entry, CanEnter, after_enter}
@@ -249,15 +248,7 @@ entering_keeps k numbers v can =
 
 -- a view that has no unclean Own has no poisoned one
 pub none_poisoned : (v : View) (t : Title) → unclean_of v ≡ 0 → poisoned_of v t ≡ 0
-none_poisoned v t clean =
-    let l = sum_by-le-sum_by (λ (o : OwnTitle). one (same_title o.title t && is_poisoned o.state)) (λ (o : OwnTitle). one (is_unclean o.state)) v.owns (λ o. each (same_title o.title t) o.state) in
-    omega arith
-  where
-    each : (b : Bool) (a : OwnState) → one (b && is_poisoned a) ≤ one (is_unclean a)
-    each true Clean = omega arith
-    each true Dirty = omega arith
-    each true (Poisoned j) = omega arith
-    each false a = omega arith
+none_poisoned v t clean = let l = poisoned_unclean v t in omega arith
 
 -- the least stake of a view that has the same stakes
 same_least : (v w : View) → HasStake v → ((k : ℕ) → stake_of w k ≡ stake_of v k) → least_stake w.stakes ≡ least_stake v.stakes

@@ -9,7 +9,9 @@ pub mod ByNumber
 pub mod Bytes
 pub mod Closing
 pub mod CountEvent
+pub mod CountFilled
 pub mod CountLists
+pub mod CountReady
 pub mod CountStep
 pub mod CountValues
 pub mod CutLaws
@@ -56,6 +58,7 @@ pub mod OrderPart
 pub mod PairSums
 pub mod Parting
 pub mod Pieces
+pub mod PoisonFilled
 pub mod PoisonStep
 pub mod PoisonedOwns
 pub mod ReadKeeps
@@ -73,6 +76,8 @@ pub mod SeenPart
 pub mod Shown
 pub mod Standing
 pub mod Stays
+pub mod StepsKept
+pub mod StepsPart
 pub mod StoreStep
 pub mod TakeLaws
 pub mod ValuePart

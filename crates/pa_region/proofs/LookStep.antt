@@ -41,6 +41,8 @@ use Rattle.pa_region.proofs.CountLists.{look_lists}
 use Rattle.pa_region.proofs.TotalsPart.{words_stay, totals_other}
 use Rattle.pa_region.proofs.OneOrder.{touched_now}
 use Rattle.pa_region.proofs.OrderPart.{ending, order_plain}
+use Rattle.pa_region.proofs.StepsPart.{logging, eased_same, filled_entry}
+use Rattle.pa_region.proofs.StepsKept.{others_apart}
 
 -- and no piece
 look_piece : (word : ℕ) (o : OwnTitle) → own_piece (idle_if word o) ≡ own_piece o
@@ -128,6 +130,7 @@ look_keeps t words views i v k at_i mine has =
       history = k.history;
       list = k.list;
       all = ending (Looked t word) v k.all;
+      steps = logging (Looked t word) v ∷ k.steps;
       holders = holders_same (byte_words words) (total_of (shown words views)) _ (idle_in views) (idle_in (set views i w)) (budget_in views) (budget_in (set views i w))
           (logged_in views counted) (logged_in (set views i w) counted) k.holders same
           (λ u some_idle. elim (title_tells t u) [
@@ -164,6 +167,8 @@ look_keeps t words views i v k at_i mine has =
       undone = undone_set views i v w at_i refl (λ u. let m = more (uncuts u) in omega arith) k.undone;
       totals = totals_other words words views i v w (Looked t word) at_i refl has k.totals (words_stay words) more (λ n. refl) (λ q. refl) (λ q. omega arith);
       ordered = order_plain k.all k.list views i v w (Looked t word) at_i refl has k.logs.each_stake (λ n. refl) (touched_now words views t k held) k.ordered;
+      filled = filled_entry k.steps k.all k.history (total_of (shown words views)) (total_of (shown words (set views i w))) views i v w (Looked t word) at_i refl refl
+          (record { frees = λ u. refl; keeps = λ u x. refl; fills = λ u. tt }) tt (others_apart words views i v k at_i has) (eased_same _ _ same) k.filled;
     }
   where
     fresh : (n a : ℕ) → n ≤ a → one (ltb a n) ≡ 0

@@ -26,6 +26,7 @@ use Rattle.pa_region.proofs.ListFacts.{each_right, made_append}
 use Rattle.pa_region.proofs.JoinLists.{among_beginning}
 use Rattle.pa_region.proofs.OneTitle.{number_length}
 use Rattle.pa_region.proofs.OrderPart.{only_view}
+use Rattle.pa_region.proofs.StepsKept.{freed_after}
 
 -- a product with one more
 times_more : (w n k : ℕ) → n ≡ k + 1 → w * n ≡ w * k + w
@@ -193,6 +194,10 @@ knows_order words views i v k at_i every = record {
         ((k.lists.each_view i v at_i).noticed q) ((k.lists.each_view i v at_i).made q)) ∙ k.ordered.lists q;
     found = k.ordered.found;
   };
+  steps = k.steps;
+  logged = k.filled.logged;
+  placed = k.filled.placed;
+  freed = freed_after words views i v k at_i every;
 }
   where
     begins : (q : ℕ) → IsBeginning (list_of q v) (k.list q)

@@ -68,6 +68,7 @@ opens words budget enough few = record {
   history = λ t. [];
   list = λ k. [];
   all = [];
+  steps = [];
   holders = record {
     good = record {
       divided = record {
@@ -133,6 +134,13 @@ opens words budget enough few = record {
     bounded = λ q. let a = none (owes_as q) in omega arith;
   };
   ordered = first_order words budget;
+  filled = record {
+    logged = refl;
+    placed = tt;
+    owned = λ t state has. let p = (tally_of (shown all_words views).holdings).part t state in let z = total_is (OwnOf t) in absurd (omega arith);
+    left = λ t none. record { none = refl; poisoned = λ some_ref. let z = total_is (RefOf t) in absurd (omega arith) };
+    each_view = λ i v at_i. record { waits = λ t found is quiet. tt; near = λ t did some_own. tt };
+  };
 }
   where
     all_words : List ℕ

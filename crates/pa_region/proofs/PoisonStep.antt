@@ -1,6 +1,6 @@
 -- The poisoning of a content word is an enabled event of the core that is shown, and keeps the rule.
 use Rattle.std.proofs.Common.{◌≡◌, ℕ, ◌+◌, ◌-◌, ◌*◌, ◌/◌, ◌%◌, ◌<◌, ◌≤◌, Bool, true, false, ◌&&◌, List, [], ◌∷◌, length, set, refl, sym, ◌∙◌, ap, subst, arith, inl, inr}
-use Rattle.std.specs.Prelude.{◌==◌}
+use Rattle.std.specs.Prelude.{◌==◌, slice_set}
 use Rattle.std.proofs.lemmas.List.Sums.{sum_by-le-sum_by}
 use Rattle.std.proofs.lemmas.Bool.{true≢false}
 use Rattle.std.proofs.lemmas.Bool.Decides.{eqb_tells}
@@ -15,23 +15,27 @@ use Rattle.pa_machine.specs.Holdings.{Thing, OwnPiece, RawByte, FreeTitle, OwnOf
 use Rattle.pa_machine.specs.Events.{Holds, IsEnabled, Happens, IsAfter, total_of}
 use Rattle.pa_machine.proofs.Same.{state_self}
 use Rattle.pa_machine.proofs.Parts.{Changes}
-use Rattle.pa_machine.proofs.Happening.{own_state_is, happens_good}
+use Rattle.pa_machine.proofs.Totals.{tally_of}
+use Rattle.pa_machine.proofs.Keeps.{own_of_state}
+use Rattle.pa_machine.proofs.Happening.{after_changes, few_owns, own_state_is, happens_good}
 use Rattle.pa_machine.proofs.Noting.{keeps_content}
 use Rattle.pa_region.specs.declared.view.OwnTitle.{OwnTitle}
 use Rattle.pa_region.specs.declared.view.View.{View}
 use Rattle.pa_region.specs.Views.{own_piece, held_of_view, byte_words, shown, own_of}
 use Rattle.pa_region.specs.History.{content_of}
+use Rattle.pa_region.specs.Order.{Spoiled}
 use Rattle.pa_region.specs.Rule.{IsKept}
 use Rattle.pa_region.specs.Moves.{is_own_of}
 use Rattle.pa_region.specs.Waiting.{is_poisoned}
 use Rattle.pa_region.specs.Stores.{poisoned_to, after_poison, own_to, CanPoison}
 use Rattle.pa_region.proofs.Adding.{IsFirst, one_and, one_small, first_of, changed_sum}
-use Rattle.pa_region.proofs.Pieces.{held_split, owns_have, found_title, first_own}
+use Rattle.pa_region.proofs.Pieces.{held_split, held_within, owns_have, found_title, first_own}
 use Rattle.pa_region.proofs.Bytes.{bytes_set, held_in_all}
 use Rattle.pa_region.proofs.Shown.{shown_actor, shown_held, is_after}
 use Rattle.pa_region.proofs.CountEvent.{content_covered}
 use Rattle.pa_region.proofs.PoisonedOwns.{sum_grows}
 use Rattle.pa_region.proofs.WriteStep.{IsWrite, write_keeps}
+use Rattle.pa_region.proofs.PoisonFilled.{filled_poisoned, poison_steady}
 use Rattle.pa_region.proofs.StoreStep.{content_no_count, title_below}
 use Rattle.pa_lists.proofs.Tests.{both_true}
 
@@ -173,6 +177,23 @@ pub poison_keeps : (t : Title) (j : ℕ) (words : List ℕ) (views : List View) 
 poison_keeps t j words views i v k at_i can =
     let event = poison_event t j words views i v k at_i can in
     let after = shown (set words (content_place t j) poison) (set views i (after_poison t j v)) in
+    let h = event.1 in
+    let b = state_to v t j can.0 in
+    let there = b.2 in
+    let w = held_within words views i v at_i (OwnAs t b.0) in
+    let holds : 0 < total_of (shown words views) (OwnAs t b.0) = omega arith in
+    let s = shown_held words views i v at_i (OwnAs t b.0) in
+    let same = own_state_is (shown words views) i i t h.0 b.0 k.holders.good h.1 (omega arith) in
+    let put : List ℕ = slice_set (shown words views).words (content_place t (progress h.0)) poison in
+    let moved : IsAfter (shown words views) i (OwnPiece t b.0 ∷ []) (OwnPiece t (Poisoned (j + 1)) ∷ []) put after =
+    subst (λ (z : OwnState). IsAfter (shown words views) i (OwnPiece t z ∷ []) (OwnPiece t (Poisoned (j + 1)) ∷ []) put after) same
+    (subst (λ (n : ℕ). IsAfter (shown words views) i (OwnPiece t h.0 ∷ []) (OwnPiece t (Poisoned (n + 1)) ∷ []) put after) (ap progress same ∙ b.1) h.2) in
     write_keeps words views i v (after_poison t j v) (content_place t j) poison k at_i (poison_write t j words views i v k at_i can)
     (happens_good (Poison i t) (shown words views) after k.holders.good event.0 event.1)
     (keeps_content (Poison i t) (shown words views) after (λ u. content_of (k.history u)) k.holders.good event.0 event.1 k.content)
+    (Spoiled t j ∷ k.steps)
+    (filled_poisoned k.steps k.all k.history (total_of (shown words views)) (total_of after) views (set views i (after_poison t j v)) t j b.0 k.filled
+    (tally_of (shown words views).holdings) (tally_of after.holdings)
+    (few_owns (shown words views) t k.holders.good (own_of_state (total_of (shown words views)) t b.0 (tally_of (shown words views).holdings) holds))
+    holds b.1 can.1 (after_changes (shown words views) after i _ _ _ event.0.0 moved)
+    (poison_steady k.steps t j views i v at_i can ((k.filled.owned t b.0 holds).many ∙ b.1) k.filled.each_view))

@@ -20,7 +20,8 @@ use Rattle.pa_region.specs.declared.view.View.{View}
 use Rattle.pa_region.specs.Views.{own_of, own_as, stake_of}
 use Rattle.pa_region.specs.Moves.{changed, without, is_own_of, busy, written, idle_if, HasHandle, moved}
 use Rattle.pa_region.specs.Frees.{is_free}
-use Rattle.pa_region.specs.Waiting.{is_poisoned, poisoned_of, poisoned_apart}
+use Rattle.pa_region.specs.Stores.{dirty}
+use Rattle.pa_region.specs.Waiting.{is_poisoned, is_unclean, poisoned_of, poisoned_owns, unclean_of, poisoned_apart}
 use Rattle.pa_region.proofs.Adding.{sum_set}
 use Rattle.pa_region.proofs.Pieces.{found_title}
 
@@ -65,7 +66,7 @@ module _ {A : Type 0} where
       omega (arith, sum_by-cons f z zs, sum_by-cons g z zs)
 
 -- an Own of another title isn't the title's poisoned one
-own_else : (t u : Title) (state : OwnState) (o : OwnTitle) → (t ≡ u → ⊥) → is_own_of t o ≡ true → one (same_title o.title u && is_poisoned state) ≡ 0
+pub own_else : (t u : Title) (state : OwnState) (o : OwnTitle) → (t ≡ u → ⊥) → is_own_of t o ≡ true → one (same_title o.title u && is_poisoned state) ≡ 0
 own_else t u state o ne here =
     let is = found_title t o.title here in
     elim (title_tells o.title u) [ inl y ↦ absurd (ne (sym is ∙ y.1)) | inr n ↦ rw n.0 refl ]
@@ -165,3 +166,58 @@ none_beside views i v at_i t r few mine stake =
     let gap = sum_gap (apart_of t r) (λ u. own_of u t) views i v at_i (apart_less t r) in
     let here : apart_of t r v ≡ 0 = rw (lt-ltb 0 (stake_of v r) stake) refl in
     omega arith
+
+-- a poisoned Own is an unclean one
+pub poisoned_unclean : (u : View) (t : Title) → poisoned_of u t ≤ unclean_of u
+poisoned_unclean u t = sum_by-le-sum_by (λ (o : OwnTitle). one (same_title o.title t && is_poisoned o.state)) (λ (o : OwnTitle). one (is_unclean o.state)) u.owns
+    (λ o. each (same_title o.title t) o.state)
+  where
+    each : (b : Bool) (a : OwnState) → one (b && is_poisoned a) ≤ one (is_unclean a)
+    each true Clean = omega arith
+    each true Dirty = omega arith
+    each true (Poisoned j) = omega arith
+    each false a = omega arith
+
+-- an Own of the title that is poisoned is one of all that are, and none of these is clean
+pub poisoned_within : (v : View) (t : Title) → poisoned_of v t ≤ poisoned_owns v
+poisoned_within v t = sum_by-le-sum_by (λ (o : OwnTitle). one (same_title o.title t && is_poisoned o.state)) (λ (o : OwnTitle). one (is_poisoned o.state)) v.owns
+    (λ o. second (same_title o.title t) (is_poisoned o.state))
+  where
+    second : (a b : Bool) → one (a && b) ≤ one b
+    second true b = omega arith
+    second false b = omega arith
+
+pub poisoned_owns_unclean : (v : View) → unclean_of v ≡ 0 → poisoned_owns v ≡ 0
+poisoned_owns_unclean v clean =
+    let l = sum_by-le-sum_by (λ (o : OwnTitle). one (is_poisoned o.state)) (λ (o : OwnTitle). one (is_unclean o.state)) v.owns (λ o. each o.state) in omega arith
+  where
+    each : (a : OwnState) → one (is_poisoned a) ≤ one (is_unclean a)
+    each Clean = omega arith
+    each Dirty = omega arith
+    each (Poisoned j) = omega arith
+
+-- an Own that becomes dirty isn't poisoned then
+pub dirty_poisoned : (test : OwnTitle → Bool) (t : Title) (os : List OwnTitle) →
+    sum_by (λ (o : OwnTitle). one (same_title o.title t && is_poisoned o.state)) (changed test dirty os)
+    ≤ sum_by (λ (o : OwnTitle). one (same_title o.title t && is_poisoned o.state)) os
+dirty_poisoned test t [] = omega arith
+dirty_poisoned test t (o ∷ os) = elim (cases_Bool (test o)) [
+  | inl y ↦
+      let z : one (same_title o.title t && false) ≡ 0 = none (same_title o.title t) in
+      rw y (omega (
+        arith,
+        sum_by-cons (λ (x : OwnTitle). one (same_title x.title t && is_poisoned x.state)) o os,
+        sum_by-cons (λ (x : OwnTitle). one (same_title x.title t && is_poisoned x.state)) (dirty o) os,
+      ))
+  | inr n ↦
+      let again = dirty_poisoned test t os in
+      rw n (omega (
+        arith,
+        sum_by-cons (λ (x : OwnTitle). one (same_title x.title t && is_poisoned x.state)) o os,
+        sum_by-cons (λ (x : OwnTitle). one (same_title x.title t && is_poisoned x.state)) o (changed test dirty os),
+      ))
+]
+  where
+    none : (b : Bool) → one (b && false) ≡ 0
+    none true = refl
+    none false = refl

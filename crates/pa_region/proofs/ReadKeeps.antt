@@ -1,5 +1,5 @@
 -- A read keeps the rule.
-use Rattle.std.proofs.Common.{◌≡◌, ℕ, ◌+◌, ◌%◌, ◌<◌, List, Some, length, set, refl, sym, ◌∙◌, ap, arith, inl, inr, eqb}
+use Rattle.std.proofs.Common.{◌≡◌, ℕ, ◌+◌, ◌%◌, ◌<◌, List, ◌∷◌, Some, length, set, refl, sym, ◌∙◌, ap, arith, inl, inr, eqb}
 use Rattle.std.specs.Prelude.{if◌then◌else◌}
 use mathlib.Core.Option.{some}
 use lib.ListN.{get_elem?}
@@ -41,6 +41,8 @@ use Rattle.pa_region.proofs.OneLog.{own_log}
 use Rattle.pa_region.proofs.ReadStep.{user_in_all, word_read}
 use Rattle.pa_region.proofs.TotalsPart.{words_stay, totals_other}
 use Rattle.pa_region.proofs.OrderPart.{ending, order_plain}
+use Rattle.pa_region.proofs.StepsPart.{logging, eased_same, filled_entry}
+use Rattle.pa_region.proofs.StepsKept.{others_apart, read_in_place}
 
 -- the entry of a read that gave the value of its word
 abbrev pub read_entry : Title → ℕ → ℕ → View → Entry
@@ -146,6 +148,7 @@ read_keeps words views i v t place k at_i has stake below =
       history = k.history;
       list = k.list;
       all = ending e v k.all;
+      steps = logging e v ∷ k.steps;
       holders = holders_same (byte_words words) (total_of (shown words views)) _ (idle_in views) (idle_in (set views i w)) (budget_in views) (budget_in (set views i w))
           (logged_in views counted) (logged_in (set views i w) counted) k.holders same
           (λ u some_idle. let c = sum_set (λ (z : View). idle_of z u) views i v w at_i in k.holders.known u (omega arith))
@@ -181,4 +184,7 @@ read_keeps words views i v t place k at_i has stake below =
       undone = undone_set views i v w at_i refl (λ u. let m = more (uncuts u) in omega arith) k.undone;
       totals = totals_other words words views i v w e at_i refl stake k.totals (words_stay words) more (λ n. refl) (λ q. refl) (λ q. omega arith);
       ordered = order_plain k.all k.list views i v w e at_i refl stake k.logs.each_stake (λ n. refl) (λ u word touch. absurd touch) k.ordered;
+      filled = filled_entry k.steps k.all k.history (total_of (shown words views)) (total_of (shown words (set views i w))) views i v w e at_i refl refl
+          (record { frees = λ u. refl; keeps = λ u x. refl; fills = λ u. tt }) (read_in_place words views i v t place k at_i has stake below)
+          (others_apart words views i v k at_i stake) (eased_same _ _ same) k.filled;
     }

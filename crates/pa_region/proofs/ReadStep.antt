@@ -33,7 +33,7 @@ pub user_in_all : (words : List ℕ) (views : List View) (i : ℕ) (v : View) (t
 user_in_all words views i v t at_i has = held_in_all words views i v t at_i (title_held v t (omega arith))
 
 -- an Own is clean, or it isn't
-clean_or : (t : Title) (os : List OwnTitle) →
+pub clean_or : (t : Title) (os : List OwnTitle) →
     sum_by (λ (o : OwnTitle). one (same_title o.title t)) os ≤
     sum_by (λ (o : OwnTitle). one (same_title o.title t && same_state o.state Clean)) os + sum_by (λ (o : OwnTitle). one (same_title o.title t && is_unclean o.state)) os
 clean_or t [] = omega arith
@@ -57,11 +57,11 @@ clean_or t (o ∷ os) =
 test_yes : (n : ℕ) → ltb 0 n ≡ true → 0 < n
 test_yes n e = elim (cases_lt 0 n) [ inl y ↦ y | inr m ↦ absurd (true≢false (sym e ∙ le-ltb 0 n m)) ]
 
-test_no : (n : ℕ) → ltb 0 n ≡ false → n ≡ 0
+pub test_no : (n : ℕ) → ltb 0 n ≡ false → n ≡ 0
 test_no n e = elim (cases_lt 0 n) [ inl y ↦ absurd (true≢false (sym (lt-ltb 0 n y) ∙ e)) | inr m ↦ omega arith ]
 
 -- a view that has an Own in a poisoned state has it poisoned
-as_poisoned : (v : View) (t : Title) (j : ℕ) → own_as v t (Poisoned j) ≤ poisoned_of v t
+pub as_poisoned : (v : View) (t : Title) (j : ℕ) → own_as v t (Poisoned j) ≤ poisoned_of v t
 as_poisoned v t j =
     sum_by-le-sum_by (λ (o : OwnTitle). one (same_title o.title t && same_state o.state (Poisoned j))) (λ (o : OwnTitle). one (same_title o.title t && is_poisoned o.state)) v.owns
     (λ o. go (same_title o.title t) o.state)
@@ -77,7 +77,7 @@ as_poisoned v t j =
     go false a = omega arith
 
 -- the Own of a title that is live, in the view that has it
-live_own : (words : List ℕ) (views : List View) (t : Title) → 0 < total_of (shown words views) (OwnOf t) →
+pub live_own : (words : List ℕ) (views : List View) (t : Title) → 0 < total_of (shown words views) (OwnOf t) →
     (j : ℕ) × (u : View) × (get_elem? views j ≡ some u) × (0 < own_of u t) × ((a : OwnState) × (0 < held_of_view u (OwnAs t a)))
 live_own words views t some_own =
     let s = total_sum words views (OwnOf t) in

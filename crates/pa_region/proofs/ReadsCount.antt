@@ -49,7 +49,7 @@ both_held words views i j v u at_i at_j ne t =
     (omega arith, omega arith)
 
 -- while another view has the title, no view issues or writes it
-others_keep : (step : Step) (t : Title) (words : List ℕ) (views : List View) (i j : ℕ) (v u : View) → IsKept words views → get_elem? views i ≡ some v → get_elem? views j ≡ some u →
+pub others_keep : (step : Step) (t : Title) (words : List ℕ) (views : List View) (i j : ℕ) (v u : View) → IsKept words views → get_elem? views i ≡ some v → get_elem? views j ≡ some u →
     (j ≡ i → ⊥) → CanCount step t v → HasTitle u t → (step ≡ Issue → ⊥) × (step ≡ Write → ⊥)
 others_keep Issue t words views i j v u k at_i at_j ne can title =
     let held = held_in_all words views i v t at_i (handle_held Issue t v can.0) in

@@ -1,5 +1,5 @@
 -- Steps that only regroup what the views have: if all sums stay, the rule's parts do.
-use Rattle.std.proofs.Common.{◌≡◌, ℕ, ◌+◌, ◌<◌, ◌≤◌, Bool, true, false, ◌&&◌, List, [], ◌∷◌, ◌++◌, length, set, refl, sym, ◌∙◌, ap, subst, arith, ◌⊎◌, inl, inr}
+use Rattle.std.proofs.Common.{◌≡◌, ℕ, ◌+◌, ◌<◌, ◌≤◌, ◌&&◌, List, [], ◌∷◌, ◌++◌, length, set, refl, sym, ◌∙◌, ap, subst, arith, ◌⊎◌, inl, inr}
 use Rattle.std.specs.List.{sum_by}
 use Rattle.std.specs.Prelude.{nat_lt, if◌then◌else◌}
 use Rattle.std.proofs.lemmas.Bool.{cases_lt, lt-ltb, le-ltb}
@@ -7,8 +7,7 @@ use Rattle.std.proofs.lemmas.List.Sums.{sum_by_push, sum_by-append, sum_by-le-su
 use mathlib.Core.Option.{some}
 use lib.ListN.{get_elem?}
 use Rattle.pa_machine.specs.declared.title.Title.{Title}
-use Rattle.pa_machine.specs.declared.title.OwnState.TheVariants.{Clean, Dirty, Poisoned}
-use Rattle.pa_machine.specs.declared.title.OwnState.{OwnState}
+use Rattle.pa_machine.specs.declared.title.OwnState.TheVariants.{Clean, Poisoned}
 use Rattle.pa_machine.specs.Titles.{same_title}
 use Rattle.pa_machine.specs.Holdings.{Thing, FreeTitle, OwnOf, OwnAs, RefOf, one}
 use Rattle.pa_machine.specs.Events.{total_of}
@@ -19,11 +18,12 @@ use Rattle.pa_region.specs.declared.view.SeenNumber.{SeenNumber}
 use Rattle.pa_region.specs.declared.view.View.{View}
 use Rattle.pa_region.specs.Views.{held_of_view, byte_words, shown, idle_of, idle_in, budget_in, low_of, low_in, uncut_in, undone_of, undone_in, stake_of, stakes_in, logged_of, logged_in, ahead_of, ahead_in, unseen_by, unseen_of, own_of, unseen_in, counted, counted_on, names, uncuts}
 use Rattle.pa_region.specs.Order.{IsLoggedIn}
+use Rattle.pa_region.specs.Filled.{IsSteady}
 use Rattle.pa_region.specs.Rule.{Values, Reservations, Logs, IsKept}
 use Rattle.pa_region.specs.Lists.{keeper_of, keepers_in, lease_of, leases_in, IsListed, HasSeenFree}
 use Rattle.pa_region.specs.Hands.{IsParted, CanTake}
 use Rattle.pa_region.specs.Pairs.{paired_of, paired_in, paired_of_by, paired_by, logged_of_by, logged_by}
-use Rattle.pa_region.specs.Waiting.{is_poisoned, is_unclean, poisoned_of, unclean_of, poisoned_apart, IsReader}
+use Rattle.pa_region.specs.Waiting.{poisoned_of, poisoned_apart, IsReader}
 use Rattle.pa_region.proofs.ReadsSame.{reads_over}
 use Rattle.pa_region.proofs.Adding.{sum_set, sum_part, one_and}
 use Rattle.pa_region.proofs.Pieces.{total_sum, owns_have}
@@ -33,6 +33,8 @@ use Rattle.pa_region.proofs.SeenPart.{logged_mono}
 use Rattle.pa_region.proofs.SeenJoin.{seen_left, seen_right, unseen_grown}
 use Rattle.pa_region.proofs.TotalsPart.{totals_same}
 use Rattle.pa_region.proofs.OrderPart.{order_over}
+use Rattle.pa_region.proofs.PoisonedOwns.{poisoned_unclean}
+use Rattle.pa_region.proofs.StepsPart.{eased_same, filled_over}
 
 -- the same is had, by all views together; that no Ref is left may be forgotten
 pub record IsRegrouped (before after : List View) : Type 0 where
@@ -64,8 +66,9 @@ content_regrouped words before after last same k = record {
 pub kept_regrouped : (words : List ℕ) (before after : List View) (k : IsKept words before) → IsRegrouped before after → Values (byte_words words) after →
     ((i : ℕ) (v : View) → get_elem? after i ≡ some v → IsListed k.list v) → ((i : ℕ) (v : View) → get_elem? after i ≡ some v → HasSeenFree v) →
     ((i : ℕ) (v : View) → get_elem? after i ≡ some v → IsReader k.history (byte_words words) v) →
-    ((i : ℕ) (v : View) → get_elem? after i ≡ some v → IsLoggedIn k.all v) → IsKept words after
-kept_regrouped words before after k g values listed free readers logged =
+    ((i : ℕ) (v : View) → get_elem? after i ≡ some v → IsLoggedIn k.all v) →
+    ((i : ℕ) (v : View) → get_elem? after i ≡ some v → IsSteady k.steps v) → IsKept words after
+kept_regrouped words before after k g values listed free readers logged steady =
     let same : (x : Thing) → total_of (shown words after) x ≡ total_of (shown words before) x =
     λ x. let a = total_sum words after x in let b = total_sum words before x in let c = g.things x in omega arith in
     let total : total_of (shown words before) ≡ total_of (shown words after) = λ i x. sym (same x) i in
@@ -76,6 +79,7 @@ kept_regrouped words before after k g values listed free readers logged =
       history = k.history;
       list = k.list;
       all = k.all;
+      steps = k.steps;
       holders = holders_same (byte_words words) (total_of (shown words before)) (total_of (shown words after)) (idle_in before) (idle_in after) (budget_in before) (budget_in after)
           (logged_in before counted) (logged_in after counted) k.holders same
           (λ u some_idle. let e = g.idle u in k.holders.known u (omega arith)) g.budget (g.logs counted);
@@ -109,6 +113,7 @@ kept_regrouped words before after k g values listed free readers logged =
       undone = λ t. let a = g.undone t in let b = g.logs (uncuts t) in let c = k.undone t in omega arith;
       totals = totals_same words before after g.logs g.logs_by k.totals;
       ordered = order_over k.all k.list before after k.ordered logged;
+      filled = filled_over k.steps k.all k.history (total_of (shown words before)) (total_of (shown words after)) before after (eased_same _ _ same) k.filled steady;
     }
 
 -- how many times a view that doesn't have stake k has the title's Own poisoned
@@ -152,15 +157,6 @@ apart_joined v w both t k stakes poisoned can = elim (apart_is both t k) [
         | inr m ↦ let m1 = m.1 in elim (apart_is w t k) [ inl y ↦ let z = y.0 in absurd (omega arith) | inr o ↦ let o1 = o.1 in omega arith ]
       ]
 ]
-  where
-    poisoned_unclean : (u : View) (t : Title) → poisoned_of u t ≤ unclean_of u
-    poisoned_unclean u t = sum_by-le-sum_by (λ (o : OwnTitle). one (same_title o.title t && is_poisoned o.state)) (λ (o : OwnTitle). one (is_unclean o.state)) u.owns (λ o. each (same_title o.title t) o.state)
-      where
-        each : (b : Bool) (a : OwnState) → one (b && is_poisoned a) ≤ one (is_unclean a)
-        each true Clean = omega arith
-        each true Dirty = omega arith
-        each true (Poisoned j) = omega arith
-        each false a = omega arith
 
 -- a sum in which one view is parted
 part_sum : (f : View → ℕ) (views : List View) (i : ℕ) (v l r : View) → get_elem? views i ≡ some v → f l + f r ≡ f v → sum_by f (set views i l ++ r ∷ []) ≡ sum_by f views

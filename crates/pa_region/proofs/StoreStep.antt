@@ -10,12 +10,12 @@ use Rattle.pa_machine.specs.declared.title.OwnState.{OwnState}
 use Rattle.pa_machine.specs.declared.title.OwnState.TheVariants.{Dirty}
 use Rattle.pa_machine.specs.declared.event.Event.TheVariants.{Store}
 use Rattle.pa_machine.specs.Count.{refs_of}
-use Rattle.pa_machine.specs.Titles.{same_title, Covers, IsContentOf, count_place, count_word}
+use Rattle.pa_machine.specs.Titles.{same_title, Covers, IsContentOf, count_place, count_word, progress}
 use Rattle.pa_machine.specs.Holdings.{Thing, OwnPiece, RawByte, FreeTitle, OwnOf, OwnAs, RefOf, one, amount, IsTitleHeld}
-use Rattle.pa_machine.specs.Events.{IsEnabled, Happens, IsAfter, IsRawWord, IsFreeWord, IsOwnWord, total_of}
+use Rattle.pa_machine.specs.Events.{HasActor, IsEnabled, Happens, IsAfter, IsRawWord, IsFreeWord, IsOwnWord, total_of}
 use Rattle.pa_machine.proofs.Same.{title_tells, title_self, state_self}
 use Rattle.pa_machine.proofs.Parts.{Changes, free_or, word_covered}
-use Rattle.pa_machine.proofs.Happening.{own_state_is, happens_good}
+use Rattle.pa_machine.proofs.Happening.{after_changes, in_total, own_state_is, happens_good}
 use Rattle.pa_machine.proofs.Noting.{keeps_content}
 use Rattle.pa_region.specs.declared.view.OwnTitle.{OwnTitle}
 use Rattle.pa_region.specs.declared.view.View.{View}
@@ -32,8 +32,9 @@ use Rattle.pa_region.proofs.Shown.{shown_actor, shown_held, is_after}
 use Rattle.pa_region.proofs.ValuePart.{raw_outside}
 use Rattle.pa_region.proofs.CountEvent.{open_state}
 use Rattle.pa_region.proofs.OneTitle.{few_owns}
-use Rattle.pa_region.proofs.PoisonedOwns.{sum_grows, none_poisoned}
+use Rattle.pa_region.proofs.PoisonedOwns.{sum_grows, none_poisoned, dirty_poisoned}
 use Rattle.pa_region.proofs.WriteStep.{IsWrite, write_keeps}
+use Rattle.pa_region.proofs.StepsPart.{IsEased, eased_same, eased_change, filled_same}
 
 -- the test says whether the word is a content word of the Own
 content_test : (at_byte : ℕ) (o : OwnTitle) → ((has_content_at at_byte o ≡ true) × IsContentOf o.title at_byte) ⊎ ((has_content_at at_byte o ≡ false) × (IsContentOf o.title at_byte → ⊥))
@@ -379,3 +380,16 @@ store_keeps at_byte value words views i v k at_i can =
     write_keeps words views i v (after_store at_byte value v) (at_byte / 8) value k at_i (store_write at_byte value words views i v k at_i can)
     (happens_good (Store i at_byte value) (shown words views) after k.holders.good event.0 event.1)
     (keeps_content (Store i at_byte value) (shown words views) after (λ t. content_of (k.history t)) k.holders.good event.0 event.1 k.content)
+    k.steps
+    (filled_same k.steps k.all k.history (total_of (shown words views)) (total_of after) views i v (after_store at_byte value v) at_i (store_eased event.0.0 event.1) refl
+    (λ quiet. quiet) (λ did. did) (λ t some_own. let l = dirty_poisoned (has_content_at at_byte) t v.owns in omega arith) k.filled)
+  where
+    -- its Own may be in another state
+    store_eased : HasActor (shown words views) i →
+        Happens (Store i at_byte value) (shown words views) (shown (set words (at_byte / 8) value) (set views i (after_store at_byte value v))) →
+        IsEased (total_of (shown words views)) (total_of (shown (set words (at_byte / 8) value) (set views i (after_store at_byte value v))))
+    store_eased actor (inl plain) = eased_same _ _ (λ x. let c = after_changes (shown words views) _ i [] [] _ actor plain.1 x in omega arith)
+    store_eased actor (inr own) =
+        eased_change _ _ own.0 own.1 Dirty (after_changes (shown words views) _ i _ _ _ actor own.3)
+        (in_total (shown words views) i (OwnAs own.0 own.1) own.2.0.1)
+        (elim own.2.0.0 [ inl y ↦ ap progress y | inr y ↦ ap progress y ])

@@ -9,7 +9,7 @@ use lib.ListN.{get_elem?}
 use Rattle.pa_machine.specs.declared.title.Title.{Title}
 use Rattle.pa_machine.specs.declared.event.Event.TheVariants.{Uncut as UncutEvent}
 use Rattle.pa_machine.specs.Titles.{same_title, Covers}
-use Rattle.pa_machine.specs.Holdings.{RawPiece, FreePiece, RawByte, FreeTitle, OwnOf, RefOf, one, amount, IsTitleHeld}
+use Rattle.pa_machine.specs.Holdings.{RawPiece, FreePiece, RawByte, FreeTitle, OwnOf, OwnAs, RefOf, one, amount, IsTitleHeld}
 use Rattle.pa_machine.specs.Events.{IsEnabled, Happens, total_of}
 use Rattle.pa_machine.proofs.Same.{title_one}
 use Rattle.pa_machine.proofs.Amounts.{free_self}
@@ -43,6 +43,8 @@ use Rattle.pa_region.proofs.Stays.{low_raw, stakes_set}
 use Rattle.pa_region.proofs.Parting.{has_byte}
 use Rattle.pa_region.proofs.TotalsPart.{words_stay, totals_other}
 use Rattle.pa_region.proofs.OrderPart.{ending, order_plain}
+use Rattle.pa_region.proofs.StepsPart.{logging, eased_titles, filled_entry}
+use Rattle.pa_region.proofs.StepsKept.{others_apart}
 
 -- what an uncut changes of what the view holds
 pub uncut_changes : (t : Title) (v : View) → 0 < free_of v t → Changes (held_of_view v) (FreePiece t ∷ []) (RawPiece t.start t.len ∷ []) (held_of_view (after_uncut t v))
@@ -87,6 +89,7 @@ uncut_keeps t words views i v k at_i can =
       history = k.history;
       list = k.list;
       all = ending e v k.all;
+      steps = logging e v ∷ k.steps;
       holders = holders_written (byte_words words) (byte_words words) (total_of (shown words views)) (total_of after) (idle_in views) (idle_in (set views i w))
           (budget_in views) (budget_in (set views i w)) (logged_in views counted) (logged_in (set views i w) counted) k.holders
           (happens_good (UncutEvent i t) (shown words views) after k.holders.good event.0 event.1) back (λ u held. refl)
@@ -146,6 +149,9 @@ uncut_keeps t words views i v k at_i can =
           omega arith;
       totals = totals_other words words views i v w e at_i refl can.1 k.totals (words_stay words) more (λ n. refl) (λ q. refl) (λ q. omega arith);
       ordered = order_plain k.all k.list views i v w e at_i refl can.1 k.logs.each_stake (λ n. refl) (λ u word touch. absurd touch) k.ordered;
+      filled = filled_entry k.steps k.all k.history (total_of (shown words views)) (total_of after) views i v w e at_i refl refl
+          (record { frees = λ u. refl; keeps = λ u x. refl; fills = λ u. tt }) tt (others_apart words views i v k at_i can.1)
+          (eased_titles _ _ (λ u state. let c = changes (OwnAs u state) in omega arith) (λ u. let c = changes (OwnOf u) in omega arith) (λ u. let c = changes (RefOf u) in omega arith)) k.filled;
     }
   where
     changes : Changes (total_of (shown words views)) (FreePiece t ∷ []) (RawPiece t.start t.len ∷ []) (total_of (shown words (set views i (after_uncut t v))))

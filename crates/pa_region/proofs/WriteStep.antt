@@ -18,6 +18,8 @@ use Rattle.pa_region.specs.declared.view.View.{View}
 use Rattle.pa_region.specs.Views.{held_of_view, byte_words, shown, Knows, idle_of, idle_in, budget_in, low_in, uncut_in, stakes_in, logged_of, logged_in, HasStake, ahead_of, ahead_in, unseen_of, unseen_in, counted, counted_on, names, uncuts}
 use Rattle.pa_region.specs.History.{content_of}
 use Rattle.pa_region.specs.Waiting.{poisoned_of, unclean_of}
+use Rattle.pa_region.specs.Order.{OneStep}
+use Rattle.pa_region.specs.Filled.{Filled}
 use Rattle.pa_region.specs.Rule.{IsKept, Values}
 use Rattle.pa_region.proofs.Adding.{sum_set}
 use Rattle.pa_region.proofs.Pieces.{title_held, held_title, total_set, frees_have, owns_have}
@@ -87,13 +89,15 @@ write_values words views i v w p x k at_i h =
 -- the rule after it
 pub write_keeps : (words : List ℕ) (views : List View) (i : ℕ) (v w : View) (p x : ℕ) (k : IsKept words views) → get_elem? views i ≡ some v →
     IsWrite words views v w p x → ShownGood (set words p x) (set views i w) →
-    KeepsContent (shown (set words p x) (set views i w)) (λ t. content_of (k.history t)) → IsKept (set words p x) (set views i w)
-write_keeps words views i v w p x k at_i h good content =
+    KeepsContent (shown (set words p x) (set views i w)) (λ t. content_of (k.history t)) → (steps : List OneStep) →
+    Filled steps k.all k.history (total_of (shown (set words p x) (set views i w))) (set views i w) → IsKept (set words p x) (set views i w)
+write_keeps words views i v w p x k at_i h good content steps filled =
     let at_place = bytes_set words p x h.below in
     record {
       history = k.history;
       list = k.list;
       all = k.all;
+      steps = steps;
       holders = rw at_place (holders_written (byte_words words) (set (byte_words words) p x) (total_of (shown words views)) (total_of (shown (set words p x) (set views i w)))
           (idle_in views) (idle_in (set views i w)) (budget_in views) (budget_in (set views i w)) (logged_in views counted) (logged_in (set views i w) counted)
           k.holders (rw at_place at good) back word
@@ -132,6 +136,7 @@ write_keeps words views i v w p x k at_i h good content =
       undone = undone_set views i v w at_i h.uncut (λ u. let l = logs (uncuts u) in omega arith) k.undone;
       totals = totals_stay words (set words p x) views i v w at_i h.stakes k.totals (bytes_stay words p x h.below);
       ordered = order_same k.all k.list views i v w at_i h.stakes k.ordered;
+      filled = filled;
     }
   where
     back : (t : Title) → IsTitleHeld (total_of (shown (set words p x) (set views i w))) t → IsTitleHeld (total_of (shown words views)) t

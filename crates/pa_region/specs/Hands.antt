@@ -210,9 +210,9 @@ merged v q [] others = others
 merged v q (x ∷ xs) [] = x ∷ xs
 merged v q (x ∷ xs) (y ∷ ys) = (if nat_lt 0 (knowing v q) then x else y) ∷ merged v (suc q) xs ys
 
--- what two views together did since the last entry
+-- what two views together did since the last entry; that the other poisoned is forgotten, since its Owns are clean
 abbrev pub done_by_both : Deeds → Deeds → Deeds
-done_by_both d e = record { handed = true; stored = d.stored || e.stored; poisoned = d.poisoned || e.poisoned }
+done_by_both d e = record { handed = true; stored = d.stored || e.stored; poisoned = d.poisoned }
 
 -- the view of two together
 abbrev pub united : View → View → View

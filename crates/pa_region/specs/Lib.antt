@@ -5,6 +5,7 @@ pub mod CutTells
 pub mod Cuts
 pub mod Ends
 pub mod Entries
+pub mod Filled
 pub mod Frees
 pub mod Hands
 pub mod History

@@ -124,12 +124,13 @@ HasHandle Reset t v = 0 < ref_of v t
 HasHandle Free t v = 0 < own_as v t (Poisoned (content_count t))
 HasHandle Write t v = (0 < idle_of v t) × (0 < own_as v t Clean + own_as v t Dirty)
 
--- the view knows the content that the step needs: for an issue 0, for a write one value in all words
+-- the view knows the content that the step needs: for an issue 0, for a write one value in all words; and for a free nothing was
+-- logged since the view poisoned it
 abbrev pub HasContent : Step → Title → View → Type 0
 HasContent Issue t v = HasContentFrom v.words t 0 0
 HasContent Copy t v = Unit {0}
 HasContent Reset t v = Unit {0}
-HasContent Free t v = Unit {0}
+HasContent Free t v = v.since.poisoned ≡ true
 HasContent Write t v = IsUniform v.words t
 
 -- a seat with this view may make the step

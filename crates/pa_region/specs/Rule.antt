@@ -19,7 +19,8 @@ use Rattle.pa_region.specs.Waiting.{Reads}
 use Rattle.pa_region.specs.Pairs.{logged_by}
 use Rattle.pa_region.specs.Lists.{Lists}
 use Rattle.pa_region.specs.Totals.{Totals}
-use Rattle.pa_region.specs.Order.{Stamped, InOneOrder}
+use Rattle.pa_region.specs.Order.{Stamped, OneStep, InOneOrder}
+use Rattle.pa_region.specs.Filled.{Filled}
 
 -- The first part: the core that is shown is good. If a view knows that a title has no Ref
 -- left, its count is 0. The steps that may still be made and those that were made are at most 65,536, also with
@@ -64,7 +65,7 @@ pub record Seen (logs : (Entry → ℕ) → ℕ) (ahead : Title → ℕ → ℕ)
   pub numbers : (t : Title) → ahead t (logs (counted_on t)) ≡ 0
   pub own_logs : unseen ≡ 0
 
--- The rule, in seven parts, each over what it reads. Each title has a history, each keeper a list, and all that was logged
+-- The rule, in eight parts, each over what it reads. Each title has a history, each keeper a list, and all that was logged
 -- an order. The third part also says that the content of each clean Own is that of its title's history, and the rest of an
 -- Own that is being poisoned while there are Refs; and what reads gave. And what a view's own list says was uncut, some log
 -- says too.
@@ -72,6 +73,7 @@ pub record IsKept (words : List ℕ) (views : List View) : Type 0 where
   pub history : Title → List Done
   pub list : ℕ → List Made
   pub all : List Stamped
+  pub steps : List OneStep
   pub holders : Holders (byte_words words) (total_of (shown words views)) (idle_in views) (budget_in views) (logged_in views counted)
   pub values : Values (byte_words words) views
   pub reservations : Reservations (total_of (shown words views)) (low_in views) (λ t. logged_in views (names t)) (uncut_in views)
@@ -84,3 +86,4 @@ pub record IsKept (words : List ℕ) (views : List View) : Type 0 where
   pub undone : (t : Title) → undone_in views t ≤ uncut_in views t
   pub totals : Totals words (logged_in views) (logged_by views)
   pub ordered : InOneOrder all list views
+  pub filled : Filled steps all history (total_of (shown words views)) views

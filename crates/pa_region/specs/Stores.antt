@@ -1,5 +1,5 @@
 -- How a store and a poisoning change the stepping seat's view, and what they require of it.
-use Rattle.std.specs.Prelude.{◌≡◌, ℕ, ◌+◌, ◌/◌, ◌%◌, ◌<◌, ◌≤◌, ◌⊎◌, Bool, ◌==◌, ◌&&◌, nat_lt, nat_le, true, slice_set}
+use Rattle.std.specs.Prelude.{◌≡◌, ℕ, zero, suc, ◌+◌, ◌/◌, ◌%◌, ◌<◌, ◌≤◌, ◌⊎◌, Bool, ◌==◌, ◌&&◌, nat_lt, nat_le, true, slice_set}
 use Rattle.std.specs.List.{sum_by}
 use Rattle.pa_machine.specs.declared.title.Title.{Title}
 use Rattle.pa_machine.specs.declared.title.OwnState.TheVariants.{Clean, Dirty, Poisoned}
@@ -9,6 +9,7 @@ use Rattle.pa_region.specs.declared.view.OwnTitle.{OwnTitle}
 use Rattle.pa_region.specs.declared.view.View.{View}
 use Rattle.pa_region.specs.Views.{held_of_view, free_of, own_of, own_as, idle_of, HasStake}
 use Rattle.pa_region.specs.Moves.{changed, is_own_of}
+use Rattle.pa_region.specs.Waiting.{poisoned_owns}
 
 -- the word at the byte offset is a content word of the Own
 abbrev pub has_content_at : ℕ → OwnTitle → Bool
@@ -63,6 +64,12 @@ after_poison t j v = record v {
 abbrev pub own_to : View → Title → ℕ → ℕ
 own_to v t j = sum_by (λ (o : OwnTitle). one (same_title o.title t && (progress o.state == j))) v.owns
 
+-- a seat goes on with word number j: with word 0 it begins while none of its Owns is poisoned, and with a later one nothing was
+-- logged since it poisoned
+abbrev pub GoesOn : ℕ → View → Type 0
+GoesOn zero v = poisoned_owns v ≡ 0
+GoesOn (suc j) v = v.since.poisoned ≡ true
+
 -- a seat with this view may poison the title's content word number j: it is the next one
 abbrev pub CanPoison : Title → ℕ → View → Type 0
-CanPoison t j v = (0 < own_to v t j) × (j < content_count t) × HasStake v
+CanPoison t j v = (0 < own_to v t j) × (j < content_count t) × HasStake v × GoesOn j v

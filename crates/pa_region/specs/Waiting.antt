@@ -58,6 +58,10 @@ is_unclean (Poisoned j) = true
 abbrev pub poisoned_of : View → Title → ℕ
 poisoned_of v t = sum_by (λ (o : OwnTitle). one (same_title o.title t && is_poisoned o.state)) v.owns
 
+-- how many Owns it has poisoned, of whatever title
+abbrev pub poisoned_owns : View → ℕ
+poisoned_owns v = sum_by (λ (o : OwnTitle). one (is_poisoned o.state)) v.owns
+
 -- how many Owns it has that aren't clean
 abbrev pub unclean_of : View → ℕ
 unclean_of v = sum_by (λ (o : OwnTitle). one (is_unclean o.state)) v.owns

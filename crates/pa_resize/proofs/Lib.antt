@@ -1,5 +1,6 @@
 pub mod Steps
 pub mod Scripts
+mod Inputs
 pub mod Setting
 pub mod Cells
 pub mod Moving

@@ -97,7 +97,7 @@ module _ (s : Script) (i : ℕ) (p : Player) (line d : ScriptLine) (vs : List (�
   pub next_few : length p.lines.items + 6 ≤ 65535
   next_few = let few = within.few in omega (arith, h.few, length-take i s.lines, few, lt)
 
-  pub next_within : IsScriptLineWithin p.head.partitions p.head.threads line
+  pub next_within : IsScriptLineWithin p.lines.head.partitions p.lines.head.threads line
   next_within =
       let W : ScriptLine → Type 0 = IsScriptLineWithin s.partitions s.threads in
       let one : W line = subst W (sym is) (All-get_or W s.lines i d lt (All-from_recursion W s.lines within.lines)) in

@@ -9,6 +9,7 @@ use Rattle.pa_trace.specs.declared.script.Line.TheVariants.{Phase, Do}
 use Rattle.pa_trace.specs.declared.script.Op.{Op}
 use Rattle.pa_trace.specs.declared.script.Op.TheVariants.{Alloc, Free, Write, Read, Swap}
 use Rattle.pa_trace.specs.declared.script.Trace.{Trace}
+use Rattle.pa_trace.specs.Limits.{IsInput}
 use Rattle.pa_record.specs.declared.entry.Seen.{Seen}
 use Rattle.pa_record.specs.declared.entry.Answer.{Answer}
 use Rattle.pa_record.specs.declared.entry.Answer.TheVariants.{Value, Full}
@@ -17,7 +18,7 @@ use Rattle.pa_record.specs.RunText.{IsRunText}
 use Rattle.pa_script.specs.declared.script.Script.{Script}
 use Rattle.pa_script.specs.declared.script.ScriptLine.{ScriptLine}
 use Rattle.pa_script.specs.declared.script.ScriptLine.TheVariants.{Plain, Resize}
-use Rattle.pa_script.specs.Limits.{named_count}
+use Rattle.pa_script.specs.Limits.{IsScriptInput, named_count}
 use Rattle.pa_rules.specs.declared.played.Played.{Played}
 use Rattle.pa_rules.specs.declared.register.Register.TheVariants.{Own}
 use Rattle.pa_rules.specs.Legal.{IsFileRun}
@@ -144,10 +145,18 @@ pub record IsExpanded (s : Script) (t : Trace) (run : Run) (vs : List (ℕ × Ve
   pub each : ArePieces (records_of t (told_by run)) (told_by run) [] pieces
   pub verdicts : vs ≡ verdicts_of 2 pieces
 
--- the script comes to this trace, and this is the text of its run in the order of its lines, which has a run of the core
-pub record IsExpandedText (s : Script) (t : Trace) (text : List ℕ) : Type 0 where
+-- these are the text of the trace to which the script comes, and that of its run in the order of its lines, which has a run of the core
+pub record IsExpandedText (s : Script) (front text : List ℕ) : Type 0 where
+  pub trace : Trace
   pub run : Run
   pub verdicts : List (ℕ × Verdict)
-  pub expanded : IsExpanded s t run verdicts
-  pub core : HasCoreRun t run
+  pub expanded : IsExpanded s trace run verdicts
+  pub core : HasCoreRun trace run
+  pub traced : IsInput trace front
   pub printed : IsRunText run text
+
+-- the bytes are the text of a script within the limits, and these are the texts of what it comes to
+pub record IsInputExpanded (bytes front text : List ℕ) : Type 0 where
+  pub script : Script
+  pub input : IsScriptInput script bytes
+  pub expanded : IsExpandedText script front text

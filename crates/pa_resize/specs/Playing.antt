@@ -4,9 +4,11 @@ use Rattle.std.specs.List.{flat_map}
 use Rattle.pa_trace.specs.declared.line.Head.{Head}
 use Rattle.pa_trace.specs.declared.script.Line.TheVariants.{Do}
 use Rattle.pa_trace.specs.declared.script.Op.{Op}
+use Rattle.pa_trace.specs.Unread.{Unread}
 use Rattle.pa_record.specs.declared.entry.Answer.{Answer}
 use Rattle.pa_script.specs.declared.script.Script.{Script}
 use Rattle.pa_script.specs.declared.script.ScriptLine.{ScriptLine}
+use Rattle.pa_script.specs.Unread.{IsScriptReadUpTo}
 use Rattle.pa_rules.specs.declared.played.Played.{Played}
 use Rattle.pa_rules.specs.Legal.{phases_in}
 use Rattle.pa_rules.specs.Registers.{AllRegs}
@@ -23,7 +25,7 @@ next_record p thread op answer =
 -- Ops were played, and left these records.
 pub record Went (p : Player) (xs : List Played) (q : Player) : Type 0 where
   pub going : IsGoing q
-  pub head : q.head ≡ p.head
+  pub head : q.lines.head ≡ p.lines.head
   pub lines : q.lines.items ≡ p.lines.items ++ map did xs
   pub records : records_so_far q ≡ records_so_far p ++ xs
   pub later : IsLater p q
@@ -43,7 +45,7 @@ pub record Resizes (p : Player) (thread reg size : ℕ) (v : Verdict) (q : Playe
 -- A line of a script was played; it has this verdict if it is a resize.
 pub record PlaysScriptLine (p : Player) (l : ScriptLine) (found : Option Verdict) (q : Player) : Type 0 where
   pub going : IsGoing q
-  pub head : q.head ≡ p.head
+  pub head : q.lines.head ≡ p.lines.head
   pub piece : ScriptPiece
   pub line : piece.line ≡ l
   pub verdict : piece.verdict ≡ found
@@ -60,7 +62,7 @@ script_head s = record { region = s.region; partitions = s.partitions; threads =
 -- These lines of a script were played, with these verdicts.
 pub record IsScriptPlayed (start : Head) (ls : List ScriptLine) (p : Player) (vs : List (ℕ × Verdict)) : Type 0 where
   pub going : IsGoing p
-  pub head : p.head ≡ start
+  pub head : p.lines.head ≡ start
   pub pieces : List ScriptPiece
   pub script : map (λ (x : ScriptPiece). x.line) pieces ≡ ls
   pub trace : flat_map (λ (x : ScriptPiece). x.lines) pieces ≡ p.lines.items
@@ -68,3 +70,10 @@ pub record IsScriptPlayed (start : Head) (ls : List ScriptLine) (p : Player) (vs
   pub few : length p.lines.items ≤ 6 * length ls
   pub each : (ps : List Played) (r : Told) → GoesOnFrom p ps r → ArePieces ps r [] pieces
   pub verdicts : vs ≡ verdicts_of 2 pieces
+
+-- Of the bytes some lines are read, and these were played.
+pub record IsInputPlayedTo (bytes : List ℕ) (u : Unread) (p : Player) : Type 0 where
+  pub lines : List ScriptLine
+  pub verdicts : List (ℕ × Verdict)
+  pub read : IsScriptReadUpTo bytes lines u
+  pub played : IsScriptPlayed u.head lines p verdicts

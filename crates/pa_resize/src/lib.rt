@@ -9,4 +9,4 @@ mod whole;
 
 pub use laws::{moves_keep, others_stay, spare_stays_free};
 pub use verdict::Verdict;
-pub use whole::{Expanded, ExpandedText, expand, expand_text};
+pub use whole::{Expanded, ExpandedText, expand, expand_input};

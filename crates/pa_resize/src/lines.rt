@@ -17,15 +17,16 @@ use pa_player::{Output, Told};
 use pa_record::{Answer, Seen};
 use pa_script::{NAMED, ScriptLine};
 use pa_trace::{Line, Op};
+use pa_trace_writer::{Keeper, Kept};
 
 // Plays a line of a script. Returns its verdict if it is a resize.
-pub(crate) fn play_line<O: Output>(
-    player: &mut Player<Told<O>>,
+pub(crate) fn play_line<O: Output, K: Keeper>(
+    player: &mut Player<Told<O>, Kept<K>>,
     line: ScriptLine,
 ) -> Result<Option<Verdict>, OutOfMemory>
     requires going { IsGoing player.old }
     requires few { length player.old.lines.items + 6 ≤ 65535 }
-    requires within { IsScriptLineWithin player.old.head.partitions player.old.head.threads line }
+    requires within { IsScriptLineWithin player.old.lines.head.partitions player.old.lines.head.threads line }
     ensures { IfOk result (λ verdict. PlaysScriptLine player.old line verdict player.new) }
 {
     match line {
@@ -41,15 +42,15 @@ pub(crate) fn play_line<O: Output>(
 }
 
 // Gives what a register owns another size.
-fn resize<O: Output>(
-    player: &mut Player<Told<O>>,
+fn resize<O: Output, K: Keeper>(
+    player: &mut Player<Told<O>, Kept<K>>,
     thread: u32,
     reg: u32,
     size: u32,
 ) -> Result<Verdict, OutOfMemory>
     requires going { IsGoing player.old }
     requires few { length player.old.lines.items + 6 ≤ 65535 }
-    requires thread { thread < player.old.head.threads }
+    requires thread { thread < player.old.lines.head.threads }
     requires reg { reg < named_count }
     ensures { IfOk result (λ verdict. Resizes player.old thread reg size verdict player.new) }
 {
@@ -80,14 +81,14 @@ fn resize<O: Output>(
 }
 
 // Reads the first word of what a register owns. Returns what was found of its slot, and the value.
-fn look<O: Output>(
-    player: &mut Player<Told<O>>,
+fn look<O: Output, K: Keeper>(
+    player: &mut Player<Told<O>, Kept<K>>,
     thread: u32,
     reg: u32,
 ) -> Result<(Seen, u64), OutOfMemory>
     requires going { IsGoing player.old }
     requires few { length player.old.lines.items < 65535 }
-    requires thread { thread < player.old.head.threads }
+    requires thread { thread < player.old.lines.head.threads }
     requires reg { reg < register_count }
     requires owned { IsSome (owned_by player.old thread reg) }
     ensures { IfOk result (λ found.
@@ -100,15 +101,15 @@ fn look<O: Output>(
 }
 
 // Writes the value to what was allocated into the spare register, frees what the register owns, and hands the new slot over.
-fn hand_over<O: Output>(
-    player: &mut Player<Told<O>>,
+fn hand_over<O: Output, K: Keeper>(
+    player: &mut Player<Told<O>, Kept<K>>,
     thread: u32,
     reg: u32,
     value: u64,
 ) -> Result<(), OutOfMemory>
     requires going { IsGoing player.old }
     requires few { length player.old.lines.items + 4 ≤ 65535 }
-    requires thread { thread < player.old.head.threads }
+    requires thread { thread < player.old.lines.head.threads }
     requires reg { reg < named_count }
     ensures { IfOk result (λ done. WentBy player.old thread (moving reg value) player.new) }
 {
@@ -127,15 +128,15 @@ fn hand_over<O: Output>(
 }
 
 // Plays an op, and returns its answer.
-fn play_op<O: Output>(
-    player: &mut Player<Told<O>>,
+fn play_op<O: Output, K: Keeper>(
+    player: &mut Player<Told<O>, Kept<K>>,
     thread: u32,
     op: Op,
 ) -> Result<Answer, OutOfMemory>
     requires going { IsGoing player.old }
     requires few { length player.old.lines.items < 65535 }
-    requires thread { thread < player.old.head.threads }
-    requires op { IsOpWithin player.old.head.partitions op }
+    requires thread { thread < player.old.lines.head.threads }
+    requires op { IsOpWithin player.old.lines.head.partitions op }
     ensures went { IfOk result (λ answer. Went player.old (next_record player.old thread op answer ∷ []) player.new) }
     ensures owned { IfOk result (λ answer. ReadsOwned player.old (Do thread op) (Some answer)) }
 {

@@ -1,10 +1,11 @@
-ghost use Rattle.std.specs.Prelude.{◌≡◌, ◌++◌, IfOk, OnOk};
+ghost use Rattle.std.specs.Prelude.{◌≡◌, ◌++◌, IfOk, IfErr, OnOk};
 ghost use Rattle.pa_trace.specs.Limits.{IsWithinLimits};
 ghost use Rattle.pa_record.specs.RunText.{IsPrintable};
 ghost use Rattle.pa_core_run.specs.Playing.{HasCoreRun};
+ghost use Rattle.pa_script.specs.Faults.{IsScriptFault};
 ghost use Rattle.pa_script.specs.Limits.{IsScriptWithin};
 ghost use Rattle.pa_model.specs.Player.{IsNew};
-ghost use Rattle.pa_resize.specs.Expansion.{IsExpanded, IsExpandedText, verdict_noted};
+ghost use Rattle.pa_resize.specs.Expansion.{IsExpanded, IsInputExpanded, verdict_noted};
 ghost use Rattle.pa_resize.specs.Playing.{IsScriptPlayed, script_head};
 
 use crate::lines::play_line;
@@ -13,12 +14,16 @@ use pa_machine::OutOfMemory;
 use pa_model::Player;
 use pa_player::{Output, Told};
 use pa_record::Run;
-use pa_script::Script;
-use pa_trace::Trace;
+use pa_script::{MOST_SCRIPT_LINES, Script, ScriptReader};
+use pa_trace::{Head, Trace, TraceFault};
+use pa_trace_writer::{Keeper, Kept};
 use std::alloc::Global;
 
 // A resize becomes at most so many lines of a trace: memory for their records is reserved ahead.
 const LINES: usize = 6;
+
+// Few bytes for a line of a script.
+const LINE: usize = 8;
 
 /// What a script comes to: a trace, its run in the order of its lines, and the verdict of each resize with the number of its
 /// line in the script, where the head is line 1.
@@ -29,10 +34,10 @@ pub struct Expanded {
     pub verdicts: Vec<(u32, Verdict)>,
 }
 
-/// The trace that a script comes to, and the text of its run in the order of its lines.
+/// The text of the trace that a script comes to, and that of its run in the order of its lines.
 #[derive(Drop)]
 pub struct ExpandedText {
-    pub trace: Trace,
+    pub trace: Vec<u8>,
     pub run: Vec<u8>,
 }
 
@@ -56,30 +61,32 @@ pub fn expand(alloc: Global, script: &Script) -> Result<Expanded, OutOfMemory>
     })
 }
 
-/// Plays a script in the same way. Its run is printed as it is played.
-pub fn expand_text(alloc: Global, script: &Script) -> Result<ExpandedText, OutOfMemory>
-    requires { IsScriptWithin script.now }
-    ensures expanded { IfOk result (λ e. IsExpandedText script.now e.trace e.run.items) }
-    ensures within { IfOk result (λ e. IsWithinLimits e.trace) }
+/// Plays the script whose text the bytes are in the same way, each line as soon as it is read, and returns the texts of its trace and
+/// of its run, which are printed as it is played. Bytes are refused with the fault with which `read_script` refuses them.
+pub fn expand_input(alloc: Global, bytes: &[u8]) -> Result<ExpandedText, TraceFault>
+    ensures expanded { IfOk result (λ e. IsInputExpanded bytes.now e.trace.items e.run.items) }
+    ensures fault { IfErr result (λ e. IsScriptFault e bytes.now) }
 {
-    let lines = LINES * script.lines.as_slice().len();
-    let mut player = Player::printing(
-        alloc,
-        script.region,
-        script.partitions,
-        script.threads,
-        lines,
-    )?;
-    play_all(alloc, script, &mut player)?;
+    let mut reader = ScriptReader::of(bytes)?;
+    let Head {
+        region,
+        partitions,
+        threads,
+    } = reader.head();
+    let lines = (bytes.len() / LINE).min(MOST_SCRIPT_LINES as usize);
+    let mut player = Player::printing(alloc, region, partitions, threads, LINES * lines)?;
+    while let Some(line) = reader.next()? {
+        play_line(&mut player, line)?;
+    }
     let (trace, run) = player.finish_printed()?;
     Ok(ExpandedText { trace, run })
 }
 
 // Plays all lines of a script, before which there were none. Returns the verdicts.
-fn play_all<O: Output>(
+fn play_all<O: Output, K: Keeper>(
     alloc: Global,
     script: &Script,
-    player: &mut Player<Told<O>>,
+    player: &mut Player<Told<O>, Kept<K>>,
 ) -> Result<Vec<(u32, Verdict)>, OutOfMemory>
     requires within { IsScriptWithin script.now }
     requires new { IsNew (script_head script.now) player.old }

@@ -7,11 +7,11 @@ use Rattle.pa_machine.specs.declared.title.Title.{Title}
 use Rattle.pa_machine.specs.declared.word.SlotName.{SlotName}
 use Rattle.pa_region.specs.declared.view.Made.{Made}
 use Rattle.pa_region.specs.declared.view.View.{View}
-use Rattle.pa_region.specs.Views.{free_of, seen_of, stake_of}
+use Rattle.pa_region.specs.Views.{free_of, undone_of, seen_of, stake_of}
 use Rattle.pa_region.specs.Waiting.{unclean_of}
 use Rattle.pa_region.specs.Lists.{list_of, IsBeginning}
 use Rattle.pa_region.specs.Hands.{united}
-use Rattle.pa_region.specs.Lending.{Keeps}
+use Rattle.pa_region.specs.Lending.{Keeps, HostsKeeper}
 use Rattle.pa_region.specs.Aware.{IsAware}
 use Rattle.pa_region.proofs.TakeLaws.{right_begins, left_whole}
 use Rattle.pa_record.specs.declared.root.RootEntry.{RootEntry}
@@ -29,6 +29,7 @@ use Rattle.pa_record.proofs.Returning.{all_returned_is}
 use Rattle.pa_rules.specs.Holders.{Back, move_of}
 use Rattle.pa_legal.specs.Numbers.{is_of, moves_of, at_end, IsNumbered}
 use Rattle.pa_legal.proofs.Standing.{out_none}
+use Rattle.pa_shelf.specs.Moving.{Rewritten}
 use Rattle.pa_root.specs.Reading.{pools_seen}
 use Rattle.pa_root.specs.Keeping.{RootState, HasJournal, HoldsMade, KnowsNumbers, HasRest, KeepsLeases, KnowsMaps, IsRootSound}
 use Rattle.pa_root.specs.Handing.{at_number_seen, numbered_by, root_entry}
@@ -43,7 +44,7 @@ use Rattle.pa_record.proofs.MakingNone.{all_returned_make_none}
 use Rattle.pa_root.proofs.Named.{made_name, title_is, filled_was_made}
 use Rattle.pa_root.proofs.Numbering.{fill_by_numbers}
 use Rattle.pa_root.proofs.Moves.{none_moves, one_moves, names_by, numbers_without, numbers_with}
-use Rattle.pa_root.proofs.Together.{no_own_clean, free_both, hosts_both, free_now, handles_now, low_now, lease_now, budget_now, pool_begins, left_now, right_now}
+use Rattle.pa_root.proofs.Together.{no_own_clean, free_both, hosts_both, free_now, handles_now, low_now, lease_now, budget_now, lists_now, pool_begins, left_now, right_now}
 use Rattle.pa_record.proofs.OneEntry.{one_root}
 
 -- what a beginning of the root's list says, the journal has
@@ -79,7 +80,7 @@ module _ (p : ℕ) (s : RootState) (w : View) (titles : List Title) (can : CanCo
       let once = can.both_aware.free_once t in
       absurd (omega arith)
 
-  is_out : (t : Title) → Contains titles t → IsOut s.root (name_of t)
+  pub is_out : (t : Title) → Contains titles t → IsOut s.root (name_of t)
   is_out t among = elim (can.sound.titles.has t (was_made t among)) [
     | inl free ↦ absurd (not_here t among free)
     | inr out ↦ out
@@ -129,15 +130,15 @@ module _ (p : ℕ) (s : RootState) (w : View) (titles : List Title) (can : CanCo
   here_not_there : (t : Title) → 0 < free_of s.view t → Contains (map name_of titles) (name_of t) → ⊥
   here_not_there t free among = not_here t (is_one t (can.sound.titles.made t free) among) free
 
-  module _ (line : ℕ) (x : View) (now : IsAware x) (keeps : Keeps (united s.view w) x)
-      (more : HasEntryMore p (root_entry line (Give (numbered_by w titles))) (united s.view w) x) where
+  module _ (line : ℕ) (y x : View) (wrote : Rewritten (united s.view w) y) (there_aware : IsAware y) (now : IsAware x) (keeps : Keeps y x)
+      (more : HasEntryMore p (root_entry line (Give (numbered_by w titles))) y x) where
     abbrev entry : RootEntry
     entry = root_entry line (Give (numbered_by w titles))
 
     -- a view that holds it free after that
     free_where : (t : Title) → 0 < free_of x t → (0 < free_of s.view t) ⊎ Contains titles t
     free_where t free =
-        let e = free_now s.view w x keeps t in
+        let e = free_now s.view w y x wrote keeps t in
         elim (some_of (free_of s.view t) (free_of w t) (omega arith)) [
           | inl here ↦ inl here
           | inr there ↦ inr ((can.has.frees t).0 there)
@@ -150,11 +151,11 @@ module _ (p : ℕ) (s : RootState) (w : View) (titles : List Title) (can : CanCo
     titles_now : HoldsMade (record { view = x; journal = s.journal ++ entry ∷ []; root = after })
     titles_now = record {
       has = λ t made. elim (can.sound.titles.has t (makes_none t made)) [
-        | inl free ↦ inl (let e = free_now s.view w x keeps t in omega arith)
+        | inl free ↦ inl (let e = free_now s.view w y x wrote keeps t in omega arith)
         | inr out ↦ elim (came_or_not (name_of t)) [
           | inl came ↦
               let there = (can.has.frees t).1 (is_one t (makes_none t made) came) in
-              inl (let e = free_now s.view w x keeps t in omega arith)
+              inl (let e = free_now s.view w y x wrote keeps t in omega arith)
           | inr away ↦ inr (back.stays (name_of t) away out)
         ]
       ];
@@ -166,8 +167,8 @@ module _ (p : ℕ) (s : RootState) (w : View) (titles : List Title) (can : CanCo
         | inl here ↦ can.sound.titles.with_root t here (back.kept.only (name_of t) out)
         | inr there ↦ back.back (name_of t) (map_in name_of titles t there) out
       ];
-      unused = λ t. let e = handles_now s.view w x keeps t in let a = can.sound.titles.unused t in let b = can.has.handles t in omega arith;
-      budget = let e = budget_now s.view w x keeps in let a = can.sound.titles.budget in let b = can.has.budget in omega arith;
+      unused = λ t. let e = handles_now s.view w y x wrote keeps t in let a = can.sound.titles.unused t in let b = can.has.handles t in omega arith;
+      budget = let e = budget_now s.view w y x wrote keeps in let a = can.sound.titles.budget in let b = can.has.budget in omega arith;
     }
 
     -- the move of a slot that came back
@@ -205,29 +206,32 @@ module _ (p : ℕ) (s : RootState) (w : View) (titles : List Title) (can : CanCo
             let well = made_is_whole s.root t good (can.sound.titles.made t here) in
             ap (at_end (Some 0)) (numbers_without s.journal entry (name_of t) (moves_not (name_of t) (here_not_there t here)))
             ∙ can.sound.numbers.known t here
-            ∙ ap Some (sym (left_now s.view w x keeps (t.start + t.len) t can.aware can.both_aware now can.long well here))
+            ∙ ap Some (sym (left_now s.view w y x wrote keeps (t.start + t.len) t can.aware can.both_aware there_aware now can.long well here))
         | inr there ↦
             let well = made_is_whole s.root t good (was_made t there) in
             (numbered_now t there).1
-            ∙ ap Some (sym (right_now s.view w x keeps (t.start + t.len) t can.note_aware can.both_aware now can.long well ((can.has.frees t).1 there)))
+            ∙ ap Some (sym (right_now s.view w y x wrote keeps (t.start + t.len) t can.note_aware can.both_aware there_aware now can.long well ((can.has.frees t).1 there)))
       ];
     }
 
     rest_now : HasRest (record { view = x; journal = s.journal ++ entry ∷ []; root = after })
-    rest_now = rest_kept s x (s.journal ++ entry ∷ []) after (low_now s.view w x keeps) back.kept.keeps back.kept.supers back.kept.maps can.sound.rest
+    rest_now = rest_kept s x (s.journal ++ entry ∷ []) after (low_now s.view w y x wrote keeps) back.kept.keeps back.kept.supers back.kept.maps can.sound.rest
 
     leases_now : KeepsLeases (record { view = x; journal = s.journal ++ entry ∷ []; root = after })
     leases_now = record {
-      supers = λ at among. lease_now s.view w x keeps at.born (can.sound.leases.supers at (subst (λ ss. Contains ss at) back.kept.supers among));
-      maps = λ t among. lease_now s.view w x keeps t.born (can.sound.leases.maps t (subst (λ ts. Contains ts t) back.kept.maps among));
+      supers = λ at among. lease_now s.view w y x wrote keeps at.born (can.sound.leases.supers at (subst (λ ss. Contains ss at) back.kept.supers among));
+      maps = λ t among. lease_now s.view w y x wrote keeps t.born (can.sound.leases.maps t (subst (λ ts. Contains ts t) back.kept.maps among));
     }
 
     maps_now : KnowsMaps p (record { view = x; journal = s.journal ++ entry ∷ []; root = after })
     maps_now =
         maps_leave p s x entry after can.sound.maps
         (record {
-          undone = λ t. let a = (united_parts s.view w).undone t in let k = keeps.undone t in omega arith;
-          pool = pool_begins s.view w x keeps can.both_aware;
+          undone = λ t.
+              let a = (united_parts s.view w).undone t in let k = keeps.undone t in
+              let r : undone_of y t ≡ undone_of (united s.view w) t = ap (λ z. undone_of z t) wrote.rest in
+              omega arith;
+          pool = pool_begins s.view w y x wrote keeps can.both_aware;
         })
         back.kept.maps (λ asked len slot is. absurd (cc))
 
@@ -239,9 +243,9 @@ module _ (p : ℕ) (s : RootState) (w : View) (titles : List Title) (can : CanCo
     journal_now =
         let (m, list, says) = more in
         journal_goes_on p s x entry can.sound.journal
-        (hosts_kept p (united s.view w) x keeps (hosts_both p s.view w can.sound.journal.hosts can.has.stakes all_clean))
-        (pool_begins s.view w x keeps can.both_aware)
-        (m, list ∙ ap (λ l. l ++ m ∷ []) (left_whole s.view w p can.aware can.both_aware can.sound.journal.hosts.1), says)
+        (hosts_kept p y x keeps (subst (HostsKeeper p) (sym wrote.rest) (hosts_both p s.view w can.sound.journal.hosts can.has.stakes all_clean)))
+        (pool_begins s.view w y x wrote keeps can.both_aware)
+        (m, list ∙ ap (λ l. l ++ m ∷ []) (lists_now s.view w y x wrote keeps p ∙ left_whole s.view w p can.aware can.both_aware can.sound.journal.hosts.1), says)
         (record {
           act = (subst (λ ns. All (IsOut s.root) ns) (sym (names_by w titles)) are_out.out, subst (λ ns. AllPairs ◌≢◌ ns) (sym (names_by w titles)) are_out.once);
           asks = tt;
@@ -262,7 +266,7 @@ pub what_comes_is_out : WhatComesIsOut
 what_comes_is_out p s w titles can = are_out p s w titles can
 
 pub gives_keep : GivesKeep
-gives_keep p line s w x titles can now keeps more = keeps_root p s w titles can line x now keeps more
+gives_keep p line s w y x titles can wrote there now keeps more = keeps_root p s w titles can line y x wrote there now keeps more
 
 pub seen_is_in_journal : SeenIsInJournal
 seen_is_in_journal p s list e sound begins among =

@@ -1,7 +1,6 @@
 -- A root that opens the super page which it asked the pool for.
-use Rattle.std.proofs.Common.{◌≡◌, ℕ, ◌<◌, [], Option, Some, None, true, length, refl, sym, ◌∙◌, ap, subst, arith}
-use Rattle.std.specs.Prelude.{IsNone, is_none}
-use Rattle.std.proofs.lemmas.Bool.{false≢true}
+use Rattle.std.proofs.Common.{◌≡◌, ℕ, ◌<◌, [], Some, length, sym, ◌∙◌, ap, subst, arith}
+use Rattle.std.specs.Prelude.{IsNone}
 use Rattle.pa_region.specs.declared.view.View.{View}
 use Rattle.pa_region.specs.Lists.{list_of, IsBeginning}
 use Rattle.pa_region.specs.Hands.{united}
@@ -11,8 +10,6 @@ use Rattle.pa_region.proofs.TakeLaws.{right_begins}
 use Rattle.pa_record.specs.declared.pool.PoolAct.TheVariants.{Take}
 use Rattle.pa_record.specs.Pool.{act_at, FoundRun}
 use Rattle.pa_record.specs.Root.{Root, span_for, opened}
-use Rattle.pa_record.specs.Sound.{IsBornBelow, least_after_all}
-use Rattle.pa_record.proofs.Mapping.{born_more}
 use Rattle.pa_record.proofs.PoolSteps.{act_at_more}
 use Rattle.pa_pool.specs.Calls.{HasSeenTake}
 use Rattle.pa_root.specs.Reading.{pools_read, pools_seen}
@@ -21,7 +18,7 @@ use Rattle.pa_root.specs.Laws.{with_view}
 use Rattle.pa_root.specs.Asking.{IsAskedFor, IsRunNote}
 use Rattle.pa_root.specs.Filling.{CanTakePage, IsReadyFor, ready_root}
 use Rattle.pa_root.proofs.Lists.{pools_more}
-use Rattle.pa_root.proofs.Ready.{named_seen, root_born, roots_are_ready, super_is}
+use Rattle.pa_root.proofs.Ready.{roots_are_ready, super_is}
 use Rattle.pa_root.proofs.Refusing.{pool_says}
 use Rattle.pa_root.proofs.Seeing.{seeing_more_keeps}
 use Rattle.pa_root.proofs.TakesSeen.{asked_seen}
@@ -52,18 +49,6 @@ module _ (p line count asked first : ℕ) (s : RootState) (r : ℕ) (v a w note 
 
   pub pages_seen : HasSeenTake p asked first count (united w note)
   pages_seen = asked_seen r line p count first asked v a w w note has.asks has.run has.both_aware
-
-  pub born_before : IsBornBelow asked s.root
-  born_before =
-      let least = named_seen p s has.sound.journal in
-      let later = has.asks.later in
-      let same = ap length (has.same 4) in
-      born_more (least_after_all 0 s.journal) asked s.root (omega arith) (root_born p s has.sound.journal)
-
--- a root that asks has no span for the class
-pub none_at : {A : Type 0} (o : Option A) → is_none o ≡ true → IsNone o
-none_at None e = refl
-none_at (Some x) e = absurd (false≢true e)
 
 -- a root that opens one is ready for a fill
 module _ (p line asked first class : ℕ) (s : RootState) (r : ℕ) (v a w note : View) (has : HasPages p line 1 asked first s r v a w note)

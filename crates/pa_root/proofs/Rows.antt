@@ -1,12 +1,13 @@
 -- Titles that are cut side by side.
-use Rattle.std.proofs.Common.{◌≡◌, ℕ, zero, suc, ◌+◌, ◌-◌, ◌*◌, ◌<◌, List, [], ◌∷◌, ◌++◌, refl, sym, ◌∙◌, ap, subst, arith, inl, inr}
-use Rattle.std.specs.Prelude.{Contains}
+use Rattle.std.proofs.Common.{◌≡◌, ℕ, zero, suc, ◌+◌, ◌-◌, ◌*◌, ◌<◌, ◌≤◌, List, [], ◌∷◌, ◌++◌, refl, sym, ◌∙◌, ap, subst, arith, inl, inr}
+use Rattle.std.specs.Prelude.{◌≢◌, AllPairs, Contains}
 use Rattle.std.proofs.lemmas.List.Elements.{Contains-append_cases}
 use Rattle.pa_machine.specs.declared.title.Title.{Title}
 use Rattle.pa_region.specs.declared.view.View.{View}
 use Rattle.pa_region.specs.Views.{seen_of}
 use Rattle.pa_region.specs.Cuts.{CanCut, after_cut}
-use Rattle.pa_lists.proofs.Members.{not_in_none, in_cases}
+use Rattle.pa_lists.proofs.Members.{not_in_none, first_in, later_in, in_cases}
+use Rattle.pa_lists.proofs.Pairs.{pairs_none, pairs_cons, pairs_head, pairs_tail}
 use Rattle.pa_root.specs.Filling.{CanCutAll, after_cuts}
 use Rattle.pa_root.specs.Cutting.{title_beside, titles_beside, NoneSeen, CutsGoOn, MapsCanBeCut}
 use Rattle.pa_root.proofs.Batches.{beside_cuts}
@@ -79,6 +80,51 @@ next_new first n v w e new now t among =
         | inr none ↦ absurd (not_in_none t none)
       ]
     ]
+
+-- ---- what is in a row
+
+pub in_row : (first : Title) (from count : ℕ) (t : Title) → Contains (titles_beside first from count) t → (k : ℕ) × (k < count) × (t ≡ title_beside first (from + k))
+in_row first from zero t among = absurd (not_in_none t among)
+in_row first from (suc n) t among = elim (in_cases (title_beside first from) t (titles_beside first (from + 1) n) among) [
+  | inl here ↦ let z : from ≡ from + 0 = omega arith in (0, omega arith, sym here ∙ ap (title_beside first) z)
+  | inr later ↦
+      let (k, below, e) = in_row first (from + 1) n t later in
+      let s : from + 1 + k ≡ from + suc k = omega arith in
+      (suc k, omega arith, e ∙ ap (title_beside first) s)
+]
+
+pub row_has : (first : Title) (from count k : ℕ) → k < count → Contains (titles_beside first from count) (title_beside first (from + k))
+row_has first from zero k below = absurd (omega arith)
+row_has first from (suc n) zero below =
+    let z : from ≡ from + 0 = omega arith in
+    subst (λ j. Contains (titles_beside first from (suc n)) (title_beside first j)) z (first_in (title_beside first from) (titles_beside first (from + 1) n))
+row_has first from (suc n) (suc k) below =
+    let s : from + 1 + k ≡ from + suc k = omega arith in
+    subst (λ j. Contains (titles_beside first from (suc n)) (title_beside first j)) s
+    (later_in (title_beside first from) (title_beside first (from + 1 + k)) (titles_beside first (from + 1) n) (row_has first (from + 1) n k (omega arith)))
+
+pub row_once : (first : Title) (from count : ℕ) → 1 ≤ first.len → AllPairs ◌≢◌ (titles_beside first from count)
+row_once first from zero long = pairs_none (λ (a : Title) (b : Title). a ≢ b)
+row_once first from (suc n) long =
+    pairs_cons (λ (a : Title) (b : Title). a ≢ b) (title_beside first from) (titles_beside first (from + 1) n)
+    (λ u among same.
+    let (k, below, e) = in_row first (from + 1) n u among in
+    let start : first.start + first.len * from ≡ first.start + first.len * (from + 1 + k) = ap (λ (t : Title). t.start) (same ∙ e) in
+    let more : first.len * (from + 1 + k) ≡ first.len * from + first.len + first.len * k = grind arith in
+    absurd (omega arith))
+    (row_once first (from + 1) n long)
+
+-- no title is twice in two lists that share none
+pub pairs_both : (xs ys : List Title) → AllPairs ◌≢◌ xs → AllPairs ◌≢◌ ys → ((x y : Title) → Contains xs x → Contains ys y → x ≢ y) → AllPairs ◌≢◌ (xs ++ ys)
+pairs_both [] ys h k apart = k
+pairs_both (x ∷ xs) ys h k apart =
+    let R : Title → Title → Type 0 = λ a b. a ≢ b in
+    pairs_cons R x (xs ++ ys)
+    (λ z among. elim (Contains-append_cases xs ys z among) [
+      | inl near ↦ pairs_head R x z xs h near
+      | inr far ↦ apart x z (first_in x xs) far
+    ])
+    (pairs_both xs ys (pairs_tail R x xs h) k (λ a b has has'. apart a b (later_in x a xs has) has'))
 
 -- ---- direct maps
 

@@ -29,7 +29,7 @@ use Rattle.pa_root.specs.Reading.{pools_seen}
 use Rattle.pa_root.specs.Keeping.{RootState, HasJournal, HoldsMade, KnowsNumbers, HasRest, KeepsLeases, KnowsMaps, IsRootSound, IsInRest}
 use Rattle.pa_root.specs.Handing.{at_number_seen, numbered_by, root_entry}
 use Rattle.pa_root.specs.Laws.{HasEntryMore, after_entry}
-use Rattle.pa_root.specs.Filling.{frees_parcel, ready_root, fill_taken, IsCutFor, GivesTitles, FillsHandOut, FillsKeep}
+use Rattle.pa_root.specs.Filling.{after_cuts, frees_parcel, ready_root, fill_taken, IsCutFor, GivesTitles, FillsHandOut, FillsKeep}
 use Rattle.pa_root.proofs.MapsKept.{maps_leave}
 use Rattle.pa_root.proofs.Whole.{made_is_whole}
 use Rattle.pa_root.proofs.Lists as lists
@@ -38,6 +38,7 @@ use Rattle.pa_root.proofs.Named.{made_name}
 use Rattle.pa_root.proofs.Moves.{none_moves, one_moves, names_by, numbers_without, numbers_with}
 use Rattle.pa_root.proofs.Batches.{IsBesideCuts, beside_cuts, free_stays, free_cut, free_only, low_stays}
 use Rattle.pa_root.proofs.Parcels.{KeepsBut, hands_out, keeps_but}
+use Rattle.pa_root.proofs.Rewording.{free_rewritten, rewritten_beside}
 use Rattle.pa_root.proofs.Fresh.{fresh_unnamed}
 use Rattle.pa_root.proofs.Ready.{made_ready, supers_ready, maps_ready, sound_ready, root_born, out_was_made}
 use Rattle.pa_root.proofs.Filling.{made_lies, was_rest}
@@ -60,16 +61,16 @@ module _ (p class : ℕ) (asked : Option ℕ) (s : RootState) (u c : View) (ts :
   -- ---- the view after the cuts
 
   pub beside : IsBesideCuts u c
-  beside = subst (λ v. IsBesideCuts u v) (sym cut.cut) (beside_cuts ts u)
+  beside = rewritten_beside u (after_cuts ts u) c (beside_cuts ts u) cut.cut
 
   stays_free : (t : Title) → 0 < free_of u t → 0 < free_of c t
-  stays_free t free = subst (λ v. 0 < free_of v t) (sym cut.cut) (let h = free_stays ts u t in omega arith)
+  stays_free t free = let e = free_rewritten (after_cuts ts u) c t cut.cut in let h = free_stays ts u t in omega arith
 
   cut_free : (t : Title) → Contains ts t → 0 < free_of c t
-  cut_free t among = subst (λ v. 0 < free_of v t) (sym cut.cut) (free_cut ts u t among)
+  cut_free t among = subst (λ n. 0 < n) (sym (free_rewritten (after_cuts ts u) c t cut.cut)) (free_cut ts u t among)
 
   only_free : (t : Title) → 0 < free_of c t → (0 < free_of u t) ⊎ Contains ts t
-  only_free t free = free_only ts u t (subst (λ v. 0 < free_of v t) cut.cut free)
+  only_free t free = free_only ts u t (subst (λ n. 0 < n) (free_rewritten (after_cuts ts u) c t cut.cut) free)
 
   made_free : (t : Title) → 0 < free_of c t → IsMade f.root t
   made_free t free = elim (only_free t free) [
@@ -227,7 +228,7 @@ module _ (p class : ℕ) (asked : Option ℕ) (s : RootState) (u c : View) (ts :
     rest_now = record {
       raw = λ j b inside.
           let before = cut.ready.slots.rest.raw j b (rest_before r0 f.root j b cut.more.keeps fill.supers fill.maps inside) in
-          let after_cuts_low : low_of c b j ≡ low_of u b j = subst (λ v. low_of v b j ≡ low_of u b j) (sym cut.cut) (low_stays ts u b j (away_from j b inside)) in
+          let after_cuts_low : low_of c b j ≡ low_of u b j = ap (λ (v : View). low_of v b j) cut.cut.rest ∙ low_stays ts u b j (away_from j b inside) in
           let k = but.low b j in
           let l = keeps.floors b j in
           omega arith;

@@ -24,7 +24,7 @@ use Rattle.pa_region.proofs.Merging.{merged_long}
 use Rattle.pa_region.proofs.Leaving.{entry_leaves}
 use Rattle.pa_region.proofs.LendBack.{marked_here, given_stake, given_beside, log_filter, log_right, lends_back}
 use Rattle.pa_region.proofs.Noting.{both_of, both_stake, host_least, both_clean, can_hand}
-use Rattle.pa_region.proofs.TakeLaws.{left_begins, left_whole, left_number}
+use Rattle.pa_region.proofs.TakeLaws.{left_begins, left_whole, left_number, left_known}
 use Rattle.pa_root.specs.Uncutting.{IsUncut, IsUncutWith}
 use Rattle.pa_root.proofs.Together.{free_both, handles_both}
 use Rattle.pa_root.proofs.Parcels.{none_keepers}
@@ -108,6 +108,7 @@ module _ (a h : View) (t : Title) (lends : CanLend a) (host : CanHost h) (free :
             let p = parts.undone o in
             let one_more = sum_by-cons (λ (x : Title). one (same_title x o)) t u.uncut in
             omega arith;
+        words = λ q knows. left_known h g q long knows;
       }
 
   -- and the lender's log says so

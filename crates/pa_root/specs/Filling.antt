@@ -18,6 +18,7 @@ use Rattle.pa_record.specs.declared.root.RootAct.TheVariants.{Fill}
 use Rattle.pa_record.specs.Root.{Root, Filled, takes, opened, opened_by, span_for, Asked}
 use Rattle.pa_record.specs.Pool.{FoundRun}
 use Rattle.pa_record.specs.Sound.{IsSound, IsMade, AsksFrom, least_after_all}
+use Rattle.pa_shelf.specs.Moving.{Rewritten}
 use Rattle.pa_root.specs.Reading.{pools_seen}
 use Rattle.pa_root.specs.Keeping.{RootState, HoldsMade, KnowsNumbers, IsInRun, HasRest, KeepsLeases, IsRootSound}
 use Rattle.pa_root.specs.Handing.{HasOnly, numbered_by, root_entry}
@@ -125,11 +126,12 @@ free_item t = items.Free t
 abbrev pub frees_parcel : List Title → Parcel
 frees_parcel ts = parcel_of (map free_item ts) 0 []
 
--- The slots that the fill made are cut: the seat's view is then that after these cuts, and it has seen no step on any of them.
+-- The slots that the fill made are cut: the seat's view is then that after these cuts but for words, as its records and chains were
+-- written too, and it has seen no step on any of them.
 pub record IsCutFor (p class : ℕ) (asked : Option ℕ) (s : RootState) (u c : View) (ts : List Title) : Type 0 where
   pub ready : IsReadyFor p class asked s u
   pub more : MakesMore (ready_root asked s u) (fill_taken class asked s u).root ts
-  pub cut : c ≡ after_cuts ts u
+  pub cut : Rewritten (after_cuts ts u) c
   pub aware : IsAware c
   pub new : (t : Title) → Contains ts t → seen_of c t ≡ 0
 

@@ -8,6 +8,7 @@ use Rattle.pa_region.specs.Aware.{IsAware}
 use Rattle.pa_record.specs.declared.root.RootAct.TheVariants.{Give}
 use Rattle.pa_record.specs.Spans.{name_of}
 use Rattle.pa_record.specs.Root.{IsOut}
+use Rattle.pa_shelf.specs.Moving.{Rewritten}
 use Rattle.pa_root.specs.Keeping.{RootState, IsRootSound}
 use Rattle.pa_root.specs.Handing.{HasOnly, numbered_by, root_entry, HasSeenFill}
 use Rattle.pa_root.specs.Laws.{HasEntryMore, after_entry}
@@ -32,10 +33,10 @@ pub record AreAllOut (s : RootState) (titles : List Title) : Type 0 where
 abbrev pub WhatComesIsOut : Type 0
 WhatComesIsOut = (p : ℕ) (s : RootState) (w : View) (titles : List Title) → CanComeBack p s w titles → AreAllOut s titles
 
--- And the root is sound again with the entry that names them, each at the number that the note had seen, once its seat has made
--- it.
+-- And the root is sound again with the entry that names them, each at the number that the note had seen, once its seat has written
+-- records and links, and has made the entry.
 abbrev pub GivesKeep : Type 0
 GivesKeep =
-    (p line : ℕ) (s : RootState) (w x : View) (titles : List Title) → CanComeBack p s w titles → IsAware x → Keeps (united s.view w) x →
-    HasEntryMore p (root_entry line (Give (numbered_by w titles))) (united s.view w) x →
+    (p line : ℕ) (s : RootState) (w y x : View) (titles : List Title) → CanComeBack p s w titles → Rewritten (united s.view w) y → IsAware y →
+    IsAware x → Keeps y x → HasEntryMore p (root_entry line (Give (numbered_by w titles))) y x →
     IsRootSound p (after_entry x (root_entry line (Give (numbered_by w titles))) s)

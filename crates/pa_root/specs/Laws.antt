@@ -16,6 +16,7 @@ use Rattle.pa_record.specs.Numbers.{root_numbers, pool_numbers}
 use Rattle.pa_record.specs.Root.{Root, new_root, root_next, root_replayed, RootActFits, IsJournal, asked_by, IsOut, purged}
 use Rattle.pa_record.specs.Sound.{IsSound, IsMade, AsksFrom, HasBatch, least_after_all}
 use Rattle.pa_rules.specs.Holders.{moves_by}
+use Rattle.pa_shelf.specs.Moving.{Rewritten}
 use Rattle.pa_root.specs.Reading.{pool_entry_read, pools_read, pools_seen}
 use Rattle.pa_root.specs.Keeping.{RootState, IsRootSound}
 
@@ -50,6 +51,10 @@ abbrev pub SeeingMoreKeeps : Type 0
 SeeingMoreKeeps =
     (p : ℕ) (s : RootState) (x : View) → IsRootSound p s → IsAware s.view → IsAware x → Keeps s.view x → list_of p x ≡ list_of p s.view →
     IsRootSound p (with_view x s)
+
+-- It stays sound where only words of its seat's view are others: records and links.
+abbrev pub RewritingKeeps : Type 0
+RewritingKeeps = (p : ℕ) (s : RootState) (x : View) → IsRootSound p s → Rewritten s.view x → IsRootSound p (with_view x s)
 
 -- A slot that was made is of whole words, two at least.
 abbrev pub MadeIsWhole : Type 0

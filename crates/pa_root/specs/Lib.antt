@@ -3,6 +3,7 @@ pub mod Keeping
 pub mod Making
 pub mod Handing
 pub mod Laws
+pub mod Kept
 pub mod Giving
 pub mod Filling
 pub mod Asking
@@ -13,3 +14,4 @@ pub mod Unmapping
 pub mod BringingBack
 pub mod Telling
 pub mod Steps
+pub mod Taking

@@ -16,7 +16,7 @@ use Rattle.pa_record.specs.Numbers.{pool_numbers}
 use Rattle.pa_record.specs.Pool.{FoundNone}
 use Rattle.pa_record.specs.Root.{Root}
 use Rattle.pa_pool.specs.Calls.{take_entry}
-use Rattle.pa_place.specs.declared.placed.Made.{Made as Row}
+use Rattle.pa_shelf.specs.Shelves.{ShelfParts, ShowsRoot}
 use Rattle.pa_root.specs.declared.fault.FillFault.{FillFault}
 use Rattle.pa_root.specs.declared.fault.FillFault.TheVariants.{Full, OutOfMemory}
 use Rattle.pa_root.specs.Reading.{pools_seen}
@@ -24,7 +24,6 @@ use Rattle.pa_root.specs.Keeping.{RootState}
 use Rattle.pa_root.specs.Handing.{IsFullFor, numbered_by, root_entry}
 use Rattle.pa_root.specs.Laws.{HasEntryMore}
 use Rattle.pa_root.specs.Making.{IsEnteredAt}
-use Rattle.pa_root.specs.Cutting.{titles_beside}
 use Rattle.pa_root.specs.Filling.{IsReadyFor, IsCutFor, ready_root, fill_taken, frees_parcel}
 
 -- The pool was asked for `count` super pages and had none: entry j of the journal says so and names the pool's, after those that
@@ -62,16 +61,11 @@ abbrev pub AskedIf : (r p line : ℕ) → Option ℕ → View → View → Type 
 AskedIf r p line None v after = after ≡ v
 AskedIf r p line (Some index) v after = PoolGave r p line index v after
 
--- The root s is ready for a fill, with the super page that it asked for, if it had to: its seat has the view u.
-pub record IsOpenedFor (r p line class : ℕ) (asked : Option ℕ) (s : RootState) (v after u : View) (root : Root) : Type 0 where
+-- The root s is ready for a fill, with the super page that it asked for, if it had to: its seat has the view u, which shows it.
+pub record IsOpenedFor (r p line class : ℕ) (asked : Option ℕ) (s : RootState) (v after u : View) (l : ShelfParts) : Type 0 where
   pub ready : IsReadyFor p class asked s u
-  pub root_is : root ≡ ready_root asked s u
+  pub shown : ShowsRoot u l (ready_root asked s u)
   pub told : AskedIf r p line asked v after
-
--- the titles of rows of slots; those of a row are side by side
-abbrev pub titles_in_rows : List Row → List Title
-titles_in_rows [] = []
-titles_in_rows (b ∷ bs) = titles_beside b.first 0 b.count ++ titles_in_rows bs
 
 -- A fill took its slots and cut those that are new. Then it handed all of them over, each at its number: the root's seat has
 -- the view `left`, and the note the other.

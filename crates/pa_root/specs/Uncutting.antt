@@ -1,19 +1,19 @@
 -- A title that is uncut with a lent stake; and seats that show each other what they have seen.
-use Rattle.std.specs.Prelude.{◌≡◌, ℕ, ◌+◌, ◌<◌, ◌≤◌, [], ◌∷◌}
+use Rattle.std.specs.Prelude.{◌≡◌, ℕ, ◌+◌, ◌<◌, ◌≤◌, [], ◌∷◌, slice_index}
 use Rattle.pa_machine.specs.declared.title.Title.{Title}
 use Rattle.pa_machine.specs.Titles.{same_title, Covers, IsWellFormed}
 use Rattle.pa_machine.specs.Holdings.{one}
 use Rattle.pa_region.specs.declared.view.Entry.TheVariants.{Uncut}
 use Rattle.pa_region.specs.declared.view.View.{View}
-use Rattle.pa_region.specs.Views.{free_of, own_of, ref_of, low_of, stake_of, undone_of, seen_of}
+use Rattle.pa_region.specs.Views.{Knows, free_of, own_of, ref_of, low_of, stake_of, undone_of, seen_of}
 use Rattle.pa_region.specs.Waiting.{unclean_of}
 use Rattle.pa_region.specs.Lists.{list_of, lease_of, keeper_of, IsBeginning}
 use Rattle.pa_region.specs.Takes.{IsLongest}
 use Rattle.pa_region.specs.Lending.{Lends}
 
 -- The free title t was uncut, and is in the view's list of such titles: titles that are born later can be cut out of
--- its bytes. All else is as it was, but that more may have been seen, though no more of a title that is free here, nor of an own
--- list.
+-- its bytes. All else is as it was, the words that were known too, but that more may have been seen, though no more of a title that is
+-- free here, nor of an own list.
 pub record IsUncut (t : Title) (v after : View) : Type 0 where
   pub frees : (o : Title) → free_of after o + one (same_title t o) ≡ free_of v o
   pub handles : (o : Title) → own_of after o + ref_of after o ≡ own_of v o + ref_of v o
@@ -28,6 +28,7 @@ pub record IsUncut (t : Title) (v after : View) : Type 0 where
   pub own_lists : (k : ℕ) → 0 < keeper_of v k → list_of k after ≡ list_of k v
   pub lists : (k : ℕ) → IsBeginning (list_of k v) (list_of k after)
   pub undone : (o : Title) → undone_of after o ≡ undone_of v o + one (same_title t o)
+  pub words : (q : ℕ) → Knows v q → slice_index after.words q ≡ slice_index v.words q
 
 -- it was uncut in the host's view, with the lender's stake r, and that stake's log says so
 pub record IsUncutWith (r : ℕ) (t : Title) (lender lender_now host host_now : View) : Type 0 where

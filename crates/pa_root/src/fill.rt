@@ -1,29 +1,24 @@
 //! Fills: slots of a class go out, each at its number.
-ghost use Rattle.std.specs.Prelude.{◌≡◌, ℕ, ◌+◌, ◌<◌, ◌≤◌, ◌^◌, [], length, true, Some, Option, IfOk, IfErr, OnOk, OnErr};
+ghost use Rattle.std.specs.Prelude.{◌≡◌, ◌<◌, length, Some, IfOk, IfErr, OnOk, OnErr};
 ghost use Rattle.std.specs.Vec.{vec_capacity};
-ghost use Rattle.pa_buckets.specs.Bands.{fill_of};
 ghost use Rattle.pa_region.specs.Views.{least_stake};
-ghost use Rattle.pa_region.specs.Aware.{IsAware};
 ghost use Rattle.pa_region.specs.Lending.{CanLend};
-ghost use Rattle.pa_place.specs.Roomy.{HasTakes};
-ghost use Rattle.pa_root.specs.Keeping.{RootState, IsRootSound};
-ghost use Rattle.pa_root.specs.Filling.{IsReadyFor, ready_root};
-ghost use Rattle.pa_root.specs.Steps.{root_of_parts, IsOpenedFor, IsTakenOut};
+ghost use Rattle.pa_root.specs.Kept.{IsKept, state_of};
+ghost use Rattle.pa_root.specs.Steps.{IsOpenedFor};
 ghost use Rattle.pa_root.specs.Telling.{FillTells, NoneGiven};
 
 use crate::append::{append, make_room};
 use crate::asks::Asking;
 use crate::fault::FillFault;
-use crate::numbers::numbers_seen;
 use crate::root::{Ledger, Root};
-use crate::slots::{cut_rows, free_items};
+use crate::takes::take_out;
 use arrayvec::ArrayVec;
 use pa_buckets::{Class, fill_count};
 use pa_machine::Title;
-use pa_place::PlainRoot;
 use pa_pool::Pool;
-use pa_record::{Batch, RootAct, RootEntry};
+use pa_record::{RootAct, RootEntry};
 use pa_region::{Name, Note, Region, Seat};
+use pa_shelf::Shelf;
 use std::marker::PhantomData;
 use std::sync::{Mutex, Wait};
 
@@ -53,7 +48,6 @@ impl<N: Name, const P: u32> Root<N, P> {
             (NoneGiven (least_stake seat.old.view.stakes) P line 1 (Some class) seat.old seat.new self.old self.new) }
     {
         let want = fill_count(class);
-        self.placement.ready(class, want)?;
         make_room(&mut self.ledger.journal)?;
         let mut asking = Asking {
             region,
@@ -63,11 +57,11 @@ impl<N: Name, const P: u32> Root<N, P> {
         };
         let asked = self
             .ledger
-            .open_page(rt, &mut asking, &mut self.placement, pool, class)?;
+            .open_page(rt, &mut asking, &mut self.shelf, pool, class)?;
         let (note, titles, slots) = take_out(
             region,
             &mut self.ledger.seat,
-            &mut self.placement,
+            &mut self.shelf,
             class,
             want,
         );
@@ -98,33 +92,30 @@ impl<const P: u32> Ledger<P> {
         &mut self,
         rt: &R,
         asking: &mut Asking<'_, N>,
-        placement: &mut PlainRoot,
+        shelf: &mut Shelf,
         pool: &Mutex<Pool<N>>,
         class: Class,
     ) -> Result<Option<u32>, FillFault>
         requires region { self.old.seat.region ≡ N.region }
         requires lender { CanLend asking.old.seat.now.view }
-        requires sound { IsRootSound P (root_of_parts self.old.seat.view self.old.journal.items placement.old.root) }
-        requires page { placement.old.room.super_page ≡ true }
+        requires kept { IsKept P self.old.seat.view self.old.journal.items shelf.old }
         requires room { length self.old.journal.items < vec_capacity self.old.journal }
         requires few { length self.old.journal.items < 2147483647 }
         ensures same_reference { asking.new.seat.ghost_name ≡ asking.old.seat.ghost_name }
         ensures region { self.new.seat.region ≡ N.region }
         ensures again { CanLend asking.new.seat.now.view }
         ensures journal { OnOk result (self.new.journal ≡ self.old.journal) }
-        ensures takes { (want : ℕ) → HasTakes class want placement.old.room → HasTakes class want placement.new.room }
         ensures opened { IfOk result (λ asked. IsOpenedFor (least_stake asking.old.seat.now.view.stakes) P asking.old.line class asked
-            (root_of_parts self.old.seat.view self.old.journal.items placement.old.root)
-            asking.old.seat.now.view asking.new.seat.now.view self.new.seat.view placement.new.root) }
+            (state_of self.old.seat.view self.old.journal.items)
+            asking.old.seat.now.view asking.new.seat.now.view self.new.seat.view shelf.new) }
         ensures none { IfErr result (NoneGiven (least_stake asking.old.seat.now.view.stakes) P asking.old.line 1 (Some class)
             asking.old.seat.now asking.new.seat.now
-            (root_of_parts self.old.seat.view self.old.journal.items placement.old.root)
-            (root_of_parts self.new.seat.view self.new.journal.items placement.new.root)) }
-        ensures sound { OnErr result
-            (IsRootSound P (root_of_parts self.new.seat.view self.new.journal.items placement.new.root)) }
+            (state_of self.old.seat.view self.old.journal.items)
+            (state_of self.new.seat.view self.new.journal.items)) }
+        ensures kept { OnErr result (IsKept P self.new.seat.view self.new.journal.items shelf.new) }
     {
         self.seat.aware();
-        if !placement.asks(class) {
+        if shelf.has_room_for(class) {
             return Ok(None);
         }
         let room = self.ask_room(rt, asking, pool, Some(class), 1);
@@ -136,42 +127,9 @@ impl<const P: u32> Ledger<P> {
         note.aware();
         asking.region.take(&mut self.seat, note);
         self.seat.aware();
-        placement.open(first, asked);
+        shelf.placed();
+        shelf.open(asking.region, &mut self.seat, first, asked);
+        self.seat.aware();
         Ok(Some(asked))
     }
-}
-
-// Takes slots of the class from a root that is ready for a fill, cuts those that are new, and hands all of them over in a note.
-// It returns the titles too, and the slots with the numbers at which they go.
-fn take_out(
-    region: &Region,
-    own: &mut Seat,
-    placement: &mut PlainRoot,
-    class: Class,
-    want: u32,
-) -> (Note, ArrayVec<Title, 16>, Batch)
-    requires region { own.old.region ≡ region.now }
-    requires want { want ≡ fill_of class }
-    requires room { HasTakes class want placement.old.room }
-    requires turn { placement.old.root.turn < 2 ^ 62 }
-    requires ready { (p : ℕ) × (asked : Option ℕ) × (s : RootState) × IsReadyFor p class asked s own.old.view
-        × (placement.old.root ≡ ready_root asked s own.old.view) }
-    ensures regions { (own.new.region ≡ own.old.region) × (result.0.region ≡ own.old.region) }
-    ensures aware { IsAware own.new.view }
-    ensures turn { placement.new.root.turn ≤ placement.old.root.turn + 32 }
-    ensures out { (p : ℕ) (asked : Option ℕ) (s : RootState) → IsReadyFor p class asked s own.old.view →
-        placement.old.root ≡ ready_root asked s own.old.view →
-        IsTakenOut p class asked s own.old.view own.new.view result.0.view result.1.items result.2 placement.new.root }
-{
-    placement.is_sound();
-    let mut titles = ArrayVec::new();
-    let made = placement.take(class, want, &mut titles);
-    placement.is_sound();
-    cut_rows(region, own, made.as_slice());
-    own.aware();
-    let slots = numbers_seen(region, own, titles.as_slice());
-    let items = free_items(titles.as_slice());
-    let note = region.hand(own, &items[..titles.len()], 0, &[]);
-    own.aware();
-    (note, titles, slots)
 }

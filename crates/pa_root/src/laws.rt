@@ -2,7 +2,7 @@
 ghost use Rattle.pa_root.specs.Cutting.{CutsGoOn, MapsCanBeCut};
 ghost use Rattle.pa_root.specs.Filling.{OpeningKeeps, WhatIsMadeCanBeCut, RootsAreReady, FillsHandOut, FillsKeep};
 ghost use Rattle.pa_root.specs.Giving.{WhatComesIsOut, GivesKeep};
-ghost use Rattle.pa_root.specs.Laws.{PoolsAreRead, FirstIsSound, SeeingMoreKeeps, MadeIsWhole, IdleEntriesKeep, PurgesKeepSlots, SeenIsInJournal, JournalsFitPool, TurnsAreFew};
+ghost use Rattle.pa_root.specs.Laws.{PoolsAreRead, FirstIsSound, SeeingMoreKeeps, RewritingKeeps, MadeIsWhole, IdleEntriesKeep, PurgesKeepSlots, SeenIsInJournal, JournalsFitPool, TurnsAreFew};
 ghost use Rattle.pa_root.specs.Making.{EntriesAreTold, EntriesAreNew};
 ghost use Rattle.pa_root.specs.Mapping.{MapsHandOut, MapsKeep};
 ghost use Rattle.pa_root.specs.Unmapping.{MapsStandInRuns, MapsStandOrCameBack, WhatComesIsMapped, UnmapsHandBack, UnmapsKeep};
@@ -20,6 +20,11 @@ pub fn a_new_root_is_sound()
 /// A root stays sound while its seat sees more.
 pub fn seeing_more_keeps_a_root()
     ensures { SeeingMoreKeeps }
+{}
+
+/// A root stays sound where its seat writes records and links.
+pub fn rewriting_keeps_a_root()
+    ensures { RewritingKeeps }
 {}
 
 /// A slot that was made is of whole words, two at least.

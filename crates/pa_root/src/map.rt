@@ -42,7 +42,6 @@ impl<N: Name, const P: u32> Root<N, P> {
         ensures none { IfErr result
             (NoneGiven (least_stake seat.old.view.stakes) P line shape.supers None seat.old seat.new self.old self.new) }
     {
-        self.placement.ready_map()?;
         make_room(&mut self.ledger.journal)?;
         self.ledger.seat.aware();
         let mut asking = Asking {
@@ -64,7 +63,8 @@ impl<N: Name, const P: u32> Root<N, P> {
         self.ledger.seat.aware();
         let title = cut_map(region, &mut self.ledger.seat, first, asked, shape.slot);
         self.ledger.seat.aware();
-        self.placement.map(first, shape.slot, asked);
+        self.ledger.seat.placed(title);
+        self.shelf.map(title);
         let note = region.hand(&mut self.ledger.seat, &[Item::Free(title)], 0, &[]);
         self.ledger.seat.aware();
         let (start, pool, len) = (title.start, asked, shape.slot);

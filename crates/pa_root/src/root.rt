@@ -1,11 +1,11 @@
 ghost use Rattle.std.specs.Prelude.{◌≡◌, ◌≢◌, ℕ, ◌+◌, ◌*◌, ◌<◌, ◌≤◌, [], ◌∷◌, ◌++◌, length, Some, IfOk, IfErr, OnOk, OnErr, All, AllPairs, Contains, map};
-ghost use Rattle.std.specs.Vec.{vec_capacity};
 ghost use Rattle.pa_record.specs.declared.root.RootAct.TheVariants.{Give, Purge};
 ghost use Rattle.pa_record.specs.Numbers.{root_numbers};
 ghost use Rattle.pa_record.specs.Census.{census};
 ghost use Rattle.pa_region.specs.Views.{least_stake, seen_of};
 ghost use Rattle.pa_region.specs.Lending.{CanLend, Lends};
 ghost use Rattle.pa_region.specs.Lists.{list_of, IsBeginning};
+ghost use Rattle.pa_records.specs.Records.{HasSpans};
 ghost use Rattle.pa_root.specs.Keeping.{IsRootSound};
 ghost use Rattle.pa_root.specs.Laws.{IsFirstView, first_state};
 ghost use Rattle.pa_root.specs.Handing.{HasOnly, HasSeenFill, numbered_by, root_entry, PurgeEnters, GiveTakes};
@@ -15,18 +15,18 @@ use crate::lends::show_seen;
 use crate::numbers::numbers_seen;
 use arrayvec::ArrayVec;
 use pa_machine::{OutOfMemory, Title};
-use pa_place::PlainRoot;
 use pa_record::{Census, RootAct, RootEntry};
 use pa_region::{Name, Note, Region, Seat};
+use pa_shelf::Shelf;
 use std::alloc::Global;
 use std::marker::{Model, PhantomData};
 
 /// The root of partition `P`, 0 to 3, of the region that the name says. It is kept behind a lock. Contracts see it as the view of
-/// its seat, its journal, and what the journal replays to.
+/// its seat, its journal, and what the journal replays to. Its spans stand in the metadata pages, and their free slots in chains.
 #[derive(Drop)]
 pub struct Root<N: Name, const P: u32> {
     pub(crate) ledger: Ledger<P>,
-    pub(crate) placement: PlainRoot,
+    pub(crate) shelf: Shelf,
     of: PhantomData<N>,
 }
 
@@ -38,40 +38,40 @@ pub(crate) struct Ledger<const P: u32> {
 }
 
 impl<N: Name, const P: u32> Model for Root<N, P> {
-    ghost use Rattle.std.specs.Prelude.{◌≡◌, ◌*◌, ◌≤◌, length};
-    ghost use Rattle.pa_root.specs.Keeping.{RootState, IsRootSound};
+    ghost use Rattle.std.specs.Prelude.{◌≡◌, ◌≤◌, length};
+    ghost use Rattle.pa_root.specs.Keeping.{RootState};
+    ghost use Rattle.pa_root.specs.Kept.{IsKept, state_of};
 
     ghost Value = { RootState };
 
-    ghost view = { λ r. record { view = r.ledger.seat.view; journal = r.ledger.journal.items; root = r.placement.root } };
+    ghost view = { λ r. state_of r.ledger.seat.view r.ledger.journal.items };
 
-    ghost invariant = { λ r. (r.ledger.seat.region ≡ N.region)
-        × (length r.ledger.journal.items ≤ 2147483647)
-        × (r.placement.root.turn ≤ 32 * length r.ledger.journal.items)
-        × IsRootSound P (record { view = r.ledger.seat.view; journal = r.ledger.journal.items; root = r.placement.root }) };
+    ghost invariant = { λ r. (r.ledger.seat.region ≡ N.region) × (length r.ledger.journal.items ≤ 2147483647)
+        × IsKept P r.ledger.seat.view r.ledger.journal.items r.shelf };
 }
 
 impl<N: Name, const P: u32> Root<N, P> {
-    /// A root without super pages. The note has keeper `P` with an empty list, and nothing else.
+    /// A root without super pages, with memory for as many as a region has. The note has keeper `P` with an empty list, and nothing else.
     pub fn open(alloc: Global, note: Note) -> Result<Root<N, P>, OutOfMemory>
         requires region { note.region ≡ N.region }
         requires first { IsFirstView P note.view }
         ensures first { IfOk result (λ r. r ≡ first_state note.view) }
     {
-        let placement = PlainRoot::new(alloc)?;
+        let shelf = Shelf::new(alloc)?;
         Ok(Root {
             ledger: Ledger {
                 seat: note.seat(),
                 journal: Vec::new(alloc),
             },
-            placement,
+            shelf,
             of: PhantomData,
         })
     }
 
     /// What the type keeps of the root. It costs nothing.
     pub fn kept(&self)
-        ensures { IsRootSound P self.now }
+        ensures sound { IsRootSound P self.now }
+        ensures spans { HasSpans self.now.view.words self.now.root }
     {
         let _ = &self.ledger.seat;
     }
@@ -110,7 +110,8 @@ impl<N: Name, const P: u32> Root<N, P> {
         region.take(&mut self.ledger.seat, note);
         self.ledger.seat.aware();
         let slots = numbers_seen(region, &mut self.ledger.seat, titles.as_slice());
-        self.placement.give(titles.as_slice());
+        self.shelf
+            .give_all(region, &mut self.ledger.seat, titles.as_slice());
         let entry = RootEntry {
             line,
             act: RootAct::Give { slots },
@@ -137,8 +138,7 @@ impl<N: Name, const P: u32> Root<N, P> {
         ensures err { OnErr result ((self.new ≡ self.old) × (seat.new ≡ seat.old)) }
     {
         make_room(&mut self.ledger.journal)?;
-        self.placement.is_sound();
-        self.placement.purge();
+        self.shelf.purge(region, &mut self.ledger.seat);
         let entry = RootEntry {
             line,
             act: RootAct::Purge,
@@ -174,7 +174,7 @@ impl<N: Name, const P: u32> Root<N, P> {
         show_seen(region, &mut self.ledger.seat, seat);
         self.ledger.seat.aware();
         seat.aware();
-        self.placement.census()
+        self.shelf.census(region, &mut self.ledger.seat)
     }
 
     /// The journal, in order.
@@ -187,12 +187,13 @@ impl<N: Name, const P: u32> Root<N, P> {
     /// The journal, and the root's whole seat.
     pub fn close(self) -> (Vec<RootEntry>, Note)
         ensures kept { IsRootSound P self }
+        ensures spans { HasSpans self.view.words self.root }
         ensures journal { result.0.items ≡ self.journal }
         ensures note { (result.1.region ≡ N.region) × (result.1.view ≡ self.view) }
     {
         let Root {
             ledger,
-            placement: _,
+            shelf: _,
             of: _,
         } = self;
         let Ledger { seat, journal } = ledger;

@@ -52,7 +52,11 @@ impl<N: Name, const P: u32> Root<N, P> {
         self.ledger.seat.aware();
         let number = take_title(region, seat, &mut self.ledger.seat, note, title);
         let run = hand_map(region, &mut self.ledger.seat, title);
-        self.placement.unmap(title);
+        let name = SlotName {
+            start: title.start,
+            born: title.born,
+        };
+        self.shelf.unmap(name);
         let taken = title.born;
         let mut asking = Asking {
             region,
@@ -61,10 +65,6 @@ impl<N: Name, const P: u32> Root<N, P> {
             of: PhantomData,
         };
         let asked = asking.give_run(&mut self.ledger.seat, pool, P, taken, run);
-        let name = SlotName {
-            start: title.start,
-            born: title.born,
-        };
         let slot = Numbered { slot: name, number };
         let act = RootAct::Unmap { pool: asked, slot };
         let entry = RootEntry { line, act };

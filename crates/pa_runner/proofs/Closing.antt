@@ -29,7 +29,7 @@ use Rattle.pa_rules.specs.Told.{Told, records_of}
 use Rattle.pa_rules.specs.Legal.{phases_in, IsLegalTold}
 use Rattle.pa_rules.specs.Held.{IsHeldIn}
 use Rattle.pa_rules.proofs.Recorded.{records_are_lines}
-use Rattle.pa_timeline.specs.Timeline.{HasOutline}
+use Rattle.pa_timeline.specs.Timeline.{HasTimeline}
 use Rattle.pa_logs.specs.Told.{ToldRecord, played_in, is_of_thread}
 use Rattle.pa_logs.specs.Touches.{title_of}
 use Rattle.pa_logs.specs.Said.{sizes_in, IsLineSaid, LayersSay, CloseSays}
@@ -56,7 +56,7 @@ use Rattle.pa_execution.proofs.Fitting.{is_outcome, seen_of_it}
 use Rattle.pa_execution.proofs.Grouping.{are_lines, all_until, within}
 use Rattle.pa_execution.proofs.Keepers.{courses_tell_all, lists_told}
 use Rattle.pa_execution.proofs.Lining.{courses_tell_lines}
-use Rattle.pa_execution.proofs.Outlining.{courses_tell_outline}
+use Rattle.pa_execution.proofs.Timing.{courses_tell_timeline}
 use Rattle.pa_execution.proofs.Recording.{workers_have_theirs}
 use Rattle.pa_runner.specs.Linked.{HasLinkedLists}
 use Rattle.pa_runner.specs.Merging.{is_entry_of, IsMergeOf}
@@ -187,8 +187,8 @@ module _ (t : Trace) (workers : List WorkerValue) (seat : View) (report : List R
     pub is_legal : IsLegalTold t run_told
     is_legal = layers_tell_all.legal t run_told closed.last (told_in t went.course) all_say
 
-    pub has_outline : HasOutline t run_told
-    has_outline = courses_tell_outline t run_told went.course closed.last exchanges is_whole lines_said
+    pub has_timeline : HasTimeline t run_told
+    has_timeline = courses_tell_timeline t run_told went.course closed.last exchanges is_whole lines_said closed.clean
 
     -- ---- what the closing seat needs
 
@@ -224,9 +224,8 @@ module _ (t : Trace) (workers : List WorkerValue) (seat : View) (report : List R
           (All-map (λ s. first_word left.region s ≡ first_word w.stock.view.words s) name_of ts
           (all_from_members (λ u. first_word left.region (name_of u) ≡ first_word w.stock.view.words (name_of u)) ts (λ u among.
           let well = leaves.stock.lists.well p class u among in
-          let free = leaves.stock.lists.free p class u among in
-          let more = leaves.within.frees u in
-          sym (closed.ends.values (u.start / 8) (first_known well.0 closed.last u well.1 (omega arith))) ∙ leaves.within.firsts well.0 u well.1 free)))
+          let (here, same) = leaves.within.known (u.start / 8) (first_known well.0 w.stock.view u well.1 (leaves.stock.lists.free p class u among)) in
+          sym (closed.ends.values (u.start / 8) here) ∙ same)))
           (leaves.links p class) in
           let has : lists_at t went.course n k ≡ listed_in last_worker.stock = rw (lt-ltb k t.threads few) refl in
           subst (λ (z : Cache). AreLinked left.region (map (λ (m : Numbered). m.slot) (z p class))) (sym has)

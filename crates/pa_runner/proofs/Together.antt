@@ -12,14 +12,15 @@ use Rattle.pa_trace.specs.Limits.{IsWithinLimits}
 use Rattle.pa_rules.specs.Told.{Told, told_by}
 use Rattle.pa_rules.specs.Legal.{IsLegalTold}
 use Rattle.pa_rules.specs.Held.{IsHeldIn}
-use Rattle.pa_timeline.specs.Timeline.{HasOutline}
+use Rattle.pa_timeline.specs.Timeline.{HasTimeline}
 use Rattle.pa_cells.specs.Handles.{SlotsStaySeen}
 use Rattle.pa_heap.specs.declared.left.Left.{Left}
 use Rattle.pa_heap.specs.Closing.{IsClosedBy, journal_left, history_left}
 use Rattle.pa_op_specs.specs.Workers.{WorkerValue}
 use Rattle.pa_runner.specs.Linked.{HasLinkedLists}
+use Rattle.pa_runner.specs.Recorded.{HasSpanRecords}
 use Rattle.pa_runner.specs.Whole.{HasPlayed, IsHeldRun}
-use Rattle.pa_runner.proofs.Closing.{entries_of, told_of, is_legal, has_outline, has_lists, is_held}
+use Rattle.pa_runner.proofs.Closing.{entries_of, told_of, is_legal, has_timeline, has_lists, is_held}
 use Rattle.pa_runner.proofs.Printing.{journals_named}
 use Rattle.pa_rules.proofs.SameTold.{same_lists}
 
@@ -42,9 +43,10 @@ module _ (t : Trace) (workers : List WorkerValue) (seat : View) (report : List R
     pub is_run : SlotsStaySeen → IsHeldRun t run left.region
     is_run stay = record {
       legal = subst (IsLegalTold t) (sym same) legal;
-      ordered = subst (HasOutline t) (sym same) (has_outline t workers seat report limits went words left long four closed);
+      ordered = subst (HasTimeline t) (sym same) (has_timeline t workers seat report limits went words left long four closed);
       held = subst (λ (r : Told). IsHeldIn t r left.region) (sym same) (is_held t workers seat report limits went words left long four closed stay);
       lists = subst (λ (r : Told). HasLinkedLists t r left.region) (sym same) (has_lists t workers seat report limits went words left long four closed);
+      spans = subst (λ (r : Told). HasSpanRecords r left.region) (sym same) closed.spans;
       long = closed.long ∙ long;
       printable = record {
         roots = (let a = ap (λ (js : List (List RootEntry)). length js) roots in let b = four in omega arith);

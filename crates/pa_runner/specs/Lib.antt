@@ -6,4 +6,5 @@ pub mod Opening
 pub mod Reporting
 pub mod UnderWay
 pub mod Linked
+pub mod Recorded
 pub mod Whole

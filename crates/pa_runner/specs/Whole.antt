@@ -9,13 +9,14 @@ use Rattle.pa_rules.specs.Report.{phases_of}
 use Rattle.pa_rules.specs.Told.{told_by}
 use Rattle.pa_rules.specs.Legal.{phases_in, IsLegal}
 use Rattle.pa_rules.specs.Held.{IsHeldIn}
-use Rattle.pa_timeline.specs.Timeline.{HasOutline}
+use Rattle.pa_timeline.specs.Timeline.{HasTimeline}
 use Rattle.pa_op_specs.specs.Workers.{WorkerValue}
 use Rattle.pa_execution.specs.Courses.{Course}
 use Rattle.pa_execution.specs.Growing.{HasEnded}
 use Rattle.pa_execution.specs.Gathering.{IsMain}
 use Rattle.pa_runner.specs.Linked.{HasLinkedLists}
 use Rattle.pa_runner.specs.Phases.{HaveTold, worker_in}
+use Rattle.pa_runner.specs.Recorded.{HasSpanRecords}
 use Rattle.pa_runner.specs.Reporting.{IsLineFor}
 
 -- All phases of a trace were played by new workers, and this is how:
@@ -33,12 +34,13 @@ pub record HasPlayed (t : Trace) (workers : List WorkerValue) (seat : View) (rep
   pub places : map (λ (l : ReportLine). (l.phase, l.partition)) report ≡ phases_of t.partitions 1 (phases_in t.lines)
   pub right : (l : ReportLine) → Contains report l → IsLineFor l.phase t.threads (course.ends l.phase) (course.seats l.phase) l
 
--- The run is a legal run of the trace, all its steps but the poisonings stand in one order in which it could have been played, the words
--- are all those of the closed region's super pages, hold the run and have the threads' lists, and it can be printed.
+-- The run is a legal run of the trace, all its steps stand in one order in which it could have been played, the words are all those of the
+-- closed region's super pages, hold the run, and have the threads' lists and the spans of each partition, and it can be printed.
 pub record IsHeldRun (t : Trace) (run : Run) (words : List ℕ) : Type 0 where
   pub legal : IsLegal t run
-  pub ordered : HasOutline t (told_by run)
+  pub ordered : HasTimeline t (told_by run)
   pub held : IsHeldIn t (told_by run) words
   pub lists : HasLinkedLists t (told_by run) words
+  pub spans : HasSpanRecords (told_by run) words
   pub long : length words ≡ 262144 * t.region
   pub printable : IsPrintable run

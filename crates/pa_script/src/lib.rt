@@ -7,6 +7,6 @@ mod reading;
 mod script;
 
 pub use line::NAMED;
-pub use reader::MOST_SCRIPT_LINES;
+pub use reader::{MOST_SCRIPT_LINES, ScriptReader};
 pub use reading::read_script;
 pub use script::{Script, ScriptLine, ScriptLines};

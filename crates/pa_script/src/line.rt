@@ -1,7 +1,9 @@
-ghost use Rattle.std.specs.Prelude.{◌≡◌};
+ghost use Rattle.std.specs.Prelude.{◌≡◌, ℕ, List, [], Option, codes};
+ghost use Rattle.pa_trace.specs.Reading.{Gives, behind, number_in, three_in};
 ghost use Rattle.pa_script.specs.Reading.{names_few, names_few_in, plain_in, plain_of, resize_in, script_head_in, script_line_in};
 
 use crate::script::ScriptLine;
+use pa_text::number_at;
 use pa_trace::{Head, Line, LineFault, Op, below, head_of, line_in, three_numbers, within};
 
 /// How many registers a script may name, and how many cells: 0 to 62.
@@ -34,15 +36,57 @@ pub(crate) fn script_line_in(head: Head, bytes: &[u8]) -> Result<ScriptLine, Lin
 
 // The thread, the register and the size of a resize, which are the whole line.
 #[tactic(auto, unfolding(crate::specs::Reading::resize_in))]
+#[inline(always)]
 fn resize_in(threads: u32, bytes: &[u8]) -> Result<ScriptLine, LineFault>
     ensures { result ≡ resize_in threads bytes.now }
 {
-    let (thread, reg, size) = three_numbers(bytes, b"", b" S r", b" ")?;
+    let (thread, reg, size) = resize_numbers(bytes)?;
     Ok(ScriptLine::Resize {
         thread: below(thread, threads)?,
         reg: below(reg, NAMED)?,
         size: within(size)?,
     })
+}
+
+// These numbers, each of which may be too large. The words before them are looked for byte by byte, as most lines of a script may
+// be resizes.
+#[tactic(auto, unfolding(pa_trace::specs::Reading::three_in, pa_trace::specs::Reading::field_in, pa_trace::specs::Reading::behind))]
+fn resize_numbers(bytes: &[u8]) -> Result<(Option<u32>, Option<u32>, Option<u32>), LineFault>
+    ensures { Gives (λ x. x) result (three_in bytes.now [] (codes " S r") (codes " ")) }
+{
+    let (thread, rest) = number_in(bytes)?;
+    let rest = behind(b" S r", rest)?;
+    let (reg, rest) = number_in(rest)?;
+    let rest = behind(b" ", rest)?;
+    let (size, rest) = number_in(rest)?;
+    if rest.is_empty() {
+        Ok((thread, reg, size))
+    } else {
+        Err(LineFault::Outside)
+    }
+}
+
+// The bytes after a word with which they begin.
+#[tactic(auto, unfolding(pa_trace::specs::Reading::behind), using(pa_text::proofs::Fronts::front_found, pa_text::proofs::Fronts::front_none))]
+#[inline(always)]
+fn behind<'a>(word: &[u8], bytes: &'a [u8]) -> Result<&'a [u8], LineFault>
+    ensures { Gives (λ x. x.now) result (behind word.now bytes.now) }
+{
+    match pa_text::behind(word, bytes) {
+        Some(rest) => Ok(rest),
+        None => Err(LineFault::Outside),
+    }
+}
+
+// The number at the start, and the bytes after it. It is `None` if it has more than 32 bits.
+#[inline(always)]
+fn number_in(bytes: &[u8]) -> Result<(Option<u32>, &[u8]), LineFault>
+    ensures { Gives {Y = Option ℕ × List ℕ} (λ x. (x.0, x.1.now)) result (number_in bytes.now) }
+{
+    match number_at(bytes) {
+        Some(found) => Ok(found),
+        None => Err(LineFault::Outside),
+    }
 }
 
 // A line of a trace.

@@ -12,9 +12,9 @@ use std::marker::Model;
 /// The most lines of a script, the head included.
 pub const MOST_SCRIPT_LINES: u32 = 10_000;
 
-// Reads the text of a script, line by line. It is seen as what is unread.
+/// Reads the text of a script, line by line. It is seen as what is unread.
 #[derive(Drop)]
-pub(crate) struct ScriptReader<'a> {
+pub struct ScriptReader<'a> {
     head: Head,
     rest: &'a [u8],
     left: usize,
@@ -30,8 +30,8 @@ impl<'a> Model for ScriptReader<'a> {
 }
 
 impl<'a> ScriptReader<'a> {
-    // Reads the head, which is line 1.
-    pub(crate) fn of(bytes: &'a [u8]) -> Result<ScriptReader<'a>, TraceFault>
+    /// Reads the head, which is line 1.
+    pub fn of(bytes: &'a [u8]) -> Result<ScriptReader<'a>, TraceFault>
         ensures head { IfOk result (IsScriptReadUpTo bytes.now []) }
         ensures fault { IfErr result (λ e. IsScriptFault e bytes.now) }
     {
@@ -53,15 +53,15 @@ impl<'a> ScriptReader<'a> {
         }
     }
 
-    // The numbers of the head.
-    pub(crate) fn head(&self) -> Head
+    /// The numbers of the head.
+    pub fn head(&self) -> Head
         ensures { result ≡ self.now.head }
     {
         self.head
     }
 
-    // Reads the next line. `None` is the end: the bytes are a script.
-    pub(crate) fn next(&mut self) -> Result<Option<ScriptLine>, TraceFault>
+    /// Reads the next line. `None` is the end: the bytes are a script.
+    pub fn next(&mut self) -> Result<Option<ScriptLine>, TraceFault>
         ensures line { IfOk result (λ found. MatchOption found
             (IsScriptEndRead self.old self.new) (λ l. IsScriptLineRead self.old l self.new)) }
         ensures fault { IfErr result (IsScriptFaultRead self.old) }

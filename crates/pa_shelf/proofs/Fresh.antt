@@ -1,7 +1,7 @@
 -- The next free page of the current super page: its record isn't in use, and a span that starts there is shown.
-use Rattle.std.proofs.Common.{◌≡◌, ◌≢◌, ℕ, ◌+◌, ◌-◌, ◌*◌, ◌/◌, ◌%◌, ◌<◌, ◌≤◌, inl, inr, true, if◌then◌else◌, length, ◌∷◌, ◌++◌, [], Option, Some, None, refl, sym, ◌∙◌, ap, subst, arith}
-use Rattle.std.specs.Prelude.{Contains, nat_le, slice_get}
-use Rattle.std.proofs.lemmas.Bool.{cases_Bool, both_ways, leb-true}
+use Rattle.std.proofs.Common.{◌≡◌, ◌≢◌, ℕ, ◌+◌, ◌-◌, ◌*◌, ◌/◌, ◌%◌, ◌<◌, ◌≤◌, inl, inr, true, false, if◌then◌else◌, length, ◌∷◌, ◌++◌, [], Option, Some, None, refl, sym, ◌∙◌, ap, subst, arith}
+use Rattle.std.specs.Prelude.{Contains, nat_le, slice_get, is_some}
+use Rattle.std.proofs.lemmas.Bool.{cases_Bool, both_ways, leb-true, true≢false}
 use Rattle.std.proofs.lemmas.List.Elements.{Contains-push_cases}
 use Rattle.pa_lists.proofs.Indexed.{at_in}
 use Rattle.pa_lists.proofs.Members.{of_some}
@@ -10,8 +10,8 @@ use Rattle.pa_buckets.specs.declared.spans.State.TheVariants as state
 use Rattle.pa_buckets.specs.Table.{pages_of}
 use Rattle.pa_buckets.proofs.Facts.{IsRow-of}
 use Rattle.pa_record.specs.declared.taken.SuperPage.{SuperPage}
-use Rattle.pa_record.specs.Spans.{Span, same_state}
-use Rattle.pa_record.specs.Root.{Root, current, at_page, found_or_new, new_span, with_span}
+use Rattle.pa_record.specs.Spans.{Span, same_state, listed}
+use Rattle.pa_record.specs.Root.{Root, current, at_page, found_or_new, span_for, new_span, with_span}
 use Rattle.pa_record.specs.Sound.{IsSound}
 use Rattle.pa_record.proofs.SpanSteps.{size_some}
 use Rattle.pa_record.proofs.Entering.{same_state-true}
@@ -151,3 +151,29 @@ found_listed class r (Some s) at e = (sym e, refl)
 pub none_listed : (class : ℕ) (r : Root) (o : Option Span) → None ≡ start_of o → found_or_new class r o ≡ at_page class r (current r)
 none_listed class r None e = refl
 none_listed class r (Some s) e = let no : Some s.place ≡ None = sym e in absurd (cc)
+
+-- so it is told whether one is found
+some_found : (class : ℕ) (r : Root) (o : Option Span) → is_some (start_of o) ≡ true → true ≡ is_some (found_or_new class r o)
+some_found class r None e = absurd (true≢false (sym e))
+some_found class r (Some s) e = refl
+
+new_found : (class : ℕ) (r : Root) (o : Option Span) → is_some (start_of o) ≡ false → found_or_new class r o ≡ at_page class r (current r)
+new_found class r None e = refl
+new_found class r (Some s) e = absurd (true≢false e)
+
+page_found : (class : ℕ) (r : Root) (o : Option SuperPage) → is_some (room_in class r.page o) ≡ is_some (at_page class r o)
+page_found class r None = refl
+page_found class r (Some a) = elim (cases_Bool (nat_le (r.page + pages_of class) 127)) [
+  | inl fits ↦ rw fits refl
+  | inr full ↦ rw full refl
+]
+
+pub listed_found : (class : ℕ) (r : Root) (o : Option ℕ) → o ≡ start_of (listed class r.spans) → is_some o ≡ true → true ≡ is_some (span_for class r)
+listed_found class r o is some = some_found class r (listed class r.spans) (sym (ap is_some is) ∙ some)
+
+pub room_found : (v : View) (l : ShelfParts) (r : Root) (class : ℕ) (o : Option ℕ) (p : Option SuperPage) → RecordsRoot v l r →
+    o ≡ start_of (listed class r.spans) → is_some o ≡ false → p ≡ room_in class l.page (slice_get l.supers (length l.supers - 1)) →
+    is_some p ≡ is_some (span_for class r)
+room_found v l r class o p k is none room =
+    sym (ap is_some (here_room v l r class p k room))
+    ∙ (page_found class r (current r) ∙ sym (ap is_some (new_found class r (listed class r.spans) (sym (ap is_some is) ∙ none))))

@@ -1,8 +1,8 @@
 mod Adding
 mod Batches
 mod Chained
-mod Counting
-mod CutOut
+pub mod Counting
+pub mod CutOut
 mod Cutting
 mod Decommitting
 mod Finding
@@ -11,16 +11,16 @@ mod Fresh
 mod Mapping
 mod Moves
 mod Oldest
-mod OneTake
+pub mod OneTake
 mod Opening
 mod Provisioning
 mod Pushing
 mod Returning
-mod Rewriting
+pub mod Rewriting
 mod Seats
-mod Settling
-mod Starting
-mod Staying
+pub mod Settling
+pub mod Starting
+pub mod Staying
 mod Sums
 mod Taking
 mod Tops

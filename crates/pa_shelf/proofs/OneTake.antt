@@ -16,7 +16,7 @@ use Rattle.pa_shelf.specs.Shelves.{ShelfParts, ShowsRoot}
 use Rattle.pa_shelf.specs.Taking.{HasSlotAt, TakesAreInParts, take_of}
 
 -- the span is one of a sound root, and has a slot
-record HasSlot (f : Found) : Type 0 where
+pub record HasSlot (f : Found) : Type 0 where
   pub sound : IsSound f.root
   pub among : Contains f.root.spans f.span
   pub less : f.span.allocated < slots_of f.span.class
@@ -46,6 +46,9 @@ in_found class r (Some s) f sound real is e =
     let g : Found = record { span = s; root = r } in
     subst HasSlot (of_some g f e) (record { sound = sound; among = u.among; less = usable_less s (sound.spans s u.among) u.left })
 
+pub found_ready : (class : ℕ) (r : Root) (f : Found) → IsSound r → class < 59 → span_for class r ≡ Some f → HasSlot f
+found_ready class r f sound real is = in_found class r (listed class r.spans) f sound real refl is
+
 -- so that is where a slot is taken
 taken_at : (v : View) (l : ShelfParts) (at : ℕ) (r : Root) (o : Option Found) → ((f : Found) → o ≡ Some f → HasSlot f) → found_start o ≡ Some at →
     ShowsRoot v l (found_root o r) → (s : Span) × HasSlotAt v l at (found_root o r) s × (take_of s (found_root o r) ≡ taken_from o r)
@@ -61,6 +64,6 @@ none_taken r (Some f) e = absurd (not_some f.span.place (sym e))
 pub takes_are_in_parts : TakesAreInParts
 takes_are_in_parts = record {
   found = λ v l class at r sound real e shown.
-      taken_at v l at r (span_for class r) (λ f is. in_found class r (listed class r.spans) f sound real refl is) e shown;
+      taken_at v l at r (span_for class r) (λ f is. found_ready class r f sound real is) e shown;
   none = λ class r e. none_taken r (span_for class r) e;
 }

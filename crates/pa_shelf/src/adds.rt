@@ -1,5 +1,5 @@
 //! Spans that start on the next free page.
-ghost use Rattle.std.specs.Prelude.{◌≡◌, ◌↔◌, ℕ, ◌+◌, ◌-◌, ◌≤◌, List, ◌++◌, [], ◌∷◌, length, Contains, Some, slice_get};
+ghost use Rattle.std.specs.Prelude.{◌≡◌, ◌↔◌, ℕ, ◌+◌, ◌-◌, ◌≤◌, List, ◌++◌, [], ◌∷◌, length, Contains, Some, slice_get, is_some};
 ghost use Rattle.pa_layout.specs.Pages.{page_place};
 ghost use Rattle.pa_buckets.specs.declared.spans.State.TheVariants as state;
 ghost use Rattle.pa_buckets.specs.Table.{pages_of};
@@ -7,6 +7,7 @@ ghost use Rattle.pa_record.specs.declared.taken.SuperPage.{SuperPage};
 ghost use Rattle.pa_record.specs.Spans.{Span as RootSpan};
 ghost use Rattle.pa_record.specs.Root.{Root, current, at_page, span_for, new_span, with_span};
 ghost use Rattle.pa_record.specs.Sound.{IsSound};
+ghost use Rattle.pa_region.specs.declared.view.View.{View};
 ghost use Rattle.pa_spans.specs.Lists.{Stand, IsOutside};
 ghost use Rattle.pa_records.specs.Words.{spans_in};
 ghost use Rattle.pa_records.specs.Stored.{AreStored};
@@ -59,6 +60,15 @@ impl Shelf {
             return Some(self.start_span(region, own, class, at));
         }
         None
+    }
+
+    /// Whether a slot of the class can be taken without asking the pool: a span is listed, or the current super page has room for a new
+    /// one. It changes nothing, reads no word, and allocates nothing.
+    pub fn has_room_for(&self, class: Class) -> bool
+        requires able { (v : View) × (r : Root) × IsSound r × RecordsRoot v self.now r }
+        ensures { (v : View) (r : Root) → IsSound r → RecordsRoot v self.now r → result ≡ is_some (span_for class r) }
+    {
+        self.listed(class).is_some() || self.room_for(class).is_some()
     }
 
     // The current super page, if it has room for a span of the class.

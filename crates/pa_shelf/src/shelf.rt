@@ -1,5 +1,7 @@
-ghost use Rattle.std.specs.Prelude.{◌≡◌, ◌≢◌, ◌+◌, ◌^◌, ◌<◌, ◌≤◌, Contains, IfOk, length};
+ghost use Rattle.std.specs.Prelude.{◌≡◌, ◌≢◌, ◌+◌, ◌^◌, ◌<◌, ◌≤◌, All, Contains, IfOk, length};
 ghost use Rattle.pa_buckets.specs.declared.spans.State.TheVariants as state;
+ghost use Rattle.pa_layout.specs.Limits.{most_supers};
+ghost use Rattle.pa_record.specs.declared.taken.SuperPage.{SuperPage as Super};
 ghost use Rattle.pa_record.specs.Spans.{Span as RootSpan};
 ghost use Rattle.pa_record.specs.Root.{Root, entered, oldest_decommitted, purged};
 ghost use Rattle.pa_record.specs.Sound.{IsSound};
@@ -62,6 +64,13 @@ impl Shelf {
             page: 0,
             lists: SpanLists::new(),
         })
+    }
+
+    /// Each of its super pages lies in a region. It costs nothing: it hands on what the type keeps.
+    pub fn placed(&self)
+        ensures { All (λ (a : Super). a.number < most_supers) self.now.supers }
+    {
+        let _ = &self.supers;
     }
 
     /// Decommits the empty span of least turn: its free list is emptied, and its pages go back to the system. Nothing changes where

@@ -36,7 +36,7 @@ use Rattle.pa_step_order.proofs.Moments.{moment_of, moments_in, phase_at, by_pha
 use Rattle.pa_step_order.proofs.Sorting.{sorted_from, sorted_sum, sorted_pairs}
 
 -- what holds wherever a list is cut at two members holds of each two
-pairs_cuts : {A : Type 0} (S : A → A → Type 0) (xs : List A) → ((us vs ws : List A) (a b : A) → xs ≡ us ++ a ∷ (vs ++ b ∷ ws) → S a b) → AllPairs S xs
+pub pairs_cuts : {A : Type 0} (S : A → A → Type 0) (xs : List A) → ((us vs ws : List A) (a b : A) → xs ≡ us ++ a ∷ (vs ++ b ∷ ws) → S a b) → AllPairs S xs
 pairs_cuts S [] h = pairs_none S
 pairs_cuts S (x ∷ xs) h =
     pairs_cons S x xs (λ y among. let (vs, ws, parts) = parts_at xs y among in h [] vs ws x y (ap (λ zs. x ∷ zs) parts))
@@ -88,7 +88,7 @@ module _ (sizes : SlotName → ℕ) (ts : List ToldRecord) (told : AreTold sizes
       (touch_of sizes n.x (told n.x record_in) roots n.entry m.part k inside part touch (ap mark_of (sym played) ∙ marked)).step
 
   module _ (rule : IsFound all) where
-    found_in_logs : (us vs : List Moment) (m : Moment) (k : Mark) → moments_in roots ns ≡ us ++ m ∷ vs → IsTouch m.part → mark_of m.x ≡ Some k →
+    pub found_in_logs : (us vs : List Moment) (m : Moment) (k : Mark) → moments_in roots ns ≡ us ++ m ∷ vs → IsTouch m.part → mark_of m.x ≡ Some k →
         number_of k.found ≡ counted_steps k.slot us
     found_in_logs us vs m k cut touch marked =
         let (before, n, after, parts, is, left) = kept_cut (moment_of roots) ns us vs m cut in

@@ -86,7 +86,7 @@ module _ (sizes : SlotName → ℕ) (line : ℕ) (m : Mark) (t : Title) (found :
 -- ---- entries
 
 -- a look's part is a look
-look_looks : (answer : Answer) (part : Part) → look_part answer ≡ Some part → part ≡ Looking
+pub look_looks : (answer : Answer) (part : Part) → look_part answer ≡ Some part → part ≡ Looking
 look_looks (answers.Made seen usable) part is = absurd (not_some part is)
 look_looks (answers.Done seen) part is = absurd (not_some part is)
 look_looks answer part is = sym (of_some Looking part is)

@@ -46,6 +46,25 @@ pairs_give R S (x ∷ xs) pairs h =
     pairs_cons S x xs (λ y among. h x y (first_in x xs) (later_in x y xs among) (pairs_head R x y xs pairs among))
     (pairs_give R S xs (pairs_tail R x xs pairs) (λ y z first second. h y z (later_in x y xs first) (later_in x z xs second)))
 
+-- ---- threads and phases
+
+-- moments of one thread are in the order of its lines
+abbrev pub InLine : Moment → Moment → Type 0
+InLine m n = m.x.thread ≡ n.x.thread → m.x.line ≤ n.x.line
+
+-- then, phase by phase, none stands before one that comes before it
+pub sorted_in_order : (ps : List Played) (ms : List Moment) → ((m : Moment) → Contains ms m → Contains ps m.x) →
+    ((x y : Played) → Contains ps x → Contains ps y → x.phase < y.phase → x.line < y.line) → AllPairs InLine ms →
+    AllPairs (λ (m n : Moment). StandsBefore n.x m.x → ⊥) (sorted phase_at ms)
+sorted_in_order ps ms members phases lines =
+    let again = sorted_pairs phase_at InLine ms lines (λ a b first second back less same. let up = phases a.x b.x (members a first) (members b second) less in omega arith) in
+    let up = sorted_rises phase_at ms in
+    λ i j d before below. neither (get_or (sorted phase_at ms) i d) (get_or (sorted phase_at ms) j d) (again i j d before below) (up i j d before below)
+  where
+    neither : (m n : Moment) → InLine m n → m.x.phase ≤ n.x.phase → StandsBefore n.x m.x → ⊥
+    neither m n lines up (inl (thread, less)) = let low = lines (sym thread) in omega arith
+    neither m n lines up (inr less) = omega arith
+
 -- ---- where a moment is from
 
 pub moment_from : (roots : Journals) (n : Named) (m : Moment) → moment_of roots n ≡ Some m →
@@ -96,12 +115,22 @@ module _ (ts : List ToldRecord) (all : List Stamped) (ns : List Named) (are : Ar
           eq-eqb n.x.played.line line (sym (ap (λ (z : Played). z.line) (moment_from roots n m some).0) ∙ here)
     ]
 
-    one_played : (x y : Played) → Contains (played_in ts) x → Contains (played_in ts) y → x.line ≡ y.line → x ≡ y
+    pub one_played : (x y : Played) → Contains (played_in ts) x → Contains (played_in ts) y → x.line ≡ y.line → x ≡ y
     one_played x y first second same =
         let (a, there, is) = map_cases (λ (z : ToldRecord). z.played) ts x first in
         let (b, there', is') = map_cases (λ (z : ToldRecord). z.played) ts y second in
         let one = one_record ts a b rising there there' (ap (λ (z : Played). z.line) is ∙ same ∙ sym (ap (λ (z : Played). z.line) is')) in
         sym is ∙ ap (λ (z : ToldRecord). z.played) one ∙ is'
+
+    -- in the order of the logs, and phase by phase
+    pub whole_logs : (partitions : ℕ) → AreInTheirOrder partitions roots ts → (y : ToldRecord) → Contains ts y →
+        parts_in y.played.line (moments_in roots ns) ≡ outline_parts partitions roots y.played
+    whole_logs partitions order y there =
+        let line = y.played.line in
+        let f : Named → Option Part = λ n. option_and_then (part_on line) (moment_of roots n) in
+        sym (parts_kept line (moments_in roots ns)) ∙ kept_twice (part_on line) (moment_of roots) ns
+        ∙ sym (kept_passing f (λ (n : Named). eqb n.x.played.line line) ns (λ n part member is. line_kept line n part is))
+        ∙ ap (filter_map f) (line_named ts all ns are rising y there) ∙ parts_of_named line y y.stretch refl ∙ order y there
 
     pub whole : (partitions : ℕ) → AreInTheirOrder partitions roots ts → (x : Played) → Contains (played_in ts) x →
         parts_in x.line (by_phases roots ns) ≡ outline_parts partitions roots x
@@ -113,28 +142,19 @@ module _ (ts : List ToldRecord) (all : List Stamped) (ns : List Named) (are : Ar
         of_told y there =
             let line = y.played.line in
             let ms = moments_in roots ns in
-            let f : Named → Option Part = λ n. option_and_then (part_on line) (moment_of roots n) in
             let steady = pairs_all (KeptRises phase_at (part_on line)) ms (λ a b first second u v here here'.
             let same = one_played a.x b.x (of_records a first) (of_records b second) (kept_line line a u here ∙ sym (kept_line line b v here')) in
             let e = ap (λ (z : Played). z.phase) same in omega arith) in
-            sym (parts_kept line (by_phases roots ns)) ∙ sorted_kept phase_at (part_on line) ms steady ∙ kept_twice (part_on line) (moment_of roots) ns
-            ∙ sym (kept_passing f (λ (n : Named). eqb n.x.played.line line) ns (λ n part member is. line_kept line n part is))
-            ∙ ap (filter_map f) (line_named ts all ns are rising y there) ∙ parts_of_named line y y.stretch refl ∙ order y there
+            sym (parts_kept line (by_phases roots ns)) ∙ sorted_kept phase_at (part_on line) ms steady ∙ parts_kept line ms ∙ whole_logs partitions order y there
 
     -- ---- threads and phases
-
-    abbrev InLine : Moment → Moment → Type 0
-    InLine m n = m.x.thread ≡ n.x.thread → m.x.line ≤ n.x.line
 
     pub in_order : ((x y : Played) → Contains (played_in ts) x → Contains (played_in ts) y → x.phase < y.phase → x.line < y.line) →
         AllPairs (λ (m n : Moment). StandsBefore n.x m.x → ⊥) (by_phases roots ns)
     in_order phases =
-        let ms = moments_in roots ns in
         let R : Named → Named → Type 0 = λ a b. a.x.played.thread ≡ b.x.played.thread → a.x.played.line ≤ b.x.played.line in
-        let lines = kept_pairs (moment_of roots) R InLine ns (threads_rise ts all ns are rising) (λ a b u v first second up is is'. moments_up a b u v up is is') in
-        let again = sorted_pairs phase_at InLine ms lines (λ a b first second back less same. let up = phases a.x b.x (of_records a first) (of_records b second) less in omega arith) in
-        let up = sorted_rises phase_at ms in
-        λ i j d before below. neither (get_or (by_phases roots ns) i d) (get_or (by_phases roots ns) j d) (again i j d before below) (up i j d before below)
+        sorted_in_order (played_in ts) (moments_in roots ns) of_records phases
+        (kept_pairs (moment_of roots) R InLine ns (threads_rise ts all ns are rising) (λ a b u v first second up is is'. moments_up a b u v up is is'))
       where
         moments_up : (a b : Named) (u v : Moment) → (a.x.played.thread ≡ b.x.played.thread → a.x.played.line ≤ b.x.played.line) →
             moment_of roots a ≡ Some u → moment_of roots b ≡ Some v → InLine u v
@@ -145,7 +165,3 @@ module _ (ts : List ToldRecord) (all : List Stamped) (ns : List Named) (are : Ar
             let e = ap (λ (z : Played). z.line) x in
             let f = ap (λ (z : Played). z.line) y in
             omega arith
-
-        neither : (m n : Moment) → InLine m n → m.x.phase ≤ n.x.phase → StandsBefore n.x m.x → ⊥
-        neither m n lines up (inl (thread, less)) = let low = lines (sym thread) in omega arith
-        neither m n lines up (inr less) = omega arith

@@ -42,20 +42,20 @@ entries_named : (x : ToldRecord) (es : List Entry) → map (λ (n : Named). n.en
 entries_named x [] = refl
 entries_named x (e ∷ es) = ap (λ zs. e ∷ zs) (entries_named x es)
 
-log_named : (xs : List ToldRecord) → map (λ (n : Named). n.entry) (flat_map named xs) ≡ flat_map (λ (x : ToldRecord). x.stretch) xs
+pub log_named : (xs : List ToldRecord) → map (λ (n : Named). n.entry) (flat_map named xs) ≡ flat_map (λ (x : ToldRecord). x.stretch) xs
 log_named [] = refl
 log_named (x ∷ xs) =
     map-append (λ (n : Named). n.entry) (named x) (flat_map named xs)
     ∙ ap (λ es. es ++ map (λ (n : Named). n.entry) (flat_map named xs)) (entries_named x x.stretch) ∙ ap (λ es. x.stretch ++ es) (log_named xs)
 
-stake_filter : (k : ℕ) (all : List Stamped) → by_stake k all ≡ map (λ (m : Stamped). m.entry) (filter (λ (m : Stamped). eqb m.stake k) all)
+pub stake_filter : (k : ℕ) (all : List Stamped) → by_stake k all ≡ map (λ (m : Stamped). m.entry) (filter (λ (m : Stamped). eqb m.stake k) all)
 stake_filter k [] = refl
 stake_filter k (m ∷ all) = elim (cases_Bool (eqb m.stake k)) [
   | inl mine ↦ rw mine (ap (λ es. m.entry ∷ es) (stake_filter k all))
   | inr other ↦ rw other (stake_filter k all)
 ]
 
-of_thread : (ts : List ToldRecord) (k : ℕ) (n : Named) → Contains (named_log ts k) n → n.x.played.thread ≡ k
+pub of_thread : (ts : List ToldRecord) (k : ℕ) (n : Named) → Contains (named_log ts k) n → n.x.played.thread ≡ k
 of_thread ts k n among =
     let (x, member, here) = flat_cases named (filter (is_of_thread k) ts) n among in
     let (e, there, is) = map_cases (named_as x) x.stretch n here in

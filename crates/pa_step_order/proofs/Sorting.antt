@@ -6,11 +6,11 @@ use Rattle.std.proofs.lemmas.Bool.{cases_lt, le-leb, lt-leb}
 use Rattle.std.proofs.lemmas.List.Sums.{sum_by-cons}
 use Rattle.pa_lists.proofs.Members.{not_in_none, first_in, later_in, in_cases}
 use Rattle.pa_lists.proofs.Pairs.{pairs_none, pairs_cons, pairs_tail, pairs_head}
-use Rattle.pa_timeline.proofs.Kept.{none_or_some, OfKept}
+use Rattle.pa_timeline.proofs.Kept.{none_or_some, kept_from, OfKept}
 
 module _ {A : Type 0} (key : A → ℕ) where
   -- before the first one whose number isn't less
-  abbrev inserted : A → List A → List A
+  abbrev pub inserted : A → List A → List A
   inserted x [] = x ∷ []
   inserted x (y ∷ ys) = cond (leb (key x) (key y)) (x ∷ y ∷ ys) (y ∷ inserted x ys)
 
@@ -116,7 +116,7 @@ module _ {A : Type 0} (key : A → ℕ) where
     abbrev pub KeptRises : A → A → Type 0
     KeptRises a b = OfKept f (λ u v. key a ≤ key b) a b
 
-    inserted_none : (x : A) (ys : List A) → f x ≡ None → filter_map f (inserted x ys) ≡ filter_map f ys
+    pub inserted_none : (x : A) (ys : List A) → f x ≡ None → filter_map f (inserted x ys) ≡ filter_map f ys
     inserted_none x [] none = rw none refl
     inserted_none x (y ∷ ys) none = elim (cases_lt (key y) (key x)) [
       | inl less ↦ rw (lt-leb (key x) (key y) less) (ap (cons_option (f y)) (inserted_none x ys none))
@@ -144,3 +144,44 @@ module _ {A : Type 0} (key : A → ℕ) where
               inserted_some x u (sorted xs) is (λ y v among same. pairs_head KeptRises x y xs h (sorted_from y xs among) u v is same)
               ∙ ap (λ ys. u ∷ ys) again ∙ sym (ap (λ o. cons_option o (filter_map f xs)) is)
         ]
+
+-- ---- a filter that keeps members as they are
+
+module _ {A : Type 0} (key : A → ℕ) (f : A → Option A) (stays : (x y : A) → f x ≡ Some y → x ≡ y) where
+  -- the least goes to the front
+  in_front : (x : A) (ys : List A) → ((y : A) → Contains ys y → key x ≤ key y) → inserted key x ys ≡ x ∷ ys
+  in_front x [] low = refl
+  in_front x (y ∷ ys) low = rw (le-leb (key x) (key y) (low y (first_in y ys))) refl
+
+  inserted_through : (x : A) (ys : List A) → f x ≡ Some x → AllPairs (Rises key) ys → filter_map f (inserted key x ys) ≡ inserted key x (filter_map f ys)
+  inserted_through x [] is up = rw is refl
+  inserted_through x (y ∷ ys) is up = elim (cases_lt (key y) (key x)) [
+    | inl less ↦
+        let again = inserted_through x ys is (pairs_tail (Rises key) y ys up) in
+        elim (none_or_some (f y)) [
+          | inl none ↦ rw (lt-leb (key x) (key y) less, none) again
+          | inr (z, same) ↦
+              let low : key z < key x = subst (λ w. key w < key x) (stays y z same) less in
+              rw (lt-leb (key x) (key y) less, same, lt-leb (key x) (key z) low) (ap (λ zs. z ∷ zs) again)
+        ]
+    | inr more ↦
+        let rest = filter_map f (y ∷ ys) in
+        let low : (z : A) → Contains rest z → key x ≤ key z = λ z among.
+        (let (w, there, same) = kept_from f (y ∷ ys) z among in
+        subst (λ u. key x ≤ key u) (stays w z same) (elim (in_cases y w ys there) [
+          | inl e ↦ subst (λ u. key x ≤ key u) e more
+          | inr later ↦ let high = pairs_head (Rises key) y w ys up later in omega arith
+        ])) in
+        rw (le-leb (key x) (key y) more) (ap (λ o. cons_option o rest) is ∙ sym (in_front x rest low))
+  ]
+
+  -- it keeps of the new order what it keeps, in the new order
+  pub sorted_through : (xs : List A) → filter_map f (sorted key xs) ≡ sorted key (filter_map f xs)
+  sorted_through [] = refl
+  sorted_through (x ∷ xs) = elim (none_or_some (f x)) [
+    | inl none ↦ inserted_none key f x (sorted key xs) none ∙ sorted_through xs ∙ sym (ap (λ o. sorted key (cons_option o (filter_map f xs))) none)
+    | inr (y, is) ↦
+        let same = stays x y is in
+        inserted_through x (sorted key xs) (is ∙ ap Some (sym same)) (sorted_rises key xs) ∙ ap (inserted key x) (sorted_through xs)
+        ∙ ap (λ z. inserted key z (sorted key (filter_map f xs))) same ∙ sym (ap (λ o. sorted key (cons_option o (filter_map f xs))) is)
+  ]

@@ -1,5 +1,5 @@
--- From what all layers say, and the order of each record's steps in its log segment: the run has an outline.
-use Rattle.std.proofs.Common.{◌≡◌, ℕ, ◌<◌, ◌≤◌, List, [], ◌∷◌, map, flat_map, refl, sym, ◌∙◌, ap, subst, arith, inl, inr}
+-- From what all layers say, and the order of each record's steps in its log segment: the run has a timeline.
+use Rattle.std.proofs.Common.{◌≡◌, ℕ, ◌+◌, ◌<◌, ◌≤◌, List, [], ◌∷◌, map, flat_map, Some, refl, sym, ◌∙◌, ap, subst, arith, inl, inr}
 use Rattle.std.specs.Prelude.{Contains}
 use Rattle.std.specs.List.{filter_map}
 use Rattle.std.specs.List.{AllByRecursion as Each}
@@ -7,13 +7,27 @@ use Rattle.std.proofs.lemmas.Bool.{cases_lt, eqb-true, ne_eqb}
 use Rattle.pa_region.specs.declared.view.Stake.{Stake}
 use Rattle.pa_region.specs.declared.view.View.{View}
 use Rattle.pa_region.specs.Lists.{list_of, entered_in}
-use Rattle.pa_region.specs.Order.{Stamped, by_stake, HasOneOrder}
+use Rattle.pa_region.specs.Order.{Stamped, by_stake, logged_among, spoiled, HasOneOrder}
+use Rattle.pa_region.specs.History.{Done}
+use Rattle.pa_region.specs.Waiting.{unclean_of}
+use Rattle.pa_region.proofs.LendBack.{none_poisoned}
+use Rattle.pa_machine.specs.declared.title.Title.{Title}
+use Rattle.pa_machine.specs.declared.word.SlotName.{SlotName}
 use Rattle.pa_trace.specs.declared.script.Trace.{Trace}
 use Rattle.pa_rules.specs.Legal.{IsLegalBy}
 use Rattle.pa_rules.specs.Told.{Told}
-use Rattle.pa_timeline.specs.Timeline.{Moment, outline_parts, IsStepOrder}
+use Rattle.pa_rules.specs.declared.played.Played.{Played}
+use Rattle.pa_rules.specs.Registers.{usable_in}
+use Rattle.pa_rules.specs.Sizes.{usable_of}
+use Rattle.pa_timeline.specs.Timeline.{Moment, outline_parts, IsStepOrder, IsTimeline}
+use Rattle.pa_timeline.proofs.Outlined.{stays}
 use Rattle.pa_logs.specs.Told.{ToldRecord, played_in, is_of_thread, log_of}
 use Rattle.pa_logs.specs.Said.{sizes_in, LayersSay}
+use Rattle.pa_logs.specs.Listed.{AreRising}
+use Rattle.pa_logs.specs.Steps.{AreSteps}
+use Rattle.pa_logs.specs.Touches.{title_of, StepMade, step_by}
+use Rattle.pa_logs.proofs.Histories.{histories_follow}
+use Rattle.pa_logs.proofs.Usable.{usable_follows}
 use Rattle.pa_logs.proofs.Filters.{filter_none}
 use Rattle.pa_logs.proofs.Lined.{phases_rise}
 use Rattle.pa_logs.proofs.Places.{each_at, stake_at}
@@ -21,9 +35,18 @@ use Rattle.pa_logs.proofs.Said.{layers_tell_all}
 use Rattle.pa_logs.proofs.Saying.{are_lines, rising, knows, list_is, are_lists, answered}
 use Rattle.pa_logs.proofs.Whole.{in_phases}
 use Rattle.pa_step_order.specs.Segments.{AreInTheirOrder}
-use Rattle.pa_step_order.specs.Laws.{OutlineFollows}
+use Rattle.pa_step_order.specs.Laws.{TimelineFollows}
 use Rattle.pa_step_order.proofs.Named.{Named, AreNamed, named_log, names_are}
-use Rattle.pa_step_order.proofs.Moments.{moments_in, by_phases, whole, only, in_order}
+use Rattle.pa_step_order.proofs.Moments.{moments_in, phase_at, by_phases, one_played, whole, only, in_order}
+use Rattle.pa_step_order.proofs.Sorting.{sorted}
+use Rattle.pa_step_order.proofs.Marked.{AreMarked}
+use Rattle.pa_step_order.proofs.Again.{issued_again}
+use Rattle.pa_step_order.proofs.Timed.{timeline}
+use Rattle.pa_step_order.proofs.Laid.{stamped_of, stamps_agree, laid, laid_stays}
+use Rattle.pa_step_order.proofs.Belonging.{front_all, members, finds, spoils}
+use Rattle.pa_step_order.proofs.Calming.{reads}
+use Rattle.pa_step_order.proofs.Lining.{lines}
+use Rattle.pa_step_order.proofs.Completing.{whole as whole_due}
 use Rattle.pa_step_order.proofs.Found.{found}
 use Rattle.pa_step_order.proofs.Entered.{enters, list_named, kept_journal, past_journal, journals_made, pool_asked}
 use Rattle.pa_step_order.proofs.Exchanged.{exchanged}
@@ -95,6 +118,63 @@ module _ (t : Trace) (r : Told) (v : View) (ts : List ToldRecord) (says : Layers
             (answered t r v ts says) k (legal.cells.order k);
       }
 
-pub outline_follows : OutlineFollows
-outline_follows t r v ts says order =
-    (moments t r v ts says, subst (λ ps. IsStepOrder (outline_parts t.partitions r.roots) ps r.pools r.roots r.cells (moments t r v ts says)) says.runner.records (step_order t r v ts says order))
+  -- ---- with the poisonings
+
+  -- no Own of the seat is being poisoned, so each poisoning has its free
+  module _ (order : AreInTheirOrder t.partitions r.roots ts) (clean : unclean_of v ≡ 0) where
+    abbrev sizes : SlotName → ℕ
+    sizes = sizes_in t r
+
+    up : AreRising ts
+    up = rising t r v ts says
+
+    agree : map stamped_of names ≡ logged_among one_order.steps
+    agree = stamps_agree ts all logs_are ∙ sym one_order.logged
+
+    closed : (u : Title) → spoiled u one_order.steps ≡ 0
+    closed u = one_order.freed u (none_poisoned v u clean)
+
+    abbrev ms : List Moment
+    ms = laid r.roots names one_order.steps
+
+    marked : AreMarked (played_in ts) ms
+    marked = record {
+      members = members sizes ts says.heap.told up all names are_named r.roots one_order.ordered.found one_order.steps agree one_order.placed closed;
+      finds = finds sizes ts says.heap.told up all names are_named r.roots one_order.ordered.found one_order.steps agree one_order.placed closed;
+      spoils = spoils sizes ts says.heap.told up all names are_named r.roots one_order.ordered.found one_order.steps agree one_order.placed closed;
+      reads = reads sizes ts says.heap.told up all names are_named r.roots one_order.ordered.found one_order.steps agree one_order.placed closed;
+    }
+
+    -- each slot has a history, and the bytes that it was made with
+    histories : (s : SlotName) → (history : List Done) × AreSteps (played_in ts) s history
+    histories s =
+        let known = knows t r v ts says in
+        (known.all.history (title_of sizes s), histories_follow sizes v ts known.all.history known.logs says.heap.told known.all.chain s)
+
+    fits : (x : Played) (d : StepMade) → Contains (played_in ts) x → step_by x ≡ Some d → usable_in (played_in ts) d.slot + 8 ≡ sizes d.slot
+    fits x d among is =
+        let (history, steps) = histories d.slot in
+        let at = steps.stand x d among is refl in
+        let below = at.below in
+        usable_follows sizes ts d.slot history says.heap.told steps (omega arith)
+
+    same_moments : filter_map stays ms ≡ moments_in r.roots names
+    same_moments =
+        laid_stays names one_order.steps agree r.roots [] one_order.steps refl
+        ∙ ap (moments_in r.roots) (front_all sizes ts says.heap.told up all names are_named r.roots one_order.ordered.found one_order.steps agree one_order.placed closed)
+
+    is_timeline : IsTimeline (usable_in (played_in ts)) t.partitions (played_in ts) r.pools r.roots r.cells (sorted phase_at ms)
+    is_timeline =
+        timeline usable_of (usable_in (played_in ts)) t.partitions r.pools r.roots r.cells (played_in ts) ms marked
+        (one_played ts all names are_named r.roots up)
+        (whole_due sizes ts says.heap.told up all names are_named r.roots one_order.ordered.found one_order.steps agree one_order.placed closed t.partitions order (usable_in (played_in ts)) fits)
+        (phases_rise t.lines (played_in ts) (are_lines t r v ts says)) (in_phases r.cells (played_in ts) legal.seen) legal.contents
+        (issued_again sizes ts says.heap.told histories)
+        (lines sizes ts says.heap.told up all names are_named r.roots one_order.ordered.found one_order.steps agree one_order.placed closed)
+        (subst (λ zs. IsStepOrder (outline_parts t.partitions r.roots) (played_in ts) r.pools r.roots r.cells (sorted phase_at zs)) (sym same_moments) (step_order order))
+
+pub timeline_follows : TimelineFollows
+timeline_follows t r v ts says order clean = (
+  sorted phase_at (ms t r v ts says order clean),
+  subst (λ ps. IsTimeline (usable_in ps) t.partitions ps r.pools r.roots r.cells (sorted phase_at (ms t r v ts says order clean))) says.runner.records (is_timeline t r v ts says order clean),
+)

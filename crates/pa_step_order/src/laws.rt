@@ -1,11 +1,12 @@
-ghost use Rattle.pa_step_order.specs.Laws.{OutlineFollows};
+ghost use Rattle.pa_step_order.specs.Laws.{TimelineFollows};
 ghost use Rattle.pa_step_order.specs.Shapes.{ShapesHaveSigns};
 ghost use Rattle.pa_step_order.specs.Signs.{SegmentsFollow};
 
-/// A run of which all layers say what they must has an outline, if each record's log segment has its steps in their order: all steps of
-/// the run but the poisonings stand in one order, in which each found what the steps before it left.
-pub fn outline_follows()
-    ensures { OutlineFollows }
+/// A run of which all layers say what they must has a timeline, if each record's log segment has its steps in their order and the seat at
+/// the end has no Own that isn't clean: all steps of the run stand in one order, in which each found what the steps before it left, and each
+/// read gave what stood there.
+pub fn timeline_follows()
+    ensures { TimelineFollows }
 {}
 
 /// A log segment that is what its answer requires, and has its counted step and its entries in lists in their order, has its record's

@@ -3,4 +3,4 @@
 
 mod laws;
 
-pub use laws::{outline_follows, segments_follow, shapes_have_signs};
+pub use laws::{segments_follow, shapes_have_signs, timeline_follows};

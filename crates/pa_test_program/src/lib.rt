@@ -14,8 +14,12 @@ mod cli_gate;
 #[cfg(test)]
 mod cli_links;
 #[cfg(test)]
+mod cli_records;
+#[cfg(test)]
 mod cli_replay;
 #[cfg(test)]
 mod cli_scripts;
+#[cfg(test)]
+mod closed;
 #[cfg(test)]
 mod model;

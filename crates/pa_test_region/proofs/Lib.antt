@@ -1,6 +1,5 @@
 pub mod CacheRows
 pub mod CellSlots
-pub mod ChainCaches
 pub mod ChainRows
 pub mod PoolParts
 pub mod RootNotes

@@ -1,42 +1,52 @@
-ghost use Rattle.std.specs.Prelude.{◌≡◌, ◌+◌, ◌≤◌, []};
-ghost use Rattle.pa_region.specs.Start.{first_view};
-ghost use Rattle.pa_test_region.specs.CacheRows.{IsRowCut};
+//! A cache that runs over, and one that is loaded.
+ghost use Rattle.std.specs.Prelude.{◌≡◌, ◌+◌, ◌<◌, ◌≤◌, [], length};
+ghost use Rattle.pa_cache.specs.Chained.{HoldsList, list_in};
+ghost use Rattle.pa_test_region.specs.ChainRows.{IsRowOf};
+ghost use Rattle.pa_test_region.specs.CacheRows.{IsRowCached};
 
+use crate::link::{cut_row, slot};
 use pa_buckets::Class;
 use pa_cache::Cache;
 use pa_machine::Title;
 use pa_region::{Region, Seat};
 use std::test::Fail;
 
-// Cuts the next slot of a row of slots of 16 bytes, and puts it at the front.
-fn put_next(region: &Region, seat: &mut Seat, cache: &mut Cache, count: u32)
+// Puts the row's slot of this number at the front.
+fn put_next(region: &Region, seat: &mut Seat, cache: &mut Cache, number: u32)
     requires region { seat.old.region ≡ region.now }
-    requires row { IsRowCut count seat.old.view cache.old }
-    requires few { count ≤ 64 }
+    requires row { IsRowCached number seat.old.view cache.old }
+    requires few { number < 65 }
     ensures region { seat.new.region ≡ region.now }
-    ensures row { IsRowCut (count + 1) seat.new.view cache.new }
+    ensures row { IsRowCached (number + 1) seat.new.view cache.new }
 {
-    let title = Title {
-        start: 0x4000 + 16 * count,
-        len: 16,
-        born: 0,
-    };
-    region.cut(seat, title);
-    cache.push(region, seat, title);
+    cache.push(region, seat, slot(0, number));
 }
 
-// Puts the row's first slots into an empty cache of a new region's seat, so that the last one is the front.
+// Puts the row's first slots into an empty cache, so that the last one is the front.
 fn fill(region: &Region, seat: &mut Seat, cache: &mut Cache, count: u32)
     requires region { seat.old.region ≡ region.now }
-    requires view { seat.old.view ≡ first_view 262144 0 }
-    requires empty { cache.old ≡ record { class = 0; titles = [] } }
-    requires few { count ≤ 64 }
+    requires row { IsRowOf 0 65 seat.old.view }
+    requires has { HoldsList seat.old.view cache.old }
+    requires empty { list_in seat.old.view cache.old ≡ record { class = 0; titles = [] } }
+    requires few { count ≤ 65 }
     ensures region { seat.new.region ≡ region.now }
-    ensures row { IsRowCut count seat.new.view cache.new }
+    ensures row { IsRowCached count seat.new.view cache.new }
 {
-    for done in 0..count {
-        put_next(region, seat, cache, done);
+    for number in 0..count {
+        put_next(region, seat, cache, number);
     }
+}
+
+// Spills all titles of a cache, which are few, and loads them again.
+fn reload(region: &Region, seat: &mut Seat, cache: &mut Cache)
+    requires region { seat.old.region ≡ region.now }
+    requires has { HoldsList seat.old.view cache.old }
+    requires few { length (list_in seat.old.view cache.old).titles ≤ 8 }
+    ensures region { seat.new.region ≡ region.now }
+    ensures has { HoldsList seat.new.view cache.new }
+{
+    let titles = cache.spill(region, seat, 0);
+    cache.load(region, seat, titles.as_slice());
 }
 
 // Whether the titles are those of the row from the one at this byte on, each 16 bytes before the last one.
@@ -55,7 +65,8 @@ fn go_down_from(start: u32, titles: &[Title]) -> bool {
 fn sixty_five_slots_spill_16_16_and_1(rt: HostRuntime) -> Result<(), Fail> {
     let class = Class::of(0).unwrap();
     let (region, mut seat) = Region::new(rt.alloc(), 1, 0)?;
-    let mut cache = Cache::new(rt.alloc(), class)?;
+    cut_row(&region, &mut seat, 0, 65);
+    let mut cache = Cache::new(class);
     fill(&region, &mut seat, &mut cache, 64);
     assert!(rt; cache.len() == 64);
     assert!(rt; !cache.over());
@@ -77,13 +88,13 @@ fn sixty_five_slots_spill_16_16_and_1(rt: HostRuntime) -> Result<(), Fail> {
     assert!(rt; !cache.over());
     assert!(rt; cache.pop(&region, &mut seat).map(|title| title.start) == Some(0x4400));
     assert!(rt; cache.pop(&region, &mut seat).map(|title| title.start) == Some(0x43f0));
-    let behind = cache.batch(20);
+    let behind = cache.spill(&region, &mut seat, 20);
     assert!(rt; behind.len() == 10);
     assert!(rt; go_down_from(0x42a0, behind.as_slice()));
-    assert!(rt; cache.len() == 30);
-    cache.cut(4);
-    assert!(rt; cache.len() == 14);
-    assert!(rt; go_down_from(0x42a0, cache.batch(4).as_slice()));
+    assert!(rt; cache.len() == 20);
+    let last = cache.spill(&region, &mut seat, 4);
+    assert!(rt; last.len() == 16);
+    assert!(rt; go_down_from(0x43a0, last.as_slice()));
     Ok(())
 }
 
@@ -91,17 +102,16 @@ fn sixty_five_slots_spill_16_16_and_1(rt: HostRuntime) -> Result<(), Fail> {
 fn loaded_slots_come_out_in_their_order(rt: HostRuntime) -> Result<(), Fail> {
     let class = Class::of(0).unwrap();
     let (region, mut seat) = Region::new(rt.alloc(), 1, 0)?;
-    let mut cache = Cache::new(rt.alloc(), class)?;
+    cut_row(&region, &mut seat, 0, 65);
+    let mut cache = Cache::new(class);
     assert!(rt; cache.pop(&region, &mut seat) == None);
-    fill(&region, &mut seat, &mut cache, 3);
-    cache.kept();
-    let all = cache.spill(&region, &mut seat, 0);
-    assert!(rt; go_down_from(0x4020, all.as_slice()));
-    assert!(rt; cache.len() == 0);
-    cache.load(&region, &mut seat, all.as_slice());
-    assert!(rt; cache.pop(&region, &mut seat).map(|title| title.start) == Some(0x4020));
-    assert!(rt; cache.pop(&region, &mut seat).map(|title| title.start) == Some(0x4010));
-    assert!(rt; cache.pop(&region, &mut seat).map(|title| title.start) == Some(0x4000));
-    assert!(rt; cache.pop(&region, &mut seat) == None);
+    let mut other = Cache::new(class);
+    fill(&region, &mut seat, &mut other, 3);
+    reload(&region, &mut seat, &mut other);
+    assert!(rt; other.len() == 3);
+    assert!(rt; other.pop(&region, &mut seat).map(|title| title.start) == Some(0x4020));
+    assert!(rt; other.pop(&region, &mut seat).map(|title| title.start) == Some(0x4010));
+    assert!(rt; other.pop(&region, &mut seat).map(|title| title.start) == Some(0x4000));
+    assert!(rt; other.pop(&region, &mut seat) == None);
     Ok(())
 }

@@ -6,8 +6,6 @@ mod cache;
 #[cfg(test)]
 mod cells;
 #[cfg(test)]
-mod chain_cache;
-#[cfg(test)]
 mod count;
 #[cfg(test)]
 mod heap;

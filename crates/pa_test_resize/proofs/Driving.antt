@@ -15,7 +15,7 @@ head_in t = record { region = t.region; partitions = t.partitions; threads = t.t
 -- the first lines were played
 pub record IsDrivenTo (t : Trace) (i : ℕ) (p : Player) : Type 0 where
   pub going : IsGoing p
-  pub head : p.head ≡ head_in t
+  pub head : p.lines.head ≡ head_in t
   pub lines : p.lines.items ≡ take i t.lines
 
 pub driven_none : (t : Trace) (p : Player) → IsNew (head_in t) p → IsDrivenTo t 0 p
@@ -25,7 +25,7 @@ module _ (t : Trace) (i : ℕ) (p : Player) (line d : Line) (within : IsWithinLi
   pub driven_few : length p.lines.items < 65535
   driven_few = let few = within.few in omega (arith, ap length h.lines, length-take i t.lines, few, lt)
 
-  pub driven_within : IsLineWithin p.head.partitions p.head.threads line
+  pub driven_within : IsLineWithin p.lines.head.partitions p.lines.head.threads line
   driven_within =
       let one : IsLineWithin t.partitions t.threads line = subst (IsLineWithin t.partitions t.threads) (sym is)
       (All-get_or (IsLineWithin t.partitions t.threads) t.lines i d lt (All-from_recursion (IsLineWithin t.partitions t.threads) t.lines within.lines)) in

@@ -6,5 +6,5 @@ use Rattle.pa_model.specs.Player.{Player, IsGoing}
 -- one line more was played
 pub record IsDriven (p : Player) (line : Line) (q : Player) : Type 0 where
   pub going : IsGoing q
-  pub head : q.head ≡ p.head
+  pub head : q.lines.head ≡ p.lines.head
   pub lines : q.lines.items ≡ p.lines.items ++ line ∷ []

@@ -9,18 +9,19 @@ use pa_model::{Player, play};
 use pa_player::{ListOutput, Told};
 use pa_record::{Answer, Run, write_run};
 use pa_trace::{Line, Op, Trace, read_trace};
+use pa_trace_writer::{Kept, LineList};
 use std::alloc::Global;
 use std::test::Fail;
 
 // Plays a line, and appends its answer if it has one.
 fn play_line(
-    player: &mut Player<Told<ListOutput>>,
+    player: &mut Player<Told<ListOutput>, Kept<LineList>>,
     line: Line,
     answers: &mut Vec<Answer>,
 ) -> Result<(), OutOfMemory>
     requires going { IsGoing player.old }
     requires few { length player.old.lines.items < 65535 }
-    requires within { IsLineWithin player.old.head.partitions player.old.head.threads line }
+    requires within { IsLineWithin player.old.lines.head.partitions player.old.lines.head.threads line }
     ensures { OnOk result (IsDriven player.old line player.new) }
 {
     let answer = player.line(line)?;

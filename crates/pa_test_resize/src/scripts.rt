@@ -1,5 +1,5 @@
 use pa_record::write_run;
-use pa_resize::{Verdict, expand, expand_text};
+use pa_resize::{Verdict, expand, expand_input};
 use pa_script::read_script;
 use pa_trace::write_trace;
 use std::alloc::Global;
@@ -21,12 +21,13 @@ fn gives(alloc: Global, text: &[u8], due: Due<'_>) -> Result<bool, Fail> {
     let found = expand(alloc, &script)?;
     let trace = write_trace(alloc, &found.trace)?;
     let run = write_run(alloc, &found.run)?;
-    let printed = expand_text(alloc, &script)?;
-    let traced = write_trace(alloc, &printed.trace)?;
+    let Ok(printed) = expand_input(alloc, text) else {
+        return Err(Fail::new("no script"));
+    };
     Ok(
         trace.as_slice() == due.trace
             && run.as_slice() == due.run
-            && traced.as_slice() == due.trace
+            && printed.trace.as_slice() == due.trace
             && printed.run.as_slice() == due.run
             && found.verdicts.as_slice() == due.verdicts,
     )

@@ -17,8 +17,8 @@ use Rattle.pa_region.specs.Aware.{IsAware}
 use Rattle.pa_link.specs.Chains.{Relinked, SameBeside, slot_names}
 use Rattle.pa_link.proofs.Gaps.{free_same}
 use Rattle.pa_cache.specs.Caches.{CacheList}
-use Rattle.pa_chain_cache.specs.Caches.{CacheParts, HoldsList, IsInLists, OthersHaveNone, OtherListsStay, list_in}
-use Rattle.pa_chain_cache.proofs.Lists.{lists_stay}
+use Rattle.pa_cache.specs.Chained.{CacheParts, HoldsList, IsInLists, OthersHaveNone, OtherListsStay, list_in}
+use Rattle.pa_cache.proofs.Lists.{lists_stay}
 use Rattle.pa_cells.specs.declared.handle.Handle.{Handle}
 use Rattle.pa_op_specs.specs.Stocks.{StockValue, IsStock, AreNoLists, register_in, cache_place, no_cache, titles_in}
 use Rattle.pa_op_specs.proofs.Seeing.{made_for_kept}

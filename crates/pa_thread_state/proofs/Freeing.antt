@@ -47,7 +47,7 @@ pub can_step : StatesAreOwns → OwnsChange → (s : StockValue) (r : ℕ) (h : 
     CanCount steps.Free h.title (poisoned h.title s.view)
 can_step states owns s r h is stake budget below own =
     let can = can_free s r h is stake budget below own in
-    (poison_ready states owns h.title s.view can.0, can.1, budget, tt)
+    (poison_ready states owns h.title s.view can.0, can.1, budget, refl)
 
 -- an Own that isn't clean went with the free
 freed_clean : (t : Title) (os : List OwnTitle) → sum_by (λ (o : OwnTitle). one (is_unclean o.state)) os ≡ 0 →

@@ -101,21 +101,6 @@ handed_back line p ts v left note w left_is note_is aware took =
     let (j, it) = subst (λ r. GiveTakes r p line left w (given_after (frees_parcel ts) v) ts) stake named in
     record { left = left; left_is = left_is; aware = aware; index = j; enters = it }
 
--- and one that took the note in again
-pub taken_back : BeginningsJoin → (ts : List Title) (v left note w : View) → left ≡ left_view ts v → IsParted v left note → IsParted w left note →
-    note.words ≡ v.words → w ≡ united left note → IsAware w → TakesBack v w
-taken_back joins ts v left note w left_is parted again words w_is aware = record {
-  things = λ x. let a = parted.things x in let b = again.things x in omega arith;
-  unclean = let a = parted.unclean in let b = again.unclean in omega arith;
-  budget = let a = parted.budget in let b = again.budget in omega arith;
-  stakes = λ k. let a = parted.stakes k in let b = again.stakes k in omega arith;
-  words = λ q. subst (λ (z : View). slice_index z.words q ≡ slice_index v.words q) (sym w_is)
-      (words_again v left note q (ap (λ (z : View). z.words) left_is) words);
-  lists = λ k.
-      subst (λ ms. IsBeginning ms (list_of k w)) (ap (λ (z : View). list_of k z) left_is)
-      (subst (λ z. IsBeginning (list_of k left) (list_of k z)) (sym w_is) (joins left note k (subst IsAware w_is aware)).0);
-}
-
 -- ---- and their root takes them in
 
 module _ (r line p : ℕ) (ts : List Title) (v w : View) (hands : HandsBack r line p ts v w) where
@@ -371,6 +356,10 @@ module _ (s b : StockValue) (p c keep : ℕ) (is : IsStock s) (takes : BecomesLi
             (λ q d. set_titles s.caches p c new q d low small is.lists.count))),
       )
 
+-- what was seen of lists is a beginning of what is seen again
+pub begins_again : (v w : View) → TakesBack v w → (k : ℕ) → IsBeginning (list_of k v) (list_of k w)
+begins_again v w back k = ([], back.lists k ∙ sym (append-nil (list_of k v)))
+
 -- if it runs out of memory, the seat has what it had
 pub back_stock : SlotsStaySeen → (s : StockValue) (w : View) → IsStock s → TakesBack s.view w → IsStock (record s { view = w })
 back_stock stays s w is back =
@@ -380,10 +369,10 @@ back_stock stays s w is back =
       owns = λ t. sym (owns_have w t) ∙ (back.things (OwnOf t) ∙ (owns_have s.view t ∙ is.handles.owns t));
       refs = λ t. sym (refs_have w t) ∙ (back.things (RefOf t) ∙ (refs_have s.view t ∙ is.handles.refs t));
       clean = back.unclean ∙ is.handles.clean;
-      made = λ k. made_for_more stays s.view w back.lists (register_in s.registers k) (is.handles.made k);
+      made = λ k. made_for_more stays s.view w (begins_again s.view w back) (register_in s.registers k) (is.handles.made k);
     })
     (record { small = is.stake.small; only = λ k other. back.stakes k ∙ is.stake.only k other })
-    (λ h made. stays h s.view w made (back.lists h.partition))
+    (λ h made. stays h s.view w made (begins_again s.view w back h.partition))
     (λ t. let e = back.things (FreeTitle t) in let a = frees_have w t in let b = frees_have s.view t in omega arith)
 
 -- ---- one entry after another

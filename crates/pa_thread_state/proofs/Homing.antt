@@ -35,7 +35,7 @@ use Rattle.pa_root.specs.Filling.{frees_parcel}
 use Rattle.pa_root.specs.Handing.{HasOnly, HasSeenFill, HasSeenMap, root_entry}
 use Rattle.pa_root.proofs.Parcels.{can_hand, note_has, keeps_but}
 use Rattle.pa_root.proofs.Together.{no_own_clean}
-use Rattle.pa_chain_cache.specs.Caches.{CacheParts, HoldsList}
+use Rattle.pa_cache.specs.Chained.{CacheParts, HoldsList}
 use Rattle.pa_cells.specs.declared.handle.Handle.{Handle}
 use Rattle.pa_cells.specs.Handles.{HandsOut, HasSeenMade, SlotsStaySeen}
 use Rattle.pa_op_specs.specs.Stocks.{StockValue, IsStock, register_in, titles_in, listed_in, listed_slot}

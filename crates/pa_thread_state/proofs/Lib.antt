@@ -31,3 +31,4 @@ pub mod Allocated
 pub mod Settled
 pub mod Chained
 pub mod Staying
+pub mod Refused

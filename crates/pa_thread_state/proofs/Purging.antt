@@ -16,17 +16,14 @@ use Rattle.pa_root.specs.Handing.{numbered_by, at_number_seen, PurgeEnters}
 use Rattle.pa_op_specs.specs.Stocks.{StockValue, IsStock, titles_in, listed_in}
 use Rattle.pa_op_specs.specs.Workers.{HasItsStake}
 use Rattle.pa_thread_state.specs.Giving.{Gives, GivesTail, with_titles}
-use Rattle.pa_thread_state.specs.Purging.{PurgesRoot, without_lists}
+use Rattle.pa_thread_state.specs.Purging.{GivesLists, PurgesRoot, without_classes, without_lists}
 use Rattle.pa_op_specs.proofs.Entered.{one_enters}
 use Rattle.pa_thread_state.proofs.Lists.{this_one, other_list}
 use Rattle.pa_thread_state.proofs.HandedBack.{gives_none, gives_left, gives_on, gives_listed}
 use Rattle.pa_root.proofs.Seeing.{free_kept}
 
--- the lists without those of partition p and the first n classes
-abbrev pub cleared : ℕ → ℕ → (ℕ → ℕ → List Title) → ℕ → ℕ → List Title
-cleared p n lists q c = if (q == p) && nat_lt c n then [] else lists q c
-
-cleared_not : (p n : ℕ) (lists : ℕ → ℕ → List Title) (q c : ℕ) → n ≤ c → cleared p n lists q c ≡ lists q c
+-- which lists went
+cleared_not : (p n : ℕ) (lists : ℕ → ℕ → List Title) (q c : ℕ) → n ≤ c → without_classes p n lists q c ≡ lists q c
 cleared_not p n lists q c far = go (q == p) (nat_lt c n) refl
   where
     go : (a b : Bool) → nat_lt c n ≡ b → (if a && b then [] else lists q c) ≡ lists q c
@@ -34,7 +31,7 @@ cleared_not p n lists q c far = go (q == p) (nat_lt c n) refl
     go true false is = refl
     go false false is = refl
 
-cleared_is : (p n : ℕ) (lists : ℕ → ℕ → List Title) (q c : ℕ) → q ≡ p → c < n → cleared p n lists q c ≡ []
+cleared_is : (p n : ℕ) (lists : ℕ → ℕ → List Title) (q c : ℕ) → q ≡ p → c < n → without_classes p n lists q c ≡ []
 cleared_is p n lists q c here low = go (q == p) (nat_lt c n) refl refl
   where
     go : (a b : Bool) → (q == p) ≡ a → nat_lt c n ≡ b → (if a && b then [] else lists q c) ≡ []
@@ -42,19 +39,14 @@ cleared_is p n lists q c here low = go (q == p) (nat_lt c n) refl refl
     go true false this is = absurd (let high : n ≤ c = grind (arith, nat_tests) in omega arith)
     go false b away is = absurd (grind (arith, nat_tests))
 
-cleared_other : (p n : ℕ) (lists : ℕ → ℕ → List Title) (q c : ℕ) → (q ≡ p → ⊥) → cleared p n lists q c ≡ lists q c
+cleared_other : (p n : ℕ) (lists : ℕ → ℕ → List Title) (q c : ℕ) → (q ≡ p → ⊥) → without_classes p n lists q c ≡ lists q c
 cleared_other p n lists q c other = elim (eqb_tells q p) [ inl y ↦ absurd (other y.1) | inr n ↦ rw n.0 refl ]
 
--- The lists of the first n classes went back: the acts so far, which go on to those of the whole purge.
-pub record GivesLists (line p n : ℕ) (before now : StockValue) : Type 0 where
-  acts : List RootAct
-  given : Gives line p acts (cleared p n (titles_in before.caches)) before now
-  rest : acts ++ purge_acts (listed_in before p) n (59 - n) ≡ purge_acts (listed_in before p) 0 59
-
+-- no list went back yet
 pub lists_none : (line p : ℕ) (s : StockValue) → GivesLists line p 0 s s
 lists_none line p s = record {
   acts = [];
-  given = gives_left line p [] (titles_in s.caches) (cleared p 0 (titles_in s.caches)) s s (gives_none line p s)
+  given = gives_left line p [] (titles_in s.caches) (without_classes p 0 (titles_in s.caches)) s s (gives_none line p s)
       (λ q c. sym (cleared_not p 0 (titles_in s.caches) q c (omega arith)));
   rest = refl;
 }
@@ -69,12 +61,12 @@ lists_thread line p n s now some = some.given.same.0
 -- the next list is as it was
 pub next_listed : (line p n : ℕ) (s now : StockValue) → GivesLists line p n s now → IsStock now → listed_in now p n ≡ listed_in s p n
 next_listed line p n s now some is =
-    gives_listed line p some.acts (cleared p n (titles_in s.caches)) s now some.given is p n
+    gives_listed line p some.acts (without_classes p n (titles_in s.caches)) s now some.given is p n
     ∙ ap (numbered_by s.view) (cleared_not p n (titles_in s.caches) p n (omega arith))
 
 -- it goes back
-next_left : (p n : ℕ) (s now : StockValue) → ((q c : ℕ) → titles_in now.caches q c ≡ cleared p n (titles_in s.caches) q c) → (q c : ℕ) →
-    with_titles p n [] (titles_in now.caches) q c ≡ cleared p (n + 1) (titles_in s.caches) q c
+next_left : (p n : ℕ) (s now : StockValue) → ((q c : ℕ) → titles_in now.caches q c ≡ without_classes p n (titles_in s.caches) q c) → (q c : ℕ) →
+    with_titles p n [] (titles_in now.caches) q c ≡ without_classes p (n + 1) (titles_in s.caches) q c
 next_left p n s now kept q c = elim (eqb_tells q p) [
   | inl y ↦ elim (eqb_tells c n) [
     | inl z ↦
@@ -86,7 +78,7 @@ next_left p n s now kept q c = elim (eqb_tells q p) [
       ∙ (kept q c ∙ (cleared_other p n (titles_in s.caches) q c away.1 ∙ sym (cleared_other p (n + 1) (titles_in s.caches) q c away.1)))
 ]
   where
-    by_class : (b : Bool) → nat_lt c n ≡ b → q ≡ p → (c ≡ n → ⊥) → cleared p n (titles_in s.caches) q c ≡ cleared p (n + 1) (titles_in s.caches) q c
+    by_class : (b : Bool) → nat_lt c n ≡ b → q ≡ p → (c ≡ n → ⊥) → without_classes p n (titles_in s.caches) q c ≡ without_classes p (n + 1) (titles_in s.caches) q c
     by_class true is here other =
         let low : c < n = grind (arith, nat_tests) in
         cleared_is p n (titles_in s.caches) q c here low ∙ sym (cleared_is p (n + 1) (titles_in s.caches) q c here (omega arith))
@@ -108,8 +100,8 @@ lists_more line p n s now next is some tail below =
     ap (λ xs. gives xs ++ purge_acts lists (n + 1) (59 - (n + 1))) (next_listed line p n s now some is) ∙ sym (ap (purge_acts lists n) e) in
     record {
       acts = some.acts ++ more;
-      given = gives_left line p (some.acts ++ more) (with_titles p n [] (titles_in now.caches)) (cleared p (n + 1) (titles_in s.caches)) s next
-          (gives_on line p some.acts more (cleared p n (titles_in s.caches)) (with_titles p n [] (titles_in now.caches)) s now next some.given tail)
+      given = gives_left line p (some.acts ++ more) (with_titles p n [] (titles_in now.caches)) (without_classes p (n + 1) (titles_in s.caches)) s next
+          (gives_on line p some.acts more (without_classes p n (titles_in s.caches)) (with_titles p n [] (titles_in now.caches)) s now next some.given tail)
           (next_left p n s now some.given.kept);
       rest = append_assoc some.acts more (purge_acts lists (n + 1) (59 - (n + 1))) ∙ (ap (λ acts. some.acts ++ acts) step ∙ some.rest);
     }
@@ -153,13 +145,13 @@ purged_gives law s w line p aware now low (j, it) =
     }
 
 -- and no list of the partition is left
-none_left : (p : ℕ) (s : StockValue) (q c : ℕ) → cleared p 59 (titles_in s.caches) q c ≡ without_lists p (titles_in s.caches) q c
+none_left : (p : ℕ) (s : StockValue) (q c : ℕ) → without_classes p 59 (titles_in s.caches) q c ≡ without_lists p (titles_in s.caches) q c
 none_left p s q c = elim (eqb_tells q p) [
   | inl y ↦ by_class (nat_lt c 59) refl y.1 y.0
   | inr away ↦ rw away.0 refl
 ]
   where
-    by_class : (b : Bool) → nat_lt c 59 ≡ b → q ≡ p → (q == p) ≡ true → cleared p 59 (titles_in s.caches) q c ≡ without_lists p (titles_in s.caches) q c
+    by_class : (b : Bool) → nat_lt c 59 ≡ b → q ≡ p → (q == p) ≡ true → without_classes p 59 (titles_in s.caches) q c ≡ without_lists p (titles_in s.caches) q c
     by_class true is here this =
         let low : c < 59 = grind (arith, nat_tests) in
         cleared_is p 59 (titles_in s.caches) q c here low ∙ rw this refl
@@ -172,7 +164,7 @@ purges_root law s now w line p slots aware both low some enters count = (
   (let e : listed_slots (listed_in s p) 59 (59 - 59) ≡ 0 = refl in omega arith),
   subst (λ acts. Gives line p acts (without_lists p (titles_in s.caches)) s (record now { view = w })) some.rest
       (gives_left line p (some.acts ++ Purge ∷ []) (titles_in now.caches) (without_lists p (titles_in s.caches)) s (record now { view = w })
-      (gives_on line p some.acts (Purge ∷ []) (cleared p 59 (titles_in s.caches)) (titles_in now.caches) s now (record now { view = w }) some.given
+      (gives_on line p some.acts (Purge ∷ []) (without_classes p 59 (titles_in s.caches)) (titles_in now.caches) s now (record now { view = w }) some.given
       (purged_gives law now w line p aware both low enters))
       (λ q c. some.given.kept q c ∙ none_left p s q c)),
 )

@@ -22,7 +22,7 @@ use Rattle.pa_root.specs.declared.fault.FillFault.TheVariants.{Full, OutOfMemory
 use Rattle.pa_root.specs.Handing.{HasOnly, EntersFor, IsFullFor}
 use Rattle.pa_root.proofs.Together.{no_own_clean}
 use Rattle.pa_cache.specs.Caches.{IsCache, HoldsFree}
-use Rattle.pa_chain_cache.specs.Caches.{CacheParts, HoldsList}
+use Rattle.pa_cache.specs.Chained.{CacheParts, HoldsList}
 use Rattle.pa_cells.specs.Handles.{SlotsStaySeen}
 use Rattle.pa_op_specs.specs.Stocks.{StockValue, IsStock, register_in}
 use Rattle.pa_thread_state.specs.Allocating.{CanLoad, GivesNone, FindsNone, with_listed}

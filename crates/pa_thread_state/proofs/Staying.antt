@@ -19,8 +19,8 @@ use Rattle.pa_region.proofs.Merging.{merged_at}
 use Rattle.pa_region.proofs.TakeLaws.{left_known}
 use Rattle.pa_root.proofs.Seeing.{free_kept}
 use Rattle.pa_cache.specs.Caches.{CacheList}
-use Rattle.pa_chain_cache.specs.Caches.{CacheParts, HoldsList, list_in}
-use Rattle.pa_chain_cache.proofs.Lists.{lists_stay}
+use Rattle.pa_cache.specs.Chained.{CacheParts, HoldsList, list_in}
+use Rattle.pa_cache.proofs.Lists.{lists_stay}
 use Rattle.pa_cells.specs.Handles.{SlotsStaySeen}
 use Rattle.pa_op_specs.specs.Stocks.{StockRegister, StockValue, IsStock, titles_in}
 use Rattle.pa_thread_state.proofs.Parking.{kept_stock}

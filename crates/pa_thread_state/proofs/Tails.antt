@@ -12,7 +12,7 @@ use Rattle.pa_cache.proofs.Middle.{outside, first_stay, later_stay, later_count}
 use Rattle.pa_root.specs.Handing.{numbered_by, at_number_seen}
 use Rattle.pa_op_specs.specs.Stocks.{StockValue, IsStock, titles_in, listed_in}
 use Rattle.pa_op_specs.specs.Workers.{HasItsStake}
-use Rattle.pa_thread_state.specs.Giving.{Gives, GivesTail, GivesBatch, with_titles}
+use Rattle.pa_thread_state.specs.Giving.{Gives, GivesTail, GivesBatch, GivesBatches, with_titles}
 use Rattle.pa_op_specs.proofs.Quiet.{same_titles}
 use Rattle.pa_thread_state.proofs.Lists.{this_list, other_list, in_batch}
 use Rattle.pa_thread_state.proofs.HandedBack.{gives_none, gives_left, gives_on}
@@ -26,13 +26,8 @@ with_same p c ts us lists others same beside q d = elim (eqb_tells q p) [
   | inr n ↦ rw n.0 (beside q d (λ e. n.1 e.0))
 ]
 
--- So many batches of the tail went back: what is left of the list, and the acts, which go on to those of the whole tail.
-pub record GivesSome (line p c keep n : ℕ) (before now : StockValue) : Type 0 where
-  acts : List RootAct
-  given : Gives line p acts (with_titles p c (outside keep (keep + 16 * n) (titles_in before.caches p c)) (titles_in before.caches)) before now
-  rest : acts ++ gives (numbered_by before.view (drop (keep + 16 * n) (titles_in before.caches p c))) ≡ gives (drop keep (listed_in before p c))
-
-pub some_none : (line p c keep : ℕ) (s : StockValue) → GivesSome line p c keep 0 s s
+-- no batch went back yet
+pub some_none : (line p c keep : ℕ) (s : StockValue) → GivesBatches line p c keep 0 s s
 some_none line p c keep s =
     let ts = titles_in s.caches p c in
     let e : keep + 16 * 0 ≡ keep = omega arith in
@@ -53,11 +48,11 @@ some_none line p c keep s =
     ]
 
 -- what is after the first so many, when some went back
-pub behind : (line p c keep n : ℕ) (s now : StockValue) → GivesSome line p c keep n s now →
+pub behind : (line p c keep n : ℕ) (s now : StockValue) → GivesBatches line p c keep n s now →
     titles_in now.caches p c ≡ outside keep (keep + 16 * n) (titles_in s.caches p c)
 behind line p c keep n s now some = some.given.kept p c ∙ this_list p c (outside keep (keep + 16 * n) (titles_in s.caches p c)) (titles_in s.caches)
 
-pub some_left : (line p c keep n : ℕ) (s now : StockValue) → GivesSome line p c keep n s now → keep + 16 * n < length (titles_in s.caches p c) →
+pub some_left : (line p c keep n : ℕ) (s now : StockValue) → GivesBatches line p c keep n s now → keep + 16 * n < length (titles_in s.caches p c) →
     keep < length (titles_in now.caches p c)
 some_left line p c keep n s now some more =
     let ts = titles_in s.caches p c in
@@ -65,16 +60,16 @@ some_left line p c keep n s now some more =
     let f = later_count keep (keep + 16 * n) ts (omega arith) in
     omega arith
 
-pub some_stake : (line p c keep n : ℕ) (s now : StockValue) → GivesSome line p c keep n s now → HasItsStake s → HasItsStake now
+pub some_stake : (line p c keep n : ℕ) (s now : StockValue) → GivesBatches line p c keep n s now → HasItsStake s → HasItsStake now
 some_stake line p c keep n s now some stake =
     subst (λ k. 0 < stake_of now.view k) (sym some.given.same.0) (let e = some.given.stakes s.thread in omega arith)
 
-pub some_thread : (line p c keep n : ℕ) (s now : StockValue) → GivesSome line p c keep n s now → now.thread ≡ s.thread
+pub some_thread : (line p c keep n : ℕ) (s now : StockValue) → GivesBatches line p c keep n s now → now.thread ≡ s.thread
 some_thread line p c keep n s now some = some.given.same.0
 
 -- one batch more
-pub some_more : (line p c keep n : ℕ) (s now next : StockValue) → IsStock now → GivesSome line p c keep n s now → GivesBatch line p c keep now next →
-    keep + 16 * n < length (titles_in s.caches p c) → GivesSome line p c keep (n + 1) s next
+pub some_more : (line p c keep n : ℕ) (s now next : StockValue) → IsStock now → GivesBatches line p c keep n s now → GivesBatch line p c keep now next →
+    keep + 16 * n < length (titles_in s.caches p c) → GivesBatches line p c keep (n + 1) s next
 some_more line p c keep n s now next is some batch more =
     let ts = titles_in s.caches p c in
     let m = keep + 16 * n in
@@ -112,7 +107,7 @@ some_more line p c keep n s now next is some batch more =
     }
 
 -- all of them
-pub some_all : (line p c keep n : ℕ) (s now : StockValue) → GivesSome line p c keep n s now → length (titles_in s.caches p c) ≤ keep + 16 * n →
+pub some_all : (line p c keep n : ℕ) (s now : StockValue) → GivesBatches line p c keep n s now → length (titles_in s.caches p c) ≤ keep + 16 * n →
     GivesTail line p c keep s now
 some_all line p c keep n s now some few =
     let ts = titles_in s.caches p c in

@@ -1,5 +1,5 @@
 -- Titles that go back to the root of their partition: how that changes a worker's thread state, and what was entered for it.
-use Rattle.std.specs.Prelude.{◌≡◌, ℕ, ◌<◌, ◌≤◌, ◌==◌, ◌&&◌, ◌++◌, List, [], ◌∷◌, map, take, drop, Contains, slice_index, if◌then◌else◌}
+use Rattle.std.specs.Prelude.{◌≡◌, ℕ, ◌+◌, ◌*◌, ◌<◌, ◌≤◌, ◌==◌, ◌&&◌, ◌++◌, List, [], ◌∷◌, map, take, drop, Contains, slice_index, if◌then◌else◌}
 use Rattle.pa_machine.specs.declared.title.Title.{Title}
 use Rattle.pa_machine.specs.Titles.{IsWellFormed}
 use Rattle.pa_machine.specs.Holdings.{Thing}
@@ -53,14 +53,16 @@ pub record HandsBack (r line p : ℕ) (titles : List Title) (v after : View) : T
   pub index : ℕ
   pub enters : EntersOne index r p (root_entry line (Give (numbered_by v titles))) left after
 
--- A seat took in again what it had handed over: it has what it had, and forgot nothing, and each word is the same.
+-- A seat took in again what it had handed over: it has what it had, in its logs too, has seen the same, and each word is the same.
 pub record TakesBack (v after : View) : Type 0 where
   pub things : (x : Thing) → held_of_view after x ≡ held_of_view v x
   pub unclean : unclean_of after ≡ unclean_of v
   pub budget : after.budget ≡ v.budget
   pub stakes : (k : ℕ) → stake_of after k ≡ stake_of v k
+  pub logs : (k : ℕ) → log_of k after ≡ log_of k v
   pub words : (q : ℕ) → slice_index after.words q ≡ slice_index v.words q
-  pub lists : (k : ℕ) → IsBeginning (list_of k v) (list_of k after)
+  pub lists : (k : ℕ) → list_of k after ≡ list_of k v
+  pub seen : (t : Title) → seen_of after t ≡ seen_of v t
 
 -- the lists with these titles in that of partition p and the class
 abbrev pub with_titles : ℕ → ℕ → List Title → (ℕ → ℕ → List Title) → ℕ → ℕ → List Title
@@ -77,3 +79,14 @@ abbrev pub GivesBatch : (line p class keep : ℕ) (before after : StockValue) �
 GivesBatch line p class keep before after =
     Gives line p (Give (numbered_by before.view (batch_after keep (titles_in before.caches p class))) ∷ [])
     (with_titles p class (rest_after keep (titles_in before.caches p class)) (titles_in before.caches)) before after
+
+-- So many batches of 16 of a list's titles after the first `keep` went back: the list has the others, and the acts so far are the
+-- first of those of the whole tail.
+pub record GivesBatches (line p class keep batches : ℕ) (before after : StockValue) : Type 0 where
+  pub acts : List RootAct
+  pub given : Gives line p acts
+      (with_titles p class (take keep (titles_in before.caches p class) ++ drop (keep + 16 * batches) (titles_in before.caches p class))
+      (titles_in before.caches)) before after
+  pub rest :
+      acts ++ gives (numbered_by before.view (drop (keep + 16 * batches) (titles_in before.caches p class)))
+      ≡ gives (drop keep (listed_in before p class))

@@ -12,7 +12,7 @@ ghost use Rattle.pa_op_specs.specs.Stocks.{titles_in};
 ghost use Rattle.pa_op_specs.specs.Workers.{HasItsStake};
 ghost use Rattle.pa_thread_state.specs.Allocating.{BecomesList};
 ghost use Rattle.pa_thread_state.specs.Giving.{GivesTail, GivesBatch, HandsBack, TakesBack};
-ghost use Rattle.pa_thread_state.specs.Stopping.{KeepsItsStake};
+ghost use Rattle.pa_thread_state.specs.Stopping.{KeepsItsStake, RefusesBatch, StopsTail};
 
 use crate::heap::Heap;
 use crate::listing::place_of;
@@ -20,10 +20,10 @@ use crate::roots::with_root;
 use crate::stock::Stock;
 use arrayvec::ArrayVec;
 use pa_buckets::Class;
+use pa_cache::other_lists_stay;
 use pa_cells::slots_stay_seen;
-use pa_chain_cache::other_lists_stay;
 use pa_machine::{Item, OutOfMemory, Title};
-use pa_region::{Name, Note, Region, Seat, beginnings_join, kept_numbers_stay};
+use pa_region::{Name, Note, Region, Seat, kept_numbers_stay, seen_lists_join, seen_numbers_join};
 use pa_root::Root;
 use std::sync::{Mutex, Wait};
 
@@ -47,6 +47,7 @@ impl<N: Name> Stock<N> {
         requires partition { partition < most_partitions }
         ensures gives { OnOk result (GivesTail line partition class keep self.old self.new) }
         ensures stake { OnErr result (KeepsItsStake self.old self.new) }
+        ensures stops { OnErr result (StopsTail line partition class keep self.old self.new) }
         ensures budget { self.new.view.budget ≡ self.old.view.budget }
     {
         self.kept();
@@ -95,7 +96,8 @@ impl<N: Name> Stock<N> {
         cache.spill(region, &mut self.seat, keep)
     }
 
-    // Gives the first 16 titles of a list after its first `keep` back, or all of them if there are fewer.
+    // Gives the first 16 titles of a list after its first `keep` back, or all of them if there are fewer. If it runs out of memory,
+    // the seat has them, and they are on no list.
     fn give_batch<R: Wait>(
         &mut self,
         rt: &R,
@@ -110,6 +112,7 @@ impl<N: Name> Stock<N> {
         requires some { keep < length (titles_in self.old.caches partition class) }
         ensures gives { OnOk result (GivesBatch line partition class keep self.old self.new) }
         ensures stake { OnErr result (KeepsItsStake self.old self.new) }
+        ensures refused { OnErr result (RefusesBatch partition class keep self.old self.new) }
         ensures budget { self.new.view.budget ≡ self.old.view.budget }
     {
         kept_numbers_stay();
@@ -146,7 +149,8 @@ fn give_titles<N: Name, R: Wait>(
         (HandsBack (least_stake seat.old.view.stakes) line partition titles.items seat.old.view seat.new.view) }
     ensures back { OnErr result (TakesBack seat.old.view seat.new.view) }
 {
-    beginnings_join();
+    seen_numbers_join();
+    seen_lists_join();
     seat.aware();
     let region = heap.region();
     let note = hand_free(region, seat, titles.as_slice());
@@ -155,7 +159,6 @@ fn give_titles<N: Name, R: Wait>(
         Ok(()) => Ok(()),
         Err(note) => {
             region.take(seat, note);
-            seat.aware();
             Err(OutOfMemory)
         }
     }

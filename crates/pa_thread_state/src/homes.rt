@@ -1,15 +1,16 @@
 //! Slots that a step returned and that their lists have no room for.
-ghost use Rattle.std.specs.Prelude.{◌≡◌, ◌<◌, ◌≤◌, List, [], ◌∷◌, length, Some, OnOk, IfErr, OnErr};
+ghost use Rattle.std.specs.Prelude.{◌≡◌, ◌-◌, ◌/◌, ◌<◌, ◌≤◌, List, [], ◌∷◌, length, Some, OnOk, IfErr, OnErr};
 ghost use Rattle.pa_machine.specs.declared.title.Title.{Title};
 ghost use Rattle.pa_buckets.specs.Bands.{limit_of};
 ghost use Rattle.pa_region.specs.Views.{least_stake};
+ghost use Rattle.pa_region.specs.Hands.{IsParted, united};
 ghost use Rattle.pa_region.specs.Lending.{CanLend};
 ghost use Rattle.pa_root.specs.Handing.{HasOnly};
 ghost use Rattle.pa_cells.specs.Handles.{HasSeenMade};
 ghost use Rattle.pa_op_specs.specs.Workers.{HasItsStake};
 ghost use Rattle.pa_thread_state.specs.Changes.{IsBack, NeedsRoot};
 ghost use Rattle.pa_thread_state.specs.Homing.{ComesHome, GoesHome, Spills, IsSettled, without_title, note_of_title};
-ghost use Rattle.pa_thread_state.specs.Stopping.{KeepsItsStake};
+ghost use Rattle.pa_thread_state.specs.Stopping.{IsLeftOver, KeepsAll, KeepsItsStake, StopsTail};
 
 use crate::heap::Heap;
 use crate::roots::with_root;
@@ -18,13 +19,13 @@ use arrayvec::ArrayVec;
 use pa_buckets::{Class, cache_limit};
 use pa_cells::{Handle, slots_stay_seen};
 use pa_machine::{Item, OutOfMemory};
-use pa_region::{Name, Note, Seat, beginnings_join};
+use pa_region::{Name, Note, Seat, beginnings_join, seen_lists_join, seen_numbers_join};
 use pa_root::Root;
 use std::sync::{Mutex, Wait};
 
 impl<N: Name> Stock<N> {
-    // Brings a slot that a step returned where it belongs, if its list has no room for it. If it runs out of memory, its title may
-    // be on no list.
+    // Brings a slot that a step returned where it belongs, if its list has no room for it. If it runs out of memory, the seat has
+    // its title, which is on no list.
     pub(crate) fn settle<R: Wait>(
         &mut self,
         rt: &R,
@@ -37,6 +38,7 @@ impl<N: Name> Stock<N> {
         requires root { NeedsRoot handle.now self.old }
         ensures settled { OnOk result (IsSettled line handle.now self.old self.new) }
         ensures stake { OnErr result (KeepsItsStake self.old self.new) }
+        ensures left { OnErr result (IsLeftOver line handle.now self.old self.new) }
     {
         match handle.class {
             None => self.send_home(rt, heap, line, handle),
@@ -65,6 +67,8 @@ impl<N: Name> Stock<N> {
         requires some { 0 < limit_of class }
         ensures spills { OnOk result (Spills line handle.now class self.old self.new) }
         ensures stake { OnErr result (KeepsItsStake self.old self.new) }
+        ensures stops { OnErr result (StopsTail line handle.now.partition class (limit_of class / 2 - 1) self.old self.new) }
+        ensures back { OnErr result (IsBack handle.now self.new) }
     {
         slots_stay_seen();
         self.kept();
@@ -76,7 +80,7 @@ impl<N: Name> Stock<N> {
         Ok(())
     }
 
-    // Sends a free title that is on no list back to its root.
+    // Sends a free title that is on no list back to its root. If it runs out of memory, the seat has it again.
     fn send_home<R: Wait>(
         &mut self,
         rt: &R,
@@ -88,7 +92,12 @@ impl<N: Name> Stock<N> {
         requires back { IsBack handle.now self.old }
         ensures home { OnOk result (GoesHome line handle.now self.old self.new) }
         ensures stake { OnErr result (KeepsItsStake self.old self.new) }
+        ensures keeps { OnErr result (KeepsAll self.old self.new) }
+        ensures back { OnErr result (IsBack handle.now self.new) }
     {
+        seen_numbers_join();
+        seen_lists_join();
+        slots_stay_seen();
         self.kept();
         let note = self.part_with(heap, handle);
         self.kept();
@@ -110,6 +119,7 @@ impl<N: Name> Stock<N> {
         requires back { IsBack handle.now self.old }
         ensures left { self.new ≡ record self.old { view = without_title handle.now.title self.old.view } }
         ensures note { result.view ≡ note_of_title handle.now.title self.old.view }
+        ensures parted { IsParted self.old.view self.new.view result.view }
         ensures region { result.region ≡ N.region }
         ensures stake { HasItsStake self.new }
     {
@@ -148,6 +158,8 @@ impl<N: Name> Stock<N> {
         requires note { note.region ≡ N.region }
         requires has { (ts : List Title) × HasOnly ts note.view }
         ensures stake { KeepsItsStake self.old self.new }
+        ensures joined { self.new ≡ record self.old { view = united self.old.view note.view } }
+        ensures parted { IsParted self.new.view self.old.view note.view }
     {
         beginnings_join();
         slots_stay_seen();

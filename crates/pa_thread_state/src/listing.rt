@@ -11,8 +11,8 @@ ghost use Rattle.pa_thread_state.specs.Changes.{BecomesFront, CanList, IsBack, I
 
 use crate::stock::Stock;
 use pa_buckets::{CLASSES, Class, cache_limit, rows_have_bounds, slot_size};
+use pa_cache::other_lists_stay;
 use pa_cells::Handle;
-use pa_chain_cache::other_lists_stay;
 use pa_record::Tally;
 use pa_region::{Name, Region};
 

@@ -8,15 +8,15 @@ ghost use Rattle.pa_region.specs.Hands.{left_after, given_after, united};
 ghost use Rattle.pa_region.specs.Lending.{stake_parcel};
 ghost use Rattle.pa_rules.specs.Caches.{SameLists};
 ghost use Rattle.pa_rules.specs.declared.register.Register.TheVariants.{Empty};
-ghost use Rattle.pa_chain_cache.specs.Caches.{HoldsList, list_in};
+ghost use Rattle.pa_cache.specs.Chained.{HoldsList, list_in};
 ghost use Rattle.pa_op_specs.specs.Stocks.{AreNoLists, IsForThread, IsNewStock, listed_in};
 ghost use Rattle.pa_op_specs.specs.Workers.{HasItsStake};
 
 use crate::listing::class_numbered;
 use crate::stock::Stock;
 use pa_buckets::{CLASSES, Class};
+use pa_cache::Cache;
 use pa_cells::{Handle, slots_stay_seen};
-use pa_chain_cache::Cache;
 use pa_machine::OutOfMemory;
 use pa_region::{Mark, Name, Note, Region, beginnings_join, free_numbers_stay, seen_numbers_join};
 use pa_rules::{LISTS, Register};

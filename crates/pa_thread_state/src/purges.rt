@@ -6,7 +6,7 @@ ghost use Rattle.pa_region.specs.Lending.{CanLend};
 ghost use Rattle.pa_root.specs.Handing.{PurgeEnters};
 ghost use Rattle.pa_op_specs.specs.Workers.{HasItsStake};
 ghost use Rattle.pa_thread_state.specs.Purging.{PurgesRoot};
-ghost use Rattle.pa_thread_state.specs.Stopping.{KeepsItsStake};
+ghost use Rattle.pa_thread_state.specs.Stopping.{KeepsItsStake, StopsPartition};
 
 use crate::heap::Heap;
 use crate::listing::class_numbered;
@@ -21,7 +21,7 @@ use std::sync::{Mutex, Wait};
 
 impl<N: Name> Stock<N> {
     /// Gives all lists of a partition back, on this line, and purges its root. It returns how many slots went back. If it
-    /// runs out of memory, what was given back stays so.
+    /// runs out of memory, what was given back stays so, and the seat has the batch that the root refused, which is on no list.
     pub fn purge_partition<R: Wait>(
         &mut self,
         rt: &R,
@@ -34,6 +34,7 @@ impl<N: Name> Stock<N> {
         ensures purges { IfOk result (λ slots. PurgesRoot line partition slots self.old self.new) }
         ensures few { IfOk result (λ slots. slots ≤ 3776) }
         ensures stake { OnErr result (KeepsItsStake self.old self.new) }
+        ensures stops { OnErr result (StopsPartition line partition self.old self.new) }
         ensures budget { self.new.view.budget ≡ self.old.view.budget }
     {
         kept_numbers_stay();

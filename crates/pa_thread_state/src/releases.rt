@@ -6,9 +6,9 @@ ghost use Rattle.pa_quarantine.specs.Filling.{poisoned};
 ghost use Rattle.pa_rules.specs.declared.register.Register.TheVariants as registers;
 ghost use Rattle.pa_op_specs.specs.Stocks.{register_in};
 ghost use Rattle.pa_op_specs.specs.Workers.{HasItsStake};
-ghost use Rattle.pa_thread_state.specs.Changes.{IsBack};
+ghost use Rattle.pa_thread_state.specs.Changes.{IsBack, NeedsRoot};
 ghost use Rattle.pa_thread_state.specs.Releasing.{IsBroughtBack, Releases};
-ghost use Rattle.pa_thread_state.specs.Stopping.{KeepsItsStake};
+ghost use Rattle.pa_thread_state.specs.Stopping.{IsLeftOver, KeepsItsStake, StopsRelease};
 
 use crate::heap::Heap;
 use crate::stock::Stock;
@@ -20,8 +20,8 @@ use pa_region::{Name, counted_steps_leave, owns_change, states_are_owns};
 use std::sync::Wait;
 
 impl<N: Name> Stock<N> {
-    /// Resets the `raw_ptr` of a register, which is cleared, and brings a slot that this returns where it belongs. If it runs out
-    /// of memory the step remains made, and the slot's title may be on no list.
+    /// Resets the `raw_ptr` of a register, which is cleared, and brings a slot that this returns where it belongs. It runs out
+    /// of memory only if that needs the root; then the step remains made, and the seat has the slot's title, which is on no list.
     pub fn reset<R: Wait>(
         &mut self,
         rt: &R,
@@ -37,6 +37,7 @@ impl<N: Name> Stock<N> {
         ensures releases { IfOk result (λ seen. Releases line steps.Reset handle reg registers.Cleared self.old.view seen self.old self.new) }
         ensures budget { OnOk result (self.old.view.budget ≤ self.new.view.budget + 1) }
         ensures stake { OnErr result (KeepsItsStake self.old self.new) }
+        ensures stops { OnErr result (StopsRelease line steps.Reset handle reg registers.Cleared self.old.view self.old self.new) }
     {
         counted_steps_leave();
         self.kept();
@@ -50,8 +51,8 @@ impl<N: Name> Stock<N> {
         }
     }
 
-    /// Poisons the slot that a register owns and frees it, and brings it where it belongs if this returns it. If it runs out
-    /// of memory the step remains made, and the slot's title may be on no list.
+    /// Poisons the slot that a register owns and frees it, and brings it where it belongs if this returns it. It runs out
+    /// of memory only if that needs the root; then the step remains made, and the seat has the slot's title, which is on no list.
     pub fn free<R: Wait>(
         &mut self,
         rt: &R,
@@ -68,6 +69,8 @@ impl<N: Name> Stock<N> {
             (λ seen. Releases line steps.Free handle reg registers.Freed (poisoned handle.title self.old.view) seen self.old self.new) }
         ensures budget { OnOk result (self.old.view.budget ≤ self.new.view.budget + 1) }
         ensures stake { OnErr result (KeepsItsStake self.old self.new) }
+        ensures stops { OnErr result
+            (StopsRelease line steps.Free handle reg registers.Freed (poisoned handle.title self.old.view) self.old self.new) }
     {
         counted_steps_leave();
         owns_change();
@@ -96,6 +99,8 @@ impl<N: Name> Stock<N> {
         ensures back { OnOk result (IsBroughtBack line handle.now self.old self.new) }
         ensures budget { OnOk result (self.new.view.budget ≡ self.old.view.budget) }
         ensures stake { OnErr result (KeepsItsStake self.old self.new) }
+        ensures root { OnErr result (NeedsRoot handle.now self.old) }
+        ensures left { OnErr result (IsLeftOver line handle.now self.old self.new) }
     {
         let listed = self.put(heap.region(), handle);
         if listed {

@@ -11,8 +11,8 @@ ghost use Rattle.pa_region.specs.Shares.{byte_word_count};
 ghost use Rattle.pa_link.specs.Chains.{slot_names};
 ghost use Rattle.pa_op_specs.specs.Stocks.{IsStock, HasHandleTo, register_in, titles_in};
 
+use pa_cache::Cache;
 use pa_cells::Handle;
-use pa_chain_cache::Cache;
 use pa_machine::{SlotName, Title};
 use pa_region::{Name, Note, Seat};
 use pa_rules::Register;
@@ -32,7 +32,7 @@ pub struct Stock<N: Name> {
 
 impl<N: Name> Model for Stock<N> {
     ghost use Rattle.std.specs.Prelude.{◌≡◌, All, map};
-    ghost use Rattle.pa_chain_cache.specs.Caches.{HoldsList, list_in};
+    ghost use Rattle.pa_cache.specs.Chained.{HoldsList, list_in};
     ghost use Rattle.pa_op_specs.specs.Stocks.{StockValue, IsStock};
 
     ghost Value = { StockValue };

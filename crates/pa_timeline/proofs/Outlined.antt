@@ -26,19 +26,19 @@ use Rattle.pa_timeline.proofs.Places.{moment, part_on, parts_kept}
 
 -- ---- what stays
 
-abbrev part_stays : Part → Option Part
+abbrev pub part_stays : Part → Option Part
 part_stays (Spoiling word) = None
 part_stays part = Some part
 
-abbrev stays_of : Played → Part → Option Moment
+abbrev pub stays_of : Played → Part → Option Moment
 stays_of x (Spoiling word) = None
 stays_of x part = Some (moment x part)
 
-abbrev stays : Moment → Option Moment
+abbrev pub stays : Moment → Option Moment
 stays m = stays_of m.x m.part
 
 -- it is itself
-stays_is : (x : Played) (part : Part) (n : Moment) → stays_of x part ≡ Some n → moment x part ≡ n
+pub stays_is : (x : Played) (part : Part) (n : Moment) → stays_of x part ≡ Some n → moment x part ≡ n
 stays_is x (Spoiling word) n e = absurd cc
 stays_is x part n e = of_some (moment x part) n e
 
@@ -48,7 +48,7 @@ agrees : {B : Type 0} (f : Moment → Option B) → ((x : Played) (word : ℕ) �
 agrees f none x (Spoiling word) = sym (none x word)
 agrees f none x part = refl
 
-kept_of : {B : Type 0} (f : Moment → Option B) (ms : List Moment) → ((x : Played) (word : ℕ) → f (moment x (Spoiling word)) ≡ None) →
+pub kept_of : {B : Type 0} (f : Moment → Option B) (ms : List Moment) → ((x : Played) (word : ℕ) → f (moment x (Spoiling word)) ≡ None) →
     filter_map f (filter_map stays ms) ≡ filter_map f ms
 kept_of f ms none = kept_twice f stays ms ∙ kept_same (λ m. option_and_then f (stays m)) f ms (λ m among. agrees f none m.x m.part)
 
@@ -63,7 +63,7 @@ flat_stays f [] each = refl
 flat_stays f (x ∷ xs) each =
     filter_map-append part_stays (f x) (flat_map f xs) ∙ ap (λ ys. ys ++ filter_map part_stays (flat_map f xs)) (each x) ∙ ap (λ ys. f x ++ ys) (flat_stays f xs each)
 
-entries_stay : (partitions : ℕ) (roots : Journals) (line : ℕ) → filter_map part_stays (entry_parts partitions roots line) ≡ entry_parts partitions roots line
+pub entries_stay : (partitions : ℕ) (roots : Journals) (line : ℕ) → filter_map part_stays (entry_parts partitions roots line) ≡ entry_parts partitions roots line
 entries_stay partitions roots line =
     flat_stays (λ p. flat_map (act_parts p) (acts_of roots line p)) (range_with_len 0 partitions)
     (λ p. flat_stays (act_parts p) (acts_of roots line p) (λ act. entry_stays p act (asked_by act)))
@@ -100,7 +100,7 @@ part_agrees line x Looking = elim (cases_Bool (eqb x.line line)) [ inl here ↦ 
 part_agrees line x Loading = elim (cases_Bool (eqb x.line line)) [ inl here ↦ rw here refl | inr other ↦ rw other refl ]
 part_agrees line x Counting = elim (cases_Bool (eqb x.line line)) [ inl here ↦ rw here refl | inr other ↦ rw other refl ]
 
-parts_stay : (line : ℕ) (ms : List Moment) → parts_in line (filter_map stays ms) ≡ filter_map part_stays (parts_in line ms)
+pub parts_stay : (line : ℕ) (ms : List Moment) → parts_in line (filter_map stays ms) ≡ filter_map part_stays (parts_in line ms)
 parts_stay line ms =
     sym (parts_kept line (filter_map stays ms)) ∙ kept_twice (part_on line) stays ms
     ∙ kept_same (λ m. option_and_then (part_on line) (stays m)) (λ m. option_and_then part_stays (part_on line m)) ms (λ m among. part_agrees line m.x m.part)
@@ -112,7 +112,7 @@ not_counted : (s : SlotName) (x : Played) (part : Part) → stays_of x part ≡ 
 not_counted s x (Spoiling word) none = refl
 not_counted s x part none = absurd cc
 
-counts_stay : (s : SlotName) (ms : List Moment) → counted_steps s (filter_map stays ms) ≡ counted_steps s ms
+pub counts_stay : (s : SlotName) (ms : List Moment) → counted_steps s (filter_map stays ms) ≡ counted_steps s ms
 counts_stay s [] = refl
 counts_stay s (m ∷ ms) =
     let test : Moment → Bool = λ n. is_counted_on s n.x n.part in
@@ -127,6 +127,11 @@ counts_stay s (m ∷ ms) =
           let same : cond {A = ℕ} (test m) 1 0 ≡ cond {A = ℕ} (test n) 1 0 = ap (λ k. cond {A = ℕ} (test k) 1 0) (stays_is m.x m.part n is) in
           rw is (omega arith)
     ]
+
+-- a poisoning is no exchange
+pub no_swap : (k line word : ℕ) (op : Op) → part_swaps k line op (Spoiling word) ≡ None
+no_swap k line word (ops.Swap cell reg) = refl
+no_swap k line word op = refl
 
 -- ---- the law
 
@@ -154,7 +159,3 @@ timelines_have_outlines t r (ms, timeline) =
         exchanges = λ k. kept_of (λ (m : Moment). part_swaps k m.x.line m.x.op m.part) ms (λ x word. no_swap k x.line word x.op) ∙ o.exchanges k;
       },
     )
-  where
-    no_swap : (k line word : ℕ) (op : Op) → part_swaps k line op (Spoiling word) ≡ None
-    no_swap k line word (ops.Swap cell reg) = refl
-    no_swap k line word op = refl

@@ -45,7 +45,7 @@ use Rattle.pa_examples.proofs.told.Knowing.{knows_one, history_here, history_the
 use Rattle.pa_examples.proofs.told.Layered.{size_is, home_is, pool_tells, roots_tell, cells_tell, census_said}
 use Rattle.pa_examples.proofs.told.Otherwise.{so_content, content_second, content_of_second, content_of_last, so_freed, freed_second, freed_of_second, freed_of_last, other_reads_fit}
 use Rattle.pa_examples.proofs.told.PhaseEnds.{KnowsUntil, ends_1, ends_2, ends_3}
-use Rattle.pa_examples.proofs.told.Ordered.{order_1, held_2, held_3, freed_2, freed_3}
+use Rattle.pa_examples.proofs.told.Ordered.{order_1, poison_steps, content_steps, freed_steps, held_poison, held_content, freed_poison, held_2, held_3, freed_2, freed_3}
 use Rattle.pa_examples.proofs.told.Played.{so_read, held_row, freed_row, rows_of, caches_until, ReadsOnly, leads_of}
 use Rattle.pa_examples.proofs.told.Seen.{covered, have_seen}
 use Rattle.pa_examples.proofs.told.Threads.{steps_first, steps_second, steps_last, told_first, told_second, of_first, of_second, of_last, seen_so}
@@ -276,8 +276,18 @@ poison_fits = fits (answers.Value (seen_at 16384 0 0x2000003) poison) 0x2000003 
     (λ sizes long. subst (λ n. IsTold (λ s. n) (told_record the_read)) (sym long) (refl, (0, 0, false, refl, record { since = no_deeds; unclean = false; rest = []; pair = refl; none = refl; quiet = refl; clean = refl; in_use = omega arith })))
     (λ sizes long. held_row sizes long 0x2000003 poison refl) (none_on two_threads_journal 8 refl, λ p c. refl) seen_so
     (record { knows = knows_one told_first steps_first of_first; own_logs = refl; adds = λ q. refl; order = order_1 (answers.Value (seen_at 16384 0 0x2000003) poison) 0x2000003 poison 2 })
-    (record { knows = knows_one told_second steps_second of_second; own_logs = refl; adds = λ q. refl; order = held_2 (answers.Value (seen_at 16384 0 0x2000003) poison) poison 2 }) (record {
-      until = record { knows = knows_one threads_told steps_last of_last; own_logs = refl; adds = λ q. refl; order = held_3 (answers.Value (seen_at 16384 0 0x2000003) poison) poison 2 };
+    (record {
+      knows = knows_one told_second steps_second of_second;
+      own_logs = refl;
+      adds = λ q. refl;
+      order = held_2 (answers.Value (seen_at 16384 0 0x2000003) poison) poison 2 poison_steps held_poison;
+    }) (record {
+      until = record {
+        knows = knows_one threads_told steps_last of_last;
+        own_logs = refl;
+        adds = λ q. refl;
+        order = held_3 (answers.Value (seen_at 16384 0 0x2000003) poison) poison 2 poison_steps held_poison;
+      };
       first = ap reached (history_here threads_told steps_last of_last);
       others = history_there threads_told steps_last of_last;
     })
@@ -288,8 +298,18 @@ content_fits = fits (answers.Value (seen_at 16384 0 0x2000003) 0) 0x2000003 0 2 
     (λ sizes long. subst (λ n. IsTold (λ s. n) (told_record content_read)) (sym long) (refl, (0, 0, false, refl, record { since = no_deeds; unclean = false; rest = []; pair = refl; none = refl; quiet = refl; clean = refl; in_use = omega arith })))
     (λ sizes long. held_row sizes long 0x2000003 0 refl) (none_on two_threads_journal 8 refl, λ p c. refl) other_reads_fit.content.viewed
     (record { knows = knows_one told_first steps_first of_first; own_logs = refl; adds = λ q. refl; order = order_1 (answers.Value (seen_at 16384 0 0x2000003) 0) 0x2000003 0 2 })
-    (record { knows = knows_one content_second steps_second content_of_second; own_logs = refl; adds = λ q. refl; order = held_2 (answers.Value (seen_at 16384 0 0x2000003) 0) 0 2 }) (record {
-      until = record { knows = knows_one so_content steps_last content_of_last; own_logs = refl; adds = λ q. refl; order = held_3 (answers.Value (seen_at 16384 0 0x2000003) 0) 0 2 };
+    (record {
+      knows = knows_one content_second steps_second content_of_second;
+      own_logs = refl;
+      adds = λ q. refl;
+      order = held_2 (answers.Value (seen_at 16384 0 0x2000003) 0) 0 2 content_steps held_content;
+    }) (record {
+      until = record {
+        knows = knows_one so_content steps_last content_of_last;
+        own_logs = refl;
+        adds = λ q. refl;
+        order = held_3 (answers.Value (seen_at 16384 0 0x2000003) 0) 0 2 content_steps held_content;
+      };
       first = ap reached (history_here so_content steps_last content_of_last);
       others = history_there so_content steps_last content_of_last;
     })
@@ -300,9 +320,19 @@ freed_fits = fits (answers.Dangling (seen_at 16384 0 0x3000002) poison) 0x300000
     (λ sizes long. subst (λ n. IsTold (λ s. n) (told_record freed_read)) (sym long) (refl, (0, 0, false, refl, record { since = no_deeds; unclean = false; rest = []; pair = refl; none = refl; quiet = refl; clean = refl; in_use = omega arith })))
     (λ sizes long. freed_row sizes long 0x3000002 poison refl) (none_on two_threads_journal 8 refl, λ p c. refl) other_reads_fit.freed.viewed
     (record { knows = knows_one told_first steps_first of_first; own_logs = refl; adds = λ q. refl; order = order_1 (answers.Dangling (seen_at 16384 0 0x3000002) poison) 0x3000002 poison 3 })
-    (record { knows = knows_one freed_second steps_second freed_of_second; own_logs = refl; adds = λ q. refl; order = freed_2 (answers.Dangling (seen_at 16384 0 0x3000002) poison) poison 3 })
     (record {
-      until = record { knows = knows_one so_freed steps_last freed_of_last; own_logs = refl; adds = λ q. refl; order = freed_3 (answers.Dangling (seen_at 16384 0 0x3000002) poison) poison 3 };
+      knows = knows_one freed_second steps_second freed_of_second;
+      own_logs = refl;
+      adds = λ q. refl;
+      order = freed_2 (answers.Dangling (seen_at 16384 0 0x3000002) poison) poison 3 freed_steps freed_poison;
+    })
+    (record {
+      until = record {
+        knows = knows_one so_freed steps_last freed_of_last;
+        own_logs = refl;
+        adds = λ q. refl;
+        order = freed_3 (answers.Dangling (seen_at 16384 0 0x3000002) poison) poison 3 freed_steps freed_poison;
+      };
       first = ap reached (history_here so_freed steps_last freed_of_last);
       others = history_there so_freed steps_last freed_of_last;
     })

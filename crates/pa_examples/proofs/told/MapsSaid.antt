@@ -124,6 +124,7 @@ alone = record {
   own_logs = refl;
   adds = λ q. refl;
   found = refl;
+  unread = refl;
   all_seen = λ t. elim (title_tells (map_title 5) t) [
     | inl y ↦ subst IsSeen y.1 (lit≤ tt)
     | inr n ↦ elim (title_tells (map_title 2) t) [

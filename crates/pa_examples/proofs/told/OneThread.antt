@@ -34,6 +34,7 @@ use Rattle.pa_logs.proofs.Merging.{own_first, other_first}
 use Rattle.pa_examples.specs.told.AllSaid.{seat_of}
 use Rattle.pa_examples.specs.told.Entered.{in_root, in_pool, lists_of}
 use Rattle.pa_examples.proofs.told.Seats.{list_cases, IsOrderOf, has_order, FitsSeat}
+use Rattle.pa_examples.proofs.told.Poisonings.{all_unread, stepwise, stepwise_placed, stepwise_logged}
 
 -- the first thread, and the others
 pub by_one : (P : ℕ → Type 0) → P 0 → ((k : ℕ) → (0 ≡ k → ⊥) → P k) → (k : ℕ) → P k
@@ -97,6 +98,7 @@ first_entries (e ∷ log) = ap (λ (es : List Entry). e ∷ es) (first_entries l
 --   own_logs, all_seen: what was seen is what the logs say
 --   adds: nothing was added to a totals word
 --   found: each counted step and each look in its log found the number of counted steps of its title before it
+--   unread: it has no read
 pub record IsAlone (ts : List ToldRecord) (notes : List SeenNumber) (journal : List RootEntry) (pools : List PoolEntry) : Type 0 where
   pub knows : KnowsAll (view_of ts) ts
   pub root : entered_in 0 (log_of 0 ts) ≡ map in_root journal
@@ -107,6 +109,7 @@ pub record IsAlone (ts : List ToldRecord) (notes : List SeenNumber) (journal : L
   pub adds : (q : ℕ) → told_of ts (added_as q) ≡ 0
   pub all_seen : (t : Title) → seen_among t notes ≤ told_of ts (counted_on t)
   pub found : all_find [] (map first_did (log_of 0 ts)) ≡ true
+  pub unread : all_unread (map first_did (log_of 0 ts)) ≡ true
 
 module _ (ts : List ToldRecord) (notes : List SeenNumber) (journal : List RootEntry) (pools : List PoolEntry) (is : IsAlone ts notes journal pools) where
   abbrev lists : ℕ → List Made
@@ -130,6 +133,10 @@ module _ (ts : List ToldRecord) (notes : List SeenNumber) (journal : List RootEn
     logs = by_one (λ k. log_of k ts ≡ by_stake k (map first_did (log_of 0 ts))) (first_log (log_of 0 ts)) (λ k other. is.alone k other ∙ other_log k other (log_of 0 ts));
     lists_are = λ q. entered q ∙ ap (entered_in q) (first_entries (log_of 0 ts));
     found = is.found;
+    steps = stepwise [] (map first_did (log_of 0 ts));
+    logged = stepwise_logged (map first_did (log_of 0 ts));
+    placed = (stepwise_placed (map first_did (log_of 0 ts)) is.unread).0;
+    freed = (stepwise_placed (map first_did (log_of 0 ts)) is.unread).1;
   }
     where
       entered : (q : ℕ) → list_of q (seat_of ts notes lists) ≡ entered_in q (log_of 0 ts)

@@ -116,6 +116,7 @@ alone = record {
   own_logs = refl;
   adds = λ q. refl;
   found = refl;
+  unread = refl;
   all_seen = λ t. elim (title_tells its_title t) [
     | inl y ↦ subst (λ u. seen_among u (seen_number 3) ≤ told_of purge_told (counted_on u)) y.1 (lit≤ tt)
     | inr none ↦ rw none.0 (omega arith)

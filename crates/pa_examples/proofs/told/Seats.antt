@@ -17,7 +17,7 @@ use Rattle.pa_region.specs.Lists.{list_of, longer, made_with, entered_in, IsKnow
 use Rattle.pa_region.specs.Pairs.{amount_by, logged_of_by}
 use Rattle.pa_region.specs.AllReads.{HasAllLogs}
 use Rattle.pa_region.specs.Aware.{IsAware}
-use Rattle.pa_region.specs.Order.{Stamped, by_stake, IsLoggedIn, HasOneOrder}
+use Rattle.pa_region.specs.Order.{Stamped, OneStep, by_stake, IsLoggedIn, logged_among, spoiled, AreInPlace, HasOneOrder}
 use Rattle.pa_region.specs.Start.{stakes_from}
 use Rattle.pa_region.specs.Totals.{added_as}
 use Rattle.pa_region.proofs.FirstLists.{stake_count}
@@ -62,11 +62,16 @@ module _ (ts : List ToldRecord) (notes : List SeenNumber) (lists : ℕ → List 
 --   stakes: each entry was made with one of the 16 stakes
 --   logs, lists: each log is what its stake did there, and each list what was entered
 --   found: each counted step and each look found the number of counted steps of its title before it
+--   steps, logged, placed, freed: with poisonings each step is in place, and each poisoning has a free after it
 pub record IsOrderOf (ts : List ToldRecord) (notes : List SeenNumber) (lists : ℕ → List Made) (all : List Stamped) : Type 0 where
   pub stakes : Each (λ (m : Stamped). m.stake < 16) all
   pub logs : (k : ℕ) → log_of k ts ≡ by_stake k all
   pub lists_are : (q : ℕ) → list_of q (seat_of ts notes lists) ≡ entered_in q (map (λ (m : Stamped). m.entry) all)
   pub found : all_find [] all ≡ true
+  pub steps : List OneStep
+  pub logged : logged_among steps ≡ all
+  pub placed : AreInPlace steps
+  pub freed : (t : Title) → spoiled t steps ≡ 0
 
 pub has_order : (ts : List ToldRecord) (notes : List SeenNumber) (lists : ℕ → List Made) (all : List Stamped) → IsOrderOf ts notes lists all → HasOneOrder (seat_of ts notes lists)
 has_order ts notes lists all is = record {
@@ -77,6 +82,10 @@ has_order ts notes lists all is = record {
     lists = is.lists_are;
     found = all_found [] all is.found;
   };
+  steps = is.steps;
+  logged = is.logged;
+  placed = is.placed;
+  freed = λ t none. is.freed t;
 }
   where
     each_log : (ss : List Stake) → Each (λ (s : Stake). s.log ≡ by_stake s.number all) (map (with_log ts) ss)
@@ -180,7 +189,14 @@ module _ (ts : List ToldRecord) (notes : List SeenNumber) (lists : ℕ → List 
     handles = h.handles;
     covered = λ r q. let a = fits.adds q in let b = weighed (added_as q) in let c = by_number r (added_as q) in omega arith;
     all_logs = λ every. all_logs h.long;
-    one_order = λ every. record { all = fits.order.all; ordered = order_of_view fits.order.all (seat_of ts notes lists) v refl refl fits.order.ordered };
+    one_order = λ every. record {
+      all = fits.order.all;
+      ordered = order_of_view fits.order.all (seat_of ts notes lists) v refl refl fits.order.ordered;
+      steps = fits.order.steps;
+      logged = fits.order.logged;
+      placed = fits.order.placed;
+      freed = λ t none. fits.order.freed t refl;
+    };
     all_seen = λ every t. let seen = fits.all_seen t in let all = weighed (counted_on t) in omega arith;
   }
     where

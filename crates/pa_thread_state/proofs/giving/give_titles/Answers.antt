@@ -9,7 +9,8 @@ use Rattle.pa_region.specs.Shares.{Share}
 use Rattle.pa_root.specs.Filling.{frees_parcel}
 use Rattle.pa_root.specs.Handing.{HasOnly, HasSeenFill}
 use Rattle.pa_root.proofs.Parcels.{note_has}
-use Rattle.pa_thread_state.proofs.HandedBack.{left_view, left_lends, handed_back, taken_back}
+use Rattle.pa_thread_state.proofs.HandedBack.{left_view, left_lends, handed_back}
+use Rattle.pa_thread_state.proofs.Refused.{taken_back}
 use Rattle.pa_thread_state.proofs.giving.give_titles.Goals as goal
 
 pub give_to-requires-clause-lender : goal.give_to-requires-clause-lender
@@ -56,5 +57,5 @@ returns-in-Err-clause-back g c =
     let w = c.take.new.seat.view in
     let again = subst (λ z. IsParted w z c.hand_free-note.result.view) a (subst (λ z. IsParted w c.give_to.new.seat.view z) b c.take.ensures.parted) in
     let whole = c.take.ensures.view ∙ (ap (λ z. united z c.in-Err.note.view) a ∙ ap (λ z. united c.hand_free-note.new.seat.view z) b) in
-    taken_back c.beginnings_join.ensures ts v c.hand_free-note.new.seat.view c.hand_free-note.result.view w left c.hand_free-note.ensures.parted again
-    (ap (λ (z : View). z.words) given) whole c.aware-in-Err.ensures.aware
+    taken_back c.seen_numbers_join.ensures c.seen_lists_join.ensures ts v c.hand_free-note.new.seat.view c.hand_free-note.result.view w left given
+    c.hand_free-note.ensures.parted again whole

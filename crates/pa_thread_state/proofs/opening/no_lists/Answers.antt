@@ -1,7 +1,7 @@
 use Rattle.std.proofs.Common.{◌≡◌, ◌+◌, ◌∙◌, [], ◌∷◌, ap, sym, subst}
 use Rattle.std.specs.Prelude.{All, map}
 use Rattle.std.proofs.lemmas.List.Elements.{All-append, All-cons, All-nil}
-use Rattle.pa_chain_cache.specs.Caches.{HoldsList, list_in}
+use Rattle.pa_cache.specs.Chained.{HoldsList, list_in}
 use Rattle.pa_op_specs.specs.Stocks.{AreNoLists}
 use Rattle.pa_thread_state.proofs.Chained.{none_more}
 use Rattle.pa_thread_state.proofs.opening.no_lists.Goals as goal

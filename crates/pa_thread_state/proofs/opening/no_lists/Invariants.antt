@@ -1,6 +1,6 @@
 use Rattle.std.specs.Prelude.{All, map}
 use Rattle.pa_region.specs.declared.view.View.{View}
-use Rattle.pa_chain_cache.specs.Caches.{HoldsList, list_in}
+use Rattle.pa_cache.specs.Chained.{HoldsList, list_in}
 use Rattle.pa_op_specs.specs.Stocks.{AreNoLists}
 use Rattle.pa_thread_state.proofs.opening.no_lists.Given as goal
 

@@ -1,11 +1,12 @@
-use Rattle.std.proofs.Common.{arith}
+use Rattle.std.proofs.Common.{◌≡◌, ◌∙◌, ap, sym, subst}
+use Rattle.std.specs.Prelude.{IsNone}
+use Rattle.pa_link.specs.declared.chain.ChainParts.{ChainParts}
+use Rattle.pa_cache.specs.Chained.{CacheParts}
+use Rattle.pa_cache.proofs.Lists.{list_many}
 use Rattle.pa_cache.proofs.cache.Cache.len.Goals as goal
 
-pub overflow_cast-result : goal.overflow_cast-result
-overflow_cast-result c =
-    let is = c.self.invariant.0 in
-    let few = is.few in
-    let kept = (c.rows_have_bounds.ensures.bounds c.self.inside.class is.class).few_kept in
-    let long = c.self.inside.titles.ok.0 in
-    let e = c.len.ensures in
-    omega arith
+pub returns : goal.returns
+returns c v =
+    let e = c.parts.ensures.same ∙ ap (λ (s : CacheParts). s.chain) c.self.view_is in
+    ap (λ (p : ChainParts). p.len) e
+    ∙ sym (list_many v c.args.self.now (subst (λ (p : ChainParts). IsNone p.head → p.len ≡ 0) e c.parts.ensures.none.0))

@@ -1,8 +1,13 @@
-use Rattle.std.proofs.Common.{arith}
+use Rattle.std.proofs.Common.{ap}
+use Rattle.pa_cache.proofs.Calls.{begins}
 use Rattle.pa_cache.proofs.cache.Cache.new.Goals as goal
 
-pub overflow_add-cache_limit : goal.overflow_add-cache_limit
-overflow_add-cache_limit c =
-    let kept = (c.rows_have_bounds.ensures.bounds c.args.class c.cache_limit.ensures.bound).few_kept in
-    let e = c.cache_limit.ensures.limit in
-    omega arith
+pub returns-clause-list : goal.returns-clause-list
+returns-clause-list c v =
+    let is = begins v c.args.class c.slot_size.result c.new.result c.slot_size.ensures.bound c.slot_size.ensures.size c.new.ensures in
+    ap (λ ts. record { class = c.args.class; titles = ts }) is.titles
+
+pub returns-clause-holds : goal.returns-clause-holds
+returns-clause-holds c v =
+    let is = begins v c.args.class c.slot_size.result c.new.result c.slot_size.ensures.bound c.slot_size.ensures.size c.new.ensures in
+    is.has

@@ -1,64 +1,70 @@
-use Rattle.std.proofs.Common.{rules, ◌≡◌, ◌+◌, ◌<◌, [], ◌∷◌, ◌++◌, length, refl, sym, ◌∙◌, ap, subst, arith}
+use Rattle.std.proofs.Common.{rules, ◌≡◌, ◌+◌, ◌≤◌, [], ◌∷◌, ◌++◌, length, sym, ◌∙◌, ap, subst, arith}
 use Rattle.std.proofs.lemmas.List.{length-append}
 use Rattle.std.specs.Prelude.{Vec}
 use Rattle.std.specs.declared.alloc.Global.{Global}
-use Rattle.pa_buckets.proofs.Facts.{IsRow-of}
 use Rattle.pa_region.specs.declared.view.View.{View}
 use Rattle.pa_region.specs.Views.{least_stake}
 use Rattle.pa_region.specs.Lending.{IsNoted}
 use Rattle.pa_record.specs.declared.root.RootEntry.{RootEntry}
 use Rattle.pa_record.specs.declared.root.RootAct.TheVariants.{Fill}
 use Rattle.pa_record.specs.Numbers.{root_numbers}
-use Rattle.pa_record.specs.Root.{Root}
-use Rattle.pa_place.specs.declared.room.Room.{Room}
-use Rattle.pa_place.specs.Roomy.{HasTakes}
-use Rattle.pa_root.specs.Keeping.{RootState, IsRootSound}
+use Rattle.pa_root.specs.Keeping.{RootState}
+use Rattle.pa_root.specs.Filling.{fill_taken}
+use Rattle.pa_root.specs.Kept.{state_of, IsKept}
 use Rattle.pa_root.specs.Handing.{numbered_by, root_entry}
-use Rattle.pa_root.specs.Steps.{root_of_parts}
 use Rattle.pa_root.proofs.FillSteps.{hosts_left}
 use Rattle.pa_root.proofs.FillEnds.{ready_turn, same_stake, filled_sound, fill_tells}
+use Rattle.pa_root.proofs.KeptOn.{kept_turn}
+use Rattle.pa_root.proofs.KeptSteps.{same_kept, kept_after}
 use Rattle.pa_root.proofs.root.Root.fill.Goals as goal
 
-pub ready-requires-clause-some : goal.ready-requires-clause-some
-ready-requires-clause-some g c =
-    let real : c.args.class < 59 = search rules in
-    let some = (IsRow-of c.args.class real).some_fill in
-    let want = c.fill_count-want.ensures.count in
+pub open_page-requires : goal.open_page-requires
+open_page-requires g c =
+    let i = c.self.inside in
+    let kept = subst (λ es. IsKept g.row.P i.ledger.seat.view es i.shelf) (sym c.in_ok-make_room.ensures.same) c.self.invariant.2 in
+    (search rules, (c.self.invariant.0, (c.requires.lender, (kept, (c.in_ok-make_room.ensures.room, c.in_ok-make_room.ensures.few)))))
+
+pub take_out-note-requires-clause-turn : goal.take_out-note-requires-clause-turn
+take_out-note-requires-clause-turn g c =
+    let i = c.self.inside in
+    let v = i.ledger.seat.view in
+    let opened = c.in_ok-asked.ensures.opened in
+    let s = state_of v c.make_room.new.journal.items in
+    let kept = subst (λ es. IsKept g.row.P v es i.shelf) (sym c.in_ok-make_room.ensures.same) c.self.invariant.2 in
+    let turn = kept_turn g.row.P v c.make_room.new.journal.items i.shelf kept in
+    let was = kept.shown.kept.turn in
+    let now = opened.shown.kept.turn in
+    let same = ready_turn c.in_ok-asked.asked s c.open_page.new.self.seat.view in
+    let few = c.in_ok-make_room.ensures.few in
     omega arith
 
-pub ready-requires-clause-few : goal.ready-requires-clause-few
-ready-requires-clause-few g c =
-    let real : c.args.class < 59 = search rules in
-    let few = (IsRow-of c.args.class real).few_fill in
-    let want = c.fill_count-want.ensures.count in
-    omega arith
-
-pub take_out-note-requires-clause-room : goal.take_out-note-requires-clause-room
-take_out-note-requires-clause-room g c =
-    let want = c.fill_count-want.result in
-    c.in_ok-asked.ensures.takes want
-    (subst (λ (room : Room). HasTakes c.args.class want room) (sym c.in_ok-ready.ensures.room) (record { own = refl; many = omega arith }))
+pub take_out-note-requires-clause-ready : goal.take_out-note-requires-clause-ready
+take_out-note-requires-clause-ready g c =
+    let s = state_of c.self.inside.ledger.seat.view c.make_room.new.journal.items in
+    let opened = c.in_ok-asked.ensures.opened in
+    (g.row.P, c.in_ok-asked.asked, s, opened.ready, opened.shown)
 
 pub append-requires-clause-host : goal.append-requires-clause-host
 append-requires-clause-host g c =
-    let s : RootState = root_of_parts c.self.inside.ledger.seat.view c.make_room.new.journal.items c.ready.new.self.root in
+    let s = state_of c.self.inside.ledger.seat.view c.make_room.new.journal.items in
     let p = g.row.P in let class = c.args.class in let asked = c.in_ok-asked.asked in
     let opened = c.in_ok-asked.ensures.opened in
     let taken = c.take_out-note in
-    let out = taken.ensures.out p asked s opened.ready opened.root_is in
-    hosts_left p class asked s c.open_page.new.self.seat.view taken.new.own.view taken.result.0.view taken.result.1.items taken.result.2 taken.new.placement.root out
+    let out = taken.ensures.out p asked s opened.ready opened.shown in
+    let u = c.open_page.new.self.seat.view in
+    hosts_left p class asked s u taken.new.own.view taken.result.0.view taken.result.1.items taken.result.2 (fill_taken class asked s u).root out
 
 pub invariant_of-self-2 : goal.invariant_of-self-2
 invariant_of-self-2 g c =
     let i = c.self.inside in
-    let s : RootState = root_of_parts i.ledger.seat.view c.make_room.new.journal.items c.ready.new.self.root in
+    let s = state_of i.ledger.seat.view c.make_room.new.journal.items in
     let p = g.row.P in let class = c.args.class in let asked = c.in_ok-asked.asked in
     let opened = c.in_ok-asked.ensures.opened in
     let taken = c.take_out-note in
-    let out = taken.ensures.out p asked s opened.ready opened.root_is in
+    let out = taken.ensures.out p asked s opened.ready opened.shown in
     let u = c.open_page.new.self.seat.view in
     let left = taken.new.own.view in let note = taken.result.0.view in let titles = taken.result.1.items in let slots = taken.result.2 in
-    let root = taken.new.placement.root in let x = c.append.new.host.view in
+    let root = (fill_taken class asked s u).root in let x = c.append.new.host.view in
     let e : RootEntry = root_entry c.args.line (Fill class asked slots) in
     let (m, noted) = c.append.ensures.noted in
     let sound = filled_sound p c.args.line class asked s u left note x titles slots root m out taken.ensures.aware c.append.ensures.aware.1 noted.hosts noted.list noted.says in
@@ -67,27 +73,26 @@ invariant_of-self-2 g c =
     let size : length c.append.new.journal.items ≡ length s.journal + 1 = ap length grown ∙ length-append s.journal (e ∷ []) in
     let few = c.in_ok-make_room.ensures.few in
     let same = ap length c.in_ok-make_room.ensures.same in
-    let turn = c.self.invariant.2 in
-    let step = taken.ensures.turn in
-    let before : c.open_page.new.placement.root.turn ≡ i.placement.root.turn =
-    ap (λ (r : Root). r.turn) opened.root_is ∙ (ready_turn asked s u ∙ ap (λ (r : Root). r.turn) c.in_ok-ready.ensures.root) in (
+    let kept = subst (λ es. IsKept p i.ledger.seat.view es i.shelf) (sym c.in_ok-make_room.ensures.same) c.self.invariant.2 in
+    let batch : length slots ≤ 16 = search rules in
+    let done = kept_after p i.ledger.seat.view left x s.journal e i.shelf taken.new.shelf root kept batch sound (same_kept left x noted.hosts)
+    (taken.ensures.shown p asked s opened.ready opened.shown) in (
       c.append.ensures.regions.1 ∙ (taken.ensures.regions.0 ∙ c.in_ok-asked.ensures.region),
       omega arith,
-      omega arith,
-      subst (λ js. IsRootSound p (record { view = x; journal = js; root = root })) (sym grown) sound,
+      subst (λ es. IsKept p x es taken.new.shelf) (sym grown) done,
     )
 
 pub returns-clause-gave : goal.returns-clause-gave
 returns-clause-gave g c =
     let i = c.self.inside in
-    let s : RootState = root_of_parts i.ledger.seat.view c.make_room.new.journal.items c.ready.new.self.root in
+    let s = state_of i.ledger.seat.view c.make_room.new.journal.items in
     let p = g.row.P in let class = c.args.class in let asked = c.in_ok-asked.asked in let line = c.args.line in
     let opened = c.in_ok-asked.ensures.opened in
     let taken = c.take_out-note in
-    let out = taken.ensures.out p asked s opened.ready opened.root_is in
+    let out = taken.ensures.out p asked s opened.ready opened.shown in
     let u = c.open_page.new.self.seat.view in
     let left = taken.new.own.view in let note = taken.result.0.view in let titles = taken.result.1.items in let slots = taken.result.2 in
-    let root = taken.new.placement.root in let x = c.append.new.host.view in
+    let root = (fill_taken class asked s u).root in let x = c.append.new.host.view in
     let v = c.args.seat.now.view in let a = c.open_page.new.asking.seat.now.view in let after = c.append.new.lender.view in
     let r = least_stake v.stakes in
     let e : RootEntry = root_entry line (Fill class asked slots) in
@@ -98,7 +103,7 @@ returns-clause-gave g c =
     subst (λ k. IsNoted k p (root_numbers e) a after left x m) (same_stake r p line asked v a opened.told c.requires.lender) noted in
     let grown : c.append.new.journal.items ≡ s.journal ++ e ∷ [] =
     c.append.ensures.journal ∙ ap (λ (js : Vec RootEntry Global). js.items ++ e ∷ []) c.in_ok-asked.ensures.journal in
-    let s_now : RootState = root_of_parts x c.append.new.journal.items root in
+    let s_now = state_of x c.append.new.journal.items in
     let told = fill_tells p line class asked s u left note x titles slots root m out r v a after s_now opened.told noted' grown in
     let last : RootEntry = root_entry line (Fill class told.gives.asked (numbered_by note titles)) in
     record {

@@ -8,27 +8,30 @@ use Rattle.pa_region.specs.Views.{least_stake}
 use Rattle.pa_region.specs.Lists.{list_of}
 use Rattle.pa_region.specs.Aware.{IsAware}
 use Rattle.pa_region.specs.Hands.{left_after}
-use Rattle.pa_region.proofs.LendBack.{lends_again}
+use Rattle.pa_region.proofs.LendBack.{keeps_on, lends_again}
 use Rattle.pa_record.specs.declared.numbered.Numbered.{Numbered}
 use Rattle.pa_record.specs.declared.root.RootEntry.{RootEntry}
 use Rattle.pa_record.specs.declared.root.RootAct.TheVariants.{Unmap}
+use Rattle.pa_record.specs.Root.{unmapped}
 use Rattle.pa_record.specs.Spans.{name_of}
 use Rattle.pa_pool.specs.Calls.{run_parcel}
-use Rattle.pa_root.specs.Keeping.{RootState, IsRootSound}
+use Rattle.pa_root.specs.Keeping.{RootState}
+use Rattle.pa_root.specs.Kept.{state_of, IsKept}
 use Rattle.pa_root.specs.Handing.{at_number_seen, root_entry}
+use Rattle.pa_root.proofs.KeptSteps.{same_uncut, kept_after}
 use Rattle.pa_root.proofs.UnmapEnds.{IsBringing, stands, can_hand, comes_as, given_for, hosts_later, same_slot, sound_after, told}
 use Rattle.pa_root.proofs.root.Root.unmap.Goals as goal
 
 pub hand_map-run-requires-clause-stands : goal.hand_map-run-requires-clause-stands
 hand_map-run-requires-clause-stands g c =
     let i = c.self.inside in
-    let s : RootState = record { view = i.ledger.seat.view; journal = i.ledger.journal.items; root = i.placement.root } in
+    let s = state_of i.ledger.seat.view i.ledger.journal.items in
     let t = c.args.title in let w = c.args.note.view in let v = c.args.seat.now.view in
     let r = least_stake v.stakes in
     let k = c.take_title-number in
     let b : IsBringing g.row.P r k.result s t v k.new.seat.view k.new.root.view w =
     record {
-      sound = c.self.invariant.3;
+      sound = c.self.invariant.2.sound;
       aware = c.aware.ensures.aware;
       back = k.ensures.back;
       cut_aware = k.ensures.aware;
@@ -43,13 +46,13 @@ hand_map-run-requires-clause-inside g c = c.take_title-number.ensures.back.insid
 pub hand_map-run-requires-clause-able : goal.hand_map-run-requires-clause-able
 hand_map-run-requires-clause-able g c =
     let i = c.self.inside in
-    let s : RootState = record { view = i.ledger.seat.view; journal = i.ledger.journal.items; root = i.placement.root } in
+    let s = state_of i.ledger.seat.view i.ledger.journal.items in
     let t = c.args.title in let w = c.args.note.view in let v = c.args.seat.now.view in
     let r = least_stake v.stakes in
     let k = c.take_title-number in
     let b : IsBringing g.row.P r k.result s t v k.new.seat.view k.new.root.view w =
     record {
-      sound = c.self.invariant.3;
+      sound = c.self.invariant.2.sound;
       aware = c.aware.ensures.aware;
       back = k.ensures.back;
       cut_aware = k.ensures.aware;
@@ -61,13 +64,13 @@ hand_map-run-requires-clause-able g c =
 pub give_run-asked-requires-clause-back : goal.give_run-asked-requires-clause-back
 give_run-asked-requires-clause-back g c =
     let i = c.self.inside in
-    let s : RootState = record { view = i.ledger.seat.view; journal = i.ledger.journal.items; root = i.placement.root } in
+    let s = state_of i.ledger.seat.view i.ledger.journal.items in
     let t = c.args.title in let w = c.args.note.view in let v = c.args.seat.now.view in
     let r = least_stake v.stakes in
     let k = c.take_title-number in
     let b : IsBringing g.row.P r k.result s t v k.new.seat.view k.new.root.view w =
     record {
-      sound = c.self.invariant.3;
+      sound = c.self.invariant.2.sound;
       aware = c.aware.ensures.aware;
       back = k.ensures.back;
       cut_aware = k.ensures.aware;
@@ -79,13 +82,13 @@ give_run-asked-requires-clause-back g c =
 pub append-requires-clause-host : goal.append-requires-clause-host
 append-requires-clause-host g c =
     let i = c.self.inside in
-    let s : RootState = record { view = i.ledger.seat.view; journal = i.ledger.journal.items; root = i.placement.root } in
+    let s = state_of i.ledger.seat.view i.ledger.journal.items in
     let t = c.args.title in let w = c.args.note.view in let v = c.args.seat.now.view in
     let r = least_stake v.stakes in
     let k = c.take_title-number in
     let b : IsBringing g.row.P r k.result s t v k.new.seat.view k.new.root.view w =
     record {
-      sound = c.self.invariant.3;
+      sound = c.self.invariant.2.sound;
       aware = c.aware.ensures.aware;
       back = k.ensures.back;
       cut_aware = k.ensures.aware;
@@ -100,13 +103,13 @@ append-requires-clause-host g c =
 pub invariant_of-self-2 : goal.invariant_of-self-2
 invariant_of-self-2 g c =
     let i = c.self.inside in
-    let s : RootState = record { view = i.ledger.seat.view; journal = i.ledger.journal.items; root = i.placement.root } in
+    let s = state_of i.ledger.seat.view i.ledger.journal.items in
     let t = c.args.title in let w = c.args.note.view in let v = c.args.seat.now.view in
     let r = least_stake v.stakes in
     let k = c.take_title-number in
     let b : IsBringing g.row.P r k.result s t v k.new.seat.view k.new.root.view w =
     record {
-      sound = c.self.invariant.3;
+      sound = c.self.invariant.2.sound;
       aware = c.aware.ensures.aware;
       back = k.ensures.back;
       cut_aware = k.ensures.aware;
@@ -129,26 +132,27 @@ invariant_of-self-2 g c =
     let more = length-append s.journal (e ∷ []) in
     let size : length c.append.new.journal.items ≡ length s.journal + 1 = ap length grown ∙ more in
     let few = c.in-Ok.ensures.few in
-    let step = (c.unmap.ensures.step 0).turn in
-    let turn = c.self.invariant.2 in
-    let at = ap length same in (
+    let at = ap length same in
+    let parcel = run_parcel (super_page_at t.start) (supers_for t.len) t.born in
+    let known = same_uncut t parcel s.view b.back.shown w k.new.root.view x (b.back.keeps 0).keeps b.back.long b.back.uncut
+    (keeps_on (left_after parcel k.new.root.view) y2 x (given.keeps 0).keeps noted.hosts) in
+    let shown = c.unmap.ensures.shown s.view s.root c.self.invariant.2.shown in
+    let done = kept_after g.row.P s.view s.view x s.journal e i.shelf c.unmap.new.self (unmapped (name_of t) s.root) c.self.invariant.2 tt sound known shown in (
       c.append.ensures.regions.1 ∙ a.ensures.region,
       omega arith,
-      omega arith,
-      subst (λ js. IsRootSound g.row.P (record { view = x; journal = js; root = c.unmap.new.self.root })) (sym grown)
-          (subst (λ r. IsRootSound g.row.P (record { view = x; journal = s.journal ++ e ∷ []; root = r })) (sym c.unmap.ensures.unmapped) sound),
+      subst (λ es. IsKept g.row.P x es c.unmap.new.self) (sym grown) done,
     )
 
 pub returns-clause-took : goal.returns-clause-took
 returns-clause-took g c =
     let i = c.self.inside in
-    let s : RootState = record { view = i.ledger.seat.view; journal = i.ledger.journal.items; root = i.placement.root } in
+    let s = state_of i.ledger.seat.view i.ledger.journal.items in
     let t = c.args.title in let w = c.args.note.view in let v = c.args.seat.now.view in
     let r = least_stake v.stakes in
     let k = c.take_title-number in
     let b : IsBringing g.row.P r k.result s t v k.new.seat.view k.new.root.view w =
     record {
-      sound = c.self.invariant.3;
+      sound = c.self.invariant.2.sound;
       aware = c.aware.ensures.aware;
       back = k.ensures.back;
       cut_aware = k.ensures.aware;

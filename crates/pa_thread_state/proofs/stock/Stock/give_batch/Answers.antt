@@ -10,9 +10,10 @@ use Rattle.pa_cache.specs.Caches.{HoldsFree, batch_after}
 use Rattle.pa_root.specs.Handing.{HasSeenFill}
 use Rattle.pa_op_specs.specs.Stocks.{StockValue, IsStock, titles_in}
 use Rattle.pa_op_specs.specs.Workers.{HasItsStake}
-use Rattle.pa_thread_state.specs.Giving.{GivesBatch, HandsBack}
+use Rattle.pa_thread_state.specs.Giving.{GivesBatch, HandsBack, TakesBack}
 use Rattle.pa_op_specs.proofs.Stakes.{least_is}
 use Rattle.pa_thread_state.proofs.HandedBack.{left_view, taken_free, taken_seen, taken_thread, taken_budget, taken_stake, batch_done, back_stock}
+use Rattle.pa_thread_state.proofs.Refused.{refused}
 use Rattle.pa_thread_state.proofs.Staying.{stock_of, has_still, after_as, firsts_left}
 use Rattle.pa_thread_state.proofs.stock.Stock.give_batch.Goals as goal
 
@@ -105,3 +106,13 @@ returns-in_err-give_titles-clause-stake g c =
       thread = ap (λ (z : StockValue). z.thread) c.self.view_is ∙ taken_thread s b p class keep is takes;
       stake = subst (λ n. 0 < n) (sym (c.in_err-give_titles.ensures.back.stakes c.self.inside.thread)) stake;
     })
+
+pub returns-in_err-give_titles-clause-refused : goal.returns-in_err-give_titles-clause-refused
+returns-in_err-give_titles-clause-refused g c =
+    let i = stock_of c.self.inside.thread c.self.inside.partitions c.self.inside.seat.view c.self.inside.registers c.self.inside.caches.items in
+    let w = c.give_titles.new.seat.view in let back = c.in_err-give_titles.ensures.back in
+    let them = has_still i w i.registers c.self.inside.caches.items refl c.self.invariant.1 c.self.invariant.2
+    (back_stock c.slots_stay_seen.ensures i w c.self.invariant.1 back) (λ p class t among. back.words (t.start / 8)) in
+    any_err c.from_residual.result _ (refused c.args.self.now c.take_batch-titles.new.self _ w c.args.partition c.args.class c.args.keep c.kept.ensures.stock
+    c.requires.partition c.number.ensures.bound c.take_batch-titles.ensures.rest (subst (λ (z : StockValue). TakesBack z.view w) c.self.view_is back)
+    (after_as i w w i.registers c.self.inside.caches.items refl them ∙ ap (λ (z : StockValue). record z { view = w }) c.self.view_is))

@@ -35,3 +35,12 @@ returns-in_err-give_batch-clause-stake g c = any_err c.from_residual.result _ (r
       ∙ some_thread c.args.line c.args.partition c.args.class c.args.keep c.loop-done.done c.args.self.now c.loop-done.self c.loop-done.invariant.some;
   stake = c.in_err-give_batch.ensures.stake.stake;
 })
+
+pub returns-in_err-give_batch-clause-stops : goal.returns-in_err-give_batch-clause-stops
+returns-in_err-give_batch-clause-stops g c = any_err c.from_residual.result _ (record {
+  batches = c.loop-done.done;
+  more = c.batches_behind-batches.ensures.no_more c.loop-done.done c.loop-done-test.true;
+  between = c.loop-done.self;
+  gave = c.loop-done.invariant.some;
+  refused = c.in_err-give_batch.ensures.refused;
+})

@@ -2,6 +2,7 @@ use Rattle.std.proofs.Common.{◌≡◌, ◌∙◌, refl, sym, subst, inl}
 use Rattle.std.specs.Prelude.{slice_set}
 use Rattle.pa_machine.specs.declared.word.Step.TheVariants.{Free}
 use Rattle.pa_machine.specs.Titles.{poison}
+use Rattle.pa_region.proofs.PoisonedOwns.{poisoned_owns_unclean}
 use Rattle.pa_quarantine.specs.Filling.{poisoned}
 use Rattle.pa_rules.specs.declared.register.Register.TheVariants.{Own, Freed}
 use Rattle.pa_op_specs.specs.Stocks.{StockValue, IsStock, register_in}
@@ -18,6 +19,13 @@ free_owned-fate-requires-clause-able g c =
     let h = inside i c.args.self.now c.args.handle.now c.args.reg c.self.view_is (record { stock = c.kept.ensures.stock; stake = c.requires.stake; below = c.requires.reg; has = inl c.requires.handle }) in
     can_free i c.args.reg c.args.handle.now h.stock h.stake (inside_budget i c.args.self.now c.self.view_is c.requires.budget) h.below
     (subst (λ (z : StockValue). register_in z.registers c.args.reg ≡ Own c.args.handle.now) (sym c.self.view_is) c.requires.handle)
+
+pub free_owned-fate-requires-clause-begins : goal.free_owned-fate-requires-clause-begins
+free_owned-fate-requires-clause-begins g c =
+    let i = stock_of c.self.inside.thread c.self.inside.partitions c.self.inside.seat.view c.self.inside.registers c.self.inside.caches.items in
+    let h = inside i c.args.self.now c.args.handle.now c.args.reg c.self.view_is
+    (record { stock = c.kept.ensures.stock; stake = c.requires.stake; below = c.requires.reg; has = inl c.requires.handle }) in
+    poisoned_owns_unclean i.view h.stock.handles.clean
 
 pub invariant_of-self : goal.invariant_of-self
 invariant_of-self g c =

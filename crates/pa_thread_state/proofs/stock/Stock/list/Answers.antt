@@ -5,7 +5,7 @@ use Rattle.pa_buckets.specs.Bands.{limit_of}
 use Rattle.pa_region.specs.Aware.{IsAware}
 use Rattle.pa_link.specs.Chains.{Relinked}
 use Rattle.pa_cache.specs.Caches.{CacheList, IsCache}
-use Rattle.pa_chain_cache.specs.Caches.{HoldsList, list_in}
+use Rattle.pa_cache.specs.Chained.{HoldsList, list_in}
 use Rattle.pa_op_specs.specs.Stocks.{StockValue, IsStock, titles_in}
 use Rattle.pa_thread_state.specs.Changes.{CanList, put_in_front}
 use Rattle.pa_thread_state.proofs.Chained.{lists_in, relisted, stock_relinked, front_well, front_alone}

@@ -1,6 +1,6 @@
 use Rattle.std.proofs.Common.{◌≡◌, ◌≤◌, ◌<◌, ◌∙◌, length, sym, ap, arith}
 use Rattle.std.proofs.lemmas.List.{get_or-map, length-map}
-use Rattle.pa_chain_cache.specs.Caches.{list_in}
+use Rattle.pa_cache.specs.Chained.{list_in}
 use Rattle.pa_op_specs.specs.Stocks.{titles_in}
 use Rattle.pa_thread_state.proofs.Popping.{list_at}
 use Rattle.pa_thread_state.proofs.Staying.{stock_of}

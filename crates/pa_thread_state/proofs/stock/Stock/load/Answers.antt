@@ -9,7 +9,7 @@ use Rattle.pa_region.specs.Aware.{IsAware}
 use Rattle.pa_region.specs.Shares.{byte_word_count}
 use Rattle.pa_link.specs.Chains.{Relinked}
 use Rattle.pa_cache.specs.Caches.{CacheList, IsCache}
-use Rattle.pa_chain_cache.specs.Caches.{list_in}
+use Rattle.pa_cache.specs.Chained.{list_in}
 use Rattle.pa_op_specs.specs.Stocks.{StockValue, IsStock}
 use Rattle.pa_thread_state.specs.Allocating.{CanLoad, with_listed}
 use Rattle.pa_thread_state.proofs.Chained.{relisted, stock_relinked}

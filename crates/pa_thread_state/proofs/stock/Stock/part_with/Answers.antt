@@ -2,6 +2,7 @@ use Rattle.std.proofs.Common.{ℕ, ◌<◌, ◌∙◌, refl, sym, subst, ap}
 use Rattle.pa_region.specs.declared.view.View.{View}
 use Rattle.pa_region.specs.Views.{stake_of}
 use Rattle.pa_region.specs.Aware.{IsAware}
+use Rattle.pa_region.specs.Hands.{IsParted}
 use Rattle.pa_op_specs.specs.Stocks.{StockValue}
 use Rattle.pa_op_specs.specs.Workers.{HasItsStake}
 use Rattle.pa_thread_state.specs.Changes.{IsBack}
@@ -35,3 +36,7 @@ returns-clause-stake g c =
     let stake = subst (λ (z : StockValue). HasItsStake z) (sym c.self.view_is) c.requires.stake in
     subst (λ (v : View). 0 < stake_of v i.thread) (sym c.hand.ensures.left)
     (subst (λ (n : ℕ). 0 < n) (sym (left_stake c.args.handle.now.title i.view i.thread)) stake)
+
+pub returns-clause-parted : goal.returns-clause-parted
+returns-clause-parted g c =
+    subst (λ (z : StockValue). IsParted z.view c.hand.new.seat.view c.hand.result.view) c.self.view_is c.hand.ensures.parted

@@ -4,7 +4,7 @@ use Rattle.std.specs.Option.{option_to_list}
 use Rattle.std.proofs.lemmas.List.{get_or-map, length-map, map-set}
 use Rattle.std.proofs.lemmas.List.Elements.{All-set}
 use Rattle.pa_region.specs.Shares.{Share}
-use Rattle.pa_chain_cache.specs.Caches.{HoldsList, list_in}
+use Rattle.pa_cache.specs.Chained.{HoldsList, list_in}
 use Rattle.pa_op_specs.specs.Stocks.{StockValue, IsStock}
 use Rattle.pa_thread_state.specs.Allocating.{Pops}
 use Rattle.pa_thread_state.proofs.Popping.{list_at, popped_stock, pops}

@@ -1,4 +1,4 @@
-use Rattle.std.proofs.Common.{◌≡◌, ◌+◌, ◌-◌, ◌<◌, length, refl, ◌∙◌, sym, subst, ap, arith}
+use Rattle.std.proofs.Common.{◌≡◌, ◌+◌, ◌-◌, ◌<◌, length, refl, ◌∙◌, sym, subst, ap, arith, inl, inr}
 use Rattle.pa_machine.proofs.Outcomes.{any_err}
 use Rattle.pa_region.specs.Shares.{Share}
 use Rattle.pa_region.specs.Views.{stake_of}
@@ -7,9 +7,10 @@ use Rattle.pa_rules.specs.Caches.{listed_slots}
 use Rattle.pa_op_specs.specs.Stocks.{StockValue, titles_in, listed_in}
 use Rattle.pa_op_specs.specs.Workers.{HasItsStake}
 use Rattle.pa_thread_state.specs.Giving.{GivesTail}
-use Rattle.pa_thread_state.specs.Purging.{PurgesRoot}
+use Rattle.pa_thread_state.specs.Purging.{GivesLists, PurgesRoot}
+use Rattle.pa_thread_state.specs.Stopping.{StopsTail}
 use Rattle.pa_op_specs.proofs.Stakes.{least_is}
-use Rattle.pa_thread_state.proofs.Purging.{GivesLists, lists_none, lists_stake, lists_thread, lists_more, slots_none, slots_more, purges_root}
+use Rattle.pa_thread_state.proofs.Purging.{lists_none, lists_stake, lists_thread, lists_more, slots_none, slots_more, purges_root}
 use Rattle.pa_thread_state.proofs.Staying.{stock_of, kept_has, same_has, after_as}
 use Rattle.pa_thread_state.proofs.stock.Stock.purge_partition.Goals as goal
 
@@ -91,4 +92,31 @@ returns-in_err-purge_root-clause-stake g c =
       thread = ap (λ (z : StockValue). z.thread) c.self.view_is
           ∙ lists_thread c.args.line c.args.partition c.loop-number.number c.args.self.now c.loop-number.self c.loop-number.invariant.some;
       stake = subst (λ (n : Share). 0 < stake_of n.view c.self.inside.thread) (sym c.in_err-purge_root.ensures.err) stake;
+    })
+
+pub returns-in_err-give_tail-clause-stops : goal.returns-in_err-give_tail-clause-stops
+returns-in_err-give_tail-clause-stops g c =
+    let now = c.loop-number.self in let next = c.give_tail.new.self in
+    any_err c.from_residual.result _ (record {
+      classes = c.loop-number.number;
+      between = now;
+      gave = c.loop-number.invariant.some;
+      stopped = inl (
+        c.loop-number-test.true,
+        subst (λ k. StopsTail c.args.line c.args.partition k 0 now next) c.class_numbered-class.ensures c.in_err-give_tail.ensures.stops,
+      );
+    })
+
+pub returns-in_err-purge_root-clause-stops : goal.returns-in_err-purge_root-clause-stops
+returns-in_err-purge_root-clause-stops g c =
+    let i = stock_of c.self.inside.thread c.self.inside.partitions c.self.inside.seat.view c.self.inside.registers c.self.inside.caches.items in
+    let now = c.loop-number.self in let w = c.purge_root.new.seat.view in
+    let same = ap (λ (n : Share). n.view) c.in_err-purge_root.ensures.err in
+    let them = same_has i w c.self.inside.caches.items refl c.self.invariant.1 c.self.invariant.2 same in
+    let end : c.loop-number.number ≡ 59 = let a = c.loop-number-test.false in let b = c.loop-number.auto.number-end in omega arith in
+    any_err c.from_residual-in_err-purge_root.result _ (record {
+      classes = 59;
+      between = now;
+      gave = subst (λ k. GivesLists c.args.line c.args.partition k c.args.self.now now) end c.loop-number.invariant.some;
+      stopped = inr (refl, after_as i w i.view i.registers c.self.inside.caches.items same them ∙ c.self.view_is);
     })

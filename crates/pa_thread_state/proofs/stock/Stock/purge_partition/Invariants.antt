@@ -1,7 +1,7 @@
 use Rattle.std.proofs.Common.{◌≡◌, ◌+◌, ◌-◌, ◌*◌, ◌≤◌}
 use Rattle.pa_rules.specs.Caches.{listed_slots}
 use Rattle.pa_op_specs.specs.Stocks.{listed_in}
-use Rattle.pa_thread_state.proofs.Purging.{GivesLists}
+use Rattle.pa_thread_state.specs.Purging.{GivesLists}
 use Rattle.pa_thread_state.proofs.stock.Stock.purge_partition.Given as goal
 
 -- the lists of this many classes went back, with this many slots

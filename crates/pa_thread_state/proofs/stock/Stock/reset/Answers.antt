@@ -38,3 +38,14 @@ returns-in_err-bring_back-in-Last-clause-stake g c =
       thread = c.in_err-bring_back-in-Last.ensures.stake.thread ∙ ap (λ (z : StockValue). z.thread) c.let_go-fate.ensures.gone.after_is;
       stake = c.in_err-bring_back-in-Last.ensures.stake.stake;
     })
+
+pub returns-in_err-bring_back-in-Last-clause-stops : goal.returns-in_err-bring_back-in-Last-clause-stops
+returns-in_err-bring_back-in-Last-clause-stops g c =
+    any_err c.from_residual.result _ (record {
+      seen = c.let_go-fate.result.0;
+      between = c.let_go-fate.new.self;
+      gone = c.let_go-fate.ensures.gone;
+      last = c.let_go-fate.ensures.fate.0 c.in-Last.is;
+      root = c.in_err-bring_back-in-Last.ensures.root;
+      left = c.in_err-bring_back-in-Last.ensures.left;
+    })

@@ -4,7 +4,7 @@ use Rattle.std.proofs.lemmas.List.{get_or-map, length-map}
 use Rattle.pa_region.specs.Aware.{IsAware}
 use Rattle.pa_cache.specs.Caches.{CacheList, IsCache, batch_after, rest_after}
 use Rattle.pa_cache.proofs.Middle.{outside_short}
-use Rattle.pa_chain_cache.specs.Caches.{HoldsList, list_in}
+use Rattle.pa_cache.specs.Chained.{HoldsList, list_in}
 use Rattle.pa_op_specs.specs.Stocks.{StockValue, IsStock, titles_in}
 use Rattle.pa_thread_state.specs.Allocating.{BecomesList, with_listed}
 use Rattle.pa_thread_state.proofs.Chained.{relisted, stock_relinked}

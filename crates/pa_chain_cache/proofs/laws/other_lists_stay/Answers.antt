@@ -1,5 +1,0 @@
-use Rattle.pa_chain_cache.proofs.Lists.{others_stay}
-use Rattle.pa_chain_cache.proofs.laws.other_lists_stay.Goals as goal
-
-pub returns : goal.returns
-returns c = others_stay c.rows_have_bounds.ensures

@@ -1,0 +1,3 @@
+mod Growing
+mod Spelled
+mod Walks

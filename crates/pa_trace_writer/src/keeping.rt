@@ -1,0 +1,167 @@
+ghost use Rattle.std.specs.Prelude.{◌≡◌, [], IfOk, OnOk};
+ghost use Rattle.pa_trace.specs.Grammar.{IsTraceText};
+ghost use Rattle.pa_trace.specs.Unread.{trace_with};
+ghost use Rattle.pa_trace_writer.specs.Lines.{LinesSoFar, no_lines, with_line};
+
+use crate::past::Past;
+use crate::printing::{head_is, line_is, push_head, push_line};
+use pa_machine::OutOfMemory;
+use pa_text::Text;
+use pa_trace::{Head, Line, Lines, Trace};
+use std::alloc::Global;
+use std::marker::Model;
+
+// The bytes of a line, for the memory that is reserved ahead: few are longer.
+const LINE_BYTES: usize = 16;
+
+/// What a player keeps of its lines. `lines` is the head and the lines that it was given.
+pub trait Keeper: Drop {
+    ghost lines: { Self → LinesSoFar };
+
+    /// One more line.
+    fn keep(&mut self, line: Line) -> Result<(), OutOfMemory>
+        ensures { OnOk result (lines self.new ≡ with_line line (lines self.old)) };
+}
+
+/// A keeper, which is seen as what it was given, whichever it is.
+#[derive(Drop)]
+pub struct Kept<K: Keeper> {
+    keeper: K,
+}
+
+impl<K: Keeper> Model for Kept<K> {
+    ghost use Rattle.pa_trace_writer.specs.Lines.{LinesSoFar};
+
+    ghost Value = { LinesSoFar };
+
+    ghost view = { λ kept. K.lines kept.keeper };
+}
+
+impl<K: Keeper> Kept<K> {
+    /// The keeper, to be seen so.
+    pub fn of(keeper: K) -> Kept<K>
+        ensures { result ≡ K.lines keeper }
+    {
+        Kept { keeper }
+    }
+
+    /// One more line.
+    #[inline(always)]
+    pub fn push(&mut self, line: Line) -> Result<(), OutOfMemory>
+        ensures { OnOk result (self.new ≡ with_line line self.old) }
+    {
+        self.keeper.keep(line)
+    }
+
+    /// The keeper itself.
+    pub fn into_keeper(self) -> K
+        ensures { K.lines result ≡ self }
+    {
+        self.keeper
+    }
+}
+
+/// The head and the lines as a list.
+#[derive(Drop)]
+pub struct LineList {
+    head: Head,
+    items: Vec<Line>,
+}
+
+impl LineList {
+    /// A head, and no lines.
+    pub fn new(alloc: Global, head: Head) -> LineList
+        ensures head { result.head ≡ head }
+        ensures lines { result.items.items ≡ [] }
+    {
+        LineList {
+            head,
+            items: Vec::new(alloc),
+        }
+    }
+
+    /// The trace of them.
+    pub fn into_trace(self) -> Trace
+        ensures { result ≡ trace_with self.head self.items.items }
+    {
+        Trace {
+            region: self.head.region,
+            partitions: self.head.partitions,
+            threads: self.head.threads,
+            lines: Lines::of(self.items),
+        }
+    }
+}
+
+impl Keeper for LineList {
+    ghost lines = { λ list. record { head = list.head; items = list.items.items } };
+
+    #[inline(always)]
+    fn keep(&mut self, line: Line) -> Result<(), OutOfMemory> {
+        self.items.push(line)?;
+        Ok(())
+    }
+}
+
+/// The head and the lines as the text of their trace, which is all that is kept of them.
+#[derive(Drop)]
+pub struct LineText {
+    head: Head,
+    text: Text,
+    past: Past<Line>,
+}
+
+impl Model for LineText {
+    ghost use Rattle.pa_trace.specs.Grammar.{IsTraceText};
+    ghost use Rattle.pa_trace.specs.Unread.{trace_with};
+    ghost use Rattle.pa_trace_writer.specs.Lines.{LinesSoFar};
+
+    ghost Value = { LinesSoFar };
+
+    ghost view = { λ text. record { head = text.head; items = text.past.items } };
+
+    ghost invariant = { λ text. IsTraceText (trace_with text.head text.past.items) text.text };
+}
+
+impl LineText {
+    /// A head, and no lines. Memory is reserved for the texts of so many lines.
+    pub fn new(alloc: Global, head: Head, lines: usize) -> Result<LineText, OutOfMemory>
+        ensures { IfOk result (λ text. text ≡ no_lines head) }
+    {
+        let mut text = Text::with_capacity(alloc, lines.saturating_mul(LINE_BYTES))?;
+        push_head(&mut text, head)?;
+        head_is(head);
+        Ok(LineText {
+            head,
+            text,
+            past: Past::new(),
+        })
+    }
+
+    /// The text of their trace.
+    pub fn into_text(self) -> Vec<u8>
+        ensures { IsTraceText (trace_with self.head self.items) result.items }
+    {
+        self.text.into_vec()
+    }
+}
+
+impl Keeper for LineText {
+    ghost lines = { λ text. text };
+
+    #[inline(always)]
+    fn keep(&mut self, line: Line) -> Result<(), OutOfMemory> {
+        let len = self.text.len();
+        match push_line(&mut self.text, line) {
+            Ok(()) => {
+                line_is(line);
+                self.past = self.past.and(&line);
+                Ok(())
+            }
+            Err(error) => {
+                self.text.truncate(len);
+                Err(error)
+            }
+        }
+    }
+}
