@@ -24,3 +24,4 @@ pub mod Taking
 pub mod Fetching
 pub mod Fulling
 pub mod Allocated
+pub mod Stopped

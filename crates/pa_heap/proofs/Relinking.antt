@@ -1,17 +1,17 @@
 -- Stores of links leave what was said of a view: what an op made in logs and lists, and what it gave a register's slot.
-use Rattle.std.proofs.Common.{◌≡◌, ℕ, ◌+◌, ◌<◌, ◌≤◌, List, refl, sym, ap, subst, arith}
+use Rattle.std.proofs.Common.{◌≡◌, ℕ, ◌<◌, List, refl, sym, ap, subst, arith}
 use Rattle.pa_machine.specs.declared.title.Title.{Title}
 use Rattle.pa_record.specs.declared.root.RootAct.{RootAct}
 use Rattle.pa_region.specs.declared.view.Entry.{Entry}
 use Rattle.pa_region.specs.declared.view.Entry.TheVariants.{Counted, Looked, Read, Added, Entered, Uncut}
 use Rattle.pa_region.specs.declared.view.View.{View}
-use Rattle.pa_region.specs.Views.{free_of, seen_of}
+use Rattle.pa_region.specs.Views.{seen_of}
 use Rattle.pa_link.specs.Chains.{Relinked}
 use Rattle.pa_link.proofs.Gaps.{free_same}
 use Rattle.pa_cache.specs.Caches.{CacheList}
 use Rattle.pa_cells.specs.declared.handle.Handle.{Handle}
 use Rattle.pa_op_specs.specs.Stocks.{StockValue}
-use Rattle.pa_op_specs.proofs.Entered.{Entering, TellsOf}
+use Rattle.pa_op_specs.proofs.Entered.{TellsOf}
 use Rattle.pa_op_specs.proofs.Seeing.{made_kept}
 use Rattle.pa_op_specs.proofs.Touching.{Touched, Touches}
 use Rattle.pa_thread_state.specs.Changes.{IsBack}

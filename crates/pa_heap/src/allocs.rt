@@ -9,6 +9,7 @@ ghost use Rattle.pa_op_specs.specs.Stocks.{HasNoHandle, register_in, titles_in};
 ghost use Rattle.pa_op_specs.specs.Workers.{HasItsStake, CanPlayOp, KeepsOn};
 ghost use Rattle.pa_op_specs.specs.Owing.{IsMadeIn};
 ghost use Rattle.pa_op_specs.specs.Plays.{DoesOp, PlaysOp};
+ghost use Rattle.pa_heap.specs.Stopping.{AsksRoot};
 
 use crate::counts::{count_step, made, owe_step, owed_none, owned};
 use crate::worker::{Worker, enter};
@@ -24,7 +25,8 @@ use std::sync::Wait;
 
 impl<N: Name> Worker<N> {
     /// An allocation of this size in a partition, on this line: then the register owns the slot. It waits for the lock of the
-    /// partition's root if it needs that. If it runs out of memory the worker is stopped and owes nothing, and all else is as before.
+    /// partition's root if it needs that, and only then it may run out of memory: the worker is stopped then and owes nothing, and
+    /// all else is as before.
     pub fn alloc<R: Wait>(
         &mut self,
         rt: &R,
@@ -41,6 +43,7 @@ impl<N: Name> Worker<N> {
         ensures goes_on { OnOk result (KeepsOn self.old self.new) }
         ensures stops { OnErr result (self.new.stopped ≡ true) }
         ensures same { OnErr result (self.new ≡ record self.old { stopped = true; owed = none_owed }) }
+        ensures asks { OnErr result (AsksRoot reg partition size self.old.stock) }
     {
         match alloc(&mut self.stock, rt, heap, line, reg, partition, size) {
             Ok(answer) => {
@@ -81,6 +84,7 @@ fn alloc<N: Name, R: Wait>(
     ensures made { IfOk result (IsMadeIn (register_in stock.new.registers reg)) }
     ensures budget { stock.old.view.budget ≤ stock.new.view.budget + 1 }
     ensures same { OnErr result (stock.new ≡ stock.old) }
+    ensures asks { OnErr result (AsksRoot reg partition size stock.old) }
 {
     stock.kept();
     let filled = stock.register(reg).has_handle();
@@ -110,6 +114,7 @@ fn request<N: Name, R: Wait>(
     ensures made { IfOk result (IsMadeIn (register_in stock.new.registers reg)) }
     ensures budget { stock.old.view.budget ≤ stock.new.view.budget + 1 }
     ensures same { OnErr result (stock.new ≡ stock.old) }
+    ensures asks { OnErr result (AsksRoot reg partition size stock.old) }
 {
     stock.kept();
     if size > GREATEST_SIZE {
@@ -142,6 +147,7 @@ fn alloc_slot<N: Name, R: Wait>(
     ensures made { IfOk result (IsMadeIn (register_in stock.new.registers reg)) }
     ensures budget { stock.old.view.budget ≤ stock.new.view.budget + 1 }
     ensures same { OnErr result (stock.new ≡ stock.old) }
+    ensures asks { OnErr result (AsksRoot reg partition size stock.old) }
 {
     let _ = size;
     counted_steps_leave();
@@ -183,6 +189,7 @@ fn alloc_filled<N: Name, R: Wait>(
     ensures made { IfOk result (IsMadeIn (register_in stock.new.registers reg)) }
     ensures budget { stock.old.view.budget ≤ stock.new.view.budget + 1 }
     ensures same { OnErr result (stock.new ≡ stock.old) }
+    ensures asks { OnErr result (AsksRoot reg partition size stock.old) }
 {
     let _ = size;
     counted_steps_leave();
@@ -227,6 +234,7 @@ fn alloc_map<N: Name, R: Wait>(
     ensures made { IfOk result (IsMadeIn (register_in stock.new.registers reg)) }
     ensures budget { stock.old.view.budget ≤ stock.new.view.budget + 1 }
     ensures same { OnErr result (stock.new ≡ stock.old) }
+    ensures asks { OnErr result (AsksRoot reg partition size stock.old) }
 {
     counted_steps_leave();
     stock.kept();

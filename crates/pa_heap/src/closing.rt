@@ -83,7 +83,6 @@ fn take_worker<N: Name>(region: &Region, seat: &mut Seat, worker: Worker<N>)
     ensures leaves { LeavesWorker seat.new.view worker }
 {
     worker.kept();
-    worker.linked();
     take_in(region, seat, worker.into_note());
 }
 

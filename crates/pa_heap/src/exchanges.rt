@@ -36,9 +36,8 @@ impl<N: Name> Worker<N> {
         ensures goes_on { OnOk result (KeepsOn self.old self.new) }
         ensures stops { OnErr result (self.new.stopped ≡ true) }
         ensures stake { OnErr result (KeepsItsStake self.old.stock self.new.stock) }
-        ensures settled { OnErr result (self.new.owed ≡ none_owed) }
         ensures undone { OnErr result (IsUndone self.old.stock self.new.stock) }
-        ensures kept { OnErr result ((self.new.records ≡ self.old.records) × (self.new.room ≡ self.old.room)) }
+        ensures same { OnErr result (self.new ≡ record self.old { stock = self.new.stock; stopped = true; owed = none_owed }) }
     {
         match exchange(&mut self.stock, rt, heap, line, cell, reg) {
             Ok(answer) => {

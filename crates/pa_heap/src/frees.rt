@@ -1,11 +1,12 @@
 //! A worker's free.
-ghost use Rattle.std.specs.Prelude.{◌≡◌, ◌+◌, ◌<◌, ◌≤◌, IfOk, OnOk, OnErr, true};
+ghost use Rattle.std.specs.Prelude.{◌≡◌, ◌+◌, ◌<◌, ◌≤◌, length, IfOk, OnOk, OnErr, true};
 ghost use Rattle.pa_trace.specs.declared.script.Op.TheVariants as ops;
 ghost use Rattle.pa_trace.specs.Limits.{register_count};
 ghost use Rattle.pa_totals.specs.Settled.{none_owed};
 ghost use Rattle.pa_op_specs.specs.Workers.{HasItsStake, CanPlayOp, KeepsOn};
 ghost use Rattle.pa_op_specs.specs.Plays.{DoesOp, PlaysOp};
 ghost use Rattle.pa_thread_state.specs.Stopping.{KeepsItsStake};
+ghost use Rattle.pa_heap.specs.Stopping.{StopsFree};
 
 use crate::counts::{count_step, done, owe_step, owed_none, owned};
 use crate::worker::{Worker, enter};
@@ -18,8 +19,8 @@ use pa_thread_state::{Heap, Stock};
 use std::sync::Wait;
 
 impl<N: Name> Worker<N> {
-    /// A free of what the register owns, on this line. It waits for locks only if its step returns a slot. If it runs out of
-    /// memory the worker is stopped.
+    /// A free of what the register owns, on this line. It waits for locks, and may run out of memory, only if its step returns a
+    /// slot that needs the root. If it does, the worker is stopped, the step remains made, and its seat has the slot free, on no list.
     pub fn free<R: Wait>(
         &mut self,
         rt: &R,
@@ -33,7 +34,9 @@ impl<N: Name> Worker<N> {
         ensures goes_on { OnOk result (KeepsOn self.old self.new) }
         ensures stops { OnErr result (self.new.stopped ≡ true) }
         ensures stake { OnErr result (KeepsItsStake self.old.stock self.new.stock) }
-        ensures settled { OnErr result (self.new.owed ≡ none_owed) }
+        ensures left { OnErr result (StopsFree line reg self.old.stock self.new.stock) }
+        ensures same { OnErr result (self.new
+            ≡ record self.old { stock = self.new.stock; room = length self.old.records; stopped = true; owed = none_owed }) }
     {
         self.stock.kept();
         let handle = owned(self.stock.register(reg));
@@ -71,6 +74,7 @@ fn play_free<N: Name, R: Wait>(
     ensures does { IfOk result (λ answer. DoesOp line (ops.Free reg) answer stock.old stock.new) }
     ensures budget { IfOk result (λ answer. stock.old.view.budget ≤ stock.new.view.budget + 1) }
     ensures stake { OnErr result (KeepsItsStake stock.old stock.new) }
+    ensures left { OnErr result (StopsFree line reg stock.old stock.new) }
 {
     counted_steps_leave();
     looks_leave();

@@ -5,6 +5,7 @@ ghost use Rattle.pa_totals.specs.Settled.{none_owed};
 ghost use Rattle.pa_op_specs.specs.Workers.{HasItsStake, CanPlayOp, KeepsOn};
 ghost use Rattle.pa_op_specs.specs.Plays.{DoesOp, PlaysOp};
 ghost use Rattle.pa_thread_state.specs.Stopping.{KeepsItsStake};
+ghost use Rattle.pa_heap.specs.Stopping.{StopsPurge};
 
 use crate::counts::owed_none;
 use crate::worker::{Worker, enter};
@@ -16,7 +17,8 @@ use std::sync::Wait;
 
 impl<N: Name> Worker<N> {
     /// A purge, on this line: in each partition of the run all lists of the worker go back to the root, which then decommits
-    /// its empty spans. If it runs out of memory it is stopped, and what was given back stays so.
+    /// its empty spans. If it runs out of memory it is stopped: what went back stays so, and a batch that a root refused is free in its
+    /// seat, on no list.
     pub fn purge<R: Wait>(
         &mut self,
         rt: &R,
@@ -28,7 +30,8 @@ impl<N: Name> Worker<N> {
         ensures goes_on { OnOk result (KeepsOn self.old self.new) }
         ensures stops { OnErr result (self.new.stopped ≡ true) }
         ensures stake { OnErr result (KeepsItsStake self.old.stock self.new.stock) }
-        ensures settled { OnErr result (self.new.owed ≡ none_owed) }
+        ensures left { OnErr result (StopsPurge line self.old.stock self.new.stock) }
+        ensures same { OnErr result (self.new ≡ record self.old { stock = self.new.stock; stopped = true; owed = none_owed }) }
     {
         match purge(&mut self.stock, rt, heap, line) {
             Ok(answer) => {
@@ -57,6 +60,7 @@ fn purge<N: Name, R: Wait>(
     ensures does { IfOk result (λ answer. DoesOp line ops.Purge answer stock.old stock.new) }
     ensures budget { stock.new.view.budget ≡ stock.old.view.budget }
     ensures stake { OnErr result (KeepsItsStake stock.old stock.new) }
+    ensures left { OnErr result (StopsPurge line stock.old stock.new) }
 {
     stock.kept();
     let mut slots = 0;

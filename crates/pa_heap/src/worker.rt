@@ -117,16 +117,10 @@ impl<N: Name> Worker<N> {
         self.stock.settle_totals(heap.region(), &mut self.owed);
     }
 
-    /// Recalls what the type keeps. It costs nothing.
+    /// What the type keeps; and its lists are linked in the words that its seat knows. It costs nothing.
     pub fn kept(&self)
-        ensures { IsWorker self.now }
-    {
-        self.stock.kept();
-    }
-
-    // Its lists are linked in the words that its seat knows. It costs nothing.
-    pub(crate) fn linked(&self)
-        ensures { (p class : ℕ) → AreLinked self.now.stock.view.words (slot_names (titles_in self.now.stock.caches p class)) }
+        ensures worker { IsWorker self.now }
+        ensures links { (p class : ℕ) → AreLinked self.now.stock.view.words (slot_names (titles_in self.now.stock.caches p class)) }
     {
         self.stock.kept();
     }

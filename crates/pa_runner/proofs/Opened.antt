@@ -23,7 +23,7 @@ use Rattle.pa_execution.specs.Gathering.{HasAnswered}
 use Rattle.pa_execution.proofs.Gathering.{workers_hear}
 use Rattle.pa_runner.specs.Phases.{worker_in}
 use Rattle.pa_runner.specs.Tracing.{is_by, lines_by}
-use Rattle.pa_runner.specs.Opening.{IsNewFor}
+use Rattle.pa_runner.specs.Opening.{IsNewFor, after_opening}
 
 -- ---- one worker
 
@@ -81,6 +81,7 @@ past_few k (Do thread op ∷ ls) = let again = past_few k ls in let one = at_mos
 -- The first k workers were opened, and the seat has the stakes of the others, and a counted step for each of their lines.
 pub record IsOpening (t : Trace) (k : ℕ) (workers : List WorkerValue) (first seat : View) : Type 0 where
   pub answered : HasAnswered t.threads k first seat
+  pub handed : seat ≡ after_opening t.lines k first
   pub budget : lines_past k t.lines ≤ seat.budget
   pub count : length workers ≡ k
   pub each : (j : ℕ) → j < k → IsNewFor j t.partitions (lines_by j t.lines) (worker_in workers j)
@@ -94,10 +95,15 @@ open_start t budget first fits all = record {
     seen = refl;
     lists = refl;
   };
+  handed = refl;
   budget = let few = past_few 0 t.lines in let b = all.budget_is in omega arith;
   count = refl;
   each = λ j low. absurd (omega arith);
 }
+
+-- the next thread gets its stake
+opening_more : (lines : List Line) (k : ℕ) (seat : View) → after_opening lines (k + 1) seat ≡ left_after (parcel_of [] (lines_by k lines) (Stake k ∷ [])) (after_opening lines k seat)
+opening_more lines k seat = let e : k + 1 ≡ suc k = omega arith in ap (λ n. after_opening lines n seat) e
 
 last_in : (ws : List WorkerValue) (w : WorkerValue) (k : ℕ) → length ws ≡ k → worker_in (ws ++ w ∷ []) k ≡ w
 last_in [] w k long = subst (λ n. worker_in (w ∷ []) n ≡ w) long refl
@@ -113,6 +119,10 @@ module _ (t : Trace) (k : ℕ) (workers : List WorkerValue) (first seat : View) 
   pub open_budget : lines_by k t.lines ≤ seat.budget
   open_budget = let s = past_splits k t.lines in let b = opening.budget in omega arith
 
+  -- the seat after it handed that worker its stake
+  pub open_handed : (next : View) → next ≡ left_after (parcel_of [] (lines_by k t.lines) (Stake k ∷ [])) seat → next ≡ after_opening t.lines (k + 1) first
+  open_handed next left = left ∙ (ap (left_after (parcel_of [] (lines_by k t.lines) (Stake k ∷ []))) opening.handed ∙ sym (opening_more t.lines k first))
+
   pub open_next : (next : View) (w : WorkerValue) → next ≡ left_after (parcel_of [] (lines_by k t.lines) (Stake k ∷ [])) seat → IsNewFor k t.partitions (lines_by k t.lines) w →
       IsOpening t (k + 1) (workers ++ w ∷ []) first next
   open_next next w left new =
@@ -126,6 +136,7 @@ module _ (t : Trace) (k : ℕ) (workers : List WorkerValue) (first seat : View) 
           seen = step.seen;
           lists = step.lists;
         });
+        handed = open_handed next left;
         budget = subst (λ (z : View). lines_past (k + 1) t.lines ≤ z.budget) (sym left) (let s = past_splits k t.lines in let b = opening.budget in omega arith);
         count = length_push workers w ∙ ap (λ n. n + 1) opening.count;
         each = λ j low. elim (cases_eq j k) [

@@ -82,7 +82,7 @@ module _ (queues : List (List LineOp)) (before after : List WorkerValue) (first 
     ends = back.ends;
     count = back.count;
     played = λ k low. (back.played k low).played (sym (ap (λ (w : WorkerValue). w.stopped) (back.told.told k low)) ∙ going k (omega arith));
-    settled = λ k low. (back.played k low).settled (sym (ap (λ (w : WorkerValue). w.stopped) (back.told.told k low)) ∙ going k (omega arith));
+    settled = λ k low. (back.played k low).settled;
     heard = back.heard;
     told = back.told;
   }

@@ -179,9 +179,12 @@ all_lines ds i u v past played = subst (λ xs. PlaysLines xs u v) (take_all i ds
 pub same_thread : {ds : List LineOp} {w v : WorkerValue} → PlaysLines ds w v → v.stock.thread ≡ w.stock.thread
 same_thread {ds} {w} {v} played = let (xs, all, of) = played.plays 0 in (stays w v xs all).0
 
--- a worker that stopped before it did anything has its stake
+-- a worker that stopped before it did anything has its stake, and owes nothing
 pub stopped_keeps : (w v : WorkerValue) → HasItsStake w.stock → v ≡ record w { stopped = true; owed = none_owed } → KeepsItsStake w.stock v.stock
 stopped_keeps w v stake same = subst (λ (z : WorkerValue). KeepsItsStake w.stock z.stock) (sym same) (record { thread = refl; stake = stake })
+
+pub stopped_owes : (w v : WorkerValue) → v ≡ record w { stopped = true; owed = none_owed } → v.owed ≡ none_owed
+stopped_owes w v same = ap (λ (z : WorkerValue). z.owed) same
 
 -- ---- whether there are lines
 
@@ -215,7 +218,12 @@ module _ (ends : SettlingEndsPhase) (ds : List LineOp) (u v : WorkerValue) (some
 -- ---- it is back, when all lines were played, and when it stopped at one
 
 back_whole : (ds : List LineOp) (u v : WorkerValue) → PlaysLines ds u v → v.owed ≡ none_owed → IsPlayed ds u v
-back_whole ds u v whole settled = record { keeps = record { thread = same_thread whole; stake = whole.stake }; played = λ going. whole; settled = λ going. settled }
+back_whole ds u v whole settled = record {
+  keeps = record { thread = same_thread whole; stake = whole.stake };
+  settled = settled;
+  played = λ going. whole;
+  stopped = λ is. let no : true ≡ false = sym is ∙ whole.going in absurd cc;
+}
 
 -- it had no lines
 pub back_none : (ds : List LineOp) (i : ℕ) (u v : WorkerValue) → length ds ≤ i → length ds ≡ 0 → PlaysLines (take i ds) u v → u.owed ≡ none_owed → IsPlayed ds u v
@@ -235,12 +243,14 @@ back_settled ends ds i u v w past some played kept is stake =
     let whole = all_lines ds i u v past played in
     subst (IsPlayed ds u) (sym is) (back_whole ds u (settled_worker v) (settled_lines ends ds u v some kept whole (subst (λ (z : WorkerValue). HasItsStake z.stock) is stake)) refl)
 
-pub back_stopped : (ds before : List LineOp) (u w v : WorkerValue) → PlaysLines before u w → KeepsItsStake w.stock v.stock → v.stopped ≡ true → IsPlayed ds u v
-back_stopped ds before u w v played keeps stopped =
+pub back_stopped : (ds : List LineOp) (i : ℕ) (u w v : WorkerValue) → i < length ds → PlaysLines (take i ds) u w → KeepsItsStake w.stock v.stock → v.stopped ≡ true → v.owed ≡ none_owed →
+    IsPlayed ds u v
+back_stopped ds i u w v low played keeps stopped settled =
     record {
       keeps = record { thread = keeps.thread ∙ same_thread played; stake = keeps.stake };
+      settled = settled;
       played = λ going. let no : true ≡ false = sym stopped ∙ going in absurd cc;
-      settled = λ going. let no : true ≡ false = sym stopped ∙ going in absurd cc;
+      stopped = λ is. record { count = i; more = low; last = w; played = played; keeps = keeps };
     }
 
 -- after the next line was played, without running out of memory

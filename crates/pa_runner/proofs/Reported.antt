@@ -122,25 +122,38 @@ report_none phase threads workers seat before = record {
   right = λ l has. let low = has.1 in absurd (omega arith);
 }
 
+-- The seat asked one root more, and there is no line of it yet.
+pub report_asked : (phase p r threads : ℕ) (workers : ℕ → WorkerValue) (first seat next : View) (before now : List ReportLine) → IsReported phase p threads workers first seat before now →
+    IsAware first → HasEveryStake first → Lends r [] seat next → (HasEveryStake seat → HasSameLists seat next) → IsReported phase p threads workers first next before now
+report_asked phase p r threads workers first seat next before now so aware every lends lists =
+    let same = lists (asked_every first seat so.asked every) in
+    let then = asked_more r first seat next so.asked lends same in
+    let added : (k : ℕ) → added_in next k ≡ added_in seat k = λ k. added_same first next aware then.keeps.stakes then.logs k
+    ∙ sym (added_same first seat aware so.asked.keeps.stakes so.asked.logs k) in
+    record {
+      asked = then;
+      lines = so.lines;
+      behind = so.behind;
+      places = so.places;
+      right = λ x has. line_still phase threads workers seat next x same added (so.right x has);
+    }
+
 pub report_more : (phase p r threads : ℕ) (workers : ℕ → WorkerValue) (first seat next : View) (before now after : List ReportLine) (l : ReportLine) → IsReported phase p threads workers first seat before now →
     IsAware first → HasEveryStake first → Lends r [] seat next → (HasEveryStake seat → HasSameLists seat next) → IsLineFor phase threads workers next l → l.partition ≡ p →
     after ≡ now ++ l ∷ [] →
     IsReported phase (p + 1) threads workers first next before after
 report_more phase p r threads workers first seat next before now after l so aware every lends lists line at behind =
-    let same = lists (asked_every first seat so.asked every) in
-    let then = asked_more r first seat next so.asked lends same in
-    let added : (k : ℕ) → added_in next k ≡ added_in seat k = λ k. added_same first next aware then.keeps.stakes then.logs k
-    ∙ sym (added_same first seat aware so.asked.keeps.stakes so.asked.logs k) in
+    let asked = report_asked phase p r threads workers first seat next before now so aware every lends lists in
     let place : (l.phase, l.partition) ≡ (phase, 0 + p) = (let f : l.partition ≡ 0 + p = omega arith in ap (λ n. (n, l.partition)) line.phase_is ∙ ap (λ q. (phase, q)) f) in
     record {
-      asked = then;
-      lines = so.lines ++ l ∷ [];
-      behind = behind ∙ (ap (λ ls. ls ++ l ∷ []) so.behind ∙ append_assoc before so.lines (l ∷ []));
+      asked = asked.asked;
+      lines = asked.lines ++ l ∷ [];
+      behind = behind ∙ (ap (λ ls. ls ++ l ∷ []) asked.behind ∙ append_assoc before asked.lines (l ∷ []));
       places =
-          map-append (λ (x : ReportLine). (x.phase, x.partition)) so.lines (l ∷ [])
-          ∙ (ap (λ qs. qs ++ (l.phase, l.partition) ∷ []) so.places ∙ (ap (λ q. partitions_of phase 0 p ++ q ∷ []) place ∙ sym (one_place phase 0 p)));
-      right = λ x has. elim (Contains-push_cases so.lines l x has) [
-        | inl old ↦ line_still phase threads workers seat next x same added (so.right x old)
+          map-append (λ (x : ReportLine). (x.phase, x.partition)) asked.lines (l ∷ [])
+          ∙ (ap (λ qs. qs ++ (l.phase, l.partition) ∷ []) asked.places ∙ (ap (λ q. partitions_of phase 0 p ++ q ∷ []) place ∙ sym (one_place phase 0 p)));
+      right = λ x has. elim (Contains-push_cases asked.lines l x has) [
+        | inl old ↦ asked.right x old
         | inr e ↦ subst (IsLineFor phase threads workers next) e line
       ];
     }

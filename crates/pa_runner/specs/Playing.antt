@@ -1,5 +1,5 @@
 -- The lines of one thread in one phase, and what the worker that played them did.
-use Rattle.std.specs.Prelude.{◌≡◌, ℕ, ◌+◌, ◌<◌, ◌≤◌, List, [], ◌∷◌, ◌++◌, false, map, length, Contains}
+use Rattle.std.specs.Prelude.{◌≡◌, ℕ, ◌+◌, ◌<◌, ◌≤◌, List, [], ◌∷◌, ◌++◌, true, false, map, length, take, Contains}
 use Rattle.std.specs.List.{AllByRecursion}
 use Rattle.pa_trace.specs.Limits.{IsOpWithin}
 use Rattle.pa_record.specs.declared.entry.Entry.{Entry}
@@ -48,9 +48,18 @@ pub record PlaysLines (lines : List LineOp) (before after : WorkerValue) : Type 
       × (map (λ (e : Entry). e.line) es ≡ map (λ (due : LineOp). due.line) lines)
   pub room : after.room ≡ before.room
 
--- A worker is back from these lines: it has its stake still, and if it isn't stopped, it played them and owes nothing to the totals
--- words.
+-- Memory ran out at one of these lines: the worker played those before it, and was as `last` then, and it has its stake still.
+pub record StopsAt (lines : List LineOp) (before after : WorkerValue) : Type 0 where
+  pub count : ℕ
+  pub more : count < length lines
+  pub last : WorkerValue
+  pub played : PlaysLines (take count lines) before last
+  pub keeps : KeepsItsStake last.stock after.stock
+
+-- A worker is back from these lines: it has its stake still, and owes nothing to the totals words. If it isn't stopped, it played them,
+-- and if it is, it stopped at one.
 pub record IsPlayed (lines : List LineOp) (before after : WorkerValue) : Type 0 where
   pub keeps : KeepsItsStake before.stock after.stock
+  pub settled : after.owed ≡ none_owed
   pub played : after.stopped ≡ false → PlaysLines lines before after
-  pub settled : after.stopped ≡ false → after.owed ≡ none_owed
+  pub stopped : after.stopped ≡ true → StopsAt lines before after

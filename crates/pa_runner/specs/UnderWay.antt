@@ -1,6 +1,6 @@
 -- A trace that is played phase after phase, up to one of its lines: the phases before are over, and the lines of the phase of that
 -- line are in the queues of their threads.
-use Rattle.std.specs.Prelude.{◌≡◌, ℕ, ◌+◌, ◌<◌, ◌≤◌, List, [], ◌∷◌, false, map, length, take, slice_index_or, Contains}
+use Rattle.std.specs.Prelude.{◌≡◌, ℕ, ◌+◌, ◌<◌, ◌≤◌, ◌⊎◌, List, [], ◌∷◌, false, map, length, take, slice_index_or, Contains}
 use Rattle.std.specs.List.{AllByRecursion}
 use Rattle.pa_trace.specs.declared.script.Line.{Line}
 use Rattle.pa_trace.specs.declared.script.Line.TheVariants.{Phase}
@@ -8,6 +8,7 @@ use Rattle.pa_trace.specs.declared.script.Trace.{Trace}
 use Rattle.pa_trace.specs.Limits.{IsOpWithin}
 use Rattle.pa_record.specs.declared.report.ReportLine.{ReportLine}
 use Rattle.pa_region.specs.declared.view.View.{View}
+use Rattle.pa_region.specs.Views.{HasEveryStake}
 use Rattle.pa_rules.specs.Legal.{phases_in}
 use Rattle.pa_rules.specs.Report.{phases_of}
 use Rattle.pa_totals.specs.Settled.{none_owed}
@@ -17,7 +18,7 @@ use Rattle.pa_execution.specs.Growing.{HasBegun}
 use Rattle.pa_execution.specs.Gathering.{IsMain}
 use Rattle.pa_runner.specs.declared.thread_lines.LineOp.{LineOp}
 use Rattle.pa_runner.specs.Playing.{in_phase, AreBefore}
-use Rattle.pa_runner.specs.Phases.{queue_in, worker_in}
+use Rattle.pa_runner.specs.Phases.{HaveReturned, queue_in, worker_in}
 use Rattle.pa_runner.specs.Reporting.{IsLineFor}
 use Rattle.pa_runner.specs.Tracing.{lines_by}
 
@@ -60,6 +61,18 @@ pub record IsUnderWay (t : Trace) (i phase : ℕ) (workers : List WorkerValue) (
   pub seen : 1 ≤ over → HasSeenAll (course.seats over) seat
   pub each : (k : ℕ) → k < t.threads → IsAtPlace t i k (queue_in queues k) (worker_in workers k)
   pub reported : IsReportOf t over course report
+
+-- Memory ran out when a trace was under way to some line index, in some phase. Either no line of that phase was played, and workers and
+-- main seat are as they were; or all workers are back from the phase, with or without having stopped, and the main seat has every stake.
+pub record StopsIn (t : Trace) (workers : List WorkerValue) (seat : View) : Type 0 where
+  pub index : ℕ
+  pub phase : ℕ
+  pub before : List WorkerValue
+  pub queues : List (List LineOp)
+  pub main : View
+  pub report : List ReportLine
+  pub going : IsUnderWay t index phase before queues main report
+  pub left : ((workers ≡ before) × (seat ≡ main)) ⊎ (HaveReturned queues before workers main seat × HasEveryStake seat)
 
 -- a new phase begins at index i
 pub record BeginsPhase (i : ℕ) (lines : List Line) : Type 0 where

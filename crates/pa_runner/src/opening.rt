@@ -1,5 +1,5 @@
 //! The workers of all threads, as they begin.
-ghost use Rattle.std.specs.Prelude.{◌≡◌, ℕ, ◌<◌, ◌≤◌, ◌∷◌, [], IfOk, OnOk, length};
+ghost use Rattle.std.specs.Prelude.{◌≡◌, ℕ, ◌<◌, ◌≤◌, ◌∷◌, [], IfOk, OnErr, OnOk, length};
 ghost use Rattle.pa_region.specs.declared.marks.Mark.TheVariants.{Stake};
 ghost use Rattle.pa_region.specs.Views.{stake_of};
 ghost use Rattle.pa_region.specs.Waiting.{unclean_of};
@@ -9,7 +9,7 @@ ghost use Rattle.pa_region.specs.Marks.{parcel_of};
 ghost use Rattle.pa_trace.specs.Limits.{IsWithinLimits, most_partitions, most_threads};
 ghost use Rattle.pa_thread_state.specs.Starts.{HasAllStakes};
 ghost use Rattle.pa_execution.specs.Gathering.{IsMain};
-ghost use Rattle.pa_runner.specs.Opening.{IsNewFor, AreNew};
+ghost use Rattle.pa_runner.specs.Opening.{IsNewFor, AreNew, after_opening};
 
 use crate::counting::count_lines;
 use pa_heap::Worker;
@@ -20,7 +20,8 @@ use pa_trace::Trace;
 use std::alloc::Global;
 
 /// The workers of all threads of a trace, from a seat that has every stake: each gets its thread's, and a counted step for each
-/// line of its thread.
+/// line of its thread. If memory runs out, the stakes of the workers that were opened, and of the one that wasn't, are let go with them:
+/// the seat has the others, and what it had besides.
 pub fn open_workers<N: Name>(
     alloc: Global,
     heap: &Heap<N>,
@@ -32,6 +33,9 @@ pub fn open_workers<N: Name>(
     requires stakes { (budget : ℕ) × (length trace.now.lines ≤ budget) × HasAllStakes budget seat.old.view }
     ensures region { seat.new.region ≡ N.region }
     ensures main { OnOk result (IsMain trace.now.threads seat.new.view) }
+    ensures handed { OnOk result (seat.new.view ≡ after_opening trace.now.lines trace.now.threads seat.old.view) }
+    ensures stops { OnErr result ((count : ℕ) × (count ≤ trace.now.threads)
+        × (seat.new.view ≡ after_opening trace.now.lines count seat.old.view)) }
     ensures new { IfOk result (λ workers. AreNew trace.now workers.items) }
 {
     let counts = count_lines(trace.lines.as_slice());

@@ -1,5 +1,5 @@
 //! A phase that passes, with its lines of the report.
-ghost use Rattle.std.specs.Prelude.{◌≡◌, ℕ, ◌<◌, ◌≤◌, OnOk, false, length};
+ghost use Rattle.std.specs.Prelude.{◌≡◌, ℕ, ◌<◌, ◌≤◌, OnErr, OnOk, false, length};
 ghost use Rattle.pa_trace.specs.Limits.{most_partitions, most_threads};
 ghost use Rattle.pa_region.specs.declared.view.View.{View};
 ghost use Rattle.pa_region.specs.Aware.{IsAware};
@@ -22,7 +22,8 @@ use std::thread::Threads;
 
 impl<R: Threads + Wait + Sync, N: Name + Send + Sync, G: Gate> Playing<'_, R, N, G> {
     /// Each worker plays its lines of a phase, and when all are back, each hands its stake to the main seat. If none ran out of
-    /// memory, the phase's lines are appended to the report then. The only error is out of memory, after all have handed over.
+    /// memory, the phase's lines are appended to the report then. The only error is out of memory, after all have handed over; the
+    /// report then has the lines of the first partitions, or none.
     pub fn pass_phase(
         &self,
         workers: &mut [Worker<N>],
@@ -45,6 +46,8 @@ impl<R: Threads + Wait + Sync, N: Name + Send + Sync, G: Gate> Playing<'_, R, N,
         ensures passed { OnOk result (HasPassed queues.now workers.old workers.new seat.old.view seat.new.view) }
         ensures reported { OnOk result ((told : View) × IsReported phase self.now.trace.now.partitions (length workers.old)
             (worker_in workers.new) told seat.new.view report.old.items report.new.items) }
+        ensures begun { OnErr result ((told : View) × (partitions : ℕ) × (partitions ≤ self.now.trace.now.partitions)
+            × IsReported phase partitions (length workers.old) (worker_in workers.new) told seat.new.view report.old.items report.new.items) }
     {
         self.play_phase(workers, queues);
         tell_all(self.heap, workers, seat);

@@ -1,9 +1,11 @@
 //! All phases of a trace, one after the other.
-ghost use Rattle.std.specs.Prelude.{◌≡◌, ℕ, ◌+◌, IfOk, OnOk, [], length, replicate};
+ghost use Rattle.std.specs.Prelude.{◌≡◌, ℕ, ◌+◌, IfOk, OnErr, OnOk, [], length, replicate};
 ghost use Rattle.pa_trace.specs.Limits.{IsWithinLimits};
+ghost use Rattle.pa_region.specs.Views.{HasEveryStake};
 ghost use Rattle.pa_execution.specs.Gathering.{IsMain};
 ghost use Rattle.pa_runner.specs.Opening.{AreNew};
-ghost use Rattle.pa_runner.specs.UnderWay.{BeginsPhase, IsUnderWay};
+ghost use Rattle.pa_runner.specs.Phases.{HaveReturned};
+ghost use Rattle.pa_runner.specs.UnderWay.{BeginsPhase, IsUnderWay, StopsIn};
 ghost use Rattle.pa_runner.specs.Whole.{HasPlayed};
 
 use crate::gate::Gate;
@@ -36,7 +38,8 @@ pub struct Playing<'a, R, N: Name, G> {
 
 impl<R: Threads + Wait + Sync, N: Name + Send + Sync, G: Gate> Playing<'_, R, N, G> {
     /// Plays the lines of the trace phase after phase, and returns the report. In each phase each worker plays its own lines; then
-    /// all hand their stakes to the main seat, and if another phase follows they get them back from it.
+    /// all hand their stakes to the main seat, and if another phase follows they get them back from it. If memory runs out, the phases
+    /// before are over, and all workers are back from this one, or have played none of its lines.
     pub fn play_phases(
         &self,
         alloc: Global,
@@ -49,6 +52,7 @@ impl<R: Threads + Wait + Sync, N: Name + Send + Sync, G: Gate> Playing<'_, R, N,
         requires new { AreNew self.now.trace.now workers.old }
         ensures region { seat.new.region ≡ N.region }
         ensures played { IfOk result (λ report. HasPlayed self.now.trace.now workers.new seat.new.view report.items) }
+        ensures stops { OnErr result (StopsIn self.now.trace.now workers.new seat.new.view) }
     {
         let mut queues = open_queues(alloc, self.trace.threads)?;
         let mut report = Vec::new(alloc);
@@ -71,7 +75,8 @@ impl<R: Threads + Wait + Sync, N: Name + Send + Sync, G: Gate> Playing<'_, R, N,
         Ok(report)
     }
 
-    // The lines of a phase are played, and the next phase begins: all workers have their stakes back, and their queues are empty.
+    // The lines of a phase are played, and the next phase begins: all workers have their stakes back, and their queues are empty. If
+    // memory runs out, all are back from the phase, and have told.
     fn next_phase(
         &self,
         workers: &mut [Worker<N>],
@@ -87,6 +92,8 @@ impl<R: Threads + Wait + Sync, N: Name + Send + Sync, G: Gate> Playing<'_, R, N,
         ensures next { OnOk result ((i : ℕ) → BeginsPhase i self.now.trace.now.lines →
             IsUnderWay self.now.trace.now i phase workers.old queues.old seat.old.view report.old.items →
             IsUnderWay self.now.trace.now (i + 1) (phase + 1) workers.new queues.new seat.new.view report.new.items) }
+        ensures returned { OnErr result (HaveReturned queues.old workers.old workers.new seat.old.view seat.new.view) }
+        ensures every { OnErr result (HasEveryStake seat.new.view) }
     {
         self.pass_phase(workers, queues, seat, phase, report)?;
         hear_all(self.heap, workers, seat);

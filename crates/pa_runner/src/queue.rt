@@ -19,7 +19,7 @@ impl Model for Queue {
 }
 
 impl Queue {
-    ghost use Rattle.std.specs.Prelude.{◌≡◌, ◌∷◌, ◌++◌, [], OnOk};
+    ghost use Rattle.std.specs.Prelude.{◌≡◌, ◌∷◌, ◌++◌, [], OnErr, OnOk};
 
     /// A queue without lines.
     pub fn new(alloc: Global) -> Queue
@@ -30,9 +30,10 @@ impl Queue {
         }
     }
 
-    /// Appends a line.
+    /// Appends a line. If memory runs out, the queue is unchanged.
     pub fn push(&mut self, due: LineOp) -> Result<(), OutOfMemory>
-        ensures { OnOk result (self.new ≡ self.old ++ due ∷ []) }
+        ensures pushed { OnOk result (self.new ≡ self.old ++ due ∷ []) }
+        ensures same { OnErr result (self.new ≡ self.old) }
     {
         self.lines.push(due)?;
         Ok(())

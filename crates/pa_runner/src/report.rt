@@ -1,5 +1,5 @@
 //! The lines of the report at the end of a phase.
-ghost use Rattle.std.specs.Prelude.{◌≡◌, ℕ, ◌+◌, ◌-◌, ◌^◌, ◌<◌, ◌≤◌, OnOk, length};
+ghost use Rattle.std.specs.Prelude.{◌≡◌, ℕ, ◌+◌, ◌-◌, ◌^◌, ◌<◌, ◌≤◌, OnErr, OnOk, length};
 ghost use Rattle.pa_trace.specs.Limits.{most_partitions, most_threads};
 ghost use Rattle.pa_region.specs.declared.view.View.{View};
 ghost use Rattle.pa_region.specs.Views.{HasEveryStake};
@@ -19,7 +19,8 @@ use std::sync::Wait;
 
 impl<R: Wait, N: Name, G> Playing<'_, R, N, G> {
     /// Appends the lines of a phase to a report: for each partition what the workers counted and have cached, the bytes that the
-    /// totals words say, and the census of its root. If there is no memory for them, the main seat has what it had all the same.
+    /// totals words say, and the census of its root. If there is no memory for them, the main seat has what it had all the same, and
+    /// the report has the lines of the first partitions.
     pub fn report_phase(
         &self,
         workers: &[Worker<N>],
@@ -36,6 +37,8 @@ impl<R: Wait, N: Name, G> Playing<'_, R, N, G> {
         ensures asked { HasAsked seat.old.view seat.new.view }
         ensures reported { OnOk result (IsReported phase self.now.trace.now.partitions (length workers.now) (worker_in workers.now)
             seat.old.view seat.new.view report.old.items report.new.items) }
+        ensures begun { OnErr result ((partitions : ℕ) × (partitions < self.now.trace.now.partitions)
+            × IsReported phase partitions (length workers.now) (worker_in workers.now) seat.old.view seat.new.view report.old.items report.new.items) }
     {
         seat.aware();
         let partitions = self.trace.partitions;

@@ -28,7 +28,7 @@ pub struct LineOp {
 
 impl<R: Threads + Wait + Sync, N: Name, G: Gate> Playing<'_, R, N, G> {
     /// Plays a thread's lines in their order, and adds the bytes of its steps to the totals words then. If an op runs out of memory the
-    /// worker is stopped, and plays no more; it has its stake all the same.
+    /// worker is stopped, and plays no more; it has its stake all the same, and owes nothing.
     pub fn play_lines(&self, worker: &mut Worker<N>, thread: u32, lines: &[LineOp])
         requires thread { worker.old.stock.thread ≡ thread }
         requires ready { CanPlay lines.now worker.old }
@@ -59,6 +59,7 @@ impl<R: Threads + Wait + Sync, N: Name, G: Gate> Playing<'_, R, N, G> {
         ensures plays { OnOk result (PlaysLines (due ∷ []) worker.old worker.new) }
         ensures stops { OnErr result (worker.new.stopped ≡ true) }
         ensures stake { OnErr result (KeepsItsStake worker.old.stock worker.new.stock) }
+        ensures settled { OnErr result (worker.new.owed ≡ none_owed) }
     {
         self.gate.pass(self.rt, worker, thread, due.line);
         let answer = play_op(self.rt, self.heap, worker, due)?;
@@ -81,6 +82,7 @@ fn play_op<R: Wait, N: Name>(
     ensures goes_on { OnOk result (KeepsOn worker.old worker.new) }
     ensures stops { OnErr result (worker.new.stopped ≡ true) }
     ensures stake { OnErr result (KeepsItsStake worker.old.stock worker.new.stock) }
+    ensures settled { OnErr result (worker.new.owed ≡ none_owed) }
 {
     let line = due.line;
     match due.op {

@@ -149,28 +149,47 @@ fn each_write_of_gen_that_fails_leaves_a_first_part(rt: HostRuntime) -> Result<(
     writes_fail(&rt, rt.alloc(), &["gen", "1", "7"], b"")
 }
 
-#[test]
-fn a_text_cut_after_each_byte_is_done_after_a_line_alone(rt: HostRuntime) -> Result<(), Fail> {
-    let mut ends = 0u32;
-    for cut in 0..TWO.len() {
-        let (text, _) = TWO.split_at(cut);
-        let whole = text.ends_with(b"\n");
-        if whole {
-            ends = ends.saturating_add(1);
+// A command, its input, how many lines that has, and whether the input may end after each of its lines.
+type Cut<'a> = (&'a str, &'a [u8], u32, bool);
+
+// The input is cut after each of its bytes but the last: the status is that of a whole input, where it may end there, and else the line
+// that is cut, or the one behind the last, is bad.
+fn is_cut<R: Threads + Wait + Sync>(rt: &R, alloc: Global, row: Cut<'_>) -> Result<bool, Fail> {
+    let (command, text, lines, whole) = row;
+    let mut line = 1u32;
+    for cut in 0..text.len() {
+        let (part, _) = text.split_at(cut);
+        let ends = part.ends_with(b"\n");
+        if ends {
+            line = line.saturating_add(1);
         }
-        for command in ["replay", "model"] {
-            let line = words(rt.alloc(), &[command])?;
-            let mut source = MemSource::new(rt.alloc(), text, 1000, &[])?;
-            let mut sink = MemSink::new(rt.alloc(), 10_000, 1000, &[])?;
-            let status = run(&rt, rt.alloc(), &line, &mut source, &mut sink, &NoGate).status;
-            let due = if whole {
-                Status::Done
-            } else {
-                Status::BadLine(ends.saturating_add(1))
-            };
-            assert!(rt; status == due);
+        let due = if ends && whole {
+            Status::Done
+        } else {
+            Status::BadLine(line)
+        };
+        if answered(rt, alloc, &[command], part)?.0 != due {
+            return Ok(false);
         }
     }
-    assert!(rt; ends == 10);
+    Ok(line == lines)
+}
+
+#[test]
+fn a_text_cut_after_each_byte_is_done_after_a_line_alone(rt: HostRuntime) -> Result<(), Fail> {
+    let mut judged = Vec::from_slice(rt.alloc(), TRACE)?;
+    judged.extend_from_slice(TEXT)?;
+    let rows: [Cut<'_>; 6] = [
+        ("replay", TWO, 11, true),
+        ("model", TWO, 11, true),
+        ("resize", SCRIPT, 8, true),
+        ("verdicts", SCRIPT, 8, true),
+        ("audit", judged.as_slice(), 10, false),
+        ("dangling", FREED_AGAIN, 18, false),
+    ];
+    for row in rows {
+        let command = row.0;
+        assert!(rt; is_cut(&rt, rt.alloc(), row)?, "{command}");
+    }
     Ok(())
 }

@@ -9,6 +9,7 @@ use Rattle.pa_region.specs.Views.{free_of, own_of, ref_of}
 use Rattle.pa_heap.proofs.Issuing.{issued_made, issued_budget}
 use Rattle.pa_heap.proofs.Allocated.{fill_issues, fill_does}
 use Rattle.pa_heap.proofs.Fulling.{full_class_does}
+use Rattle.pa_heap.proofs.Stopped.{class_asks}
 use Rattle.pa_heap.proofs.allocs.alloc_filled.Goals as goal
 
 pub issue-requires-clause-stake : goal.issue-requires-clause-stake
@@ -64,3 +65,7 @@ returns-in-Err-Full-clause-does g c =
 pub returns-in-Ok-clause-made : goal.returns-in-Ok-clause-made
 returns-in-Ok-clause-made g c =
     issued_made (listed_slot c.args.partition c.args.class c.in-Ok.title) c.args.reg c.issue.result c.fill_list.new.self c.issue.new.self c.issue.ensures c.kept-in-Ok.ensures.stock c.requires.reg
+
+pub returns-in-Err-OutOfMemory-clause-asks : goal.returns-in-Err-OutOfMemory-clause-asks
+returns-in-Err-OutOfMemory-clause-asks g c =
+    class_asks c.args.reg c.args.partition c.args.size c.args.class c.args.stock.now c.requires.none c.requires.class.0 c.requires.class.1 c.requires.empty

@@ -7,6 +7,7 @@ use Rattle.pa_heap.proofs.Issuing.{issued_made, issued_budget}
 use Rattle.pa_heap.proofs.Allocated.{map_issues, map_does}
 use Rattle.pa_thread_state.proofs.Fetching.{mapped_slot}
 use Rattle.pa_heap.proofs.Fulling.{full_map_does}
+use Rattle.pa_heap.proofs.Stopped.{map_asks}
 use Rattle.pa_heap.proofs.allocs.alloc_map.Goals as goal
 
 pub issue-requires-clause-stake : goal.issue-requires-clause-stake
@@ -54,3 +55,6 @@ returns-in-Err-Full-clause-does g c =
 pub returns-in-Ok-clause-made : goal.returns-in-Ok-clause-made
 returns-in-Ok-clause-made g c =
     issued_made (mapped_slot c.args.partition c.in-Ok.title) c.args.reg c.issue.result c.map_title.new.self c.issue.new.self c.issue.ensures c.kept-in-Ok.ensures.stock c.requires.reg
+
+pub returns-in-Err-OutOfMemory-clause-asks : goal.returns-in-Err-OutOfMemory-clause-asks
+returns-in-Err-OutOfMemory-clause-asks g c = map_asks c.args.reg c.args.partition c.args.size c.args.stock.now c.requires.none c.requires.direct

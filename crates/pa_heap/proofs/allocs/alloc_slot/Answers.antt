@@ -4,6 +4,7 @@ use Rattle.pa_trace.specs.declared.script.Op.TheVariants as ops
 use Rattle.pa_op_specs.specs.Stocks.{StockValue, HasNoHandle, register_in, titles_in, listed_slot}
 use Rattle.pa_op_specs.specs.Workers.{HasItsStake}
 use Rattle.pa_op_specs.specs.Plays.{DoesOp}
+use Rattle.pa_heap.specs.Stopping.{AsksRoot}
 use Rattle.pa_heap.proofs.Issuing.{issued_made, issued_budget}
 use Rattle.pa_heap.proofs.Allocated.{front_issues, front_does}
 use Rattle.pa_heap.proofs.allocs.alloc_slot.Goals as goal
@@ -72,3 +73,7 @@ returns-in-None-clause-same g c =
 pub returns-in-Some-clause-made : goal.returns-in-Some-clause-made
 returns-in-Some-clause-made g c =
     issued_made (listed_slot c.args.partition c.args.class c.in-Some.title) c.args.reg c.issue.result c.pop.new.self c.issue.new.self c.issue.ensures c.kept-in-Some.ensures.stock c.requires.reg
+
+pub returns-in-None-clause-asks : goal.returns-in-None-clause-asks
+returns-in-None-clause-asks g c =
+    subst (λ (z : StockValue). OnErr c.alloc_filled.result (AsksRoot c.args.reg c.args.partition c.args.size z)) c.in-None.ensures.0 c.alloc_filled.ensures.asks

@@ -1,5 +1,6 @@
 use Rattle.std.proofs.Common.{◌∙◌, sym, ap, subst, inr}
 use Rattle.std.specs.Prelude.{Some}
+use Rattle.pa_machine.proofs.Outcomes.{any_err}
 use Rattle.pa_trace.specs.declared.script.Op.TheVariants as ops
 use Rattle.pa_record.specs.declared.entry.Answer.{Answer}
 use Rattle.pa_record.specs.declared.entry.Answer.TheVariants.{NotOwner, SecondFree}
@@ -42,3 +43,11 @@ returns-in-Look-clause-does g c =
     (free_looks _ c.in-Look.handle (sym (c.for_free.ensures ∙ ap (λ (r : StockRegister). free_next r) c.register.ensures) ∙ c.in-Look.is))
     c.look-seen.ensures (by_held c.look-seen.result.found.0 (NotOwner c.look-seen.result) (SecondFree (Some c.look-seen.result)))
     c.args.line)
+
+pub returns-in_err-seen-in-Step-clause-left : goal.returns-in_err-seen-in-Step-clause-left
+returns-in_err-seen-in-Step-clause-left g c =
+    any_err c.from_residual.result _ (
+      c.in-Step.handle,
+      free_steps _ c.in-Step.handle (sym (c.for_free.ensures ∙ ap (λ (r : StockRegister). free_next r) c.register.ensures) ∙ c.in-Step.is),
+      c.in_err-seen-in-Step.ensures.stops,
+    )

@@ -1,10 +1,11 @@
 use Rattle.std.proofs.Common.{◌≡◌, ◌<◌, refl, ◌∙◌, subst, arith}
 use Rattle.pa_machine.proofs.Outcomes.{any_err}
 use Rattle.pa_heap.proofs.Purged.{Purging, purging_none, purging_stake, purging_thread, purging_more, purge_does}
+use Rattle.pa_heap.proofs.Stopped.{purges_one_more}
 use Rattle.pa_heap.proofs.purges.purge.Goals as goal
 
 pub loop-partition-init : goal.loop-partition-init
-loop-partition-init g c = record { some = purging_none c.args.line c.args.stock.now; few = omega arith; budget = refl }
+loop-partition-init g c = record { some = purging_none c.args.line c.args.stock.now; few = omega arith; first = refl; budget = refl }
 
 pub purge_partition-requires-clause-stake : goal.purge_partition-requires-clause-stake
 purge_partition-requires-clause-stake g c =
@@ -19,6 +20,8 @@ loop-partition-preserved g c =
     record {
       some = purging_more c.args.line n c.loop-partition.slots c.in_ok-slots.field-0 s c.loop-partition.stock c.purge_partition.new.self c.kept-in-loop-partition.ensures.stock
           c.loop-partition.invariant.some c.in_ok-slots.ensures.purges below low;
+      first = purges_one_more c.args.line n c.in_ok-slots.field-0 s c.loop-partition.stock c.purge_partition.new.self c.loop-partition.invariant.first
+          c.in_ok-slots.ensures.purges;
       few = let a = c.loop-partition.invariant.few in let b = c.in_ok-slots.ensures.few in omega arith;
       budget = c.purge_partition.ensures.budget ∙ c.loop-partition.invariant.budget;
     }
@@ -37,3 +40,15 @@ returns-in_err-slots-clause-stake g c = any_err c.from_residual.result _ (record
       ∙ purging_thread c.args.line c.loop-partition.partition c.loop-partition.slots c.args.stock.now c.loop-partition.stock c.loop-partition.invariant.some;
   stake = c.in_err-slots.ensures.stake.stake;
 })
+
+pub returns-in_err-slots-clause-left : goal.returns-in_err-slots-clause-left
+returns-in_err-slots-clause-left g c =
+    let e = c.partitions-partition-end.ensures in
+    let t = c.loop-partition-test.true in
+    any_err c.from_residual.result _ (record {
+      partition = c.loop-partition.partition;
+      among = omega arith;
+      between = c.loop-partition.stock;
+      purged = c.loop-partition.invariant.first;
+      stopped = c.in_err-slots.ensures.stops;
+    })

@@ -1,4 +1,5 @@
 use Rattle.std.proofs.Common.{◌∙◌, sym, ap}
+use Rattle.pa_machine.proofs.Outcomes.{any_err}
 use Rattle.pa_rules.specs.Nexts.{reset_next}
 use Rattle.pa_rules.proofs.Nexts.{reset_steps}
 use Rattle.pa_op_specs.specs.Stocks.{StockRegister}
@@ -21,3 +22,11 @@ returns-in_ok-seen-in-Ok-clause-does g c =
     c.in-Ok.handle c.in_ok-seen-in-Ok.seen c.kept.ensures.stock c.kept.ensures.aware c.requires.stake c.requires.budget c.requires.reg
     (reset_steps _ c.in-Ok.handle (sym (c.for_reset.ensures ∙ ap (λ (r : StockRegister). reset_next r) c.register.ensures) ∙ c.in-Ok.is))
     c.in_ok-seen-in-Ok.ensures.releases c.kept-in-Ok.ensures.stock
+
+pub returns-in_err-seen-in-Ok-clause-left : goal.returns-in_err-seen-in-Ok-clause-left
+returns-in_err-seen-in-Ok-clause-left g c =
+    any_err c.from_residual.result _ (
+      c.in-Ok.handle,
+      reset_steps _ c.in-Ok.handle (sym (c.for_reset.ensures ∙ ap (λ (r : StockRegister). reset_next r) c.register.ensures) ∙ c.in-Ok.is),
+      c.in_err-seen-in-Ok.ensures.stops,
+    )

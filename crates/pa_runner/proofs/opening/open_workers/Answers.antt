@@ -1,4 +1,5 @@
 use Rattle.std.proofs.Common.{◌≡◌, ◌+◌, List, [], ◌∷◌, slice_index_or, refl, sym, ◌∙◌, ap, subst, arith}
+use Rattle.pa_machine.proofs.Outcomes.{any_err}
 use Rattle.std.specs.List.{AllByRecursion}
 use Rattle.pa_trace.specs.declared.script.Line.{Line}
 use Rattle.pa_trace.specs.Limits.{IsLineWithin}
@@ -7,8 +8,9 @@ use Rattle.pa_region.specs.Hands.{left_after}
 use Rattle.pa_region.specs.Marks.{parcel_of}
 use Rattle.pa_op_specs.specs.Workers.{WorkerValue}
 use Rattle.pa_runner.specs.Opening.{IsNewFor}
+use Rattle.pa_runner.specs.Opening.{after_opening}
 use Rattle.pa_runner.specs.Tracing.{lines_by}
-use Rattle.pa_runner.proofs.Opened.{IsOpening, open_start, open_budget, open_next}
+use Rattle.pa_runner.proofs.Opened.{IsOpening, open_start, open_budget, open_handed, open_next}
 use Rattle.pa_runner.proofs.opening.open_workers.Goals as goal
 
 pub count_lines-counts-requires-clause-within : goal.count_lines-counts-requires-clause-within
@@ -53,3 +55,37 @@ loop-k-preserved g c =
           (open_next t k c.loop-k.workers.items c.args.seat.now.view c.loop-k.seat.view c.loop-k.invariant.opening below c.open_worker.new.seat.view w left
           (subst (λ n. IsNewFor k t.partitions n w) e c.in_ok-open_worker.ensures.new));
     }
+
+pub returns-in_err-open_worker-clause-stops : goal.returns-in_err-open_worker-clause-stops
+returns-in_err-open_worker-clause-stops g c =
+    let t = c.args.trace.now in
+    let k = c.loop-k.k in
+    let most = c.requires.limits.head.2.1 in
+    let below = c.loop-k-test.true in
+    let e : slice_index_or c.count_lines-counts.result k 0 ≡ lines_by k t.lines = c.count_lines-counts.ensures k (omega arith) ∙ ap (lines_by k) c.as_slice.ensures in
+    let left : c.open_worker.new.seat.view ≡ left_after (parcel_of [] (lines_by k t.lines) (Stake k ∷ [])) c.loop-k.seat.view =
+    c.open_worker.ensures.left ∙ ap (λ n. left_after (parcel_of [] n (Stake k ∷ [])) c.loop-k.seat.view) e in
+    let handed =
+    open_handed t k c.loop-k.workers.items c.args.seat.now.view c.loop-k.seat.view c.loop-k.invariant.opening below c.open_worker.new.seat.view left in
+    any_err c.from_residual.result _ (k + 1, omega arith, handed)
+
+pub returns-in_err-push-clause-stops : goal.returns-in_err-push-clause-stops
+returns-in_err-push-clause-stops g c =
+    let t = c.args.trace.now in
+    let k = c.loop-k.k in
+    let most = c.requires.limits.head.2.1 in
+    let below = c.loop-k-test.true in
+    let e : slice_index_or c.count_lines-counts.result k 0 ≡ lines_by k t.lines = c.count_lines-counts.ensures k (omega arith) ∙ ap (lines_by k) c.as_slice.ensures in
+    let left : c.open_worker.new.seat.view ≡ left_after (parcel_of [] (lines_by k t.lines) (Stake k ∷ [])) c.loop-k.seat.view =
+    c.open_worker.ensures.left ∙ ap (λ n. left_after (parcel_of [] n (Stake k ∷ [])) c.loop-k.seat.view) e in
+    let handed =
+    open_handed t k c.loop-k.workers.items c.args.seat.now.view c.loop-k.seat.view c.loop-k.invariant.opening below c.open_worker.new.seat.view left in
+    any_err c.from_residual-in_err-push.result _ (k + 1, omega arith, handed)
+
+pub returns-clause-handed : goal.returns-clause-handed
+returns-clause-handed g c =
+    let t = c.args.trace.now in
+    let low = c.loop-k.invariant.low in
+    let past = c.loop-k-test.false in
+    let all : c.loop-k.k ≡ t.threads = omega arith in
+    subst (λ n. c.loop-k.seat.view ≡ after_opening t.lines n c.args.seat.now.view) all c.loop-k.invariant.opening.handed

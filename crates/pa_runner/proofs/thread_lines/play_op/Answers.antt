@@ -2,7 +2,7 @@ use Rattle.std.proofs.Common.{IfOk, sym, subst}
 use Rattle.std.proofs.lemmas.Result.{on_err_weaker}
 use Rattle.pa_trace.specs.declared.script.Op.{Op}
 use Rattle.pa_op_specs.specs.Plays.{PlaysOp}
-use Rattle.pa_runner.proofs.PlayedLines.{stopped_keeps}
+use Rattle.pa_runner.proofs.PlayedLines.{stopped_keeps, stopped_owes}
 use Rattle.pa_runner.proofs.thread_lines.play_op.Goals as goal
 
 pub returns-in-Alloc-clause-plays : goal.returns-in-Alloc-clause-plays
@@ -11,6 +11,9 @@ returns-in-Alloc-clause-plays g c = subst (λ (op : Op). IfOk c.alloc.result (λ
 pub returns-in-Alloc-clause-stake : goal.returns-in-Alloc-clause-stake
 returns-in-Alloc-clause-stake g c =
     on_err_weaker c.alloc.result (stopped_keeps c.args.worker.now c.alloc.new.self c.requires.ready.stake) c.alloc.ensures.same
+
+pub returns-in-Alloc-clause-settled : goal.returns-in-Alloc-clause-settled
+returns-in-Alloc-clause-settled g c = on_err_weaker c.alloc.result (stopped_owes c.args.worker.now c.alloc.new.self) c.alloc.ensures.same
 
 pub returns-in-Copy-clause-plays : goal.returns-in-Copy-clause-plays
 returns-in-Copy-clause-plays g c = subst (λ (op : Op). PlaysOp c.args.due.line op c.copy.result c.args.worker.now c.copy.new.self) (sym c.in-Copy.is) c.copy.ensures.plays

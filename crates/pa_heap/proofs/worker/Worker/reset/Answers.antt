@@ -1,4 +1,4 @@
-use Rattle.std.proofs.Common.{◌≡◌, ◌+◌, List, [], ◌∷◌, length, ◌∙◌, sym, ap, subst, arith, ◌≤◌}
+use Rattle.std.proofs.Common.{◌≡◌, ℕ, ◌+◌, List, [], ◌∷◌, length, ◌∙◌, sym, ap, subst, arith, true}
 use Rattle.std.proofs.lemmas.List.{length-append}
 use Rattle.pa_machine.specs.declared.word.Step.TheVariants as steps
 use Rattle.pa_trace.specs.declared.script.Op.TheVariants as ops
@@ -11,8 +11,10 @@ use Rattle.pa_op_specs.proofs.Weighing.{reset_counts}
 use Rattle.pa_thread_state.specs.Stopping.{KeepsItsStake}
 use Rattle.pa_heap.proofs.Working.{worker_plays, worker_goes_on, counts_by, covered_after}
 use Rattle.pa_totals.specs.declared.owed.Owed.{Owed}
+use Rattle.pa_totals.specs.Settled.{none_owed}
 use Rattle.pa_op_specs.proofs.Stakes.{covered_by_rule}
 use Rattle.pa_op_specs.proofs.Counting.{owed_none_by}
+use Rattle.pa_heap.specs.Stopping.{StopsReset}
 use Rattle.pa_heap.proofs.worker.Worker.reset.Goals as goal
 
 pub invariant_of-self : goal.invariant_of-self
@@ -103,3 +105,22 @@ returns-in-Ok-clause-goes_on g c =
 pub returns-in-Err-clause-stake : goal.returns-in-Err-clause-stake
 returns-in-Err-clause-stake g c =
     subst (λ (z : WorkerValue). KeepsItsStake z.stock c.play_reset.new.stock) c.self.view_is c.in-Err.ensures.stake
+
+pub returns-in-Err-clause-left : goal.returns-in-Err-clause-left
+returns-in-Err-clause-left g c =
+    subst (λ (z : WorkerValue). StopsReset c.args.line c.args.reg z.stock c.play_reset.new.stock) c.self.view_is c.in-Err.ensures.left
+
+pub returns-in-Err-clause-same : goal.returns-in-Err-clause-same
+returns-in-Err-clause-same g c =
+    let w : WorkerValue = record {
+      stock = c.self.inside.stock;
+      records = c.self.inside.records.items;
+      room = c.self.inside.room;
+      stopped = c.self.inside.stopped;
+      counts = c.self.inside.counts;
+      owed = c.self.inside.owed;
+    } in
+    let many : c.len.result ≡ length w.records = (let e = c.len.ensures in omega arith) in
+    ap (λ (n : ℕ). record w { stock = c.play_reset.new.stock; room = n; stopped = true; owed = c.owed_none-self-inside.result }) many
+    ∙ ap (λ (os : List Owed). record w { stock = c.play_reset.new.stock; room = length w.records; stopped = true; owed = os }) c.owed_none-self-inside.ensures
+    ∙ ap (λ (z : WorkerValue). record z { stock = c.play_reset.new.stock; room = length z.records; stopped = true; owed = none_owed }) c.self.view_is

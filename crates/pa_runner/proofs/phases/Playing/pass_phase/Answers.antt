@@ -1,7 +1,9 @@
-use Rattle.std.proofs.Common.{sym, ◌∙◌, subst, arith}
+use Rattle.std.proofs.Common.{sym, ◌∙◌, length, subst, arith}
+use Rattle.pa_machine.proofs.Outcomes.{any_err}
 use Rattle.pa_execution.specs.Gathering.{IsMain}
 use Rattle.pa_runner.specs.Phases.{worker_in}
 use Rattle.pa_runner.specs.Reporting.{IsReported}
+use Rattle.pa_runner.proofs.Reported.{report_none}
 use Rattle.pa_runner.proofs.Passing.{returned_stakes, returned, returned_every, asked_back, passed, passed_asked, passed_few}
 use Rattle.pa_runner.proofs.phases.Playing.pass_phase.Goals as goal
 
@@ -95,3 +97,20 @@ returns-clause-every g c =
     let told = c.tell_all in
     (asked_back c.args.queues.now c.args.workers.now c.play_phase.new.workers told.new.workers c.args.seat.now.view told.new.seat.view c.report_phase.new.seat.view
     c.play_phase.ensures.count c.play_phase.ensures.played told.ensures.heard told.ensures.told c.report_phase.ensures.asked).1
+
+pub returns-then-any_stopped-clause-begun : goal.returns-then-any_stopped-clause-begun
+returns-then-any_stopped-clause-begun g c =
+    let told = c.tell_all.new in
+    (told.seat.view, 0, omega arith, report_none c.args.phase (length c.args.workers.now) (worker_in told.workers) told.seat.view c.args.report.now.items)
+
+pub returns-in_err-report_phase-clause-begun : goal.returns-in_err-report_phase-clause-begun
+returns-in_err-report_phase-clause-begun g c =
+    let told = c.tell_all in
+    let asked = c.report_phase in
+    let (partitions, few, begun) = c.in_err-report_phase.ensures.begun in any_err c.from_residual.result _ (
+      told.new.seat.view,
+      partitions,
+      omega arith,
+      subst (λ n. IsReported c.args.phase partitions n (worker_in told.new.workers) told.new.seat.view asked.new.seat.view c.args.report.now.items asked.new.report.items)
+          (told.ensures.count ∙ c.play_phase.ensures.count) begun,
+    )

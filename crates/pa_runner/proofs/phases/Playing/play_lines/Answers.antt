@@ -25,7 +25,8 @@ loop-due-preserved g c =
 
 pub returns-in-Err : goal.returns-in-Err
 returns-in-Err g c =
-    back_stopped c.args.lines.now _ c.args.worker.now c.loop-due.worker c.play_line.new.worker c.loop-due.invariant.played c.in-Err.ensures.stake c.in-Err.ensures.stops
+    back_stopped c.args.lines.now c.loop-due.due-index c.args.worker.now c.loop-due.worker c.play_line.new.worker c.loop-due-test.true c.loop-due.invariant.played c.in-Err.ensures.stake
+    c.in-Err.ensures.stops c.in-Err.ensures.settled
 
 pub returns-then-is_empty : goal.returns-then-is_empty
 returns-then-is_empty g c =
@@ -35,5 +36,5 @@ returns-then-is_empty g c =
 pub returns : goal.returns
 returns g c =
     back_settled c.settlings_end_phases.ensures c.args.lines.now c.loop-due.due-index c.args.worker.now c.loop-due.worker c.settle.new.self c.loop-due-test.false
-    (some_there (length c.args.lines.now) c.is_empty.result c.is_empty.ensures c.if-is_empty.false) c.loop-due.invariant.played c.kept.ensures
+    (some_there (length c.args.lines.now) c.is_empty.result c.is_empty.ensures c.if-is_empty.false) c.loop-due.invariant.played c.kept.ensures.worker
     c.settle.ensures.settled c.settle.ensures.stake

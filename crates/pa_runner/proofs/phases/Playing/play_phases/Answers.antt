@@ -1,4 +1,5 @@
-use Rattle.std.proofs.Common.{◌≤◌, List, length, refl, sym, ◌∙◌, ap, subst, arith}
+use Rattle.std.proofs.Common.{◌≤◌, List, [], length, replicate, refl, sym, ◌∙◌, ap, subst, arith, inl, inr}
+use Rattle.pa_machine.proofs.Outcomes.{any_err}
 use Rattle.std.proofs.lemmas.List.{with_items_is}
 use Rattle.pa_trace.specs.declared.script.Line.{Line}
 use Rattle.pa_runner.proofs.PhaseSteps.{going_start, going_as, begins_phase, line_there, line_pushed, many_here, ready_here, main_here, few_here, going_ends}
@@ -56,7 +57,7 @@ loop-line-preserved g c =
                 going_as
                 (line_pushed c.args.self.now.trace.now i c.loop-line.phase c.loop-line.workers c.loop-line.queues.items c.loop-line.seat.view c.loop-line.report.items c.requires.limits so.going
                 c.as_slice-line-items.result.now _ w.in-Do.thread w.in-Do.op c.as_slice-line-items.ensures c.loop-line-test.true w.in-Do.is
-                c.loop-line.number w.index_mut.result.now w.push.new.self so.number_is w.index_mut.ensures.value w.in_ok-push-in-Do.ensures)
+                c.loop-line.number w.index_mut.result.now w.push.new.self so.number_is w.index_mut.ensures.value w.in_ok-push-in-Do.ensures.pushed)
                 w.phase-is w.workers-is (ap (λ v. v.items) w.queues-is) (ap (λ s. s.view) w.seat-is) (ap (λ v. v.items) w.report-is);
           }
     ]
@@ -88,3 +89,57 @@ returns-clause-played g c =
     (going_as c.loop-line.invariant.going refl refl c.deref.ensures.value refl refl)
     c.pass_phase.new.workers c.pass_phase.new.seat.view c.in_ok-pass_phase.ensures.passed c.in_ok-pass_phase.ensures.aware told c.pass_phase.new.report.items said
     (subst (λ (ls : List Line). length ls ≤ c.loop-line.line-index) c.as_slice-line-items.ensures c.loop-line-test.false) c.pass_phase.ensures.count
+
+pub returns-in_err-queues-clause-stops : goal.returns-in_err-queues-clause-stops
+returns-in_err-queues-clause-stops g c =
+    let t = c.args.self.now.trace.now in
+    any_err c.from_residual.result _ (record {
+      index = 0;
+      phase = 1;
+      before = c.args.workers.now;
+      queues = replicate t.threads [];
+      main = c.args.seat.now.view;
+      report = [];
+      going = going_start t c.args.workers.now (replicate t.threads []) c.args.seat.now.view [] c.requires.main c.requires.new refl refl;
+      left = inl (refl, refl);
+    })
+
+pub returns-in_err-next_phase-in-Phase-clause-stops : goal.returns-in_err-next_phase-in-Phase-clause-stops
+returns-in_err-next_phase-in-Phase-clause-stops g c =
+    let so = c.loop-line.invariant.going in
+    any_err c.from_residual-in_err-next_phase-in-Phase.result _ (record {
+      index = c.loop-line.line-index;
+      phase = c.loop-line.phase;
+      before = c.loop-line.workers;
+      queues = c.deref_mut.result.now;
+      main = c.loop-line.seat.view;
+      report = c.loop-line.report.items;
+      going = going_as so refl refl c.deref_mut.ensures.value refl refl;
+      left = inr (c.in_err-next_phase-in-Phase.ensures.returned, c.in_err-next_phase-in-Phase.ensures.every);
+    })
+
+pub returns-in_err-push-in-Do-clause-stops : goal.returns-in_err-push-in-Do-clause-stops
+returns-in_err-push-in-Do-clause-stops g c = any_err c.from_residual-in_err-push-in-Do.result _ (record {
+  index = c.loop-line.line-index;
+  phase = c.loop-line.phase;
+  before = c.loop-line.workers;
+  queues = c.loop-line.queues.items;
+  main = c.loop-line.seat.view;
+  report = c.loop-line.report.items;
+  going = c.loop-line.invariant.going;
+  left = inl (refl, refl);
+})
+
+pub returns-in_err-pass_phase-clause-stops : goal.returns-in_err-pass_phase-clause-stops
+returns-in_err-pass_phase-clause-stops g c =
+    let so = c.loop-line.invariant.going in
+    any_err c.from_residual-in_err-pass_phase.result _ (record {
+      index = c.loop-line.line-index;
+      phase = c.loop-line.phase;
+      before = c.loop-line.workers;
+      queues = c.deref.result.now;
+      main = c.loop-line.seat.view;
+      report = c.loop-line.report.items;
+      going = going_as so refl refl c.deref.ensures.value refl refl;
+      left = inr (c.pass_phase.ensures.returned, c.pass_phase.ensures.every);
+    })

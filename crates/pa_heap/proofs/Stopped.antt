@@ -1,0 +1,32 @@
+-- Ops that run out of memory: an allocation that asks a root, and a purge that purged so many partitions.
+use Rattle.std.proofs.Common.{◌≡◌, ℕ, ◌+◌, ◌≤◌, [], max, refl, sym, subst, add-one}
+use Rattle.pa_buckets.specs.Classes.{IsClassOf}
+use Rattle.pa_direct.specs.Shapes.{greatest_size, IsDirectSize}
+use Rattle.pa_trace.specs.declared.script.Op.TheVariants as ops
+use Rattle.pa_rules.proofs.Asking.{class_once, class_or_map}
+use Rattle.pa_op_specs.specs.Stocks.{StockValue, HasNoHandle, register_in, titles_in}
+use Rattle.pa_thread_state.specs.Purging.{PurgesRoot}
+use Rattle.pa_heap.specs.Stopping.{AsksRoot, PurgesFirst}
+
+-- the list of the size's class is empty
+pub class_asks : (reg p size class : ℕ) (s : StockValue) → HasNoHandle (register_in s.registers reg) → size ≤ greatest_size →
+    IsClassOf (max size 1 + 8) class → titles_in s.caches p class ≡ [] → AsksRoot reg p size s
+class_asks reg p size class s bare few of empty = record {
+  bare = bare;
+  small = few;
+  empty = λ other is. subst (λ c. titles_in s.caches p c ≡ [])
+      (class_once (ops.Alloc reg p size) p p class other (reg, size, refl, of) (reg, size, refl, is)).1 empty;
+}
+
+-- the size has no class
+pub map_asks : (reg p size : ℕ) (s : StockValue) → HasNoHandle (register_in s.registers reg) → IsDirectSize size → AsksRoot reg p size s
+map_asks reg p size s bare direct = record {
+  bare = bare;
+  small = direct.1;
+  empty = λ class is. absurd (class_or_map (ops.Alloc reg p size) p p class size (reg, size, refl, is) (reg, refl, direct));
+}
+
+-- one partition more was purged
+pub purges_one_more : (line n slots : ℕ) (s now next : StockValue) → PurgesFirst line n s now → PurgesRoot line n slots now next →
+    PurgesFirst line (n + 1) s next
+purges_one_more line n slots s now next first purges = subst (λ k. PurgesFirst line k s next) (sym (add-one n)) (now, slots, first, purges)
